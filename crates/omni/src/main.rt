@@ -1,0 +1,37 @@
+//! A replicated log. `omni replay` reads a schedule from standard input and writes the report of its run.
+#![tactic(auto)]
+
+mod streams;
+
+use op_top::{Status, omni};
+use std::alloc::{AllocError, Global};
+use std::env;
+use std::process::ExitCode;
+use std::rt::Env;
+use streams::{Input, Output};
+
+/// The words after the program's name. Where they aren't all text there are none.
+fn words(rt: &(impl Env + Alloc<A = Global>)) -> Result<Vec<String>, AllocError> {
+    let mut words = Vec::new(rt.alloc());
+    let Ok(given) = env::args(rt) else {
+        return Ok(words);
+    };
+    for word in given.skip(1) {
+        words.push(word)?;
+    }
+    Ok(words)
+}
+
+fn main(rt: HostRuntime) -> ExitCode {
+    let mut input = Input::new(rt.stdin());
+    let mut out = Output::out(rt.stdout());
+    let mut err = Output::err(rt.stderr());
+    let status = match words(&rt) {
+        Ok(words) => omni(rt.alloc(), &words, &mut input, &mut out, &mut err),
+        Err(_) => {
+            Status::NoMemory.tell(&mut err);
+            Status::NoMemory
+        }
+    };
+    ExitCode::from(status.code())
+}

@@ -1,0 +1,5 @@
+pub mod Deciding
+pub mod Ticking
+pub mod Proposing
+pub mod Showing
+pub mod Meeting

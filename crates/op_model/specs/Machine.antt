@@ -1,0 +1,100 @@
+-- The list machine: one list of entries for each configuration, of which nodes know fronts.
+use Rattle.std.specs.Prelude.{◌≡◌, ◌==◌, ◌&&◌, ◌⊎◌, ◌<◌, ◌≤◌, ◌-◌, ℕ, Bool, true, List, [], ◌∷◌, ◌++◌, length, Option, Some, None, if◌then◌else◌}
+use Rattle.std.specs.List.{list_any}
+use Rattle.op_types.specs.declared.log.Entry.{Entry}
+use Rattle.op_types.specs.declared.log.Entry.TheVariants as entry
+use Rattle.op_types.specs.declared.log.StopSign.{StopSign}
+
+pub record Machine : Type 0 where
+  pub lists : ℕ → List Entry  -- of each configuration
+  pub known : ℕ → ℕ → ℕ  -- to a node, of a configuration
+  pub proposed : ℕ → List Entry  -- in each configuration
+  pub opened : ℕ → ℕ → Bool  -- a node, and a configuration
+
+pub data MachineStep : Type 0 where
+  Propose : (conf : ℕ) (e : Entry) → MachineStep
+  Choose : (conf : ℕ) (e : Entry) → MachineStep
+  Learn : (pid conf x : ℕ) → MachineStep
+  Open : (pid conf : ℕ) → MachineStep
+
+-- ---- words
+
+-- x is one of them
+abbrev pub IsAmong : {A : Type 0} → List A → A → Type 0
+IsAmong [] x = ⊥
+IsAmong (y ∷ ys) x = (y ≡ x) ⊎ IsAmong ys x
+
+-- whether the number is one of them
+abbrev pub is_among : List ℕ → ℕ → Bool
+is_among xs x = list_any (λ y. y == x) xs
+
+-- f, but for the value at one place
+abbrev pub with_at : {A : Type 0} → ℕ → A → (ℕ → A) → ℕ → A
+with_at n x f k = if k == n then x else f k
+
+-- f, but for the value of a node in a configuration
+abbrev pub with_node_at : {A : Type 0} → ℕ → ℕ → A → (ℕ → ℕ → A) → ℕ → ℕ → A
+with_node_at pid conf x f p c = if p == pid && c == conf then x else f p c
+
+abbrev pub stop_of : Entry → Option StopSign
+stop_of (entry.Command c) = None
+stop_of (entry.Stop s) = Some s
+
+-- the stop-sign that ends a list
+abbrev pub stop_at_end : List Entry → Option StopSign
+stop_at_end [] = None
+stop_at_end (e ∷ []) = stop_of e
+stop_at_end (e ∷ f ∷ es) = stop_at_end (f ∷ es)
+
+abbrev pub named_by : Option StopSign → List ℕ
+named_by None = []
+named_by (Some s) = s.members
+
+-- the members of a configuration: the first ones are given, and a stop-sign names the next
+abbrev pub members_of : List ℕ → (ℕ → List Entry) → ℕ → List ℕ
+members_of first lists conf = if conf == 1 then first else named_by (stop_at_end (lists (conf - 1)))
+
+-- ---- the machine
+
+-- at the start nothing is in any list, and each first member has configuration 1 open
+abbrev pub first_machine : List ℕ → Machine
+first_machine members =
+    record {
+      lists = λ conf. [];
+      known = λ pid conf. 0;
+      proposed = λ conf. [];
+      opened = λ pid conf. conf == 1 && is_among members pid;
+    }
+
+-- an entry is chosen only where it was proposed, and never behind a stop-sign; what is known is a front that only grows;
+-- a configuration is opened only by those that the stop-sign before it names
+abbrev pub IsAllowed : Machine → MachineStep → Type 0
+IsAllowed m (Propose conf e) = Unit {0}
+IsAllowed m (Choose conf e) = IsAmong (m.proposed conf) e × (stop_at_end (m.lists conf) ≡ None)
+IsAllowed m (Learn pid conf x) = (m.known pid conf ≤ x) × (x ≤ length (m.lists conf))
+IsAllowed m (Open pid conf) = (1 < conf) × IsAmong (named_by (stop_at_end (m.lists (conf - 1)))) pid
+
+abbrev pub stepped : Machine → MachineStep → Machine
+stepped m (Propose conf e) = record m { proposed = with_at conf (m.proposed conf ++ e ∷ []) m.proposed }
+stepped m (Choose conf e) = record m { lists = with_at conf (m.lists conf ++ e ∷ []) m.lists }
+stepped m (Learn pid conf x) = record m { known = with_node_at pid conf x m.known }
+stepped m (Open pid conf) = record m { opened = with_node_at pid conf true m.opened }
+
+abbrev pub AreAllowed : Machine → List MachineStep → Type 0
+AreAllowed m [] = Unit {0}
+AreAllowed m (s ∷ steps) = IsAllowed m s × AreAllowed (stepped m s) steps
+
+abbrev pub all_stepped : Machine → List MachineStep → Machine
+all_stepped m [] = m
+all_stepped m (s ∷ steps) = all_stepped (stepped m s) steps
+
+-- the same machine, at each place
+pub record IsSame (m n : Machine) : Type 0 where
+  pub lists : (conf : ℕ) → m.lists conf ≡ n.lists conf
+  pub known : (pid conf : ℕ) → m.known pid conf ≡ n.known pid conf
+  pub proposed : (conf : ℕ) → m.proposed conf ≡ n.proposed conf
+  pub opened : (pid conf : ℕ) → m.opened pid conf ≡ n.opened pid conf
+
+-- finitely many steps lead from one to the other
+abbrev pub Leads : Machine → Machine → Type 0
+Leads m n = (steps : List MachineStep) × AreAllowed m steps × IsSame (all_stepped m steps) n

@@ -1,0 +1,70 @@
+-- A run, its ledger beside it, and how it meets the list machine.
+use Rattle.std.specs.Prelude.{ℕ, List, [], ◌∷◌, fold, Option, Some, None, All}
+use Rattle.op_types.specs.declared.durable.Part.{Part}
+use Rattle.op_types.specs.declared.answers.Refusal.{Refusal}
+use Rattle.op_types.specs.declared.events.What.{What}
+use Rattle.op_types.specs.declared.events.What.TheVariants as what
+use Rattle.op_types.specs.declared.log.Command.{Command}
+use Rattle.op_types.specs.declared.log.Entry.TheVariants as entry
+use Rattle.op_model.specs.Machine.{Machine, first_machine, Leads}
+use Rattle.op_model.specs.Ledger.{shown, proposing}
+use Rattle.op_model.specs.Laws.{IsSafe}
+use Rattle.op_model.specs.Stands.{Stands}
+use Rattle.op_steps.specs.State.{State}
+use Rattle.op_steps.specs.Rows.{refusal_of}
+use Rattle.op_runs.specs.World.{World, Node, Standing, Up, Down, Happening, first_world, happened, node_at, node_of}
+
+-- a run so far: its world, and the list machine's state that it shows
+pub record Track : Type 0 where
+  pub world : World
+  pub machine : Machine
+
+-- each node shows what it stores
+abbrev pub all_shown : Machine → List Node → Machine
+all_shown m nodes = fold (λ x n. shown x n.pid n.state.durable) m nodes
+
+abbrev pub proposed_in : Machine → Command → Option Part → Option Refusal → Machine
+proposed_in m c None r = m
+proposed_in m c (Some p) (Some r) = m
+proposed_in m c (Some p) None = proposing m p.conf (entry.Command c)
+
+abbrev pub proposed_at : Machine → What → State → Machine
+proposed_at m (what.Tick p) s = m
+proposed_at m (what.Command p c) s = proposed_in m c s.durable.part (refusal_of s.volatile s.durable.part)
+
+abbrev pub proposed_if : Standing → Machine → What → State → Machine
+proposed_if Up m w s = proposed_at m w s
+proposed_if (Down after) m w s = m
+
+-- a command that a node's part doesn't refuse is proposed in its configuration, whether or not the step then ends
+abbrev pub proposed_by : Machine → What → Option Node → Machine
+proposed_by m w None = m
+proposed_by m w (Some n) = proposed_if n.standing m w n.state
+
+abbrev pub tracked : Track → Happening → Track
+tracked t h =
+    record {
+      world = happened t.world h;
+      machine = all_shown (proposed_by t.machine h.event.what (node_at t.world.nodes (node_of h.event.what))) (happened t.world h).nodes;
+    }
+
+abbrev pub first_track : List ℕ → Track
+first_track members = record { world = first_world members; machine = first_machine members }
+
+abbrev pub track_of : Track → List Happening → Track
+track_of t [] = t
+track_of t (h ∷ hs) = track_of (tracked t h) hs
+
+-- what a run's state keeps: the lists are safe, and every node stands
+pub record IsSound (members : List ℕ) (t : Track) : Type 0 where
+  pub safe : IsSafe members t.machine
+  pub stand : All (λ n. Stands members t.machine.lists n.state.durable) t.world.nodes
+
+-- each happening is finitely many steps of the list machine, and all is sound after it
+abbrev pub MeetsFrom : List ℕ → Track → List Happening → Type 0
+MeetsFrom members t [] = Unit {0}
+MeetsFrom members t (h ∷ hs) = Leads t.machine (tracked t h).machine × IsSound members (tracked t h) × MeetsFrom members (tracked t h) hs
+
+-- a run of these members meets the list machine, from its start on
+abbrev pub Meets : List ℕ → List Happening → Type 0
+Meets members hs = IsSound members (first_track members) × MeetsFrom members (first_track members) hs

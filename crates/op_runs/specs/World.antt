@@ -1,0 +1,119 @@
+-- A world of nodes: what happens to them, one event after the other.
+use Rattle.std.specs.Prelude.{◌==◌, ℕ, false, List, [], ◌∷◌, ◌++◌, map, Option, Some, None, if◌then◌else◌}
+use Rattle.op_types.specs.Ballots.{no_ballot}
+use Rattle.op_types.specs.Changes.{applied}
+use Rattle.op_types.specs.declared.durable.Durable.{Durable}
+use Rattle.op_types.specs.declared.volatile.Volatile.{Volatile}
+use Rattle.op_types.specs.declared.volatile.Role.TheVariants as role
+use Rattle.op_types.specs.declared.events.What.{What}
+use Rattle.op_types.specs.declared.events.What.TheVariants as what
+use Rattle.op_types.specs.declared.events.Event.{Event}
+use Rattle.op_types.specs.declared.answers.Outcome.{Outcome}
+use Rattle.op_sched.specs.declared.summary.Line.{Line}
+use Rattle.op_sched.specs.declared.summary.Line.TheVariants as line
+use Rattle.op_model.specs.Service.{new_service, base_bytes}
+use Rattle.op_steps.specs.State.{State, Sent, Planned, adopted}
+use Rattle.op_steps.specs.Rows.{ticked, commanded}
+
+-- how a node runs: when it is down, its next opening finds what it stored before the step in which it stopped, or this
+pub data Standing : Type 0 where
+  Up : Standing
+  Down : (after : Durable) → Standing
+
+pub record Node : Type 0 where
+  pub pid : ℕ
+  pub state : State
+  pub standing : Standing
+
+pub record World : Type 0 where
+  pub nodes : List Node  -- rising by id
+  pub soup : List Sent  -- every message that was ever sent, by number
+  pub lines : List Line  -- what the events gave, to be reported
+
+-- what becomes of an event's step: it is done, or the node stops inside it and nothing is given out
+pub data Fate : Type 0 where
+  Done : Fate
+  Stopped : Fate
+
+pub record Happening : Type 0 where
+  pub event : Event
+  pub fate : Fate
+
+-- ---- the start
+
+-- a member of configuration 1 that has stored nothing yet
+abbrev pub first_durable : List ℕ → Durable
+first_durable members =
+    record {
+      part = Some (record { conf = 1; members = members; promised = no_ballot; accepted = no_ballot; base = base_bytes new_service; trimmed = 0; tail = []; decided = 0 });
+      closed = None;
+    }
+
+abbrev pub first_volatile : ℕ → Volatile
+first_volatile pid = record { own = record { number = 1; pid = pid }; leader = no_ballot; floor = no_ballot; flag = false; round = 0; heard = []; role = role.Idle }
+
+abbrev pub first_node : List ℕ → ℕ → Node
+first_node members pid =
+    record { pid = pid; state = record { durable = first_durable members; volatile = first_volatile pid; service = new_service; waiting = [] }; standing = Up }
+
+abbrev pub first_world : List ℕ → World
+first_world members = record { nodes = map (first_node members) members; soup = []; lines = [] }
+
+-- ---- events
+
+abbrev pub node_of : What → ℕ
+node_of (what.Tick p) = p
+node_of (what.Command p c) = p
+
+abbrev pub node_at : List Node → ℕ → Option Node
+node_at [] pid = None
+node_at (n ∷ nodes) pid = if n.pid == pid then Some n else node_at nodes pid
+
+-- the nodes, with this one in the place of the one of its id
+abbrev pub with_node : List Node → Node → List Node
+with_node [] m = []
+with_node (n ∷ nodes) m = if n.pid == m.pid then m ∷ nodes else n ∷ with_node nodes m
+
+abbrev pub planned : Node → What → Planned
+planned n (what.Tick p) = ticked n.pid n.state n.state.durable.part
+planned n (what.Command p c) = commanded n.state c
+
+abbrev pub outcome_lines : ℕ → Option Outcome → List Line
+outcome_lines at None = []
+outcome_lines at (Some o) = line.Answer at o ∷ []
+
+-- what a step gives to be reported
+abbrev pub lines_of : ℕ → ℕ → Planned → List Line
+lines_of at pid p = outcome_lines at p.outcome ++ map (λ r. line.Reply pid r.client r.seq r.answer) p.replies
+
+abbrev pub fated : Fate → ℕ → World → Node → Planned → World
+fated Done at w n p =
+    record {
+      nodes = with_node w.nodes (record n { state = adopted n.state p });
+      soup = w.soup ++ p.sends;
+      lines = w.lines ++ lines_of at n.pid p;
+    }
+fated Stopped at w n p = record w { nodes = with_node w.nodes (record n { standing = Down (applied n.state.durable p.batch) }) }
+
+-- what happens to a node that is up; at one that is down, or isn't there, nothing does
+abbrev pub stepped_if : Standing → Fate → Event → World → Node → World
+stepped_if Up f e w n = fated f e.line w n (planned n e.what)
+stepped_if (Down after) f e w n = w
+
+abbrev pub stepped_at : Option Node → Fate → Event → World → World
+stepped_at None f e w = w
+stepped_at (Some n) f e w = stepped_if n.standing f e w n
+
+abbrev pub happened : World → Happening → World
+happened w h = stepped_at (node_at w.nodes (node_of h.event.what)) h.fate h.event w
+
+abbrev pub run_of : World → List Happening → World
+run_of w [] = w
+run_of w (h ∷ hs) = run_of (happened w h) hs
+
+-- every step of a replay is done
+abbrev pub done : Event → Happening
+done e = record { event = e; fate = Done }
+
+abbrev pub all_done : List Event → List Happening
+all_done events = map done events

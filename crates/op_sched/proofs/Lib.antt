@@ -1,0 +1,5 @@
+pub mod LineEnds
+pub mod OneReading
+pub mod OneSpelling
+pub mod PlainBytes
+pub mod Shapes

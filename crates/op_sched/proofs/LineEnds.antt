@@ -1,0 +1,49 @@
+-- A text begins with the line that ends at its first LF.
+use Rattle.std.proofs.Common.{◌≡◌, ℕ, ◌+◌, ◌-◌, ◌<◌, ◌≤◌, Bool, cond, eqb, ltb, Option, Some, None, List, [], ◌∷◌, length, take, drop, refl, ap, ◌∙◌, arith, length-drop}
+use Rattle.std.proofs.lemmas.Bool.Decides.{nat_tests}
+use Rattle.std.proofs.lemmas.List.{take_all}
+use Rattle.std.proofs.lemmas.List.Splits.{slice_split_none, slice_split_first, length-slice_split}
+use Rattle.std.proofs.lemmas.List.Sums.{fails_before_first}
+use Rattle.std.specs.List.{slice_split, position_or_len}
+use Rattle.op_sched.specs.Grammar.{lines_of, without_empty_end}
+
+abbrev is_end : ℕ → Bool
+is_end b = eqb b 10
+
+-- where the first LF stands, as `position` gives it
+abbrev pub line_end : List ℕ → Option ℕ
+line_end text = cond (ltb (position_or_len is_end text) (length text)) (Some (position_or_len is_end text)) None
+
+none_from : (at len : ℕ) → cond (ltb at len) (Some at) None ≡ None → len ≤ at
+none_from at len e = grind (arith, nat_tests)
+
+some_from : (at len end : ℕ) → cond (ltb at len) (Some at) None ≡ Some end → (at ≡ end) × (end < len)
+some_from at len end e = grind (arith, nat_tests)
+
+without_empty_end-cons : (part : List ℕ) (parts : List (List ℕ)) → 0 < length parts → without_empty_end (part ∷ parts) ≡ part ∷ without_empty_end parts
+without_empty_end-cons part [] some = absurd (omega arith)
+without_empty_end-cons part (next ∷ parts) some = refl
+
+one_kept : (n : ℕ) (parts : List (List ℕ)) → 0 < n → cond (eqb n 0) [] parts ≡ parts
+one_kept n parts some = grind (arith, nat_tests)
+
+without_empty_end-one : (part : List ℕ) → 0 < length part → without_empty_end (part ∷ []) ≡ part ∷ []
+without_empty_end-one part some = one_kept (length part) (part ∷ []) some
+
+-- what a slice from an index on has
+pub rest_of : (n : ℕ) (text : List ℕ) → take (length text - n) (drop n text) ≡ drop n text
+rest_of n text = take_all (length text - n) (drop n text) (omega (arith, length-drop n text))
+
+-- a text without LF is one line
+pub lines_of-one : (text : List ℕ) → 0 < length text → line_end text ≡ None → lines_of text ≡ text ∷ []
+lines_of-one text some e =
+    let past = none_from (position_or_len is_end text) (length text) e in
+    ap without_empty_end (slice_split_none is_end text (λ k d lt. fails_before_first is_end text k d (omega arith))) ∙ without_empty_end-one text some
+
+-- the first line ends at the first LF
+pub lines_of-more : (text : List ℕ) (end : ℕ) → line_end text ≡ Some end → (lines_of text ≡ take end text ∷ lines_of (drop (end + 1) text)) × (end < length text)
+lines_of-more text end e =
+    let at = some_from (position_or_len is_end text) (length text) end e in
+    let first : slice_split is_end text ≡ take end text ∷ slice_split is_end (drop (end + 1) text) =
+    rw (← at.0) (slice_split_first is_end text 0 (omega arith)) in
+    (ap without_empty_end first ∙ without_empty_end-cons (take end text) (slice_split is_end (drop (end + 1) text)) (omega (arith, length-slice_split is_end (drop (end + 1) text))), at.1)

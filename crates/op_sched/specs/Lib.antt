@@ -1,0 +1,4 @@
+pub mod Failing
+pub mod Grammar
+pub mod Plain
+pub mod Text

@@ -1,0 +1,67 @@
+//! The forms of lines. Each reads a line's words.
+ghost use Rattle.std.specs.Prelude.{◌≡◌, map, ℕ, IfOk, IfSome, IfNone};
+ghost use Rattle.op_types.specs.declared.log.Command.{Command};
+ghost use Rattle.op_sched.specs.Grammar.{IsPid, IsCommand, header_words, tick_words, command_words};
+
+use crate::numbers::{client_number, pid};
+use crate::words::{is_key, is_name, is_value};
+use op_types::{Blob, Command, NoMemory, Op, Pid};
+use std::alloc::Global;
+
+/// The one member, of a header.
+pub fn header(words: &[&[u8]]) -> Option<Pid>
+    ensures found { IfSome result (λ p. IsPid p × (map (λ x. x.now) words.now ≡ header_words p)) }
+    ensures none { IfNone result ((p : ℕ) → IsPid p → map (λ x. x.now) words.now ≡ header_words p → ⊥) }
+{
+    let [name, id] = words else {
+        return None;
+    };
+    if !is_name(name, b"members") {
+        return None;
+    }
+    let id = pid(id)?;
+    Some(id)
+}
+
+/// The server of a tick.
+pub fn tick(words: &[&[u8]]) -> Option<Pid>
+    ensures found { IfSome result (λ p. IsPid p × (map (λ x. x.now) words.now ≡ tick_words p)) }
+    ensures none { IfNone result ((p : ℕ) → IsPid p → map (λ x. x.now) words.now ≡ tick_words p → ⊥) }
+{
+    let [name, id] = words else {
+        return None;
+    };
+    if !is_name(name, b"tick") {
+        return None;
+    }
+    let id = pid(id)?;
+    Some(id)
+}
+
+/// The server and the command of a put.
+pub fn put(alloc: Global, words: &[&[u8]]) -> Result<Option<(Pid, Command)>, NoMemory>
+    ensures found { IfOk result (λ o. IfSome o (λ x. IsPid x.0 × IsCommand x.1
+        × (map (λ x. x.now) words.now ≡ command_words x.0 x.1))) }
+    ensures none { IfOk result (λ o. IfNone o ((p : ℕ) (c : Command) → IsPid p → IsCommand c →
+        map (λ x. x.now) words.now ≡ command_words p c → ⊥)) }
+{
+    let [name, id, client, seq, key, value] = words else {
+        return Ok(None);
+    };
+    if !is_name(name, b"put") || !is_key(key) || !is_value(value) {
+        return Ok(None);
+    }
+    let Some(id) = pid(id) else {
+        return Ok(None);
+    };
+    let Some(client) = client_number(client) else {
+        return Ok(None);
+    };
+    let Some(seq) = client_number(seq) else {
+        return Ok(None);
+    };
+    let key = Blob::from_slice(alloc, key)?;
+    let value = Blob::from_slice(alloc, value)?;
+    let op = Op::Put(key, value);
+    Ok(Some((id, Command { client, seq, op })))
+}

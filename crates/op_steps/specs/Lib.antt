@@ -1,0 +1,4 @@
+pub mod Election
+pub mod State
+pub mod Serving
+pub mod Rows

@@ -1,0 +1,130 @@
+-- The rows of the step table: what a node's step is, from its state and what happens. With one member these are all that can be met.
+use Rattle.std.specs.Prelude.{◌==◌, ℕ, ◌+◌, ◌-◌, ◌^◌, nat_lt, Bool, true, false, not, List, [], ◌∷◌, length, take, drop, map, filter, Option, Some, None, if◌then◌else◌}
+use Rattle.op_types.specs.Ballots.{is_below, greater}
+use Rattle.op_types.specs.Changes.{len_of, changed_part}
+use Rattle.op_types.specs.declared.ballot.Ballot.{Ballot}
+use Rattle.op_types.specs.declared.changes.Change.{Change}
+use Rattle.op_types.specs.declared.changes.Change.TheVariants as change
+use Rattle.op_types.specs.declared.log.Command.{Command}
+use Rattle.op_types.specs.declared.log.Entry.{Entry}
+use Rattle.op_types.specs.declared.log.Entry.TheVariants as entry
+use Rattle.op_types.specs.declared.durable.Part.{Part}
+use Rattle.op_types.specs.declared.volatile.Volatile.{Volatile}
+use Rattle.op_types.specs.declared.volatile.Role.{Role}
+use Rattle.op_types.specs.declared.volatile.Role.TheVariants as role
+use Rattle.op_types.specs.declared.messages.Body.TheVariants as body
+use Rattle.op_types.specs.declared.answers.Outcome.TheVariants as outcome
+use Rattle.op_types.specs.declared.answers.Refusal.{Refusal}
+use Rattle.op_types.specs.declared.answers.Refusal.TheVariants as refusal
+use Rattle.op_steps.specs.Election.{Ended, ended, is_majority}
+use Rattle.op_steps.specs.State.{State, Sent, Planned}
+use Rattle.op_steps.specs.Serving.{Served, served, waiting_with}
+
+-- nothing changes but the volatile state
+abbrev pub only_volatile : State → Volatile → List Sent → Planned
+only_volatile s v sends = record { batch = []; volatile = v; service = s.service; waiting = s.waiting; sends = sends; replies = []; outcome = None }
+
+-- ---- deciding
+
+-- the length that a majority has: with no follower's word, the own length where one member is a majority
+abbrev pub backed : Part → ℕ
+backed p = if is_majority 1 (length p.members) then len_of p else 0
+
+abbrev pub decided_change : Part → List Change
+decided_change p = if nat_lt p.decided (backed p) then change.Decided (backed p) ∷ [] else []
+
+-- the entries that are decided newly
+abbrev pub newly_decided : Part → List Entry
+newly_decided p = drop (p.decided - p.trimmed) (take (backed p - p.trimmed) p.tail)
+
+-- ---- the tick
+
+-- after round 2^62 - 1 comes round 1
+abbrev pub next_round : ℕ → ℕ
+next_round round = if nat_lt (round + 1) (2 ^ 62) then round + 1 else 1
+
+-- the volatile state when a round has ended and the next one begins
+abbrev pub begun : Volatile → Ended → Volatile
+begun v e = record v { own = e.own; leader = e.leader; flag = e.flag; round = next_round v.round; heard = [] }
+
+-- each other member is asked for a reply in the new round
+abbrev pub requests : ℕ → Part → ℕ → List Sent
+requests me p round = map (λ q. record { from = me; to = q; message = record { conf = p.conf; body = body.HeartbeatRequest round } }) (filter (λ q. not (q == me)) p.members)
+
+-- A ballot of its own that a node leads: it is promised, the own log is adopted and accepted in it, and what a majority has is decided.
+abbrev pub led_batch : Part → Ballot → List Change
+led_batch p n = change.Promise n ∷ change.Accept n ∷ decided_change p
+
+abbrev pub leading : Part → Ballot → Role
+leading p n = role.Leading (record { ballot = n; adopted_round = p.accepted; adopted_len = len_of p })
+
+abbrev pub led_after : State → Part → Volatile → Ballot → List Sent → Served → Planned
+led_after s p v n sends t =
+    record { batch = led_batch p n; volatile = record v { role = leading p n }; service = t.service; waiting = t.waiting; sends = sends; replies = t.replies; outcome = None }
+
+abbrev pub led : State → Part → Volatile → Ballot → List Sent → Planned
+led s p v n sends = led_after s p v n sends (served s.service s.waiting (newly_decided p))
+
+-- an own ballot that was elected is led if it is above the promise; otherwise elections begin at the promise
+abbrev pub elected : ℕ → State → Part → Volatile → List Sent → Option Ballot → Planned
+elected me s p v sends None = only_volatile s v sends
+elected me s p v sends (Some n) =
+    if n.pid == me then (if is_below p.promised n then led s p v n sends else only_volatile s (record v { floor = greater v.floor p.promised }) sends)
+    else only_volatile s v sends
+
+abbrev pub ticked_after : ℕ → State → Part → Ended → Planned
+ticked_after me s p e = elected me s p (begun s.volatile e) (requests me p (next_round s.volatile.round)) e.elected
+
+-- a tick ends the round and begins the next one
+abbrev pub ticked : ℕ → State → Option Part → Planned
+ticked me s None = only_volatile s s.volatile []
+ticked me s (Some p) = ticked_after me s p (ended me (length p.members) s.volatile)
+
+-- ---- proposals
+
+abbrev pub is_leading : Role → Bool
+is_leading role.Idle = false
+is_leading (role.Leading l) = true
+
+-- why a proposal is refused, the first cause first
+abbrev pub part_refusal : Volatile → Part → Option Refusal
+part_refusal v p = if not (is_leading v.role) then Some refusal.NoLeader else if nat_lt (len_of p) (2 ^ 62) then None else Some refusal.PositionsEnd
+
+abbrev pub refusal_of : Volatile → Option Part → Option Refusal
+refusal_of v None = Some refusal.NoLeader
+refusal_of v (Some p) = part_refusal v p
+
+abbrev pub refused : State → Refusal → Planned
+refused s r = record { batch = []; volatile = s.volatile; service = s.service; waiting = s.waiting; sends = []; replies = []; outcome = Some (outcome.Refused r) }
+
+-- the part when the command stands at its log's end
+abbrev pub appended_part : Part → Command → Part
+appended_part p c = changed_part p (change.Append (entry.Command c ∷ []))
+
+abbrev pub appended_after : State → Part → Command → Served → Planned
+appended_after s p c t =
+    record {
+      batch = change.Append (entry.Command c ∷ []) ∷ decided_change (appended_part p c);
+      volatile = s.volatile;
+      service = t.service;
+      waiting = t.waiting;
+      sends = [];
+      replies = t.replies;
+      outcome = Some (outcome.Appended p.conf (len_of p));
+    }
+
+-- a leader appends the command, which waits, and decides what a majority has
+abbrev pub appended : State → Part → Command → Planned
+appended s p c = appended_after s p c (served s.service (waiting_with s.waiting c) (newly_decided (appended_part p c)))
+
+abbrev pub accepted_by : State → Option Part → Command → Planned
+accepted_by s None c = only_volatile s s.volatile []
+accepted_by s (Some p) c = appended s p c
+
+abbrev pub commanded_after : State → Command → Option Refusal → Planned
+commanded_after s c (Some r) = refused s r
+commanded_after s c None = accepted_by s s.durable.part c
+
+-- a client proposes a command
+abbrev pub commanded : State → Command → Planned
+commanded s c = commanded_after s c (refusal_of s.volatile s.durable.part)

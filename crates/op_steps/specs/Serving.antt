@@ -1,0 +1,44 @@
+-- Decided entries go to the service in order, and whoever waits here for one is answered.
+use Rattle.std.specs.Prelude.{◌==◌, ◌&&◌, ◌||◌, Bool, false, not, List, [], ◌∷◌, ◌++◌, if◌then◌else◌, fold, filter}
+use Rattle.op_types.specs.declared.log.Command.{Command}
+use Rattle.op_types.specs.declared.log.Entry.{Entry}
+use Rattle.op_types.specs.declared.log.Entry.TheVariants as entry
+use Rattle.op_types.specs.declared.answers.Reply.{Reply}
+use Rattle.op_model.specs.Service.{Service, service_with, answer_of}
+use Rattle.op_steps.specs.State.{Waiting}
+
+abbrev pub is_for : Command → Waiting → Bool
+is_for c w = w.client == c.client && w.seq == c.seq
+
+abbrev pub waits : List Waiting → Command → Bool
+waits [] c = false
+waits (w ∷ waiting) c = is_for c w || waits waiting c
+
+-- those that wait when the command waits too, once
+abbrev pub waiting_with : List Waiting → Command → List Waiting
+waiting_with waiting c = if waits waiting c then waiting else waiting ++ record { client = c.client; seq = c.seq } ∷ []
+
+abbrev pub reply_of : Service → Command → Reply
+reply_of s c = record { client = c.client; seq = c.seq; answer = answer_of s c }
+
+-- the service, those that wait, and the replies given so far
+pub record Served : Type 0 where
+  pub service : Service
+  pub waiting : List Waiting
+  pub replies : List Reply
+
+abbrev pub served_command : Served → Command → Served
+served_command t c =
+    record {
+      service = service_with t.service c;
+      waiting = filter (λ w. not (is_for c w)) t.waiting;
+      replies = if waits t.waiting c then t.replies ++ reply_of t.service c ∷ [] else t.replies;
+    }
+
+abbrev pub served_entry : Served → Entry → Served
+served_entry t (entry.Command c) = served_command t c
+served_entry t (entry.Stop stop) = t
+
+-- after these entries are decided, in order
+abbrev pub served : Service → List Waiting → List Entry → Served
+served s waiting entries = fold served_entry (record { service = s; waiting = waiting; replies = [] }) entries

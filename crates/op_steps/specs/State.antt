@@ -1,0 +1,41 @@
+-- A node's state, and what a step of it plans.
+use Rattle.std.specs.Prelude.{ℕ, List, Option}
+use Rattle.op_types.specs.declared.durable.Durable.{Durable}
+use Rattle.op_types.specs.declared.volatile.Volatile.{Volatile}
+use Rattle.op_types.specs.declared.changes.Change.{Change}
+use Rattle.op_types.specs.declared.messages.Msg.{Msg}
+use Rattle.op_types.specs.declared.answers.Outcome.{Outcome}
+use Rattle.op_types.specs.declared.answers.Reply.{Reply}
+use Rattle.op_types.specs.Changes.{applied}
+use Rattle.op_model.specs.Service.{Service}
+
+-- a client, and the number of its command
+pub record Waiting : Type 0 where
+  pub client : ℕ
+  pub seq : ℕ
+
+pub record State : Type 0 where
+  pub durable : Durable
+  pub volatile : Volatile
+  pub service : Service  -- after all that is decided
+  pub waiting : List Waiting  -- for a reply, here
+
+-- a message, from one node to another
+pub record Sent : Type 0 where
+  pub from : ℕ
+  pub to : ℕ
+  pub message : Msg
+
+-- what a step changes and gives out; the batch is stored before anything else of it happens
+pub record Planned : Type 0 where
+  pub batch : List Change
+  pub volatile : Volatile
+  pub service : Service
+  pub waiting : List Waiting
+  pub sends : List Sent
+  pub replies : List Reply
+  pub outcome : Option Outcome
+
+-- the state when the plan is adopted
+abbrev pub adopted : State → Planned → State
+adopted s p = record { durable = applied s.durable p.batch; volatile = p.volatile; service = p.service; waiting = p.waiting }

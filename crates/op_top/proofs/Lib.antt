@@ -1,0 +1,7 @@
+pub mod Leads
+pub mod Steps
+pub mod Events
+pub mod Runs
+pub mod Complete
+pub mod Words
+pub mod Copying

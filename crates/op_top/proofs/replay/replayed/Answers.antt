@@ -1,0 +1,17 @@
+use Rattle.std.proofs.Common.{ap, ◌∙◌}
+use Rattle.op_sched.specs.Text.{report_of}
+use Rattle.op_sched.proofs.OneReading.{one_member}
+use Rattle.op_top.proofs.Runs.{meets_members}
+use Rattle.op_top.proofs.replay.replayed.Goals as goal
+
+pub returns-clause-reports : goal.returns-clause-reports
+returns-clause-reports c =
+    let s = c.in_ok-schedule.schedule in (
+      s,
+      rw c.deref.ensures.value at c.in_ok-schedule.ensures.found,
+      record {
+        present = c.in_ok-summary.ensures.present;
+        written = c.in_ok-report.ensures ∙ ap report_of c.in_ok-summary.ensures.ran;
+        meets = meets_members s.members s.events (one_member c.args.bytes.items s (rw c.deref.ensures.value at c.in_ok-schedule.ensures.found));
+      },
+    )

@@ -1,0 +1,44 @@
+-- What the top call is asked, and what it answers.
+use Rattle.std.specs.Prelude.{◌≡◌, ◌⊎◌, ℕ, ◌≤◌, List, [], ◌∷◌, length, codes, Option}
+use Rattle.std.specs.Io.KnownBytes.{Appends}
+use Rattle.op_sched.specs.Grammar.{IsSchedule, IsFirstBadLine}
+use Rattle.op_sched.specs.Text.{report_of}
+use Rattle.op_sched.specs.declared.schedule.Schedule.{Schedule}
+use Rattle.op_outside.specs.Streams.{AppendsFront}
+use Rattle.op_runs.specs.World.{all_done}
+use Rattle.op_runs.specs.Run.{Meets}
+use Rattle.op_top.specs.Replay.{AllPresent, IsFirstAbsent, run_summary}
+
+-- the words are the one command
+abbrev pub IsReplay : List (List ℕ) → Type 0
+IsReplay words = words ≡ codes "replay" ∷ []
+
+-- the input isn't longer than a schedule may be
+abbrev pub IsWithinLimit : List ℕ → Type 0
+IsWithinLimit input = length input ≤ 67108864
+
+-- the text is the report of this schedule's run; each event is at a node that is there, and the run meets the list machine
+pub record IsReportOf (s : Schedule) (text : List ℕ) : Type 0 where
+  pub present : AllPresent s.members s.events
+  pub written : text ≡ report_of (run_summary s.members s.events)
+  pub meets : Meets s.members (all_done s.events)
+
+-- the input is a schedule, and this text is the report of its run
+abbrev pub Reports : List ℕ → List ℕ → Type 0
+Reports input text = (s : Schedule) × IsSchedule input s × IsReportOf s text
+
+-- the report of the input's run was written, whole
+abbrev pub IsReported : List ℕ → Option (List ℕ) → Option (List ℕ) → Type 0
+IsReported input old new = (text : List ℕ) × Reports input text × Appends old new text
+
+-- a front of that report was written
+abbrev pub IsReportedFront : List ℕ → Option (List ℕ) → Option (List ℕ) → Type 0
+IsReportedFront input old new = (text : List ℕ) × Reports input text × AppendsFront old new text
+
+-- line n is the first that isn't in the grammar or, where all are, that of the first event at a node that isn't there
+abbrev pub IsBadAt : List ℕ → ℕ → Type 0
+IsBadAt input n = IsFirstBadLine input n ⊎ ((s : Schedule) × IsSchedule input s × IsFirstAbsent s.members s.events n)
+
+-- the input is a schedule, each event of which is at a node that is there
+abbrev pub IsValid : List ℕ → Type 0
+IsValid input = (s : Schedule) × IsSchedule input s × AllPresent s.members s.events

@@ -1,0 +1,4 @@
+pub mod Ticking
+pub mod Replay
+pub mod Called
+pub mod Statuses

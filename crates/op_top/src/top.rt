@@ -1,0 +1,113 @@
+ghost use Rattle.std.specs.Prelude.{◌≡◌, ◌<◌, ◌↔◌, ℕ, length, List, map, codes, string_bytes, IfSome, IsTrue};
+ghost use Rattle.std.specs.Io.KnownBytes.{IsAtEnd};
+ghost use Rattle.op_outside.specs.Causes.{Rose};
+ghost use Rattle.op_outside.specs.Streams.{HasAtLeast, Tells};
+ghost use Rattle.op_top.specs.Called.{IsReplay, IsWithinLimit, IsReported, IsReportedFront, IsBadAt, IsValid};
+ghost use Rattle.op_top.specs.Statuses.{IsQuiet, IsOrNoMemory, status_line};
+
+use crate::replay::replayed;
+use crate::status::Status;
+use op_outside::{InputFail, Sink, Source, read_all, write_all};
+use op_sched::SchedFail;
+use std::alloc::Global;
+
+/// How much input is read, in bytes.
+const INPUT_LIMIT: usize = 67_108_864;
+
+fn names_replay(word: &String) -> bool
+    ensures { IsTrue result ↔ (string_bytes word.now ≡ codes "replay") }
+{
+    word.as_str() == "replay"
+}
+
+fn is_replay(words: &[String]) -> bool
+    ensures { IsTrue result ↔ IsReplay (map string_bytes words.now) }
+{
+    match words {
+        [word] => names_replay(word),
+        _ => false,
+    }
+}
+
+fn replay<S: Source, K: Sink>(alloc: Global, input: &mut S, out: &mut K) -> Status
+    ensures ended { result ≡ Status.Ended → IfSome (S.left input.old) (λ bytes. IsReported bytes (K.held out.old) (K.held out.new)) }
+    ensures read { result ≡ Status.Ended → IsAtEnd (S.left input.new) }
+    ensures bad { (line : ℕ) → result ≡ Status.BadSchedule line → IfSome (S.left input.old) (λ bytes. IsBadAt bytes line) }
+    ensures bad_always { (Rose (S.fault_count input.old) (S.fault_count input.new) → ⊥)
+        → IfSome (S.left input.old) (λ bytes. (line : ℕ) → IsWithinLimit bytes → IsBadAt bytes line → IsOrNoMemory (Status.BadSchedule line) result) }
+    ensures read_fault { result ≡ Status.ReadFault → Rose (S.fault_count input.old) (S.fault_count input.new) }
+    ensures write_fault { result ≡ Status.WriteFault → Rose (K.fault_count out.old) (K.fault_count out.new) }
+    ensures too_long { result ≡ Status.InputLimit → HasAtLeast (S.left input.old) 67108865 }
+    ensures too_long_always { (Rose (S.fault_count input.old) (S.fault_count input.new) → ⊥)
+        → IfSome (S.left input.old) (λ bytes. 67108864 < length bytes → IsOrNoMemory Status.InputLimit result) }
+    ensures cut { result ≡ Status.WriteFault → IfSome (S.left input.old) (λ bytes. IsReportedFront bytes (K.held out.old) (K.held out.new)) }
+    ensures quiet { IsQuiet result → K.held out.new ≡ K.held out.old }
+    ensures no_usage { result ≡ Status.Usage → ⊥ }
+    ensures complete { (Rose (S.fault_count input.old) (S.fault_count input.new) → ⊥) → (Rose (K.fault_count out.old) (K.fault_count out.new) → ⊥)
+        → IfSome (S.left input.old) (λ bytes. IsWithinLimit bytes → IsValid bytes → IsOrNoMemory Status.Ended result) }
+{
+    let bytes = match read_all(alloc, input, INPUT_LIMIT) {
+        Ok(bytes) => bytes,
+        Err(InputFail::Fault) => return Status::ReadFault,
+        Err(InputFail::TooLong) => return Status::InputLimit,
+        Err(InputFail::NoMemory) => return Status::NoMemory,
+    };
+    match replayed(alloc, bytes) {
+        Ok(text) => match write_all(out, &text) {
+            Ok(()) => Status::Ended,
+            Err(_) => Status::WriteFault,
+        },
+        Err(SchedFail::BadLine { line }) => Status::BadSchedule { line },
+        Err(SchedFail::NoMemory) => Status::NoMemory,
+    }
+}
+
+/// Does what the words ask, and answers how it ended. The status's line is told to `err` with no memory taken; a write to
+/// it that fails changes no status.
+pub fn omni<S: Source, K: Sink>(
+    alloc: Global,
+    words: &[String],
+    input: &mut S,
+    out: &mut K,
+    err: &mut K,
+) -> Status
+    // What is written is the report of the run that the bytes read say, and that run meets the list machine.
+    ensures ended { result ≡ Status.Ended → IfSome (S.left input.old) (λ bytes. IsReported bytes (K.held out.old) (K.held out.new)) }
+    ensures read { result ≡ Status.Ended → IsAtEnd (S.left input.new) }
+
+    // The words are refused exactly where they aren't the one command.
+    ensures usage { result ≡ Status.Usage → IsReplay (map string_bytes words.now) → ⊥ }
+    ensures usage_always { (IsReplay (map string_bytes words.now) → ⊥) → result ≡ Status.Usage }
+
+    // A schedule is refused exactly where it is bad, and at its first bad line.
+    ensures bad { (line : ℕ) → result ≡ Status.BadSchedule line → IfSome (S.left input.old) (λ bytes. IsBadAt bytes line) }
+    ensures bad_always { IsReplay (map string_bytes words.now) → (Rose (S.fault_count input.old) (S.fault_count input.new) → ⊥)
+        → IfSome (S.left input.old) (λ bytes. (line : ℕ) → IsWithinLimit bytes → IsBadAt bytes line → IsOrNoMemory (Status.BadSchedule line) result) }
+
+    // Input is refused exactly where it is too long.
+    ensures too_long { result ≡ Status.InputLimit → HasAtLeast (S.left input.old) 67108865 }
+    ensures too_long_always { IsReplay (map string_bytes words.now) → (Rose (S.fault_count input.old) (S.fault_count input.new) → ⊥)
+        → IfSome (S.left input.old) (λ bytes. 67108864 < length bytes → IsOrNoMemory Status.InputLimit result) }
+
+    // A fault is answered only where the stream failed in this call.
+    ensures read_fault { result ≡ Status.ReadFault → Rose (S.fault_count input.old) (S.fault_count input.new) }
+    ensures write_fault { result ≡ Status.WriteFault → Rose (K.fault_count out.old) (K.fault_count out.new) }
+
+    // With a write fault a front of the report stands there, and with other refusals nothing more than before.
+    ensures cut { result ≡ Status.WriteFault → IfSome (S.left input.old) (λ bytes. IsReportedFront bytes (K.held out.old) (K.held out.new)) }
+    ensures quiet { IsQuiet result → K.held out.new ≡ K.held out.old }
+
+    ensures told { Tells (K.held err.old) (K.held err.new) (K.fault_count err.old) (K.fault_count err.new) (status_line result) }
+
+    // A valid schedule is reported, unless a stream fails or there is no memory.
+    ensures complete { IsReplay (map string_bytes words.now) → (Rose (S.fault_count input.old) (S.fault_count input.new) → ⊥) → (Rose (K.fault_count out.old) (K.fault_count out.new) → ⊥)
+        → IfSome (S.left input.old) (λ bytes. IsWithinLimit bytes → IsValid bytes → IsOrNoMemory Status.Ended result) }
+{
+    let status = if is_replay(words) {
+        replay(alloc, input, out)
+    } else {
+        Status::Usage
+    };
+    status.tell(err);
+    status
+}
