@@ -6,15 +6,18 @@ mod streams;
 use op_top::{Status, omni};
 use std::alloc::{AllocError, Global};
 use std::env;
+use std::io::ErrorKind;
 use std::process::ExitCode;
 use std::rt::Env;
 use streams::{Input, Output};
 
-/// The words after the program's name. Where they aren't all text there are none.
+/// The words after the program's name. Where they aren't all text there are none, which is no command.
 fn words(rt: &(impl Env + Alloc<A = Global>)) -> Result<Vec<String>, AllocError> {
     let mut words = Vec::new(rt.alloc());
-    let Ok(given) = env::args(rt) else {
-        return Ok(words);
+    let given = match env::args(rt) {
+        Ok(given) => given,
+        Err(error) if error.kind() == ErrorKind::OutOfMemory => return Err(AllocError),
+        Err(_) => return Ok(words),
     };
     for word in given.skip(1) {
         words.push(word)?;

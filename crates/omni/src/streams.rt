@@ -4,7 +4,7 @@ ghost use Rattle.std.specs.Prelude.{◌≤◌, None, IfSome, length};
 use op_outside::{ReadFail, Sink, Source, WriteFail};
 use std::io::{ErrorKind, Read, Stderr, Stdout, Write};
 
-/// How often a read is tried again that a signal cut short.
+/// How often a call is tried that a signal cuts short.
 const TRIES: u32 = 1000;
 
 /// A reader.
@@ -54,6 +54,20 @@ fn read_again<R: Read>(inner: &mut R, buf: &mut [u8]) -> Option<usize>
     None
 }
 
+/// One write, tried again where a signal cut it short.
+fn write_again<W: Write>(inner: &mut W, piece: &[u8]) -> Option<usize>
+    ensures { IfSome result (λ n. n ≤ length piece.now) }
+{
+    for _ in 0..TRIES {
+        match inner.write(piece) {
+            Ok(count) => return Some(count),
+            Err(error) if error.kind() == ErrorKind::Interrupted => {}
+            Err(_) => return None,
+        }
+    }
+    None
+}
+
 #[derive(Drop)]
 enum Stream {
     Out(Stdout),
@@ -94,11 +108,11 @@ impl Sink for Output {
 
     fn write(&mut self, piece: &[u8]) -> Result<usize, WriteFail> {
         let wrote = match &mut self.stream {
-            Stream::Out(stdout) => stdout.write(piece),
-            Stream::Err(stderr) => stderr.write(piece),
+            Stream::Out(stdout) => write_again(stdout, piece),
+            Stream::Err(stderr) => write_again(stderr, piece),
         };
         match wrote {
-            Ok(count) if count > 0 => Ok(count),
+            Some(count) if count > 0 => Ok(count),
             _ => {
                 self.faults = self.faults.saturating_add(1);
                 Err(WriteFail)

@@ -3,3 +3,5 @@ pub mod Ticking
 pub mod Proposing
 pub mod Showing
 pub mod Meeting
+pub mod Doing
+pub mod Decides

@@ -1,8 +1,31 @@
 -- What is promised of every run.
-use Rattle.std.specs.Prelude.{ℕ, List, [], ◌∷◌}
-use Rattle.op_runs.specs.World.{Happening}
-use Rattle.op_runs.specs.Run.{Meets}
+use Rattle.std.specs.Prelude.{◌≡◌, ℕ, List, [], ◌∷◌, ◌++◌, length, Option, Some, None}
+use Rattle.op_types.specs.declared.log.Command.{Command}
+use Rattle.op_types.specs.declared.log.Entry.TheVariants as entry
+use Rattle.op_types.specs.declared.answers.Outcome.TheVariants as outcome
+use Rattle.op_types.specs.declared.events.What.TheVariants as what
+use Rattle.op_types.specs.declared.events.Event.{Event}
+use Rattle.op_sched.specs.declared.summary.Line.TheVariants as line
+use Rattle.op_model.specs.Service.{service_of, answer_of}
+use Rattle.op_steps.specs.Rows.{refusal_of}
+use Rattle.op_runs.specs.World.{Node, Up, Happening, done, node_at}
+use Rattle.op_runs.specs.Run.{Track, first_track, tracked, track_of, Meets}
 
 -- every run of a sole member meets the list machine
 abbrev pub SoleRunsMeet : Type 0
 SoleRunsMeet = (me : ℕ) (hs : List Happening) → Meets (me ∷ []) hs
+
+-- the node is up, and refuses no command
+abbrev pub Accepts : Option Node → Type 0
+Accepts None = ⊥
+Accepts (Some n) = (n.standing ≡ Up) × (refusal_of n.state.volatile n.state.durable.part ≡ None)
+
+-- The command's event, done, puts it at the end of the one list, and its client is told what the service of all that stands
+-- before it answers.
+pub record DecidesAtOnce (t : Track) (e : Event) (pid : ℕ) (c : Command) : Type 0 where
+  pub list : (tracked t (done e)).machine.lists 1 ≡ t.machine.lists 1 ++ entry.Command c ∷ []
+  pub told : (tracked t (done e)).world.lines ≡ t.world.lines ++ line.Answer e.line (outcome.Appended 1 (length (t.machine.lists 1))) ∷ line.Reply pid c.client c.seq (answer_of (service_of (t.machine.lists 1)) c) ∷ []
+
+-- after any run, a sole member that doesn't refuse a command decides it at once
+abbrev pub SoleMembersDecide : Type 0
+SoleMembersDecide = (me : ℕ) (hs : List Happening) (e : Event) (c : Command) → e.what ≡ what.Command me c → Accepts (node_at (track_of (first_track (me ∷ [])) hs).world.nodes me) → DecidesAtOnce (track_of (first_track (me ∷ [])) hs) e me c

@@ -3,4 +3,4 @@
 
 mod laws;
 
-pub use laws::every_run_meets;
+pub use laws::{commands_are_decided, every_run_meets};

@@ -8,10 +8,12 @@ use Rattle.op_model.specs.Machine.{Machine, with_at}
 
 -- ---- of one configuration
 
+-- how much a part has decided of a configuration
 abbrev pub part_decided : Option Part → ℕ → ℕ
 part_decided None conf = 0
 part_decided (Some p) conf = if conf == p.conf then p.decided else 0
 
+-- how much a closed list has of a configuration: all
 abbrev pub closed_decided : Option Closed → ℕ → ℕ
 closed_decided None conf = 0
 closed_decided (Some l) conf = if conf == l.conf then l.trimmed + length l.tail else 0
@@ -20,10 +22,12 @@ closed_decided (Some l) conf = if conf == l.conf then l.trimmed + length l.tail 
 abbrev pub decided_in : Durable → ℕ → ℕ
 decided_in d conf = max (part_decided d.part conf) (closed_decided d.closed conf)
 
+-- a part's decided entries from a position on
 abbrev pub part_entries : Option Part → ℕ → ℕ → List Entry
 part_entries None conf from = []
 part_entries (Some p) conf from = if conf == p.conf then drop (from - p.trimmed) (take (p.decided - p.trimmed) p.tail) else []
 
+-- a closed list's entries from a position on
 abbrev pub closed_entries : Option Closed → ℕ → ℕ → List Entry
 closed_entries None conf from = []
 closed_entries (Some l) conf from = if conf == l.conf then drop (from - l.trimmed) l.tail else []
@@ -32,6 +36,7 @@ closed_entries (Some l) conf from = if conf == l.conf then drop (from - l.trimme
 abbrev pub decided_entries : Durable → ℕ → ℕ → List Entry
 decided_entries d conf from = part_entries d.part conf from ++ closed_entries d.closed conf from
 
+-- whether this is the configuration of the part
 abbrev pub has_part : Option Part → ℕ → Bool
 has_part None conf = false
 has_part (Some p) conf = conf == p.conf

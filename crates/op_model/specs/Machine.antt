@@ -5,12 +5,14 @@ use Rattle.op_types.specs.declared.log.Entry.{Entry}
 use Rattle.op_types.specs.declared.log.Entry.TheVariants as entry
 use Rattle.op_types.specs.declared.log.StopSign.{StopSign}
 
+-- the machine's state
 pub record Machine : Type 0 where
   pub lists : ℕ → List Entry  -- of each configuration
   pub known : ℕ → ℕ → ℕ  -- to a node, of a configuration
   pub proposed : ℕ → List Entry  -- in each configuration
   pub opened : ℕ → ℕ → Bool  -- a node, and a configuration
 
+-- what the machine may do
 pub data MachineStep : Type 0 where
   Propose : (conf : ℕ) (e : Entry) → MachineStep
   Choose : (conf : ℕ) (e : Entry) → MachineStep
@@ -36,6 +38,7 @@ with_at n x f k = if k == n then x else f k
 abbrev pub with_node_at : {A : Type 0} → ℕ → ℕ → A → (ℕ → ℕ → A) → ℕ → ℕ → A
 with_node_at pid conf x f p c = if p == pid && c == conf then x else f p c
 
+-- the stop-sign that an entry is
 abbrev pub stop_of : Entry → Option StopSign
 stop_of (entry.Command c) = None
 stop_of (entry.Stop s) = Some s
@@ -46,6 +49,7 @@ stop_at_end [] = None
 stop_at_end (e ∷ []) = stop_of e
 stop_at_end (e ∷ f ∷ es) = stop_at_end (f ∷ es)
 
+-- whom a stop-sign names
 abbrev pub named_by : Option StopSign → List ℕ
 named_by None = []
 named_by (Some s) = s.members
@@ -74,16 +78,19 @@ IsAllowed m (Choose conf e) = IsAmong (m.proposed conf) e × (stop_at_end (m.lis
 IsAllowed m (Learn pid conf x) = (m.known pid conf ≤ x) × (x ≤ length (m.lists conf))
 IsAllowed m (Open pid conf) = (1 < conf) × IsAmong (named_by (stop_at_end (m.lists (conf - 1)))) pid
 
+-- the machine after a step
 abbrev pub stepped : Machine → MachineStep → Machine
 stepped m (Propose conf e) = record m { proposed = with_at conf (m.proposed conf ++ e ∷ []) m.proposed }
 stepped m (Choose conf e) = record m { lists = with_at conf (m.lists conf ++ e ∷ []) m.lists }
 stepped m (Learn pid conf x) = record m { known = with_node_at pid conf x m.known }
 stepped m (Open pid conf) = record m { opened = with_node_at pid conf true m.opened }
 
+-- each step is allowed where it is taken
 abbrev pub AreAllowed : Machine → List MachineStep → Type 0
 AreAllowed m [] = Unit {0}
 AreAllowed m (s ∷ steps) = IsAllowed m s × AreAllowed (stepped m s) steps
 
+-- the machine after these steps
 abbrev pub all_stepped : Machine → List MachineStep → Machine
 all_stepped m [] = m
 all_stepped m (s ∷ steps) = all_stepped (stepped m s) steps

@@ -14,13 +14,16 @@ use Rattle.op_types.specs.declared.answers.Answer.{Answer}
 use Rattle.op_types.specs.declared.answers.Answer.TheVariants as answer
 use Rattle.op_types.specs.declared.answers.Applied.{Applied}
 
+-- the service's state
 pub record Service : Type 0 where
   pub pairs : List (List ℕ × List ℕ)  -- keys and values, rising by key
   pub clients : List (ℕ × Applied)  -- each client's last command, rising by client
 
+-- nothing is kept at the start
 abbrev pub new_service : Service
 new_service = record { pairs = []; clients = [] }
 
+-- the pairs after an operation took its effect
 abbrev pub pairs_after : Op → List (List ℕ × List ℕ) → List (List ℕ × List ℕ)
 pairs_after (op.Put key value) pairs = insert_entry (slice_cmp nat_cmp) pairs key value
 
@@ -36,6 +39,7 @@ effected s c =
       clients = insert_entry nat_cmp s.clients c.client (record { seq = c.seq; answer = effect_answer c.op s.pairs });
     }
 
+-- a client's last command, if it had one
 abbrev pub last_of : Service → ℕ → Option Applied
 last_of s client = lookup (is_at (nat_cmp client)) s.clients
 
@@ -49,6 +53,7 @@ abbrev pub answer_after : Option Applied → Service → Command → Answer
 answer_after None s c = effect_answer c.op s.pairs
 answer_after (Some last) s c = if nat_lt last.seq c.seq then effect_answer c.op s.pairs else if c.seq == last.seq then last.answer else answer.Stale
 
+-- the service after the command
 abbrev pub service_with : Service → Command → Service
 service_with s c = applied_after (last_of s c.client) s c
 
@@ -71,13 +76,16 @@ service_of entries = all_after new_service entries
 
 -- ---- bytes of a service's state
 
+-- the tag of an answer
 abbrev pub answer_bytes : Answer → List ℕ
 answer_bytes answer.Done = 1 ∷ []
 answer_bytes answer.Stale = 4 ∷ []
 
+-- a key and its value, each behind its length
 abbrev pub pair_bytes : List ℕ × List ℕ → List ℕ
 pair_bytes p = to_be_bytes w8 (length p.0) ++ p.0 ++ to_be_bytes w16 (length p.1) ++ p.1
 
+-- a client, its last number and its answer
 abbrev pub client_bytes : ℕ × Applied → List ℕ
 client_bytes c = to_be_bytes w64 c.0 ++ to_be_bytes w64 c.1.seq ++ answer_bytes c.1.answer
 

@@ -32,10 +32,12 @@ pub record ClosedStands (first : List ℕ) (lists : ℕ → List Entry) (l : Clo
   pub next : l.next ≡ members_of first lists (l.conf + 1)
   pub base : l.base ≡ base_bytes (service_of (front_of lists l.conf l.trimmed))
 
+-- the part stands, if there is one
 abbrev pub IfPartStands : List ℕ → (ℕ → List Entry) → Option Part → Type 0
 IfPartStands first lists None = Unit {0}
 IfPartStands first lists (Some p) = PartStands first lists p
 
+-- the closed list stands, if there is one
 abbrev pub IfClosedStands : List ℕ → (ℕ → List Entry) → Option Closed → Type 0
 IfClosedStands first lists None = Unit {0}
 IfClosedStands first lists (Some l) = ClosedStands first lists l

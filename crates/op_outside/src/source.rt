@@ -1,7 +1,7 @@
 ghost use Rattle.std.specs.Prelude.{◌≡◌, ◌≤◌, ◌<◌, ◌+◌, ◌^◌, ℕ, List, length, Option, IfOk, IsErrOf};
 ghost use Rattle.std.specs.Io.KnownBytes.{ReadConsumes, IsAtEnd};
 ghost use Rattle.op_outside.specs.Causes.{Rose, HasCause};
-ghost use Rattle.op_outside.specs.Streams.{ReadsAll, HasAtLeast};
+ghost use Rattle.op_outside.specs.Streams.{ReadsAll, HasAtLeast, TakesAtMost};
 ghost use Rattle.op_outside.specs.declared.source.InputFail.TheVariants.{NoMemory};
 
 use std::alloc::{AllocError, Global};
@@ -30,7 +30,7 @@ pub trait Source {
         ensures cause { HasCause (fault_count self.old) (fault_count self.new) result };
 }
 
-/// Why input was not read to its end.
+/// Why input was not read to its end: a read failed, there was more than the limit, or no memory.
 #[derive(Clone, Copy, Debug, PartialEq, Eq)]
 pub enum InputFail {
     Fault,
@@ -59,6 +59,7 @@ pub fn read_all<S: Source>(
     ensures ended { IfOk result (λ _. IsAtEnd (S.left source.new)) }
     ensures within { IfOk result (λ bytes. length bytes.items ≤ limit) }
     ensures too_long { IsErrOf result InputFail.TooLong → HasAtLeast (S.left source.old) (limit + 1) }
+    ensures taken { TakesAtMost (limit + 1) (S.left source.old) (S.left source.new) }
     ensures fault { IsErrOf result InputFail.Fault → Rose (S.fault_count source.old) (S.fault_count source.new) }
     ensures later { S.fault_count source.old ≤ S.fault_count source.new }
 {

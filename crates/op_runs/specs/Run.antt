@@ -1,15 +1,17 @@
 -- A run, its ledger beside it, and how it meets the list machine.
-use Rattle.std.specs.Prelude.{ℕ, List, [], ◌∷◌, fold, Option, Some, None, All}
+use Rattle.std.specs.Prelude.{◌≡◌, ℕ, List, [], ◌∷◌, fold, Option, Some, None, All}
 use Rattle.op_types.specs.declared.durable.Part.{Part}
 use Rattle.op_types.specs.declared.answers.Refusal.{Refusal}
 use Rattle.op_types.specs.declared.events.What.{What}
 use Rattle.op_types.specs.declared.events.What.TheVariants as what
 use Rattle.op_types.specs.declared.log.Command.{Command}
+use Rattle.op_types.specs.declared.log.Entry.{Entry}
 use Rattle.op_types.specs.declared.log.Entry.TheVariants as entry
 use Rattle.op_model.specs.Machine.{Machine, first_machine, Leads}
 use Rattle.op_model.specs.Ledger.{shown, proposing}
-use Rattle.op_model.specs.Laws.{IsSafe}
-use Rattle.op_model.specs.Stands.{Stands}
+use Rattle.op_model.specs.Laws.{IsSafe, OnlyGrows}
+use Rattle.op_model.specs.Service.{Service, service_of}
+use Rattle.op_model.specs.Stands.{Stands, front_of}
 use Rattle.op_steps.specs.State.{State}
 use Rattle.op_steps.specs.Rows.{refusal_of}
 use Rattle.op_runs.specs.World.{World, Node, Standing, Up, Down, Happening, first_world, happened, node_at, node_of}
@@ -23,15 +25,18 @@ pub record Track : Type 0 where
 abbrev pub all_shown : Machine → List Node → Machine
 all_shown m nodes = fold (λ x n. shown x n.pid n.state.durable) m nodes
 
+-- a command at a part is proposed in its configuration, if nothing refuses it
 abbrev pub proposed_in : Machine → Command → Option Part → Option Refusal → Machine
 proposed_in m c None r = m
 proposed_in m c (Some p) (Some r) = m
 proposed_in m c (Some p) None = proposing m p.conf (entry.Command c)
 
+-- an event proposes its command
 abbrev pub proposed_at : Machine → What → State → Machine
 proposed_at m (what.Tick p) s = m
 proposed_at m (what.Command p c) s = proposed_in m c s.durable.part (refusal_of s.volatile s.durable.part)
 
+-- at a node that is up
 abbrev pub proposed_if : Standing → Machine → What → State → Machine
 proposed_if Up m w s = proposed_at m w s
 proposed_if (Down after) m w s = m
@@ -41,6 +46,7 @@ abbrev pub proposed_by : Machine → What → Option Node → Machine
 proposed_by m w None = m
 proposed_by m w (Some n) = proposed_if n.standing m w n.state
 
+-- a run after one happening more
 abbrev pub tracked : Track → Happening → Track
 tracked t h =
     record {
@@ -48,22 +54,30 @@ tracked t h =
       machine = all_shown (proposed_by t.machine h.event.what (node_at t.world.nodes (node_of h.event.what))) (happened t.world h).nodes;
     }
 
+-- the start of a run
 abbrev pub first_track : List ℕ → Track
 first_track members = record { world = first_world members; machine = first_machine members }
 
+-- a run after these happenings
 abbrev pub track_of : Track → List Happening → Track
 track_of t [] = t
 track_of t (h ∷ hs) = track_of (tracked t h) hs
 
--- what a run's state keeps: the lists are safe, and every node stands
+-- the service at a part has applied all that is decided there and in the configurations before, and nothing else
+abbrev pub ServesDecided : (ℕ → List Entry) → Option Part → Service → Type 0
+ServesDecided lists None s = Unit {0}
+ServesDecided lists (Some p) s = s ≡ service_of (front_of lists p.conf p.decided)
+
+-- what a run's state keeps: the lists are safe, every node stands, and its service is that of all that it has decided
 pub record IsSound (members : List ℕ) (t : Track) : Type 0 where
   pub safe : IsSafe members t.machine
   pub stand : All (λ n. Stands members t.machine.lists n.state.durable) t.world.nodes
+  pub serve : All (λ n. ServesDecided t.machine.lists n.state.durable.part n.state.service) t.world.nodes
 
--- each happening is finitely many steps of the list machine, and all is sound after it
+-- each happening is finitely many steps of the list machine, which only add to it, and all is sound after it
 abbrev pub MeetsFrom : List ℕ → Track → List Happening → Type 0
 MeetsFrom members t [] = Unit {0}
-MeetsFrom members t (h ∷ hs) = Leads t.machine (tracked t h).machine × IsSound members (tracked t h) × MeetsFrom members (tracked t h) hs
+MeetsFrom members t (h ∷ hs) = Leads t.machine (tracked t h).machine × OnlyGrows t.machine (tracked t h).machine × IsSound members (tracked t h) × MeetsFrom members (tracked t h) hs
 
 -- a run of these members meets the list machine, from its start on
 abbrev pub Meets : List ℕ → List Happening → Type 0

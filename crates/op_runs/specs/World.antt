@@ -20,14 +20,16 @@ pub data Standing : Type 0 where
   Up : Standing
   Down : (after : Durable) → Standing
 
+-- a server, its state, and how it runs
 pub record Node : Type 0 where
   pub pid : ℕ
   pub state : State
   pub standing : Standing
 
+-- all nodes, all messages, and all that was told
 pub record World : Type 0 where
   pub nodes : List Node  -- rising by id
-  pub soup : List Sent  -- every message that was ever sent, by number
+  pub messages : List Sent  -- every message that was ever sent, by number
   pub lines : List Line  -- what the events gave, to be reported
 
 -- what becomes of an event's step: it is done, or the node stops inside it and nothing is given out
@@ -35,6 +37,7 @@ pub data Fate : Type 0 where
   Done : Fate
   Stopped : Fate
 
+-- an event, and what becomes of its step
 pub record Happening : Type 0 where
   pub event : Event
   pub fate : Fate
@@ -49,22 +52,27 @@ first_durable members =
       closed = None;
     }
 
+-- what a server starts with in memory
 abbrev pub first_volatile : ℕ → Volatile
 first_volatile pid = record { own = record { number = 1; pid = pid }; leader = no_ballot; floor = no_ballot; flag = false; round = 0; heard = []; role = role.Idle }
 
+-- a member at its start
 abbrev pub first_node : List ℕ → ℕ → Node
 first_node members pid =
     record { pid = pid; state = record { durable = first_durable members; volatile = first_volatile pid; service = new_service; waiting = [] }; standing = Up }
 
+-- all members at their start
 abbrev pub first_world : List ℕ → World
-first_world members = record { nodes = map (first_node members) members; soup = []; lines = [] }
+first_world members = record { nodes = map (first_node members) members; messages = []; lines = [] }
 
 -- ---- events
 
+-- the server that an event is at
 abbrev pub node_of : What → ℕ
 node_of (what.Tick p) = p
 node_of (what.Command p c) = p
 
+-- the node of this id, if there is one
 abbrev pub node_at : List Node → ℕ → Option Node
 node_at [] pid = None
 node_at (n ∷ nodes) pid = if n.pid == pid then Some n else node_at nodes pid
@@ -74,10 +82,12 @@ abbrev pub with_node : List Node → Node → List Node
 with_node [] m = []
 with_node (n ∷ nodes) m = if n.pid == m.pid then m ∷ nodes else n ∷ with_node nodes m
 
+-- the step of a node, by what happens
 abbrev pub planned : Node → What → Planned
 planned n (what.Tick p) = ticked n.pid n.state n.state.durable.part
 planned n (what.Command p c) = commanded n.state c
 
+-- the line of an outcome, if there is one
 abbrev pub outcome_lines : ℕ → Option Outcome → List Line
 outcome_lines at None = []
 outcome_lines at (Some o) = line.Answer at o ∷ []
@@ -86,11 +96,12 @@ outcome_lines at (Some o) = line.Answer at o ∷ []
 abbrev pub lines_of : ℕ → ℕ → Planned → List Line
 lines_of at pid p = outcome_lines at p.outcome ++ map (λ r. line.Reply pid r.client r.seq r.answer) p.replies
 
+-- the world after a node's step, by its fate
 abbrev pub fated : Fate → ℕ → World → Node → Planned → World
 fated Done at w n p =
     record {
       nodes = with_node w.nodes (record n { state = adopted n.state p });
-      soup = w.soup ++ p.sends;
+      messages = w.messages ++ p.sends;
       lines = w.lines ++ lines_of at n.pid p;
     }
 fated Stopped at w n p = record w { nodes = with_node w.nodes (record n { standing = Down (applied n.state.durable p.batch) }) }
@@ -100,13 +111,16 @@ abbrev pub stepped_if : Standing → Fate → Event → World → Node → World
 stepped_if Up f e w n = fated f e.line w n (planned n e.what)
 stepped_if (Down after) f e w n = w
 
+-- the same, where the node is there
 abbrev pub stepped_at : Option Node → Fate → Event → World → World
 stepped_at None f e w = w
 stepped_at (Some n) f e w = stepped_if n.standing f e w n
 
+-- the world after one happening
 abbrev pub happened : World → Happening → World
 happened w h = stepped_at (node_at w.nodes (node_of h.event.what)) h.fate h.event w
 
+-- the world after these happenings
 abbrev pub run_of : World → List Happening → World
 run_of w [] = w
 run_of w (h ∷ hs) = run_of (happened w h) hs
@@ -115,5 +129,6 @@ run_of w (h ∷ hs) = run_of (happened w h) hs
 abbrev pub done : Event → Happening
 done e = record { event = e; fate = Done }
 
+-- the happenings of a replay
 abbrev pub all_done : List Event → List Happening
 all_done events = map done events

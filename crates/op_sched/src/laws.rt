@@ -11,7 +11,7 @@ pub fn one_reading()
     ensures in_range { (text : List ℕ) (s : Schedule) → IsSchedule text s → IsOneMember s.members × AreInRange s.events }
 {}
 
-/// Keys and values, of bytes, are told by their spelling.
+/// No two keys or values, of bytes, are spelled alike.
 pub fn one_spelling()
     ensures { (a b : List ℕ) → All (λ x. x < 256) a → All (λ x. x < 256) b → spelled a ≡ spelled b → a ≡ b }
 {}

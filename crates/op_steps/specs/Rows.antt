@@ -30,6 +30,7 @@ only_volatile s v sends = record { batch = []; volatile = v; service = s.service
 abbrev pub backed : Part → ℕ
 backed p = if is_majority 1 (length p.members) then len_of p else 0
 
+-- the change that decides it, if it is new
 abbrev pub decided_change : Part → List Change
 decided_change p = if nat_lt p.decided (backed p) then change.Decided (backed p) ∷ [] else []
 
@@ -55,23 +56,31 @@ requests me p round = map (λ q. record { from = me; to = q; message = record { 
 abbrev pub led_batch : Part → Ballot → List Change
 led_batch p n = change.Promise n ∷ change.Accept n ∷ decided_change p
 
+-- the role of a leader
 abbrev pub leading : Part → Ballot → Role
 leading p n = role.Leading (record { ballot = n; adopted_round = p.accepted; adopted_len = len_of p })
 
+-- the step of a lead, when the newly decided entries were served
 abbrev pub led_after : State → Part → Volatile → Ballot → List Sent → Served → Planned
 led_after s p v n sends t =
     record { batch = led_batch p n; volatile = record v { role = leading p n }; service = t.service; waiting = t.waiting; sends = sends; replies = t.replies; outcome = None }
 
+-- the step of a lead
 abbrev pub led : State → Part → Volatile → Ballot → List Sent → Planned
 led s p v n sends = led_after s p v n sends (served s.service s.waiting (newly_decided p))
+
+-- A ballot above the promise: one that is a majority by itself leads it at once. With more members it would prepare.
+abbrev pub lead : State → Part → Volatile → Ballot → List Sent → Planned
+lead s p v n sends = if is_majority 1 (length p.members) then led s p v n sends else only_volatile s v sends
 
 -- an own ballot that was elected is led if it is above the promise; otherwise elections begin at the promise
 abbrev pub elected : ℕ → State → Part → Volatile → List Sent → Option Ballot → Planned
 elected me s p v sends None = only_volatile s v sends
 elected me s p v sends (Some n) =
-    if n.pid == me then (if is_below p.promised n then led s p v n sends else only_volatile s (record v { floor = greater v.floor p.promised }) sends)
+    if n.pid == me then (if is_below p.promised n then lead s p v n sends else only_volatile s (record v { floor = greater v.floor p.promised }) sends)
     else only_volatile s v sends
 
+-- the step of a tick, when the round has ended
 abbrev pub ticked_after : ℕ → State → Part → Ended → Planned
 ticked_after me s p e = elected me s p (begun s.volatile e) (requests me p (next_round s.volatile.round)) e.elected
 
@@ -82,18 +91,22 @@ ticked me s (Some p) = ticked_after me s p (ended me (length p.members) s.volati
 
 -- ---- proposals
 
+-- whether the role is that of a leader
 abbrev pub is_leading : Role → Bool
 is_leading role.Idle = false
 is_leading (role.Leading l) = true
 
--- why a proposal is refused, the first cause first
+-- Why a proposal is refused, the first cause first. One member that doesn't lead has promised none or its own ballot; with
+-- more, the promise of another's ballot would forward.
 abbrev pub part_refusal : Volatile → Part → Option Refusal
 part_refusal v p = if not (is_leading v.role) then Some refusal.NoLeader else if nat_lt (len_of p) (2 ^ 62) then None else Some refusal.PositionsEnd
 
+-- a node without a part knows no leader
 abbrev pub refusal_of : Volatile → Option Part → Option Refusal
 refusal_of v None = Some refusal.NoLeader
 refusal_of v (Some p) = part_refusal v p
 
+-- the step of a refused proposal
 abbrev pub refused : State → Refusal → Planned
 refused s r = record { batch = []; volatile = s.volatile; service = s.service; waiting = s.waiting; sends = []; replies = []; outcome = Some (outcome.Refused r) }
 
@@ -101,6 +114,7 @@ refused s r = record { batch = []; volatile = s.volatile; service = s.service; w
 abbrev pub appended_part : Part → Command → Part
 appended_part p c = changed_part p (change.Append (entry.Command c ∷ []))
 
+-- the step of a leader that appends, when the newly decided entries were served
 abbrev pub appended_after : State → Part → Command → Served → Planned
 appended_after s p c t =
     record {
@@ -117,10 +131,12 @@ appended_after s p c t =
 abbrev pub appended : State → Part → Command → Planned
 appended s p c = appended_after s p c (served s.service (waiting_with s.waiting c) (newly_decided (appended_part p c)))
 
+-- the step of a proposal that nothing refuses
 abbrev pub accepted_by : State → Option Part → Command → Planned
 accepted_by s None c = only_volatile s s.volatile []
 accepted_by s (Some p) c = appended s p c
 
+-- the step of a command, by what refuses it
 abbrev pub commanded_after : State → Command → Option Refusal → Planned
 commanded_after s c (Some r) = refused s r
 commanded_after s c None = accepted_by s s.durable.part c

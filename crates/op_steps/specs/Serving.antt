@@ -7,9 +7,11 @@ use Rattle.op_types.specs.declared.answers.Reply.{Reply}
 use Rattle.op_model.specs.Service.{Service, service_with, answer_of}
 use Rattle.op_steps.specs.State.{Waiting}
 
+-- whether it is this command that is waited for
 abbrev pub is_for : Command → Waiting → Bool
 is_for c w = w.client == c.client && w.seq == c.seq
 
+-- whether the command is waited for
 abbrev pub waits : List Waiting → Command → Bool
 waits [] c = false
 waits (w ∷ waiting) c = is_for c w || waits waiting c
@@ -18,6 +20,7 @@ waits (w ∷ waiting) c = is_for c w || waits waiting c
 abbrev pub waiting_with : List Waiting → Command → List Waiting
 waiting_with waiting c = if waits waiting c then waiting else waiting ++ record { client = c.client; seq = c.seq } ∷ []
 
+-- the command's reply
 abbrev pub reply_of : Service → Command → Reply
 reply_of s c = record { client = c.client; seq = c.seq; answer = answer_of s c }
 
@@ -27,6 +30,7 @@ pub record Served : Type 0 where
   pub waiting : List Waiting
   pub replies : List Reply
 
+-- after one more command is decided
 abbrev pub served_command : Served → Command → Served
 served_command t c =
     record {
@@ -35,6 +39,7 @@ served_command t c =
       replies = if waits t.waiting c then t.replies ++ reply_of t.service c ∷ [] else t.replies;
     }
 
+-- after one more entry is decided
 abbrev pub served_entry : Served → Entry → Served
 served_entry t (entry.Command c) = served_command t c
 served_entry t (entry.Stop stop) = t

@@ -14,6 +14,7 @@ pub record Waiting : Type 0 where
   pub client : ℕ
   pub seq : ℕ
 
+-- what a node stores, and what it keeps in memory
 pub record State : Type 0 where
   pub durable : Durable
   pub volatile : Volatile

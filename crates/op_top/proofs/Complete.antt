@@ -7,7 +7,7 @@ use Rattle.op_types.specs.declared.events.Event.{Event}
 use Rattle.op_sched.specs.declared.schedule.Schedule.{Schedule}
 use Rattle.op_sched.proofs.OneReading.{no_bad_line, one_schedule, one_bad_line}
 use Rattle.op_top.specs.Replay.{AllPresent, IsFirstAbsent}
-use Rattle.op_top.specs.Called.{IsWithinLimit, Reports, IsBadAt, IsValid}
+use Rattle.op_top.specs.Called.{IsWithinLimit, Reports, IsBadAt, IsRefusedAt, IsValid}
 use Rattle.op_top.specs.Statuses.{IsOrNoMemory}
 use Rattle.op_top.specs.declared.status.Status.{Status}
 use Rattle.op_top.specs.declared.status.Status.TheVariants as status
@@ -46,10 +46,10 @@ pub told_valid : (left : Option (List ℕ)) (bytes : List ℕ) (n : ℕ) → Rea
 told_valid None bytes n all bad = tt
 told_valid (Some input) bytes n all bad = λ _ valid. absurd (not_bad input n valid (subst (λ (t : List ℕ). IsBadAt t n) all bad))
 
-pub told_bad : (left : Option (List ℕ)) (bytes text : List ℕ) (s : Status) → ReadsAll left bytes → Reports bytes text → IfSome left (λ input. (line : ℕ) → IsWithinLimit input → IsBadAt input line → IsOrNoMemory (status.BadSchedule line) s)
+pub told_bad : (left : Option (List ℕ)) (bytes text : List ℕ) (s : Status) → ReadsAll left bytes → Reports bytes text → IfSome left (λ input. (line : ℕ) → IsRefusedAt input line → IsOrNoMemory (status.BadSchedule line) s)
 told_bad None bytes text s all r = tt
-told_bad (Some input) bytes text s all r = λ line _ bad. absurd (not_bad input line (valid_from input text (subst (λ (t : List ℕ). Reports t text) all r)) bad)
+told_bad (Some input) bytes text s all r = λ line bad. absurd (not_bad input line (valid_from input text (subst (λ (t : List ℕ). Reports t text) all r)) bad.1)
 
-pub told_same : (left : Option (List ℕ)) (bytes : List ℕ) (n : ℕ) → ReadsAll left bytes → IsBadAt bytes n → IfSome left (λ input. (line : ℕ) → IsWithinLimit input → IsBadAt input line → IsOrNoMemory (status.BadSchedule line) (status.BadSchedule n))
+pub told_same : (left : Option (List ℕ)) (bytes : List ℕ) (n : ℕ) → ReadsAll left bytes → IsBadAt bytes n → IfSome left (λ input. (line : ℕ) → IsRefusedAt input line → IsOrNoMemory (status.BadSchedule line) (status.BadSchedule n))
 told_same None bytes n all bad = tt
-told_same (Some input) bytes n all bad = λ line _ other. inl (ap status.BadSchedule (one_bad input n line (subst (λ (t : List ℕ). IsBadAt t n) all bad) other))
+told_same (Some input) bytes n all bad = λ line other. inl (ap status.BadSchedule (one_bad input n line (subst (λ (t : List ℕ). IsBadAt t n) all bad) other.1))

@@ -8,35 +8,40 @@ use Rattle.op_types.specs.declared.durable.Part.{Part}
 use Rattle.op_types.specs.declared.volatile.Volatile.{Volatile}
 use Rattle.op_types.specs.declared.volatile.Role.TheVariants as role
 use Rattle.op_steps.specs.State.{Planned}
-use Rattle.op_steps.specs.Election.{ended}
-use Rattle.op_steps.specs.Rows.{only_volatile, begun, requests, next_round, led_batch, led, elected, ticked_after, ticked}
+use Rattle.op_steps.specs.Election.{is_majority, ended}
+use Rattle.op_steps.specs.Rows.{only_volatile, begun, requests, next_round, led_batch, lead, led, elected, ticked}
 use Rattle.op_runs.specs.Sole.{sole_durable, sole_state}
 use Rattle.op_laws.proofs.Deciding.{applied-led}
 use Rattle.op_top.specs.Ticking.{IsSolePart, Ticks}
 
 -- the row of the tick is that of the lead
-ticked-led : (me : ℕ) (p : Part) (u : Volatile) (n : Ballot) → IsSolePart me p → (ended me 1 u).elected ≡ Some n → n.pid ≡ me → is_below p.promised n ≡ true
-    → ticked me (sole_state p u) (Some p) ≡ led (sole_state p u) p (begun u (ended me 1 u)) n (requests me p (next_round u.round))
+ticked-led : (me : ℕ) (p : Part) (u : Volatile) (n : Ballot) → IsSolePart me p → (ended me (length p.members) u).elected ≡ Some n → n.pid ≡ me → is_below p.promised n ≡ true
+    → ticked me (sole_state p u) (Some p) ≡ led (sole_state p u) p (begun u (ended me (length p.members) u)) n (requests me p (next_round u.round))
 ticked-led me p u n sole won own above =
     let s = sole_state p u in
-    let e = ended me 1 u in
+    let e = ended me (length p.members) u in
     let v = begun u e in
     let sends = requests me p (next_round u.round) in
     let raised : Volatile = record v { floor = greater v.floor p.promised } in
-    let at : Bool → Bool → Planned = λ a b. cond a (cond b (led s p v n sends) (only_volatile s raised sends)) (only_volatile s v sends) in
-    ap (λ (k : ℕ). ticked_after me s p (ended me k u)) (ap (λ (q : Part). length q.members) sole)
-    ∙ ap (λ (o : Option Ballot). elected me s p v sends o) won
+    let at : Bool → Bool → Planned = λ a b. cond a (cond b (lead s p v n sends) (only_volatile s raised sends)) (only_volatile s v sends) in
+    ap (λ (o : Option Ballot). elected me s p v sends o) won
     ∙ ap (λ (b : Bool). at b (is_below p.promised n)) (eq-eqb n.pid me own)
     ∙ ap (λ (b : Bool). at true b) above
+    ∙ ap (λ (q : Part). cond (is_majority 1 (length q.members)) (led s p v n sends) (only_volatile s v sends)) sole
 
-pub ticks-led : (me : ℕ) (p : Part) (u v : Volatile) (n : Ballot) (len : ℕ) → IsSolePart me p → (ended me 1 u).elected ≡ Some n → n.pid ≡ me → is_below p.promised n ≡ true → v ≡ begun u (ended me 1 u) → len ≡ length p.tail
+ticks_with : (me : ℕ) (p : Part) (u v : Volatile) (n : Ballot) (len : ℕ) → IsSolePart me p → (ended me (length p.members) u).elected ≡ Some n → n.pid ≡ me → is_below p.promised n ≡ true → v ≡ begun u (ended me (length p.members) u) → len ≡ length p.tail
     → Ticks me p u (record p { promised = n; accepted = n }) (record v { role = role.Leading (record { ballot = n; adopted_round = p.accepted; adopted_len = len }) })
-ticks-led me p u v n len sole won own above begins counted =
+ticks_with me p u v n len sole won own above begins counted =
     let row = ticked-led me p u n sole won own above in
     let log_len : len ≡ len_of p = counted ∙ sym (zero-add (length p.tail)) ∙ ap (λ (q : Part). q.trimmed + length p.tail) (sym sole) in
     let leads : Volatile → ℕ → Volatile = λ w k. record w { role = role.Leading (record { ballot = n; adopted_round = p.accepted; adopted_len = k }) } in
     record {
       stored = ap (λ (q : Part). sole_durable (record q { promised = n; accepted = n })) sole ∙ sym (applied-led me p.promised p.accepted n p.tail)
           ∙ ap (λ (q : Part). applied (sole_durable q) (led_batch q n)) (sym sole) ∙ ap (λ (pl : Planned). applied (sole_durable p) pl.batch) (sym row);
-      kept = ap (λ (w : Volatile). leads w len) begins ∙ ap (λ (k : ℕ). leads (begun u (ended me 1 u)) k) log_len ∙ ap (λ (pl : Planned). pl.volatile) (sym row);
+      kept = ap (λ (w : Volatile). leads w len) begins ∙ ap (λ (k : ℕ). leads (begun u (ended me (length p.members) u)) k) log_len ∙ ap (λ (pl : Planned). pl.volatile) (sym row);
     }
+
+pub ticks-led : (me : ℕ) (p : Part) (u v : Volatile) (n : Ballot) (count len : ℕ) → IsSolePart me p → count ≡ length p.members → (ended me count u).elected ≡ Some n → n.pid ≡ me → is_below p.promised n ≡ true → v ≡ begun u (ended me count u) → len ≡ length p.tail
+    → Ticks me p u (record p { promised = n; accepted = n }) (record v { role = role.Leading (record { ballot = n; adopted_round = p.accepted; adopted_len = len }) })
+ticks-led me p u v n count len sole members won own above begins counted =
+    ticks_with me p u v n len sole (ap (λ (k : ℕ). (ended me k u).elected) (sym members) ∙ won) own above (begins ∙ ap (λ (k : ℕ). begun u (ended me k u)) members) counted

@@ -7,16 +7,14 @@ use Rattle.op_model.specs.Machine.{is_among}
 use Rattle.op_runs.specs.World.{World, Happening, first_world, node_of, happened, run_of, done, all_done}
 use Rattle.op_runs.specs.Run.{Track, first_track, tracked, track_of, Meets}
 use Rattle.op_runs.specs.Summary.{summary_of}
-use Rattle.op_laws.proofs.Meeting.{IsSole, sole_first, sole_tracked, listed, sole_runs_meet}
-use Rattle.op_top.specs.Replay.{AllPresent, IsFirstAbsent, log_of, sole_summary, run_track, run_summary}
+use Rattle.op_laws.proofs.Decides.{sole_run}
+use Rattle.op_laws.proofs.Meeting.{IsSole, sole_first, listed, sole_runs_meet}
+use Rattle.op_top.specs.Replay.{AllPresent, IsFirstAbsent, sole_summary, run_track, run_summary}
+use Rattle.op_runs.specs.Sole.{log_of}
 
 world-track_of : (t : Track) (hs : List Happening) → (track_of t hs).world ≡ run_of t.world hs
 world-track_of t [] = refl
 world-track_of t (h ∷ hs) = world-track_of (tracked t h) hs
-
-sole_run : (me : ℕ) (t : Track) (hs : List Happening) → IsSole me t → IsSole me (track_of t hs)
-sole_run me t [] s = s
-sole_run me t (h ∷ hs) s = sole_run me (tracked t h) hs (sole_tracked me t h s)
 
 -- a sole member's summary is that of its run
 sole_summary-track : (me : ℕ) (t : Track) → IsSole me t → sole_summary (me ∷ []) t.world ≡ summary_of (me ∷ []) t

@@ -29,15 +29,19 @@ Reports input text = (s : Schedule) × IsSchedule input s × IsReportOf s text
 
 -- the report of the input's run was written, whole
 abbrev pub IsReported : List ℕ → Option (List ℕ) → Option (List ℕ) → Type 0
-IsReported input old new = (text : List ℕ) × Reports input text × Appends old new text
+IsReported input old new = (text : List ℕ) × IsWithinLimit input × Reports input text × Appends old new text
 
 -- a front of that report was written
 abbrev pub IsReportedFront : List ℕ → Option (List ℕ) → Option (List ℕ) → Type 0
-IsReportedFront input old new = (text : List ℕ) × Reports input text × AppendsFront old new text
+IsReportedFront input old new = (text : List ℕ) × IsWithinLimit input × Reports input text × AppendsFront old new text
 
 -- line n is the first that isn't in the grammar or, where all are, that of the first event at a node that isn't there
 abbrev pub IsBadAt : List ℕ → ℕ → Type 0
 IsBadAt input n = IsFirstBadLine input n ⊎ ((s : Schedule) × IsSchedule input s × IsFirstAbsent s.members s.events n)
+
+-- the input isn't too long, and is refused at this line
+abbrev pub IsRefusedAt : List ℕ → ℕ → Type 0
+IsRefusedAt input n = IsWithinLimit input × IsBadAt input n
 
 -- the input is a schedule, each event of which is at a node that is there
 abbrev pub IsValid : List ℕ → Type 0

@@ -1,6 +1,6 @@
 //! The end of a heartbeat round, and what an elected ballot of its own makes a member do.
-ghost use Rattle.std.specs.Prelude.{◌≡◌, ◌<◌, ◌^◌, ℕ, List, length};
-ghost use Rattle.op_steps.specs.Election.{greatest, raised_above, ended};
+ghost use Rattle.std.specs.Prelude.{◌≡◌, ◌+◌};
+ghost use Rattle.op_steps.specs.Election.{is_majority, greatest, raised_above, ended};
 ghost use Rattle.op_steps.specs.Rows.{next_round, begun};
 ghost use Rattle.op_top.specs.Ticking.{Ticks, IsSolePart};
 
@@ -40,18 +40,24 @@ fn round_after(round: u64) -> u64
     if round < LAST_NUMBER { round + 1 } else { 1 }
 }
 
+/// Whether a node and those that replied to it are a majority.
+fn hears_majority(replies: usize, members: usize) -> bool
+    ensures { result ≡ is_majority (1 + replies) members }
+{
+    replies >= members / 2
+}
+
 /// Ends the round at a node of so many members, and begins the next one. Answers the ballot that is elected.
 fn end_round(me: Pid, members: usize, volatile: &mut Volatile) -> Option<Ballot>
-    requires { members < 2 ^ 32 }
     ensures elected { result ≡ (ended me members volatile.old).elected }
     ensures begun { volatile.new ≡ begun volatile.old (ended me members volatile.old) }
 {
-    let votes = volatile.heard.len();
+    let replies = volatile.heard.len();
     let ballot = greatest_ballot(volatile.own, volatile.heard.as_slice());
     let least = volatile.leader.greater(volatile.floor);
     volatile.round = round_after(volatile.round);
     volatile.heard.clear();
-    volatile.flag = votes >= members / 2;
+    volatile.flag = hears_majority(replies, members);
     if !volatile.flag {
         return None;
     }
@@ -71,7 +77,7 @@ pub fn tick(me: Pid, part: &mut Part, volatile: &mut Volatile)
     requires { IsSolePart me part.old }
     ensures { Ticks me part.old volatile.old part.new volatile.new }
 {
-    let Some(ballot) = end_round(me, 1, volatile) else {
+    let Some(ballot) = end_round(me, part.members.len(), volatile) else {
         return;
     };
     if ballot.pid != me {

@@ -40,7 +40,7 @@ impl Status {
 
     /// Writes the status's line, with no memory taken. `Ended` has none.
     pub fn tell<K: Sink>(self, err: &mut K)
-        ensures { Tells (K.held err.old) (K.held err.new) (K.fault_count err.old) (K.fault_count err.new) (status_line self) }
+        ensures { Tells K.held K.fault_count err.old err.new (status_line self) }
     {
         match self {
             Status::Ended => tell_text(err, b""),
@@ -59,7 +59,7 @@ impl Status {
 }
 
 fn tell_text<K: Sink>(err: &mut K, text: &[u8])
-    ensures { Tells (K.held err.old) (K.held err.new) (K.fault_count err.old) (K.fault_count err.new) text.now }
+    ensures { Tells K.held K.fault_count err.old err.new text.now }
 {
     let _ = write_all(err, text);
 }
@@ -71,7 +71,7 @@ fn write_parts<K: Sink>(
     second: &[u8],
     third: &[u8],
 ) -> Result<(), WriteFail>
-    ensures { Tells (K.held err.old) (K.held err.new) (K.fault_count err.old) (K.fault_count err.new) (first.now ++ second.now ++ third.now) }
+    ensures { Tells K.held K.fault_count err.old err.new (first.now ++ second.now ++ third.now) }
 {
     write_all(err, first)?;
     write_all(err, second)?;

@@ -91,7 +91,7 @@ fn check_row(
     Ok(())
 }
 
-/// Whatever the memory, a row's answers are its own: so a body that always answers want of memory fails here.
+/// With ample memory a row's answers are its own: so a body that always answers want of memory fails here.
 #[test]
 fn rows_end_as_they_are_told(rt: HostRuntime) -> Result<(), Fail> {
     for row in ROWS.iter() {

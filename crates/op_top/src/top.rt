@@ -1,8 +1,8 @@
 ghost use Rattle.std.specs.Prelude.{◌≡◌, ◌<◌, ◌↔◌, ℕ, length, List, map, codes, string_bytes, IfSome, IsTrue};
 ghost use Rattle.std.specs.Io.KnownBytes.{IsAtEnd};
-ghost use Rattle.op_outside.specs.Causes.{Rose};
-ghost use Rattle.op_outside.specs.Streams.{HasAtLeast, Tells};
-ghost use Rattle.op_top.specs.Called.{IsReplay, IsWithinLimit, IsReported, IsReportedFront, IsBadAt, IsValid};
+ghost use Rattle.op_outside.specs.Causes.{Rose, NoFault};
+ghost use Rattle.op_outside.specs.Streams.{HasAtLeast, TakesAtMost, Tells};
+ghost use Rattle.op_top.specs.Called.{IsReplay, IsWithinLimit, IsReported, IsReportedFront, IsRefusedAt, IsValid};
 ghost use Rattle.op_top.specs.Statuses.{IsQuiet, IsOrNoMemory, status_line};
 
 use crate::replay::replayed;
@@ -32,18 +32,19 @@ fn is_replay(words: &[String]) -> bool
 fn replay<S: Source, K: Sink>(alloc: Global, input: &mut S, out: &mut K) -> Status
     ensures ended { result ≡ Status.Ended → IfSome (S.left input.old) (λ bytes. IsReported bytes (K.held out.old) (K.held out.new)) }
     ensures read { result ≡ Status.Ended → IsAtEnd (S.left input.new) }
-    ensures bad { (line : ℕ) → result ≡ Status.BadSchedule line → IfSome (S.left input.old) (λ bytes. IsBadAt bytes line) }
-    ensures bad_always { (Rose (S.fault_count input.old) (S.fault_count input.new) → ⊥)
-        → IfSome (S.left input.old) (λ bytes. (line : ℕ) → IsWithinLimit bytes → IsBadAt bytes line → IsOrNoMemory (Status.BadSchedule line) result) }
+    ensures bad { (line : ℕ) → result ≡ Status.BadSchedule line → IfSome (S.left input.old) (λ bytes. IsRefusedAt bytes line) }
+    ensures bad_always { NoFault (S.fault_count input.old) (S.fault_count input.new)
+        → IfSome (S.left input.old) (λ bytes. (line : ℕ) → IsRefusedAt bytes line → IsOrNoMemory (Status.BadSchedule line) result) }
     ensures read_fault { result ≡ Status.ReadFault → Rose (S.fault_count input.old) (S.fault_count input.new) }
     ensures write_fault { result ≡ Status.WriteFault → Rose (K.fault_count out.old) (K.fault_count out.new) }
+    ensures taken { TakesAtMost 67108865 (S.left input.old) (S.left input.new) }
     ensures too_long { result ≡ Status.InputLimit → HasAtLeast (S.left input.old) 67108865 }
-    ensures too_long_always { (Rose (S.fault_count input.old) (S.fault_count input.new) → ⊥)
+    ensures too_long_always { NoFault (S.fault_count input.old) (S.fault_count input.new)
         → IfSome (S.left input.old) (λ bytes. 67108864 < length bytes → IsOrNoMemory Status.InputLimit result) }
     ensures cut { result ≡ Status.WriteFault → IfSome (S.left input.old) (λ bytes. IsReportedFront bytes (K.held out.old) (K.held out.new)) }
     ensures quiet { IsQuiet result → K.held out.new ≡ K.held out.old }
     ensures no_usage { result ≡ Status.Usage → ⊥ }
-    ensures complete { (Rose (S.fault_count input.old) (S.fault_count input.new) → ⊥) → (Rose (K.fault_count out.old) (K.fault_count out.new) → ⊥)
+    ensures complete { NoFault (S.fault_count input.old) (S.fault_count input.new) → NoFault (K.fault_count out.old) (K.fault_count out.new)
         → IfSome (S.left input.old) (λ bytes. IsWithinLimit bytes → IsValid bytes → IsOrNoMemory Status.Ended result) }
 {
     let bytes = match read_all(alloc, input, INPUT_LIMIT) {
@@ -78,15 +79,17 @@ pub fn omni<S: Source, K: Sink>(
     // The words are refused exactly where they aren't the one command.
     ensures usage { result ≡ Status.Usage → IsReplay (map string_bytes words.now) → ⊥ }
     ensures usage_always { (IsReplay (map string_bytes words.now) → ⊥) → result ≡ Status.Usage }
+    ensures unread { result ≡ Status.Usage → S.left input.new ≡ S.left input.old }
 
     // A schedule is refused exactly where it is bad, and at its first bad line.
-    ensures bad { (line : ℕ) → result ≡ Status.BadSchedule line → IfSome (S.left input.old) (λ bytes. IsBadAt bytes line) }
-    ensures bad_always { IsReplay (map string_bytes words.now) → (Rose (S.fault_count input.old) (S.fault_count input.new) → ⊥)
-        → IfSome (S.left input.old) (λ bytes. (line : ℕ) → IsWithinLimit bytes → IsBadAt bytes line → IsOrNoMemory (Status.BadSchedule line) result) }
+    ensures bad { (line : ℕ) → result ≡ Status.BadSchedule line → IfSome (S.left input.old) (λ bytes. IsRefusedAt bytes line) }
+    ensures bad_always { IsReplay (map string_bytes words.now) → NoFault (S.fault_count input.old) (S.fault_count input.new)
+        → IfSome (S.left input.old) (λ bytes. (line : ℕ) → IsRefusedAt bytes line → IsOrNoMemory (Status.BadSchedule line) result) }
 
-    // Input is refused exactly where it is too long.
+    // Input is refused exactly where it is too long, and no more of it is read than tells so.
+    ensures taken { TakesAtMost 67108865 (S.left input.old) (S.left input.new) }
     ensures too_long { result ≡ Status.InputLimit → HasAtLeast (S.left input.old) 67108865 }
-    ensures too_long_always { IsReplay (map string_bytes words.now) → (Rose (S.fault_count input.old) (S.fault_count input.new) → ⊥)
+    ensures too_long_always { IsReplay (map string_bytes words.now) → NoFault (S.fault_count input.old) (S.fault_count input.new)
         → IfSome (S.left input.old) (λ bytes. 67108864 < length bytes → IsOrNoMemory Status.InputLimit result) }
 
     // A fault is answered only where the stream failed in this call.
@@ -97,10 +100,10 @@ pub fn omni<S: Source, K: Sink>(
     ensures cut { result ≡ Status.WriteFault → IfSome (S.left input.old) (λ bytes. IsReportedFront bytes (K.held out.old) (K.held out.new)) }
     ensures quiet { IsQuiet result → K.held out.new ≡ K.held out.old }
 
-    ensures told { Tells (K.held err.old) (K.held err.new) (K.fault_count err.old) (K.fault_count err.new) (status_line result) }
+    ensures told { Tells K.held K.fault_count err.old err.new (status_line result) }
 
     // A valid schedule is reported, unless a stream fails or there is no memory.
-    ensures complete { IsReplay (map string_bytes words.now) → (Rose (S.fault_count input.old) (S.fault_count input.new) → ⊥) → (Rose (K.fault_count out.old) (K.fault_count out.new) → ⊥)
+    ensures complete { IsReplay (map string_bytes words.now) → NoFault (S.fault_count input.old) (S.fault_count input.new) → NoFault (K.fault_count out.old) (K.fault_count out.new)
         → IfSome (S.left input.old) (λ bytes. IsWithinLimit bytes → IsValid bytes → IsOrNoMemory Status.Ended result) }
 {
     let status = if is_replay(words) {

@@ -66,7 +66,9 @@ fn refusal(volatile: &Volatile, part: &Part) -> Option<Refusal>
 impl World {
     ghost use Rattle.std.specs.Prelude.{◌≡◌, ◌<◌, ◌^◌, ℕ, [], ◌∷◌, length, IfOk};
     ghost use Rattle.op_runs.specs.World.{first_world, happened, done};
-    ghost use Rattle.op_top.specs.Replay.{log_of, first_done, accepted_at, refused_at, sole_summary};
+    ghost use Rattle.op_top.specs.Replay.{sole_summary};
+    ghost use Rattle.op_top.specs.Stepping.{first_done, accepted_at, refused_at};
+    ghost use Rattle.op_runs.specs.Sole.{log_of};
 
     /// A member of this id alone, which has stored nothing yet.
     pub fn new(alloc: Global, me: Pid) -> Result<Self, NoMemory>

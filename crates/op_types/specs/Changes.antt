@@ -9,12 +9,14 @@ use Rattle.op_types.specs.declared.changes.Change.TheVariants as change
 abbrev pub len_of : Part → ℕ
 len_of p = p.trimmed + length p.tail
 
+-- a part after one change
 abbrev pub changed_part : Part → Change → Part
 changed_part p (change.Promise n) = record p { promised = n }
 changed_part p (change.Accept n) = record p { accepted = n }
 changed_part p (change.Append entries) = record p { tail = p.tail ++ entries }
 changed_part p (change.Decided x) = record p { decided = x }
 
+-- the same, where there is a part
 abbrev pub changed_option : Option Part → Change → Option Part
 changed_option None c = None
 changed_option (Some p) c = Some (changed_part p c)

@@ -14,7 +14,7 @@ mod seq;
 mod volatile;
 
 pub use answers::{Answer, Applied, Outcome, Refusal, Reply};
-pub use ballot::Ballot;
+pub use ballot::{Ballot, ballots_are_ordered};
 pub use blob::Blob;
 pub use changes::Change;
 pub use durable::{Closed, Durable, Part};

@@ -1,4 +1,4 @@
-ghost use Rattle.std.specs.Prelude.{◌≡◌, ◌==◌, ◌<◌, ◌^◌, ◌∷◌, ◌++◌, [], List, length, slice_get, slice_index_or, OnOk, OnErr, IfSome};
+ghost use Rattle.std.specs.Prelude.{◌≡◌, ◌∷◌, ◌++◌, [], List, length, OnOk, OnErr};
 
 use crate::memory::NoMemory;
 use std::alloc::Global;
@@ -26,13 +26,6 @@ impl<T> Seq<T> {
         }
     }
 
-    /// The items of a vector, with no copy.
-    pub fn from_vec(items: Vec<T>) -> Self
-        ensures { result ≡ items.items }
-    {
-        Seq { items }
-    }
-
     /// The items as a vector, with no copy.
     pub fn into_vec(self) -> Vec<T>
         ensures { result.items ≡ self }
@@ -44,12 +37,6 @@ impl<T> Seq<T> {
         ensures { result ≡ length self.now }
     {
         self.items.len()
-    }
-
-    pub fn is_empty(&self) -> bool
-        ensures { result ≡ (length self.now == 0) }
-    {
-        self.items.is_empty()
     }
 
     pub fn as_slice(&self) -> &[T]

@@ -1,0 +1,5 @@
+use Rattle.op_laws.proofs.Decides.{sole_members_decide}
+use Rattle.op_laws.proofs.laws.commands_are_decided.Goals as goal
+
+pub returns : goal.returns
+returns c = record { sole = sole_members_decide }
