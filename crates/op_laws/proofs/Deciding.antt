@@ -10,9 +10,9 @@ use Rattle.op_types.specs.declared.changes.Change.TheVariants as change
 use Rattle.op_types.specs.declared.log.Command.{Command}
 use Rattle.op_types.specs.declared.log.Entry.{Entry}
 use Rattle.op_types.specs.declared.log.Entry.TheVariants as entry
-use Rattle.op_types.specs.Changes.{applied}
+use Rattle.op_types.specs.Changes.{durable_after}
 use Rattle.op_model.specs.Service.{Service, new_service, service_after, service_of}
-use Rattle.op_steps.specs.Serving.{served, waiting_with, reply_of}
+use Rattle.op_steps.specs.Serving.{serving, waiting_with, reply_of}
 use Rattle.op_steps.specs.Rows.{decided_change, newly_decided, led_batch, appended_part}
 use Rattle.op_runs.specs.Sole.{sole_part, sole_durable}
 
@@ -44,14 +44,14 @@ pub service_of-push : (log : List Entry) (e : Entry) → service_of (log ++ e �
 service_of-push log e = fold-append service_after new_service log (e ∷ [])
 
 -- the one that waits is answered, and waits no longer
-pub served-one : (s : Service) (c : Command) → served s (waiting_with [] c) (entry.Command c ∷ []) ≡ record { service = service_after s (entry.Command c); waiting = []; replies = reply_of s c ∷ [] }
+pub served-one : (s : Service) (c : Command) → serving s (waiting_with [] c) (entry.Command c ∷ []) ≡ record { service = service_after s (entry.Command c); waiting = []; replies = reply_of s c ∷ [] }
 served-one s c = rw (eq-eqb c.client c.client refl, eq-eqb c.seq c.seq refl) refl
 
 -- ---- batches
 
-pub applied-led : (me : ℕ) (pr ac n : Ballot) (log : List Entry) → applied (sole_durable (sole_part me pr ac log)) (led_batch (sole_part me pr ac log) n) ≡ sole_durable (sole_part me n n log)
-applied-led me pr ac n log = ap (λ (batch : List Change). applied (sole_durable (sole_part me pr ac log)) (change.Promise n ∷ change.Accept n ∷ batch)) (decided_change-none me pr ac log)
+pub applied-led : (me : ℕ) (pr ac n : Ballot) (log : List Entry) → durable_after (sole_durable (sole_part me pr ac log)) (led_batch (sole_part me pr ac log) n) ≡ sole_durable (sole_part me n n log)
+applied-led me pr ac n log = ap (λ (batch : List Change). durable_after (sole_durable (sole_part me pr ac log)) (change.Promise n ∷ change.Accept n ∷ batch)) (decided_change-none me pr ac log)
 
 pub applied-appended : (me : ℕ) (pr ac : Ballot) (log : List Entry) (c : Command)
-    → applied (sole_durable (sole_part me pr ac log)) (change.Append (entry.Command c ∷ []) ∷ decided_change (appended_part (sole_part me pr ac log) c)) ≡ sole_durable (sole_part me pr ac (log ++ entry.Command c ∷ []))
-applied-appended me pr ac log c = ap (λ (batch : List Change). applied (sole_durable (sole_part me pr ac log)) (change.Append (entry.Command c ∷ []) ∷ batch)) (decided_change-one me pr ac log c)
+    → durable_after (sole_durable (sole_part me pr ac log)) (change.Append (entry.Command c ∷ []) ∷ decided_change (appended_part (sole_part me pr ac log) c)) ≡ sole_durable (sole_part me pr ac (log ++ entry.Command c ∷ []))
+applied-appended me pr ac log c = ap (λ (batch : List Change). durable_after (sole_durable (sole_part me pr ac log)) (change.Append (entry.Command c ∷ []) ∷ batch)) (decided_change-one me pr ac log c)

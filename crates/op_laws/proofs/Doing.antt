@@ -17,51 +17,51 @@ use Rattle.op_types.specs.declared.events.Event.{Event}
 use Rattle.op_sched.specs.declared.summary.Line.{Line}
 use Rattle.op_sched.specs.declared.summary.Line.TheVariants as line
 use Rattle.op_model.specs.Service.{service_of, answer_of}
-use Rattle.op_steps.specs.State.{State, Sent, Planned, adopted}
+use Rattle.op_steps.specs.State.{State, Sent, Planned, state_after}
 use Rattle.op_steps.specs.Serving.{Served}
-use Rattle.op_steps.specs.Rows.{appended, part_refusal, commanded_after}
-use Rattle.op_runs.specs.World.{Node, World, Up, Done, done, node_of, planned, fated, outcome_lines, stepped_at, happened}
+use Rattle.op_steps.specs.Rows.{append_plan, part_refusal, command_plan_after}
+use Rattle.op_runs.specs.World.{Node, World, Up, Done, done_event, node_of, plan_of, world_by_fate, outcome_lines, world_at_node, world_after}
 use Rattle.op_runs.specs.Sole.{sole_part, sole_state, sole_node, sole_world}
 use Rattle.op_laws.proofs.Proposing.{served-appended, adopted-appended}
 
 pub happened-here : (me : ℕ) (p : Part) (v : Volatile) (old : List Sent) (lines : List Line) (e : Event) → eqb me (node_of e.what) ≡ true
-    → happened (sole_world me p v Up old lines) (done e) ≡ fated Done e.line (sole_world me p v Up old lines) (sole_node me p v Up) (planned (sole_node me p v Up) e.what)
+    → world_after (sole_world me p v Up old lines) (done_event e) ≡ world_by_fate Done e.line (sole_world me p v Up old lines) (sole_node me p v Up) (plan_of (sole_node me p v Up) e.what)
 happened-here me p v old lines e here =
     let w = sole_world me p v Up old lines in
     let n = sole_node me p v Up in
-    ap (λ (b : Bool). stepped_at (cond b (Some n) None) Done e w) here
+    ap (λ (b : Bool). world_at_node (cond b (Some n) None) Done e w) here
 
 -- ---- a plan, done
 
 pub fated-done : (me at : ℕ) (p : Part) (v : Volatile) (old : List Sent) (lines : List Line) (pl : Planned) (s : State) (messages : List Sent) (replies : List Reply) (o : Option Outcome)
-    → adopted (sole_state p v) pl ≡ s → pl.sends ≡ messages → pl.replies ≡ replies → pl.outcome ≡ o
-    → fated Done at (sole_world me p v Up old lines) (sole_node me p v Up) pl
+    → state_after (sole_state p v) pl ≡ s → pl.sends ≡ messages → pl.replies ≡ replies → pl.outcome ≡ o
+    → world_by_fate Done at (sole_world me p v Up old lines) (sole_node me p v Up) pl
     ≡ record { nodes = record { pid = me; state = s; standing = Up } ∷ []; messages = old ++ messages; lines = lines ++ (outcome_lines at o ++ map (λ r. line.Reply me r.client r.seq r.answer) replies) }
 fated-done me at p v old lines pl s messages replies o is sends_are replies_are outcome_is =
     let n = sole_node me p v Up in
     let node : State → Node = λ t. record { pid = me; state = t; standing = Up } in
     let world : Bool → State → List Sent → List Line → World = λ b t ss ls. record { nodes = cond b (node t ∷ []) (n ∷ []); messages = old ++ ss; lines = lines ++ ls } in
     let told : Option Outcome → List Reply → List Line = λ x rs. outcome_lines at x ++ map (λ r. line.Reply me r.client r.seq r.answer) rs in
-    ap (λ (b : Bool). world b (adopted (sole_state p v) pl) pl.sends (told pl.outcome pl.replies)) (eq-eqb me me refl)
+    ap (λ (b : Bool). world b (state_after (sole_state p v) pl) pl.sends (told pl.outcome pl.replies)) (eq-eqb me me refl)
     ∙ ap (λ (t : State). world true t pl.sends (told pl.outcome pl.replies)) is
     ∙ ap (λ (ss : List Sent). world true s ss (told pl.outcome pl.replies)) sends_are
     ∙ ap (λ (rs : List Reply). world true s messages (told pl.outcome rs)) replies_are
     ∙ ap (λ (x : Option Outcome). world true s messages (told x replies)) outcome_is
 
 pub fated-appended : (me at : ℕ) (pr ac : Ballot) (log : List Entry) (v : Volatile) (old : List Sent) (lines : List Line) (c : Command)
-    → fated Done at (sole_world me (sole_part me pr ac log) v Up old lines) (sole_node me (sole_part me pr ac log) v Up) (appended (sole_state (sole_part me pr ac log) v) (sole_part me pr ac log) c)
+    → world_by_fate Done at (sole_world me (sole_part me pr ac log) v Up old lines) (sole_node me (sole_part me pr ac log) v Up) (append_plan (sole_state (sole_part me pr ac log) v) (sole_part me pr ac log) c)
     ≡ sole_world me (sole_part me pr ac (log ++ entry.Command c ∷ [])) v Up (old ++ []) (lines ++ line.Answer at (outcome.Appended 1 (length log)) ∷ line.Reply me c.client c.seq (answer_of (service_of log) c) ∷ [])
 fated-appended me at pr ac log v old lines c =
     let p = sole_part me pr ac log in
     let s = sole_state p v in
-    let pl = appended s p c in
+    let pl = append_plan s p c in
     fated-done me at p v old lines pl (sole_state (sole_part me pr ac (log ++ entry.Command c ∷ [])) v) [] (record { client = c.client; seq = c.seq; answer = answer_of (service_of log) c } ∷ []) (Some (outcome.Appended 1 (length log)))
     (adopted-appended me pr ac log v c) refl (ap (λ (t : Served). t.replies) (served-appended me pr ac log c)) (ap (λ (k : ℕ). let o : Option Outcome = Some (outcome.Appended 1 k) in o) (zero-add (length log)))
 
 -- a command at a sole member that is up, by what refuses it
 pub event_commanded : (me : ℕ) (p : Part) (v : Volatile) (old : List Sent) (lines : List Line) (e : Event) (pid : ℕ) (c : Command) (o : Option Refusal) (self : World) → sole_world me p v Up old lines ≡ self → node_of e.what ≡ me → e.what ≡ what.Command pid c
-    → part_refusal v p ≡ o → happened self (done e) ≡ fated Done e.line (sole_world me p v Up old lines) (sole_node me p v Up) (commanded_after (sole_state p v) c o)
+    → part_refusal v p ≡ o → world_after self (done_event e) ≡ world_by_fate Done e.line (sole_world me p v Up old lines) (sole_node me p v Up) (command_plan_after (sole_state p v) c o)
 event_commanded me p v old lines e pid c o self is here what_is refusal =
-    ap (λ (x : World). happened x (done e)) (sym is) ∙ happened-here me p v old lines e (eq-eqb me (node_of e.what) (sym here))
-    ∙ ap (λ (x : What). fated Done e.line (sole_world me p v Up old lines) (sole_node me p v Up) (planned (sole_node me p v Up) x)) what_is
-    ∙ ap (λ (x : Option Refusal). fated Done e.line (sole_world me p v Up old lines) (sole_node me p v Up) (commanded_after (sole_state p v) c x)) refusal
+    ap (λ (x : World). world_after x (done_event e)) (sym is) ∙ happened-here me p v old lines e (eq-eqb me (node_of e.what) (sym here))
+    ∙ ap (λ (x : What). world_by_fate Done e.line (sole_world me p v Up old lines) (sole_node me p v Up) (plan_of (sole_node me p v Up) x)) what_is
+    ∙ ap (λ (x : Option Refusal). world_by_fate Done e.line (sole_world me p v Up old lines) (sole_node me p v Up) (command_plan_after (sole_state p v) c x)) refusal

@@ -7,7 +7,7 @@ use Rattle.op_types.specs.declared.log.Command.{Command}
 use Rattle.op_types.specs.declared.log.Entry.{Entry}
 use Rattle.op_types.specs.declared.log.Entry.TheVariants as entry
 use Rattle.op_model.specs.Machine.{Machine, Propose, Choose, Learn, stop_at_end, IsSame, Leads}
-use Rattle.op_model.specs.Ledger.{decided_entries, shown, proposing}
+use Rattle.op_model.specs.Ledger.{decided_entries, machine_showing, machine_proposing}
 use Rattle.op_model.proofs.Safety.{IsAmong-push, of_conds}
 use Rattle.op_runs.specs.Sole.{sole_part, sole_durable}
 use Rattle.op_laws.proofs.Deciding.{nothing_past, one_past}
@@ -50,7 +50,7 @@ no_entries me pr ac m log c list =
     append-nil _ ∙ ap (λ (es : List Entry). drop (length es - 0) (take (length log - 0) log)) here ∙ nothing_past log (length log - 0))
     (λ _. refl)
 
-pub shown-same : (me : ℕ) (pr ac : Ballot) (m : Machine) (log : List Entry) → Shows me m log → IsSame m (shown m me (sole_durable (sole_part me pr ac log)))
+pub shown-same : (me : ℕ) (pr ac : Ballot) (m : Machine) (log : List Entry) → Shows me m log → IsSame m (machine_showing m me (sole_durable (sole_part me pr ac log)))
 shown-same me pr ac m log shows =
     record {
       lists = λ c. sym (ap (λ (es : List Entry). m.lists c ++ es) (no_entries me pr ac m log c shows.list) ∙ append-nil (m.lists c));
@@ -66,10 +66,10 @@ Shows-same me m n log same shows =
 pub leads_same : (m n : Machine) → IsSame m n → Leads m n
 leads_same m n same = ([], tt, same)
 
-pub leads_proposed : (m n : Machine) (e : Entry) → IsSame (proposing m 1 e) n → Leads m n
+pub leads_proposed : (m n : Machine) (e : Entry) → IsSame (machine_proposing m 1 e) n → Leads m n
 leads_proposed m n e same = (Propose 1 e ∷ [], (tt, tt), same)
 
-pub Shows-proposed : (me : ℕ) (m : Machine) (log : List Entry) (e : Entry) → Shows me m log → Shows me (proposing m 1 e) log
+pub Shows-proposed : (me : ℕ) (m : Machine) (log : List Entry) (e : Entry) → Shows me m log → Shows me (machine_proposing m 1 e) log
 Shows-proposed me m log e shows = record { list = shows.list; known = shows.known; opened = shows.opened; goes_on = shows.goes_on }
 
 -- ---- one command more
@@ -91,7 +91,7 @@ stop_at_end-command (x ∷ []) c = refl
 stop_at_end-command (x ∷ y ∷ log) c = stop_at_end-command (y ∷ log) c
 
 pub leads_appended : (me : ℕ) (pr ac : Ballot) (m : Machine) (log : List Entry) (c : Command) → Shows me m log
-    → Leads m (shown (proposing m 1 (entry.Command c)) me (sole_durable (sole_part me pr ac (log ++ entry.Command c ∷ []))))
+    → Leads m (machine_showing (machine_proposing m 1 (entry.Command c)) me (sole_durable (sole_part me pr ac (log ++ entry.Command c ∷ []))))
 leads_appended me pr ac m log c shows =
     let e : Entry = entry.Command c in
     let n : ℕ = length (log ++ e ∷ []) in
@@ -107,7 +107,7 @@ leads_appended me pr ac m log c shows =
     )
 
 pub Shows-appended : (me : ℕ) (pr ac : Ballot) (m : Machine) (log : List Entry) (c : Command) → Shows me m log
-    → Shows me (shown (proposing m 1 (entry.Command c)) me (sole_durable (sole_part me pr ac (log ++ entry.Command c ∷ [])))) (log ++ entry.Command c ∷ [])
+    → Shows me (machine_showing (machine_proposing m 1 (entry.Command c)) me (sole_durable (sole_part me pr ac (log ++ entry.Command c ∷ [])))) (log ++ entry.Command c ∷ [])
 Shows-appended me pr ac m log c shows =
     let e : Entry = entry.Command c in
     let n : ℕ = length (log ++ e ∷ []) in

@@ -8,8 +8,8 @@ use Rattle.op_types.specs.declared.events.Event.{Event}
 use Rattle.op_sched.specs.declared.summary.Line.TheVariants as line
 use Rattle.op_model.specs.Service.{service_of, answer_of}
 use Rattle.op_steps.specs.Rows.{refusal_of}
-use Rattle.op_runs.specs.World.{Node, Up, Happening, done, node_at}
-use Rattle.op_runs.specs.Run.{Track, first_track, tracked, track_of, Meets}
+use Rattle.op_runs.specs.World.{Node, Up, Happening, done_event, node_at}
+use Rattle.op_runs.specs.Run.{Track, first_track, track_with, track_of, Meets}
 
 -- every run of a sole member meets the list machine
 abbrev pub SoleRunsMeet : Type 0
@@ -23,8 +23,8 @@ Accepts (Some n) = (n.standing ≡ Up) × (refusal_of n.state.volatile n.state.d
 -- The command's event, done, puts it at the end of the one list, and its client is told what the service of all that stands
 -- before it answers.
 pub record DecidesAtOnce (t : Track) (e : Event) (pid : ℕ) (c : Command) : Type 0 where
-  pub list : (tracked t (done e)).machine.lists 1 ≡ t.machine.lists 1 ++ entry.Command c ∷ []
-  pub told : (tracked t (done e)).world.lines ≡ t.world.lines ++ line.Answer e.line (outcome.Appended 1 (length (t.machine.lists 1))) ∷ line.Reply pid c.client c.seq (answer_of (service_of (t.machine.lists 1)) c) ∷ []
+  pub list : (track_with t (done_event e)).machine.lists 1 ≡ t.machine.lists 1 ++ entry.Command c ∷ []
+  pub told : (track_with t (done_event e)).world.lines ≡ t.world.lines ++ line.Answer e.line (outcome.Appended 1 (length (t.machine.lists 1))) ∷ line.Reply pid c.client c.seq (answer_of (service_of (t.machine.lists 1)) c) ∷ []
 
 -- after any run, a sole member that doesn't refuse a command decides it at once
 abbrev pub SoleMembersDecide : Type 0

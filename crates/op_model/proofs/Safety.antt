@@ -4,7 +4,7 @@ use Rattle.std.proofs.lemmas.Bool.{false≢true, eqb-true, cond_both}
 use Rattle.std.proofs.lemmas.List.{append-nil}
 use Rattle.op_types.specs.declared.log.Entry.{Entry}
 use Rattle.op_types.specs.declared.log.StopSign.{StopSign}
-use Rattle.op_model.specs.Machine.{Machine, MachineStep, Propose, Choose, Learn, Open, IsAmong, is_among, with_at, stop_at_end, named_by, members_of, first_machine, IsAllowed, stepped, AreAllowed, all_stepped, IsSame, Leads}
+use Rattle.op_model.specs.Machine.{Machine, MachineStep, Propose, Choose, Learn, Open, IsAmong, is_among, with_at, stop_at_end, named_by, members_of, first_machine, IsAllowed, machine_with, AreAllowed, machine_after, IsSame, Leads}
 use Rattle.op_model.specs.Laws.{NoneBehindStop, IsSafe, OnlyGrows}
 
 -- ---- words
@@ -61,7 +61,7 @@ first_is_safe first =
 
 -- ---- one step is safe
 
-safe_propose : (first : List ℕ) (m : Machine) (conf : ℕ) (e : Entry) → IsSafe first m → IsSafe first (stepped m (Propose conf e))
+safe_propose : (first : List ℕ) (m : Machine) (conf : ℕ) (e : Entry) → IsSafe first m → IsSafe first (machine_with m (Propose conf e))
 safe_propose first m conf e safe =
     record {
       proposed = λ c x h. cond_both (eqb c conf) (m.proposed conf ++ e ∷ []) (m.proposed c) (λ (ps : List Entry). IsAmong ps x)
@@ -81,7 +81,7 @@ members_kept first lists c conf pid e none =
     absurd (subst (λ (o : Option StopSign). IsAmong (named_by o) pid) gone h))
     (λ _ h. h))
 
-safe_choose : (first : List ℕ) (m : Machine) (conf : ℕ) (e : Entry) → IsSafe first m → IsAmong (m.proposed conf) e → stop_at_end (m.lists conf) ≡ None → IsSafe first (stepped m (Choose conf e))
+safe_choose : (first : List ℕ) (m : Machine) (conf : ℕ) (e : Entry) → IsSafe first m → IsAmong (m.proposed conf) e → stop_at_end (m.lists conf) ≡ None → IsSafe first (machine_with m (Choose conf e))
 safe_choose first m conf e safe was none =
     record {
       proposed = λ c x. cond_both (eqb c conf) (m.lists conf ++ e ∷ []) (m.lists c) (λ (es : List Entry). IsAmong es x → IsAmong (m.proposed c) x)
@@ -95,7 +95,7 @@ safe_choose first m conf e safe was none =
       opened = λ pid c h. members_kept first m.lists c conf pid e none (safe.opened pid c h);
     }
 
-safe_learn : (first : List ℕ) (m : Machine) (pid conf x : ℕ) → IsSafe first m → x ≤ length (m.lists conf) → IsSafe first (stepped m (Learn pid conf x))
+safe_learn : (first : List ℕ) (m : Machine) (pid conf x : ℕ) → IsSafe first m → x ≤ length (m.lists conf) → IsSafe first (machine_with m (Learn pid conf x))
 safe_learn first m pid conf x safe within =
     record {
       proposed = safe.proposed;
@@ -105,7 +105,7 @@ safe_learn first m pid conf x safe within =
       opened = safe.opened;
     }
 
-safe_open : (first : List ℕ) (m : Machine) (pid conf : ℕ) → IsSafe first m → 1 < conf → IsAmong (named_by (stop_at_end (m.lists (conf - 1)))) pid → IsSafe first (stepped m (Open pid conf))
+safe_open : (first : List ℕ) (m : Machine) (pid conf : ℕ) → IsSafe first m → 1 < conf → IsAmong (named_by (stop_at_end (m.lists (conf - 1)))) pid → IsSafe first (machine_with m (Open pid conf))
 safe_open first m pid conf safe above named =
     let here : IsAmong (members_of first m.lists conf) pid =
     cond_both (eqb conf 1) first (named_by (stop_at_end (m.lists (conf - 1)))) (λ (ms : List ℕ). IsAmong ms pid) (λ t. absurd (omega (arith, eqb-true conf 1 t))) (λ _. named) in
@@ -119,15 +119,15 @@ safe_open first m pid conf safe above named =
           (λ _ h. safe.opened p c h);
     }
 
-safe_step : (first : List ℕ) (m : Machine) (s : MachineStep) → IsSafe first m → IsAllowed m s → IsSafe first (stepped m s)
+safe_step : (first : List ℕ) (m : Machine) (s : MachineStep) → IsSafe first m → IsAllowed m s → IsSafe first (machine_with m s)
 safe_step first m (Propose conf e) safe allowed = safe_propose first m conf e safe
 safe_step first m (Choose conf e) safe allowed = safe_choose first m conf e safe allowed.0 allowed.1
 safe_step first m (Learn pid conf x) safe allowed = safe_learn first m pid conf x safe allowed.1
 safe_step first m (Open pid conf) safe allowed = safe_open first m pid conf safe allowed.0 allowed.1
 
-safe_steps : (first : List ℕ) (m : Machine) (steps : List MachineStep) → IsSafe first m → AreAllowed m steps → IsSafe first (all_stepped m steps)
+safe_steps : (first : List ℕ) (m : Machine) (steps : List MachineStep) → IsSafe first m → AreAllowed m steps → IsSafe first (machine_after m steps)
 safe_steps first m [] safe allowed = safe
-safe_steps first m (s ∷ steps) safe allowed = safe_steps first (stepped m s) steps (safe_step first m s safe allowed.0) allowed.1
+safe_steps first m (s ∷ steps) safe allowed = safe_steps first (machine_with m s) steps (safe_step first m s safe allowed.0) allowed.1
 
 safe_same : (first : List ℕ) (m n : Machine) → IsSafe first m → IsSame m n → IsSafe first n
 safe_same first m n safe same =
@@ -139,7 +139,7 @@ safe_same first m n safe same =
     }
 
 pub steps_keep_safe : (first : List ℕ) (m n : Machine) → IsSafe first m → Leads m n → IsSafe first n
-steps_keep_safe first m n safe leads = safe_same first (all_stepped m leads.0) n (safe_steps first m leads.0 safe leads.1) leads.2
+steps_keep_safe first m n safe leads = safe_same first (machine_after m leads.0) n (safe_steps first m leads.0 safe leads.1) leads.2
 
 -- ---- what only grows
 
@@ -154,7 +154,7 @@ grows_both l m n p q =
       opened = λ pid c h. q.opened pid c (p.opened pid c h);
     }
 
-grows_step : (m : Machine) (s : MachineStep) → IsAllowed m s → OnlyGrows m (stepped m s)
+grows_step : (m : Machine) (s : MachineStep) → IsAllowed m s → OnlyGrows m (machine_with m s)
 grows_step m (Propose conf e) allowed = record { lists = (grows_none m).lists; known = (grows_none m).known; opened = λ pid c h. h }
 grows_step m (Choose conf e) allowed =
     record {
@@ -177,9 +177,9 @@ grows_step m (Open pid conf) allowed =
       opened = λ p c h. cond_both (eqb p pid && eqb c conf) true (m.opened p c) (λ (b : Bool). b ≡ true) (λ _. refl) (λ _. h);
     }
 
-grows_steps : (m : Machine) (steps : List MachineStep) → AreAllowed m steps → OnlyGrows m (all_stepped m steps)
+grows_steps : (m : Machine) (steps : List MachineStep) → AreAllowed m steps → OnlyGrows m (machine_after m steps)
 grows_steps m [] allowed = grows_none m
-grows_steps m (s ∷ steps) allowed = grows_both m (stepped m s) (all_stepped (stepped m s) steps) (grows_step m s allowed.0) (grows_steps (stepped m s) steps allowed.1)
+grows_steps m (s ∷ steps) allowed = grows_both m (machine_with m s) (machine_after (machine_with m s) steps) (grows_step m s allowed.0) (grows_steps (machine_with m s) steps allowed.1)
 
 grows_same : (m n : Machine) → IsSame m n → OnlyGrows m n
 grows_same m n same =
@@ -190,4 +190,4 @@ grows_same m n same =
     }
 
 pub steps_only_grow : (m n : Machine) → Leads m n → OnlyGrows m n
-steps_only_grow m n leads = grows_both m (all_stepped m leads.0) n (grows_steps m leads.0 leads.1) (grows_same (all_stepped m leads.0) n leads.2)
+steps_only_grow m n leads = grows_both m (machine_after m leads.0) n (grows_steps m leads.0 leads.1) (grows_same (machine_after m leads.0) n leads.2)

@@ -44,8 +44,8 @@ has_part (Some p) conf = conf == p.conf
 -- ---- of a run
 
 -- A node shows its stored state: each list that it has decided more of gets its entries from the list's end on.
-abbrev pub shown : Machine → ℕ → Durable → Machine
-shown m pid d =
+abbrev pub machine_showing : Machine → ℕ → Durable → Machine
+machine_showing m pid d =
     record {
       lists = λ conf. m.lists conf ++ decided_entries d conf (length (m.lists conf));
       known = λ p conf. if p == pid then max (m.known p conf) (decided_in d conf) else m.known p conf;
@@ -54,5 +54,5 @@ shown m pid d =
     }
 
 -- an entry is proposed in a configuration
-abbrev pub proposing : Machine → ℕ → Entry → Machine
-proposing m conf e = record m { proposed = with_at conf (m.proposed conf ++ e ∷ []) m.proposed }
+abbrev pub machine_proposing : Machine → ℕ → Entry → Machine
+machine_proposing m conf e = record m { proposed = with_at conf (m.proposed conf ++ e ∷ []) m.proposed }

@@ -79,21 +79,21 @@ IsAllowed m (Learn pid conf x) = (m.known pid conf ≤ x) × (x ≤ length (m.li
 IsAllowed m (Open pid conf) = (1 < conf) × IsAmong (named_by (stop_at_end (m.lists (conf - 1)))) pid
 
 -- the machine after a step
-abbrev pub stepped : Machine → MachineStep → Machine
-stepped m (Propose conf e) = record m { proposed = with_at conf (m.proposed conf ++ e ∷ []) m.proposed }
-stepped m (Choose conf e) = record m { lists = with_at conf (m.lists conf ++ e ∷ []) m.lists }
-stepped m (Learn pid conf x) = record m { known = with_node_at pid conf x m.known }
-stepped m (Open pid conf) = record m { opened = with_node_at pid conf true m.opened }
+abbrev pub machine_with : Machine → MachineStep → Machine
+machine_with m (Propose conf e) = record m { proposed = with_at conf (m.proposed conf ++ e ∷ []) m.proposed }
+machine_with m (Choose conf e) = record m { lists = with_at conf (m.lists conf ++ e ∷ []) m.lists }
+machine_with m (Learn pid conf x) = record m { known = with_node_at pid conf x m.known }
+machine_with m (Open pid conf) = record m { opened = with_node_at pid conf true m.opened }
 
 -- each step is allowed where it is taken
 abbrev pub AreAllowed : Machine → List MachineStep → Type 0
 AreAllowed m [] = Unit {0}
-AreAllowed m (s ∷ steps) = IsAllowed m s × AreAllowed (stepped m s) steps
+AreAllowed m (s ∷ steps) = IsAllowed m s × AreAllowed (machine_with m s) steps
 
 -- the machine after these steps
-abbrev pub all_stepped : Machine → List MachineStep → Machine
-all_stepped m [] = m
-all_stepped m (s ∷ steps) = all_stepped (stepped m s) steps
+abbrev pub machine_after : Machine → List MachineStep → Machine
+machine_after m [] = m
+machine_after m (s ∷ steps) = machine_after (machine_with m s) steps
 
 -- the same machine, at each place
 pub record IsSame (m n : Machine) : Type 0 where
@@ -104,4 +104,4 @@ pub record IsSame (m n : Machine) : Type 0 where
 
 -- finitely many steps lead from one to the other
 abbrev pub Leads : Machine → Machine → Type 0
-Leads m n = (steps : List MachineStep) × AreAllowed m steps × IsSame (all_stepped m steps) n
+Leads m n = (steps : List MachineStep) × AreAllowed m steps × IsSame (machine_after m steps) n

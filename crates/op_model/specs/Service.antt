@@ -32,8 +32,8 @@ abbrev pub effect_answer : Op → List (List ℕ × List ℕ) → Answer
 effect_answer (op.Put key value) pairs = answer.Done
 
 -- the command takes its effect, and its answer is kept
-abbrev pub effected : Service → Command → Service
-effected s c =
+abbrev pub service_with_effect : Service → Command → Service
+service_with_effect s c =
     record {
       pairs = pairs_after c.op s.pairs;
       clients = insert_entry nat_cmp s.clients c.client (record { seq = c.seq; answer = effect_answer c.op s.pairs });
@@ -44,22 +44,22 @@ abbrev pub last_of : Service → ℕ → Option Applied
 last_of s client = lookup (is_at (nat_cmp client)) s.clients
 
 -- a number above its client's last one takes effect, and no other
-abbrev pub applied_after : Option Applied → Service → Command → Service
-applied_after None s c = effected s c
-applied_after (Some last) s c = if nat_lt last.seq c.seq then effected s c else s
+abbrev pub service_by_last : Option Applied → Service → Command → Service
+service_by_last None s c = service_with_effect s c
+service_by_last (Some last) s c = if nat_lt last.seq c.seq then service_with_effect s c else s
 
 -- the last number is answered again as it was, and a lower one is stale
-abbrev pub answer_after : Option Applied → Service → Command → Answer
-answer_after None s c = effect_answer c.op s.pairs
-answer_after (Some last) s c = if nat_lt last.seq c.seq then effect_answer c.op s.pairs else if c.seq == last.seq then last.answer else answer.Stale
+abbrev pub answer_by_last : Option Applied → Service → Command → Answer
+answer_by_last None s c = effect_answer c.op s.pairs
+answer_by_last (Some last) s c = if nat_lt last.seq c.seq then effect_answer c.op s.pairs else if c.seq == last.seq then last.answer else answer.Stale
 
 -- the service after the command
 abbrev pub service_with : Service → Command → Service
-service_with s c = applied_after (last_of s c.client) s c
+service_with s c = service_by_last (last_of s c.client) s c
 
 -- what the service answers the command
 abbrev pub answer_of : Service → Command → Answer
-answer_of s c = answer_after (last_of s c.client) s c
+answer_of s c = answer_by_last (last_of s c.client) s c
 
 -- a stop-sign does nothing
 abbrev pub service_after : Service → Entry → Service

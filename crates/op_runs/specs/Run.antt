@@ -8,13 +8,13 @@ use Rattle.op_types.specs.declared.log.Command.{Command}
 use Rattle.op_types.specs.declared.log.Entry.{Entry}
 use Rattle.op_types.specs.declared.log.Entry.TheVariants as entry
 use Rattle.op_model.specs.Machine.{Machine, first_machine, Leads}
-use Rattle.op_model.specs.Ledger.{shown, proposing}
+use Rattle.op_model.specs.Ledger.{machine_showing, machine_proposing}
 use Rattle.op_model.specs.Laws.{IsSafe, OnlyGrows}
 use Rattle.op_model.specs.Service.{Service, service_of}
 use Rattle.op_model.specs.Stands.{Stands, front_of}
 use Rattle.op_steps.specs.State.{State}
 use Rattle.op_steps.specs.Rows.{refusal_of}
-use Rattle.op_runs.specs.World.{World, Node, Standing, Up, Down, Happening, first_world, happened, node_at, node_of}
+use Rattle.op_runs.specs.World.{World, Node, Standing, Up, Down, Happening, first_world, world_after, node_at, node_of}
 
 -- a run so far: its world, and the list machine's state that it shows
 pub record Track : Type 0 where
@@ -22,36 +22,36 @@ pub record Track : Type 0 where
   pub machine : Machine
 
 -- each node shows what it stores
-abbrev pub all_shown : Machine → List Node → Machine
-all_shown m nodes = fold (λ x n. shown x n.pid n.state.durable) m nodes
+abbrev pub machine_showing_all : Machine → List Node → Machine
+machine_showing_all m nodes = fold (λ x n. machine_showing x n.pid n.state.durable) m nodes
 
 -- a command at a part is proposed in its configuration, if nothing refuses it
-abbrev pub proposed_in : Machine → Command → Option Part → Option Refusal → Machine
-proposed_in m c None r = m
-proposed_in m c (Some p) (Some r) = m
-proposed_in m c (Some p) None = proposing m p.conf (entry.Command c)
+abbrev pub machine_proposing_in : Machine → Command → Option Part → Option Refusal → Machine
+machine_proposing_in m c None r = m
+machine_proposing_in m c (Some p) (Some r) = m
+machine_proposing_in m c (Some p) None = machine_proposing m p.conf (entry.Command c)
 
 -- an event proposes its command
-abbrev pub proposed_at : Machine → What → State → Machine
-proposed_at m (what.Tick p) s = m
-proposed_at m (what.Command p c) s = proposed_in m c s.durable.part (refusal_of s.volatile s.durable.part)
+abbrev pub machine_proposing_at : Machine → What → State → Machine
+machine_proposing_at m (what.Tick p) s = m
+machine_proposing_at m (what.Command p c) s = machine_proposing_in m c s.durable.part (refusal_of s.volatile s.durable.part)
 
 -- at a node that is up
-abbrev pub proposed_if : Standing → Machine → What → State → Machine
-proposed_if Up m w s = proposed_at m w s
-proposed_if (Down after) m w s = m
+abbrev pub machine_proposing_if : Standing → Machine → What → State → Machine
+machine_proposing_if Up m w s = machine_proposing_at m w s
+machine_proposing_if (Down after) m w s = m
 
 -- a command that a node's part doesn't refuse is proposed in its configuration, whether or not the step then ends
-abbrev pub proposed_by : Machine → What → Option Node → Machine
-proposed_by m w None = m
-proposed_by m w (Some n) = proposed_if n.standing m w n.state
+abbrev pub machine_proposing_by : Machine → What → Option Node → Machine
+machine_proposing_by m w None = m
+machine_proposing_by m w (Some n) = machine_proposing_if n.standing m w n.state
 
 -- a run after one happening more
-abbrev pub tracked : Track → Happening → Track
-tracked t h =
+abbrev pub track_with : Track → Happening → Track
+track_with t h =
     record {
-      world = happened t.world h;
-      machine = all_shown (proposed_by t.machine h.event.what (node_at t.world.nodes (node_of h.event.what))) (happened t.world h).nodes;
+      world = world_after t.world h;
+      machine = machine_showing_all (machine_proposing_by t.machine h.event.what (node_at t.world.nodes (node_of h.event.what))) (world_after t.world h).nodes;
     }
 
 -- the start of a run
@@ -61,7 +61,7 @@ first_track members = record { world = first_world members; machine = first_mach
 -- a run after these happenings
 abbrev pub track_of : Track → List Happening → Track
 track_of t [] = t
-track_of t (h ∷ hs) = track_of (tracked t h) hs
+track_of t (h ∷ hs) = track_of (track_with t h) hs
 
 -- the service at a part has applied all that is decided there and in the configurations before, and nothing else
 abbrev pub ServesDecided : (ℕ → List Entry) → Option Part → Service → Type 0
@@ -77,7 +77,7 @@ pub record IsSound (members : List ℕ) (t : Track) : Type 0 where
 -- each happening is finitely many steps of the list machine, which only add to it, and all is sound after it
 abbrev pub MeetsFrom : List ℕ → Track → List Happening → Type 0
 MeetsFrom members t [] = Unit {0}
-MeetsFrom members t (h ∷ hs) = Leads t.machine (tracked t h).machine × OnlyGrows t.machine (tracked t h).machine × IsSound members (tracked t h) × MeetsFrom members (tracked t h) hs
+MeetsFrom members t (h ∷ hs) = Leads t.machine (track_with t h).machine × OnlyGrows t.machine (track_with t h).machine × IsSound members (track_with t h) × MeetsFrom members (track_with t h) hs
 
 -- a run of these members meets the list machine, from its start on
 abbrev pub Meets : List ℕ → List Happening → Type 0

@@ -1,7 +1,7 @@
 -- A world of nodes: what happens to them, one event after the other.
 use Rattle.std.specs.Prelude.{◌==◌, ℕ, false, List, [], ◌∷◌, ◌++◌, map, Option, Some, None, if◌then◌else◌}
 use Rattle.op_types.specs.Ballots.{no_ballot}
-use Rattle.op_types.specs.Changes.{applied}
+use Rattle.op_types.specs.Changes.{durable_after}
 use Rattle.op_types.specs.declared.durable.Durable.{Durable}
 use Rattle.op_types.specs.declared.volatile.Volatile.{Volatile}
 use Rattle.op_types.specs.declared.volatile.Role.TheVariants as role
@@ -12,8 +12,8 @@ use Rattle.op_types.specs.declared.answers.Outcome.{Outcome}
 use Rattle.op_sched.specs.declared.summary.Line.{Line}
 use Rattle.op_sched.specs.declared.summary.Line.TheVariants as line
 use Rattle.op_model.specs.Service.{new_service, base_bytes}
-use Rattle.op_steps.specs.State.{State, Sent, Planned, adopted}
-use Rattle.op_steps.specs.Rows.{ticked, commanded}
+use Rattle.op_steps.specs.State.{State, Sent, Planned, state_after}
+use Rattle.op_steps.specs.Rows.{tick_plan, command_plan}
 
 -- how a node runs: when it is down, its next opening finds what it stored before the step in which it stopped, or this
 pub data Standing : Type 0 where
@@ -83,9 +83,9 @@ with_node [] m = []
 with_node (n ∷ nodes) m = if n.pid == m.pid then m ∷ nodes else n ∷ with_node nodes m
 
 -- the step of a node, by what happens
-abbrev pub planned : Node → What → Planned
-planned n (what.Tick p) = ticked n.pid n.state n.state.durable.part
-planned n (what.Command p c) = commanded n.state c
+abbrev pub plan_of : Node → What → Planned
+plan_of n (what.Tick p) = tick_plan n.pid n.state n.state.durable.part
+plan_of n (what.Command p c) = command_plan n.state c
 
 -- the line of an outcome, if there is one
 abbrev pub outcome_lines : ℕ → Option Outcome → List Line
@@ -97,38 +97,38 @@ abbrev pub lines_of : ℕ → ℕ → Planned → List Line
 lines_of at pid p = outcome_lines at p.outcome ++ map (λ r. line.Reply pid r.client r.seq r.answer) p.replies
 
 -- the world after a node's step, by its fate
-abbrev pub fated : Fate → ℕ → World → Node → Planned → World
-fated Done at w n p =
+abbrev pub world_by_fate : Fate → ℕ → World → Node → Planned → World
+world_by_fate Done at w n p =
     record {
-      nodes = with_node w.nodes (record n { state = adopted n.state p });
+      nodes = with_node w.nodes (record n { state = state_after n.state p });
       messages = w.messages ++ p.sends;
       lines = w.lines ++ lines_of at n.pid p;
     }
-fated Stopped at w n p = record w { nodes = with_node w.nodes (record n { standing = Down (applied n.state.durable p.batch) }) }
+world_by_fate Stopped at w n p = record w { nodes = with_node w.nodes (record n { standing = Down (durable_after n.state.durable p.batch) }) }
 
 -- what happens to a node that is up; at one that is down, or isn't there, nothing does
-abbrev pub stepped_if : Standing → Fate → Event → World → Node → World
-stepped_if Up f e w n = fated f e.line w n (planned n e.what)
-stepped_if (Down after) f e w n = w
+abbrev pub world_by_standing : Standing → Fate → Event → World → Node → World
+world_by_standing Up f e w n = world_by_fate f e.line w n (plan_of n e.what)
+world_by_standing (Down after) f e w n = w
 
 -- the same, where the node is there
-abbrev pub stepped_at : Option Node → Fate → Event → World → World
-stepped_at None f e w = w
-stepped_at (Some n) f e w = stepped_if n.standing f e w n
+abbrev pub world_at_node : Option Node → Fate → Event → World → World
+world_at_node None f e w = w
+world_at_node (Some n) f e w = world_by_standing n.standing f e w n
 
 -- the world after one happening
-abbrev pub happened : World → Happening → World
-happened w h = stepped_at (node_at w.nodes (node_of h.event.what)) h.fate h.event w
+abbrev pub world_after : World → Happening → World
+world_after w h = world_at_node (node_at w.nodes (node_of h.event.what)) h.fate h.event w
 
 -- the world after these happenings
 abbrev pub run_of : World → List Happening → World
 run_of w [] = w
-run_of w (h ∷ hs) = run_of (happened w h) hs
+run_of w (h ∷ hs) = run_of (world_after w h) hs
 
 -- every step of a replay is done
-abbrev pub done : Event → Happening
-done e = record { event = e; fate = Done }
+abbrev pub done_event : Event → Happening
+done_event e = record { event = e; fate = Done }
 
 -- the happenings of a replay
 abbrev pub all_done : List Event → List Happening
-all_done events = map done events
+all_done events = map done_event events

@@ -15,8 +15,8 @@ greatest own [] = own
 greatest own (h ∷ heard) = greatest (if h.flag then greater own h.ballot else own) heard
 
 -- the own ballot, raised above another one unless numbers end there
-abbrev pub raised_above : Ballot → ℕ → Ballot → Ballot
-raised_above other me own = if nat_lt (other.number + 1) (2 ^ 62) then record { number = other.number + 1; pid = me } else own
+abbrev pub ballot_above : Ballot → ℕ → Ballot → Ballot
+ballot_above other me own = if nat_lt (other.number + 1) (2 ^ 62) then record { number = other.number + 1; pid = me } else own
 
 -- what the end of a round leaves: the own ballot, the leader's, the flag, and the ballot that it elects
 pub record Ended : Type 0 where
@@ -26,14 +26,14 @@ pub record Ended : Type 0 where
   pub elected : Option Ballot
 
 -- with a majority heard: a ballot below the leader's or the floor isn't elected, and the own one is raised above them
-abbrev pub ended_by : Ballot → Ballot → ℕ → Volatile → Ended
-ended_by g least me v =
-    if is_below g least then record { own = raised_above least me v.own; leader = v.leader; flag = true; elected = None }
+abbrev pub round_end_by : Ballot → Ballot → ℕ → Volatile → Ended
+round_end_by g least me v =
+    if is_below g least then record { own = ballot_above least me v.own; leader = v.leader; flag = true; elected = None }
     else if is_below v.leader g then record { own = v.own; leader = g; flag = true; elected = Some g }
     else record { own = v.own; leader = v.leader; flag = true; elected = None }
 
 -- the end of a round at a node, by the number of members: with no majority heard nobody is elected
-abbrev pub ended : ℕ → ℕ → Volatile → Ended
-ended me members v =
-    if is_majority (1 + length v.heard) members then ended_by (greatest v.own v.heard) (greater v.leader v.floor) me v
+abbrev pub round_end : ℕ → ℕ → Volatile → Ended
+round_end me members v =
+    if is_majority (1 + length v.heard) members then round_end_by (greatest v.own v.heard) (greater v.leader v.floor) me v
     else record { own = v.own; leader = v.leader; flag = false; elected = None }

@@ -1,7 +1,7 @@
 -- The rows of the step table: what a node's step is, from its state and what happens. With one member these are all that can be met.
 use Rattle.std.specs.Prelude.{◌==◌, ℕ, ◌+◌, ◌-◌, ◌^◌, nat_lt, Bool, true, false, not, List, [], ◌∷◌, length, take, drop, map, filter, Option, Some, None, if◌then◌else◌}
 use Rattle.op_types.specs.Ballots.{is_below, greater}
-use Rattle.op_types.specs.Changes.{len_of, changed_part}
+use Rattle.op_types.specs.Changes.{len_of, part_with}
 use Rattle.op_types.specs.declared.ballot.Ballot.{Ballot}
 use Rattle.op_types.specs.declared.changes.Change.{Change}
 use Rattle.op_types.specs.declared.changes.Change.TheVariants as change
@@ -16,9 +16,9 @@ use Rattle.op_types.specs.declared.messages.Body.TheVariants as body
 use Rattle.op_types.specs.declared.answers.Outcome.TheVariants as outcome
 use Rattle.op_types.specs.declared.answers.Refusal.{Refusal}
 use Rattle.op_types.specs.declared.answers.Refusal.TheVariants as refusal
-use Rattle.op_steps.specs.Election.{Ended, ended, is_majority}
+use Rattle.op_steps.specs.Election.{Ended, round_end, is_majority}
 use Rattle.op_steps.specs.State.{State, Sent, Planned}
-use Rattle.op_steps.specs.Serving.{Served, served, waiting_with}
+use Rattle.op_steps.specs.Serving.{Served, serving, waiting_with}
 
 -- nothing changes but the volatile state
 abbrev pub only_volatile : State → Volatile → List Sent → Planned
@@ -45,8 +45,8 @@ abbrev pub next_round : ℕ → ℕ
 next_round round = if nat_lt (round + 1) (2 ^ 62) then round + 1 else 1
 
 -- the volatile state when a round has ended and the next one begins
-abbrev pub begun : Volatile → Ended → Volatile
-begun v e = record v { own = e.own; leader = e.leader; flag = e.flag; round = next_round v.round; heard = [] }
+abbrev pub next_round_state : Volatile → Ended → Volatile
+next_round_state v e = record v { own = e.own; leader = e.leader; flag = e.flag; round = next_round v.round; heard = [] }
 
 -- each other member is asked for a reply in the new round
 abbrev pub requests : ℕ → Part → ℕ → List Sent
@@ -61,33 +61,33 @@ abbrev pub leading : Part → Ballot → Role
 leading p n = role.Leading (record { ballot = n; adopted_round = p.accepted; adopted_len = len_of p })
 
 -- the step of a lead, when the newly decided entries were served
-abbrev pub led_after : State → Part → Volatile → Ballot → List Sent → Served → Planned
-led_after s p v n sends t =
+abbrev pub lead_plan_after : State → Part → Volatile → Ballot → List Sent → Served → Planned
+lead_plan_after s p v n sends t =
     record { batch = led_batch p n; volatile = record v { role = leading p n }; service = t.service; waiting = t.waiting; sends = sends; replies = t.replies; outcome = None }
 
 -- the step of a lead
-abbrev pub led : State → Part → Volatile → Ballot → List Sent → Planned
-led s p v n sends = led_after s p v n sends (served s.service s.waiting (newly_decided p))
+abbrev pub lead_plan : State → Part → Volatile → Ballot → List Sent → Planned
+lead_plan s p v n sends = lead_plan_after s p v n sends (serving s.service s.waiting (newly_decided p))
 
 -- A ballot above the promise: one that is a majority by itself leads it at once. With more members it would prepare.
-abbrev pub lead : State → Part → Volatile → Ballot → List Sent → Planned
-lead s p v n sends = if is_majority 1 (length p.members) then led s p v n sends else only_volatile s v sends
+abbrev pub majority_lead_plan : State → Part → Volatile → Ballot → List Sent → Planned
+majority_lead_plan s p v n sends = if is_majority 1 (length p.members) then lead_plan s p v n sends else only_volatile s v sends
 
 -- an own ballot that was elected is led if it is above the promise; otherwise elections begin at the promise
-abbrev pub elected : ℕ → State → Part → Volatile → List Sent → Option Ballot → Planned
-elected me s p v sends None = only_volatile s v sends
-elected me s p v sends (Some n) =
-    if n.pid == me then (if is_below p.promised n then lead s p v n sends else only_volatile s (record v { floor = greater v.floor p.promised }) sends)
+abbrev pub election_plan : ℕ → State → Part → Volatile → List Sent → Option Ballot → Planned
+election_plan me s p v sends None = only_volatile s v sends
+election_plan me s p v sends (Some n) =
+    if n.pid == me then (if is_below p.promised n then majority_lead_plan s p v n sends else only_volatile s (record v { floor = greater v.floor p.promised }) sends)
     else only_volatile s v sends
 
 -- the step of a tick, when the round has ended
-abbrev pub ticked_after : ℕ → State → Part → Ended → Planned
-ticked_after me s p e = elected me s p (begun s.volatile e) (requests me p (next_round s.volatile.round)) e.elected
+abbrev pub tick_plan_after : ℕ → State → Part → Ended → Planned
+tick_plan_after me s p e = election_plan me s p (next_round_state s.volatile e) (requests me p (next_round s.volatile.round)) e.elected
 
 -- a tick ends the round and begins the next one
-abbrev pub ticked : ℕ → State → Option Part → Planned
-ticked me s None = only_volatile s s.volatile []
-ticked me s (Some p) = ticked_after me s p (ended me (length p.members) s.volatile)
+abbrev pub tick_plan : ℕ → State → Option Part → Planned
+tick_plan me s None = only_volatile s s.volatile []
+tick_plan me s (Some p) = tick_plan_after me s p (round_end me (length p.members) s.volatile)
 
 -- ---- proposals
 
@@ -107,16 +107,16 @@ refusal_of v None = Some refusal.NoLeader
 refusal_of v (Some p) = part_refusal v p
 
 -- the step of a refused proposal
-abbrev pub refused : State → Refusal → Planned
-refused s r = record { batch = []; volatile = s.volatile; service = s.service; waiting = s.waiting; sends = []; replies = []; outcome = Some (outcome.Refused r) }
+abbrev pub refusal_plan : State → Refusal → Planned
+refusal_plan s r = record { batch = []; volatile = s.volatile; service = s.service; waiting = s.waiting; sends = []; replies = []; outcome = Some (outcome.Refused r) }
 
 -- the part when the command stands at its log's end
 abbrev pub appended_part : Part → Command → Part
-appended_part p c = changed_part p (change.Append (entry.Command c ∷ []))
+appended_part p c = part_with p (change.Append (entry.Command c ∷ []))
 
 -- the step of a leader that appends, when the newly decided entries were served
-abbrev pub appended_after : State → Part → Command → Served → Planned
-appended_after s p c t =
+abbrev pub append_plan_after : State → Part → Command → Served → Planned
+append_plan_after s p c t =
     record {
       batch = change.Append (entry.Command c ∷ []) ∷ decided_change (appended_part p c);
       volatile = s.volatile;
@@ -128,19 +128,19 @@ appended_after s p c t =
     }
 
 -- a leader appends the command, which waits, and decides what a majority has
-abbrev pub appended : State → Part → Command → Planned
-appended s p c = appended_after s p c (served s.service (waiting_with s.waiting c) (newly_decided (appended_part p c)))
+abbrev pub append_plan : State → Part → Command → Planned
+append_plan s p c = append_plan_after s p c (serving s.service (waiting_with s.waiting c) (newly_decided (appended_part p c)))
 
 -- the step of a proposal that nothing refuses
-abbrev pub accepted_by : State → Option Part → Command → Planned
-accepted_by s None c = only_volatile s s.volatile []
-accepted_by s (Some p) c = appended s p c
+abbrev pub accepted_plan : State → Option Part → Command → Planned
+accepted_plan s None c = only_volatile s s.volatile []
+accepted_plan s (Some p) c = append_plan s p c
 
 -- the step of a command, by what refuses it
-abbrev pub commanded_after : State → Command → Option Refusal → Planned
-commanded_after s c (Some r) = refused s r
-commanded_after s c None = accepted_by s s.durable.part c
+abbrev pub command_plan_after : State → Command → Option Refusal → Planned
+command_plan_after s c (Some r) = refusal_plan s r
+command_plan_after s c None = accepted_plan s s.durable.part c
 
 -- a client proposes a command
-abbrev pub commanded : State → Command → Planned
-commanded s c = commanded_after s c (refusal_of s.volatile s.durable.part)
+abbrev pub command_plan : State → Command → Planned
+command_plan s c = command_plan_after s c (refusal_of s.volatile s.durable.part)

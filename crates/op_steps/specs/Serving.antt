@@ -31,8 +31,8 @@ pub record Served : Type 0 where
   pub replies : List Reply
 
 -- after one more command is decided
-abbrev pub served_command : Served → Command → Served
-served_command t c =
+abbrev pub serving_command : Served → Command → Served
+serving_command t c =
     record {
       service = service_with t.service c;
       waiting = filter (λ w. not (is_for c w)) t.waiting;
@@ -40,10 +40,10 @@ served_command t c =
     }
 
 -- after one more entry is decided
-abbrev pub served_entry : Served → Entry → Served
-served_entry t (entry.Command c) = served_command t c
-served_entry t (entry.Stop stop) = t
+abbrev pub serving_entry : Served → Entry → Served
+serving_entry t (entry.Command c) = serving_command t c
+serving_entry t (entry.Stop stop) = t
 
 -- after these entries are decided, in order
-abbrev pub served : Service → List Waiting → List Entry → Served
-served s waiting entries = fold served_entry (record { service = s; waiting = waiting; replies = [] }) entries
+abbrev pub serving : Service → List Waiting → List Entry → Served
+serving s waiting entries = fold serving_entry (record { service = s; waiting = waiting; replies = [] }) entries

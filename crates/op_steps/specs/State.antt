@@ -6,7 +6,7 @@ use Rattle.op_types.specs.declared.changes.Change.{Change}
 use Rattle.op_types.specs.declared.messages.Msg.{Msg}
 use Rattle.op_types.specs.declared.answers.Outcome.{Outcome}
 use Rattle.op_types.specs.declared.answers.Reply.{Reply}
-use Rattle.op_types.specs.Changes.{applied}
+use Rattle.op_types.specs.Changes.{durable_after}
 use Rattle.op_model.specs.Service.{Service}
 
 -- a client, and the number of its command
@@ -38,5 +38,5 @@ pub record Planned : Type 0 where
   pub outcome : Option Outcome
 
 -- the state when the plan is adopted
-abbrev pub adopted : State → Planned → State
-adopted s p = record { durable = applied s.durable p.batch; volatile = p.volatile; service = p.service; waiting = p.waiting }
+abbrev pub state_after : State → Planned → State
+state_after s p = record { durable = durable_after s.durable p.batch; volatile = p.volatile; service = p.service; waiting = p.waiting }

@@ -19,12 +19,12 @@ use Rattle.op_sched.specs.declared.summary.Line.TheVariants as line
 use Rattle.op_model.specs.Service.{new_service, service_of, base_bytes, answer_of}
 use Rattle.op_steps.specs.State.{State}
 use Rattle.op_steps.specs.Rows.{part_refusal}
-use Rattle.op_runs.specs.World.{World, Up, Done, done, node_of, planned, fated, happened}
+use Rattle.op_runs.specs.World.{World, Up, Done, done_event, node_of, plan_of, world_by_fate, world_after}
 use Rattle.op_runs.specs.Sole.{sole_part, sole_node, sole_world}
 use Rattle.op_laws.proofs.Doing.{happened-here, fated-appended, event_commanded}
 use Rattle.op_laws.proofs.Ticking.{leaves_ticked}
 use Rattle.op_top.specs.Ticking.{IsSolePart, Ticks}
-use Rattle.op_top.specs.Stepping.{first_done, accepted_at, refused_at}
+use Rattle.op_top.specs.Stepping.{world_at_first, accepted_plan_at, refusal_plan_at}
 use Rattle.op_top.proofs.Steps.{part_of_durable, fated-ticked}
 
 -- ---- the part
@@ -64,30 +64,30 @@ KeepsSole-ticked me p q v u clients k ticks =
 -- ---- events
 
 here_is : (me : ℕ) (p : Part) (v : Volatile) (lines : List Line) (e : Event) (w : What) (self : World) → sole_world me p v Up [] lines ≡ self → node_of e.what ≡ me → e.what ≡ w
-    → happened self (done e) ≡ fated Done e.line (sole_world me p v Up [] lines) (sole_node me p v Up) (planned (sole_node me p v Up) w)
+    → world_after self (done_event e) ≡ world_by_fate Done e.line (sole_world me p v Up [] lines) (sole_node me p v Up) (plan_of (sole_node me p v Up) w)
 here_is me p v lines e w self is here what_is =
-    ap (λ (x : World). happened x (done e)) (sym is) ∙ happened-here me p v [] lines e (eq-eqb me (node_of e.what) (sym here))
-    ∙ ap (λ (x : What). fated Done e.line (sole_world me p v Up [] lines) (sole_node me p v Up) (planned (sole_node me p v Up) x)) what_is
+    ap (λ (x : World). world_after x (done_event e)) (sym is) ∙ happened-here me p v [] lines e (eq-eqb me (node_of e.what) (sym here))
+    ∙ ap (λ (x : What). world_by_fate Done e.line (sole_world me p v Up [] lines) (sole_node me p v Up) (plan_of (sole_node me p v Up) x)) what_is
 
 pub event_ticked : (me : ℕ) (p q : Part) (v u : Volatile) (lines : List Line) (e : Event) (pid : ℕ) (self : World) → sole_world me p v Up [] lines ≡ self → node_of e.what ≡ me → e.what ≡ what.Tick pid
-    → IsSolePart me p → Ticks me p v q u → sole_world me q u Up [] lines ≡ happened self (done e)
+    → IsSolePart me p → Ticks me p v q u → sole_world me q u Up [] lines ≡ world_after self (done_event e)
 event_ticked me p q v u lines e pid self is here what_is sole ticks =
     sym (here_is me p v lines e (what.Tick pid) self is here what_is ∙ fated-ticked me e.line p q v u lines sole ticks)
 
 pub event_refused : (me : ℕ) (p : Part) (v : Volatile) (lines : List Line) (e : Event) (pid : ℕ) (c : Command) (r : Refusal) (self : World) → sole_world me p v Up [] lines ≡ self → node_of e.what ≡ me → e.what ≡ what.Command pid c
-    → part_refusal v p ≡ Some r → first_done e.line self self.nodes (refused_at r) ≡ happened self (done e)
+    → part_refusal v p ≡ Some r → world_at_first e.line self self.nodes (refusal_plan_at r) ≡ world_after self (done_event e)
 event_refused me p v lines e pid c r self is here what_is refusal =
-    ap (λ (w : World). first_done e.line w w.nodes (refused_at r)) (sym is) ∙ sym (event_commanded me p v [] lines e pid c (Some r) self is here what_is refusal)
+    ap (λ (w : World). world_at_first e.line w w.nodes (refusal_plan_at r)) (sym is) ∙ sym (event_commanded me p v [] lines e pid c (Some r) self is here what_is refusal)
 
 pub event_appended : (me : ℕ) (p : Part) (v : Volatile) (lines : List Line) (e : Event) (pid : ℕ) (c : Command) (self : World) → sole_world me p v Up [] lines ≡ self → node_of e.what ≡ me → e.what ≡ what.Command pid c
-    → part_refusal v p ≡ None → first_done e.line self self.nodes (accepted_at c) ≡ happened self (done e)
+    → part_refusal v p ≡ None → world_at_first e.line self self.nodes (accepted_plan_at c) ≡ world_after self (done_event e)
 event_appended me p v lines e pid c self is here what_is refusal =
-    ap (λ (w : World). first_done e.line w w.nodes (accepted_at c)) (sym is) ∙ sym (event_commanded me p v [] lines e pid c None self is here what_is refusal)
+    ap (λ (w : World). world_at_first e.line w w.nodes (accepted_plan_at c)) (sym is) ∙ sym (event_commanded me p v [] lines e pid c None self is here what_is refusal)
 
 pub appended_is : (me at : ℕ) (p q : Part) (v : Volatile) (lines more : List Line) (c : Command) (position : ℕ) (a : Answer) (self : World) → sole_world me p v Up [] lines ≡ self → IsSolePart me p
     → q ≡ sole_part me p.promised p.accepted (p.tail ++ entry.Command c ∷ []) → position ≡ length p.tail → a ≡ answer_of (service_of p.tail) c
     → more ≡ (lines ++ line.Answer at (outcome.Appended 1 position) ∷ []) ++ line.Reply me c.client c.seq a ∷ []
-    → sole_world me q v Up [] more ≡ first_done at self self.nodes (accepted_at c)
+    → sole_world me q v Up [] more ≡ world_at_first at self self.nodes (accepted_plan_at c)
 appended_is me at p q v lines more c position a self is sole part place answer told =
     let new = sole_part me p.promised p.accepted (p.tail ++ entry.Command c ∷ []) in
     let told_by : ℕ → Answer → List Line = λ k x. lines ++ line.Answer at (outcome.Appended 1 k) ∷ line.Reply me c.client c.seq x ∷ [] in
@@ -95,5 +95,5 @@ appended_is me at p q v lines more c position a self is sole part place answer t
     ∙ ap (λ (ls : List Line). sole_world me new v Up [] ls) (told ∙ append_assoc lines (line.Answer at (outcome.Appended 1 position) ∷ []) (line.Reply me c.client c.seq a ∷ [])
     ∙ ap (λ (k : ℕ). told_by k a) place ∙ ap (λ (x : Answer). told_by (length p.tail) x) answer)
     ∙ sym (fated-appended me at p.promised p.accepted p.tail v [] lines c)
-    ∙ ap (λ (x : Part). let w = sole_world me x v Up [] lines in first_done at w w.nodes (accepted_at c)) (sym sole)
-    ∙ ap (λ (w : World). first_done at w w.nodes (accepted_at c)) is
+    ∙ ap (λ (x : Part). let w = sole_world me x v Up [] lines in world_at_first at w w.nodes (accepted_plan_at c)) (sym sole)
+    ∙ ap (λ (w : World). world_at_first at w w.nodes (accepted_plan_at c)) is

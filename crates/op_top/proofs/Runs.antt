@@ -4,8 +4,8 @@ use Rattle.op_types.specs.declared.events.Event.{Event}
 use Rattle.op_types.specs.declared.log.Entry.{Entry}
 use Rattle.op_sched.specs.declared.summary.Summary.{Summary}
 use Rattle.op_model.specs.Machine.{is_among}
-use Rattle.op_runs.specs.World.{World, Happening, first_world, node_of, happened, run_of, done, all_done}
-use Rattle.op_runs.specs.Run.{Track, first_track, tracked, track_of, Meets}
+use Rattle.op_runs.specs.World.{World, Happening, first_world, node_of, world_after, run_of, done_event, all_done}
+use Rattle.op_runs.specs.Run.{Track, first_track, track_with, track_of, Meets}
 use Rattle.op_runs.specs.Summary.{summary_of}
 use Rattle.op_laws.proofs.Decides.{sole_run}
 use Rattle.op_laws.proofs.Meeting.{IsSole, sole_first, listed, sole_runs_meet}
@@ -14,7 +14,7 @@ use Rattle.op_runs.specs.Sole.{log_of}
 
 world-track_of : (t : Track) (hs : List Happening) → (track_of t hs).world ≡ run_of t.world hs
 world-track_of t [] = refl
-world-track_of t (h ∷ hs) = world-track_of (tracked t h) hs
+world-track_of t (h ∷ hs) = world-track_of (track_with t h) hs
 
 -- a sole member's summary is that of its run
 sole_summary-track : (me : ℕ) (t : Track) → IsSole me t → sole_summary (me ∷ []) t.world ≡ summary_of (me ∷ []) t
@@ -46,7 +46,7 @@ continues_first members w rest events start all =
       absent = λ n h. subst (λ (es : List Event). IsFirstAbsent members es n) all h;
     }
 
-pub continues_next : (members : List ℕ) (w v : World) (left rest events : List Event) (e : Event) → Continues members w left events → left ≡ e ∷ rest → is_among members (node_of e.what) ≡ true → v ≡ happened w (done e)
+pub continues_next : (members : List ℕ) (w v : World) (left rest events : List Event) (e : Event) → Continues members w left events → left ≡ e ∷ rest → is_among members (node_of e.what) ≡ true → v ≡ world_after w (done_event e)
     → Continues members v rest events
 continues_next members w v left rest events e c first here step =
     record {

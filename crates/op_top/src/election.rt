@@ -1,7 +1,7 @@
 //! The end of a heartbeat round, and what an elected ballot of its own makes a member do.
 ghost use Rattle.std.specs.Prelude.{◌≡◌, ◌+◌};
-ghost use Rattle.op_steps.specs.Election.{is_majority, greatest, raised_above, ended};
-ghost use Rattle.op_steps.specs.Rows.{next_round, begun};
+ghost use Rattle.op_steps.specs.Election.{is_majority, greatest, ballot_above, round_end};
+ghost use Rattle.op_steps.specs.Rows.{next_round, next_round_state};
 ghost use Rattle.op_top.specs.Ticking.{Ticks, IsSolePart};
 
 use op_types::{Ballot, Heard, Leading, Part, Pid, Role, Volatile};
@@ -22,7 +22,7 @@ fn greatest_ballot(own: Ballot, heard: &[Heard]) -> Ballot
 }
 
 fn raise_above(least: Ballot, me: Pid, own: Ballot) -> Ballot
-    ensures { result ≡ raised_above least me own }
+    ensures { result ≡ ballot_above least me own }
 {
     if least.number < LAST_NUMBER {
         Ballot {
@@ -49,8 +49,8 @@ fn hears_majority(replies: usize, members: usize) -> bool
 
 /// Ends the round at a node of so many members, and begins the next one. Answers the ballot that is elected.
 fn end_round(me: Pid, members: usize, volatile: &mut Volatile) -> Option<Ballot>
-    ensures elected { result ≡ (ended me members volatile.old).elected }
-    ensures begun { volatile.new ≡ begun volatile.old (ended me members volatile.old) }
+    ensures elected { result ≡ (round_end me members volatile.old).elected }
+    ensures begun { volatile.new ≡ next_round_state volatile.old (round_end me members volatile.old) }
 {
     let replies = volatile.heard.len();
     let ballot = greatest_ballot(volatile.own, volatile.heard.as_slice());

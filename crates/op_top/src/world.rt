@@ -65,9 +65,9 @@ fn refusal(volatile: &Volatile, part: &Part) -> Option<Refusal>
 
 impl World {
     ghost use Rattle.std.specs.Prelude.{◌≡◌, ◌<◌, ◌^◌, ℕ, [], ◌∷◌, length, IfOk};
-    ghost use Rattle.op_runs.specs.World.{first_world, happened, done};
+    ghost use Rattle.op_runs.specs.World.{first_world, world_after, done_event};
     ghost use Rattle.op_top.specs.Replay.{sole_summary};
-    ghost use Rattle.op_top.specs.Stepping.{first_done, accepted_at, refused_at};
+    ghost use Rattle.op_top.specs.Stepping.{world_at_first, accepted_plan_at, refusal_plan_at};
     ghost use Rattle.op_runs.specs.Sole.{log_of};
 
     /// A member of this id alone, which has stored nothing yet.
@@ -105,7 +105,7 @@ impl World {
 
     /// One event. With no memory for it, no world is handed back.
     pub fn event(mut self, event: Event) -> Result<Self, NoMemory>
-        ensures { IfOk result (λ w. w ≡ happened self (done event)) }
+        ensures { IfOk result (λ w. w ≡ world_after self (done_event event)) }
     {
         if node_of(&event.what) != self.me {
             return Ok(self);
@@ -124,7 +124,7 @@ impl World {
     }
 
     fn refuse(mut self, line: u64, refusal: Refusal) -> Result<Self, NoMemory>
-        ensures { IfOk result (λ w. w ≡ first_done line self self.nodes (refused_at refusal)) }
+        ensures { IfOk result (λ w. w ≡ world_at_first line self self.nodes (refusal_plan_at refusal)) }
     {
         self.lines
             .push(Line::Answer(line, Outcome::Refused(refusal)))?;
@@ -134,7 +134,7 @@ impl World {
     /// Appends a command, which is decided at once.
     fn append(mut self, line: u64, command: Command) -> Result<Self, NoMemory>
         requires { length (log_of self.nodes) < 2 ^ 62 }
-        ensures { IfOk result (λ w. w ≡ first_done line self self.nodes (accepted_at command)) }
+        ensures { IfOk result (λ w. w ≡ world_at_first line self self.nodes (accepted_plan_at command)) }
     {
         let client = command.client;
         let seq = command.seq;

@@ -10,22 +10,22 @@ abbrev pub len_of : Part → ℕ
 len_of p = p.trimmed + length p.tail
 
 -- a part after one change
-abbrev pub changed_part : Part → Change → Part
-changed_part p (change.Promise n) = record p { promised = n }
-changed_part p (change.Accept n) = record p { accepted = n }
-changed_part p (change.Append entries) = record p { tail = p.tail ++ entries }
-changed_part p (change.Decided x) = record p { decided = x }
+abbrev pub part_with : Part → Change → Part
+part_with p (change.Promise n) = record p { promised = n }
+part_with p (change.Accept n) = record p { accepted = n }
+part_with p (change.Append entries) = record p { tail = p.tail ++ entries }
+part_with p (change.Decided x) = record p { decided = x }
 
 -- the same, where there is a part
-abbrev pub changed_option : Option Part → Change → Option Part
-changed_option None c = None
-changed_option (Some p) c = Some (changed_part p c)
+abbrev pub part_option_with : Option Part → Change → Option Part
+part_option_with None c = None
+part_option_with (Some p) c = Some (part_with p c)
 
 -- the durable state after one change
-abbrev pub changed : Durable → Change → Durable
-changed d c = record { part = changed_option d.part c; closed = d.closed }
+abbrev pub durable_with : Durable → Change → Durable
+durable_with d c = record { part = part_option_with d.part c; closed = d.closed }
 
 -- the durable state after a batch, from the left
-abbrev pub applied : Durable → List Change → Durable
-applied d [] = d
-applied d (c ∷ batch) = applied (changed d c) batch
+abbrev pub durable_after : Durable → List Change → Durable
+durable_after d [] = d
+durable_after d (c ∷ batch) = durable_after (durable_with d c) batch
