@@ -23,7 +23,7 @@ use Rattle.op_runs.specs.World.{World, Up, Done, done_event, node_of, plan_of, w
 use Rattle.op_runs.specs.Sole.{sole_part, sole_node, sole_world}
 use Rattle.op_laws.proofs.Doing.{happened-here, fated-appended, event_commanded}
 use Rattle.op_laws.proofs.Ticking.{leaves_ticked}
-use Rattle.op_top.specs.Ticking.{IsSolePart, Ticks}
+use Rattle.op_top.specs.SoleMember.{IsSolePart, KeepsSole, Ticks}
 use Rattle.op_top.specs.Stepping.{world_at_first, accepted_plan_at, refusal_plan_at}
 use Rattle.op_top.proofs.Steps.{part_of_durable, fated-ticked}
 
@@ -34,23 +34,20 @@ pub sole_from : (me : ℕ) (p : Part) (pr ac : Ballot) (log : List Entry) → p.
 sole_from me p pr ac log conf members promised accepted base trimmed tail decided =
     λ i. record { conf = conf i; members = members i; promised = promised i; accepted = accepted i; base = base i; trimmed = trimmed i; tail = tail i; decided = decided i }
 
--- what is kept of the fields: the part is a sole member's, and the clients are those of its log
-abbrev pub KeepsSole : ℕ → Part → List (ℕ × Applied) → Type 0
-KeepsSole me p clients = (p.conf ≡ 1) × (p.members ≡ me ∷ []) × (p.base ≡ base_bytes new_service) × (p.trimmed ≡ 0) × (p.decided ≡ length p.tail) × (clients ≡ (service_of p.tail).clients)
-
 pub sole_of : (me : ℕ) (p : Part) (clients : List (ℕ × Applied)) → KeepsSole me p clients → IsSolePart me p
-sole_of me p clients k = sole_from me p p.promised p.accepted p.tail k.0 k.1 refl refl k.2 k.3 refl k.4
+sole_of me p clients k = sole_from me p p.promised p.accepted p.tail k.conf k.members refl refl k.base k.trimmed refl k.decided
 
 keeps_from : (me : ℕ) (p : Part) (pr ac : Ballot) (log : List Entry) (clients : List (ℕ × Applied)) → p ≡ sole_part me pr ac log → clients ≡ (service_of log).clients → KeepsSole me p clients
 keeps_from me p pr ac log clients is have =
-    let tail : log ≡ p.tail = sym (ap (λ (q : Part). q.tail) is) in (
-      ap (λ (q : Part). q.conf) is,
-      ap (λ (q : Part). q.members) is,
-      ap (λ (q : Part). q.base) is,
-      ap (λ (q : Part). q.trimmed) is,
-      ap (λ (q : Part). q.decided) is ∙ ap (λ (es : List Entry). length es) tail,
-      have ∙ ap (λ (es : List Entry). (service_of es).clients) tail,
-    )
+    let tail : log ≡ p.tail = sym (ap (λ (q : Part). q.tail) is) in
+    record {
+      conf = ap (λ (q : Part). q.conf) is;
+      members = ap (λ (q : Part). q.members) is;
+      base = ap (λ (q : Part). q.base) is;
+      trimmed = ap (λ (q : Part). q.trimmed) is;
+      decided = ap (λ (q : Part). q.decided) is ∙ ap (λ (es : List Entry). length es) tail;
+      has_clients = have ∙ ap (λ (es : List Entry). (service_of es).clients) tail;
+    }
 
 ticked_part : (me : ℕ) (pr ac : Ballot) (log : List Entry) (q : Part) (v u : Volatile) (clients : List (ℕ × Applied)) → Ticks me (sole_part me pr ac log) v q u → clients ≡ (service_of log).clients → KeepsSole me q clients
 ticked_part me pr ac log q v u clients ticks have =
@@ -59,7 +56,7 @@ ticked_part me pr ac log q v u clients ticks have =
 
 pub KeepsSole-ticked : (me : ℕ) (p q : Part) (v u : Volatile) (clients : List (ℕ × Applied)) → KeepsSole me p clients → Ticks me p v q u → KeepsSole me q clients
 KeepsSole-ticked me p q v u clients k ticks =
-    ticked_part me p.promised p.accepted p.tail q v u clients (subst (λ (x : Part). Ticks me x v q u) (sole_of me p clients k) ticks) k.5
+    ticked_part me p.promised p.accepted p.tail q v u clients (subst (λ (x : Part). Ticks me x v q u) (sole_of me p clients k) ticks) k.has_clients
 
 -- ---- events
 

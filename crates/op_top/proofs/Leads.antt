@@ -12,7 +12,7 @@ use Rattle.op_steps.specs.Election.{is_majority, round_end}
 use Rattle.op_steps.specs.Rows.{only_volatile, next_round_state, requests, next_round, led_batch, majority_lead_plan, lead_plan, election_plan, tick_plan}
 use Rattle.op_runs.specs.Sole.{sole_durable, sole_state}
 use Rattle.op_laws.proofs.Deciding.{applied-led}
-use Rattle.op_top.specs.Ticking.{IsSolePart, Ticks}
+use Rattle.op_top.specs.SoleMember.{IsSolePart, Ticks}
 
 -- the row of the tick is that of the lead
 ticked-led : (me : ℕ) (p : Part) (u : Volatile) (n : Ballot) → IsSolePart me p → (round_end me (length p.members) u).elected ≡ Some n → n.pid ≡ me → is_below p.promised n ≡ true

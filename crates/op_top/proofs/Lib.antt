@@ -4,4 +4,3 @@ pub mod Events
 pub mod Runs
 pub mod Complete
 pub mod Words
-pub mod Copying

@@ -14,7 +14,7 @@ use Rattle.op_runs.specs.World.{Up, Done, world_by_fate}
 use Rattle.op_runs.specs.Sole.{sole_part, sole_durable, sole_state, sole_node, sole_world}
 use Rattle.op_laws.proofs.Ticking.{LeavesSole, leaves_ticked}
 use Rattle.op_laws.proofs.Doing.{fated-done}
-use Rattle.op_top.specs.Ticking.{IsSolePart, Ticks}
+use Rattle.op_top.specs.SoleMember.{IsSolePart, Ticks}
 
 pub part_of_durable : (p q : Part) → sole_durable p ≡ sole_durable q → p ≡ q
 part_of_durable p q same = let parts : Some p ≡ Some q = ap (λ (d : Durable). d.part) same in cc

@@ -1,4 +1,4 @@
-pub mod Ticking
+pub mod SoleMember
 pub mod Replay
 pub mod Called
 pub mod Statuses

@@ -2,7 +2,7 @@
 ghost use Rattle.std.specs.Prelude.{◌≡◌, ◌+◌};
 ghost use Rattle.op_steps.specs.Election.{is_majority, greatest, ballot_above, round_end};
 ghost use Rattle.op_steps.specs.Rows.{next_round, next_round_state};
-ghost use Rattle.op_top.specs.Ticking.{Ticks, IsSolePart};
+ghost use Rattle.op_top.specs.SoleMember.{Ticks, IsSolePart};
 
 use op_types::{Ballot, Heard, Leading, Part, Pid, Role, Volatile};
 

@@ -12,6 +12,6 @@ pub use status::Status;
 pub use top::omni;
 
 #[cfg(test)]
-mod memory;
+mod letters;
 #[cfg(test)]
 mod tests;

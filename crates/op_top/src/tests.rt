@@ -1,7 +1,8 @@
 ghost use Rattle.std.specs.Prelude.{◌<◌};
 
-use crate::memory::{Letters, MemSink, MemSource};
+use crate::letters::Letters;
 use crate::{Status, omni};
+use op_memory::{MemSink, MemSource};
 use std::alloc::{AllocError, Global};
 use std::process::Abort;
 use std::test::Fail;
@@ -70,10 +71,17 @@ fn replay_word(alloc: Global) -> Result<Vec<String>, AllocError> {
     Ok(words)
 }
 
-fn source(alloc: Global, text: &str, most: usize, fail_at: u64) -> Result<MemSource, AllocError>
+fn source(alloc: Global, text: &str, most: usize, fails: &[u64]) -> Result<MemSource, AllocError>
     requires { 0 < most }
 {
-    Ok(MemSource::new(Vec::from_slice(alloc, text.as_bytes())?, most, fail_at))
+    let bytes = Vec::from_slice(alloc, text.as_bytes())?;
+    Ok(MemSource::new(bytes, most, Vec::from_slice(alloc, fails)?))
+}
+
+fn sink(alloc: Global, most: usize, fails: &[u64]) -> Result<MemSink, AllocError>
+    requires { 0 < most }
+{
+    Ok(MemSink::new(Vec::new(alloc), most, Vec::from_slice(alloc, fails)?))
 }
 
 fn check_row(
@@ -82,9 +90,9 @@ fn check_row(
 ) -> Result<(), Fail> {
     let alloc = rt.alloc();
     let words = replay_word(alloc)?;
-    let mut input = source(alloc, row.0, 7, 0)?;
-    let mut out = MemSink::new(Vec::new(alloc), 11, 0);
-    let mut err = MemSink::new(Vec::new(alloc), 3, 0);
+    let mut input = source(alloc, row.0, 7, &[])?;
+    let mut out = sink(alloc, 11, &[])?;
+    let mut err = sink(alloc, 3, &[])?;
     assert!(rt; omni(alloc, &words, &mut input, &mut out, &mut err) == row.1);
     assert_eq!(rt; out.bytes.as_slice(), row.2.as_bytes());
     assert_eq!(rt; err.bytes.as_slice(), row.3.as_bytes());
@@ -104,9 +112,9 @@ fn rows_end_as_they_are_told(rt: HostRuntime) -> Result<(), Fail> {
 fn other_words_are_refused(rt: HostRuntime) -> Result<(), Fail> {
     let alloc = rt.alloc();
     let mut words = Vec::new(alloc);
-    let mut input = source(alloc, ONE_PUT, 7, 0)?;
-    let mut out = MemSink::new(Vec::new(alloc), 100, 0);
-    let mut err = MemSink::new(Vec::new(alloc), 100, 0);
+    let mut input = source(alloc, ONE_PUT, 7, &[])?;
+    let mut out = sink(alloc, 100, &[])?;
+    let mut err = sink(alloc, 100, &[])?;
     assert!(rt; omni(alloc, &words, &mut input, &mut out, &mut err) == Status::Usage);
     words.push(String::from_str(alloc, "--help")?)?;
     assert!(rt; omni(alloc, &words, &mut input, &mut out, &mut err) == Status::Usage);
@@ -120,9 +128,9 @@ fn a_source_that_fails_in_mid_stream_is_a_read_fault(rt: HostRuntime) -> Result<
     let alloc = rt.alloc();
     let words = replay_word(alloc)?;
     for fail_at in 1..6 {
-        let mut input = source(alloc, ONE_PUT, 8, fail_at)?;
-        let mut out = MemSink::new(Vec::new(alloc), 100, 0);
-        let mut err = MemSink::new(Vec::new(alloc), 100, 0);
+        let mut input = source(alloc, ONE_PUT, 8, &[fail_at])?;
+        let mut out = sink(alloc, 100, &[])?;
+        let mut err = sink(alloc, 100, &[])?;
         assert!(rt; omni(alloc, &words, &mut input, &mut out, &mut err) == Status::ReadFault);
         assert_eq!(rt; out.bytes.len(), 0);
         assert_eq!(rt; err.bytes.as_slice(), b"read fault\n".as_slice());
@@ -137,9 +145,9 @@ fn a_sink_that_fails_in_mid_stream_keeps_a_front(rt: HostRuntime) -> Result<(), 
     let report = ONE_PUT_REPORT.as_bytes();
     assert_eq!(rt; report.len(), 116);
     for fail_at in 1..7 {
-        let mut input = source(alloc, ONE_PUT, 100, 0)?;
-        let mut out = MemSink::new(Vec::new(alloc), 20, fail_at);
-        let mut err = MemSink::new(Vec::new(alloc), 100, 0);
+        let mut input = source(alloc, ONE_PUT, 100, &[])?;
+        let mut out = sink(alloc, 20, &[fail_at])?;
+        let mut err = sink(alloc, 100, &[])?;
         assert!(rt; omni(alloc, &words, &mut input, &mut out, &mut err) == Status::WriteFault);
         let whole = (fail_at as usize - 1) * 20;
         assert_eq!(rt; out.bytes.as_slice(), &report[..whole]);
@@ -152,9 +160,9 @@ fn a_sink_that_fails_in_mid_stream_keeps_a_front(rt: HostRuntime) -> Result<(), 
 fn a_failed_write_of_the_line_changes_no_status(rt: HostRuntime) -> Result<(), Fail> {
     let alloc = rt.alloc();
     let words = Vec::new(alloc);
-    let mut input = source(alloc, "", 1, 0)?;
-    let mut out = MemSink::new(Vec::new(alloc), 1, 0);
-    let mut err = MemSink::new(Vec::new(alloc), 2, 2);
+    let mut input = source(alloc, "", 1, &[])?;
+    let mut out = sink(alloc, 1, &[])?;
+    let mut err = sink(alloc, 2, &[2])?;
     assert!(rt; omni(alloc, &words, &mut input, &mut out, &mut err) == Status::Usage);
     assert_eq!(rt; err.bytes.as_slice(), b"us".as_slice());
     Ok(())
@@ -164,8 +172,8 @@ fn a_failed_write_of_the_line_changes_no_status(rt: HostRuntime) -> Result<(), F
 fn one_byte_more_than_the_limit_is_refused(rt: HostRuntime) -> Result<(), Fail> {
     let alloc = rt.alloc();
     let words = replay_word(alloc)?;
-    let mut out = MemSink::new(Vec::new(alloc), 100, 0);
-    let mut err = MemSink::new(Vec::new(alloc), 100, 0);
+    let mut out = sink(alloc, 100, &[])?;
+    let mut err = sink(alloc, 100, &[])?;
     let mut input = Letters { left: 67_108_864 };
     let status = omni(alloc, &words, &mut input, &mut out, &mut err);
     assert!(rt; status == Status::BadSchedule { line: 1 });

@@ -24,18 +24,17 @@ pub struct World {
 }
 
 impl Model for World {
-    ghost use Rattle.std.specs.Prelude.{◌≡◌, ℕ, [], ◌∷◌, length};
-    ghost use Rattle.op_model.specs.Service.{new_service, service_of, base_bytes};
+    ghost use Rattle.std.specs.Prelude.{[]};
     ghost use Rattle.op_runs.specs.World as runs;
     ghost use Rattle.op_runs.specs.World.{Up};
     ghost use Rattle.op_runs.specs.Sole.{sole_world};
+    ghost use Rattle.op_top.specs.SoleMember.{KeepsSole};
 
     ghost Value = { runs.World };
 
     ghost view = { λ w. sole_world w.me w.part w.volatile Up [] w.lines };
 
-    ghost invariant = { λ w. (w.part.conf ≡ 1) × (w.part.members ≡ w.me ∷ []) × (w.part.base ≡ base_bytes new_service) × (w.part.trimmed ≡ 0)
-        × (w.part.decided ≡ length w.part.tail) × (w.clients.entries ≡ (service_of w.part.tail).clients) };
+    ghost invariant = { λ w. KeepsSole w.me w.part w.clients.entries };
 }
 
 /// The node that an event is at.

@@ -16,6 +16,6 @@ returns c =
     let q : Part = record p { tail = c.push.new.self; decided = c.len-position.result + 1 } in
     let longer : c.len-position.result + 1 ≡ length (p.tail ++ e ∷ []) = omega (arith, length-append p.tail (e ∷ []), c.len-position.ensures) in
     appended_is me c.args.line p q c.self.inside.volatile c.self.inside.lines c.push-3.new.self c.args.command c.len-position.result c.in_ok-answer.answer c.args.self c.self.view_is
-    (sole_of me p c.self.inside.clients.entries k) (sole_from me q p.promised p.accepted (p.tail ++ e ∷ []) k.0 k.1 refl refl k.2 k.3 c.in_ok-push.ensures.ok longer) c.len-position.ensures
-    (c.in_ok-answer.ensures.answer (service_of p.tail) (sym k.5))
+    (sole_of me p c.self.inside.clients.entries k) (sole_from me q p.promised p.accepted (p.tail ++ e ∷ []) k.conf k.members refl refl k.base k.trimmed c.in_ok-push.ensures.ok longer) c.len-position.ensures
+    (c.in_ok-answer.ensures.answer (service_of p.tail) (sym k.has_clients))
     (c.in_ok-push-3.ensures.ok ∙ ap (λ (ls : List Line). ls ++ line.Reply me c.args.command.client c.args.command.seq c.in_ok-answer.answer ∷ []) c.in_ok-push-2.ensures.ok)

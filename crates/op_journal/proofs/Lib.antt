@@ -1,0 +1,11 @@
+pub mod Moments
+pub mod Written
+pub mod Appending
+pub mod Trimming
+pub mod Repair
+pub mod Rows
+pub mod Headers
+pub mod OneReading
+pub mod Layouts
+pub mod Holding
+pub mod Few

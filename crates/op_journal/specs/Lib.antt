@@ -1,0 +1,5 @@
+pub mod Areas
+pub mod Readings
+pub mod Rows
+pub mod Openings
+pub mod Failing

@@ -1,0 +1,62 @@
+ghost use Rattle.std.specs.Prelude.{◌≡◌};
+ghost use Rattle.op_journal.specs.declared.fail.JournalFail.TheVariants as fails;
+
+use op_fields::NoMemory;
+use op_outside::Disk;
+use std::alloc::{AllocError, AllocFailed};
+
+/// The disk has failed so often.
+#[derive(Clone, Copy, Debug, PartialEq, Eq)]
+pub struct DiskFault {
+    pub count: u64,
+}
+
+/// Why an area was not opened.
+#[derive(Clone, Copy, Debug, PartialEq, Eq)]
+pub enum JournalFail {
+    DiskFault { count: u64 },
+    /// The bytes are no area's from this place on.
+    Damaged { at: u64 },
+    NoMemory,
+}
+
+impl From<DiskFault> for JournalFail {
+    ghost from_gives = { λ fault e. e ≡ fails.DiskFault fault.count };
+
+    fn from(fault: DiskFault) -> JournalFail {
+        JournalFail::DiskFault { count: fault.count }
+    }
+}
+
+impl From<NoMemory> for JournalFail {
+    ghost from_gives = { λ _ e. e ≡ fails.NoMemory };
+
+    fn from(_e: NoMemory) -> JournalFail {
+        JournalFail::NoMemory
+    }
+}
+
+impl From<AllocError> for JournalFail {
+    ghost from_gives = { λ _ e. e ≡ fails.NoMemory };
+
+    fn from(_e: AllocError) -> JournalFail {
+        JournalFail::NoMemory
+    }
+}
+
+impl<T: Drop> From<AllocFailed<T>> for JournalFail {
+    ghost from_gives = { λ _ e. e ≡ fails.NoMemory };
+
+    fn from(_e: AllocFailed<T>) -> JournalFail {
+        JournalFail::NoMemory
+    }
+}
+
+/// What a call that failed is told as.
+pub fn fault_of<D: Disk>(disk: &D) -> DiskFault
+    ensures { result.count ≡ D.count disk.now }
+{
+    DiskFault {
+        count: disk.faults(),
+    }
+}

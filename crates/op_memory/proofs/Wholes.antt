@@ -1,0 +1,43 @@
+-- What a read gives after some calls, and what it would give had the last one taken place.
+use Rattle.std.proofs.Common.{◌≡◌, ℕ, suc, ◌+◌, ◌<◌, List, [], ◌∷◌, ◌++◌, length, drop, take, get_or, refl, sym, ◌∙◌, ap, arith}
+use Rattle.std.proofs.Math.Seq.{drop-cons}
+use Rattle.op_memory.specs.declared.call.Call.{Call}
+use Rattle.op_memory.specs.declared.call.Call.TheVariants.{Write, StoppedWrite, Cut, StoppedCut, Sync}
+use Rattle.op_memory.specs.Images.{State, fresh, overlaid, after, state_of, completed}
+use Rattle.op_memory.proofs.Moments.{state-push}
+
+-- the content after a call goes by the content before it
+content-after : (call : Call) (s t : State) → s.content ≡ t.content → (after call s).content ≡ (after call t).content
+content-after (Write at v) s t e = ap (λ (l : List ℕ). overlaid l at v.items) e
+content-after (StoppedWrite at v) s t e = e
+content-after (Cut n) s t e = ap (λ (l : List ℕ). take n l) e
+content-after (StoppedCut n) s t e = e
+content-after Sync s t e = e
+
+content-state_of : (calls : List Call) (s t : State) → s.content ≡ t.content → (state_of s calls).content ≡ (state_of t calls).content
+content-state_of [] s t e = e
+content-state_of (call ∷ calls) s t e = content-state_of calls (after call s) (after call t) (content-after call s t e)
+
+pub content_step : (calls : List Call) (i : ℕ) (call : Call) (bytes next : List ℕ) → i < length calls → call ≡ get_or calls i call
+    → next ≡ (after call (fresh bytes)).content → (state_of (fresh next) (drop (i + 1) calls)).content ≡ (state_of (fresh bytes) (drop i calls)).content
+content_step calls i call bytes next lt is to =
+    let e : i + 1 ≡ suc i = omega arith in
+    let front : drop i calls ≡ call ∷ drop (i + 1) calls = drop-cons calls i call lt ∙ ap (λ (x : Call). x ∷ drop (suc i) calls) (sym is) ∙ ap (λ (k : ℕ). call ∷ drop k calls) (sym e) in
+    content-state_of (drop (i + 1) calls) (fresh next) (after call (fresh bytes)) to ∙ ap (λ (l : List Call). (state_of (fresh bytes) l).content) (sym front)
+
+completed-after : (call : Call) (s : State) → completed call (after call s).content ≡ (after call s).whole
+completed-after (Write at v) s = refl
+completed-after (StoppedWrite at v) s = refl
+completed-after (Cut n) s = refl
+completed-after (StoppedCut n) s = refl
+completed-after Sync s = refl
+
+pub completed_last : (s : State) (calls front : List Call) (call : Call) (bytes : List ℕ) → calls ≡ front ++ call ∷ [] → bytes ≡ (state_of s calls).content → completed call bytes ≡ (state_of s calls).whole
+completed_last s calls front call bytes is same =
+    let there : state_of s calls ≡ after call (state_of s front) = ap (λ (l : List Call). state_of s l) is ∙ state-push s front call in
+    ap (completed call) (same ∙ ap (λ (t : State). t.content) there) ∙ completed-after call (state_of s front) ∙ ap (λ (t : State). t.whole) (sym there)
+
+pub none_last : (start : List ℕ) (calls : List Call) (bytes : List ℕ) → calls ≡ [] → bytes ≡ (state_of (fresh start) calls).content → bytes ≡ (state_of (fresh start) calls).whole
+none_last start calls bytes none same =
+    let there : state_of (fresh start) calls ≡ fresh start = ap (λ (l : List Call). state_of (fresh start) l) none in
+    same ∙ ap (λ (t : State). t.content) there ∙ ap (λ (t : State). t.whole) (sym there)

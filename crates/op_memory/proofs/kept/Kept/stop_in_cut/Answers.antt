@@ -1,0 +1,28 @@
+use Rattle.std.proofs.Common.{◌≡◌, List, [], ◌∷◌, ◌++◌, ◌∙◌, ap}
+use Rattle.op_memory.specs.declared.call.Call.{Call}
+use Rattle.op_memory.specs.declared.call.Call.TheVariants.{StoppedCut}
+use Rattle.op_memory.specs.Images.{LeftNow}
+use Rattle.op_outside.specs.Disks.{After, Shorter}
+use Rattle.op_memory.proofs.Moments.{elapses_to, state_of-more, tied_stopped_cut, stopped_cut_crash}
+use Rattle.op_memory.proofs.kept.Kept.stop_in_cut.Goals as goal
+
+pub invariant_of-self-2 : goal.invariant_of-self-2
+invariant_of-self-2 c =
+    let more : c.push_reserved.new.self.items ≡ c.args.self.now.calls.items ++ StoppedCut c.args.len ∷ [] = c.push_reserved.ensures.items ∙ ap (λ (l : List Call). l ++ StoppedCut c.args.len ∷ []) c.reserve.ensures.items in
+    record { tied = tied_stopped_cut c.args.self.now.start.items c.args.self.now.calls.items c.push_reserved.new.self.items c.args.self.now.bytes.items c.args.self.now.tied c.args.len more }
+
+pub returns-clause-crash : goal.returns-clause-crash
+returns-clause-crash c =
+    let more : c.push_reserved.new.self.items ≡ c.args.self.now.calls.items ++ StoppedCut c.args.len ∷ [] = c.push_reserved.ensures.items ∙ ap (λ (l : List Call). l ++ StoppedCut c.args.len ∷ []) c.reserve.ensures.items in
+    stopped_cut_crash c.args.self.now.start.items c.args.self.now.calls.items c.push_reserved.new.self.items c.args.len more
+
+pub returns-clause-time : goal.returns-clause-time
+returns-clause-time c =
+    let more : c.push_reserved.new.self.items ≡ c.args.self.now.calls.items ++ StoppedCut c.args.len ∷ [] = c.push_reserved.ensures.items ∙ ap (λ (l : List Call). l ++ StoppedCut c.args.len ∷ []) c.reserve.ensures.items in
+    elapses_to c.args.self.now.start.items c.args.self.now.calls.items c.push_reserved.new.self.items (StoppedCut c.args.len) (After (Shorter c.args.len) (LeftNow c.args.self.now.start.items c.args.self.now.calls.items)) more
+    (stopped_cut_crash c.args.self.now.start.items c.args.self.now.calls.items c.push_reserved.new.self.items c.args.len more)
+
+pub returns-clause-state : goal.returns-clause-state
+returns-clause-state c =
+    let more : c.push_reserved.new.self.items ≡ c.args.self.now.calls.items ++ StoppedCut c.args.len ∷ [] = c.push_reserved.ensures.items ∙ ap (λ (l : List Call). l ++ StoppedCut c.args.len ∷ []) c.reserve.ensures.items in
+    state_of-more c.args.self.now.start.items c.args.self.now.calls.items c.push_reserved.new.self.items (StoppedCut c.args.len) more

@@ -1,0 +1,108 @@
+-- What a crash may leave of a disk in memory: its images after its calls.
+use Rattle.std.specs.Prelude.{◌≡◌, ◌⊎◌, ℕ, ◌+◌, ◌<◌, ◌≤◌, max, min, List, [], ◌∷◌, ◌++◌, length, take, drop, slice_index}
+use Rattle.op_outside.specs.Moments.{Moment}
+use Rattle.op_outside.specs.Moments.Moment.{At, Both}
+use Rattle.op_memory.specs.declared.call.Call.{Call}
+use Rattle.op_memory.specs.declared.call.Call.TheVariants.{Write, StoppedWrite, Cut, StoppedCut, Sync}
+
+-- the bytes of the last sync, the least and the greatest length since, and the range of each write tried since
+pub record Pending : Type 0 where
+  pub base : List ℕ
+  pub low : ℕ
+  pub high : ℕ
+  pub writes : List (ℕ × ℕ)
+
+-- what is pending, what a read gives, and what it would give had the call in which the disk stopped taken place
+pub record State : Type 0 where
+  pub pending : Pending
+  pub content : List ℕ
+  pub whole : List ℕ
+
+-- nothing is pending
+abbrev pub synced : List ℕ → Pending
+synced bytes = record { base = bytes; low = length bytes; high = length bytes; writes = [] }
+
+-- a disk of which nothing is pending
+abbrev pub fresh : List ℕ → State
+fresh bytes = record { pending = synced bytes; content = bytes; whole = bytes }
+
+-- a list with this piece laid over it from a place on
+abbrev pub overlaid : List ℕ → ℕ → List ℕ → List ℕ
+overlaid old at piece = take at old ++ piece ++ drop (at + length piece) old
+
+-- a write of n bytes was tried
+abbrev pub written : ℕ → ℕ → Pending → Pending
+written at n s = record s { high = max s.high (at + n); writes = (at, n) ∷ s.writes }
+
+-- a cut to n bytes was tried
+abbrev pub shortened : ℕ → Pending → Pending
+shortened n s = record s { low = min s.low n }
+
+-- after a write
+abbrev pub wrote : ℕ → List ℕ → State → State
+wrote at piece s = record { pending = written at (length piece) s.pending; content = overlaid s.content at piece; whole = overlaid s.content at piece }
+
+-- after a write in which the disk stopped
+abbrev pub stopped_in_write : ℕ → List ℕ → State → State
+stopped_in_write at piece s = record { pending = written at (length piece) s.pending; content = s.content; whole = overlaid s.content at piece }
+
+-- after a cut
+abbrev pub cut_to : ℕ → State → State
+cut_to n s = record { pending = shortened n s.pending; content = take n s.content; whole = take n s.content }
+
+-- after a cut in which the disk stopped
+abbrev pub stopped_in_cut : ℕ → State → State
+stopped_in_cut n s = record { pending = shortened n s.pending; content = s.content; whole = take n s.content }
+
+-- one call more
+abbrev pub after : Call → State → State
+after (Write at piece) s = wrote at piece.items s
+after (StoppedWrite at piece) s = stopped_in_write at piece.items s
+after (Cut n) s = cut_to n s
+after (StoppedCut n) s = stopped_in_cut n s
+after Sync s = fresh s.content
+
+-- bytes with this call done, if the disk stopped in it
+abbrev pub completed : Call → List ℕ → List ℕ
+completed (StoppedWrite at piece) bytes = overlaid bytes at piece.items
+completed (StoppedCut n) bytes = take n bytes
+completed (Write at piece) bytes = bytes
+completed (Cut n) bytes = bytes
+completed Sync bytes = bytes
+
+-- these calls more
+abbrev pub state_of : State → List Call → State
+state_of s [] = s
+state_of s (call ∷ calls) = state_of (after call s) calls
+
+-- no write covers this place
+abbrev pub Uncovered : List (ℕ × ℕ) → ℕ → Type 0
+Uncovered [] p = Unit {0}
+Uncovered (w ∷ writes) p = ((p < w.0) ⊎ (w.0 + w.1 ≤ p)) × Uncovered writes p
+
+-- some write covers this place
+abbrev pub Covered : List (ℕ × ℕ) → ℕ → Type 0
+Covered [] p = ⊥
+Covered (w ∷ writes) p = ((w.0 ≤ p) × (p < w.0 + w.1)) ⊎ Covered writes p
+
+-- a length between the least and the greatest, and the synced byte at each place that no write covers
+pub record IsImage (s : Pending) (x : List ℕ) : Type 0 where
+  pub no_shorter : s.low ≤ length x
+  pub no_longer : length x ≤ s.high
+  pub same : (p : ℕ) → p < length x → Uncovered s.writes p → slice_index x p ≡ slice_index s.base p
+
+-- the greatest length, one byte at each place that a write covers, and the synced byte at the others
+pub record IsFilled (s : Pending) (byte : ℕ) (x : List ℕ) : Type 0 where
+  pub longest : length x ≡ s.high
+  pub within : (p : ℕ) → Covered s.writes p → p < length x
+  pub filled : (p : ℕ) → Covered s.writes p → slice_index x p ≡ byte
+  pub same : (p : ℕ) → Uncovered s.writes p → slice_index x p ≡ slice_index s.base p
+
+-- a crash after some call from this moment on
+abbrev pub LeftSince : List ℕ → List Call → Moment → List ℕ → Type 0
+LeftSince start calls (At n) x = (k : ℕ) × (n ≤ k) × (k ≤ length calls) × IsImage (state_of (fresh start) (take k calls)).pending x
+LeftSince start calls (Both a b) x = ⊥
+
+-- a crash now
+abbrev pub LeftNow : List ℕ → List Call → List ℕ → Type 0
+LeftNow start calls = LeftSince start calls (At (length calls))

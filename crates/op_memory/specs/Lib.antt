@@ -1,0 +1,4 @@
+pub mod Images
+pub mod MemDisks
+pub mod Syncs
+pub mod Tied
