@@ -6,6 +6,8 @@ mod appends;
 #[cfg(test)]
 mod areas;
 #[cfg(test)]
+mod calls;
+#[cfg(test)]
 mod damage;
 #[cfg(test)]
 mod silent;

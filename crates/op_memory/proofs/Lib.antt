@@ -4,4 +4,5 @@ pub mod Images
 pub mod Left
 pub mod Moments
 pub mod Pending
+pub mod Stopping
 pub mod Wholes

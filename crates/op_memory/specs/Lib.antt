@@ -1,4 +1,5 @@
 pub mod Images
 pub mod MemDisks
+pub mod Plans
 pub mod Syncs
 pub mod Tied

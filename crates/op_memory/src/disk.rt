@@ -21,6 +21,8 @@ pub struct MemDisk {
 }
 
 impl MemDisk {
+    ghost use Rattle.std.specs.Prelude.{None, false, OnOk};
+    ghost use Rattle.op_memory.specs.Plans.{IsPlan, Stays, FailsAt, StopsAt};
     ghost use Rattle.op_memory.specs.Images.{fresh, IsFilled};
     ghost use Rattle.op_memory.specs.MemDisks.{disk_state};
 
@@ -29,6 +31,7 @@ impl MemDisk {
         ensures state { IfOk result (λ d. disk_state d ≡ fresh bytes.items) }
         ensures seen { IfOk result (λ d. ⟦<MemDisk as Disk>⟧.seen d ≡ bytes.items) }
         ensures count { IfOk result (λ d. ⟦<MemDisk as Disk>⟧.count d ≡ 0) }
+        ensures plan { IfOk result (λ d. IsPlan 0 [] None false d.plan) }
     {
         let start = bytes.to_vec(alloc)?;
         Ok(MemDisk {
@@ -53,7 +56,9 @@ impl MemDisk {
     }
 
     /// A call found no memory, or would have ended past 2^62.
-    pub fn is_starved(&self) -> bool {
+    pub fn is_starved(&self) -> bool
+        ensures { result ≡ self.now.tally.is_starved }
+    {
         self.tally.is_starved
     }
 
@@ -63,6 +68,7 @@ impl MemDisk {
         ensures moment { ⟦<MemDisk as Disk>⟧.moment self.new ≡ ⟦<MemDisk as Disk>⟧.moment self.old }
         ensures left { (t : Moment) (x : List ℕ) → ⟦<MemDisk as Disk>⟧.left_since self.new t x ↔ ⟦<MemDisk as Disk>⟧.left_since self.old t x }
         ensures count { ⟦<MemDisk as Disk>⟧.count self.new ≡ ⟦<MemDisk as Disk>⟧.count self.old }
+        ensures plan { OnOk result (FailsAt call self.old.plan self.new.plan) }
     {
         self.plan.fail_at(call)
     }
@@ -74,6 +80,7 @@ impl MemDisk {
         ensures moment { ⟦<MemDisk as Disk>⟧.moment self.new ≡ ⟦<MemDisk as Disk>⟧.moment self.old }
         ensures left { (t : Moment) (x : List ℕ) → ⟦<MemDisk as Disk>⟧.left_since self.new t x ↔ ⟦<MemDisk as Disk>⟧.left_since self.old t x }
         ensures count { ⟦<MemDisk as Disk>⟧.count self.new ≡ ⟦<MemDisk as Disk>⟧.count self.old }
+        ensures plan { StopsAt call self.old.plan self.new.plan }
     {
         self.plan.stop_at(call);
     }
@@ -99,6 +106,7 @@ impl MemDisk {
         ensures state { IfOk result (λ d. disk_state d ≡ disk_state self) }
         ensures seen { IfOk result (λ d. ⟦<MemDisk as Disk>⟧.seen d ≡ ⟦<MemDisk as Disk>⟧.seen self) }
         ensures count { IfOk result (λ d. ⟦<MemDisk as Disk>⟧.count d ≡ ⟦<MemDisk as Disk>⟧.count self) }
+        ensures plan { IfOk result (λ d. Stays self.plan d.plan) }
     {
         let MemDisk {
             alloc,
@@ -121,6 +129,8 @@ impl Disk for MemDisk {
     ghost use Rattle.op_outside.specs.Causes.{HasCause};
     ghost use Rattle.op_outside.specs.Disks.{Holds, Torn, Shorter, After, Follows, Only, Elapses};
     ghost use Rattle.op_memory.specs.Images.{State, fresh, wrote, stopped_in_write, cut_to, stopped_in_cut};
+    ghost use Rattle.op_memory.specs.Plans.{next_fate, Goes};
+    ghost use Rattle.op_memory.specs.declared.plan.Fate.TheVariants.{Runs};
     ghost use Rattle.op_memory.specs.MemDisks.{disk_state, seen_of, moment_of, left_of, left_now, count_of, Fails};
 
     ghost follows = { λ _. Unit {0} };
@@ -149,11 +159,15 @@ impl Disk for MemDisk {
         ensures cause { HasCause (count_of self.old) (count_of self.new) result }
 
         ensures state { disk_state self.new ≡ disk_state self.old }
-        ensures err { OnErr result (Fails self.old self.new (λ s. s)) }
+        ensures plan { Goes self.old.plan self.new.plan }
+        ensures runs { OnOk result (next_fate self.old.plan ≡ Runs) }
+        ensures err { OnErr result (Fails self.old self.new (2 ^ 62 < length (seen_of self.old)) (λ s. s)) }
     {
-        let fate = self.plan.next_fate();
+        if self.plan.next_fate() != Fate::Runs {
+            return Err(self.tally.fail());
+        }
         let len = self.kept.bytes.len() as u64;
-        if fate != Fate::Runs || len > LIMIT {
+        if len > LIMIT {
             return Err(self.tally.fail());
         }
         Ok(len)
@@ -168,11 +182,15 @@ impl Disk for MemDisk {
         ensures cause { HasCause (count_of self.old) (count_of self.new) result }
 
         ensures state { disk_state self.new ≡ disk_state self.old }
-        ensures err { OnErr result (Fails self.old self.new (λ s. s)) }
+        ensures plan { Goes self.old.plan self.new.plan }
+        ensures runs { OnOk result (next_fate self.old.plan ≡ Runs) }
+        ensures err { OnErr result (Fails self.old self.new (length (seen_of self.old) < at + length buf.old) (λ s. s)) }
     {
-        let fate = self.plan.next_fate();
+        if self.plan.next_fate() != Fate::Runs {
+            return Err(self.tally.fail());
+        }
         let len = self.kept.bytes.len() as u64;
-        if fate != Fate::Runs || at > len || buf.len() as u64 > len - at {
+        if at > len || buf.len() as u64 > len - at {
             return Err(self.tally.fail());
         }
         let from = at as usize;
@@ -190,10 +208,15 @@ impl Disk for MemDisk {
         ensures cause { HasCause (count_of self.old) (count_of self.new) result }
 
         ensures state { OnOk result (disk_state self.new ≡ wrote at bytes.now (disk_state self.old)) }
-        ensures err { OnErr result (Fails self.old self.new (stopped_in_write at bytes.now)) }
+        ensures plan { Goes self.old.plan self.new.plan }
+        ensures runs { OnOk result (next_fate self.old.plan ≡ Runs) }
+        ensures err { OnErr result (Fails self.old self.new (length (seen_of self.old) < at) (stopped_in_write at bytes.now)) }
     {
         let fate = self.plan.next_fate();
-        if at > self.kept.bytes.len() as u64 || fate == Fate::Fails {
+        if fate == Fate::Fails {
+            return Err(self.tally.fail());
+        }
+        if at > self.kept.bytes.len() as u64 {
             return Err(self.tally.fail());
         }
         if at > LIMIT || bytes.len() as u64 > LIMIT - at {
@@ -215,10 +238,15 @@ impl Disk for MemDisk {
         ensures cause { HasCause (count_of self.old) (count_of self.new) result }
 
         ensures state { OnOk result (disk_state self.new ≡ cut_to len (disk_state self.old)) }
-        ensures err { OnErr result (Fails self.old self.new (stopped_in_cut len)) }
+        ensures plan { Goes self.old.plan self.new.plan }
+        ensures runs { OnOk result (next_fate self.old.plan ≡ Runs) }
+        ensures err { OnErr result (Fails self.old self.new (length (seen_of self.old) < len) (stopped_in_cut len)) }
     {
         let fate = self.plan.next_fate();
-        if len > self.kept.bytes.len() as u64 || fate == Fate::Fails {
+        if fate == Fate::Fails {
+            return Err(self.tally.fail());
+        }
+        if len > self.kept.bytes.len() as u64 {
             return Err(self.tally.fail());
         }
         if fate == Fate::Stops {
@@ -238,7 +266,9 @@ impl Disk for MemDisk {
         ensures cause { HasCause (count_of self.old) (count_of self.new) result }
 
         ensures state { OnOk result (disk_state self.new ≡ fresh (seen_of self.old)) }
-        ensures err { OnErr result (Fails self.old self.new (λ s. s)) }
+        ensures plan { Goes self.old.plan self.new.plan }
+        ensures runs { OnOk result (next_fate self.old.plan ≡ Runs) }
+        ensures err { OnErr result (Fails self.old self.new ⊥ (λ s. s)) }
     {
         if self.plan.next_fate() != Fate::Runs {
             return Err(self.tally.fail());

@@ -30,6 +30,12 @@ impl MemSink {
 }
 
 impl Sink for MemSink {
+    ghost use Rattle.std.specs.Prelude.{◌≤◌, length, IfOk, OnOk};
+    ghost use Rattle.std.specs.Io.KnownBytes.{WriteAppends};
+    ghost use Rattle.op_outside.specs.Causes.{HasCause};
+    ghost use Rattle.op_memory.specs.Plans.{next_fate, Goes};
+    ghost use Rattle.op_memory.specs.declared.plan.Fate.TheVariants.{Runs};
+
     ghost held = { λ s. Some s.bytes.items };
 
     ghost fault_count = { λ s. s.faults };
@@ -38,7 +44,16 @@ impl Sink for MemSink {
         self.faults
     }
 
-    fn write(&mut self, piece: &[u8]) -> Result<usize, WriteFail> {
+    fn write(&mut self, piece: &[u8]) -> Result<usize, WriteFail>
+        requires { 0 < length piece.now }
+        ensures some { IfOk result (λ n. 0 < n) }
+        ensures bound { IfOk result (λ n. n ≤ length piece.now) }
+        ensures bytes { WriteAppends (Some self.old.bytes.items) (Some self.new.bytes.items) result piece.now }
+        ensures cause { HasCause self.old.faults self.new.faults result }
+
+        ensures plan { Goes self.old.plan self.new.plan }
+        ensures runs { OnOk result (next_fate self.old.plan ≡ Runs) }
+    {
         if self.plan.next_fate() != Fate::Runs {
             self.faults = self.faults.saturating_add(1);
             return Err(WriteFail);

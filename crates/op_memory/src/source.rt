@@ -33,6 +33,12 @@ impl MemSource {
 }
 
 impl Source for MemSource {
+    ghost use Rattle.std.specs.Prelude.{◌≢◌, length, IfOk, OnOk, OnErr};
+    ghost use Rattle.std.specs.Io.KnownBytes.{ReadConsumes};
+    ghost use Rattle.op_outside.specs.Causes.{HasCause};
+    ghost use Rattle.op_memory.specs.Plans.{next_fate, Goes};
+    ghost use Rattle.op_memory.specs.declared.plan.Fate.TheVariants.{Runs};
+
     ghost left = { λ s. Some (drop s.at s.bytes.items) };
 
     ghost fault_count = { λ s. s.faults };
@@ -41,7 +47,16 @@ impl Source for MemSource {
         self.faults
     }
 
-    fn read(&mut self, buf: &mut [u8]) -> Result<usize, ReadFail> {
+    fn read(&mut self, buf: &mut [u8]) -> Result<usize, ReadFail>
+        requires { 0 < length buf.old }
+        ensures bound { IfOk result (λ n. n ≤ length buf.new) }
+        ensures bytes { ReadConsumes (Some (drop self.old.at self.old.bytes.items)) (Some (drop self.new.at self.new.bytes.items)) result buf.new }
+        ensures cause { HasCause self.old.faults self.new.faults result }
+
+        ensures plan { Goes self.old.plan self.new.plan }
+        ensures runs { OnOk result (next_fate self.old.plan ≡ Runs) }
+        ensures fails { OnErr result (next_fate self.old.plan ≢ Runs) }
+    {
         if self.plan.next_fate() != Fate::Runs {
             self.faults = self.faults.saturating_add(1);
             return Err(ReadFail);

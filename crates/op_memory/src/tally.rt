@@ -51,6 +51,7 @@ impl Tally {
         ensures later { self.old.count ≤ self.new.count }
         ensures rose { Rose self.old.count self.new.count }
         ensures by_one { self.new.count ≡ min (self.old.count + 1) (2 ^ 64 - 1) }
+        ensures starved { OnErr done (IsTrue self.new.is_starved) }
     {
         match done {
             Ok(()) => self.fail(),

@@ -1,5 +1,5 @@
 -- What the calls of a disk do to what it holds, and what a crash may do between two syncs.
-use Rattle.std.specs.Prelude.{◌<◌, ◌≡◌, ◌⊎◌, ℕ, ◌+◌, ◌-◌, ◌^◌, ◌≤◌, max, min, List, ◌++◌, length, take, drop, Result, IsErr, OnOk}
+use Rattle.std.specs.Prelude.{◌≡◌, ◌⊎◌, ℕ, ◌+◌, ◌≤◌, max, min, List, ◌++◌, length, take, drop}
 use Rattle.op_outside.specs.Moments.{Moment, Before}
 
 -- a write: new is old with these bytes at this place
