@@ -14,11 +14,15 @@ pub struct MemSink {
 }
 
 impl MemSink {
+    ghost use Rattle.std.specs.Prelude.{None, false};
+    ghost use Rattle.op_memory.specs.Plans.{IsPlan};
+
     /// Takes at most so many bytes a write, and fails at these writes, counted from 1, and where it finds no memory.
     pub fn new(bytes: Vec<u8>, most: usize, fails: Vec<u64>) -> MemSink
         requires { 0 < most }
         ensures held { ⟦<MemSink as Sink>⟧.held result ≡ Some bytes.items }
         ensures count { ⟦<MemSink as Sink>⟧.fault_count result ≡ 0 }
+        ensures plan { IsPlan 0 fails.items None false result.plan }
     {
         MemSink {
             bytes,

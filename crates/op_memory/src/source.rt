@@ -16,11 +16,15 @@ pub struct MemSource {
 }
 
 impl MemSource {
+    ghost use Rattle.std.specs.Prelude.{None, false};
+    ghost use Rattle.op_memory.specs.Plans.{IsPlan};
+
     /// Gives at most so many bytes a read, and fails at these reads, counted from 1.
     pub fn new(bytes: Vec<u8>, most: usize, fails: Vec<u64>) -> MemSource
         requires { 0 < most }
         ensures left { ⟦<MemSource as Source>⟧.left result ≡ Some bytes.items }
         ensures count { ⟦<MemSource as Source>⟧.fault_count result ≡ 0 }
+        ensures plan { IsPlan 0 fails.items None false result.plan }
     {
         MemSource {
             bytes,
