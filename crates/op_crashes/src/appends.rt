@@ -28,17 +28,21 @@ const STOPS: [(u64, u8, usize); 16] = [
     (4, 0xA5, 2),
 ];
 
-/// Opens the area, which has so many records, and gives the place of its closed gate.
+/// Opens the area, which has these records, and gives the place of its closed gate.
 fn opened(
     rt: &(impl Abort + Alloc<A = Global>),
     disk: &mut MemDisk,
-    records: usize,
+    bodies: &[&[u8]],
 ) -> Result<u64, Fail> {
     let Found::Area(area) = Journal::open(rt.alloc(), disk)? else {
         return Ok(0);
     };
     assert_eq!(rt; area.generation, 7);
-    assert_eq!(rt; area.records.len(), records);
+    assert_eq!(rt; area.records.len(), bodies.len());
+    for (index, body) in bodies.iter().enumerate() {
+        assert!(rt; index < area.records.len());
+        assert_eq!(rt; area.records.body(index), *body);
+    }
     Ok(area.end)
 }
 
@@ -66,11 +70,20 @@ fn check_stop(
     disk.stop_at(stop);
     assert!(rt; !append(rt, &mut disk, 31, b"second")?);
     let mut disk = MemDisk::new(alloc, disk.image(image)?)?;
-    let end = opened(rt, &mut disk, records)?;
+    let (before, after) = bodies_of(records);
+    let end = opened(rt, &mut disk, before)?;
     assert!(rt; append(rt, &mut disk, end, b"third")?);
-    assert!(rt; records < 3);
-    opened(rt, &mut disk, records + 1)?;
+    opened(rt, &mut disk, after)?;
     Ok(())
+}
+
+/// The records that stand after the stop, and after one append more.
+fn bodies_of(records: usize) -> (&'static [&'static [u8]], &'static [&'static [u8]]) {
+    if records == 1 {
+        (&[b"first"], &[b"first", b"third"])
+    } else {
+        (&[b"first", b"second"], &[b"first", b"second", b"third"])
+    }
 }
 
 #[test]

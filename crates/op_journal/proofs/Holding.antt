@@ -1,9 +1,10 @@
 -- What bytes hold, from their header and the records behind it.
-use Rattle.std.proofs.Common.{◌≡◌, inr, ℕ, ◌≤◌, List, [], ◌∷◌, ◌++◌, length, drop, sym, subst, ◌∙◌, ap, arith, append_assoc, length-append, Result, Ok, Err}
+use Rattle.std.proofs.Common.{◌≡◌, inr, ℕ, ◌≤◌, ◌^◌, List, [], ◌∷◌, ◌++◌, length, drop, sym, subst, ◌∙◌, ap, arith, append_assoc, length-append, Result, Ok, Err}
 use Rattle.std.specs.Prelude.{IsErr}
 use Rattle.std.proofs.lemmas.List.{drop_at}
 use Rattle.op_journal.specs.Areas.{records_text, header, front, HasHeader, IsArea}
 use Rattle.op_journal.specs.Readings.{IsDamagedAt, IsFound}
+use Rattle.op_journal.specs.Openings.{HasRoom}
 use Rattle.op_journal.specs.Rows.{AreRecords, IsRow, BreaksFrom}
 use Rattle.op_journal.specs.Failing.{IfDamaged, IsDamagedOrNoMemory, IsDamagedOrStopped, IfFault}
 use Rattle.op_journal.specs.declared.area.Area as areas
@@ -61,6 +62,11 @@ module _ (bytes : List ℕ) (generation : ℕ) (h : HasHeader generation bytes) 
 pub area_found : (l bytes : List ℕ) (found : Found) (area : areas.Area) → l ≡ bytes → found ≡ founds.Area area → IsFound l found → IsArea area.generation area.records area.end bytes
 area_found l bytes found area same is holds =
     subst (λ (l : List ℕ). IsArea area.generation area.records area.end l) same (subst (λ (x : Found). IsFound l x) is holds)
+
+pub found_with_room : (bytes : List ℕ) (found : Found) → IsFound bytes found → length bytes ≤ 2 ^ 62 → HasRoom found
+found_with_room bytes (founds.Area a) is small =
+    omega (arith, is.place, ap length is.stands.is, length-append (front a.generation a.records) (is.stands.gate ∷ is.stands.rest))
+found_with_room bytes (founds.New closed) is small = tt
 
 pub found_undamaged : (bytes : List ℕ) (found : Found) (at : ℕ) → IsFound bytes found → IsDamagedAt bytes at → ⊥
 found_undamaged bytes (founds.Area a) at is damaged = undamaged bytes a.generation a.records at is.stands damaged

@@ -3,7 +3,7 @@ ghost use Rattle.op_outside.specs.Causes.{HasCause};
 ghost use Rattle.op_outside.specs.Disks.{LeavesOnly, Only};
 ghost use Rattle.op_journal.specs.Areas.{Stands, IsArea, IsSettled};
 ghost use Rattle.op_journal.specs.Readings.{IsReading, IsDamagedAt};
-ghost use Rattle.op_journal.specs.Openings.{IsOpened, StandForTheSame};
+ghost use Rattle.op_journal.specs.Openings.{IsOpened, HasRoom, StandForTheSame};
 ghost use Rattle.op_journal.specs.Failing.{IfDamaged, IsDamagedOrStopped, TellsFaults};
 
 use crate::area::Found;
@@ -68,6 +68,9 @@ impl Journal {
     /// Opens an area. What lies behind its closed gate is cut.
     pub fn open<D: Disk>(alloc: Global, disk: &mut D) -> Result<Found, JournalFail>
         ensures found { D.follows disk.old → IfOk result (IsOpened (D.seen disk.old) (D.seen disk.new) (D.left_since disk.new (D.moment disk.new))) }
+
+        // Of any disk: the end is one that `append` takes.
+        ensures room { IfOk result HasRoom }
 
         // Damage is told at its place, and nothing is cut or written then.
         ensures damaged { D.follows disk.old → IfDamaged result (IsDamagedAt (D.seen disk.old)) }

@@ -1,8 +1,8 @@
-use Rattle.std.proofs.Common.{List, ℕ, sym, subst, rules}
+use Rattle.std.proofs.Common.{List, ℕ, sym, subst, rules, ◌≤◌, ◌^◌, length}
 use Rattle.std.specs.Prelude.{IsErr}
 use Rattle.op_journal.specs.Readings.{IsReading, IsDamagedAt}
 use Rattle.op_journal.specs.Failing.{IfDamaged}
-use Rattle.op_journal.proofs.Holding.{area_found, found_undamaged, IfDamaged-map, told}
+use Rattle.op_journal.proofs.Holding.{area_found, found_undamaged, found_with_room, IfDamaged-map, told}
 use Rattle.op_journal.proofs.Few.{found_in, damaged_in, all_of_an_area}
 use Rattle.op_journal.proofs.Trimming.{after_read, after_trim}
 use Rattle.op_journal.specs.Areas.{IsArea}
@@ -55,3 +55,8 @@ returns-clause-crash g c f =
       | in-Area+else-area-len w ↦ rw w.disk-is quiet
       | in_default w ↦ rw w.disk-is quiet
     ]
+
+pub returns-clause-room : goal.returns-clause-room
+returns-clause-room g c =
+    let small : length c.deref.result.now ≤ 2 ^ 62 = rw c.deref.ensures.value c.in_ok-bytes.ensures.small in
+    found_with_room c.deref.result.now c.in_ok-found.found c.in_ok-found.ensures.found small
