@@ -11,7 +11,7 @@ use Rattle.op_fields.specs.declared.fail.TakeFail.{TakeFail}
 use Rattle.op_fields.specs.declared.fail.TakeFail.TheVariants as fails
 use Rattle.op_fields.specs.Taken.{Gives, IfBad, IsCountedAt}
 use Rattle.op_fields.specs.Reads.{IsBytes, IsFieldWidth, limit_of, Took, Reads, ReadsWhole}
-use Rattle.op_fields.specs.Form.{Read, ◌>>=◌, spelled, Form, number_read, number, counted, pair, shaped, tested, Items, items_read, listed, optional_tag, optional_body, optional_fits, optional, Options, option, no_option, choice, whole}
+use Rattle.op_fields.specs.Form.{Read, ◌>>=◌, spelled, Form, number_read, number, counted, pair, shaped, fitted, tested, Items, items_read, listed, optional_tag, optional_body, optional_fits, optional, Options, option, no_option, choice, whole}
 
 pub IsBytes-drop : (n : ℕ) (bytes : List ℕ) → IsBytes bytes → IsBytes (drop n bytes)
 IsBytes-drop n bytes h i = rw get_or-drop (h (n + i))
@@ -191,6 +191,24 @@ module _ (w : Width) (limit : ℕ) (wide : IsWide w limit) (low high : ℕ) wher
         rw (r1, le-ltb (length bytes) (mid + length a) c.0, r2) (ap (λ (n : ℕ). Ok (a, n)) (omega (arith, length-append (spelled w (length a)) a)));
   }
 
+-- a number that was read is in its range
+pub number_within : (w : Width) (low high : ℕ) (bytes : List ℕ) (at : ℕ) (x : ℕ × ℕ) → number_read w low high bytes at ≡ Ok x → (low ≤ x.0) × (x.0 ≤ high)
+number_within w low high bytes at x e =
+    let n : ℕ = from_be_bytes w (take (byte_len w) (drop at bytes)) in
+    let g0 = guard (ltb (length bytes) (at + byte_len w)) at (cond (ltb n low) (Err at) (cond (ltb high n) (Err at) (Ok (n, at + byte_len w)))) x e in
+    let g1 = guard (ltb n low) at (cond (ltb high n) (Err at) (Ok (n, at + byte_len w))) x g0.1 in
+    let g2 = guard (ltb high n) at (Ok (n, at + byte_len w)) x g1.1 in
+    subst (λ (y : ℕ × ℕ). (low ≤ y.0) × (y.0 ≤ high)) (ok_is (n, at + byte_len w) x g2.1) (ltb-false _ _ g1.0, ltb-false _ _ g2.0)
+
+-- as many items are read as were asked for
+pub items_count : {A : Type 0} (f : ℕ → Form A) (key : A → ℕ) (n low : ℕ) (bytes : List ℕ) (at : ℕ) (x : List A × ℕ) → items_read f key n low bytes at ≡ Ok x → length x.0 ≡ n
+unfolding items_read
+items_count {A = A} f key zero low bytes at x e = subst (λ (y : List A × ℕ). length y.0 ≡ 0) (ok_is ([], at) x e) refl
+items_count {A = A} f key (suc n) low bytes at x e =
+    let p = bind_ok ((f low).read bytes at) (λ x. items_read f key n (key x.0) bytes x.1 >>= λ xs. Ok (x.0 ∷ xs.0, xs.1)) x e in
+    let q = bind_ok (items_read f key n (key p.0.0) bytes p.0.1) (λ xs. Ok (p.0.0 ∷ xs.0, xs.1)) x p.2 in
+    subst (λ (y : List A × ℕ). length y.0 ≡ suc n) (ok_is (p.0.0 ∷ q.0.0, q.0.1) x q.2) (ap suc (items_count f key n (key p.0.0) bytes p.0.1 q.0 q.1))
+
 -- ---- what formats are made of
 
 pub pair-reads : {A B : Type 0} (f : Form A) (g : A → Form B) → Reads f → ((a : A) → f.fits a → Reads (g a)) → Reads (pair f g)
@@ -222,6 +240,21 @@ shaped-reads {A = A} {B = B} to from f rf back forth = record {
   again = λ bytes at b rest fits le e.
       ap (λ (r : Read A). r >>= λ a. Ok (to a.0, a.1)) (rf.again bytes at (from b) rest fits le e)
       ∙ ap (λ (c : B). Ok (c, at + length (f.text (from b)))) (forth b);
+}
+
+pub fitted-reads : {A B : Type 0} (to : A → B) (from : B → A) (fits : B → Type 0) (f : Form A) → Reads f
+    → ((a : A) → f.fits a → (from (to a) ≡ a) × fits (to a)) → ((b : B) → fits b → f.fits (from b) × (to (from b) ≡ b)) → Reads (fitted to from fits f)
+fitted-reads {A = A} {B = B} to from fits f rf back forth = record {
+  takes = λ bytes at x h le e.
+      let p = bind_ok (f.read bytes at) (λ a. Ok (to a.0, a.1)) x e in
+      let s = rf.takes bytes at p.0 h le p.1 in
+      let k = back p.0.0 s.1 in
+      subst (λ (y : B × ℕ). Took bytes at (f.text (from y.0)) y.1 × fits y.0) (ok_is (to p.0.0, p.0.1) x p.2)
+      (subst (λ (a : A). Took bytes at (f.text a) p.0.1) (sym k.0) s.0, k.1);
+  again = λ bytes at b rest h le e.
+      let k = forth b h in
+      ap (λ (r : Read A). r >>= λ a. Ok (to a.0, a.1)) (rf.again bytes at (from b) rest k.0 le e)
+      ∙ ap (λ (c : B). Ok (c, at + length (f.text (from b)))) k.1;
 }
 
 pub tested-reads : {A : Type 0} (test : A → Bool) (f : Form A) → Reads f → Reads (tested test f)
@@ -356,7 +389,7 @@ module _ {B : Type 0} (tag_of : B → ℕ) (body : B → List ℕ) (fits : B →
   OptionsAgain options = (b : B) (bytes : List ℕ) (at : ℕ) (rest : List ℕ) → fits b → at ≤ length bytes → drop at bytes ≡ body b ++ rest
       → options (tag_of b) bytes at ≡ Ok (b, at + length (body b))
 
-  pub choice-reads : (high : ℕ) (options : Options B) → high < 2 ^ 8 → ((b : B) → (1 ≤ tag_of b) × (tag_of b ≤ high)) → OptionsTake options → OptionsAgain options
+  pub choice-reads : (high : ℕ) (options : Options B) → high < 2 ^ 8 → ((b : B) → fits b → (1 ≤ tag_of b) × (tag_of b ≤ high)) → OptionsTake options → OptionsAgain options
       → Reads (choice high tag_of body fits options)
   choice-reads high options top tags take_one again_one = record {
     takes = λ bytes at x h le e.
@@ -368,7 +401,7 @@ module _ {B : Type 0} (tag_of : B → ℕ) (body : B → List ℕ) (fits : B →
     again = λ bytes at b rest h le e.
         let e1 : drop at bytes ≡ spelled w8 (tag_of b) ++ (body b ++ rest) = e ∙ append_assoc (spelled w8 (tag_of b)) (body b) rest in
         let g = behind bytes at (spelled w8 (tag_of b)) (body b ++ rest) le e1 in
-        let r1 = (number-reads w8 (2 ^ 8) wide8 1 high top).again bytes at (tag_of b) (body b ++ rest) (tags b) le e1 in
+        let r1 = (number-reads w8 (2 ^ 8) wide8 1 high top).again bytes at (tag_of b) (body b ++ rest) (tags b h) le e1 in
         let r2 = again_one b bytes (at + length (spelled w8 (tag_of b))) rest h g.0 g.1 in
         ap (λ (r : Read ℕ). r >>= λ t. options t.0 bytes t.1) r1
         ∙ r2 ∙ ap (λ (n : ℕ). Ok (b, n)) (omega (arith, length-append (spelled w8 (tag_of b)) (body b)));
@@ -458,3 +491,8 @@ each_fits {A = A} f key low (x ∷ xs) fits = fit (each_fits f key (key x) xs fi
     fit : All (λ x. f.fits x) xs → (k : ℕ) (d : A) → k < suc (length xs) → f.fits (get_or (x ∷ xs) k d)
     fit rest zero d lt = fits.0
     fit rest (suc k) d lt = rest k d (omega arith)
+
+-- and the other way round
+pub all_fit : {A : Type 0} (f : Form A) (key : A → ℕ) (low : ℕ) (xs : List A) → All (λ x. f.fits x) xs → Items (λ _. f) key low xs
+all_fit f key low [] fits = tt
+all_fit f key low (x ∷ xs) fits = (fits zero x (omega arith), all_fit f key (key x) xs (λ k d lt. fits (suc k) d (omega arith)))

@@ -69,6 +69,14 @@ shaped to from f = record {
   read = λ bytes at. f.read bytes at >>= λ a. Ok (to a.0, a.1);
 }
 
+-- the same under another type, where this says which have a spelling
+abbrev pub fitted : {A B : Type 0} → (A → B) → (B → A) → (B → Type 0) → Form A → Form B
+fitted to from fits f = record {
+  text = λ b. f.text (from b);
+  fits = fits;
+  read = λ bytes at. f.read bytes at >>= λ a. Ok (to a.0, a.1);
+}
+
 -- those that pass a test; one that doesn't is a fault at its first byte
 abbrev pub tested : {A : Type 0} → (A → Bool) → Form A → Form A
 tested test f = record {

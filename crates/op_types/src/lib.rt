@@ -2,6 +2,7 @@
 #![tactic(auto)]
 
 mod answers;
+mod applying;
 mod ballot;
 mod blob;
 mod changes;
@@ -10,18 +11,21 @@ mod events;
 mod log;
 mod memory;
 mod messages;
+mod roomy;
 mod seq;
 mod volatile;
 
 pub use answers::{Answer, Applied, Outcome, Refusal, Reply};
+pub use applying::room_then_adopt;
 pub use ballot::{Ballot, ballots_are_ordered};
 pub use blob::Blob;
-pub use changes::Change;
+pub use changes::{Batch, Change};
 pub use durable::{Closed, Durable, Part};
 pub use events::{Event, What};
 pub use log::{Command, Entry, Op, StopSign};
 pub use memory::NoMemory;
 pub use messages::{Body, Heard, Msg};
+pub use roomy::Roomy;
 pub use seq::Seq;
 pub use volatile::{Leading, Role, Volatile};
 
