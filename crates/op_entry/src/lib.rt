@@ -1,0 +1,16 @@
+//! Ballots, members and entries as bytes: each is written at the end, and read from a place on.
+#![tactic(auto)]
+
+mod ballot;
+mod command;
+mod entry;
+mod laws;
+mod members;
+#[cfg(test)]
+mod tests;
+
+pub use ballot::{ballot_at, put_ballot};
+pub use command::blob_of;
+pub use entry::{entries_at, entries_within_at, entry_at, put, put_entries, take};
+pub use laws::one_spelling;
+pub use members::{members_at, put_members};

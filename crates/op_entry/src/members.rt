@@ -1,0 +1,60 @@
+ghost use Rattle.std.specs.Prelude.{◌≡◌, ◌++◌, OnOk};
+ghost use Rattle.op_fields.specs.Form.{items_read};
+ghost use Rattle.op_fields.specs.Taken.{Gives, GivesVec};
+ghost use Rattle.op_entry.specs.Forms.{member, members};
+
+use op_fields::{NoMemory, TakeFail, put_u8, put_u32, u8_in, u32_in};
+use op_types::{Members, Pid, Seq};
+use std::alloc::Global;
+
+/// Writes members at the end.
+pub fn put_members(out: &mut Vec<u8>, ids: &Members) -> Result<(), NoMemory>
+    requires { members.fits ids.now }
+    ensures { OnOk result (out.new.items ≡ out.old.items ++ members.text ids.now) }
+{
+    put_u8(out, ids.len() as u8)?;
+    'ids: for id in ids.as_slice() {
+        put_u32(out, *id)?;
+    }
+    Ok(())
+}
+
+/// The members at a place, and the place behind them.
+pub fn members_at(alloc: Global, bytes: &[u8], at: usize) -> Result<(Members, usize), TakeFail>
+    ensures { Gives result (members.read bytes.now at) }
+{
+    let (count, at) = u8_in(bytes, at, 1, 9)?;
+    let (ids, at) = ids_at(alloc, count, bytes, at)?;
+    Ok((Seq::from_vec(ids), at))
+}
+
+fn ids_at(
+    alloc: Global,
+    count: u8,
+    bytes: &[u8],
+    first: usize,
+) -> Result<(Vec<Pid>, usize), TakeFail>
+    ensures { GivesVec result (items_read member (λ n. n) count 0 bytes.now first) }
+{
+    let mut ids = Vec::new(alloc);
+    let mut low = 0;
+    let mut at = first;
+    'ids: for _ in 0..count {
+        let (id, next) = member_at(bytes, at, low)?;
+        ids.push(id)?;
+        low = id;
+        at = next;
+    }
+    Ok((ids, at))
+}
+
+fn member_at(bytes: &[u8], at: usize, low: Pid) -> Result<(Pid, usize), TakeFail>
+    ensures { Gives result ((member low).read bytes.now at) }
+{
+    let (id, next) = u32_in(bytes, at, 1, 999)?;
+    if low < id {
+        Ok((id, next))
+    } else {
+        Err(TakeFail::Bad { at })
+    }
+}

@@ -1,0 +1,13 @@
+//! Bodies of records as bytes: a whole durable state, or the batch of a step.
+#![tactic(auto)]
+
+mod batch;
+mod body;
+mod durable;
+mod laws;
+mod part;
+#[cfg(test)]
+mod tests;
+
+pub use body::{Rec, put, take};
+pub use laws::one_record;
