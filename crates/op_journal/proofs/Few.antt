@@ -7,10 +7,10 @@ use Rattle.op_journal.specs.declared.area.Found.{Found}
 use Rattle.op_journal.specs.declared.area.Found.TheVariants as founds
 use Rattle.op_journal.proofs.Headers.{length-header}
 
-no_header_in_few : (bytes : List ℕ) (generation : ℕ) → length bytes ≤ 1 → HasHeader generation bytes → ⊥
+pub no_header_in_few : (bytes : List ℕ) (generation : ℕ) → length bytes ≤ 1 → HasHeader generation bytes → ⊥
 no_header_in_few bytes generation few h = omega (arith, ap length h.is, length-append (header generation) (165 ∷ h.rest), length-header generation)
 
-no_area_in_nothing : (generation : ℕ) (bodies : List (List ℕ)) (end : ℕ) → IsArea generation bodies end [] → ⊥
+pub no_area_in_nothing : (generation : ℕ) (bodies : List (List ℕ)) (end : ℕ) → IsArea generation bodies end [] → ⊥
 no_area_in_nothing generation bodies end o = omega (arith, ap length o.stands.is, length-append (front generation bodies) (o.stands.gate ∷ o.stands.rest))
 
 no_damage_in_few : (bytes : List ℕ) (at : ℕ) → length bytes ≤ 1 → IsDamagedAt bytes at → ⊥

@@ -16,7 +16,7 @@ use Rattle.op_journal.proofs.Headers.{length-header}
 use Rattle.op_journal.proofs.OneReading.{one_place, undamaged, new_or_damaged}
 
 module _ (bytes : List ℕ) (generation : ℕ) (h : HasHeader generation bytes) where
-  behind_header : drop 17 bytes ≡ 165 ∷ h.rest
+  pub behind_header : drop 17 bytes ≡ 165 ∷ h.rest
   behind_header = ap (λ (l : List ℕ). drop 17 l) h.is ∙ drop_at (header generation) (165 ∷ h.rest) 17 (length-header generation)
 
   parts : (bodies : List (List ℕ)) (end : ℕ) → AreRecords bytes 17 bodies end → bytes ≡ front generation bodies ++ drop end bytes

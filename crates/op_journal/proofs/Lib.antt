@@ -9,3 +9,4 @@ pub mod OneReading
 pub mod Layouts
 pub mod Holding
 pub mod Few
+pub mod Beginning

@@ -28,10 +28,10 @@ module _ (b c r s : List ℕ) (fb : length b < 2 ^ 64) (fc : length c < 2 ^ 64) 
   behind : b ++ r ≡ c ++ s
   behind = same_back 8 (spelled w64 (length b)) (spelled w64 (length c)) (b ++ r) (c ++ s) (wide64.len (length b)) (wide64.len (length c)) split
 
-  same_body : b ≡ c
+  pub same_body : b ≡ c
   same_body = same_front (length c) b c r s widths refl behind
 
-  same_rest : r ≡ s
+  pub same_rest : r ≡ s
   same_rest = same_back (length c) b c r s widths refl behind
 
 -- no record is read here
@@ -130,7 +130,7 @@ one_new bytes false true p q = absurd (omega (arith, p, q.0))
 one_new bytes true false p q = absurd (omega (arith, p.0, q))
 one_new bytes true true p q = refl
 
-no_new : (bytes : List ℕ) (closed : Bool) → IsNew bytes closed → 2 ≤ length bytes → get_or bytes 0 0 ≡ 165 → ⊥
+pub no_new : (bytes : List ℕ) (closed : Bool) → IsNew bytes closed → 2 ≤ length bytes → get_or bytes 0 0 ≡ 165 → ⊥
 no_new bytes false new long is = absurd (omega (arith, new, long))
 no_new bytes true new long is = new.1 is
 

@@ -9,7 +9,7 @@ use Rattle.op_fields.specs.Taken.{number_at, IsCountedAt}
 use Rattle.op_fields.proofs.Formats.{wide64, IsBytes-take, IsBytes-drop}
 use Rattle.op_journal.specs.Areas.{record_text, records_text}
 use Rattle.op_journal.specs.Readings.{IsBroken}
-use Rattle.op_journal.specs.Rows.{AreRecords, IsClosed}
+use Rattle.op_journal.specs.Rows.{AreRecords, IsClosed, IsRecordAt}
 use Rattle.op_journal.proofs.Written.{records-push}
 
 pub none_yet : (bytes : List ℕ) (from : ℕ) → from ≤ length bytes → AreRecords bytes from [] from
@@ -63,20 +63,24 @@ module _ (bytes : List ℕ) (at : ℕ) (below : at < length bytes) where
           ∙ ap (λ (l : List ℕ). spelled w64 n ++ l) (drop-drop 8 (at + 1) bytes ∙ tail)
           ∙ sym (append_assoc (spelled w64 n) body (drop (at + (9 + n)) bytes)))
 
-      one : (k : ℕ) (d : List ℕ) → k < 1 → length (get_or (body ∷ []) k d) < 2 ^ 64
-      one zero d lt = fit
-      one (suc k) d lt = absurd (omega arith)
+      pub is_record : IsRecordAt bytes at body
+      is_record = record { fit = fit; split = record_there; within = let whole : at + 1 + 8 + length body ≤ length bytes = counted.within in omega (arith, whole) }
 
-      pub one_more : (from : ℕ) (bodies : List (List ℕ)) → AreRecords bytes from bodies at → AreRecords bytes from (bodies ++ body ∷ []) (at + (9 + length body))
-      one_more from bodies so_far =
-          let next : ℕ = at + (9 + length body) in
-          let whole : at + 1 + 8 + length body ≤ length bytes = counted.within in
-          let split : drop from bytes ≡ records_text (bodies ++ body ∷ []) ++ drop next bytes =
-          so_far.split ∙ ap (λ (l : List ℕ). records_text bodies ++ l) record_there ∙ sym (records-push bodies body (drop next bytes)) in
-          let size : length (drop from bytes) ≡ length (records_text (bodies ++ body ∷ []) ++ drop next bytes) = ap length split in
-          record {
-            split = split;
-            place = omega (arith, so_far.place, so_far.within, size, length-append (records_text (bodies ++ body ∷ [])) (drop next bytes), length-drop from bytes, length-drop next bytes);
-            within = omega (arith, whole);
-            fits = All-append (λ b. length b < 2 ^ 64) bodies (body ∷ []) so_far.fits one;
-          }
+-- one record more
+module _ (bytes : List ℕ) (at : ℕ) (body : List ℕ) (r : IsRecordAt bytes at body) where
+  one : (k : ℕ) (d : List ℕ) → k < 1 → length (get_or (body ∷ []) k d) < 2 ^ 64
+  one zero d lt = r.fit
+  one (suc k) d lt = absurd (omega arith)
+
+  pub one_more : (from : ℕ) (bodies : List (List ℕ)) → AreRecords bytes from bodies at → AreRecords bytes from (bodies ++ body ∷ []) (at + (9 + length body))
+  one_more from bodies so_far =
+      let next : ℕ = at + (9 + length body) in
+      let split : drop from bytes ≡ records_text (bodies ++ body ∷ []) ++ drop next bytes =
+      so_far.split ∙ ap (λ (l : List ℕ). records_text bodies ++ l) r.split ∙ sym (records-push bodies body (drop next bytes)) in
+      let size : length (drop from bytes) ≡ length (records_text (bodies ++ body ∷ []) ++ drop next bytes) = ap length split in
+      record {
+        split = split;
+        place = omega (arith, so_far.place, so_far.within, r.within, size, length-append (records_text (bodies ++ body ∷ [])) (drop next bytes), length-drop from bytes, length-drop next bytes);
+        within = r.within;
+        fits = All-append (λ b. length b < 2 ^ 64) bodies (body ∷ []) so_far.fits one;
+      }

@@ -1,7 +1,13 @@
 -- Records one behind the other.
 use Rattle.std.specs.Prelude.{◌≡◌, ◌≢◌, ◌≤◌, ◌<◌, ◌+◌, ◌^◌, ℕ, List, ◌∷◌, ◌++◌, length, drop, All}
-use Rattle.op_journal.specs.Areas.{records_text}
+use Rattle.op_journal.specs.Areas.{record_text, records_text}
 use Rattle.op_journal.specs.Readings.{IsBroken}
+
+-- a whole record behind an open gate, and what is behind it
+pub record IsRecordAt (bytes : List ℕ) (at : ℕ) (body : List ℕ) : Type 0 where
+  pub fit : length body < 2 ^ 64
+  pub split : drop at bytes ≡ 165 ∷ (record_text body ++ drop (at + (9 + length body)) bytes)
+  pub within : at + (9 + length body) ≤ length bytes
 
 -- records from a place to another
 pub record AreRecords (bytes : List ℕ) (from : ℕ) (bodies : List (List ℕ)) (end : ℕ) : Type 0 where

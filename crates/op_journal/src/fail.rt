@@ -11,6 +11,12 @@ pub struct DiskFault {
     pub count: u64,
 }
 
+/// The bytes are no area's from this place on.
+#[derive(Clone, Copy, Debug, PartialEq, Eq)]
+pub struct Damage {
+    pub at: u64,
+}
+
 /// Why an area was not opened.
 #[derive(Clone, Copy, Debug, PartialEq, Eq)]
 pub enum JournalFail {
@@ -25,6 +31,14 @@ impl From<DiskFault> for JournalFail {
 
     fn from(fault: DiskFault) -> JournalFail {
         JournalFail::DiskFault { count: fault.count }
+    }
+}
+
+impl From<Damage> for JournalFail {
+    ghost from_gives = { λ damage e. e ≡ fails.Damaged damage.at };
+
+    fn from(damage: Damage) -> JournalFail {
+        JournalFail::Damaged { at: damage.at }
     }
 }
 

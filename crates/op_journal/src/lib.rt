@@ -4,6 +4,7 @@
 mod append;
 mod area;
 mod fail;
+mod format;
 mod framed;
 mod journal;
 mod laws;
@@ -11,7 +12,8 @@ mod open;
 mod reading;
 
 pub use area::{Area, Found, Records};
-pub use fail::{DiskFault, JournalFail};
+pub use fail::{Damage, DiskFault, JournalFail, fault_of};
 pub use framed::Framed;
 pub use journal::Journal;
 pub use laws::one_area;
+pub use reading::Begun;
