@@ -11,3 +11,11 @@ mod calls;
 mod damage;
 #[cfg(test)]
 mod silent;
+#[cfg(test)]
+mod store_damage;
+#[cfg(test)]
+mod store_stops;
+#[cfg(test)]
+mod stored;
+#[cfg(test)]
+mod stores;

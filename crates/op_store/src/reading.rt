@@ -1,0 +1,98 @@
+//! An area's bytes are read: what its records make, one after the other.
+ghost use Rattle.std.specs.Prelude.{◌≡◌, ◌≤◌, ℕ, length, slice_index, Some, IfOk, IfSome, IfNone};
+ghost use Rattle.op_types.specs.declared.durable.Durable.{Durable};
+ghost use Rattle.op_journal.specs.Failing.{IfDamaged, IfFault, IsDamagedOrNoMemory};
+ghost use Rattle.op_store.specs.Records.{Makes};
+ghost use Rattle.op_store.specs.Readings.{IsRowFor, StopsAt, IsDamagedFrom, IsRead};
+ghost use Rattle.op_types.specs.Rooms.{room_of};
+
+use op_fields::{NoMemory, TakeFail};
+use op_journal::{Begun, Journal, JournalFail};
+use op_record::{Rec, take};
+use op_types::Durable;
+use std::alloc::Global;
+
+/// What an area's bytes hold.
+#[derive(Drop)]
+pub enum Reading {
+    /// An area of this generation, the durable state that its records make, and the place of its closed gate.
+    Area {
+        generation: u64,
+        durable: Durable,
+        end: u64,
+    },
+    /// No area: a byte at most or, where it is closed, more bytes behind a closed gate.
+    New {
+        closed: bool,
+    },
+}
+
+/// What these bytes hold. No disk fault comes.
+pub fn read(alloc: Global, bytes: &[u8]) -> Result<Reading, JournalFail>
+    ensures found { IfOk result (IsRead bytes.now) }
+    ensures damaged { IfDamaged result (IsDamagedFrom bytes.now) }
+    ensures complete { (at : ℕ) → IsDamagedFrom bytes.now at → IsDamagedOrNoMemory at result }
+    ensures no_fault { IfFault result (λ _. ⊥) }
+{
+    match Journal::begun(bytes)? {
+        Begun::New { closed } => Ok(Reading::New { closed }),
+        Begun::Area { generation } => {
+            let (durable, end) = durable_of(alloc, bytes)?;
+            Ok(Reading::Area {
+                generation,
+                durable,
+                end,
+            })
+        }
+    }
+}
+
+/// What the records behind a header make, and the place of the closed gate behind them.
+fn durable_of(alloc: Global, bytes: &[u8]) -> Result<(Durable, u64), JournalFail>
+    requires long { 18 ≤ length bytes.now }
+    requires opened { slice_index bytes.now 17 ≡ 165 }
+    ensures found { IfOk result (λ r. IsRowFor bytes.now r.1 r.0) }
+    ensures damaged { IfDamaged result (StopsAt bytes.now) }
+    ensures no_fault { IfFault result (λ _. ⊥) }
+{
+    let mut made = None;
+    let mut at = 17;
+    'records: while let Some(body) = Journal::record_at(bytes, at)? {
+        let Some(durable) = after_record(alloc, made, body)? else {
+            return Err(JournalFail::Damaged { at: at as u64 });
+        };
+        made = Some(durable);
+        at += 9 + body.len();
+    }
+    match made {
+        Some(durable) => Ok((durable, at as u64)),
+        None => unreachable!(),
+    }
+}
+
+/// What a record makes of what those before it made, or none where it makes nothing.
+fn after_record(
+    alloc: Global,
+    made: Option<Durable>,
+    body: &[u8],
+) -> Result<Option<Durable>, NoMemory>
+    requires { IfSome made (λ d. room_of d.part ≡ 0) }
+    ensures makes { IfOk result (λ o. IfSome o (λ d. Makes made body.now d)) }
+    ensures room { IfOk result (λ o. IfSome o (λ d. room_of d.part ≡ 0)) }
+    ensures none { IfOk result (λ o. IfNone o ((d : Durable) → Makes made body.now d → ⊥)) }
+{
+    let record = match take(alloc, body) {
+        Ok(record) => record,
+        Err(TakeFail::Bad { .. }) => return Ok(None),
+        Err(TakeFail::NoMemory) => return Err(NoMemory),
+    };
+    match (made, record) {
+        (None, Rec::Whole(durable)) => Ok(Some(durable)),
+        (Some(durable), Rec::Step(batch)) => match durable.after(batch) {
+            Ok(after) => Ok(after),
+            Err(_) => Err(NoMemory),
+        },
+        (None, Rec::Step(_batch)) => Ok(None),
+        (Some(_old), Rec::Whole(_whole)) => Ok(None),
+    }
+}
