@@ -6,7 +6,7 @@ use Rattle.op_types.specs.declared.ballot.Ballot.{Ballot}
 use Rattle.op_types.specs.declared.log.Command.{Command}
 use Rattle.op_types.specs.declared.log.Entry.{Entry}
 use Rattle.op_types.specs.declared.log.Entry.TheVariants as entry
-use Rattle.op_model.specs.Machine.{Machine, Propose, Choose, Learn, stop_at_end, IsSame, Leads}
+use Rattle.op_model.specs.Machine.{Machine, Propose, Choose, Learn, IsAmong, stop_at_end, IsSame, Leads}
 use Rattle.op_model.specs.Ledger.{decided_entries, machine_showing, machine_proposing}
 use Rattle.op_model.proofs.Safety.{IsAmong-push, of_conds}
 use Rattle.op_runs.specs.Sole.{sole_part, sole_durable}
@@ -50,7 +50,7 @@ no_entries me pr ac m log c list =
     append-nil _ ∙ ap (λ (es : List Entry). drop (length es - 0) (take (length log - 0) log)) here ∙ nothing_past log (length log - 0))
     (λ _. refl)
 
-pub shown-same : (me : ℕ) (pr ac : Ballot) (m : Machine) (log : List Entry) → Shows me m log → IsSame m (machine_showing m me (sole_durable (sole_part me pr ac log)))
+shown-same : (me : ℕ) (pr ac : Ballot) (m : Machine) (log : List Entry) → Shows me m log → IsSame m (machine_showing m me (sole_durable (sole_part me pr ac log)))
 shown-same me pr ac m log shows =
     record {
       lists = λ c. sym (ap (λ (es : List Entry). m.lists c ++ es) (no_entries me pr ac m log c shows.list) ∙ append-nil (m.lists c));
@@ -59,18 +59,29 @@ shown-same me pr ac m log shows =
       opened = λ q c. opened_same (eqb q me) (eqb c 1) (m.opened q c) (opened_here me m shows.opened q c);
     }
 
-pub Shows-same : (me : ℕ) (m n : Machine) (log : List Entry) → IsSame m n → Shows me m log → Shows me n log
+Shows-same : (me : ℕ) (m n : Machine) (log : List Entry) → IsSame m n → Shows me m log → Shows me n log
 Shows-same me m n log same shows =
     record { list = sym (same.lists 1) ∙ shows.list; known = sym (same.known me 1) ∙ shows.known; opened = sym (same.opened me 1) ∙ shows.opened; goes_on = shows.goes_on }
 
-pub leads_same : (m n : Machine) → IsSame m n → Leads m n
-leads_same m n same = ([], tt, same)
+-- from m, when the machine is x, the machine's steps lead to what the node shows with this log
+pub record Reaches (me : ℕ) (m x : Machine) (pr ac : Ballot) (log : List Entry) : Type 0 where
+  pub leads : Leads m (machine_showing x me (sole_durable (sole_part me pr ac log)))
+  pub shows : Shows me (machine_showing x me (sole_durable (sole_part me pr ac log))) log
 
-pub leads_proposed : (m n : Machine) (e : Entry) → IsSame (machine_proposing m 1 e) n → Leads m n
-leads_proposed m n e same = (Propose 1 e ∷ [], (tt, tt), same)
+pub Reaches-same : (me : ℕ) (pr ac : Ballot) (m : Machine) (log : List Entry) → Shows me m log → Reaches me m m pr ac log
+Reaches-same me pr ac m log shows =
+    let same = shown-same me pr ac m log shows in
+    record { leads = ([], tt, same); shows = Shows-same me m _ log same shows }
 
-pub Shows-proposed : (me : ℕ) (m : Machine) (log : List Entry) (e : Entry) → Shows me m log → Shows me (machine_proposing m 1 e) log
+Shows-proposed : (me : ℕ) (m : Machine) (log : List Entry) (e : Entry) → Shows me m log → Shows me (machine_proposing m 1 e) log
 Shows-proposed me m log e shows = record { list = shows.list; known = shows.known; opened = shows.opened; goes_on = shows.goes_on }
+
+Reaches-behind : (me : ℕ) (pr ac : Ballot) (m : Machine) (log : List Entry) (e : Entry) → Reaches me (machine_proposing m 1 e) (machine_proposing m 1 e) pr ac log → Reaches me m (machine_proposing m 1 e) pr ac log
+Reaches-behind me pr ac m log e there = record { leads = (Propose 1 e ∷ there.leads.0, (tt, there.leads.1), there.leads.2); shows = there.shows }
+
+-- the command is proposed alone
+pub Reaches-proposed : (me : ℕ) (pr ac : Ballot) (m : Machine) (log : List Entry) (e : Entry) → Shows me m log → Reaches me m (machine_proposing m 1 e) pr ac log
+Reaches-proposed me pr ac m log e shows = Reaches-behind me pr ac m log e (Reaches-same me pr ac (machine_proposing m 1 e) log (Shows-proposed me m log e shows))
 
 -- ---- one command more
 
@@ -90,14 +101,14 @@ stop_at_end-command [] c = refl
 stop_at_end-command (x ∷ []) c = refl
 stop_at_end-command (x ∷ y ∷ log) c = stop_at_end-command (y ∷ log) c
 
-pub leads_appended : (me : ℕ) (pr ac : Ballot) (m : Machine) (log : List Entry) (c : Command) → Shows me m log
-    → Leads m (machine_showing (machine_proposing m 1 (entry.Command c)) me (sole_durable (sole_part me pr ac (log ++ entry.Command c ∷ []))))
-leads_appended me pr ac m log c shows =
+leads_chosen : (me : ℕ) (pr ac : Ballot) (m : Machine) (log : List Entry) (c : Command) → IsAmong (m.proposed 1) (entry.Command c) → Shows me m log
+    → Leads m (machine_showing m me (sole_durable (sole_part me pr ac (log ++ entry.Command c ∷ []))))
+leads_chosen me pr ac m log c was shows =
     let e : Entry = entry.Command c in
     let n : ℕ = length (log ++ e ∷ []) in
     let longer : length log + 1 ≡ n = omega (arith, length-append log (e ∷ [])) in (
-      Propose 1 e ∷ Choose 1 e ∷ Learn me 1 n ∷ [],
-      (tt, ((IsAmong-push (m.proposed 1) e, ap stop_at_end shows.list ∙ shows.goes_on), ((omega (arith, longer, shows.known), omega (arith, longer, length-append (m.lists 1) (e ∷ []), ap length shows.list)), tt))),
+      Choose 1 e ∷ Learn me 1 n ∷ [],
+      ((was, ap stop_at_end shows.list ∙ shows.goes_on), ((omega (arith, longer, shows.known), omega (arith, longer, length-append (m.lists 1) (e ∷ []), ap length shows.list)), tt)),
       record {
         lists = λ k. one_entry me pr ac m log e k shows.list;
         known = λ q k. known_more (eqb q me) (eqb k 1) n (m.known q k) (λ s t. omega (arith, longer, known_here me m q k s t, shows.known));
@@ -106,9 +117,9 @@ leads_appended me pr ac m log c shows =
       },
     )
 
-pub Shows-appended : (me : ℕ) (pr ac : Ballot) (m : Machine) (log : List Entry) (c : Command) → Shows me m log
-    → Shows me (machine_showing (machine_proposing m 1 (entry.Command c)) me (sole_durable (sole_part me pr ac (log ++ entry.Command c ∷ [])))) (log ++ entry.Command c ∷ [])
-Shows-appended me pr ac m log c shows =
+Shows-chosen : (me : ℕ) (pr ac : Ballot) (m : Machine) (log : List Entry) (c : Command) → Shows me m log
+    → Shows me (machine_showing m me (sole_durable (sole_part me pr ac (log ++ entry.Command c ∷ [])))) (log ++ entry.Command c ∷ [])
+Shows-chosen me pr ac m log c shows =
     let e : Entry = entry.Command c in
     let n : ℕ = length (log ++ e ∷ []) in
     let longer : length log + 1 ≡ n = omega (arith, length-append log (e ∷ [])) in
@@ -118,3 +129,14 @@ Shows-appended me pr ac m log c shows =
       opened = sym (opened_same (eqb me me) true (m.opened me 1) (λ _ _. shows.opened)) ∙ shows.opened;
       goes_on = stop_at_end-command log c;
     }
+
+-- a command that was proposed before is chosen
+pub Reaches-chosen : (me : ℕ) (pr ac : Ballot) (m : Machine) (log : List Entry) (c : Command) → IsAmong (m.proposed 1) (entry.Command c) → Shows me m log → Reaches me m m pr ac (log ++ entry.Command c ∷ [])
+Reaches-chosen me pr ac m log c was shows = record { leads = leads_chosen me pr ac m log c was shows; shows = Shows-chosen me pr ac m log c shows }
+
+-- the command is proposed and chosen
+pub Reaches-appended : (me : ℕ) (pr ac : Ballot) (m : Machine) (log : List Entry) (c : Command) → Shows me m log → Reaches me m (machine_proposing m 1 (entry.Command c)) pr ac (log ++ entry.Command c ∷ [])
+Reaches-appended me pr ac m log c shows =
+    let e : Entry = entry.Command c in
+    let x = machine_proposing m 1 e in
+    Reaches-behind me pr ac m (log ++ e ∷ []) e (Reaches-chosen me pr ac x log c (IsAmong-push (m.proposed 1) e) (Shows-proposed me m log e shows))

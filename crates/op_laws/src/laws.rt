@@ -1,7 +1,9 @@
 ghost use Rattle.op_laws.specs.Promised.{SoleMembersDecide, SoleRunsMeet};
 
-/// Over every list of events, each done or stopped inside, a run of a sole member meets the list machine. After each event
-/// its lists are safe, its node stands, and the node's service is that of all that is decided.
+/// Over every list of happenings, a run of a sole member meets the list machine: each step is done or stopped inside, the node
+/// stops between steps, and it is opened again, where it finds what it stored before the step in which it stopped or what that
+/// step was to store. After each of them the lists are safe, the node stands, its service is that of all that is decided, and
+/// nothing that was decided is lost.
 pub fn every_run_meets()
     ensures sole { SoleRunsMeet }
 {}

@@ -1,5 +1,5 @@
 -- A run, its ledger beside it, and how it meets the list machine.
-use Rattle.std.specs.Prelude.{◌≡◌, ℕ, List, [], ◌∷◌, fold, Option, Some, None, All}
+use Rattle.std.specs.Prelude.{◌≡◌, ◌≤◌, ℕ, List, [], ◌∷◌, fold, Option, Some, None, All}
 use Rattle.op_types.specs.declared.durable.Part.{Part}
 use Rattle.op_types.specs.declared.answers.Refusal.{Refusal}
 use Rattle.op_types.specs.declared.events.What.{What}
@@ -8,7 +8,7 @@ use Rattle.op_types.specs.declared.log.Command.{Command}
 use Rattle.op_types.specs.declared.log.Entry.{Entry}
 use Rattle.op_types.specs.declared.log.Entry.TheVariants as entry
 use Rattle.op_model.specs.Machine.{Machine, first_machine, Leads}
-use Rattle.op_model.specs.Ledger.{machine_showing, machine_proposing}
+use Rattle.op_model.specs.Ledger.{decided_in, machine_showing, machine_proposing}
 use Rattle.op_model.specs.Laws.{IsSafe, OnlyGrows}
 use Rattle.op_model.specs.Service.{Service, service_of}
 use Rattle.op_model.specs.Stands.{Stands, front_of}
@@ -35,6 +35,8 @@ machine_proposing_in m c (Some p) None = machine_proposing m p.conf (entry.Comma
 abbrev pub machine_proposing_at : Machine → What → State → Machine
 machine_proposing_at m (what.Tick p) s = m
 machine_proposing_at m (what.Command p c) s = machine_proposing_in m c s.durable.part (refusal_of s.volatile s.durable.part)
+machine_proposing_at m (what.Crash p) s = m
+machine_proposing_at m (what.Start p) s = m
 
 -- at a node that is up
 abbrev pub machine_proposing_if : Standing → Machine → What → State → Machine
@@ -74,10 +76,26 @@ pub record IsSound (members : List ℕ) (t : Track) : Type 0 where
   pub stand : All (λ n. Stands members t.machine.lists n.state.durable) t.world.nodes
   pub serve : All (λ n. ServesDecided t.machine.lists n.state.durable.part n.state.service) t.world.nodes
 
--- each happening is finitely many steps of the list machine, which only add to it, and all is sound after it
+-- how much a node has decided of a configuration
+abbrev pub decided_at : Option Node → ℕ → ℕ
+decided_at None conf = 0
+decided_at (Some n) conf = decided_in n.state.durable conf
+
+-- what a node has decided of a configuration doesn't fall
+abbrev pub DecidedStays : List Node → List Node → Type 0
+DecidedStays old new = (pid conf : ℕ) → decided_at (node_at old pid) conf ≤ decided_at (node_at new pid) conf
+
+-- a happening is finitely many steps of the list machine, which only add to it; nothing decided is lost, and all is sound after it
+pub record GoesOn (members : List ℕ) (t u : Track) : Type 0 where
+  pub leads : Leads t.machine u.machine
+  pub grows : OnlyGrows t.machine u.machine
+  pub decided : DecidedStays t.world.nodes u.world.nodes
+  pub sound : IsSound members u
+
+-- each happening goes on so
 abbrev pub MeetsFrom : List ℕ → Track → List Happening → Type 0
 MeetsFrom members t [] = Unit {0}
-MeetsFrom members t (h ∷ hs) = Leads t.machine (track_with t h).machine × OnlyGrows t.machine (track_with t h).machine × IsSound members (track_with t h) × MeetsFrom members (track_with t h) hs
+MeetsFrom members t (h ∷ hs) = GoesOn members t (track_with t h) × MeetsFrom members (track_with t h) hs
 
 -- a run of these members meets the list machine, from its start on
 abbrev pub Meets : List ℕ → List Happening → Type 0

@@ -13,7 +13,7 @@ use Rattle.op_runs.specs.World.{Standing, Node, World}
 -- its part
 abbrev pub sole_part : ℕ → Ballot → Ballot → List Entry → Part
 sole_part me promised accepted log =
-    record { conf = 1; members = me ∷ []; promised = promised; accepted = accepted; base = base_bytes new_service; trimmed = 0; tail = log; decided = length log }
+    record { conf = 1; members = me ∷ []; promised = promised; accepted = accepted; base = base_bytes new_service; trimmed = 0; tail = record { items = log; room = 0 }; decided = length log }
 
 -- all that it stores
 abbrev pub sole_durable : Part → Durable
@@ -21,7 +21,7 @@ sole_durable p = record { part = Some p; closed = None }
 
 -- the service has applied the log, and nobody waits
 abbrev pub sole_state : Part → Volatile → State
-sole_state p v = record { durable = sole_durable p; volatile = v; service = service_of p.tail; waiting = [] }
+sole_state p v = record { durable = sole_durable p; volatile = v; service = service_of p.tail.items; waiting = [] }
 
 -- the one node
 abbrev pub sole_node : ℕ → Part → Volatile → Standing → Node
@@ -34,7 +34,7 @@ sole_world me p v standing messages lines = record { nodes = sole_node me p v st
 -- the log of a part
 abbrev pub log_of_part : Option Part → List Entry
 log_of_part None = []
-log_of_part (Some p) = p.tail
+log_of_part (Some p) = p.tail.items
 
 -- the first node's log
 abbrev pub log_of : List Node → List Entry

@@ -1,10 +1,8 @@
 -- A world of nodes: what happens to them, one event after the other.
-use Rattle.std.specs.Prelude.{◌==◌, ℕ, false, List, [], ◌∷◌, ◌++◌, map, Option, Some, None, if◌then◌else◌}
+use Rattle.std.specs.Prelude.{◌==◌, ℕ, Bool, false, List, [], ◌∷◌, ◌++◌, map, Option, Some, None, if◌then◌else◌}
 use Rattle.op_types.specs.Ballots.{no_ballot}
 use Rattle.op_types.specs.Changes.{durable_after}
 use Rattle.op_types.specs.declared.durable.Durable.{Durable}
-use Rattle.op_types.specs.declared.volatile.Volatile.{Volatile}
-use Rattle.op_types.specs.declared.volatile.Role.TheVariants as role
 use Rattle.op_types.specs.declared.events.What.{What}
 use Rattle.op_types.specs.declared.events.What.TheVariants as what
 use Rattle.op_types.specs.declared.events.Event.{Event}
@@ -14,6 +12,7 @@ use Rattle.op_sched.specs.declared.summary.Line.TheVariants as line
 use Rattle.op_model.specs.Service.{new_service, base_bytes}
 use Rattle.op_steps.specs.State.{State, Sent, Planned, state_after}
 use Rattle.op_steps.specs.Rows.{tick_plan, command_plan}
+use Rattle.op_steps.specs.Starting.{first_volatile, state_again}
 
 -- how a node runs: when it is down, its next opening finds what it stored before the step in which it stopped, or this
 pub data Standing : Type 0 where
@@ -37,10 +36,11 @@ pub data Fate : Type 0 where
   Done : Fate
   Stopped : Fate
 
--- an event, and what becomes of its step
+-- an event, what becomes of its step, and which state an opening finds
 pub record Happening : Type 0 where
   pub event : Event
   pub fate : Fate
+  pub finds_after : Bool  -- what the step in which the node stopped was to store
 
 -- ---- the start
 
@@ -48,13 +48,9 @@ pub record Happening : Type 0 where
 abbrev pub first_durable : List ℕ → Durable
 first_durable members =
     record {
-      part = Some (record { conf = 1; members = members; promised = no_ballot; accepted = no_ballot; base = base_bytes new_service; trimmed = 0; tail = []; decided = 0 });
+      part = Some (record { conf = 1; members = members; promised = no_ballot; accepted = no_ballot; base = base_bytes new_service; trimmed = 0; tail = record { items = []; room = 0 }; decided = 0 });
       closed = None;
     }
-
--- what a server starts with in memory
-abbrev pub first_volatile : ℕ → Volatile
-first_volatile pid = record { own = record { number = 1; pid = pid }; leader = no_ballot; floor = no_ballot; flag = false; round = 0; heard = []; role = role.Idle }
 
 -- a member at its start
 abbrev pub first_node : List ℕ → ℕ → Node
@@ -71,6 +67,8 @@ first_world members = record { nodes = map (first_node members) members; message
 abbrev pub node_of : What → ℕ
 node_of (what.Tick p) = p
 node_of (what.Command p c) = p
+node_of (what.Crash p) = p
+node_of (what.Start p) = p
 
 -- the node of this id, if there is one
 abbrev pub node_at : List Node → ℕ → Option Node
@@ -82,11 +80,6 @@ abbrev pub with_node : List Node → Node → List Node
 with_node [] m = []
 with_node (n ∷ nodes) m = if n.pid == m.pid then m ∷ nodes else n ∷ with_node nodes m
 
--- the step of a node, by what happens
-abbrev pub plan_of : Node → What → Planned
-plan_of n (what.Tick p) = tick_plan n.pid n.state n.state.durable.part
-plan_of n (what.Command p c) = command_plan n.state c
-
 -- the line of an outcome, if there is one
 abbrev pub outcome_lines : ℕ → Option Outcome → List Line
 outcome_lines at None = []
@@ -96,6 +89,10 @@ outcome_lines at (Some o) = line.Answer at o ∷ []
 abbrev pub lines_of : ℕ → ℕ → Planned → List Line
 lines_of at pid p = outcome_lines at p.outcome ++ map (λ r. line.Reply pid r.client r.seq r.answer) p.replies
 
+-- the world with this node in the place of the one of its id
+abbrev pub world_with_node : World → Node → World
+world_with_node w n = record w { nodes = with_node w.nodes n }
+
 -- the world after a node's step, by its fate
 abbrev pub world_by_fate : Fate → ℕ → World → Node → Planned → World
 world_by_fate Done at w n p =
@@ -104,21 +101,40 @@ world_by_fate Done at w n p =
       messages = w.messages ++ p.sends;
       lines = w.lines ++ lines_of at n.pid p;
     }
-world_by_fate Stopped at w n p = record w { nodes = with_node w.nodes (record n { standing = Down (durable_after n.state.durable p.batch) }) }
+world_by_fate Stopped at w n p = world_with_node w (record n { standing = Down (durable_after n.state.durable p.batch) })
 
--- what happens to a node that is up; at one that is down, or isn't there, nothing does
-abbrev pub world_by_standing : Standing → Fate → Event → World → Node → World
-world_by_standing Up f e w n = world_by_fate f e.line w n (plan_of n e.what)
-world_by_standing (Down after) f e w n = w
+-- What happens to a node that is up. A crash stops it between two steps, and a start does nothing.
+abbrev pub world_if_up : What → Fate → ℕ → World → Node → World
+world_if_up (what.Tick p) f at w n = world_by_fate f at w n (tick_plan n.pid n.state n.state.durable.part)
+world_if_up (what.Command p c) f at w n = world_by_fate f at w n (command_plan n.state c)
+world_if_up (what.Crash p) f at w n = world_with_node w (record n { standing = Down n.state.durable })
+world_if_up (what.Start p) f at w n = w
+
+-- the node opened again, unless it stops in its opening; waiting clients are lost
+abbrev pub world_opening : Fate → World → Node → Durable → World
+world_opening Done w n found = world_with_node w (record n { state = state_again n.pid found; standing = Up })
+world_opening Stopped w n found = w
+
+-- what happens to a node that is down: only a start has an effect
+abbrev pub world_if_down : What → Fate → Bool → Durable → World → Node → World
+world_if_down (what.Tick p) f finds_after after w n = w
+world_if_down (what.Command p c) f finds_after after w n = w
+world_if_down (what.Crash p) f finds_after after w n = w
+world_if_down (what.Start p) f finds_after after w n = world_opening f w n (if finds_after then after else n.state.durable)
+
+-- what happens to a node, by how it runs
+abbrev pub world_by_standing : Standing → Happening → World → Node → World
+world_by_standing Up h w n = world_if_up h.event.what h.fate h.event.line w n
+world_by_standing (Down after) h w n = world_if_down h.event.what h.fate h.finds_after after w n
 
 -- the same, where the node is there
-abbrev pub world_at_node : Option Node → Fate → Event → World → World
-world_at_node None f e w = w
-world_at_node (Some n) f e w = world_by_standing n.standing f e w n
+abbrev pub world_at_node : Option Node → Happening → World → World
+world_at_node None h w = w
+world_at_node (Some n) h w = world_by_standing n.standing h w n
 
 -- the world after one happening
 abbrev pub world_after : World → Happening → World
-world_after w h = world_at_node (node_at w.nodes (node_of h.event.what)) h.fate h.event w
+world_after w h = world_at_node (node_at w.nodes (node_of h.event.what)) h w
 
 -- the world after these happenings
 abbrev pub run_of : World → List Happening → World
@@ -127,7 +143,7 @@ run_of w (h ∷ hs) = run_of (world_after w h) hs
 
 -- every step of a replay is done
 abbrev pub done_event : Event → Happening
-done_event e = record { event = e; fate = Done }
+done_event e = record { event = e; fate = Done; finds_after = false }
 
 -- the happenings of a replay
 abbrev pub all_done : List Event → List Happening

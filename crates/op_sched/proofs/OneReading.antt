@@ -1,7 +1,10 @@
 -- A text has one reading, which is in range.
 use Rattle.std.proofs.Common.{◌≡◌, ℕ, ◌<◌, ◌^◌, ◌+◌, List, [], ◌∷◌, get_or, refl, sym, ap, ◌∙◌, arith, inl, inr}
+use Rattle.std.specs.Prelude.{codes}
 use Rattle.std.specs.Fmt.{decimal}
+use Rattle.std.proofs.lemmas.Bool.{false≢true}
 use Rattle.std.proofs.lemmas.Fmt.{decimal_injective}
+use Rattle.std.proofs.lemmas.Slice.Eq.{bytes_eq-Decides}
 use Rattle.std.proofs.lemmas.List.Elements.{All-cons}
 use Rattle.op_types.specs.declared.log.Op.{Op}
 use Rattle.op_types.specs.declared.log.Op.TheVariants.{Put}
@@ -10,7 +13,7 @@ use Rattle.op_types.specs.declared.events.What.{What}
 use Rattle.op_types.specs.declared.events.What.TheVariants as what
 use Rattle.op_types.specs.declared.events.Event.{Event}
 use Rattle.op_sched.specs.declared.schedule.Schedule.{Schedule}
-use Rattle.op_sched.specs.Grammar.{IsPid, IsWhat, IsAHeader, IsOneMember, AreInRange, AreEvents, AreMembers, AreLines, IsSchedule, IsFirstBadEvent, IsFirstBadOf, IsFirstBadLine, tick_words, op_words, what_words, lines_of}
+use Rattle.op_sched.specs.Grammar.{IsPid, IsWhat, IsAHeader, IsOneMember, AreInRange, AreEvents, AreMembers, AreLines, IsSchedule, IsFirstBadEvent, IsFirstBadOf, IsFirstBadLine, op_words, what_words, lines_of}
 
 no_bad_event : (k n : ℕ) (lines : List (List ℕ)) (events : List Event) → AreEvents k lines events → IsFirstBadEvent k lines n → ⊥
 no_bad_event k n [] events good bad = absurd bad
@@ -42,8 +45,29 @@ second (a ∷ b ∷ more) = b
 one_pid : (p q : ℕ) → IsPid p → IsPid q → decimal p ≡ decimal q → p ≡ q
 one_pid p q ip iq e = decimal_injective p q (omega arith) (omega arith) e
 
-tick_is_no_put : (p q client seq : ℕ) (op : Op) → tick_words p ≡ op_words q client seq op → ⊥
-tick_is_no_put p q client seq (Put k v) e = cc
+abbrev first : List (List ℕ) → List ℕ
+first [] = []
+first (a ∷ more) = a
+
+-- the name that begins an event's line
+abbrev name_of : What → List ℕ
+name_of (what.Tick p) = codes "tick"
+name_of (what.Command p c) = codes "put"
+name_of (what.Crash p) = codes "crash"
+name_of (what.Start p) = codes "start"
+
+named_op : (p client seq : ℕ) (op : Op) → first (op_words p client seq op) ≡ codes "put"
+named_op p client seq (Put k v) = refl
+
+named : (w : What) → first (what_words w) ≡ name_of w
+named (what.Tick p) = refl
+named (what.Command p c) = named_op p c.client c.seq c.op
+named (what.Crash p) = refl
+named (what.Start p) = refl
+
+-- two lines with different names differ
+one_name : (w v : What) → what_words w ≡ what_words v → name_of w ≡ name_of v
+one_name w v e = sym (named w) ∙ ap first e ∙ named v
 
 abbrev command : ℕ → ℕ → Op → Command
 command client seq op = record { client = client; seq = seq; op = op }
@@ -54,12 +78,13 @@ one_put p q a b m n (Put k v) (Put l w) hp hq ha hb hm hn e =
 
 one_what : (w v : What) → IsWhat w → IsWhat v → what_words w ≡ what_words v → w ≡ v
 one_what (what.Tick p) (what.Tick q) iw iv e = ap what.Tick (one_pid p q iw iv cc)
-one_what (what.Tick p) (what.Command q c) iw iv e = absurd (tick_is_no_put p q c.client c.seq c.op e)
-one_what (what.Command p c) (what.Tick q) iw iv e = absurd (tick_is_no_put q p c.client c.seq c.op (sym e))
+one_what (what.Crash p) (what.Crash q) iw iv e = ap what.Crash (one_pid p q iw iv cc)
+one_what (what.Start p) (what.Start q) iw iv e = ap what.Start (one_pid p q iw iv cc)
 one_what (what.Command p c) (what.Command q d) iw iv e =
     let same = one_put p q c.client d.client c.seq d.seq c.op d.op (omega arith) (omega arith) (omega arith) (omega arith) (omega arith) (omega arith) e in
     let here : c ≡ d = cc (ap (λ (x : ℕ). command x c.seq c.op) same.1, ap (λ (x : ℕ). command d.client x c.op) same.2, ap (λ (x : Op). command d.client d.seq x) same.3) in
     ap (λ (x : ℕ). what.Command x c) same.0 ∙ ap (what.Command q) here
+one_what w v iw iv e = absurd (false≢true ((bytes_eq-Decides (name_of w) (name_of v)).1 (one_name w v e)))
 
 abbrev event : ℕ → What → Event
 event line w = record { line = line; what = w }

@@ -56,6 +56,8 @@ IsCommand c = IsNumber c.client × IsNumber c.seq × IsOp c.op
 abbrev pub IsWhat : What → Type 0
 IsWhat (what.Tick p) = IsPid p
 IsWhat (what.Command p c) = IsPid p × IsCommand c
+IsWhat (what.Crash p) = IsPid p
+IsWhat (what.Start p) = IsPid p
 
 -- one member, in range
 abbrev pub IsOneMember : List ℕ → Type 0
@@ -67,13 +69,9 @@ AreInRange events = All (λ e. IsWhat e.what) events
 
 -- ---- spellings
 
--- the line of the members
-abbrev pub header_words : ℕ → List (List ℕ)
-header_words p = codes "members" ∷ decimal p ∷ []
-
--- a tick at a server
-abbrev pub tick_words : ℕ → List (List ℕ)
-tick_words p = codes "tick" ∷ decimal p ∷ []
+-- a name and a server
+abbrev pub node_words : List ℕ → ℕ → List (List ℕ)
+node_words name p = name ∷ decimal p ∷ []
 
 -- a client's operation at a server
 abbrev pub op_words : ℕ → ℕ → ℕ → Op → List (List ℕ)
@@ -85,8 +83,10 @@ command_words p c = op_words p c.client c.seq c.op
 
 -- what happens, in words
 abbrev pub what_words : What → List (List ℕ)
-what_words (what.Tick p) = tick_words p
+what_words (what.Tick p) = node_words (codes "tick") p
 what_words (what.Command p c) = command_words p c
+what_words (what.Crash p) = node_words (codes "crash") p
+what_words (what.Start p) = node_words (codes "start") p
 
 -- ---- the text of a schedule
 
@@ -96,7 +96,7 @@ IsEventLine line w = IsWhat w × (words_of line ≡ what_words w)
 
 -- the line names the one member
 abbrev pub IsHeader : List ℕ → ℕ → Type 0
-IsHeader line p = IsPid p × (words_of line ≡ header_words p)
+IsHeader line p = IsPid p × (words_of line ≡ node_words (codes "members") p)
 
 -- lines from the number n on, and their events
 abbrev pub AreEvents : ℕ → List (List ℕ) → List Event → Type 0

@@ -1,37 +1,22 @@
 //! The forms of lines. Each reads a line's words.
 ghost use Rattle.std.specs.Prelude.{◌≡◌, map, ℕ, IfOk, IfSome, IfNone};
 ghost use Rattle.op_types.specs.declared.log.Command.{Command};
-ghost use Rattle.op_sched.specs.Grammar.{IsPid, IsCommand, header_words, tick_words, command_words};
+ghost use Rattle.op_sched.specs.Grammar.{IsPid, IsCommand, node_words, command_words};
 
 use crate::numbers::{client_number, pid};
 use crate::words::{is_key, is_name, is_value};
 use op_types::{Blob, Command, NoMemory, Op, Pid};
 use std::alloc::Global;
 
-/// The one member, of a header.
-pub fn header(words: &[&[u8]]) -> Option<Pid>
-    ensures found { IfSome result (λ p. IsPid p × (map (λ x. x.now) words.now ≡ header_words p)) }
-    ensures none { IfNone result ((p : ℕ) → IsPid p → map (λ x. x.now) words.now ≡ header_words p → ⊥) }
+/// The server of a line that is this name and a server.
+pub fn at_server(words: &[&[u8]], name: &[u8]) -> Option<Pid>
+    ensures found { IfSome result (λ p. IsPid p × (map (λ x. x.now) words.now ≡ node_words name.now p)) }
+    ensures none { IfNone result ((p : ℕ) → IsPid p → map (λ x. x.now) words.now ≡ node_words name.now p → ⊥) }
 {
-    let [name, id] = words else {
+    let [first, id] = words else {
         return None;
     };
-    if !is_name(name, b"members") {
-        return None;
-    }
-    let id = pid(id)?;
-    Some(id)
-}
-
-/// The server of a tick.
-pub fn tick(words: &[&[u8]]) -> Option<Pid>
-    ensures found { IfSome result (λ p. IsPid p × (map (λ x. x.now) words.now ≡ tick_words p)) }
-    ensures none { IfNone result ((p : ℕ) → IsPid p → map (λ x. x.now) words.now ≡ tick_words p → ⊥) }
-{
-    let [name, id] = words else {
-        return None;
-    };
-    if !is_name(name, b"tick") {
+    if !is_name(first, name) {
         return None;
     }
     let id = pid(id)?;

@@ -2,7 +2,7 @@ ghost use Rattle.std.specs.Prelude.{IfOk, IfSome, IfNone};
 ghost use Rattle.op_sched.specs.Grammar.{lines_of, IsEventLine, IsAnEvent, IsSchedule, IsFirstBadLine, AreEvents, IsFirstBadEvent};
 ghost use Rattle.op_sched.specs.Failing.{IfBadLine};
 
-use crate::forms::{header, put, tick};
+use crate::forms::{at_server, put};
 use crate::schedule::{SchedFail, Schedule};
 use crate::words::{next_line, words};
 use op_types::{Event, Events, Members, NoMemory, What};
@@ -17,7 +17,7 @@ pub fn read(alloc: Global, text: &[u8]) -> Result<Schedule, SchedFail>
         return Err(SchedFail::BadLine { line: 1 });
     };
     let words = words(alloc, line)?;
-    let Some(id) = header(&words) else {
+    let Some(id) = at_server(&words, b"members") else {
         return Err(SchedFail::BadLine { line: 1 });
     };
     let mut members = Members::new(alloc);
@@ -56,8 +56,14 @@ fn event(alloc: Global, line: &[u8]) -> Result<Option<What>, NoMemory>
     ensures none { IfOk result (λ o. IfNone o (IsAnEvent line.now → ⊥)) }
 {
     let words = words(alloc, line)?;
-    if let Some(id) = tick(&words) {
+    if let Some(id) = at_server(&words, b"tick") {
         return Ok(Some(What::Tick(id)));
+    }
+    if let Some(id) = at_server(&words, b"crash") {
+        return Ok(Some(What::Crash(id)));
+    }
+    if let Some(id) = at_server(&words, b"start") {
+        return Ok(Some(What::Start(id)));
     }
     match put(alloc, &words)? {
         Some((id, command)) => Ok(Some(What::Command(id, command))),

@@ -2,3 +2,4 @@ pub mod Election
 pub mod State
 pub mod Serving
 pub mod Rows
+pub mod Starting

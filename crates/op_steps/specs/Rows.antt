@@ -36,7 +36,7 @@ decided_change p = if nat_lt p.decided (backed p) then change.Decided (backed p)
 
 -- the entries that are decided newly
 abbrev pub newly_decided : Part → List Entry
-newly_decided p = drop (p.decided - p.trimmed) (take (backed p - p.trimmed) p.tail)
+newly_decided p = drop (p.decided - p.trimmed) (take (backed p - p.trimmed) p.tail.items)
 
 -- ---- the tick
 
