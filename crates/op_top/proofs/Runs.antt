@@ -1,5 +1,12 @@
 -- A run of events, one after the other, and what is reported of it.
-use Rattle.std.proofs.Common.{◌≡◌, ℕ, true, false, List, [], ◌∷◌, get_or, refl, sym, ap, ◌∙◌, subst, inl, inr}
+use Rattle.std.proofs.Common.{◌≡◌, ℕ, suc, true, false, List, [], ◌∷◌, get_or, refl, sym, ap, ◌∙◌, subst, inl, inr, arith}
+use Rattle.std.specs.Prelude.{All}
+use Rattle.op_types.specs.declared.log.Op.{Op}
+use Rattle.op_types.specs.declared.log.Op.TheVariants.{Put}
+use Rattle.op_types.specs.declared.events.What.{What}
+use Rattle.op_types.specs.declared.events.What.TheVariants as what
+use Rattle.op_entry.specs.Ranges as spellings
+use Rattle.op_sched.specs.Grammar.{AreInRange, IsWhat, IsNumber, IsOp}
 use Rattle.op_types.specs.declared.events.Event.{Event}
 use Rattle.op_types.specs.declared.log.Entry.{Entry}
 use Rattle.op_sched.specs.declared.summary.Summary.{Summary}
@@ -9,7 +16,8 @@ use Rattle.op_runs.specs.Run.{Track, first_track, track_with, track_of, Meets}
 use Rattle.op_runs.specs.Summary.{summary_of}
 use Rattle.op_laws.proofs.Decides.{sole_run}
 use Rattle.op_laws.proofs.Meeting.{IsSole, sole_first, listed, sole_runs_meet}
-use Rattle.op_top.specs.Replay.{AllPresent, IsFirstAbsent, sole_summary, run_track, run_summary}
+use Rattle.op_world.specs.Worlds.{sole_summary, WhatInRange}
+use Rattle.op_top.specs.Replay.{AllPresent, IsFirstAbsent, run_track, run_summary}
 use Rattle.op_runs.specs.Sole.{log_of}
 
 world-track_of : (t : Track) (hs : List Happening) → (track_of t hs).world ≡ run_of t.world hs
@@ -30,6 +38,26 @@ summary-run me members events w sole ran =
     ∙ sole_summary-track me t (sole_run me (first_track (me ∷ [])) (all_done events) (sole_first me))
     ∙ ap (λ (ms : List ℕ). run_summary ms events) (sym sole)
 
+-- ---- ranges
+
+All-head : {X : Type 0} (P : X → Type 0) (x : X) (xs : List X) → All P (x ∷ xs) → P x
+All-head P x xs all = all 0 x (omega arith)
+
+All-tail : {X : Type 0} (P : X → Type 0) (x : X) (xs : List X) → All P (x ∷ xs) → All P xs
+All-tail P x xs all i d below = all (suc i) d (omega (arith, below))
+
+number_in_range : (n : ℕ) → IsNumber n → spellings.IsNumber n
+number_in_range n p = (p.0, omega (arith, p.1))
+
+op_in_range : (o : Op) → IsOp o → spellings.OpInRange o
+op_in_range (Put key value) ((low, high, plain), (some, few, all)) = ((low, high), few)
+
+what_in_range : (w : What) → IsWhat w → WhatInRange w
+what_in_range (what.Tick p) h = tt
+what_in_range (what.Command p c) h = record { client = number_in_range c.client h.1.0; seq = number_in_range c.seq h.1.1; op = op_in_range c.op h.1.2 }
+what_in_range (what.Crash p) h = tt
+what_in_range (what.Start p) h = tt
+
 -- ---- the events that are left
 
 -- what a run of the events that are left says of the whole run
@@ -37,13 +65,15 @@ pub record Continues (members : List ℕ) (w : World) (rest events : List Event)
   pub ran : run_of w (all_done rest) ≡ run_of (first_world members) (all_done events)
   pub present : AllPresent members rest → AllPresent members events
   pub absent : (n : ℕ) → IsFirstAbsent members rest n → IsFirstAbsent members events n
+  pub range : AreInRange rest
 
-pub continues_first : (members : List ℕ) (w : World) (rest events : List Event) → w ≡ first_world members → rest ≡ events → Continues members w rest events
-continues_first members w rest events start all =
+pub continues_first : (members : List ℕ) (w : World) (rest events : List Event) → w ≡ first_world members → rest ≡ events → AreInRange events → Continues members w rest events
+continues_first members w rest events start all range =
     record {
       ran = ap (λ (x : World). run_of x (all_done rest)) start ∙ ap (λ (es : List Event). run_of (first_world members) (all_done es)) all;
       present = λ h. subst (λ (es : List Event). AllPresent members es) all h;
       absent = λ n h. subst (λ (es : List Event). IsFirstAbsent members es n) all h;
+      range = subst (λ (es : List Event). AreInRange es) (sym all) range;
     }
 
 pub continues_next : (members : List ℕ) (w v : World) (left rest events : List Event) (e : Event) → Continues members w left events → left ≡ e ∷ rest → is_among members (node_of e.what) ≡ true → v ≡ world_after w (done_event e)
@@ -53,6 +83,7 @@ continues_next members w v left rest events e c first here step =
       ran = ap (λ (x : World). run_of x (all_done rest)) step ∙ ap (λ (es : List Event). run_of w (all_done es)) (sym first) ∙ c.ran;
       present = λ h. c.present (subst (λ (es : List Event). AllPresent members es) (sym first) (here, h));
       absent = λ n h. c.absent n (subst (λ (es : List Event). IsFirstAbsent members es n) (sym first) (inr (here, h)));
+      range = All-tail (λ (f : Event). IsWhat f.what) e rest (subst (λ (es : List Event). AreInRange es) first c.range);
     }
 
 pub absent_here : (members : List ℕ) (w : World) (left rest events : List Event) (e : Event) → Continues members w left events → left ≡ e ∷ rest → is_among members (node_of e.what) ≡ false → IsFirstAbsent members events e.line
@@ -66,3 +97,6 @@ ran_end me members w left events sole c none = summary-run me members events w s
 
 pub meets_members : (members : List ℕ) (events : List Event) → members ≡ get_or members 0 0 ∷ [] → Meets members (all_done events)
 meets_members members events sole = subst (λ (ms : List ℕ). Meets ms (all_done events)) (sym sole) (sole_runs_meet (get_or members 0 0) (all_done events))
+
+pub next_in_range : (members : List ℕ) (w : World) (left rest events : List Event) (e : Event) → Continues members w left events → left ≡ e ∷ rest → WhatInRange e.what
+next_in_range members w left rest events e c first = what_in_range e.what (All-head (λ (f : Event). IsWhat f.what) e rest (subst (λ (es : List Event). AreInRange es) first c.range))

@@ -1,12 +1,11 @@
 -- The replay of a schedule's events, at the nodes that it names.
-use Rattle.std.specs.Prelude.{◌≡◌, ◌⊎◌, ℕ, true, false, List, [], ◌∷◌, length, map}
+use Rattle.std.specs.Prelude.{◌≡◌, ◌⊎◌, ℕ, true, false, List, [], ◌∷◌}
 use Rattle.op_types.specs.declared.events.Event.{Event}
 use Rattle.op_sched.specs.declared.summary.Summary.{Summary}
 use Rattle.op_model.specs.Machine.{is_among}
-use Rattle.op_runs.specs.World.{World, node_of, all_done}
-use Rattle.op_runs.specs.Sole.{log_of}
+use Rattle.op_runs.specs.World.{node_of, all_done}
 use Rattle.op_runs.specs.Run.{Track, first_track, track_of}
-use Rattle.op_runs.specs.Summary.{summary_of, node_line}
+use Rattle.op_runs.specs.Summary.{summary_of}
 
 -- each event is at a member
 abbrev pub AllPresent : List ℕ → List Event → Type 0
@@ -25,8 +24,3 @@ run_track members events = track_of (first_track members) (all_done events)
 -- what is reported of a schedule's run
 abbrev pub run_summary : List ℕ → List Event → Summary
 run_summary members events = summary_of members (run_track members events)
-
--- what is reported of a sole member's world
-abbrev pub sole_summary : List ℕ → World → Summary
-sole_summary members w =
-    record { lines = w.lines; lists = record { conf = 1; members = members; entries = log_of w.nodes } ∷ []; nodes = map node_line w.nodes; sent = length w.messages }

@@ -1,13 +1,14 @@
 //! From a schedule's bytes to the report of its run.
-ghost use Rattle.std.specs.Prelude.{◌≡◌, ◌==◌, ℕ, length, IfOk};
+ghost use Rattle.std.specs.Prelude.{◌≡◌, ◌==◌, ℕ, IfOk};
 ghost use Rattle.op_sched.specs.Failing.{IfBadLine};
+ghost use Rattle.op_sched.specs.Grammar.{IsOneMember, AreInRange};
 ghost use Rattle.op_model.specs.Machine.{is_among};
 ghost use Rattle.op_top.specs.Replay.{AllPresent, IsFirstAbsent, run_summary};
 ghost use Rattle.op_top.specs.Called.{Reports, IsBadAt};
 
-use crate::world::{World, node_of};
 use op_sched::{SchedFail, Summary, read, report};
 use op_types::{Events, Members, Pid};
+use op_world::{World, node_of};
 use std::alloc::Global;
 
 fn is_member(members: &Members, pid: Pid) -> bool
@@ -18,7 +19,8 @@ fn is_member(members: &Members, pid: Pid) -> bool
 
 /// Runs the events at the one member, up to the first that is at another node.
 fn run(alloc: Global, members: Members, events: Events) -> Result<Summary, SchedFail>
-    requires { length members ≡ 1 }
+    requires sole { IsOneMember members }
+    requires range { AreInRange events }
     ensures ran { IfOk result (λ s. s ≡ run_summary members events) }
     ensures present { IfOk result (λ s. AllPresent members events) }
     ensures absent { IfBadLine result (IsFirstAbsent members events) }

@@ -13,7 +13,7 @@ const ONE_PUT_REPORT: &str =
     "answer 3 appended 1 0\nreply 1 7 1 done\nconfig 1 members 1\nentry 1 0 put 7 1 a x\nnode 1 config 1 decided 1 trimmed 0\n";
 
 /// A schedule, how its replay ends, what it writes and what it tells.
-const ROWS: [(&str, Status, &str, &str); 9] = [
+const ROWS: [(&str, Status, &str, &str); 11] = [
     (ONE_PUT, Status::Ended, ONE_PUT_REPORT, ""),
     (
         "",
@@ -37,6 +37,18 @@ const ROWS: [(&str, Status, &str, &str); 9] = [
         "members 1\ntick 1\ntick 1\ntick 1\nput 1 9 1 k v",
         Status::Ended,
         "answer 5 appended 1 0\nreply 1 9 1 done\nconfig 1 members 1\nentry 1 0 put 9 1 k v\nnode 1 config 1 decided 1 trimmed 0\n",
+        "",
+    ),
+    (
+        "members 1\ntick 1\nput 1 7 1 a x\ncrash 1\nput 1 7 2 b y\nstart 1\nput 1 7 2 b y\ntick 1\nput 1 7 3 c z",
+        Status::Ended,
+        "answer 3 appended 1 0\nreply 1 7 1 done\nanswer 7 refused noleader\nanswer 9 appended 1 1\nreply 1 7 3 done\nconfig 1 members 1\nentry 1 0 put 7 1 a x\nentry 1 1 put 7 3 c z\nnode 1 config 1 decided 2 trimmed 0\n",
+        "",
+    ),
+    (
+        "members 2\ntick 2\nput 2 7 2 a x\ncrash 2\nstart 2\nstart 2\ntick 2\nput 2 7 1 b y\ncrash 2\ncrash 2\ntick 2\n",
+        Status::Ended,
+        "answer 3 appended 1 0\nreply 2 7 2 done\nanswer 8 appended 1 1\nreply 2 7 1 stale\nconfig 1 members 2\nentry 1 0 put 7 2 a x\nentry 1 1 put 7 1 b y\nnode 2 config 1 decided 2 trimmed 0 down\n",
         "",
     ),
     (

@@ -1,6 +1,6 @@
 use Rattle.std.proofs.Common.{ap, ◌∙◌}
 use Rattle.op_sched.specs.Text.{report_of}
-use Rattle.op_sched.proofs.OneReading.{one_member}
+use Rattle.op_sched.proofs.OneReading.{one_member, events_in_range}
 use Rattle.op_top.proofs.Runs.{meets_members}
 use Rattle.op_top.proofs.replay.replayed.Goals as goal
 
@@ -15,3 +15,6 @@ returns-clause-reports c =
         meets = meets_members s.members s.events (one_member c.args.bytes.items s (rw c.deref.ensures.value at c.in_ok-schedule.ensures.found));
       },
     )
+
+pub run-requires-clause-range : goal.run-requires-clause-range
+run-requires-clause-range c = events_in_range c.args.bytes.items c.in_ok-schedule.schedule (rw c.deref.ensures.value at c.in_ok-schedule.ensures.found)

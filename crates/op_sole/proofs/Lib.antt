@@ -1,0 +1,4 @@
+pub mod Kept
+pub mod Rounds
+pub mod Rows
+pub mod Adopted

@@ -1,0 +1,17 @@
+//! The steps of a sole member: each is planned, its batch is stored, and then it is adopted.
+#![tactic(auto)]
+
+mod clients;
+mod election;
+mod laws;
+mod proposal;
+mod starting;
+mod ticking;
+mod turn;
+
+pub use clients::{Clients, clients_of, serve};
+pub use laws::sole_states_are_in_range;
+pub use proposal::{append_batch, refusal};
+pub use starting::{first_durable, first_volatile, volatile_again};
+pub use ticking::tick;
+pub use turn::Turn;

@@ -1,0 +1,88 @@
+//! What a sole member begins with, at first and when it is opened again.
+ghost use Rattle.std.specs.Prelude.{◌≡◌, ◌∷◌, [], IfOk};
+ghost use Rattle.op_types.specs.Ballots.{no_ballot};
+ghost use Rattle.op_sched.specs.Grammar.{IsPid};
+ghost use Rattle.op_record.specs.Ranges.{DurableInRange};
+ghost use Rattle.op_steps.specs.Starting as steps;
+ghost use Rattle.op_runs.specs.World as runs;
+ghost use Rattle.op_runs.specs.Sole.{sole_part};
+ghost use Rattle.op_sole.specs.SoleMember.{IsSoleDurable, IsSoleVolatile};
+
+use crate::election::LAST_NUMBER;
+use op_types::{Ballot, Blob, Durable, Members, NoMemory, Part, Pid, Role, Roomy, Seq, Volatile};
+use std::alloc::Global;
+
+/// What a sole member has stored at first: nothing is promised, and its log is empty.
+pub fn first_durable(alloc: Global, me: Pid) -> Result<Durable, NoMemory>
+    requires { IsPid me }
+    ensures first { IfOk result (λ d. d ≡ runs.first_durable (me ∷ [])) }
+    ensures in_range { IfOk result DurableInRange }
+    ensures sole { IfOk result (IsSoleDurable me) }
+{
+    Ok(Durable {
+        part: Some(first_part(alloc, me)?),
+        closed: None,
+    })
+}
+
+fn first_part(alloc: Global, me: Pid) -> Result<Part, NoMemory>
+    ensures { IfOk result (λ p. p ≡ sole_part me no_ballot no_ballot []) }
+{
+    let mut members = Members::new(alloc);
+    members.push(me)?;
+    Ok(Part {
+        conf: 1,
+        members,
+        promised: Ballot::NONE,
+        accepted: Ballot::NONE,
+        base: Blob::from_slice(alloc, [0u8; 16].as_slice())?,
+        trimmed: 0,
+        tail: Roomy::new(alloc),
+        decided: 0,
+    })
+}
+
+/// What a member begins with in memory at its first start.
+pub fn first_volatile(alloc: Global, me: Pid) -> Volatile
+    ensures first { result ≡ steps.first_volatile me }
+    ensures own { IsPid me → IsSoleVolatile me result }
+{
+    volatile_with(alloc, Ballot { number: 1, pid: me }, Ballot::NONE)
+}
+
+/// What a member begins with in memory when it is opened again. If it had promised a ballot of its own, it now stands for the
+/// next number; at 2^62 - 1 the number stays.
+pub fn volatile_again(alloc: Global, me: Pid, part: &Part) -> Volatile
+    ensures again { result ≡ steps.volatile_again me (Some part.now) }
+    ensures own { IsPid me → IsSoleVolatile me result }
+{
+    volatile_with(alloc, own_again(me, part.promised), part.promised)
+}
+
+/// The ballot that a member stands for when it is opened again.
+fn own_again(me: Pid, promised: Ballot) -> Ballot
+    ensures { result ≡ steps.own_again me promised }
+{
+    let number = if promised.pid != me {
+        1
+    } else if promised.number < LAST_NUMBER {
+        promised.number + 1
+    } else {
+        LAST_NUMBER
+    };
+    Ballot { number, pid: me }
+}
+
+fn volatile_with(alloc: Global, own: Ballot, leader: Ballot) -> Volatile
+    ensures { result ≡ steps.volatile_with own leader }
+{
+    Volatile {
+        own,
+        leader,
+        floor: Ballot::NONE,
+        flag: false,
+        round: 0,
+        heard: Seq::new(alloc),
+        role: Role::Idle,
+    }
+}
