@@ -1,6 +1,6 @@
 -- A run of events, one after the other, and what is reported of it.
-use Rattle.std.proofs.Common.{◌≡◌, ℕ, suc, true, false, List, [], ◌∷◌, get_or, refl, sym, ap, ◌∙◌, subst, inl, inr, arith}
-use Rattle.std.specs.Prelude.{All}
+use Rattle.std.proofs.Common.{◌≡◌, ℕ, true, false, List, [], ◌∷◌, get_or, refl, sym, ap, ◌∙◌, subst, inl, inr, arith}
+use Rattle.std.proofs.lemmas.List.Elements.{All-head, All-tail}
 use Rattle.op_types.specs.declared.log.Op.{Op}
 use Rattle.op_types.specs.declared.log.Op.TheVariants.{Put}
 use Rattle.op_types.specs.declared.events.What.{What}
@@ -39,12 +39,6 @@ summary-run me members events w sole ran =
     ∙ ap (λ (ms : List ℕ). run_summary ms events) (sym sole)
 
 -- ---- ranges
-
-All-head : {X : Type 0} (P : X → Type 0) (x : X) (xs : List X) → All P (x ∷ xs) → P x
-All-head P x xs all = all 0 x (omega arith)
-
-All-tail : {X : Type 0} (P : X → Type 0) (x : X) (xs : List X) → All P (x ∷ xs) → All P xs
-All-tail P x xs all i d below = all (suc i) d (omega (arith, below))
 
 number_in_range : (n : ℕ) → IsNumber n → spellings.IsNumber n
 number_in_range n p = (p.0, omega (arith, p.1))

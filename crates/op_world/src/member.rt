@@ -106,7 +106,7 @@ impl Member {
     }
 
     /// Appends a command that isn't refused, which is decided at once: its position, and its answer. Where it fails, nothing
-    /// of it was adopted.
+    /// of it was adopted but, perhaps, the client's last command: the member is then to be opened again.
     pub fn append<D: Disk>(
         &mut self,
         store: &mut Store<D>,
@@ -118,7 +118,7 @@ impl Member {
         requires ready { IsReady store.old }
         ensures appended { IfOk result (λ x. Appends self.old command self.new x.0 x.1) }
         ensures member { OnOk result (IsMember self.new) }
-        ensures kept { OnErr result (self.new.durable ≡ self.old.durable) }
+        ensures kept { OnErr result (self.new ≡ record self.old { clients = self.new.clients }) }
         ensures stored { D.follows (first_of store.old) → D.follows (second_of store.old) → Keeps D.seen D.moment D.left_since self.old.durable store.old →
             OnOk result (Keeps D.seen D.moment D.left_since self.new.durable store.new) }
         ensures ready { OnOk result (IsReady store.new) }
