@@ -6,12 +6,12 @@ use Rattle.op_types.specs.declared.answers.Outcome.TheVariants as outcome
 use Rattle.op_types.specs.declared.log.Command.{Command}
 use Rattle.op_types.specs.declared.log.Entry.{Entry}
 use Rattle.op_types.specs.declared.log.Entry.TheVariants as entry
-use Rattle.op_types.specs.declared.volatile.Volatile.{Volatile}
 use Rattle.op_types.specs.declared.events.What.TheVariants as what
 use Rattle.op_types.specs.declared.events.Event.{Event}
 use Rattle.op_sched.specs.declared.summary.Line.{Line}
 use Rattle.op_sched.specs.declared.summary.Line.TheVariants as line
 use Rattle.op_model.specs.Service.{service_of, answer_of}
+use Rattle.op_steps.specs.State.{Volatile}
 use Rattle.op_steps.specs.Rows.{part_refusal}
 use Rattle.op_runs.specs.World.{Standing, Up, World, Happening, done_event, node_of, node_at, world_after}
 use Rattle.op_runs.specs.Run.{Track, first_track, track_with, track_of}

@@ -12,14 +12,13 @@ use Rattle.op_types.specs.declared.durable.Durable.{Durable}
 use Rattle.op_types.specs.declared.log.Command.{Command}
 use Rattle.op_types.specs.declared.log.Entry.{Entry}
 use Rattle.op_types.specs.declared.log.Entry.TheVariants as entry
-use Rattle.op_types.specs.declared.volatile.Volatile.{Volatile}
 use Rattle.op_types.specs.declared.events.What.{What}
 use Rattle.op_types.specs.declared.events.What.TheVariants as what
 use Rattle.op_types.specs.declared.events.Event.{Event}
 use Rattle.op_sched.specs.declared.summary.Line.{Line}
 use Rattle.op_sched.specs.declared.summary.Line.TheVariants as line
 use Rattle.op_model.specs.Service.{service_of, answer_of}
-use Rattle.op_steps.specs.State.{State, Sent, Planned, state_after}
+use Rattle.op_steps.specs.State.{State, Volatile, Sent, Planned, state_after}
 use Rattle.op_steps.specs.Serving.{Served}
 use Rattle.op_steps.specs.Starting.{volatile_again, state_again}
 use Rattle.op_steps.specs.Rows.{append_plan, part_refusal, command_plan_after}

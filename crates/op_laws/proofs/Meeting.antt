@@ -10,7 +10,6 @@ use Rattle.op_types.specs.declared.answers.Refusal.{Refusal}
 use Rattle.op_types.specs.declared.log.Command.{Command}
 use Rattle.op_types.specs.declared.log.Entry.{Entry}
 use Rattle.op_types.specs.declared.log.Entry.TheVariants as entry
-use Rattle.op_types.specs.declared.volatile.Volatile.{Volatile}
 use Rattle.op_types.specs.declared.events.What.{What}
 use Rattle.op_types.specs.declared.events.What.TheVariants as what
 use Rattle.op_sched.specs.declared.summary.Line.{Line}
@@ -21,7 +20,7 @@ use Rattle.op_model.specs.Stands.{Stands, front_of}
 use Rattle.op_model.specs.Service.{service_of}
 use Rattle.std.proofs.Math.Seq.{take-length}
 use Rattle.op_model.proofs.Safety.{IsAmong-push, of_conds, first_is_safe, steps_keep_safe, steps_only_grow}
-use Rattle.op_steps.specs.State.{State, Sent, Planned, state_after}
+use Rattle.op_steps.specs.State.{State, Volatile, Sent, Planned, state_after}
 use Rattle.op_steps.specs.Rows.{refusal_of, refusal_plan, tick_plan, command_plan_after}
 use Rattle.op_steps.specs.Starting.{first_volatile, volatile_again}
 use Rattle.op_runs.specs.World.{Standing, Up, Down, Node, World, Fate, Done, Stopped, Happening, lines_of, node_at, node_of, world_with_node, world_by_fate, world_if_up, world_opening, world_if_down, world_at_node, world_after}

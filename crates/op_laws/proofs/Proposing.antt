@@ -5,9 +5,8 @@ use Rattle.op_types.specs.declared.durable.Durable.{Durable}
 use Rattle.op_types.specs.declared.log.Command.{Command}
 use Rattle.op_types.specs.declared.log.Entry.{Entry}
 use Rattle.op_types.specs.declared.log.Entry.TheVariants as entry
-use Rattle.op_types.specs.declared.volatile.Volatile.{Volatile}
 use Rattle.op_model.specs.Service.{Service, service_of}
-use Rattle.op_steps.specs.State.{State, state_after}
+use Rattle.op_steps.specs.State.{State, Volatile, state_after}
 use Rattle.op_steps.specs.Serving.{Served, serving, waiting_with, reply_of}
 use Rattle.op_steps.specs.Rows.{append_plan, append_plan_after, appended_part, newly_decided}
 use Rattle.op_runs.specs.Sole.{sole_part, sole_state}

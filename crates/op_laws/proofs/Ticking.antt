@@ -1,16 +1,18 @@
 -- A tick leaves a sole member with the log that it had.
-use Rattle.std.proofs.Common.{◌≡◌, ℕ, cond, eqb, List, [], Option, Some, None, refl, ap, ◌∙◌}
+use Rattle.std.proofs.Common.{◌≡◌, ℕ, cond, eqb, List, [], Some, None, refl, ap, ◌∙◌}
 use Rattle.std.proofs.lemmas.Bool.{cond_both}
 use Rattle.op_types.specs.Ballots.{is_below, greater}
 use Rattle.op_types.specs.declared.ballot.Ballot.{Ballot}
 use Rattle.op_types.specs.declared.durable.Durable.{Durable}
 use Rattle.op_types.specs.declared.log.Entry.{Entry}
-use Rattle.op_types.specs.declared.volatile.Volatile.{Volatile}
+use Rattle.op_types.specs.declared.verdict.Verdict.{Verdict}
+use Rattle.op_types.specs.declared.verdict.Verdict.TheVariants as verdict
 use Rattle.op_model.specs.Service.{service_of}
-use Rattle.op_steps.specs.State.{State, Sent, Planned, state_after}
+use Rattle.op_steps.specs.State.{State, Volatile, Sent, Planned, state_after}
 use Rattle.op_steps.specs.Serving.{serving}
 use Rattle.op_steps.specs.Election.{round_end}
-use Rattle.op_steps.specs.Rows.{only_volatile, leading, lead_plan, lead_plan_after, election_plan, next_round_state, requests, next_round, tick_plan}
+use Rattle.op_steps.specs.Heartbeats.{next_round}
+use Rattle.op_steps.specs.Rows.{only_volatile, candidate_of, leading, lead_plan, lead_plan_after, election_plan, next_round_state, requests, tick_plan}
 use Rattle.op_runs.specs.Sole.{sole_part, sole_state}
 use Rattle.op_laws.proofs.Deciding.{newly_decided-none, applied-led}
 
@@ -36,10 +38,11 @@ adopted-led me pr ac n log u v sends =
 replies-led : (me : ℕ) (pr ac n : Ballot) (log : List Entry) (u v : Volatile) (sends : List Sent) → (lead_plan (sole_state (sole_part me pr ac log) u) (sole_part me pr ac log) v n sends).replies ≡ []
 replies-led me pr ac n log u v sends = ap (λ (es : List Entry). (serving (service_of log) [] es).replies) (newly_decided-none me pr ac log)
 
-leaves_elected : (me : ℕ) (pr ac : Ballot) (log : List Entry) (u v : Volatile) (sends : List Sent) (o : Option Ballot)
-    → LeavesSole me log (sole_state (sole_part me pr ac log) u) sends (election_plan me (sole_state (sole_part me pr ac log) u) (sole_part me pr ac log) v sends o)
-leaves_elected me pr ac log u v sends None = record { promised = pr; accepted = ac; volatile = v; is = refl; sends_are = refl; replies_are = refl; outcome_is = refl }
-leaves_elected me pr ac log u v sends (Some n) =
+leaves_elected : (me : ℕ) (pr ac : Ballot) (log : List Entry) (u v : Volatile) (sends : List Sent) (x : Verdict)
+    → LeavesSole me log (sole_state (sole_part me pr ac log) u) sends (election_plan me (sole_state (sole_part me pr ac log) u) (sole_part me pr ac log) v sends x)
+leaves_elected me pr ac log u v sends verdict.Nobody = record { promised = pr; accepted = ac; volatile = v; is = refl; sends_are = refl; replies_are = refl; outcome_is = refl }
+leaves_elected me pr ac log u v sends (verdict.Raised b) = record { promised = pr; accepted = ac; volatile = v; is = refl; sends_are = refl; replies_are = refl; outcome_is = refl }
+leaves_elected me pr ac log u v sends (verdict.Elected n) =
     let p = sole_part me pr ac log in
     let s = sole_state p u in
     let raised : Volatile = record v { floor = greater v.floor pr } in
@@ -52,5 +55,5 @@ leaves_elected me pr ac log u v sends (Some n) =
 pub leaves_ticked : (me : ℕ) (pr ac : Ballot) (log : List Entry) (v : Volatile)
     → LeavesSole me log (sole_state (sole_part me pr ac log) v) (requests me (sole_part me pr ac log) (next_round v.round)) (tick_plan me (sole_state (sole_part me pr ac log) v) (Some (sole_part me pr ac log)))
 leaves_ticked me pr ac log v =
-    let e = round_end me 1 v in
-    leaves_elected me pr ac log v (next_round_state v e) (requests me (sole_part me pr ac log) (next_round v.round)) e.elected
+    let e = round_end (candidate_of me (sole_part me pr ac log) v) v.heard in
+    leaves_elected me pr ac log v (next_round_state v e.after) (requests me (sole_part me pr ac log) (next_round v.round)) e.verdict

@@ -4,10 +4,9 @@ use Rattle.op_types.specs.declared.ballot.Ballot.{Ballot}
 use Rattle.op_types.specs.declared.log.Entry.{Entry}
 use Rattle.op_types.specs.declared.durable.Part.{Part}
 use Rattle.op_types.specs.declared.durable.Durable.{Durable}
-use Rattle.op_types.specs.declared.volatile.Volatile.{Volatile}
 use Rattle.op_sched.specs.declared.summary.Line.{Line}
 use Rattle.op_model.specs.Service.{new_service, service_of, base_bytes}
-use Rattle.op_steps.specs.State.{State, Sent}
+use Rattle.op_steps.specs.State.{State, Volatile, Sent}
 use Rattle.op_runs.specs.World.{Standing, Node, World}
 
 -- its part

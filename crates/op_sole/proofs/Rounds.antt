@@ -1,40 +1,38 @@
 -- The end of a round at a member that has heard nobody: its own ballot alone can be elected.
-use Rattle.std.proofs.Common.{◌≡◌, ℕ, ◌+◌, ◌^◌, List, length, Bool, true, false, cond, ltb, Some, None, refl, sym, ap, ◌∙◌, subst, arith}
-use Rattle.std.proofs.lemmas.Bool.{cond_both, ltb-true}
-use Rattle.op_types.specs.Ballots.{is_below, greater}
+use Rattle.std.proofs.Common.{◌≡◌, ℕ, ◌<◌, ◌^◌, List, length, refl, sym, ap, ◌∙◌, subst, arith}
 use Rattle.op_types.specs.declared.ballot.Ballot.{Ballot}
+use Rattle.op_types.specs.declared.durable.Part.{Part}
 use Rattle.op_types.specs.declared.messages.Heard.{Heard}
-use Rattle.op_types.specs.declared.volatile.Volatile.{Volatile}
+use Rattle.op_types.specs.declared.verdict.Verdict.{Verdict}
+use Rattle.op_types.specs.declared.verdict.Verdict.TheVariants as verdict
 use Rattle.op_entry.specs.Ranges.{BallotInRange}
-use Rattle.op_steps.specs.Election.{Ended, is_majority, greatest, ballot_above, round_end_by, round_end}
-use Rattle.op_steps.specs.Rows.{next_round_state}
+use Rattle.op_steps.specs.Election.{Candidate, Elected, unheard, raised, exhausted, elected, unchanged, greatest, winner}
+use Rattle.op_steps.specs.Rows.{candidate_of}
 use Rattle.op_sched.specs.Grammar.{IsPid}
-use Rattle.op_sole.specs.SoleMember.{IsSoleVolatile}
+use Rattle.op_sole.specs.declared.turn.Turn.{Turn}
+use Rattle.op_sole.specs.declared.volatile.Volatile.{Volatile}
+use Rattle.op_sole.specs.SoleMember.{IsSolePart, IsSoleVolatile}
+use Rattle.op_sole.specs.Turns.{shown, turned}
 
--- this ballot, if any, is elected
-abbrev Elects : Ballot → Ended → Type 0
-Elects g e = (b : Ballot) → e.elected ≡ Some b → b ≡ g
+-- a sole member's election is that of its part
+pub candidate_is : (me : ℕ) (p : Part) (v : Volatile) → IsSolePart me p → IsSoleVolatile me v → v.election ≡ candidate_of me p (shown v)
+candidate_is me p v sole s =
+    let members : v.election.members ≡ length p.members = s.members ∙ sym (ap (λ (q : Part). length q.members) sole) in
+    λ i. record { me = s.server i; members = members i; own = v.election.own; leader = v.election.leader; floor = v.election.floor; flag = v.election.flag }
 
-none_elected : (g o l : Ballot) (f : Bool) → Elects g (record { own = o; leader = l; flag = f; elected = None })
-none_elected g o l f b won = cc
+-- ---- what is elected
 
-elects_greatest : (me n : ℕ) (v : Volatile) → Elects (greatest v.own v.heard) (round_end me n v)
-elects_greatest me n v =
-    let g = greatest v.own v.heard in
-    let least = greater v.leader v.floor in
-    let lost : Bool → Ballot → Ended = λ f o. record { own = o; leader = v.leader; flag = f; elected = None } in
-    let won : Ended = record { own = v.own; leader = g; flag = true; elected = Some g } in
-    cond_both (is_majority (1 + length v.heard) n) (round_end_by g least me v) (lost false v.own) (Elects g)
-    (λ _. cond_both (is_below g least) (lost true (ballot_above least me v.own)) (cond (is_below v.leader g) won (lost true v.own)) (Elects g)
-    (λ _. none_elected g (ballot_above least me v.own) v.leader true)
-    (λ _. cond_both (is_below v.leader g) won (lost true v.own) (Elects g) (λ _ b is. cc) (λ _. none_elected g v.own v.leader true)))
-    (λ _. none_elected g v.own v.leader false)
+elects_winner : (c d : Candidate) (heard : List Heard) (v : Verdict) (b : Ballot) → Elected c heard v d → v ≡ verdict.Elected b → b ≡ winner c heard
+elects_winner c _ heard _ b (unheard few) is = absurd cc
+elects_winner c _ heard _ b (raised majority low fits) is = absurd cc
+elects_winner c _ heard _ b (exhausted majority low last) is = absurd cc
+elects_winner c _ heard _ b (elected majority high above) is = cc
+elects_winner c _ heard _ b (unchanged majority high same) is = absurd cc
 
-pub elects_own : (me n : ℕ) (v : Volatile) (b : Ballot) → IsSoleVolatile me v → (round_end me n v).elected ≡ Some b → b ≡ v.own
-elects_own me n v b s won = elects_greatest me n v b won ∙ ap (λ (heard : List Heard). greatest v.own heard) s.alone
-
-pub elected_in_range : (me n : ℕ) (v : Volatile) (b : Ballot) → IsSoleVolatile me v → (round_end me n v).elected ≡ Some b → BallotInRange b
-elected_in_range me n v b s won = subst BallotInRange (sym (elects_own me n v b s won)) s.in_range
+pub elected_in_range : (me : ℕ) (v : Volatile) (d : Candidate) (x : Verdict) (b : Ballot) → IsSoleVolatile me v → Elected v.election v.rounds.heard x d → x ≡ verdict.Elected b → BallotInRange b
+elected_in_range me v d x b s e won =
+    let own : b ≡ v.election.own = elects_winner v.election d v.rounds.heard x b e won ∙ ap (λ (heard : List Heard). greatest v.election.own heard) s.alone in
+    subst BallotInRange (sym own) s.in_range
 
 -- ---- the own ballot stays in range
 
@@ -43,26 +41,23 @@ record IsBallotOf (me : ℕ) (b : Ballot) : Type 0 where
   pub pid : b.pid ≡ me
   pub in_range : BallotInRange b
 
-raised : (least : Ballot) (me : ℕ) (own : Ballot) → IsPid me → IsBallotOf me own → IsBallotOf me (ballot_above least me own)
-raised least me own id s =
-    cond_both (ltb (least.number + 1) (2 ^ 62)) (record { number = least.number + 1; pid = me }) own (IsBallotOf me)
-    (λ below. let small = ltb-true (least.number + 1) (2 ^ 62) below in record { pid = refl; in_range = record { number = omega arith; pid = omega (arith, id.1); owner = λ _. omega (arith, id.0) } })
-    (λ _. s)
+-- the same member of as many, with its own ballot in range
+record StaysCandidate (c d : Candidate) : Type 0 where
+  pub server : d.me ≡ c.me
+  pub members : d.members ≡ c.members
+  pub own : IsBallotOf c.me d.own
 
-own_after : (me n : ℕ) (v : Volatile) → IsPid me → IsBallotOf me v.own → IsBallotOf me (round_end me n v).own
-own_after me n v id s =
-    let g = greatest v.own v.heard in
-    let least = greater v.leader v.floor in
-    let Keeps : Ended → Type 0 = λ e. IsBallotOf me e.own in
-    let lost : Bool → Ballot → Ended = λ f o. record { own = o; leader = v.leader; flag = f; elected = None } in
-    let won : Ended = record { own = v.own; leader = g; flag = true; elected = Some g } in
-    cond_both (is_majority (1 + length v.heard) n) (round_end_by g least me v) (lost false v.own) Keeps
-    (λ _. cond_both (is_below g least) (lost true (ballot_above least me v.own)) (cond (is_below v.leader g) won (lost true v.own)) Keeps
-    (λ _. raised least me v.own id s)
-    (λ _. cond_both (is_below v.leader g) won (lost true v.own) Keeps (λ _. s) (λ _. s)))
-    (λ _. s)
+raised_own : (me n : ℕ) → IsPid me → n < 2 ^ 62 → IsBallotOf me (record { number = n; pid = me })
+raised_own me n id fits = record { pid = refl; in_range = record { number = omega arith; pid = omega (arith, id.1); owner = λ _. omega (arith, id.0) } }
 
-pub IsSoleVolatile-next : (me n : ℕ) (v w : Volatile) → IsSoleVolatile me v → w ≡ next_round_state v (round_end me n v) → IsSoleVolatile me w
-IsSoleVolatile-next me n v w s is =
-    let o = own_after me n v s.id (record { pid = s.pid; in_range = s.in_range }) in
-    subst (IsSoleVolatile me) (sym is) (record { id = s.id; pid = o.pid; in_range = o.in_range; alone = refl })
+stays : (c d : Candidate) (heard : List Heard) (v : Verdict) → IsPid c.me → IsBallotOf c.me c.own → Elected c heard v d → StaysCandidate c d
+stays c _ heard _ id own (unheard few) = record { server = refl; members = refl; own = own }
+stays c _ heard _ id own (raised majority low fits) = record { server = refl; members = refl; own = raised_own c.me _ id fits }
+stays c _ heard _ id own (exhausted majority low last) = record { server = refl; members = refl; own = own }
+stays c _ heard _ id own (elected majority high above) = record { server = refl; members = refl; own = own }
+stays c _ heard _ id own (unchanged majority high same) = record { server = refl; members = refl; own = own }
+
+pub IsSoleVolatile-next : (me : ℕ) (v : Volatile) (t : Turn) (x : Verdict) → IsSoleVolatile me v → Elected v.election v.rounds.heard x t.election → IsSoleVolatile me (turned t v)
+IsSoleVolatile-next me v t x s e =
+    let k = stays v.election t.election v.rounds.heard x (subst IsPid (sym s.server) s.id) (record { pid = s.pid ∙ sym s.server; in_range = s.in_range }) e in
+    record { id = s.id; server = k.server ∙ s.server; members = k.members ∙ s.members; pid = k.own.pid ∙ s.server; in_range = k.own.in_range; alone = refl }

@@ -4,10 +4,10 @@ use Rattle.op_types.specs.Changes.{durable_after}
 use Rattle.op_types.specs.declared.changes.Change.{Change}
 use Rattle.op_types.specs.declared.durable.Part.{Part}
 use Rattle.op_types.specs.declared.durable.Durable.{Durable}
-use Rattle.op_types.specs.declared.volatile.Volatile.{Volatile}
 use Rattle.op_sched.specs.Grammar.{IsPid}
 use Rattle.op_entry.specs.Ranges.{BallotInRange, EntriesInRange}
 use Rattle.op_runs.specs.Sole.{sole_part, sole_durable}
+use Rattle.op_sole.specs.declared.volatile.Volatile.{Volatile}
 
 -- the part of this sole member
 abbrev pub IsSolePart : ℕ → Part → Type 0
@@ -20,9 +20,11 @@ IsSole p = (me : ℕ) × IsSolePart me p
 -- the volatile state of a sole member: it stands for a ballot of its own, in range, and has heard nobody
 pub record IsSoleVolatile (me : ℕ) (v : Volatile) : Type 0 where
   pub id : IsPid me
-  pub pid : v.own.pid ≡ me
-  pub in_range : BallotInRange v.own
-  pub alone : v.heard ≡ []
+  pub server : v.election.me ≡ me
+  pub members : v.election.members ≡ 1
+  pub pid : v.election.own.pid ≡ me
+  pub in_range : BallotInRange v.election.own
+  pub alone : v.rounds.heard ≡ []
 
 -- a sole member's part, in range
 pub record SoleInRange (me : ℕ) (p : Part) : Type 0 where

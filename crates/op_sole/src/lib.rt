@@ -2,12 +2,12 @@
 #![tactic(auto)]
 
 mod clients;
-mod election;
 mod laws;
 mod proposal;
 mod starting;
 mod ticking;
 mod turn;
+mod volatile;
 
 pub use clients::{Clients, clients_of, serve};
 pub use laws::sole_states_are_in_range;
@@ -15,3 +15,4 @@ pub use proposal::{append_batch, refusal};
 pub use starting::{first_durable, first_volatile, volatile_again};
 pub use ticking::tick;
 pub use turn::Turn;
+pub use volatile::Volatile;

@@ -7,9 +7,11 @@ ghost use Rattle.op_steps.specs.State.{State};
 ghost use Rattle.op_steps.specs.Rows.{part_refusal, append_plan};
 ghost use Rattle.op_runs.specs.Sole.{sole_durable};
 ghost use Rattle.op_sole.specs.SoleMember.{IsSole, StaysSole};
+ghost use Rattle.op_sole.specs.Turns.{shown};
 ghost use Rattle.op_sole.specs.Batches.{decided_at};
 
-use op_types::{Batch, Change, Command, Entries, Entry, NoMemory, Part, Refusal, Role, Volatile};
+use crate::volatile::Volatile;
+use op_types::{Batch, Change, Command, Entries, Entry, NoMemory, Part, Refusal, Role};
 use std::alloc::Global;
 
 /// The end of positions.
@@ -18,7 +20,7 @@ const POSITIONS_END: u64 = 1 << 62;
 /// Why a sole member refuses a command.
 pub fn refusal(part: &Part, volatile: &Volatile) -> Option<Refusal>
     requires { IsSole part.now }
-    ensures cause { result ≡ part_refusal volatile.now part.now }
+    ensures cause { result ≡ part_refusal (shown volatile.now) part.now }
     ensures room { IfNone result (len_of part.now < 2 ^ 62) }
 {
     match &volatile.role {

@@ -1,15 +1,20 @@
 //! What a sole member begins with, at first and when it is opened again.
-ghost use Rattle.std.specs.Prelude.{◌≡◌, ◌∷◌, [], IfOk};
+ghost use Rattle.std.specs.Prelude.{◌≡◌, ◌∷◌, [], Some, length, IfOk};
 ghost use Rattle.op_types.specs.Ballots.{no_ballot};
 ghost use Rattle.op_sched.specs.Grammar.{IsPid};
 ghost use Rattle.op_record.specs.Ranges.{DurableInRange};
 ghost use Rattle.op_steps.specs.Starting as steps;
 ghost use Rattle.op_runs.specs.World as runs;
 ghost use Rattle.op_runs.specs.Sole.{sole_part};
-ghost use Rattle.op_sole.specs.SoleMember.{IsSoleDurable, IsSoleVolatile};
+ghost use Rattle.op_steps.specs.Election.{candidate};
+ghost use Rattle.op_heartbeat.specs.Hearing.{hearing_of};
+ghost use Rattle.op_sole.specs.SoleMember.{IsSolePart, IsSoleDurable, IsSoleVolatile};
+ghost use Rattle.op_sole.specs.Turns.{shown};
 
-use crate::election::LAST_NUMBER;
-use op_types::{Ballot, Blob, Durable, Members, NoMemory, Part, Pid, Role, Roomy, Seq, Volatile};
+use crate::volatile::Volatile;
+use op_elect::{Election, LAST_NUMBER};
+use op_heartbeat::Rounds;
+use op_types::{Ballot, Blob, Durable, Members, NoMemory, Part, Pid, Role, Roomy};
 use std::alloc::Global;
 
 /// What a sole member has stored at first: nothing is promised, and its log is empty.
@@ -43,20 +48,22 @@ fn first_part(alloc: Global, me: Pid) -> Result<Part, NoMemory>
 }
 
 /// What a member begins with in memory at its first start.
-pub fn first_volatile(alloc: Global, me: Pid) -> Volatile
-    ensures first { result ≡ steps.first_volatile me }
-    ensures own { IsPid me → IsSoleVolatile me result }
+pub fn first_volatile(alloc: Global, me: Pid, part: &Part) -> Result<Volatile, NoMemory>
+    requires { IsSolePart me part.now }
+    ensures first { IfOk result (λ v. shown v ≡ steps.first_volatile me) }
+    ensures own { IsPid me → IfOk result (IsSoleVolatile me) }
 {
-    volatile_with(alloc, Ballot { number: 1, pid: me }, Ballot::NONE)
+    volatile_with(alloc, part, Ballot { number: 1, pid: me }, Ballot::NONE)
 }
 
 /// What a member begins with in memory when it is opened again. If it had promised a ballot of its own, it now stands for the
 /// next number; at 2^62 - 1 the number stays.
-pub fn volatile_again(alloc: Global, me: Pid, part: &Part) -> Volatile
-    ensures again { result ≡ steps.volatile_again me (Some part.now) }
-    ensures own { IsPid me → IsSoleVolatile me result }
+pub fn volatile_again(alloc: Global, me: Pid, part: &Part) -> Result<Volatile, NoMemory>
+    requires { IsSolePart me part.now }
+    ensures again { IfOk result (λ v. shown v ≡ steps.volatile_again me (Some part.now)) }
+    ensures own { IsPid me → IfOk result (IsSoleVolatile me) }
 {
-    volatile_with(alloc, own_again(me, part.promised), part.promised)
+    volatile_with(alloc, part, own_again(me, part.promised), part.promised)
 }
 
 /// The ballot that a member stands for when it is opened again.
@@ -73,16 +80,20 @@ fn own_again(me: Pid, promised: Ballot) -> Ballot
     Ballot { number, pid: me }
 }
 
-fn volatile_with(alloc: Global, own: Ballot, leader: Ballot) -> Volatile
-    ensures { result ≡ steps.volatile_with own leader }
+/// At the owner of the own ballot.
+fn volatile_with(
+    alloc: Global,
+    part: &Part,
+    own: Ballot,
+    leader: Ballot,
+) -> Result<Volatile, NoMemory>
+    ensures shown { IfOk result (λ v. shown v ≡ steps.volatile_with own leader) }
+    ensures election { IfOk result (λ v. v.election ≡ candidate own.pid (length part.now.members) own leader) }
+    ensures alone { IfOk result (λ v. v.rounds ≡ hearing_of part.now.members) }
 {
-    Volatile {
-        own,
-        leader,
-        floor: Ballot::NONE,
-        flag: false,
-        round: 0,
-        heard: Seq::new(alloc),
+    Ok(Volatile {
+        election: Election::new(own.pid, part.members.len(), own, leader),
+        rounds: Rounds::new(alloc, &part.members)?,
         role: Role::Idle,
-    }
+    })
 }

@@ -1,16 +1,14 @@
 ghost use Rattle.std.specs.Prelude.{◌≡◌};
 ghost use Rattle.op_sole.specs.Turns.{turned};
 
-use crate::election::round_after;
-use op_types::{Ballot, Leading, Role, Volatile};
+use crate::volatile::Volatile;
+use op_elect::Election;
+use op_types::{Leading, Role};
 
 /// What a tick makes of a sole member's volatile state.
-#[derive(Clone, Copy, Debug, PartialEq, Eq)]
+#[derive(Clone, Copy)]
 pub struct Turn {
-    pub(crate) own: Ballot,
-    pub(crate) leader: Ballot,
-    pub(crate) floor: Ballot,
-    pub(crate) flag: bool,
+    pub(crate) election: Election,
     /// What it leads from now on, if it comes to lead.
     pub(crate) lead: Option<Leading>,
 }
@@ -20,12 +18,8 @@ impl Turn {
     pub fn adopt(self, volatile: &mut Volatile)
         ensures { volatile.new ≡ turned self volatile.old }
     {
-        volatile.own = self.own;
-        volatile.leader = self.leader;
-        volatile.floor = self.floor;
-        volatile.flag = self.flag;
-        volatile.round = round_after(volatile.round);
-        volatile.heard.clear();
+        volatile.election = self.election;
+        volatile.rounds.begin_round();
         if let Some(leading) = self.lead {
             volatile.role = Role::Leading(leading);
         }

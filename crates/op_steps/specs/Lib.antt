@@ -1,3 +1,4 @@
+pub mod Heartbeats
 pub mod Election
 pub mod State
 pub mod Serving

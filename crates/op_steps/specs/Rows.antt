@@ -1,5 +1,5 @@
 -- The rows of the step table: what a node's step is, from its state and what happens. With one member these are all that can be met.
-use Rattle.std.specs.Prelude.{◌==◌, ℕ, ◌+◌, ◌-◌, ◌^◌, nat_lt, Bool, true, false, not, List, [], ◌∷◌, length, take, drop, map, filter, Option, Some, None, if◌then◌else◌}
+use Rattle.std.specs.Prelude.{◌==◌, ℕ, ◌-◌, ◌^◌, nat_lt, Bool, true, false, not, List, [], ◌∷◌, length, take, drop, map, filter, Option, Some, None, if◌then◌else◌}
 use Rattle.op_types.specs.Ballots.{is_below, greater}
 use Rattle.op_types.specs.Changes.{len_of, part_with}
 use Rattle.op_types.specs.declared.ballot.Ballot.{Ballot}
@@ -9,15 +9,18 @@ use Rattle.op_types.specs.declared.log.Command.{Command}
 use Rattle.op_types.specs.declared.log.Entry.{Entry}
 use Rattle.op_types.specs.declared.log.Entry.TheVariants as entry
 use Rattle.op_types.specs.declared.durable.Part.{Part}
-use Rattle.op_types.specs.declared.volatile.Volatile.{Volatile}
-use Rattle.op_types.specs.declared.volatile.Role.{Role}
-use Rattle.op_types.specs.declared.volatile.Role.TheVariants as role
+use Rattle.op_types.specs.declared.role.Role.{Role}
+use Rattle.op_types.specs.declared.role.Role.TheVariants as role
 use Rattle.op_types.specs.declared.messages.Body.TheVariants as body
+use Rattle.op_types.specs.declared.verdict.Verdict.{Verdict}
+use Rattle.op_types.specs.declared.verdict.Verdict.TheVariants as verdict
 use Rattle.op_types.specs.declared.answers.Outcome.TheVariants as outcome
 use Rattle.op_types.specs.declared.answers.Refusal.{Refusal}
 use Rattle.op_types.specs.declared.answers.Refusal.TheVariants as refusal
-use Rattle.op_steps.specs.Election.{Ended, round_end, is_majority}
-use Rattle.op_steps.specs.State.{State, Sent, Planned}
+use Rattle.op_quorum.specs.Quorums.{is_majority}
+use Rattle.op_steps.specs.Heartbeats.{next_round}
+use Rattle.op_steps.specs.Election.{Candidate, Ended, round_end}
+use Rattle.op_steps.specs.State.{State, Volatile, Sent, Planned}
 use Rattle.op_steps.specs.Serving.{Served, serving, waiting_with}
 
 -- nothing changes but the volatile state
@@ -40,13 +43,13 @@ newly_decided p = drop (p.decided - p.trimmed) (take (backed p - p.trimmed) p.ta
 
 -- ---- the tick
 
--- after round 2^62 - 1 comes round 1
-abbrev pub next_round : ℕ → ℕ
-next_round round = if nat_lt (round + 1) (2 ^ 62) then round + 1 else 1
+-- the node as one that takes part in elections
+abbrev pub candidate_of : ℕ → Part → Volatile → Candidate
+candidate_of me p v = record { me = me; members = length p.members; own = v.own; leader = v.leader; floor = v.floor; flag = v.flag }
 
 -- the volatile state when a round has ended and the next one begins
-abbrev pub next_round_state : Volatile → Ended → Volatile
-next_round_state v e = record v { own = e.own; leader = e.leader; flag = e.flag; round = next_round v.round; heard = [] }
+abbrev pub next_round_state : Volatile → Candidate → Volatile
+next_round_state v c = record { own = c.own; leader = c.leader; floor = c.floor; flag = c.flag; round = next_round v.round; heard = []; role = v.role }
 
 -- each other member is asked for a reply in the new round
 abbrev pub requests : ℕ → Part → ℕ → List Sent
@@ -74,20 +77,21 @@ abbrev pub majority_lead_plan : State → Part → Volatile → Ballot → List 
 majority_lead_plan s p v n sends = if is_majority 1 (length p.members) then lead_plan s p v n sends else only_volatile s v sends
 
 -- an own ballot that was elected is led if it is above the promise; otherwise elections begin at the promise
-abbrev pub election_plan : ℕ → State → Part → Volatile → List Sent → Option Ballot → Planned
-election_plan me s p v sends None = only_volatile s v sends
-election_plan me s p v sends (Some n) =
+abbrev pub election_plan : ℕ → State → Part → Volatile → List Sent → Verdict → Planned
+election_plan me s p v sends verdict.Nobody = only_volatile s v sends
+election_plan me s p v sends (verdict.Raised b) = only_volatile s v sends
+election_plan me s p v sends (verdict.Elected n) =
     if n.pid == me then (if is_below p.promised n then majority_lead_plan s p v n sends else only_volatile s (record v { floor = greater v.floor p.promised }) sends)
     else only_volatile s v sends
 
 -- the step of a tick, when the round has ended
 abbrev pub tick_plan_after : ℕ → State → Part → Ended → Planned
-tick_plan_after me s p e = election_plan me s p (next_round_state s.volatile e) (requests me p (next_round s.volatile.round)) e.elected
+tick_plan_after me s p e = election_plan me s p (next_round_state s.volatile e.after) (requests me p (next_round s.volatile.round)) e.verdict
 
 -- a tick ends the round and begins the next one
 abbrev pub tick_plan : ℕ → State → Option Part → Planned
 tick_plan me s None = only_volatile s s.volatile []
-tick_plan me s (Some p) = tick_plan_after me s p (round_end me (length p.members) s.volatile)
+tick_plan me s (Some p) = tick_plan_after me s p (round_end (candidate_of me p s.volatile) s.volatile.heard)
 
 -- ---- proposals
 

@@ -4,10 +4,9 @@ use Rattle.op_types.specs.Ballots.{no_ballot}
 use Rattle.op_types.specs.declared.ballot.Ballot.{Ballot}
 use Rattle.op_types.specs.declared.durable.Part.{Part}
 use Rattle.op_types.specs.declared.durable.Durable.{Durable}
-use Rattle.op_types.specs.declared.volatile.Volatile.{Volatile}
-use Rattle.op_types.specs.declared.volatile.Role.TheVariants as role
+use Rattle.op_types.specs.declared.role.Role.TheVariants as role
 use Rattle.op_model.specs.Service.{Service, new_service, service_of}
-use Rattle.op_steps.specs.State.{State}
+use Rattle.op_steps.specs.State.{State, Volatile}
 
 -- a node that stands for this ballot, and knows this leader's
 abbrev pub volatile_with : Ballot → Ballot → Volatile

@@ -1,7 +1,9 @@
 -- A node's state, and what a step of it plans.
-use Rattle.std.specs.Prelude.{ℕ, List, Option}
+use Rattle.std.specs.Prelude.{ℕ, Bool, List, Option}
 use Rattle.op_types.specs.declared.durable.Durable.{Durable}
-use Rattle.op_types.specs.declared.volatile.Volatile.{Volatile}
+use Rattle.op_types.specs.declared.ballot.Ballot.{Ballot}
+use Rattle.op_types.specs.declared.messages.Heard.{Heard}
+use Rattle.op_types.specs.declared.role.Role.{Role}
 use Rattle.op_types.specs.declared.changes.Change.{Change}
 use Rattle.op_types.specs.declared.messages.Msg.{Msg}
 use Rattle.op_types.specs.declared.answers.Outcome.{Outcome}
@@ -13,6 +15,16 @@ use Rattle.op_model.specs.Service.{Service}
 pub record Waiting : Type 0 where
   pub client : ℕ
   pub seq : ℕ
+
+-- what a node keeps of its part in memory alone
+pub record Volatile : Type 0 where
+  pub own : Ballot  -- which it stands for
+  pub leader : Ballot  -- the leader's, as far as it knows
+  pub floor : Ballot  -- elections begin here: a promise that stood against it
+  pub flag : Bool  -- whether it heard a majority in its last heartbeat round
+  pub round : ℕ  -- the heartbeat round, 0 at first
+  pub heard : List Heard  -- the replies of this round, one of each sender
+  pub role : Role
 
 -- what a node stores, and what it keeps in memory
 pub record State : Type 0 where

@@ -14,6 +14,7 @@ use Rattle.op_runs.specs.World.{World, Node, Standing, Up, Down, Happening, done
 use Rattle.op_runs.specs.Sole.{log_of}
 use Rattle.op_runs.specs.Summary.{node_line}
 use Rattle.op_sched.specs.declared.summary.Summary.{Summary}
+use Rattle.op_sole.specs.Turns.{shown}
 use Rattle.op_world.specs.Members.{IsMember, member_state}
 use Rattle.op_world.specs.declared.member.Member.{Member}
 use Rattle.op_world.specs.declared.disks.Disks.{Disks}
@@ -21,7 +22,7 @@ use Rattle.op_world.specs.declared.disks.Disks.TheVariants as disks
 
 -- the world of one member
 abbrev pub member_world : Member → Standing → List Line → World
-member_world m standing lines = record { nodes = record { pid = m.me; state = member_state m.durable m.volatile; standing = standing } ∷ []; messages = []; lines = lines }
+member_world m standing lines = record { nodes = record { pid = m.me; state = member_state m.durable (shown m.volatile); standing = standing } ∷ []; messages = []; lines = lines }
 
 -- what the disks keep: each image of an open store stands for this, and while the member is down the bytes do
 abbrev pub DisksKeep : Durable → Disks → Type 0

@@ -5,6 +5,7 @@ ghost use Rattle.op_steps.specs.Rows.{refusal_of};
 ghost use Rattle.op_steps.specs.Starting as steps;
 ghost use Rattle.op_runs.specs.Sole.{log_of_part};
 ghost use Rattle.op_sole.specs.SoleMember.{IsSoleDurable};
+ghost use Rattle.op_sole.specs.Turns.{shown};
 ghost use Rattle.op_store.specs.Stores.{Keeps, IsReady, first_of, second_of, faults_of};
 ghost use Rattle.op_world.specs.Failing.{TellsStep};
 ghost use Rattle.op_world.specs.Members.{IsMember, Ticks, Appends};
@@ -13,10 +14,11 @@ use crate::fail::StepFail;
 use crate::stepping::commit;
 use op_outside::Disk;
 use op_sole::{
-    Clients, append_batch, clients_of, first_volatile, refusal, serve, tick, volatile_again,
+    Clients, Volatile, append_batch, clients_of, first_volatile, refusal, serve, tick,
+    volatile_again,
 };
 use op_store::Store;
-use op_types::{Answer, Command, Durable, NoMemory, Pid, Refusal, Volatile};
+use op_types::{Answer, Command, Durable, NoMemory, Pid, Refusal};
 use std::alloc::Global;
 
 /// A sole member: what it has stored, and what it keeps in memory.
@@ -32,22 +34,27 @@ pub struct Member {
 
 impl Member {
     /// A member that starts for the first time, with nothing in its log.
-    pub fn first(alloc: Global, me: Pid, durable: Durable) -> Member
+    pub fn first(alloc: Global, me: Pid, durable: Durable) -> Result<Member, NoMemory>
         requires id { IsPid me }
         requires sole { IsSoleDurable me durable }
         requires empty { log_of_part durable.part ≡ [] }
-        ensures member { IsMember result }
-        ensures durable { result.durable ≡ durable }
-        ensures volatile { result.volatile ≡ steps.first_volatile me }
-        ensures me { result.me ≡ me }
+        ensures member { IfOk result IsMember }
+        ensures durable { IfOk result (λ m. m.durable ≡ durable) }
+        ensures volatile { IfOk result (λ m. shown m.volatile ≡ steps.first_volatile me) }
+        ensures me { IfOk result (λ m. m.me ≡ me) }
     {
-        Member {
+        let Some(part) = &durable.part else {
+            unreachable!();
+        };
+        let volatile = first_volatile(alloc, me, part)?;
+        let clients = Clients::new(alloc);
+        Ok(Member {
             alloc,
             me,
             durable,
-            volatile: first_volatile(alloc, me),
-            clients: Clients::new(alloc),
-        }
+            volatile,
+            clients,
+        })
     }
 
     /// A member that is opened again. Its service is made anew from its log.
@@ -56,13 +63,13 @@ impl Member {
         requires sole { IsSoleDurable me durable }
         ensures member { IfOk result IsMember }
         ensures durable { IfOk result (λ m. m.durable ≡ durable) }
-        ensures volatile { IfOk result (λ m. m.volatile ≡ steps.volatile_again me durable.part) }
+        ensures volatile { IfOk result (λ m. shown m.volatile ≡ steps.volatile_again me durable.part) }
         ensures me { IfOk result (λ m. m.me ≡ me) }
     {
         let Some(part) = &durable.part else {
             unreachable!();
         };
-        let volatile = volatile_again(alloc, me, part);
+        let volatile = volatile_again(alloc, me, part)?;
         let clients = clients_of(alloc, part.tail.as_slice())?;
         Ok(Member {
             alloc,
@@ -76,7 +83,7 @@ impl Member {
     /// Why it refuses a command.
     pub fn refusal(&self) -> Option<Refusal>
         requires { IsMember self.now }
-        ensures { result ≡ refusal_of self.now.volatile self.now.durable.part }
+        ensures { result ≡ refusal_of (shown self.now.volatile) self.now.durable.part }
     {
         match &self.durable.part {
             Some(part) => refusal(part, &self.volatile),
@@ -113,7 +120,7 @@ impl Member {
         command: Command,
     ) -> Result<(u64, Answer), StepFail>
         requires member { IsMember self.old }
-        requires accepts { refusal_of self.old.volatile self.old.durable.part ≡ None }
+        requires accepts { refusal_of (shown self.old.volatile) self.old.durable.part ≡ None }
         requires range { CommandInRange command }
         requires ready { IsReady store.old }
         ensures appended { IfOk result (λ x. Appends self.old command self.new x.0 x.1) }

@@ -1,0 +1,80 @@
+-- Each member stands once among those that replied.
+use Rattle.std.proofs.Common.{◌≡◌, ◌≢◌, ℕ, ◌<◌, Bool, true, false, cond, eqb, ◌&&◌, ◌||◌, not, List, [], ◌∷◌, ◌++◌, length, refl, sym, ap, ◌∙◌, subst, arith, length-append}
+use Rattle.std.proofs.lemmas.Bool.{eqb-true, eq-eqb, and_parts, false≢true}
+use Rattle.std.proofs.lemmas.Bool.Decides.{Decides-eqb}
+use Rattle.std.proofs.lemmas.Cmp.{nat_eq_equiv}
+use Rattle.std.proofs.lemmas.List.{length-map, map-append}
+use Rattle.std.proofs.lemmas.List.Folds.{list_any-append}
+use Rattle.std.proofs.lemmas.List.Kept.{AllPairs-filter}
+use Rattle.std.proofs.lemmas.Map.Keys.{IsDistinct-push}
+use Rattle.std.proofs.lemmas.Map.Made.{length-le_from_is_member, is_member-filter, AllPairs-from_IsDistinct, IsDistinct-from_AllPairs}
+use Rattle.std.specs.List.{filter, IsDistinct}
+use Rattle.std.specs.Prelude.{nat_eq}
+use Rattle.std.specs.Set.{is_member}
+use Rattle.op_types.specs.declared.messages.Heard.{Heard}
+use Rattle.op_quorum.specs.Quorums.{AreVoters}
+use Rattle.op_steps.specs.Heartbeats.{without, heard_with}
+use Rattle.op_heartbeat.specs.Hearing.{Hearing, IsMember, senders, reply_taken}
+
+pub AreVoters-none : (members : List ℕ) → AreVoters members []
+unfolding IsDistinct
+AreVoters-none members = record { once = tt; among = λ p one. absurd (false≢true one) }
+
+-- ---- all but one
+
+senders-one : (b : Bool) (h : Heard) (rest : List Heard) (others : List ℕ) → senders rest ≡ others → senders (cond b (h ∷ rest) rest) ≡ cond b (h.from ∷ others) others
+senders-one true h rest others is = ap (λ (ps : List ℕ). h.from ∷ ps) is
+senders-one false h rest others is = is
+
+senders-without : (heard : List Heard) (p : ℕ) → senders (without heard p) ≡ filter (λ q. not (eqb q p)) (senders heard)
+senders-without [] p = refl
+senders-without (h ∷ heard) p = senders-one (not (eqb h.from p)) h (without heard p) (filter (λ q. not (eqb q p)) (senders heard)) (senders-without heard p)
+
+IsDistinct-filter : (test : ℕ → Bool) (ps : List ℕ) → IsDistinct nat_eq ps → IsDistinct nat_eq (filter test ps)
+IsDistinct-filter test ps once = IsDistinct-from_AllPairs Decides-eqb (filter test ps) (AllPairs-filter (λ p q. p ≢ q) test ps (AllPairs-from_IsDistinct Decides-eqb ps once))
+
+-- ---- one more
+
+-- who is among the voters that pass a test
+member_passing : (test : ℕ → Bool) (ps : List ℕ) (p : ℕ) → is_member nat_eq (filter test ps) p ≡ (is_member nat_eq ps p && test p)
+member_passing test ps p = is_member-filter nat_eq_equiv test p (λ x e. ap test (eqb-true p x e)) ps
+
+one_or : (a b : Bool) {P : Type 0} → (a ≡ true → P) → (b ≡ true → P) → (a || b) ≡ true → P
+one_or true b first second h = first refl
+one_or false b first second h = second h
+
+among_more : (members ps : List ℕ) (p : ℕ) → IsMember members p → ((q : ℕ) → is_member nat_eq ps q ≡ true → IsMember members q) → (q : ℕ) → is_member nat_eq (ps ++ p ∷ []) q ≡ true → IsMember members q
+among_more members ps p member among q h =
+    one_or (is_member nat_eq ps q) (is_member nat_eq (p ∷ []) q) (among q)
+    (λ last. one_or (eqb q p) false (λ same. subst (IsMember members) (sym (eqb-true q p same)) member) (λ none. absurd (false≢true none)) last)
+    (sym (list_any-append (eqb q) ps (p ∷ [])) ∙ h)
+
+not_other : (a b : Bool) → b ≡ true → (a && not b) ≡ false
+not_other true b h = rw h refl
+not_other false b h = refl
+
+AreVoters-more : (members ps : List ℕ) (p : ℕ) → IsMember members p → AreVoters members ps → AreVoters members (filter (λ q. not (eqb q p)) ps ++ p ∷ [])
+AreVoters-more members ps p member v =
+    let test : ℕ → Bool = λ q. not (eqb q p) in
+    record {
+      once = IsDistinct-push nat_eq_equiv (filter test ps) p (IsDistinct-filter test ps v.once) (member_passing test ps p ∙ not_other (is_member nat_eq ps p) (eqb p p) (nat_eq_equiv.refl p));
+      among = among_more members (filter test ps) p member (λ q h. v.among q (and_parts (is_member nat_eq ps q) (test q) (sym (member_passing test ps q) ∙ h)).0);
+    }
+
+-- those that replied, when one more reply came
+senders-taken : (heard : List Heard) (reply : Heard) → senders (heard_with heard reply) ≡ filter (λ q. not (eqb q reply.from)) (senders heard) ++ reply.from ∷ []
+senders-taken heard reply = map-append (λ (h : Heard). h.from) (without heard reply.from) (reply ∷ []) ∙ ap (λ (ps : List ℕ). ps ++ reply.from ∷ []) (senders-without heard reply.from)
+
+pub AreVoters-taken : (members : List ℕ) (heard : List Heard) (reply : Heard) → IsMember members reply.from → AreVoters members (senders heard) → AreVoters members (senders (heard_with heard reply))
+AreVoters-taken members heard reply member v = subst (AreVoters members) (sym (senders-taken heard reply)) (AreVoters-more members (senders heard) reply.from member v)
+
+-- there is a member for each reply, and one more
+pub room_for_one : (members : List ℕ) (heard : List Heard) (reply : Heard) → IsMember members reply.from → AreVoters members (senders heard) → length (without heard reply.from) < length members
+room_for_one members heard reply member v =
+    let w = AreVoters-taken members heard reply member v in
+    omega (arith, length-le_from_is_member nat_eq_equiv (senders (heard_with heard reply)) members w.once w.among, length-map (heard_with heard reply) (λ (h : Heard). h.from), length-append (without heard reply.from) (reply ∷ []))
+
+-- a reply for the current round is kept
+pub taken_now : (members : List ℕ) (heard : List Heard) (round current : ℕ) (reply : Heard) → round ≡ current
+    → reply_taken (record { members = members; round = current; heard = heard }) round reply ≡ record { members = members; round = current; heard = heard_with heard reply }
+taken_now members heard round current reply now = ap (λ (b : Bool). let h : Hearing = record { members = members; round = current; heard = cond b (heard_with heard reply) heard } in h) (eq-eqb round current now)

@@ -1,0 +1,31 @@
+-- What a server keeps of its heartbeat rounds.
+use Rattle.std.specs.Prelude.{◌≡◌, ℕ, nat_eq, true, List, [], map}
+use Rattle.std.specs.Set.{is_member}
+use Rattle.op_types.specs.declared.messages.Heard.{Heard}
+use Rattle.op_steps.specs.Heartbeats.{next_round, heard_in}
+
+-- the members, the current round and its replies
+pub record Hearing : Type 0 where
+  pub members : List ℕ
+  pub round : ℕ  -- 0 before the first one
+  pub heard : List Heard  -- one of each sender
+
+-- a member among these
+abbrev pub IsMember : List ℕ → ℕ → Type 0
+IsMember members p = is_member nat_eq members p ≡ true
+
+-- those that replied
+abbrev pub senders : List Heard → List ℕ
+senders heard = map (λ h. h.from) heard
+
+-- before the first round
+abbrev pub hearing_of : List ℕ → Hearing
+hearing_of members = record { members = members; round = 0; heard = [] }
+
+-- the next round, in which nobody has replied yet
+abbrev pub round_begun : Hearing → Hearing
+round_begun h = record h { round = next_round h.round; heard = [] }
+
+-- after a reply for some round came
+abbrev pub reply_taken : Hearing → ℕ → Heard → Hearing
+reply_taken h round reply = record h { heard = heard_in h.round h.heard round reply }

@@ -1,0 +1,43 @@
+use crate::Rounds;
+use op_types::{Ballot, Body, Heard, Members, Pid};
+use std::alloc::Global;
+use std::process::Abort;
+use std::test::Fail;
+
+fn ballot(number: u64, pid: Pid) -> Ballot {
+    Ballot { number, pid }
+}
+
+#[test]
+fn the_replies_of_a_round_are_kept_once_a_member(
+    rt: &(impl Abort + Alloc<A = Global>),
+) -> Result<(), Fail> {
+    let mut members = Members::new(rt.alloc());
+    for pid in 1..=3 {
+        members.push(pid)?;
+    }
+    let mut rounds = Rounds::new(rt.alloc(), &members)?;
+    assert_eq!(rt; rounds.begin_round(), 1);
+    rounds.take_reply(2, 1, ballot(1, 2), false);
+    rounds.take_reply(3, 1, ballot(4, 3), true);
+    rounds.take_reply(2, 1, ballot(2, 2), true);
+    rounds.take_reply(3, 2, ballot(9, 3), true);
+    let third = Heard {
+        from: 3,
+        ballot: ballot(4, 3),
+        flag: true,
+    };
+    let second = Heard {
+        from: 2,
+        ballot: ballot(2, 2),
+        flag: true,
+    };
+    assert_eq!(rt; rounds.end_round(), [third, second].as_slice());
+    assert_eq!(rt; rounds.begin_round(), 2);
+    assert!(rt; rounds.end_round().is_empty());
+    assert_eq!(rt;
+        Rounds::answer(2, ballot(1, 1), true),
+        Body::HeartbeatReply(2, ballot(1, 1), true)
+    );
+    Ok(())
+}
