@@ -3,3 +3,4 @@ pub mod OneReading
 pub mod OneSpelling
 pub mod PlainBytes
 pub mod Shapes
+pub mod Unspelled

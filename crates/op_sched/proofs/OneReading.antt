@@ -1,5 +1,5 @@
 -- A text has one reading, which is in range.
-use Rattle.std.proofs.Common.{◌≡◌, ℕ, ◌<◌, ◌^◌, ◌+◌, List, [], ◌∷◌, get_or, refl, sym, ap, ◌∙◌, arith, inl, inr}
+use Rattle.std.proofs.Common.{◌≡◌, ℕ, ◌<◌, ◌^◌, ◌+◌, List, [], ◌∷◌, get_or, length, refl, sym, ap, ◌∙◌, arith, inl, inr}
 use Rattle.std.specs.Prelude.{codes}
 use Rattle.std.specs.Fmt.{decimal}
 use Rattle.std.proofs.lemmas.Bool.{false≢true}
@@ -13,27 +13,28 @@ use Rattle.op_types.specs.declared.events.What.{What}
 use Rattle.op_types.specs.declared.events.What.TheVariants as what
 use Rattle.op_types.specs.declared.events.Event.{Event}
 use Rattle.op_sched.specs.declared.schedule.Schedule.{Schedule}
-use Rattle.op_sched.specs.Grammar.{IsPid, IsWhat, IsAHeader, IsOneMember, AreInRange, AreEvents, AreMembers, AreLines, IsSchedule, IsFirstBadEvent, IsFirstBadOf, IsFirstBadLine, op_words, what_words, lines_of}
+use Rattle.op_sched.proofs.OneSpelling.{one_spelling_of}
+use Rattle.op_sched.specs.Grammar.{IsPid, IsOp, IsWhat, IsAHeader, IsOneMember, AreInRange, AreEvents, AreMembers, AreLines, IsSchedule, IsFirstBadEvent, IsFirstBadOf, IsFirstBadLine, op_words, what_words, lines_of, numbered}
 
-no_bad_event : (k n : ℕ) (lines : List (List ℕ)) (events : List Event) → AreEvents k lines events → IsFirstBadEvent k lines n → ⊥
-no_bad_event k n [] events good bad = absurd bad
-no_bad_event k n (line ∷ lines) [] good bad = absurd good
-no_bad_event k n (line ∷ lines) (e ∷ events) good (inl bad) = bad.1 (e.what, good.1)
-no_bad_event k n (line ∷ lines) (e ∷ events) good (inr bad) = no_bad_event (k + 1) n lines events good.2 bad.1
+no_bad_event : (n : ℕ) (lines : List (ℕ × List ℕ)) (events : List Event) → AreEvents lines events → IsFirstBadEvent lines n → ⊥
+no_bad_event n [] events good bad = absurd bad
+no_bad_event n (line ∷ lines) [] good bad = absurd good
+no_bad_event n (line ∷ lines) (e ∷ events) good (inl bad) = bad.1 (e.what, good.1)
+no_bad_event n (line ∷ lines) (e ∷ events) good (inr bad) = no_bad_event n lines events good.2 bad.1
 
 no_bad_header : (header : List ℕ) (pids : List ℕ) → AreMembers header pids → (IsAHeader header → ⊥) → ⊥
 no_bad_header header [] good bad = absurd good
 no_bad_header header (p ∷ []) good bad = bad (p, good)
 no_bad_header header (p ∷ q ∷ pids) good bad = absurd good
 
-no_bad_of : (lines : List (List ℕ)) (s : Schedule) (n : ℕ) → AreLines lines s → IsFirstBadOf lines n → ⊥
-no_bad_of [] s n good bad = absurd good
-no_bad_of (header ∷ lines) s n good (inl bad) = no_bad_header header s.members good.0 bad.1
-no_bad_of (header ∷ lines) s n good (inr bad) = no_bad_event 2 n lines s.events good.2 bad.1
+no_bad_of : (behind : ℕ) (lines : List (ℕ × List ℕ)) (s : Schedule) (n : ℕ) → AreLines lines s → IsFirstBadOf behind lines n → ⊥
+no_bad_of behind [] s n good bad = absurd good
+no_bad_of behind (header ∷ lines) s n good (inl bad) = no_bad_header header.1 s.members good.0 bad.1
+no_bad_of behind (header ∷ lines) s n good (inr bad) = no_bad_event n lines s.events good.2 bad.1
 
 -- a schedule's text has no bad line
 pub no_bad_line : (text : List ℕ) (s : Schedule) (n : ℕ) → IsSchedule text s → IsFirstBadLine text n → ⊥
-no_bad_line text s n good bad = no_bad_of (lines_of text) s n good bad
+no_bad_line text s n good bad = no_bad_of (length (lines_of text) + 1) (numbered 1 (lines_of text)) s n good bad
 
 -- ---- one schedule
 
@@ -72,16 +73,18 @@ one_name w v e = sym (named w) ∙ ap first e ∙ named v
 abbrev command : ℕ → ℕ → Op → Command
 command client seq op = record { client = client; seq = seq; op = op }
 
-one_put : (p q a b m n : ℕ) (o r : Op) → p < 2 ^ 64 → q < 2 ^ 64 → a < 2 ^ 64 → b < 2 ^ 64 → m < 2 ^ 64 → n < 2 ^ 64 → op_words p a m o ≡ op_words q b n r → (p ≡ q) × (a ≡ b) × (m ≡ n) × (o ≡ r)
-one_put p q a b m n (Put k v) (Put l w) hp hq ha hb hm hn e =
-    (decimal_injective p q hp hq cc, decimal_injective a b ha hb cc, decimal_injective m n hm hn cc, cc)
+one_put : (p q a b m n : ℕ) (o r : Op) → p < 2 ^ 64 → q < 2 ^ 64 → a < 2 ^ 64 → b < 2 ^ 64 → m < 2 ^ 64 → n < 2 ^ 64 → IsOp o → IsOp r → op_words p a m o ≡ op_words q b n r → (p ≡ q) × (a ≡ b) × (m ≡ n) × (o ≡ r)
+one_put p q a b m n (Put k v) (Put l w) hp hq ha hb hm hn io ir e =
+    let keys = one_spelling_of k l io.0.2 ir.0.2 cc in
+    let values = one_spelling_of v w io.1.1 ir.1.1 cc in
+    (decimal_injective p q hp hq cc, decimal_injective a b ha hb cc, decimal_injective m n hm hn cc, cc (keys, values))
 
 one_what : (w v : What) → IsWhat w → IsWhat v → what_words w ≡ what_words v → w ≡ v
 one_what (what.Tick p) (what.Tick q) iw iv e = ap what.Tick (one_pid p q iw iv cc)
 one_what (what.Crash p) (what.Crash q) iw iv e = ap what.Crash (one_pid p q iw iv cc)
 one_what (what.Start p) (what.Start q) iw iv e = ap what.Start (one_pid p q iw iv cc)
 one_what (what.Command p c) (what.Command q d) iw iv e =
-    let same = one_put p q c.client d.client c.seq d.seq c.op d.op (omega arith) (omega arith) (omega arith) (omega arith) (omega arith) (omega arith) e in
+    let same = one_put p q c.client d.client c.seq d.seq c.op d.op (omega arith) (omega arith) (omega arith) (omega arith) (omega arith) (omega arith) iw.1.2 iv.1.2 e in
     let here : c ≡ d = cc (ap (λ (x : ℕ). command x c.seq c.op) same.1, ap (λ (x : ℕ). command d.client x c.op) same.2, ap (λ (x : Op). command d.client d.seq x) same.3) in
     ap (λ (x : ℕ). what.Command x c) same.0 ∙ ap (what.Command q) here
 one_what w v iw iv e = absurd (false≢true ((bytes_eq-Decides (name_of w) (name_of v)).1 (one_name w v e)))
@@ -89,16 +92,16 @@ one_what w v iw iv e = absurd (false≢true ((bytes_eq-Decides (name_of w) (name
 abbrev event : ℕ → What → Event
 event line w = record { line = line; what = w }
 
-one_events : (k : ℕ) (lines : List (List ℕ)) (es fs : List Event) → AreEvents k lines es → AreEvents k lines fs → es ≡ fs
-one_events k [] [] [] p q = refl
-one_events k [] [] (f ∷ fs) p q = absurd q
-one_events k [] (e ∷ es) fs p q = absurd p
-one_events k (line ∷ lines) [] fs p q = absurd p
-one_events k (line ∷ lines) (e ∷ es) [] p q = absurd q
-one_events k (line ∷ lines) (e ∷ es) (f ∷ fs) p q =
+one_events : (lines : List (ℕ × List ℕ)) (es fs : List Event) → AreEvents lines es → AreEvents lines fs → es ≡ fs
+one_events [] [] [] p q = refl
+one_events [] [] (f ∷ fs) p q = absurd q
+one_events [] (e ∷ es) fs p q = absurd p
+one_events (line ∷ lines) [] fs p q = absurd p
+one_events (line ∷ lines) (e ∷ es) [] p q = absurd q
+one_events (line ∷ lines) (e ∷ es) (f ∷ fs) p q =
     let same = one_what e.what f.what p.1.0 q.1.0 (sym p.1.1 ∙ q.1.1) in
     let here : e ≡ f = ap (λ (n : ℕ). event n e.what) (p.0 ∙ sym q.0) ∙ ap (event f.line) same in
-    let rest = one_events (k + 1) lines es fs p.2 q.2 in
+    let rest = one_events lines es fs p.2 q.2 in
     cc (here, rest)
 
 one_members : (header : List ℕ) (ps qs : List ℕ) → AreMembers header ps → AreMembers header qs → ps ≡ qs
@@ -111,36 +114,36 @@ one_members header (a ∷ []) (b ∷ []) p q = ap (λ (x : ℕ). x ∷ []) (one_
 abbrev schedule : List ℕ → List ℕ → List Event → Schedule
 schedule members spares events = record { members = members; spares = spares; events = events }
 
-one_of : (lines : List (List ℕ)) (s t : Schedule) → AreLines lines s → AreLines lines t → s ≡ t
+one_of : (lines : List (ℕ × List ℕ)) (s t : Schedule) → AreLines lines s → AreLines lines t → s ≡ t
 one_of [] s t p q = absurd p
 one_of (header ∷ lines) s t p q =
-    ap (λ (ms : List ℕ). schedule ms s.spares s.events) (one_members header s.members t.members p.0 q.0)
+    ap (λ (ms : List ℕ). schedule ms s.spares s.events) (one_members header.1 s.members t.members p.0 q.0)
     ∙ ap (λ (ms : List ℕ). schedule t.members ms s.events) (p.1 ∙ sym q.1)
-    ∙ ap (schedule t.members t.spares) (one_events 2 lines s.events t.events p.2 q.2)
+    ∙ ap (schedule t.members t.spares) (one_events lines s.events t.events p.2 q.2)
 
 -- a text is one schedule's
 pub one_schedule : (text : List ℕ) (s t : Schedule) → IsSchedule text s → IsSchedule text t → s ≡ t
-one_schedule text s t p q = one_of (lines_of text) s t p q
+one_schedule text s t p q = one_of (numbered 1 (lines_of text)) s t p q
 
 -- ---- one bad line
 
-one_bad_event : (k m n : ℕ) (lines : List (List ℕ)) → IsFirstBadEvent k lines m → IsFirstBadEvent k lines n → m ≡ n
-one_bad_event k m n [] p q = absurd p
-one_bad_event k m n (line ∷ lines) (inl p) (inl q) = p.0 ∙ sym q.0
-one_bad_event k m n (line ∷ lines) (inl p) (inr q) = absurd (p.1 q.0)
-one_bad_event k m n (line ∷ lines) (inr p) (inl q) = absurd (q.1 p.0)
-one_bad_event k m n (line ∷ lines) (inr p) (inr q) = one_bad_event (k + 1) m n lines p.1 q.1
+one_bad_event : (m n : ℕ) (lines : List (ℕ × List ℕ)) → IsFirstBadEvent lines m → IsFirstBadEvent lines n → m ≡ n
+one_bad_event m n [] p q = absurd p
+one_bad_event m n (line ∷ lines) (inl p) (inl q) = p.0 ∙ sym q.0
+one_bad_event m n (line ∷ lines) (inl p) (inr q) = absurd (p.1 q.0)
+one_bad_event m n (line ∷ lines) (inr p) (inl q) = absurd (q.1 p.0)
+one_bad_event m n (line ∷ lines) (inr p) (inr q) = one_bad_event m n lines p.1 q.1
 
-one_bad_of : (lines : List (List ℕ)) (m n : ℕ) → IsFirstBadOf lines m → IsFirstBadOf lines n → m ≡ n
-one_bad_of [] m n p q = p ∙ sym q
-one_bad_of (header ∷ lines) m n (inl p) (inl q) = p.0 ∙ sym q.0
-one_bad_of (header ∷ lines) m n (inl p) (inr q) = absurd (p.1 q.0)
-one_bad_of (header ∷ lines) m n (inr p) (inl q) = absurd (q.1 p.0)
-one_bad_of (header ∷ lines) m n (inr p) (inr q) = one_bad_event 2 m n lines p.1 q.1
+one_bad_of : (behind : ℕ) (lines : List (ℕ × List ℕ)) (m n : ℕ) → IsFirstBadOf behind lines m → IsFirstBadOf behind lines n → m ≡ n
+one_bad_of behind [] m n p q = p ∙ sym q
+one_bad_of behind (header ∷ lines) m n (inl p) (inl q) = p.0 ∙ sym q.0
+one_bad_of behind (header ∷ lines) m n (inl p) (inr q) = absurd (p.1 q.0)
+one_bad_of behind (header ∷ lines) m n (inr p) (inl q) = absurd (q.1 p.0)
+one_bad_of behind (header ∷ lines) m n (inr p) (inr q) = one_bad_event m n lines p.1 q.1
 
 -- a text has one first bad line
 pub one_bad_line : (text : List ℕ) (m n : ℕ) → IsFirstBadLine text m → IsFirstBadLine text n → m ≡ n
-one_bad_line text m n p q = one_bad_of (lines_of text) m n p q
+one_bad_line text m n p q = one_bad_of (length (lines_of text) + 1) (numbered 1 (lines_of text)) m n p q
 
 -- ---- what a schedule says is in range
 
@@ -149,13 +152,13 @@ one_in_range header [] p = absurd p
 one_in_range header (a ∷ []) p = (a, refl, p.0)
 one_in_range header (a ∷ b ∷ members) p = absurd p
 
-one_member_of : (lines : List (List ℕ)) (s : Schedule) → AreLines lines s → IsOneMember s.members
+one_member_of : (lines : List (ℕ × List ℕ)) (s : Schedule) → AreLines lines s → IsOneMember s.members
 one_member_of [] s p = absurd p
-one_member_of (header ∷ lines) s p = one_in_range header s.members p.0
+one_member_of (header ∷ lines) s p = one_in_range header.1 s.members p.0
 
 -- a schedule's one member is an id
 pub member_in_range : (text : List ℕ) (s : Schedule) → IsSchedule text s → IsOneMember s.members
-member_in_range text s p = one_member_of (lines_of text) s p
+member_in_range text s p = one_member_of (numbered 1 (lines_of text)) s p
 
 one_id : (members : List ℕ) → IsOneMember members → members ≡ get_or members 0 0 ∷ []
 one_id members (p, e, h) = rw e refl
@@ -164,16 +167,16 @@ one_id members (p, e, h) = rw e refl
 pub one_member : (text : List ℕ) (s : Schedule) → IsSchedule text s → s.members ≡ get_or s.members 0 0 ∷ []
 one_member text s p = one_id s.members (member_in_range text s p)
 
-are_in_range : (k : ℕ) (lines : List (List ℕ)) (events : List Event) → AreEvents k lines events → AreInRange events
-are_in_range k [] [] p = λ i d lt. absurd (omega arith)
-are_in_range k [] (e ∷ events) p = absurd p
-are_in_range k (line ∷ lines) [] p = absurd p
-are_in_range k (line ∷ lines) (e ∷ events) p = All-cons (λ (f : Event). IsWhat f.what) e events p.1.0 (are_in_range (k + 1) lines events p.2)
+are_in_range : (lines : List (ℕ × List ℕ)) (events : List Event) → AreEvents lines events → AreInRange events
+are_in_range [] [] p = λ i d lt. absurd (omega arith)
+are_in_range [] (e ∷ events) p = absurd p
+are_in_range (line ∷ lines) [] p = absurd p
+are_in_range (line ∷ lines) (e ∷ events) p = All-cons (λ (f : Event). IsWhat f.what) e events p.1.0 (are_in_range lines events p.2)
 
-events_in_range_of : (lines : List (List ℕ)) (s : Schedule) → AreLines lines s → AreInRange s.events
+events_in_range_of : (lines : List (ℕ × List ℕ)) (s : Schedule) → AreLines lines s → AreInRange s.events
 events_in_range_of [] s p = absurd p
-events_in_range_of (header ∷ lines) s p = are_in_range 2 lines s.events p.2
+events_in_range_of (header ∷ lines) s p = are_in_range lines s.events p.2
 
 -- each event of a schedule is in range
 pub events_in_range : (text : List ℕ) (s : Schedule) → IsSchedule text s → AreInRange s.events
-events_in_range text s p = events_in_range_of (lines_of text) s p
+events_in_range text s p = events_in_range_of (numbered 1 (lines_of text)) s p

@@ -12,14 +12,14 @@ one_digit m n hm hn e = grind (arith, nat_tests)
 one_byte : (a b : ℕ) → a / 16 ≡ b / 16 → a % 16 ≡ b % 16 → a ≡ b
 one_byte a b e f = omega arith
 
-percent_is_escaped : (b : ℕ) → is_plain b ≡ true → 37 ≡ b → ⊥
+pub percent_is_escaped : (b : ℕ) → is_plain b ≡ true → 37 ≡ b → ⊥
 percent_is_escaped b is e = grind (arith, nat_tests)
 
 -- a byte, where the test says whether it is plain
-abbrev spelled_as : Bool → ℕ → List ℕ
+abbrev pub spelled_as : Bool → ℕ → List ℕ
 spelled_as plain b = cond plain (b ∷ []) (escaped b)
 
-first_same : (p q : Bool) (a b : ℕ) (more rest : List ℕ) → a < 256 → b < 256 → (p ≡ true → 37 ≡ a → ⊥) → (q ≡ true → 37 ≡ b → ⊥)
+pub first_same : (p q : Bool) (a b : ℕ) (more rest : List ℕ) → a < 256 → b < 256 → (p ≡ true → 37 ≡ a → ⊥) → (q ≡ true → 37 ≡ b → ⊥)
     → spelled_as p a ++ more ≡ spelled_as q b ++ rest → (a ≡ b) × (more ≡ rest)
 first_same true true a b more rest ha hb pa qb e = (cc, cc)
 first_same true false a b more rest ha hb pa qb e = absurd (pa refl cc)
@@ -37,7 +37,7 @@ not_percent : (p : Bool) (b : ℕ) (more : List ℕ) → (p ≡ true → 37 ≡ 
 not_percent true b more pb e = pb refl cc
 not_percent false b more pb e = cc
 
-abbrev IsByte : ℕ → Type 0
+abbrev pub IsByte : ℕ → Type 0
 IsByte b = b < 256
 
 all_same : (xs ys : List ℕ) → All IsByte xs → All IsByte ys → flat_map spelled_byte xs ≡ flat_map spelled_byte ys → xs ≡ ys

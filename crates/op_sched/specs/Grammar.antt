@@ -1,5 +1,5 @@
--- The schedule grammar: a header line, and then a line for each event.
-use Rattle.std.specs.Prelude.{◌≡◌, ◌==◌, ◌⊎◌, ℕ, ◌+◌, ◌≤◌, ◌<◌, ◌^◌, All, List, [], ◌∷◌, length, codes, decimal, if◌then◌else◌}
+-- The schedule grammar: a header line, and then a line for each event; lines that are empty or comments stand anywhere.
+use Rattle.std.specs.Prelude.{◌≡◌, ◌==◌, ◌⊎◌, ℕ, ◌+◌, ◌≤◌, ◌<◌, ◌^◌, Bool, true, All, List, [], ◌∷◌, length, codes, decimal, if◌then◌else◌}
 use Rattle.std.specs.List.{slice_split}
 use Rattle.op_types.specs.declared.log.Op.{Op}
 use Rattle.op_types.specs.declared.log.Op.TheVariants.{Put}
@@ -8,7 +8,7 @@ use Rattle.op_types.specs.declared.events.What.{What}
 use Rattle.op_types.specs.declared.events.What.TheVariants as what
 use Rattle.op_types.specs.declared.events.Event.{Event}
 use Rattle.op_sched.specs.declared.schedule.Schedule.{Schedule}
-use Rattle.op_sched.specs.Plain.{AllPlain}
+use Rattle.op_sched.specs.Plain.{AreBytes, spelled}
 
 -- ---- lines and words
 
@@ -21,6 +21,16 @@ without_empty_end (x ∷ y ∷ more) = x ∷ without_empty_end (y ∷ more)
 -- the lines of a text: each ends with LF, which the last one may lack
 abbrev pub lines_of : List ℕ → List (List ℕ)
 lines_of text = without_empty_end (slice_split (λ b. b == 10) text)
+
+-- a line is skipped if it is empty or begins with `#`
+abbrev pub is_skipped : List ℕ → Bool
+is_skipped [] = true
+is_skipped (b ∷ line) = b == 35
+
+-- of lines from the number n on, those that aren't skipped, each with its number
+abbrev pub numbered : ℕ → List (List ℕ) → List (ℕ × List ℕ)
+numbered n [] = []
+numbered n (line ∷ lines) = if is_skipped line then numbered (n + 1) lines else (n, line) ∷ numbered (n + 1) lines
 
 -- the words of a line, which one space parts
 abbrev pub words_of : List ℕ → List (List ℕ)
@@ -36,13 +46,13 @@ IsPid p = (1 ≤ p) × (p ≤ 999)
 abbrev pub IsNumber : ℕ → Type 0
 IsNumber n = (1 ≤ n) × (n < 2 ^ 62)
 
--- a key that a schedule can write
+-- a key has 1 to 64 bytes
 abbrev pub IsKey : List ℕ → Type 0
-IsKey key = (1 ≤ length key) × (length key ≤ 64) × AllPlain key
+IsKey key = (1 ≤ length key) × (length key ≤ 64) × AreBytes key
 
--- a value that a schedule can write
+-- a value has up to 4,096 bytes
 abbrev pub IsValue : List ℕ → Type 0
-IsValue value = (1 ≤ length value) × (length value ≤ 4096) × AllPlain value
+IsValue value = (length value ≤ 4096) × AreBytes value
 
 -- an operation whose parts are in range
 abbrev pub IsOp : Op → Type 0
@@ -75,7 +85,7 @@ node_words name p = name ∷ decimal p ∷ []
 
 -- a client's operation at a server
 abbrev pub op_words : ℕ → ℕ → ℕ → Op → List (List ℕ)
-op_words p client seq (Put key value) = codes "put" ∷ decimal p ∷ decimal client ∷ decimal seq ∷ key ∷ value ∷ []
+op_words p client seq (Put key value) = codes "put" ∷ decimal p ∷ decimal client ∷ decimal seq ∷ spelled key ∷ spelled value ∷ []
 
 -- a command at a server
 abbrev pub command_words : ℕ → Command → List (List ℕ)
@@ -98,12 +108,12 @@ IsEventLine line w = IsWhat w × (words_of line ≡ what_words w)
 abbrev pub IsHeader : List ℕ → ℕ → Type 0
 IsHeader line p = IsPid p × (words_of line ≡ node_words (codes "members") p)
 
--- lines from the number n on, and their events
-abbrev pub AreEvents : ℕ → List (List ℕ) → List Event → Type 0
-AreEvents n [] [] = Unit {0}
-AreEvents n [] (e ∷ events) = ⊥
-AreEvents n (line ∷ lines) [] = ⊥
-AreEvents n (line ∷ lines) (e ∷ events) = (e.line ≡ n) × IsEventLine line e.what × AreEvents (n + 1) lines events
+-- numbered lines, and their events
+abbrev pub AreEvents : List (ℕ × List ℕ) → List Event → Type 0
+AreEvents [] [] = Unit {0}
+AreEvents [] (e ∷ events) = ⊥
+AreEvents (line ∷ lines) [] = ⊥
+AreEvents (line ∷ lines) (e ∷ events) = (e.line ≡ line.0) × IsEventLine line.1 e.what × AreEvents lines events
 
 -- the members that the line names
 abbrev pub AreMembers : List ℕ → List ℕ → Type 0
@@ -111,14 +121,14 @@ AreMembers line [] = ⊥
 AreMembers line (p ∷ []) = IsHeader line p
 AreMembers line (p ∷ q ∷ pids) = ⊥
 
--- the lines are this schedule's
-abbrev pub AreLines : List (List ℕ) → Schedule → Type 0
+-- the numbered lines are this schedule's
+abbrev pub AreLines : List (ℕ × List ℕ) → Schedule → Type 0
 AreLines [] s = ⊥
-AreLines (header ∷ lines) s = AreMembers header s.members × (s.spares ≡ []) × AreEvents 2 lines s.events
+AreLines (header ∷ lines) s = AreMembers header.1 s.members × (s.spares ≡ []) × AreEvents lines s.events
 
 -- the text is this schedule's
 abbrev pub IsSchedule : List ℕ → Schedule → Type 0
-IsSchedule text s = AreLines (lines_of text) s
+IsSchedule text s = AreLines (numbered 1 (lines_of text)) s
 
 -- ---- the first line that isn't in the grammar
 
@@ -130,16 +140,16 @@ IsAnEvent line = (w : What) × IsEventLine line w
 abbrev pub IsAHeader : List ℕ → Type 0
 IsAHeader line = (p : ℕ) × IsHeader line p
 
--- of lines from the number k on, n is the first that is no event's
-abbrev pub IsFirstBadEvent : ℕ → List (List ℕ) → ℕ → Type 0
-IsFirstBadEvent k [] n = ⊥
-IsFirstBadEvent k (line ∷ lines) n = ((n ≡ k) × (IsAnEvent line → ⊥)) ⊎ (IsAnEvent line × IsFirstBadEvent (k + 1) lines n)
+-- of numbered lines, n is the number of the first that is no event's
+abbrev pub IsFirstBadEvent : List (ℕ × List ℕ) → ℕ → Type 0
+IsFirstBadEvent [] n = ⊥
+IsFirstBadEvent (line ∷ lines) n = ((n ≡ line.0) × (IsAnEvent line.1 → ⊥)) ⊎ (IsAnEvent line.1 × IsFirstBadEvent lines n)
 
--- n is the first line that isn't in the grammar, and 1 where there are none
-abbrev pub IsFirstBadOf : List (List ℕ) → ℕ → Type 0
-IsFirstBadOf [] n = n ≡ 1
-IsFirstBadOf (header ∷ lines) n = ((n ≡ 1) × (IsAHeader header → ⊥)) ⊎ (IsAHeader header × IsFirstBadEvent 2 lines n)
+-- of numbered lines, n is the number of the first that isn't in the grammar, and where there are none the number behind the last line
+abbrev pub IsFirstBadOf : ℕ → List (ℕ × List ℕ) → ℕ → Type 0
+IsFirstBadOf behind [] n = n ≡ behind
+IsFirstBadOf behind (header ∷ lines) n = ((n ≡ header.0) × (IsAHeader header.1 → ⊥)) ⊎ (IsAHeader header.1 × IsFirstBadEvent lines n)
 
--- n is the first line of the text that isn't in the grammar
+-- n is the first line of the text that isn't in the grammar, or behind its last line where it has no header
 abbrev pub IsFirstBadLine : List ℕ → ℕ → Type 0
-IsFirstBadLine text n = IsFirstBadOf (lines_of text) n
+IsFirstBadLine text n = IsFirstBadOf (length (lines_of text) + 1) (numbered 1 (lines_of text)) n

@@ -1,7 +1,11 @@
 -- Bytes that stand for themselves, and the spelling of all others.
-use Rattle.std.specs.Prelude.{ℕ, ◌==◌, ◌&&◌, ◌||◌, ◌/◌, ◌%◌, Bool, true, IsTrue, nat_le, List, [], ◌∷◌, codes, if◌then◌else◌}
+use Rattle.std.specs.Prelude.{ℕ, ◌==◌, ◌&&◌, ◌||◌, ◌/◌, ◌%◌, ◌<◌, All, Bool, true, IsTrue, nat_le, List, [], ◌∷◌, codes, if◌then◌else◌}
 use Rattle.std.specs.Fmt.{digit_glyph}
 use Rattle.std.specs.List.{flat_map, list_all}
+
+-- each number is a byte's
+abbrev pub AreBytes : List ℕ → Type 0
+AreBytes xs = All (λ x. x < 256) xs
 
 -- a letter, a digit, `.` or `_`
 abbrev pub is_plain : ℕ → Bool

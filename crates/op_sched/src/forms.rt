@@ -4,8 +4,9 @@ ghost use Rattle.op_types.specs.declared.log.Command.{Command};
 ghost use Rattle.op_sched.specs.Grammar.{IsPid, IsCommand, node_words, command_words};
 
 use crate::numbers::{client_number, pid};
-use crate::words::{is_key, is_name, is_value};
-use op_types::{Blob, Command, NoMemory, Op, Pid};
+use crate::spelling;
+use crate::words::is_name;
+use op_types::{Command, NoMemory, Op, Pid};
 use std::alloc::Global;
 
 /// The server of a line that is this name and a server.
@@ -33,7 +34,7 @@ pub fn put(alloc: Global, words: &[&[u8]]) -> Result<Option<(Pid, Command)>, NoM
     let [name, id, client, seq, key, value] = words else {
         return Ok(None);
     };
-    if !is_name(name, b"put") || !is_key(key) || !is_value(value) {
+    if !is_name(name, b"put") {
         return Ok(None);
     }
     let Some(id) = pid(id) else {
@@ -45,8 +46,12 @@ pub fn put(alloc: Global, words: &[&[u8]]) -> Result<Option<(Pid, Command)>, NoM
     let Some(seq) = client_number(seq) else {
         return Ok(None);
     };
-    let key = Blob::from_slice(alloc, key)?;
-    let value = Blob::from_slice(alloc, value)?;
+    let Some(key) = spelling::key(alloc, key)? else {
+        return Ok(None);
+    };
+    let Some(value) = spelling::value(alloc, value)? else {
+        return Ok(None);
+    };
     let op = Op::Put(key, value);
     Ok(Some((id, Command { client, seq, op })))
 }

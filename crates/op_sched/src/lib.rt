@@ -3,11 +3,13 @@
 
 mod forms;
 mod laws;
+mod lines;
 mod numbers;
 mod plain;
 mod reading;
 mod reporting;
 mod schedule;
+mod spelling;
 mod summary;
 mod words;
 mod written_entry;
@@ -18,4 +20,5 @@ pub use laws::{one_reading, one_spelling};
 pub use reading::read;
 pub use reporting::report;
 pub use schedule::{SchedFail, Schedule};
+pub use spelling::bytes_of;
 pub use summary::{Line, Lines, Listed, Lists, NodeLine, NodeLines, Running, Summary};

@@ -12,7 +12,7 @@ pub fn is_plain(b: u8) -> bool
 }
 
 /// Whether each byte stands for itself.
-pub fn all_plain(bytes: &[u8]) -> bool
+fn all_plain(bytes: &[u8]) -> bool
     ensures { result ≡ list_all is_plain bytes.now }
 {
     bytes.iter().all(|b| is_plain(*b))

@@ -1,10 +1,11 @@
-ghost use Rattle.std.specs.Prelude.{IfOk, IfSome, IfNone};
-ghost use Rattle.op_sched.specs.Grammar.{lines_of, IsEventLine, IsAnEvent, IsSchedule, IsFirstBadLine, AreEvents, IsFirstBadEvent};
+ghost use Rattle.std.specs.Prelude.{◌+◌, ◌<◌, ◌^◌, length, IfOk, IfSome, IfNone};
+ghost use Rattle.op_sched.specs.Grammar.{lines_of, numbered, IsEventLine, IsAnEvent, IsSchedule, IsFirstBadLine, AreEvents, IsFirstBadEvent};
 ghost use Rattle.op_sched.specs.Failing.{IfBadLine};
 
 use crate::forms::{at_server, put};
+use crate::lines::next_numbered;
 use crate::schedule::{SchedFail, Schedule};
-use crate::words::{next_line, words};
+use crate::words::words;
 use op_types::{Event, Events, Members, NoMemory, What};
 use std::alloc::Global;
 
@@ -13,17 +14,20 @@ pub fn read(alloc: Global, text: &[u8]) -> Result<Schedule, SchedFail>
     ensures found { IfOk result (λ s. IsSchedule text.now s) }
     ensures bad { IfBadLine result (IsFirstBadLine text.now) }
 {
-    let Some((line, rest)) = next_line(text) else {
-        return Err(SchedFail::BadLine { line: 1 });
+    let header = match next_numbered(1, text) {
+        Ok(header) => header,
+        Err(end) => return Err(SchedFail::BadLine { line: end }),
     };
-    let words = words(alloc, line)?;
+    let words = words(alloc, header.line)?;
     let Some(id) = at_server(&words, b"members") else {
-        return Err(SchedFail::BadLine { line: 1 });
+        return Err(SchedFail::BadLine {
+            line: header.number,
+        });
     };
     let mut members = Members::new(alloc);
     members.push(id)?;
     let spares = Members::new(alloc);
-    let events = events(alloc, rest)?;
+    let events = events(alloc, header.number + 1, header.behind)?;
     Ok(Schedule {
         members,
         spares,
@@ -31,21 +35,25 @@ pub fn read(alloc: Global, text: &[u8]) -> Result<Schedule, SchedFail>
     })
 }
 
-/// The events of the text behind the header.
-fn events(alloc: Global, text: &[u8]) -> Result<Events, SchedFail>
-    ensures found { IfOk result (λ events. AreEvents 2 (lines_of text.now) events) }
-    ensures bad { IfBadLine result (IsFirstBadEvent 2 (lines_of text.now)) }
+/// The events of a text whose first line has this number.
+fn events(alloc: Global, number: u64, text: &[u8]) -> Result<Events, SchedFail>
+    requires fits { number + length text.now < 2 ^ 64 }
+    ensures found { IfOk result (λ events. AreEvents (numbered number (lines_of text.now)) events) }
+    ensures bad { IfBadLine result (IsFirstBadEvent (numbered number (lines_of text.now))) }
 {
     let mut events = Events::new(alloc);
-    let mut number: u64 = 2;
+    let mut at = number;
     let mut rest = text;
-    while let Some((line, behind)) = next_line(rest) {
-        let Some(what) = event(alloc, line)? else {
-            return Err(SchedFail::BadLine { line: number });
+    while let Ok(next) = next_numbered(at, rest) {
+        let Some(what) = event(alloc, next.line)? else {
+            return Err(SchedFail::BadLine { line: next.number });
         };
-        events.push(Event { line: number, what })?;
-        number += 1;
-        rest = behind;
+        events.push(Event {
+            line: next.number,
+            what,
+        })?;
+        at = next.number + 1;
+        rest = next.behind;
     }
     Ok(events)
 }

@@ -44,7 +44,7 @@ number_in_range : (n : ℕ) → IsNumber n → spellings.IsNumber n
 number_in_range n p = (p.0, omega (arith, p.1))
 
 op_in_range : (o : Op) → IsOp o → spellings.OpInRange o
-op_in_range (Put key value) ((low, high, plain), (some, few, all)) = ((low, high), few)
+op_in_range (Put key value) ((low, high, key_bytes), (few, value_bytes)) = ((low, high), few)
 
 what_in_range : (w : What) → IsWhat w → WhatInRange w
 what_in_range (what.Tick p) h = tt

@@ -1,16 +1,15 @@
 use Rattle.std.proofs.Common.{sym}
-use Rattle.op_sched.specs.Grammar.{IsKey, IsValue}
 use Rattle.op_sched.proofs.Shapes.{six_words, fourth_word}
 use Rattle.op_sched.proofs.forms.put.Goals as goal
 
 pub returns-clause-found : goal.returns-clause-found
 returns-clause-found c =
-    let key : IsKey c.in_ok-key.key = rw c.in_ok-key.ensures (c.is_key.ensures.0 c.if-not-is_key.false) in
-    let value : IsValue c.in_ok-value.value = rw c.in_ok-value.ensures (c.is_value.ensures.0 c.if-not-is_value.false) in (
+    let key = rw c.in-Some-2.is at c.in_ok-key.ensures.found in
+    let value = rw c.in-Some-3.is at c.in_ok-value.ensures.found in (
       c.in-Some.ensures.found.0,
-      (c.in-Some-client_number.ensures.found.0, c.in-Some-client_number-2.ensures.found.0, (key, value)),
+      (c.in-Some-client_number.ensures.found.0, c.in-Some-client_number-2.ensures.found.0, (key.0, value.0)),
       six_words _ _ _ _ _ _ _ _ _ _ _ _ _ _ c.in-len6.len_at_least c.in-len6.len_below (c.is_name.ensures.0 c.if-not-is_name.false)
-          c.in-Some.ensures.found.1 c.in-Some-client_number.ensures.found.1 c.in-Some-client_number-2.ensures.found.1 (sym c.in_ok-key.ensures) (sym c.in_ok-value.ensures),
+          c.in-Some.ensures.found.1 c.in-Some-client_number.ensures.found.1 c.in-Some-client_number-2.ensures.found.1 (sym key.1) (sym value.1),
     )
 
 pub returns-in_default-client_number-2-clause-none : goal.returns-in_default-client_number-2-clause-none

@@ -2,7 +2,7 @@ use Rattle.std.proofs.Common.{rules, tests, ◌≡◌, ◌+◌, ◌<◌, length,
 use Rattle.std.proofs.lemmas.Iterator.{YieldsList-from_slice}
 use Rattle.std.proofs.lemmas.Iterator.Search.{position_from_yields_List}
 use Rattle.op_sched.proofs.LineEnds.{line_end, lines_of-one, lines_of-more, rest_of}
-use Rattle.op_sched.proofs.words.next_line.Goals as goal
+use Rattle.op_sched.proofs.lines.next_line.Goals as goal
 
 pub returns-in_default-clause-found : goal.returns-in_default-clause-found
 returns-in_default-clause-found c =

@@ -1,0 +1,61 @@
+//! The lines of a text.
+ghost use Rattle.std.specs.Prelude.{◌≡◌, ◌+◌, ◌≤◌, ◌<◌, ◌^◌, [], ◌∷◌, length, IfOk, IfErr, IfSome, IfNone};
+ghost use Rattle.op_sched.specs.Grammar.{is_skipped, lines_of, numbered};
+
+/// The first line of a text, and the text behind it.
+fn next_line(text: &[u8]) -> Option<(&[u8], &[u8])>
+    ensures found { IfSome result (λ x. (lines_of text.now ≡ x.0.now ∷ lines_of x.1.now) × (length x.1.now < length text.now)) }
+    ensures none { IfNone result (lines_of text.now ≡ []) }
+{
+    if text.is_empty() {
+        return None;
+    }
+    let Some(end) = text.iter().position(|b| *b == b'\n') else {
+        return Some((text, &[]));
+    };
+    Some((&text[..end], &text[end + 1..]))
+}
+
+/// Whether a line is empty or a comment.
+fn is_skipped(line: &[u8]) -> bool
+    ensures { result ≡ is_skipped line.now }
+{
+    match line {
+        [] => true,
+        [first, ..] => *first == b'#',
+    }
+}
+
+/// A line that isn't skipped, its number, and the text behind it.
+#[derive(Clone, Copy)]
+pub struct NumberedLine<'a> {
+    pub number: u64,
+    pub line: &'a [u8],
+    pub behind: &'a [u8],
+}
+
+/// The next line that isn't skipped, of a text whose first line has this number. Where there is none, the number behind the
+/// text's last line.
+pub fn next_numbered(number: u64, text: &[u8]) -> Result<NumberedLine<'_>, u64>
+    requires fits { number + length text.now < 2 ^ 64 }
+    ensures found { IfOk result (λ x. numbered number (lines_of text.now) ≡ (x.number, x.line.now) ∷ numbered (x.number + 1) (lines_of x.behind.now)) }
+    ensures shorter { IfOk result (λ x. length x.behind.now < length text.now) }
+    ensures fits { IfOk result (λ x. x.number + 1 + length x.behind.now ≤ number + length text.now) }
+    ensures none { IfErr result (λ end. numbered number (lines_of text.now) ≡ []) }
+    ensures end { IfErr result (λ end. end ≡ number + length (lines_of text.now)) }
+{
+    let mut at = number;
+    let mut rest = text;
+    while let Some((line, behind)) = next_line(rest) {
+        if !is_skipped(line) {
+            return Ok(NumberedLine {
+                number: at,
+                line,
+                behind,
+            });
+        }
+        at += 1;
+        rest = behind;
+    }
+    Err(at)
+}
