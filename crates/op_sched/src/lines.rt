@@ -34,7 +34,7 @@ pub struct NumberedLine<'a> {
     pub behind: &'a [u8],
 }
 
-/// The next line that isn't skipped, of a text whose first line has this number. Where there is none, the number behind the
+/// The next line that isn't skipped, of a text whose first line has this number; where there is none, the number behind the
 /// text's last line.
 pub fn next_numbered(number: u64, text: &[u8]) -> Result<NumberedLine<'_>, u64>
     requires fits { number + length text.now < 2 ^ 64 }

@@ -14,7 +14,7 @@ pub struct Schedule {
 /// Why a text is not read.
 #[derive(Clone, Copy, Debug, PartialEq, Eq)]
 pub enum SchedFail {
-    /// The first line, counted from 1, that isn't in the grammar; of a text without lines, 1.
+    /// The first line, counted from 1, that isn't in the grammar; of a text without a header, the one behind its last line.
     BadLine { line: u64 },
     NoMemory,
 }

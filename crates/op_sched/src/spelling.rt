@@ -9,7 +9,7 @@ use crate::plain::is_plain;
 use op_types::{Blob, NoMemory};
 use std::alloc::Global;
 
-/// The value of a hexadecimal digit, which is in upper case.
+/// The value of an upper-case hexadecimal digit.
 fn digit(glyph: u8) -> Option<u8>
     ensures found { IfSome result (λ d. (d < 16) × (glyph ≡ digit_glyph true d)) }
     ensures none { IfNone result ((d : ℕ) → d < 16 → glyph ≡ digit_glyph true d → ⊥) }
@@ -21,7 +21,7 @@ fn digit(glyph: u8) -> Option<u8>
     }
 }
 
-/// The byte that the escape at a word's front spells, and the word behind it.
+/// The byte whose escape stands at a word's front, and the word behind it.
 fn escaped_byte(word: &[u8]) -> Option<(u8, &[u8])>
     ensures found { IfSome result (λ x. (is_plain x.0 ≡ false) × (word.now ≡ escaped x.0 ++ x.1.now)) }
     ensures none { IfNone result ((b : ℕ) (more : List ℕ) → b < 256 → is_plain b ≡ false → word.now ≡ escaped b ++ more → ⊥) }
@@ -36,7 +36,7 @@ fn escaped_byte(word: &[u8]) -> Option<(u8, &[u8])>
     Some((byte, behind))
 }
 
-/// The byte that a word's front spells, and the word behind it.
+/// The byte that is spelled at a word's front, and the word behind it.
 fn first_byte(word: &[u8]) -> Option<(u8, &[u8])>
     ensures found { IfSome result (λ x. (x.0 < 256) × (word.now ≡ spelled_byte x.0 ++ x.1.now) × (length x.1.now < length word.now)) }
     ensures none { IfNone result ((b : ℕ) (more : List ℕ) → b < 256 → word.now ≡ spelled_byte b ++ more → ⊥) }
@@ -65,7 +65,7 @@ fn all_bytes(alloc: Global, word: &[u8]) -> Result<Option<Vec<u8>>, NoMemory>
     Ok(Some(bytes))
 }
 
-/// The bytes of a key's or a value's word, which may be any bytes itself.
+/// As `bytes_of`, of a word that need not be text.
 fn unspelled(alloc: Global, word: &[u8]) -> Result<Option<Blob>, NoMemory>
     ensures found { IfOk result (λ o. IfSome o (λ blob. AreBytes blob × (spelled blob ≡ word.now))) }
     ensures none { IfOk result (λ o. IfNone o ((bytes : List ℕ) → AreBytes bytes → spelled bytes ≡ word.now → ⊥)) }
@@ -82,7 +82,7 @@ fn unspelled(alloc: Global, word: &[u8]) -> Result<Option<Blob>, NoMemory>
     Ok(Some(Blob::from_slice(alloc, &bytes)?))
 }
 
-/// The bytes of a key's or a value's word, and None where the word is no spelling. It doesn't look at how many bytes they are.
+/// The bytes of a key's or a value's word, however many they are.
 pub fn bytes_of(alloc: Global, word: &str) -> Result<Option<Blob>, NoMemory>
     ensures found { IfOk result (λ o. IfSome o (λ blob. AreBytes blob × (spelled blob ≡ word.now))) }
     ensures none { IfOk result (λ o. IfNone o ((bytes : List ℕ) → AreBytes bytes → spelled bytes ≡ word.now → ⊥)) }
@@ -90,7 +90,7 @@ pub fn bytes_of(alloc: Global, word: &str) -> Result<Option<Blob>, NoMemory>
     unspelled(alloc, word.as_bytes())
 }
 
-/// The bytes of a word, if they are so many.
+/// The bytes of a word, if there are from `least` to `most`. A word that is too long for them takes no memory.
 fn bytes_within(
     alloc: Global,
     word: &[u8],
@@ -101,7 +101,7 @@ fn bytes_within(
     ensures found { IfOk result (λ o. IfSome o (λ blob. (least ≤ length blob) × (length blob ≤ most) × AreBytes blob × (spelled blob ≡ word.now))) }
     ensures none { IfOk result (λ o. IfNone o ((bytes : List ℕ) → least ≤ length bytes → length bytes ≤ most → AreBytes bytes → spelled bytes ≡ word.now → ⊥)) }
 {
-    // A byte is spelled with three letters at most.
+    // A byte is spelled with three letters at most, and no bytes with one.
     if most < word.len() / 3 {
         return Ok(None);
     }

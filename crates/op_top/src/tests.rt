@@ -3,6 +3,7 @@ ghost use Rattle.std.specs.Prelude.{◌<◌};
 use crate::letters::Letters;
 use crate::{Status, omni};
 use op_memory::{MemSink, MemSource};
+use op_sched::bytes_of;
 use std::alloc::{AllocError, Global};
 use std::process::Abort;
 use std::test::Fail;
@@ -13,7 +14,7 @@ const ONE_PUT_REPORT: &str =
     "answer 3 appended 1 0\nreply 1 7 1 done\nconfig 1 members 1\nentry 1 0 put 7 1 a x\nnode 1 config 1 decided 1 trimmed 0\n";
 
 /// A schedule, how its replay ends, what it writes and what it tells.
-const ROWS: [(&str, Status, &str, &str); 11] = [
+const ROWS: [(&str, Status, &str, &str); 18] = [
     (ONE_PUT, Status::Ended, ONE_PUT_REPORT, ""),
     (
         "",
@@ -71,10 +72,70 @@ const ROWS: [(&str, Status, &str, &str); 11] = [
     ),
     (
         "members 1\n\n",
+        Status::Ended,
+        "config 1 members 1\nnode 1 config 1 decided 0 trimmed 0\n",
+        "",
+    ),
+    (
+        "# one\n\nmembers 1\ntick 1\nput 1 7 1 a %\n",
+        Status::Ended,
+        "answer 5 appended 1 0\nreply 1 7 1 done\nconfig 1 members 1\nentry 1 0 put 7 1 a %\nnode 1 config 1 decided 1 trimmed 0\n",
+        "",
+    ),
+    (
+        "members 1\n#\ntick 1\n\nput 1 7 1 %C3%A9 %20.%00%25\n#tick 2",
+        Status::Ended,
+        "answer 5 appended 1 0\nreply 1 7 1 done\nconfig 1 members 1\nentry 1 0 put 7 1 %C3%A9 %20.%00%25\nnode 1 config 1 decided 1 trimmed 0\n",
+        "",
+    ),
+    (
+        "# a\n\n",
+        Status::BadSchedule { line: 3 },
+        "",
+        "bad schedule line 3\n",
+    ),
+    (
+        "\n# a\ntick 1\n",
+        Status::BadSchedule { line: 3 },
+        "",
+        "bad schedule line 3\n",
+    ),
+    (
+        "# a\nmembers 1\n\n# b\ntick 1\n # c\n",
+        Status::BadSchedule { line: 6 },
+        "",
+        "bad schedule line 6\n",
+    ),
+    (
+        "# a\nmembers 1\n# b\n\ntick 2\n",
+        Status::BadSchedule { line: 5 },
+        "",
+        "bad schedule line 5\n",
+    ),
+    (
+        "members 1\nput 1 7 1 % a\n",
         Status::BadSchedule { line: 2 },
         "",
         "bad schedule line 2\n",
     ),
+];
+
+/// Words, and what each spells, if it is a spelling.
+const WORDS: [(&str, Option<&str>); 14] = [
+    ("%", Some("")),
+    ("Az.09_", Some("Az.09_")),
+    ("%25", Some("%")),
+    ("%7F%00a", Some("\x7F\0a")),
+    ("caf%C3%A9%20", Some("café ")),
+    ("", None),
+    ("%41", None),
+    ("%c3", None),
+    ("%%", None),
+    ("a%", None),
+    ("%4", None),
+    ("%2G", None),
+    ("a b", None),
+    ("é", None),
 ];
 
 fn replay_word(alloc: Global) -> Result<Vec<String>, AllocError> {
@@ -116,6 +177,26 @@ fn check_row(
 fn rows_end_as_they_are_told(rt: HostRuntime) -> Result<(), Fail> {
     for row in ROWS.iter() {
         check_row(&rt, row)?;
+    }
+    Ok(())
+}
+
+fn check_word(
+    rt: &(impl Abort + Alloc<A = Global>),
+    row: &(&str, Option<&str>),
+) -> Result<(), Fail> {
+    match (bytes_of(rt.alloc(), row.0)?, row.1) {
+        (Some(bytes), Some(text)) => assert_eq!(rt; bytes.as_slice(), text.as_bytes()),
+        (bytes, text) => assert!(rt; bytes.is_none() && text.is_none()),
+    }
+    Ok(())
+}
+
+/// With ample memory a word's answer is its own.
+#[test]
+fn words_spell_what_they_are_told_to(rt: HostRuntime) -> Result<(), Fail> {
+    for row in WORDS.iter() {
+        check_word(&rt, row)?;
     }
     Ok(())
 }
