@@ -1,76 +1,84 @@
 use crate::{Election, Verdict};
 use op_types::{Ballot, Heard};
-use std::process::Abort;
 
-const fn ballot(number: u64, pid: u32) -> Ballot {
+/// A ballot's number and its server.
+type Pair = (u64, u32);
+
+const NONE: Pair = (0, 0);
+
+/// The last number of a ballot, of server 3.
+const LAST: Pair = ((1 << 62) - 1, 3);
+
+/// How a round ends, with the ballot that was elected or raised.
+#[derive(Clone, Copy)]
+enum Ends {
+    Nobody,
+    Elected(Pair),
+    Raised(Pair),
+}
+
+/// At server 1 of three, which stands for (1, 1): the leader's ballot, the floor, the reply of server 2 if one came, how the
+/// round ends, and the flag.
+const ROUNDS: [(Pair, Pair, Option<(Pair, bool)>, Ends, bool); 6] = [
+    (NONE, NONE, None, Ends::Nobody, false),
+    (
+        NONE,
+        NONE,
+        Some(((1, 2), true)),
+        Ends::Elected((1, 2)),
+        true,
+    ),
+    (
+        (1, 3),
+        NONE,
+        Some(((1, 2), true)),
+        Ends::Raised((2, 1)),
+        true,
+    ),
+    (
+        (1, 1),
+        (2, 2),
+        Some(((1, 2), false)),
+        Ends::Raised((3, 1)),
+        true,
+    ),
+    ((1, 1), NONE, Some(((1, 2), false)), Ends::Nobody, true),
+    (LAST, NONE, Some(((1, 2), true)), Ends::Nobody, true),
+];
+
+fn ballot(pair: Pair) -> Ballot {
+    let (number, pid) = pair;
     Ballot { number, pid }
 }
 
-/// The last number of a ballot.
-const LAST: u64 = (1 << 62) - 1;
-
-/// At member 1 of 3, that stands for (1, 1): the leader's ballot, the floor, the reply if one came, the verdict and the flag.
-const ROUNDS: [(Ballot, Ballot, Option<(Ballot, bool)>, Verdict, bool); 6] = [
-    (Ballot::NONE, Ballot::NONE, None, Verdict::Nobody, false),
-    (
-        Ballot::NONE,
-        Ballot::NONE,
-        Some((ballot(1, 2), true)),
-        Verdict::Elected(ballot(1, 2)),
-        true,
-    ),
-    (
-        ballot(1, 3),
-        Ballot::NONE,
-        Some((ballot(1, 2), true)),
-        Verdict::Raised(ballot(2, 1)),
-        true,
-    ),
-    (
-        ballot(1, 1),
-        ballot(2, 2),
-        Some((ballot(1, 2), false)),
-        Verdict::Raised(ballot(3, 1)),
-        true,
-    ),
-    (
-        ballot(1, 1),
-        Ballot::NONE,
-        Some((ballot(1, 2), false)),
-        Verdict::Nobody,
-        true,
-    ),
-    (
-        ballot(LAST, 3),
-        Ballot::NONE,
-        Some((ballot(1, 2), true)),
-        Verdict::Nobody,
-        true,
-    ),
-];
-
-#[test]
-fn a_round_ends_as_the_table_says(rt: &impl Abort) {
-    for (leader, floor, reply, verdict, flag) in ROUNDS {
-        let mut election = Election::new(1, 3, ballot(1, 1), leader);
-        election.raise_floor(floor);
-        let ended = match reply {
-            Some((ballot, flag)) => election.end(&[Heard {
+fn ended(election: &mut Election, reply: Option<(Pair, bool)>) -> Verdict {
+    match reply {
+        Some((pair, flag)) => {
+            let ballot = ballot(pair);
+            election.end(&[Heard {
                 from: 2,
                 ballot,
                 flag,
-            }]),
-            None => election.end(&[]),
-        };
-        assert!(rt; ended == verdict);
-        assert!(rt; election.flag() == flag);
-        assert!(rt; election.floor() == floor);
-        match verdict {
-            Verdict::Nobody => assert!(rt;
-                election.own() == ballot(1, 1) && election.leader() == leader
-            ),
-            Verdict::Elected(elected) => assert!(rt; election.leader() == elected),
-            Verdict::Raised(raised) => assert!(rt; election.own() == raised),
+            }])
         }
+        None => election.end(&[]),
+    }
+}
+
+#[test]
+fn a_round_ends_as_the_table_says(rt: HostRuntime) {
+    for (leader, floor, reply, ends, flag) in ROUNDS {
+        let own = ballot((1, 1));
+        let mut election = Election::new(1, 3, own, ballot(leader));
+        election.raise_floor(ballot(floor));
+        let verdict = ended(&mut election, reply);
+        let (expected, own, leader) = match ends {
+            Ends::Nobody => (Verdict::Nobody, own, ballot(leader)),
+            Ends::Elected(pair) => (Verdict::Elected(ballot(pair)), own, ballot(pair)),
+            Ends::Raised(pair) => (Verdict::Raised(ballot(pair)), ballot(pair), ballot(leader)),
+        };
+        assert!(rt; verdict == expected);
+        assert!(rt; election.own() == own && election.leader() == leader);
+        assert!(rt; election.floor() == ballot(floor) && election.flag() == flag);
     }
 }

@@ -1,7 +1,5 @@
 use crate::Rounds;
 use op_types::{Ballot, Body, Heard, Members, Pid};
-use std::alloc::Global;
-use std::process::Abort;
 use std::test::Fail;
 
 fn ballot(number: u64, pid: Pid) -> Ballot {
@@ -9,9 +7,7 @@ fn ballot(number: u64, pid: Pid) -> Ballot {
 }
 
 #[test]
-fn the_replies_of_a_round_are_kept_once_a_member(
-    rt: &(impl Abort + Alloc<A = Global>),
-) -> Result<(), Fail> {
+fn the_replies_of_a_round_are_kept_once_a_member(rt: HostRuntime) -> Result<(), Fail> {
     let mut members = Members::new(rt.alloc());
     for pid in 1..=3 {
         members.push(pid)?;

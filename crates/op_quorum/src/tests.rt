@@ -1,5 +1,4 @@
 use crate::{greatest_backed, is_majority};
-use std::process::Abort;
 
 /// Lengths, and the greatest that a majority has.
 const LENGTHS: [(&[u64], u64); 6] = [
@@ -12,7 +11,7 @@ const LENGTHS: [(&[u64], u64); 6] = [
 ];
 
 #[test]
-fn a_majority_has_it(rt: &impl Abort) {
+fn a_majority_has_it(rt: HostRuntime) {
     assert!(rt; is_majority(1, 1) && is_majority(2, 3) && is_majority(3, 4));
     assert!(rt; !is_majority(0, 1) && !is_majority(1, 2) && !is_majority(2, 4));
     for (lengths, greatest) in LENGTHS {
