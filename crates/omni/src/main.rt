@@ -1,15 +1,13 @@
 //! A replicated log. `omni replay` reads a schedule from standard input and writes the report of its run.
 #![tactic(auto)]
 
-mod streams;
-
+use op_edge::{Input, Output, Printed};
 use op_top::{Status, omni};
 use std::alloc::{AllocError, Global};
 use std::env;
 use std::io::ErrorKind;
 use std::process::ExitCode;
 use std::rt::Env;
-use streams::{Input, Output};
 
 /// The words after the program's name. Where they aren't all text there are none, which is no command.
 fn words(rt: &(impl Env + Alloc<A = Global>)) -> Result<Vec<String>, AllocError> {
@@ -27,8 +25,8 @@ fn words(rt: &(impl Env + Alloc<A = Global>)) -> Result<Vec<String>, AllocError>
 
 fn main(rt: HostRuntime) -> ExitCode {
     let mut input = Input::new(rt.stdin());
-    let mut out = Output::out(rt.stdout());
-    let mut err = Output::err(rt.stderr());
+    let mut out = Output::new(Printed::Out(rt.stdout()));
+    let mut err = Output::new(Printed::Err(rt.stderr()));
     let status = match words(&rt) {
         Ok(words) => omni(rt.alloc(), &words, &mut input, &mut out, &mut err),
         Err(_) => {

@@ -1,5 +1,5 @@
 -- What the top call is asked, and what it answers.
-use Rattle.std.specs.Prelude.{◌≡◌, ◌⊎◌, ℕ, ◌≤◌, List, [], ◌∷◌, length, codes, Option}
+use Rattle.std.specs.Prelude.{◌≡◌, ◌⊎◌, ℕ, ◌≤◌, List, length, Option}
 use Rattle.std.specs.Io.KnownBytes.{Appends}
 use Rattle.op_sched.specs.Grammar.{IsSchedule, IsFirstBadLine}
 use Rattle.op_sched.specs.Text.{report_of}
@@ -8,10 +8,6 @@ use Rattle.op_outside.specs.Streams.{AppendsFront}
 use Rattle.op_runs.specs.World.{all_done}
 use Rattle.op_runs.specs.Run.{Meets}
 use Rattle.op_top.specs.Replay.{AllPresent, IsFirstAbsent, run_summary}
-
--- the words are the one command
-abbrev pub IsReplay : List (List ℕ) → Type 0
-IsReplay words = words ≡ codes "replay" ∷ []
 
 -- the input isn't longer than a schedule may be
 abbrev pub IsWithinLimit : List ℕ → Type 0

@@ -1,33 +1,20 @@
-ghost use Rattle.std.specs.Prelude.{◌≡◌, ◌<◌, ◌↔◌, ℕ, length, List, map, codes, string_bytes, IfSome, IsTrue};
+ghost use Rattle.std.specs.Prelude.{◌≡◌, ◌<◌, ℕ, length, map, string_bytes, IfSome, IsTrue};
 ghost use Rattle.std.specs.Io.KnownBytes.{IsAtEnd};
 ghost use Rattle.op_outside.specs.Causes.{Rose, NoFault};
 ghost use Rattle.op_outside.specs.Streams.{HasAtLeast, TakesAtMost, Tells};
-ghost use Rattle.op_top.specs.Called.{IsReplay, IsWithinLimit, IsReported, IsReportedFront, IsRefusedAt, IsValid};
+ghost use Rattle.op_setup.specs.Tasks.{task_words, IsTask, has_flag};
+ghost use Rattle.op_top.specs.Called.{IsWithinLimit, IsReported, IsReportedFront, IsRefusedAt, IsValid};
 ghost use Rattle.op_top.specs.Statuses.{IsQuiet, IsOrNoMemory, status_line};
 
 use crate::replay::replayed;
 use crate::status::Status;
 use op_outside::{InputFail, Sink, Source, read_all, write_all};
 use op_sched::SchedFail;
+use op_setup::{Task, TaskFail, task};
 use std::alloc::Global;
 
 /// How much input is read, in bytes.
 const INPUT_LIMIT: usize = 67_108_864;
-
-fn names_replay(word: &String) -> bool
-    ensures { IsTrue result ↔ (string_bytes word.now ≡ codes "replay") }
-{
-    word.as_str() == "replay"
-}
-
-fn is_replay(words: &[String]) -> bool
-    ensures { IsTrue result ↔ IsReplay (map string_bytes words.now) }
-{
-    match words {
-        [word] => names_replay(word),
-        _ => false,
-    }
-}
 
 fn replay<S: Source, K: Sink>(alloc: Global, input: &mut S, out: &mut K) -> Status
     ensures ended { result ≡ Status.Ended → IfSome (S.left input.old) (λ bytes. IsReported bytes (K.held out.old) (K.held out.new)) }
@@ -76,20 +63,21 @@ pub fn omni<S: Source, K: Sink>(
     ensures ended { result ≡ Status.Ended → IfSome (S.left input.old) (λ bytes. IsReported bytes (K.held out.old) (K.held out.new)) }
     ensures read { result ≡ Status.Ended → IsAtEnd (S.left input.new) }
 
-    // The words are refused exactly where they aren't the one command.
-    ensures usage { result ≡ Status.Usage → IsReplay (map string_bytes words.now) → ⊥ }
-    ensures usage_always { (IsReplay (map string_bytes words.now) → ⊥) → result ≡ Status.Usage }
-    ensures unread { result ≡ Status.Usage → S.left input.new ≡ S.left input.old }
+    // Words are refused exactly where they are no command's, but for want of memory to read them. No input is read then.
+    ensures usage { result ≡ Status.Usage → IsTask (map string_bytes words.now) → ⊥ }
+    ensures usage_always { (IsTask (map string_bytes words.now) → ⊥) → IsOrNoMemory Status.Usage result }
+    ensures flag { IsTrue (has_flag (map string_bytes words.now)) → result ≡ Status.Usage }
+    ensures unread { (IsTask (map string_bytes words.now) → ⊥) → S.left input.new ≡ S.left input.old }
 
     // A schedule is refused exactly where it is bad, and at its first bad line.
     ensures bad { (line : ℕ) → result ≡ Status.BadSchedule line → IfSome (S.left input.old) (λ bytes. IsRefusedAt bytes line) }
-    ensures bad_always { IsReplay (map string_bytes words.now) → NoFault (S.fault_count input.old) (S.fault_count input.new)
+    ensures bad_always { map string_bytes words.now ≡ task_words Task.Replay → NoFault (S.fault_count input.old) (S.fault_count input.new)
         → IfSome (S.left input.old) (λ bytes. (line : ℕ) → IsRefusedAt bytes line → IsOrNoMemory (Status.BadSchedule line) result) }
 
     // Input is refused exactly where it is too long, and no more of it is read than tells so.
     ensures taken { TakesAtMost 67108865 (S.left input.old) (S.left input.new) }
     ensures too_long { result ≡ Status.InputLimit → HasAtLeast (S.left input.old) 67108865 }
-    ensures too_long_always { IsReplay (map string_bytes words.now) → NoFault (S.fault_count input.old) (S.fault_count input.new)
+    ensures too_long_always { map string_bytes words.now ≡ task_words Task.Replay → NoFault (S.fault_count input.old) (S.fault_count input.new)
         → IfSome (S.left input.old) (λ bytes. 67108864 < length bytes → IsOrNoMemory Status.InputLimit result) }
 
     // A fault is answered only where the stream failed in this call.
@@ -103,13 +91,13 @@ pub fn omni<S: Source, K: Sink>(
     ensures told { Tells K.held K.fault_count err.old err.new (status_line result) }
 
     // A valid schedule is reported, unless a stream fails or there is no memory.
-    ensures complete { IsReplay (map string_bytes words.now) → NoFault (S.fault_count input.old) (S.fault_count input.new) → NoFault (K.fault_count out.old) (K.fault_count out.new)
+    ensures complete { map string_bytes words.now ≡ task_words Task.Replay → NoFault (S.fault_count input.old) (S.fault_count input.new) → NoFault (K.fault_count out.old) (K.fault_count out.new)
         → IfSome (S.left input.old) (λ bytes. IsWithinLimit bytes → IsValid bytes → IsOrNoMemory Status.Ended result) }
 {
-    let status = if is_replay(words) {
-        replay(alloc, input, out)
-    } else {
-        Status::Usage
+    let status = match task(alloc, words) {
+        Ok(Task::Replay) => replay(alloc, input, out),
+        Err(TaskFail::Usage) => Status::Usage,
+        Err(TaskFail::NoMemory) => Status::NoMemory,
     };
     status.tell(err);
     status

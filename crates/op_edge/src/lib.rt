@@ -1,0 +1,16 @@
+//! The real streams, as sources and sinks: bytes are handed on as they are, and failures are counted.
+#![tactic(auto)]
+
+mod input;
+mod output;
+mod printed;
+
+pub use input::Input;
+pub use output::Output;
+pub use printed::Printed;
+
+/// How often a call is tried that a signal cuts short.
+const TRIES: u32 = 1000;
+
+#[cfg(test)]
+mod tests;

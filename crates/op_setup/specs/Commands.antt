@@ -1,0 +1,15 @@
+-- The commands as clap sees them.
+use Rattle.std.specs.Prelude.{codes, true}
+use Rattle.clap.specs.Words.{App, new_app, with_subcommand}
+
+-- `replay`, with no more words
+abbrev pub replay_app : App
+replay_app = new_app (codes "replay")
+
+-- the program, whose words come without its own name
+abbrev pub program_app : App
+program_app = let a = new_app (codes "omni") in record a { top = record a.top { no_binary_name = true } }
+
+-- the program and its commands
+abbrev pub omni_app : App
+omni_app = with_subcommand program_app replay_app.top

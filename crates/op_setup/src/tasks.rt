@@ -1,0 +1,6 @@
+/// What the program is asked to do.
+#[derive(Clone, Copy, Debug, PartialEq, Eq)]
+pub enum Task {
+    /// To run the schedule of the input, and to report it.
+    Replay,
+}
