@@ -1,7 +1,7 @@
 //! A replicated log. `omni replay` reads a schedule from standard input and writes the report of its run.
 #![tactic(auto)]
 
-use op_edge::{Input, Output, Printed};
+use op_edge::{Input, Output, StandardStream};
 use op_top::{Status, omni};
 use std::alloc::{AllocError, Global};
 use std::env;
@@ -25,8 +25,8 @@ fn words(rt: &(impl Env + Alloc<A = Global>)) -> Result<Vec<String>, AllocError>
 
 fn main(rt: HostRuntime) -> ExitCode {
     let mut input = Input::new(rt.stdin());
-    let mut out = Output::new(Printed::Out(rt.stdout()));
-    let mut err = Output::new(Printed::Err(rt.stderr()));
+    let mut out = Output::new(StandardStream::Out(rt.stdout()));
+    let mut err = Output::new(StandardStream::Err(rt.stderr()));
     let status = match words(&rt) {
         Ok(words) => omni(rt.alloc(), &words, &mut input, &mut out, &mut err),
         Err(_) => {

@@ -3,11 +3,11 @@
 
 mod input;
 mod output;
-mod printed;
+mod standard;
 
 pub use input::Input;
 pub use output::Output;
-pub use printed::Printed;
+pub use standard::StandardStream;
 
 /// How often a call is tried that a signal cuts short.
 const TRIES: u32 = 1000;

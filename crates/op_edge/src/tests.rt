@@ -1,4 +1,4 @@
-use crate::{Input, Output, Printed};
+use crate::{Input, Output, StandardStream};
 use op_outside::{ReadFail, Sink, Source, WriteFail, read_all, write_all};
 use std::io::{self, ErrorKind, Read, Write};
 use std::test::Fail;
@@ -81,8 +81,8 @@ fn failures_are_counted(rt: HostRuntime) {
 
 #[test]
 fn standard_output_and_error_take_bytes(rt: HostRuntime) {
-    let mut out = Output::new(Printed::Out(rt.stdout()));
-    let mut err = Output::new(Printed::Err(rt.stderr()));
+    let mut out = Output::new(StandardStream::Out(rt.stdout()));
+    let mut err = Output::new(StandardStream::Err(rt.stderr()));
     assert!(rt; out.write(b"o\n") == Ok(2));
     assert!(rt; err.write(b"e\n") == Ok(2));
 }

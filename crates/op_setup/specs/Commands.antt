@@ -1,4 +1,4 @@
--- The commands as clap sees them.
+-- The commands as clap sees them. Only what is inside the crate speaks of this.
 use Rattle.std.specs.Prelude.{codes, true}
 use Rattle.clap.specs.Words.{App, new_app, with_subcommand}
 
