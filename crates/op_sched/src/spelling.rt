@@ -53,7 +53,7 @@ fn all_bytes(alloc: Global, word: &[u8]) -> Result<Option<Vec<u8>>, NoMemory>
     ensures found { IfOk result (λ o. IfSome o (λ bytes. AreBytes bytes.items × (flat_map spelled_byte bytes.items ≡ word.now))) }
     ensures none { IfOk result (λ o. IfNone o ((bytes : List ℕ) → AreBytes bytes → flat_map spelled_byte bytes ≡ word.now → ⊥)) }
 {
-    let mut bytes = Vec::new(alloc);
+    let mut bytes = Vec::with_capacity(alloc, word.len())?;
     let mut rest = word;
     while !rest.is_empty() {
         let Some((byte, behind)) = first_byte(rest) else {
@@ -71,7 +71,7 @@ fn unspelled(alloc: Global, word: &[u8]) -> Result<Option<Blob>, NoMemory>
     ensures none { IfOk result (λ o. IfNone o ((bytes : List ℕ) → AreBytes bytes → spelled bytes ≡ word.now → ⊥)) }
 {
     if word == b"%".as_slice() {
-        return Ok(Some(Blob::from_slice(alloc, &[])?));
+        return Ok(Some(Blob::from_vec(Vec::new(alloc))));
     }
     if word.is_empty() {
         return Ok(None);
@@ -79,7 +79,7 @@ fn unspelled(alloc: Global, word: &[u8]) -> Result<Option<Blob>, NoMemory>
     let Some(bytes) = all_bytes(alloc, word)? else {
         return Ok(None);
     };
-    Ok(Some(Blob::from_slice(alloc, &bytes)?))
+    Ok(Some(Blob::from_vec(bytes)))
 }
 
 /// The bytes of a key's or a value's word, however many they are.

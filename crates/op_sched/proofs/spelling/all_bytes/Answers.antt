@@ -3,7 +3,7 @@ use Rattle.op_sched.proofs.Unspelled.{read_nothing, read_more, read_all, unspell
 use Rattle.op_sched.proofs.spelling.all_bytes.Goals as goal
 
 pub loop-rest-init : goal.loop-rest-init
-loop-rest-init c = read_nothing _ _ c.new-bytes.ensures.items
+loop-rest-init c = read_nothing _ _ c.in_ok-bytes.ensures.items
 
 pub loop-rest-preserved : goal.loop-rest-preserved
 loop-rest-preserved c =

@@ -1,4 +1,4 @@
-use Rattle.std.proofs.Common.{◌≡◌, ◌<◌, length, sym, ◌∙◌, arith}
+use Rattle.std.proofs.Common.{◌<◌, length, sym, ◌∙◌, arith}
 use Rattle.std.proofs.lemmas.Bool.{false≢true}
 use Rattle.std.proofs.lemmas.Slice.Eq.{bytes_eq-Decides}
 use Rattle.op_sched.proofs.Unspelled.{spelled_whole, no_spelling}
@@ -13,5 +13,4 @@ pub returns-clause-found : goal.returns-clause-found
 returns-clause-found c =
     let some : 0 < length c.args.word.now = grind arith in
     let found = rw c.in-Some.is at c.in_ok-bytes.ensures.found in
-    let same : c.in_ok-from_slice-2.field-0 ≡ c.in-Some.bytes.items = c.in_ok-from_slice-2.ensures ∙ c.deref.ensures.value in
-    rw same (found.0, spelled_whole c.in-Some.bytes.items c.args.word.now some found.1)
+    rw c.from_vec-2.ensures (found.0, spelled_whole c.in-Some.bytes.items c.args.word.now some found.1)
