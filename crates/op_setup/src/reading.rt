@@ -1,25 +1,13 @@
 ghost use Rattle.std.specs.Prelude.{◌≡◌, ◌↔◌, map, string_bytes, slice_get, IfOk, IfSome, IfNone, IsTrue, Err};
 ghost use Rattle.clap.specs.Words.{subcommand_name_of};
 ghost use Rattle.op_setup.specs.declared.tasks.Task.TheVariants.{Replay};
-ghost use Rattle.op_setup.specs.Tasks.{task_words, IsTask, is_flag, has_flag};
+ghost use Rattle.op_setup.specs.Tasks.{task_words, IsTask};
 
 use crate::commands::omni;
 use crate::fail::TaskFail;
 use crate::tasks::Task;
 use clap::ArgMatches;
 use std::alloc::Global;
-
-fn is_flag(word: &String) -> bool
-    ensures { result ≡ is_flag (string_bytes word.now) }
-{
-    word.as_str().as_bytes().starts_with(b"-")
-}
-
-fn has_flag(words: &[String]) -> bool
-    ensures { result ≡ has_flag (map string_bytes words.now) }
-{
-    words.iter().any(is_flag)
-}
 
 fn is_text(word: &String, text: &str) -> bool
     ensures { IsTrue result ↔ (string_bytes word.now ≡ text.now) }
@@ -36,6 +24,13 @@ fn is_replay(words: &[String]) -> bool
     }
 }
 
+/// Whether the words are those of some task.
+fn are_asked(words: &[String]) -> bool
+    ensures { IsTrue result ↔ IsTask (map string_bytes words.now) }
+{
+    is_replay(words)
+}
+
 /// The task of the command that clap found, where the words are all its words.
 fn found_task(matches: &ArgMatches<'_>, words: &[String]) -> Option<Task>
     ensures found { IfSome result (λ t. map string_bytes words.now ≡ task_words t) }
@@ -47,26 +42,29 @@ fn found_task(matches: &ArgMatches<'_>, words: &[String]) -> Option<Task>
     }
 }
 
-/// What clap makes of the words. It refuses no task's, but for want of memory, and finds its command.
+/// What clap makes of a task's words: it finds their command, unless there is no memory.
 fn matched<'a>(alloc: Global, words: &'a [String]) -> Result<ArgMatches<'a>, TaskFail>
-    ensures found { IfOk result (λ m. IsTask (map string_bytes words.now) → subcommand_name_of m ≡ slice_get (map string_bytes words.now) 0) }
-    ensures usage { result ≡ Err TaskFail.Usage → IsTask (map string_bytes words.now) → ⊥ }
+    requires { IsTask (map string_bytes words.now) }
+    ensures found { IfOk result (λ m. subcommand_name_of m ≡ slice_get (map string_bytes words.now) 0) }
+    ensures memory { result ≡ Err TaskFail.Usage → ⊥ }
 {
     let command = omni(alloc)?;
     Ok(command.try_get_matches_from(words)?)
 }
 
-/// The task that the words ask for: those of the command line, without the program's name.
+/// The task that the words ask for: those of the command line, without the program's name. Words that are no task's are
+/// refused before clap reads any of them, and take no memory.
 pub fn task(alloc: Global, words: &[String]) -> Result<Task, TaskFail>
     ensures found { IfOk result (λ t. map string_bytes words.now ≡ task_words t) }
     ensures usage { result ≡ Err TaskFail.Usage → IsTask (map string_bytes words.now) → ⊥ }
-
-    // A word that begins with `-` is refused before clap reads any.
-    ensures flag { IsTrue (has_flag (map string_bytes words.now)) → result ≡ Err TaskFail.Usage }
+    ensures usage_always { (IsTask (map string_bytes words.now) → ⊥) → result ≡ Err TaskFail.Usage }
 {
-    if has_flag(words) {
+    if !are_asked(words) {
         return Err(TaskFail::Usage);
     }
     let matches = matched(alloc, words)?;
-    found_task(&matches, words).ok_or(TaskFail::Usage)
+    match found_task(&matches, words) {
+        Some(task) => Ok(task),
+        None => unreachable!(),
+    }
 }

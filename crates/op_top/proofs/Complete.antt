@@ -53,3 +53,7 @@ told_bad (Some input) bytes text s all r = λ line bad. absurd (not_bad input li
 pub told_same : (left : Option (List ℕ)) (bytes : List ℕ) (n : ℕ) → ReadsAll left bytes → IsBadAt bytes n → IfSome left (λ input. (line : ℕ) → IsRefusedAt input line → IsOrNoMemory (status.BadSchedule line) (status.BadSchedule n))
 told_same None bytes n all bad = tt
 told_same (Some input) bytes n all bad = λ line other. inl (ap status.BadSchedule (one_bad input n line (subst (λ (t : List ℕ). IsBadAt t n) all bad) other.1))
+
+pub told_no_memory : (left : Option (List ℕ)) (s : Status) → s ≡ status.NoMemory → IfSome left (λ input. IsWithinLimit input → IsValid input → IsOrNoMemory status.Ended s)
+told_no_memory None s is = tt
+told_no_memory (Some input) s is = λ _ _. inr is

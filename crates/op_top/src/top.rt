@@ -1,8 +1,8 @@
-ghost use Rattle.std.specs.Prelude.{◌≡◌, ◌<◌, ℕ, length, map, string_bytes, IfSome, IsTrue};
+ghost use Rattle.std.specs.Prelude.{◌≡◌, ◌<◌, ℕ, length, map, string_bytes, IfSome};
 ghost use Rattle.std.specs.Io.KnownBytes.{IsAtEnd};
 ghost use Rattle.op_outside.specs.Causes.{Rose, NoFault};
 ghost use Rattle.op_outside.specs.Streams.{HasAtLeast, TakesAtMost, Tells};
-ghost use Rattle.op_setup.specs.Tasks.{task_words, IsTask, has_flag};
+ghost use Rattle.op_setup.specs.Tasks.{task_words, IsTask};
 ghost use Rattle.op_top.specs.Called.{IsWithinLimit, IsReported, IsReportedFront, IsRefusedAt, IsValid};
 ghost use Rattle.op_top.specs.Statuses.{IsQuiet, IsOrNoMemory, status_line};
 
@@ -63,11 +63,10 @@ pub fn omni<S: Source, K: Sink>(
     ensures ended { result ≡ Status.Ended → IfSome (S.left input.old) (λ bytes. IsReported bytes (K.held out.old) (K.held out.new)) }
     ensures read { result ≡ Status.Ended → IsAtEnd (S.left input.new) }
 
-    // Words are refused exactly where they are no command's, but for want of memory to read them. No input is read then.
+    // Words are refused exactly where they are no command's. No input is read then.
     ensures usage { result ≡ Status.Usage → IsTask (map string_bytes words.now) → ⊥ }
-    ensures usage_always { (IsTask (map string_bytes words.now) → ⊥) → IsOrNoMemory Status.Usage result }
-    ensures flag { IsTrue (has_flag (map string_bytes words.now)) → result ≡ Status.Usage }
-    ensures unread { (IsTask (map string_bytes words.now) → ⊥) → S.left input.new ≡ S.left input.old }
+    ensures usage_always { (IsTask (map string_bytes words.now) → ⊥) → result ≡ Status.Usage }
+    ensures unread { result ≡ Status.Usage → S.left input.new ≡ S.left input.old }
 
     // A schedule is refused exactly where it is bad, and at its first bad line.
     ensures bad { (line : ℕ) → result ≡ Status.BadSchedule line → IfSome (S.left input.old) (λ bytes. IsRefusedAt bytes line) }
