@@ -8,10 +8,7 @@ fn ballot(number: u64, pid: Pid) -> Ballot {
 
 #[test]
 fn the_replies_of_a_round_are_kept_once_a_member(rt: HostRuntime) -> Result<(), Fail> {
-    let mut members = Members::new(rt.alloc());
-    for pid in 1..=3 {
-        members.push(pid)?;
-    }
+    let members = Members::from_vec(Vec::from_slice(rt.alloc(), &[1, 2, 3])?);
     let mut rounds = Rounds::new(rt.alloc(), &members)?;
     assert_eq!(rt; rounds.begin_round(), 1);
     rounds.take_reply(2, 1, ballot(1, 2), false);
