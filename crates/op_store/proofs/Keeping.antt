@@ -21,7 +21,7 @@ use Rattle.op_journal.specs.Failing.{IsDamagedOrStopped}
 use Rattle.op_journal.specs.declared.fail.JournalFail.{JournalFail}
 use Rattle.op_journal.specs.declared.fail.JournalFail.TheVariants as journal
 use Rattle.op_store.proofs.Making.{AllMake-push, makes_after}
-use Rattle.op_store.proofs.OneState.{stands_area, undamaged_state, nothing_or_damage}
+use Rattle.op_store.proofs.OneState.{undamaged_state, nothing_or_damage}
 
 -- what the calls of the first disk leave, beside a second one that isn't called
 module _ {D : Type 0} (moment : D → Moment) (left_since : D → Moment → List ℕ → Type 0) (first new second : D) (Q : List ℕ → Type 0) (P : List ℕ → List ℕ → Type 0) where
@@ -87,10 +87,9 @@ module _ {D : Type 0} (seen : D → List ℕ) (moment : D → Moment) (left_sinc
   abbrev Leaves : List ℕ → Type 0
   Leaves image = left_since start (moment start) image ⊎ StaysIn fresh (seen start) image
 
-  pub opened_area : (new : D) (generation end : ℕ) (d : Durable) (a : IsAreaFor generation end d (seen start)) → LeavesOnly moment left_since read new (Stands generation a.bodies) → LeavesOnly moment left_since start new Leaves
-  opened_area new generation end d a trimmed =
-      joined moment left_since start read new (left_since start (moment start)) (Stands generation a.bodies) Leaves quiet trimmed
-      (λ x was. inl was) (λ x stands. inr (inl (d, stands_area (seen start) generation end d a, record { generation = generation; bodies = a.bodies; stands = stands; make = a.make })))
+  pub opened_area : (new : D) (d : Durable) → StandsFor d (seen start) → LeavesOnly moment left_since read new (StandsFor d) → LeavesOnly moment left_since start new Leaves
+  opened_area new d stands trimmed =
+      joined moment left_since start read new (left_since start (moment start)) (StandsFor d) Leaves quiet trimmed (λ x was. inl was) (λ x has. inr (inl (d, stands, has)))
 
   pub opened_new : (new : D) → HasNone (seen start) → LeavesOnly moment left_since read new (λ image. HasNone image ⊎ StandsFor fresh image) → LeavesOnly moment left_since start new Leaves
   opened_new new none begun =

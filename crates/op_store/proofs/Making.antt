@@ -8,7 +8,7 @@ use Rattle.op_record.specs.declared.body.Rec.{Rec}
 use Rattle.op_record.specs.declared.body.Rec.TheVariants.{Whole, Step}
 use Rattle.op_fields.proofs.Formats.{one}
 use Rattle.op_record.proofs.Spellings.{body_reads}
-use Rattle.std.specs.Prelude.{IfNone}
+use Rattle.std.specs.Prelude.{Result, Ok, Err, IfOk, IfNone}
 use Rattle.op_journal.specs.Rows.{AreRecords, IsRecordAt}
 use Rattle.op_journal.proofs.Rows.{none_yet, one_more}
 use Rattle.op_store.specs.Records.{IsBodyOf, Makes, AllMake}
@@ -59,18 +59,18 @@ pub none_made : (old : Option Durable) (bytes : List ℕ) → ((r : Rec) → bod
 none_made None bytes none d m = none (Whole d) m.0 m.1
 none_made (Some old) bytes none d m = none (Step m.0) m.1.0 m.1.1
 
--- a batch that doesn't apply makes nothing
-pub not_made : (old : Durable) (batch : List Change) (bytes : List ℕ) → IsBodyOf (Step batch) bytes → (Applies old batch → ⊥) → (d : Durable) → Makes (Some old) bytes d → ⊥
-not_made old batch bytes is none d m =
-    none (subst (λ (b : List Change). Applies old b) (same_step m.0 batch (one_of (Step m.0) (Step batch) bytes m.1 is)) m.2)
+-- a record that says no whole durable state makes nothing first
+pub not_whole : (said : Rec) (bytes : List ℕ) → IsBodyOf said bytes → ((d : Durable) → said ≡ Whole d → ⊥) → (d : Durable) → Makes None bytes d → ⊥
+not_whole said bytes is none d m = none d (one_of said (Whole d) bytes is m)
 
--- a batch comes behind a whole state alone, and a whole state first alone
-pub no_step_first : (batch : List Change) (bytes : List ℕ) → IsBodyOf (Step batch) bytes → (d : Durable) → Makes None bytes d → ⊥
-no_step_first batch bytes is d m = let same = one_of (Whole d) (Step batch) bytes m is in absurd (cc)
-
-pub no_whole_behind : (old whole : Durable) (bytes : List ℕ) → IsBodyOf (Whole whole) bytes → (d : Durable) → Makes (Some old) bytes d → ⊥
-no_whole_behind old whole bytes is d m = let same = one_of (Step m.0) (Whole whole) bytes m.1 is in absurd (cc)
+-- one that says no step that applies makes nothing later
+pub not_after : (old : Durable) (said : Rec) (bytes : List ℕ) → IsBodyOf said bytes → ((batch : List Change) → said ≡ Step batch → Applies old batch → ⊥) → (d : Durable) → Makes (Some old) bytes d → ⊥
+not_after old said bytes is none d m = none m.0 (one_of said (Step m.0) bytes is m.1) m.2
 
 pub IfNone-map : {A : Type 0} (o : Option A) (P Q : Type 0) → (P → Q) → IfNone o P → IfNone o Q
 IfNone-map None P Q f h = f h
 IfNone-map (Some x) P Q f h = h
+
+pub IfOkNone-map : {A E : Type 0} (r : Result (Option A) E) (P Q : Type 0) → (P → Q) → IfOk r (λ o. IfNone o P) → IfOk r (λ o. IfNone o Q)
+IfOkNone-map (Ok o) P Q f h = IfNone-map o P Q f h
+IfOkNone-map (Err e) P Q f h = h

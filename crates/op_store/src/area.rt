@@ -1,5 +1,5 @@
 //! An area of one disk is opened: what it stands for, or a fresh durable state.
-ghost use Rattle.std.specs.Prelude.{◌≡◌, ◌⊎◌, ◌<◌, ◌^◌, ◌↔◌, ℕ, true, List, length, IfOk, IfErr, OnOk};
+ghost use Rattle.std.specs.Prelude.{◌≡◌, ◌⊎◌, ◌<◌, ◌^◌, ◌↔◌, ℕ, true, false, List, [], ◌∷◌, length, IfOk, IfErr, OnOk};
 ghost use Rattle.op_outside.specs.Causes.{HasCause};
 ghost use Rattle.op_outside.specs.Disks.{LeavesOnly, Only};
 ghost use Rattle.op_journal.specs.Areas.{Stands, IsArea, IsSettled};
@@ -7,8 +7,9 @@ ghost use Rattle.op_journal.specs.Readings.{IsNew};
 ghost use Rattle.op_journal.specs.Beginnings.{HasNone};
 ghost use Rattle.op_journal.specs.Failing.{IfDamaged, IsDamagedOrStopped, TellsFaults};
 ghost use Rattle.op_record.specs.Ranges.{DurableInRange};
+ghost use Rattle.op_record.specs.Forms.{body};
 ghost use Rattle.op_store.specs.Stored.{StandsFor, Settles};
-ghost use Rattle.op_store.specs.Readings.{IsDamagedFrom};
+ghost use Rattle.op_store.specs.Readings.{IsDamagedFrom, IsAreaFor};
 ghost use Rattle.op_store.specs.Openings.{IsFoundIn, StaysIn};
 
 use crate::reading::{Reading, read};
@@ -55,15 +56,7 @@ pub fn open_area<D: Disk>(
             generation,
             durable,
             end,
-        } => {
-            trim_behind(disk, end, bytes.len())?;
-            Ok(OpenArea {
-                generation,
-                end,
-                durable,
-                is_new: false,
-            })
-        }
+        } => resume(disk, generation, durable, end, bytes.len()),
         Reading::New { closed } => begin(alloc, fresh, disk, closed),
     }
 }
@@ -88,6 +81,36 @@ fn trim_behind<D: Disk>(disk: &mut D, end: u64, len: usize) -> Result<(), DiskFa
     Ok(())
 }
 
+/// Opens an area that was read, of a disk that holds so many bytes.
+fn resume<D: Disk>(
+    disk: &mut D,
+    generation: u64,
+    durable: Durable,
+    end: u64,
+    len: usize,
+) -> Result<OpenArea, JournalFail>
+    requires { end < 2 ^ 62 }
+    ensures same { IfOk result (λ a. (a.is_new ≡ false) × (a.durable ≡ durable)) }
+    ensures settled { D.follows disk.old → IsAreaFor generation end durable (D.seen disk.old) → length (D.seen disk.old) ≡ len →
+        Only (D.seen disk.old) (D.left_since disk.old (D.moment disk.old)) →
+        IfOk result (λ a. Settles a.durable a.generation a.end (D.seen disk.new) (D.left_since disk.new (D.moment disk.new))) }
+    ensures room { IfOk result (λ a. a.end < 2 ^ 62) }
+    ensures undamaged { IfDamaged result (λ _. ⊥) }
+    ensures crash { D.follows disk.old → IsAreaFor generation end durable (D.seen disk.old) → Only (D.seen disk.old) (D.left_since disk.old (D.moment disk.old)) →
+        LeavesOnly D.moment D.left_since disk.old disk.new (StandsFor durable) }
+    ensures cause { TellsFaults (D.count disk.old) (D.count disk.new) result }
+    ensures model { D.follows disk.new ↔ D.follows disk.old }
+    ensures mark { D.mark disk.new ≡ D.mark disk.old }
+{
+    trim_behind(disk, end, len)?;
+    Ok(OpenArea {
+        generation,
+        end,
+        durable,
+        is_new: false,
+    })
+}
+
 /// Begins an area of the fresh durable state.
 fn begin<D: Disk>(
     alloc: Global,
@@ -107,12 +130,9 @@ fn begin<D: Disk>(
     ensures model { D.follows disk.new ↔ D.follows disk.old }
     ensures mark { D.mark disk.new ≡ D.mark disk.old }
 {
-    let record = Rec::Whole(fresh);
-    let mut body = Vec::new(alloc);
-    put(&mut body, &record)?;
-    let framed = Journal::framed(alloc, &body)?;
-    let end = Journal::format(disk, closed, FIRST_GENERATION, framed)?;
-    match record {
+    let whole = Rec::Whole(fresh);
+    let end = begin_with(alloc, disk, closed, &whole)?;
+    match whole {
         Rec::Whole(durable) => Ok(OpenArea {
             generation: FIRST_GENERATION,
             end,
@@ -121,4 +141,28 @@ fn begin<D: Disk>(
         }),
         Rec::Step(_batch) => unreachable!(),
     }
+}
+
+/// Begins the first area, of this record alone, and gives the place of the closed gate behind it.
+fn begin_with<D: Disk>(
+    alloc: Global,
+    disk: &mut D,
+    closed: bool,
+    said: &Rec,
+) -> Result<u64, JournalFail>
+    requires { body.fits said.now }
+    ensures settled { D.follows disk.old → IsNew (D.seen disk.old) closed → Only (D.seen disk.old) (D.left_since disk.old (D.moment disk.old)) →
+        IfOk result (λ end. IsSettled 1 (body.text said.now ∷ []) end (D.seen disk.new) (D.left_since disk.new (D.moment disk.new))) }
+    ensures room { IfOk result (λ end. end < 2 ^ 62) }
+    ensures undamaged { IfDamaged result (λ _. ⊥) }
+    ensures crash { D.follows disk.old → IsNew (D.seen disk.old) closed → Only (D.seen disk.old) (D.left_since disk.old (D.moment disk.old)) →
+        LeavesOnly D.moment D.left_since disk.old disk.new (λ image. HasNone image ⊎ Stands 1 (body.text said.now ∷ []) image) }
+    ensures cause { TellsFaults (D.count disk.old) (D.count disk.new) result }
+    ensures model { D.follows disk.new ↔ D.follows disk.old }
+    ensures mark { D.mark disk.new ≡ D.mark disk.old }
+{
+    let mut bytes = Vec::new(alloc);
+    put(&mut bytes, said)?;
+    let framed = Journal::framed(alloc, &bytes)?;
+    Ok(Journal::format(disk, closed, FIRST_GENERATION, framed)?)
 }

@@ -1,6 +1,9 @@
 //! An area's bytes are read: what its records make, one after the other.
-ghost use Rattle.std.specs.Prelude.{◌≡◌, ◌≤◌, ℕ, length, slice_index, Some, IfOk, IfSome, IfNone};
+ghost use Rattle.std.specs.Prelude.{◌≡◌, ◌≤◌, ℕ, List, length, slice_index, Some, IfOk, IfSome, IfNone};
+ghost use Rattle.op_types.specs.Changes.{Applies, durable_after};
+ghost use Rattle.op_types.specs.declared.changes.Change.{Change};
 ghost use Rattle.op_types.specs.declared.durable.Durable.{Durable};
+ghost use Rattle.op_record.specs.declared.body.Rec.TheVariants.{Whole, Step};
 ghost use Rattle.op_journal.specs.Failing.{IfDamaged, IfFault, IsDamagedOrNoMemory};
 ghost use Rattle.op_store.specs.Records.{Makes};
 ghost use Rattle.op_store.specs.Readings.{IsRowFor, StopsAt, IsDamagedFrom, IsRead};
@@ -81,18 +84,40 @@ fn after_record(
     ensures room { IfOk result (λ o. IfSome o (λ d. room_of d.part ≡ 0)) }
     ensures none { IfOk result (λ o. IfNone o ((d : Durable) → Makes made body.now d → ⊥)) }
 {
-    let record = match take(alloc, body) {
-        Ok(record) => record,
+    let said = match take(alloc, body) {
+        Ok(said) => said,
         Err(TakeFail::Bad { .. }) => return Ok(None),
         Err(TakeFail::NoMemory) => return Err(NoMemory),
     };
-    match (made, record) {
-        (None, Rec::Whole(durable)) => Ok(Some(durable)),
-        (Some(durable), Rec::Step(batch)) => match durable.after(batch) {
-            Ok(after) => Ok(after),
-            Err(_) => Err(NoMemory),
-        },
-        (None, Rec::Step(_batch)) => Ok(None),
-        (Some(_old), Rec::Whole(_whole)) => Ok(None),
+    match made {
+        None => Ok(whole_in(said)),
+        Some(durable) => after_step(durable, said),
+    }
+}
+
+/// The whole durable state that a record says, or none where it says a step.
+fn whole_in(said: Rec) -> Option<Durable>
+    ensures found { IfSome result (λ d. said ≡ Whole d) }
+    ensures none { IfNone result ((d : Durable) → said ≡ Whole d → ⊥) }
+{
+    match said {
+        Rec::Whole(durable) => Some(durable),
+        Rec::Step(_batch) => None,
+    }
+}
+
+/// What the step that a record says makes of a durable state, or none where it doesn't apply or the record says none.
+fn after_step(durable: Durable, said: Rec) -> Result<Option<Durable>, NoMemory>
+    requires { room_of durable.part ≡ 0 }
+    ensures applied { IfOk result (λ o. IfSome o (λ d. (batch : List Change) × (said ≡ Step batch) × Applies durable batch × (d ≡ durable_after durable batch))) }
+    ensures room { IfOk result (λ o. IfSome o (λ d. room_of d.part ≡ 0)) }
+    ensures none { IfOk result (λ o. IfNone o ((batch : List Change) → said ≡ Step batch → Applies durable batch → ⊥)) }
+{
+    let Rec::Step(batch) = said else {
+        return Ok(None);
+    };
+    match durable.after(batch) {
+        Ok(after) => Ok(after),
+        Err(_) => Err(NoMemory),
     }
 }
