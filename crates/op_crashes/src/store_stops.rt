@@ -1,7 +1,6 @@
 //! Stores that stop or fail at a call that begins an area or commits a step, and what then stands.
 
-use crate::areas::laid;
-use crate::stored::{FIRST_STEP, NEW_AREA, step};
+use crate::stored::{FIRST_STEP, WHOLE, step};
 use crate::stores::{disks, open, refused};
 use op_journal::DiskFault;
 use op_memory::MemDisk;
@@ -18,22 +17,32 @@ fn is_open(image: u8) -> bool {
     image == 1 || image == 0xA5
 }
 
-/// A store is opened, command 2 goes to its log, and what a crash then leaves has it too.
-fn check_goes_on(
+/// A disk of these bytes is opened as new, or with what the steps of these commands leave.
+fn check_opens(
     rt: &(impl Abort + Alloc<A = Global>),
-    left: (MemDisk, MemDisk),
+    bytes: &[u8],
     is_new: bool,
     seqs: &[u64],
 ) -> Result<(), Fail> {
-    let alloc = rt.alloc();
-    let (mut store, found_new) = open(rt, left, seqs)?;
+    let (_, found_new) = open(rt, disks(rt.alloc(), &[bytes])?, seqs)?;
     assert_eq!(rt; found_new, is_new);
-    let mut more = Vec::from_slice(alloc, seqs)?;
-    more.push(2)?;
-    store.commit(&step(alloc, 2, more.len() as u64)?)?;
-    let (first, _) = store.into_disks();
-    let (_, is_new) = open(rt, disks(alloc, &first.image(0)?)?, &more)?;
-    assert!(rt; !is_new);
+    Ok(())
+}
+
+/// Each image of a stopped disk is opened with what stood before the stop or, where its gate is open, what stands after it:
+/// whether that is new, and the commands of its steps.
+fn check_images(
+    rt: &(impl Abort + Alloc<A = Global>),
+    first: &MemDisk,
+    is_pending: bool,
+    before: (bool, &[u64]),
+    after: (bool, &[u64]),
+) -> Result<(), Fail> {
+    for image in IMAGES {
+        let is_after = is_pending && is_open(image);
+        let (is_new, seqs) = if is_after { after } else { before };
+        check_opens(rt, &first.image(image)?, is_new, seqs)?;
+    }
     Ok(())
 }
 
@@ -41,67 +50,58 @@ fn check_goes_on(
 /// durable state.
 fn check_format_stop(
     rt: &(impl Abort + Alloc<A = Global>),
-    start: &[u8],
+    start: &[&[u8]],
     stop: u64,
     is_pending: bool,
 ) -> Result<(), Fail> {
-    let alloc = rt.alloc();
-    let (mut first, second) = disks(alloc, start)?;
+    let (mut first, second) = disks(rt.alloc(), start)?;
     first.stop_at(stop);
-    let returned = refused(alloc, (first, second))?;
+    let returned = refused(rt.alloc(), (first, second))?;
     assert_eq!(rt; returned.cause, StoreFail::DiskFault { count: 1 });
-    for image in IMAGES {
-        let left = returned.first.image(image)?;
-        let is_new = !(is_pending && is_open(image));
-        check_goes_on(rt, disks(alloc, &left)?, is_new, &[])?;
-    }
-    Ok(())
+    check_images(rt, &returned.first, is_pending, (true, &[]), (false, &[]))
 }
 
+/// An older area behind a closed gate.
+const OLDER: &[&[u8]] = &[&[0], &WHOLE, &FIRST_STEP, &[0]];
+
 /// What a disk without an area holds, the call of its opening that stops, and whether the opened gate in front is pending
-/// then. Two calls read the disk, and then seven begin an area.
-const SEVEN_CALLS: [(&[u8], u64, bool); 9] = [
-    (b"", 3, false),
-    (b"", 4, false),
-    (b"", 5, false),
-    (b"", 6, false),
-    (b"", 7, false),
-    (b"", 8, true),
-    (b"", 9, true),
-    (b"\xA5", 3, false),
-    (b"\xA5", 4, false),
+/// then. Two calls read the disk, and then seven begin an area; where more bytes stand behind a closed gate three read it,
+/// and then five begin one.
+const FORMAT_STOPS: [(&[&[u8]], u64, bool); 14] = [
+    (&[], 3, false),
+    (&[], 4, false),
+    (&[], 5, false),
+    (&[], 6, false),
+    (&[], 7, false),
+    (&[], 8, true),
+    (&[], 9, true),
+    (&[&[0xA5]], 3, false),
+    (&[&[0xA5]], 4, false),
+    (OLDER, 4, false),
+    (OLDER, 5, false),
+    (OLDER, 6, false),
+    (OLDER, 7, true),
+    (OLDER, 8, true),
 ];
 
 #[test]
 fn a_stopped_format_leaves_nothing_or_the_fresh_state(rt: HostRuntime) -> Result<(), Fail> {
-    for (start, stop, is_pending) in SEVEN_CALLS.iter() {
+    for (start, stop, is_pending) in FORMAT_STOPS.iter() {
         check_format_stop(&rt, start, *stop, *is_pending)?;
     }
     Ok(())
 }
 
-/// The same where more bytes stand behind a closed gate: three calls read the disk, and then five begin an area.
-const FIVE_CALLS: [(u64, bool); 5] = [(4, false), (5, false), (6, false), (7, true), (8, true)];
-
-#[test]
-fn a_stopped_format_brings_no_older_area_back(rt: HostRuntime) -> Result<(), Fail> {
-    let alloc = rt.alloc();
-    let older = laid(alloc, &[&[0], &NEW_AREA[1..111], &FIRST_STEP, &[0]])?;
-    for (stop, is_pending) in FIVE_CALLS.iter() {
-        check_format_stop(&rt, &older, *stop, *is_pending)?;
-    }
-    Ok(())
-}
-
-/// The disks of a store, after a step that fails.
+/// The first disk of a store, after a step that fails.
 fn after_failed_step(
     rt: &(impl Abort + Alloc<A = Global>),
     disks: (MemDisk, MemDisk),
-) -> Result<(MemDisk, MemDisk), Fail> {
+) -> Result<MemDisk, Fail> {
+    let framed = step(rt.alloc(), &FIRST_STEP)?;
     let (mut store, _) = open(rt, disks, &[])?;
-    let done = store.commit(&step(rt.alloc(), 1, 1)?);
-    assert_eq!(rt; done, Err(DiskFault { count: 1 }));
-    Ok(store.into_disks())
+    assert_eq!(rt; store.commit(&framed), Err(DiskFault { count: 1 }));
+    let (first, _) = store.into_disks();
+    Ok(first)
 }
 
 /// A step stops at this call. What stood before it is then stored or, where its gate is open, what stands after it.
@@ -110,20 +110,10 @@ fn check_step_stop(
     stop: u64,
     is_pending: bool,
 ) -> Result<(), Fail> {
-    let alloc = rt.alloc();
-    let (mut first, second) = disks(alloc, &NEW_AREA)?;
+    let (mut first, second) = disks(rt.alloc(), &[&WHOLE, &[0]])?;
     first.stop_at(stop);
-    let (first, _) = after_failed_step(rt, (first, second))?;
-    for image in IMAGES {
-        let left = disks(alloc, &first.image(image)?)?;
-        check_goes_on(rt, left, false, seqs_after(is_pending && is_open(image)))?;
-    }
-    Ok(())
-}
-
-/// The commands of the log, with that of the step or without.
-fn seqs_after(is_stored: bool) -> &'static [u64] {
-    if is_stored { &[1] } else { &[] }
+    let first = after_failed_step(rt, (first, second))?;
+    check_images(rt, &first, is_pending, (false, &[]), (false, &[1]))
 }
 
 #[test]
@@ -134,22 +124,22 @@ fn a_stopped_step_is_stored_or_not(rt: HostRuntime) -> Result<(), Fail> {
     Ok(())
 }
 
-/// A step fails at this call, and the same disks are opened again.
+/// A step fails at this call, and what its disk then reads is opened again.
 fn check_step_failure(
     rt: &(impl Abort + Alloc<A = Global>),
     call: u64,
-    is_stored: bool,
+    seqs: &[u64],
 ) -> Result<(), Fail> {
-    let (mut first, second) = disks(rt.alloc(), &NEW_AREA)?;
+    let (mut first, second) = disks(rt.alloc(), &[&WHOLE, &[0]])?;
     first.fail_at(call)?;
-    let left = after_failed_step(rt, (first, second))?;
-    check_goes_on(rt, left, false, seqs_after(is_stored))
+    let first = after_failed_step(rt, (first, second))?;
+    check_opens(rt, first.bytes(), false, seqs)
 }
 
 #[test]
 fn a_failed_step_is_stored_where_its_gate_was_opened(rt: HostRuntime) -> Result<(), Fail> {
-    for (call, is_stored) in [(4, false), (5, false), (6, false), (7, true)] {
-        check_step_failure(&rt, call, is_stored)?;
+    for call in [4, 5, 6] {
+        check_step_failure(&rt, call, &[])?;
     }
-    Ok(())
+    check_step_failure(&rt, 7, &[1])
 }

@@ -1,19 +1,14 @@
 //! What the sole member 1 stores, as values and as bytes: at first, and after steps that append a command each and decide it.
-ghost use Rattle.std.specs.Prelude.{◌≤◌, ◌<◌, ◌^◌, IfOk};
-ghost use Rattle.op_record.specs.Ranges.{DurableInRange, BatchInRange};
+ghost use Rattle.std.specs.Prelude.{IfOk};
+ghost use Rattle.op_record.specs.Ranges.{DurableInRange};
 
 use op_journal::{Framed, Journal};
-use op_record::{Rec, put};
-use op_types::{
-    Ballot, Batch, Blob, Change, Command, Durable, Entries, Entry, Members, NoMemory, Op, Part,
-    Roomy,
-};
-use std::alloc::{AllocError, Global};
-use std::process::Abort;
+use op_types::{Ballot, Blob, Durable, Entry, Members, NoMemory, Part, Roomy};
+use std::alloc::Global;
 use std::test::Fail;
 
-/// Its area at first.
-pub const NEW_AREA: [u8; 112] = [
+/// Its area at first, up to the closed gate.
+pub const WHOLE: [u8; 111] = [
     0xA5, b'O', b'M', b'N', b'I', b'P', b'A', b'X', 1, // an open gate, the magic, and version 1
     0, 0, 0, 0, 0, 0, 0, 1, // generation 1
     0xA5, 0, 0, 0, 0, 0, 0, 0, 85, // an open gate, and a body of 85 bytes
@@ -29,7 +24,6 @@ pub const NEW_AREA: [u8; 112] = [
     0, 0, 0, 0, 0, 0, 0, 0, // entries
     0, 0, 0, 0, 0, 0, 0, 0, // decided
     0, 0, // no closed and no joining configuration
-    0, // a closed gate
 ];
 
 /// The record of its first step, which appends and decides command 1.
@@ -43,6 +37,15 @@ pub const FIRST_STEP: [u8; 52] = [
     0, 0, 0, 0, 0, 0, 0, 1, // with number 1
     1, 1, b'a', 0, 1, b'x', // puts x at a
     5, 0, 0, 0, 0, 0, 0, 0, 1, // one entry is decided
+];
+
+/// The record of its second step, with command 2.
+pub const SECOND_STEP: [u8; 52] = [
+    0xA5, 0, 0, 0, 0, 0, 0, 0, 43, // an open gate, and a body of 43 bytes
+    2, 2, 4, 0, 0, 0, 0, 0, 0, 0, 1, 1, 0, 0, 0, 0, 0, 0, 0, 7, // as the first one
+    0, 0, 0, 0, 0, 0, 0, 2, // with number 2
+    1, 1, b'a', 0, 1, b'x', // puts x at a
+    5, 0, 0, 0, 0, 0, 0, 0, 2, // two entries are decided
 ];
 
 /// What it stores at first.
@@ -67,71 +70,32 @@ pub fn first_durable(alloc: Global) -> Result<Durable, NoMemory>
     })
 }
 
-/// The record of a step that appends the command of this number, and decides a log of this length.
-pub fn step(alloc: Global, seq: u64, len: u64) -> Result<Framed, Fail>
-    requires number { (0 < seq) × (seq < 2 ^ 62) }
-    requires place { len ≤ 2 ^ 62 }
-{
-    let record = Rec::Step(batch(alloc, seq, len)?);
-    let mut body = Vec::new(alloc);
-    put(&mut body, &record)?;
-    Ok(Journal::framed(alloc, &body)?)
+/// A step whose record is this, laid out.
+pub fn step(alloc: Global, record: &[u8; 52]) -> Result<Framed, Fail> {
+    Ok(Journal::framed(alloc, &record[9..])?)
 }
 
-fn batch(alloc: Global, seq: u64, len: u64) -> Result<Batch, NoMemory>
-    requires number { (0 < seq) × (seq < 2 ^ 62) }
-    requires place { len ≤ 2 ^ 62 }
-    ensures { IfOk result BatchInRange }
-{
-    let key = Blob::from_slice(alloc, b"a")?;
-    let value = Blob::from_slice(alloc, b"x")?;
-    let mut entries = Entries::new(alloc);
-    entries.push(Entry::Command(Command {
-        client: 7,
-        seq,
-        op: Op::Put(key, value),
-    }))?;
-    let mut batch = Batch::new(alloc);
-    batch.push(Change::Append(entries))?;
-    batch.push(Change::Decided(len))?;
-    Ok(batch)
-}
-
-/// This state is what the steps of these commands leave.
-pub fn check_state(
-    rt: &(impl Abort + Alloc<A = Global>),
-    durable: &Durable,
-    seqs: &[u64],
-) -> Result<(), Fail> {
-    assert!(rt; durable.closed.is_none());
-    let part = durable.part.as_ref().ok_or("no part")?;
-    assert_eq!(rt; part.conf, 1);
-    assert_eq!(rt; part.members.as_slice(), [1].as_slice());
-    assert_eq!(rt; part.promised, Ballot::NONE);
-    assert_eq!(rt; part.accepted, Ballot::NONE);
-    assert_eq!(rt; part.base.as_slice(), [0u8; 16].as_slice());
-    assert_eq!(rt; part.trimmed, 0);
-    assert_eq!(rt; seqs_of(rt.alloc(), part.tail.as_slice())?.as_slice(), seqs);
-    assert_eq!(rt; part.decided, seqs.len() as u64);
-    Ok(())
-}
-
-fn seqs_of(alloc: Global, entries: &[Entry]) -> Result<Vec<u64>, AllocError> {
-    let mut seqs = Vec::new(alloc);
-    for entry in entries {
-        seqs.push(seq_of(entry))?;
+/// The log is these commands, and all of it is decided.
+pub fn has_log(durable: &Durable, seqs: &[u64]) -> bool {
+    match &durable.part {
+        Some(part) => part.decided == seqs.len() as u64 && are_of(part.tail.as_slice(), seqs),
+        None => false,
     }
-    Ok(seqs)
+}
+
+fn are_of(entries: &[Entry], seqs: &[u64]) -> bool {
+    for (entry, seq) in entries.iter().zip(seqs.iter()) {
+        if seq_of(entry) != *seq {
+            return false;
+        }
+    }
+    entries.len() == seqs.len()
 }
 
 /// The number of a command that a step appends, and 0 for another entry.
 fn seq_of(entry: &Entry) -> u64 {
-    let Entry::Command(command) = entry else {
-        return 0;
-    };
-    let Op::Put(key, value) = &command.op;
-    let is_of_step = command.client == 7
-        && key.as_slice() == b"a".as_slice()
-        && value.as_slice() == b"x".as_slice();
-    if is_of_step { command.seq } else { 0 }
+    match entry {
+        Entry::Command(command) if command.client == 7 => command.seq,
+        _ => 0,
+    }
 }
