@@ -1,10 +1,11 @@
 -- A disk in memory, as its calls made it.
-use Rattle.std.specs.Prelude.{◌≡◌, ◌≢◌, ◌⊎◌, IsTrue, ℕ, ◌+◌, ◌-◌, ◌^◌, min, List, length}
+use Rattle.std.specs.Prelude.{◌≡◌, ◌≢◌, ◌⊎◌, ℕ, ◌+◌, ◌-◌, ◌^◌, min, List, length}
 use Rattle.op_outside.specs.Moments.{Moment}
 use Rattle.op_outside.specs.Moments.Moment.{At}
 use Rattle.op_memory.specs.declared.disk.MemDisk.{MemDisk}
 use Rattle.op_memory.specs.Plans.{next_fate}
 use Rattle.op_memory.specs.declared.plan.Fate.TheVariants.{Runs, Stops}
+use Rattle.op_memory.specs.declared.plan.Fate.TheVariants as fate
 use Rattle.op_memory.specs.Images.{State, state_of, fresh, LeftSince, LeftNow}
 
 -- what is pending, what a read gives, and what it would give had all that is pending taken place
@@ -32,10 +33,12 @@ abbrev pub count_of : MemDisk → ℕ
 count_of d = d.tally.count
 
 -- A failed call counts once and changes nothing that a read gives. It was to fail, or the disk to stop in it, or its range isn't
--- there, or there is no room. The write or the cut in which the disk stopped is pending.
-pub record Fails (old new : MemDisk) (is_out : Type 0) (stopped : State → State) : Type 0 where
+-- there, or the call starves. One that was to fail, or whose range isn't there, starves no disk. The write or the cut in which the
+-- disk stopped is pending.
+pub record Fails (old new : MemDisk) (is_out starves : Type 0) (stopped : State → State) : Type 0 where
   pub count : count_of new ≡ min (count_of old + 1) (2 ^ 64 - 1)
   pub seen : seen_of new ≡ seen_of old
-  pub cause : (next_fate old.plan ≢ Runs) ⊎ is_out ⊎ IsTrue new.tally.is_starved
+  pub cause : (next_fate old.plan ≢ Runs) ⊎ is_out ⊎ starves
+  pub fed : (next_fate old.plan ≡ fate.Fails) ⊎ is_out → new.tally.is_starved ≡ old.tally.is_starved
   pub kept : next_fate old.plan ≢ Stops → disk_state new ≡ disk_state old
-  pub pending : next_fate old.plan ≡ Stops → (disk_state new ≡ stopped (disk_state old)) ⊎ ((disk_state new ≡ disk_state old) × (is_out ⊎ IsTrue new.tally.is_starved))
+  pub pending : next_fate old.plan ≡ Stops → (disk_state new ≡ stopped (disk_state old)) ⊎ ((disk_state new ≡ disk_state old) × (is_out ⊎ starves))

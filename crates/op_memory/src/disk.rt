@@ -21,7 +21,7 @@ pub struct MemDisk {
 }
 
 impl MemDisk {
-    ghost use Rattle.std.specs.Prelude.{None, false, OnOk};
+    ghost use Rattle.std.specs.Prelude.{None, false, OnOk, OnErr};
     ghost use Rattle.op_memory.specs.Plans.{IsPlan, Stays, FailsAt, StopsAt};
     ghost use Rattle.op_memory.specs.Images.{fresh, IsFilled};
     ghost use Rattle.op_memory.specs.MemDisks.{disk_state};
@@ -32,6 +32,7 @@ impl MemDisk {
         ensures seen { IfOk result (λ d. ⟦<MemDisk as Disk>⟧.seen d ≡ bytes.items) }
         ensures count { IfOk result (λ d. ⟦<MemDisk as Disk>⟧.count d ≡ 0) }
         ensures plan { IfOk result (λ d. IsPlan 0 [] None false d.plan) }
+        ensures fed { IfOk result (λ d. d.tally.is_starved ≡ false) }
     {
         let start = bytes.to_vec(alloc)?;
         Ok(MemDisk {
@@ -68,7 +69,10 @@ impl MemDisk {
         ensures moment { ⟦<MemDisk as Disk>⟧.moment self.new ≡ ⟦<MemDisk as Disk>⟧.moment self.old }
         ensures left { (t : Moment) (x : List ℕ) → ⟦<MemDisk as Disk>⟧.left_since self.new t x ↔ ⟦<MemDisk as Disk>⟧.left_since self.old t x }
         ensures count { ⟦<MemDisk as Disk>⟧.count self.new ≡ ⟦<MemDisk as Disk>⟧.count self.old }
+        ensures state { disk_state self.new ≡ disk_state self.old }
+        ensures starved { self.new.tally.is_starved ≡ self.old.tally.is_starved }
         ensures plan { OnOk result (FailsAt call self.old.plan self.new.plan) }
+        ensures err { OnErr result (Stays self.old.plan self.new.plan) }
     {
         self.plan.fail_at(call)
     }
@@ -80,6 +84,8 @@ impl MemDisk {
         ensures moment { ⟦<MemDisk as Disk>⟧.moment self.new ≡ ⟦<MemDisk as Disk>⟧.moment self.old }
         ensures left { (t : Moment) (x : List ℕ) → ⟦<MemDisk as Disk>⟧.left_since self.new t x ↔ ⟦<MemDisk as Disk>⟧.left_since self.old t x }
         ensures count { ⟦<MemDisk as Disk>⟧.count self.new ≡ ⟦<MemDisk as Disk>⟧.count self.old }
+        ensures state { disk_state self.new ≡ disk_state self.old }
+        ensures starved { self.new.tally.is_starved ≡ self.old.tally.is_starved }
         ensures plan { StopsAt call self.old.plan self.new.plan }
     {
         self.plan.stop_at(call);
@@ -106,6 +112,7 @@ impl MemDisk {
         ensures state { IfOk result (λ d. disk_state d ≡ disk_state self) }
         ensures seen { IfOk result (λ d. ⟦<MemDisk as Disk>⟧.seen d ≡ ⟦<MemDisk as Disk>⟧.seen self) }
         ensures count { IfOk result (λ d. ⟦<MemDisk as Disk>⟧.count d ≡ ⟦<MemDisk as Disk>⟧.count self) }
+        ensures starved { IfOk result (λ d. d.tally.is_starved ≡ self.tally.is_starved) }
         ensures plan { IfOk result (λ d. Stays self.plan d.plan) }
     {
         let MemDisk {
@@ -125,7 +132,7 @@ impl MemDisk {
 }
 
 impl Disk for MemDisk {
-    ghost use Rattle.std.specs.Prelude.{◌≤◌, ◌+◌, ◌^◌, take, drop, OnOk, OnErr};
+    ghost use Rattle.std.specs.Prelude.{◌≤◌, ◌+◌, ◌^◌, take, drop, IsTrue, OnOk, OnErr};
     ghost use Rattle.op_outside.specs.Causes.{HasCause};
     ghost use Rattle.op_outside.specs.Disks.{Holds, Torn, Shorter, After, Follows, Only, Elapses};
     ghost use Rattle.op_memory.specs.Images.{State, fresh, wrote, stopped_in_write, cut_to, stopped_in_cut};
@@ -161,7 +168,8 @@ impl Disk for MemDisk {
         ensures state { disk_state self.new ≡ disk_state self.old }
         ensures plan { Goes self.old.plan self.new.plan }
         ensures runs { OnOk result (next_fate self.old.plan ≡ Runs) }
-        ensures err { OnErr result (Fails self.old self.new (2 ^ 62 < length (seen_of self.old)) (λ s. s)) }
+        ensures fed { self.new.tally.is_starved ≡ self.old.tally.is_starved }
+        ensures err { OnErr result (Fails self.old self.new (2 ^ 62 < length (seen_of self.old)) ⊥ (λ s. s)) }
     {
         if self.plan.next_fate() != Fate::Runs {
             return Err(self.tally.fail());
@@ -184,7 +192,9 @@ impl Disk for MemDisk {
         ensures state { disk_state self.new ≡ disk_state self.old }
         ensures plan { Goes self.old.plan self.new.plan }
         ensures runs { OnOk result (next_fate self.old.plan ≡ Runs) }
-        ensures err { OnErr result (Fails self.old self.new (length (seen_of self.old) < at + length buf.old) (λ s. s)) }
+        ensures fed { self.new.tally.is_starved ≡ self.old.tally.is_starved }
+        ensures err { OnErr result (Fails self.old self.new (length (seen_of self.old) < at + length buf.old) ⊥ (λ s. s)) }
+        ensures kept { OnErr result (buf.new ≡ buf.old) }
     {
         if self.plan.next_fate() != Fate::Runs {
             return Err(self.tally.fail());
@@ -210,7 +220,8 @@ impl Disk for MemDisk {
         ensures state { OnOk result (disk_state self.new ≡ wrote at bytes.now (disk_state self.old)) }
         ensures plan { Goes self.old.plan self.new.plan }
         ensures runs { OnOk result (next_fate self.old.plan ≡ Runs) }
-        ensures err { OnErr result (Fails self.old self.new (length (seen_of self.old) < at) (stopped_in_write at bytes.now)) }
+        ensures fed { OnOk result (self.new.tally.is_starved ≡ self.old.tally.is_starved) }
+        ensures err { OnErr result (Fails self.old self.new (length (seen_of self.old) < at) (IsTrue self.new.tally.is_starved) (stopped_in_write at bytes.now)) }
     {
         let fate = self.plan.next_fate();
         if fate == Fate::Fails {
@@ -240,7 +251,8 @@ impl Disk for MemDisk {
         ensures state { OnOk result (disk_state self.new ≡ cut_to len (disk_state self.old)) }
         ensures plan { Goes self.old.plan self.new.plan }
         ensures runs { OnOk result (next_fate self.old.plan ≡ Runs) }
-        ensures err { OnErr result (Fails self.old self.new (length (seen_of self.old) < len) (stopped_in_cut len)) }
+        ensures fed { OnOk result (self.new.tally.is_starved ≡ self.old.tally.is_starved) }
+        ensures err { OnErr result (Fails self.old self.new (length (seen_of self.old) < len) (IsTrue self.new.tally.is_starved) (stopped_in_cut len)) }
     {
         let fate = self.plan.next_fate();
         if fate == Fate::Fails {
@@ -268,7 +280,8 @@ impl Disk for MemDisk {
         ensures state { OnOk result (disk_state self.new ≡ fresh (seen_of self.old)) }
         ensures plan { Goes self.old.plan self.new.plan }
         ensures runs { OnOk result (next_fate self.old.plan ≡ Runs) }
-        ensures err { OnErr result (Fails self.old self.new ⊥ (λ s. s)) }
+        ensures fed { OnOk result (self.new.tally.is_starved ≡ self.old.tally.is_starved) }
+        ensures err { OnErr result (Fails self.old self.new ⊥ (IsTrue self.new.tally.is_starved) (λ s. s)) }
     {
         if self.plan.next_fate() != Fate::Runs {
             return Err(self.tally.fail());

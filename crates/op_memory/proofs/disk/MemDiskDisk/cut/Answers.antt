@@ -11,5 +11,6 @@ pub returns-then-eq-2-clause-err : goal.returns-then-eq-2-clause-err
 returns-then-eq-2-clause-err c =
     let new : MemDisk = record { alloc = c.args.self.now.alloc; kept = c.stop_in_cut-done.new.self; plan = c.next_fate-fate.new.self; tally = c.stop.new.self } in
     let stops : next_fate c.args.self.now.plan ≡ Stops = search rules in
+    let within : length (seen_of c.args.self.now) < c.args.len → ⊥ = search rules in
     stopped_fails c.args.self.now new (length (seen_of c.args.self.now) < c.args.len) (stopped_in_cut c.args.len) c.stop_in_cut-done.result
-    c.stop.ensures.by_one c.stop_in_cut-done.ensures.bytes stops c.stop_in_cut-done.ensures.state c.stop_in_cut-done.ensures.same c.stop.ensures.starved
+    c.stop.ensures.by_one c.stop_in_cut-done.ensures.bytes stops c.stop_in_cut-done.ensures.state c.stop_in_cut-done.ensures.same c.stop.ensures.starved within

@@ -11,5 +11,6 @@ pub returns-then-eq-2-clause-err : goal.returns-then-eq-2-clause-err
 returns-then-eq-2-clause-err c =
     let new : MemDisk = record { alloc = c.args.self.now.alloc; kept = c.stop_in_write-done.new.self; plan = c.next_fate-fate.new.self; tally = c.stop.new.self } in
     let stops : next_fate c.args.self.now.plan ≡ Stops = search rules in
+    let within : length (seen_of c.args.self.now) < c.args.at → ⊥ = search rules in
     stopped_fails c.args.self.now new (length (seen_of c.args.self.now) < c.args.at) (stopped_in_write c.args.at c.args.bytes.now) c.stop_in_write-done.result
-    c.stop.ensures.by_one c.stop_in_write-done.ensures.bytes stops c.stop_in_write-done.ensures.state c.stop_in_write-done.ensures.same c.stop.ensures.starved
+    c.stop.ensures.by_one c.stop_in_write-done.ensures.bytes stops c.stop_in_write-done.ensures.state c.stop_in_write-done.ensures.same c.stop.ensures.starved within
