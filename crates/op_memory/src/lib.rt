@@ -13,8 +13,6 @@ mod sink;
 mod source;
 mod syncs;
 mod tally;
-#[cfg(test)]
-mod tests;
 
 pub use disk::MemDisk;
 pub use laws::what_a_crash_leaves;
