@@ -23,7 +23,9 @@ fn replay<S: Source, K: Sink>(alloc: Global, input: &mut S, out: &mut K) -> Stat
     ensures bad_always { NoFault (S.fault_count input.old) (S.fault_count input.new)
         → IfSome (S.left input.old) (λ bytes. (line : ℕ) → IsRefusedAt bytes line → IsOrNoMemory (Status.BadSchedule line) result) }
     ensures read_fault { result ≡ Status.ReadFault → Rose (S.fault_count input.old) (S.fault_count input.new) }
+    ensures read_fault_always { (result ≡ Status.ReadFault → ⊥) → S.fault_count input.new ≡ S.fault_count input.old }
     ensures write_fault { result ≡ Status.WriteFault → Rose (K.fault_count out.old) (K.fault_count out.new) }
+    ensures write_fault_always { (result ≡ Status.WriteFault → ⊥) → K.fault_count out.new ≡ K.fault_count out.old }
     ensures taken { TakesAtMost 67108865 (S.left input.old) (S.left input.new) }
     ensures too_long { result ≡ Status.InputLimit → HasAtLeast (S.left input.old) 67108865 }
     ensures too_long_always { NoFault (S.fault_count input.old) (S.fault_count input.new)
@@ -79,9 +81,11 @@ pub fn omni<S: Source, K: Sink>(
     ensures too_long_always { map string_bytes words.now ≡ task_words Task.Replay → NoFault (S.fault_count input.old) (S.fault_count input.new)
         → IfSome (S.left input.old) (λ bytes. 67108864 < length bytes → IsOrNoMemory Status.InputLimit result) }
 
-    // A fault is answered only where the stream failed in this call.
+    // A fault is answered where the stream failed in this call, and nowhere else.
     ensures read_fault { result ≡ Status.ReadFault → Rose (S.fault_count input.old) (S.fault_count input.new) }
+    ensures read_fault_always { (result ≡ Status.ReadFault → ⊥) → S.fault_count input.new ≡ S.fault_count input.old }
     ensures write_fault { result ≡ Status.WriteFault → Rose (K.fault_count out.old) (K.fault_count out.new) }
+    ensures write_fault_always { (result ≡ Status.WriteFault → ⊥) → K.fault_count out.new ≡ K.fault_count out.old }
 
     // With a write fault a front of the report stands there, and with other refusals nothing more than before.
     ensures cut { result ≡ Status.WriteFault → IfSome (S.left input.old) (λ bytes. IsReportedFront bytes (K.held out.old) (K.held out.new)) }
