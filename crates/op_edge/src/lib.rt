@@ -11,6 +11,3 @@ pub use standard::StandardStream;
 
 /// How often a call is tried that a signal cuts short.
 const TRIES: u32 = 1000;
-
-#[cfg(test)]
-mod tests;

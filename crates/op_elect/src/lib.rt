@@ -7,6 +7,3 @@ mod laws;
 pub use election::{Election, LAST_NUMBER};
 pub use laws::{elected_ballots_rise, rounds_end_in_one_way};
 pub use op_types::Verdict;
-
-#[cfg(test)]
-mod tests;

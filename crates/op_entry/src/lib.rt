@@ -6,8 +6,6 @@ mod command;
 mod entry;
 mod laws;
 mod members;
-#[cfg(test)]
-mod tests;
 
 pub use ballot::{ballot_at, put_ballot};
 pub use command::blob_of;

@@ -4,6 +4,3 @@
 mod rounds;
 
 pub use rounds::{Rounds, round_after};
-
-#[cfg(test)]
-mod tests;

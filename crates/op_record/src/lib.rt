@@ -6,8 +6,6 @@ mod body;
 mod durable;
 mod laws;
 mod part;
-#[cfg(test)]
-mod tests;
 
 pub use body::{Rec, put, take};
 pub use laws::one_record;

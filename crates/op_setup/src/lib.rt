@@ -11,6 +11,3 @@ pub use fail::TaskFail;
 pub use laws::one_task;
 pub use reading::task;
 pub use tasks::Task;
-
-#[cfg(test)]
-mod tests;

@@ -7,8 +7,3 @@ mod top;
 
 pub use status::Status;
 pub use top::omni;
-
-#[cfg(test)]
-mod letters;
-#[cfg(test)]
-mod tests;

@@ -1,4 +1,4 @@
-use crate::{greatest_backed, is_majority};
+use op_quorum::{greatest_backed, is_majority};
 
 /// Lengths, and the greatest that a majority has.
 const LENGTHS: [(&[u64], u64); 6] = [

@@ -1,4 +1,4 @@
-use crate::{Task, TaskFail, task};
+use op_setup::{Task, TaskFail, task};
 use std::alloc::{AllocError, Global};
 use std::test::Fail;
 

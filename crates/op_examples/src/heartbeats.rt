@@ -1,4 +1,4 @@
-use crate::Rounds;
+use op_heartbeat::Rounds;
 use op_types::{Ballot, Body, Heard, Members, Pid};
 use std::test::Fail;
 

@@ -1,11 +1,11 @@
 ghost use Rattle.std.specs.Prelude.{IfOk};
 ghost use Rattle.op_record.specs.Ranges.{RecInRange};
 
-use crate::{Rec, put, take};
+use crate::puts::{is_one_put, one_put};
 use op_fields::TakeFail;
-use op_types::{Ballot, Blob, Change, Command, Durable, Entry, NoMemory, Op, Part, Roomy, Seq};
+use op_record::{Rec, put, take};
+use op_types::{Ballot, Blob, Change, Durable, NoMemory, Part, Roomy, Seq};
 use std::alloc::Global;
-use std::process::Abort;
 use std::test::Fail;
 
 /// What the sole member 1 stores at first.
@@ -63,14 +63,8 @@ fn a_first_durable_state_is_written_as_its_85_bytes(rt: HostRuntime) -> Result<(
 fn step(alloc: Global) -> Result<Rec, NoMemory>
     ensures { IfOk result RecInRange }
 {
-    let key = Blob::from_slice(alloc, b"a")?;
-    let value = Blob::from_slice(alloc, b"x")?;
     let mut entries = Seq::new(alloc);
-    entries.push(Entry::Command(Command {
-        client: 7,
-        seq: 1,
-        op: Op::Put(key, value),
-    }))?;
+    entries.push(one_put(alloc)?)?;
     let mut batch = Seq::new(alloc);
     batch.push(Change::Append(entries))?;
     batch.push(Change::Decided(1))?;
@@ -85,14 +79,10 @@ fn is_step(record: &Rec) -> bool {
     let [Change::Append(entries), Change::Decided(1)] = batch.as_slice() else {
         return false;
     };
-    let [Entry::Command(command)] = entries.as_slice() else {
-        return false;
-    };
-    let Op::Put(key, value) = &command.op;
-    command.client == 7
-        && command.seq == 1
-        && key.as_slice() == b"a".as_slice()
-        && value.as_slice() == b"x".as_slice()
+    match entries.as_slice() {
+        [entry] => is_one_put(entry),
+        _ => false,
+    }
 }
 
 #[test]

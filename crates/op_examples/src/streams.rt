@@ -1,4 +1,4 @@
-use crate::{Input, Output, StandardStream};
+use op_edge::{Input, Output, StandardStream};
 use op_outside::{ReadFail, Sink, Source, WriteFail, read_all, write_all};
 use std::io::{self, ErrorKind, Read, Write};
 use std::test::Fail;

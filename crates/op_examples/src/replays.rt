@@ -1,9 +1,9 @@
 ghost use Rattle.std.specs.Prelude.{◌<◌};
 
 use crate::letters::Letters;
-use crate::{Status, omni};
 use op_memory::{MemSink, MemSource};
 use op_sched::bytes_of;
+use op_top::{Status, omni};
 use std::alloc::{AllocError, Global};
 use std::process::Abort;
 use std::test::Fail;

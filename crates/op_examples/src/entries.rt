@@ -1,40 +1,12 @@
-ghost use Rattle.std.specs.Prelude.{◌≡◌, IfOk};
-ghost use Rattle.op_entry.specs.Ranges.{EntryInRange};
-
-use crate::{put, take};
+use crate::puts::{is_one_put, one_put};
+use op_entry::{put, take};
 use op_fields::TakeFail;
-use op_types::{Blob, Command, Entry, NoMemory, Op};
-use std::alloc::Global;
-use std::process::Abort;
 use std::test::Fail;
 
 /// The entry `put 7 1 a x`.
 const ONE_PUT: &[u8] = &[
     1, 0, 0, 0, 0, 0, 0, 0, 7, 0, 0, 0, 0, 0, 0, 0, 1, 1, 1, b'a', 0, 1, b'x',
 ];
-
-fn one_put(alloc: Global) -> Result<Entry, NoMemory>
-    ensures { IfOk result EntryInRange }
-{
-    let key = Blob::from_slice(alloc, b"a")?;
-    let value = Blob::from_slice(alloc, b"x")?;
-    Ok(Entry::Command(Command {
-        client: 7,
-        seq: 1,
-        op: Op::Put(key, value),
-    }))
-}
-
-fn is_one_put(entry: &Entry) -> bool {
-    let Entry::Command(command) = entry else {
-        return false;
-    };
-    let Op::Put(key, value) = &command.op;
-    command.client == 7
-        && command.seq == 1
-        && key.as_slice() == b"a".as_slice()
-        && value.as_slice() == b"x".as_slice()
-}
 
 #[test]
 fn a_put_is_written_as_its_23_bytes(rt: HostRuntime) -> Result<(), Fail> {

@@ -1,4 +1,4 @@
-use crate::{Election, Verdict};
+use op_elect::{Election, Verdict};
 use op_types::{Ballot, Heard};
 
 /// A ballot's number and its server.
