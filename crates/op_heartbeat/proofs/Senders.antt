@@ -7,12 +7,13 @@ use Rattle.std.proofs.lemmas.List.{length-map, map-append}
 use Rattle.std.proofs.lemmas.List.Folds.{list_any-append}
 use Rattle.std.proofs.lemmas.List.Kept.{AllPairs-filter}
 use Rattle.std.proofs.lemmas.Map.Keys.{IsDistinct-push}
-use Rattle.std.proofs.lemmas.Map.Made.{length-le_from_is_member, is_member-filter, AllPairs-from_IsDistinct, IsDistinct-from_AllPairs}
+use Rattle.std.proofs.lemmas.Map.Made.{length-le_from_is_member, AllPairs-from_IsDistinct, IsDistinct-from_AllPairs}
 use Rattle.std.specs.List.{filter, IsDistinct}
 use Rattle.std.specs.Prelude.{nat_eq}
 use Rattle.std.specs.Set.{is_member}
 use Rattle.op_types.specs.declared.messages.Heard.{Heard}
 use Rattle.op_quorum.specs.Quorums.{AreVoters}
+use Rattle.op_quorum.proofs.Meeting.{member_passing}
 use Rattle.op_steps.specs.Heartbeats.{without, heard_with}
 use Rattle.op_heartbeat.specs.Hearing.{Hearing, IsMember, senders, reply_taken}
 
@@ -34,10 +35,6 @@ IsDistinct-filter : (test : ℕ → Bool) (ps : List ℕ) → IsDistinct nat_eq 
 IsDistinct-filter test ps once = IsDistinct-from_AllPairs Decides-eqb (filter test ps) (AllPairs-filter (λ p q. p ≢ q) test ps (AllPairs-from_IsDistinct Decides-eqb ps once))
 
 -- ---- one more
-
--- who is among the voters that pass a test
-member_passing : (test : ℕ → Bool) (ps : List ℕ) (p : ℕ) → is_member nat_eq (filter test ps) p ≡ (is_member nat_eq ps p && test p)
-member_passing test ps p = is_member-filter nat_eq_equiv test p (λ x e. ap test (eqb-true p x e)) ps
 
 one_or : (a b : Bool) {P : Type 0} → (a ≡ true → P) → (b ≡ true → P) → (a || b) ≡ true → P
 one_or true b first second h = first refl

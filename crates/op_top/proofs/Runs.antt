@@ -10,7 +10,8 @@ use Rattle.op_sched.specs.Grammar.{AreInRange, IsWhat, IsNumber, IsOp}
 use Rattle.op_types.specs.declared.events.Event.{Event}
 use Rattle.op_types.specs.declared.log.Entry.{Entry}
 use Rattle.op_sched.specs.declared.summary.Summary.{Summary}
-use Rattle.op_model.specs.Machine.{is_among}
+use Rattle.std.specs.Prelude.{nat_eq}
+use Rattle.std.specs.Set.{is_member}
 use Rattle.op_runs.specs.World.{World, Happening, first_world, node_of, world_after, run_of, done_event, all_done}
 use Rattle.op_runs.specs.Run.{Track, first_track, track_with, track_of, Meets}
 use Rattle.op_runs.specs.Summary.{summary_of}
@@ -70,7 +71,7 @@ continues_first members w rest events start all range =
       range = subst (λ (es : List Event). AreInRange es) (sym all) range;
     }
 
-pub continues_next : (members : List ℕ) (w v : World) (left rest events : List Event) (e : Event) → Continues members w left events → left ≡ e ∷ rest → is_among members (node_of e.what) ≡ true → v ≡ world_after w (done_event e)
+pub continues_next : (members : List ℕ) (w v : World) (left rest events : List Event) (e : Event) → Continues members w left events → left ≡ e ∷ rest → is_member nat_eq members (node_of e.what) ≡ true → v ≡ world_after w (done_event e)
     → Continues members v rest events
 continues_next members w v left rest events e c first here step =
     record {
@@ -80,7 +81,7 @@ continues_next members w v left rest events e c first here step =
       range = All-tail (λ (f : Event). IsWhat f.what) e rest (subst (λ (es : List Event). AreInRange es) first c.range);
     }
 
-pub absent_here : (members : List ℕ) (w : World) (left rest events : List Event) (e : Event) → Continues members w left events → left ≡ e ∷ rest → is_among members (node_of e.what) ≡ false → IsFirstAbsent members events e.line
+pub absent_here : (members : List ℕ) (w : World) (left rest events : List Event) (e : Event) → Continues members w left events → left ≡ e ∷ rest → is_member nat_eq members (node_of e.what) ≡ false → IsFirstAbsent members events e.line
 absent_here members w left rest events e c first away = c.absent e.line (subst (λ (es : List Event). IsFirstAbsent members es e.line) (sym first) (inl (refl, away)))
 
 pub present_end : (members : List ℕ) (w : World) (left events : List Event) → Continues members w left events → left ≡ [] → AllPresent members events

@@ -2,7 +2,8 @@
 use Rattle.std.specs.Prelude.{◌≡◌, ◌⊎◌, ℕ, true, false, List, [], ◌∷◌}
 use Rattle.op_types.specs.declared.events.Event.{Event}
 use Rattle.op_sched.specs.declared.summary.Summary.{Summary}
-use Rattle.op_model.specs.Machine.{is_among}
+use Rattle.std.specs.Prelude.{nat_eq}
+use Rattle.std.specs.Set.{is_member}
 use Rattle.op_runs.specs.World.{node_of, all_done}
 use Rattle.op_runs.specs.Run.{Track, first_track, track_of}
 use Rattle.op_runs.specs.Summary.{summary_of}
@@ -10,12 +11,12 @@ use Rattle.op_runs.specs.Summary.{summary_of}
 -- each event is at a member
 abbrev pub AllPresent : List ℕ → List Event → Type 0
 AllPresent members [] = Unit {0}
-AllPresent members (e ∷ es) = (is_among members (node_of e.what) ≡ true) × AllPresent members es
+AllPresent members (e ∷ es) = (is_member nat_eq members (node_of e.what) ≡ true) × AllPresent members es
 
 -- the line of the first event at a node that isn't there
 abbrev pub IsFirstAbsent : List ℕ → List Event → ℕ → Type 0
 IsFirstAbsent members [] n = ⊥
-IsFirstAbsent members (e ∷ es) n = ((n ≡ e.line) × (is_among members (node_of e.what) ≡ false)) ⊎ ((is_among members (node_of e.what) ≡ true) × IsFirstAbsent members es n)
+IsFirstAbsent members (e ∷ es) n = ((n ≡ e.line) × (is_member nat_eq members (node_of e.what) ≡ false)) ⊎ ((is_member nat_eq members (node_of e.what) ≡ true) × IsFirstAbsent members es n)
 
 -- the run of a schedule: each event's step is done
 abbrev pub run_track : List ℕ → List Event → Track

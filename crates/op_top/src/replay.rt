@@ -1,8 +1,8 @@
 //! From a schedule's bytes to the report of its run.
-ghost use Rattle.std.specs.Prelude.{◌≡◌, ◌==◌, ℕ, IfOk};
+ghost use Rattle.std.specs.Prelude.{◌≡◌, ◌==◌, ℕ, nat_eq, IfOk};
 ghost use Rattle.op_sched.specs.Failing.{IfBadLine};
 ghost use Rattle.op_sched.specs.Grammar.{IsOneMember, AreInRange};
-ghost use Rattle.op_model.specs.Machine.{is_among};
+ghost use Rattle.std.specs.Set.{is_member};
 ghost use Rattle.op_top.specs.Replay.{AllPresent, IsFirstAbsent, run_summary};
 ghost use Rattle.op_top.specs.Called.{Reports, IsBadAt};
 
@@ -12,7 +12,7 @@ use op_world::{World, node_of};
 use std::alloc::Global;
 
 fn is_member(members: &Members, pid: Pid) -> bool
-    ensures { result ≡ is_among members.now pid }
+    ensures { result ≡ is_member nat_eq members.now pid }
 {
     members.as_slice().contains(&pid)
 }

@@ -1,6 +1,7 @@
 use Rattle.std.proofs.Common.{◌≡◌, ℕ, List, [], ◌∷◌, get_or, sym, ap, ◌∙◌, arith}
 use Rattle.std.proofs.lemmas.List.{nil_from_length}
-use Rattle.op_model.specs.Machine.{is_among}
+use Rattle.std.specs.Prelude.{nat_eq}
+use Rattle.std.specs.Set.{is_member}
 use Rattle.op_runs.specs.World.{first_world}
 use Rattle.op_top.proofs.Words.{one_item}
 use Rattle.op_top.proofs.Runs.{continues_first, continues_next, absent_here, present_end, ran_end}
@@ -15,10 +16,10 @@ loop-event-init c =
 
 pub loop-event-preserved : goal.loop-event-preserved
 loop-event-preserved c =
-    continues_next c.args.members _ _ _ _ c.args.events c.in-Some.event c.loop-event.invariant c.in-Some.ensures.steps.0 (sym (c.is_member.ensures ∙ ap (λ (k : ℕ). is_among c.args.members k) c.node_of.ensures) ∙ c.if-not-is_member.false) c.in_ok-world-2.ensures
+    continues_next c.args.members _ _ _ _ c.args.events c.in-Some.event c.loop-event.invariant c.in-Some.ensures.steps.0 (sym (c.is_member.ensures ∙ ap (λ (k : ℕ). is_member nat_eq c.args.members k) c.node_of.ensures) ∙ c.if-not-is_member.false) c.in_ok-world-2.ensures
 
 pub returns-then-not-is_member-clause-absent : goal.returns-then-not-is_member-clause-absent
-returns-then-not-is_member-clause-absent c = absent_here c.args.members _ _ _ c.args.events c.in-Some.event c.loop-event.invariant c.in-Some.ensures.steps.0 (sym (c.is_member.ensures ∙ ap (λ (k : ℕ). is_among c.args.members k) c.node_of.ensures) ∙ c.if-not-is_member.true)
+returns-then-not-is_member-clause-absent c = absent_here c.args.members _ _ _ c.args.events c.in-Some.event c.loop-event.invariant c.in-Some.ensures.steps.0 (sym (c.is_member.ensures ∙ ap (λ (k : ℕ). is_member nat_eq c.args.members k) c.node_of.ensures) ∙ c.if-not-is_member.true)
 
 pub returns-clause-ran : goal.returns-clause-ran
 returns-clause-ran c = c.in_ok-summary.ensures ∙ ran_end (get_or c.args.members 0 0) c.args.members _ _ c.args.events (one_item c.args.members c.requires.sole) c.loop-event.invariant (nil_from_length c.loop-event.event-iterator.rest.items (omega (arith, c.loop-event.event-iterator.rest.ok.0, c.in-None.ensures.steps.0)))
