@@ -1,4 +1,5 @@
-ghost use Rattle.std.specs.Prelude.{◌≡◌, ◌++◌, OnOk};
+ghost use Rattle.std.specs.Prelude.{◌≡◌, ◌++◌, OnOk, OnErr};
+ghost use Rattle.op_fields.specs.Fronts.{KeepsFront};
 ghost use Rattle.op_fields.specs.Taken.{Gives};
 ghost use Rattle.op_entry.specs.Forms.{ballot};
 
@@ -7,9 +8,10 @@ use op_types::Ballot;
 
 const LAST_NUMBER: u64 = (1 << 62) - 1;
 
-/// Writes a ballot at the end.
+/// Writes a ballot at the end. Without memory a part of it may be written.
 pub fn put_ballot(out: &mut Vec<u8>, b: Ballot) -> Result<(), NoMemory>
-    ensures { OnOk result (out.new.items ≡ out.old.items ++ ballot.text b) }
+    ensures ok { OnOk result (out.new.items ≡ out.old.items ++ ballot.text b) }
+    ensures err { OnErr result (KeepsFront out.old.items out.new.items) }
 {
     put_u64(out, b.number)?;
     put_u32(out, b.pid)

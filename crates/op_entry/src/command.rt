@@ -1,4 +1,5 @@
-ghost use Rattle.std.specs.Prelude.{◌≡◌, ◌++◌, OnOk, Ok};
+ghost use Rattle.std.specs.Prelude.{◌≡◌, ◌++◌, OnOk, OnErr, Ok};
+ghost use Rattle.op_fields.specs.Fronts.{KeepsFront};
 ghost use Rattle.op_fields.specs.Taken.{Gives};
 ghost use Rattle.op_entry.specs.Forms.{key, value, op, command};
 
@@ -10,19 +11,23 @@ use std::alloc::Global;
 
 const LAST_NUMBER: u64 = (1 << 62) - 1;
 
-/// Writes a command at the end.
+/// Writes a command at the end. Without memory a part of it may be written.
+#[tactic(auto, using(op_fields::proofs::Fronts::kept_through))]
 pub fn put_command(out: &mut Vec<u8>, c: &Command) -> Result<(), NoMemory>
     requires { command.fits c.now }
-    ensures { OnOk result (out.new.items ≡ out.old.items ++ command.text c.now) }
+    ensures ok { OnOk result (out.new.items ≡ out.old.items ++ command.text c.now) }
+    ensures err { OnErr result (KeepsFront out.old.items out.new.items) }
 {
     put_u64(out, c.client)?;
     put_u64(out, c.seq)?;
     put_op(out, &c.op)
 }
 
+#[tactic(auto, using(op_fields::proofs::Fronts::kept_through))]
 fn put_op(out: &mut Vec<u8>, o: &Op) -> Result<(), NoMemory>
     requires { op.fits o.now }
-    ensures { OnOk result (out.new.items ≡ out.old.items ++ op.text o.now) }
+    ensures ok { OnOk result (out.new.items ≡ out.old.items ++ op.text o.now) }
+    ensures err { OnErr result (KeepsFront out.old.items out.new.items) }
 {
     match o {
         Op::Put(key, value) => {
@@ -35,14 +40,16 @@ fn put_op(out: &mut Vec<u8>, o: &Op) -> Result<(), NoMemory>
 
 fn put_key(out: &mut Vec<u8>, bytes: &Blob) -> Result<(), NoMemory>
     requires { key.fits bytes.now }
-    ensures { OnOk result (out.new.items ≡ out.old.items ++ key.text bytes.now) }
+    ensures ok { OnOk result (out.new.items ≡ out.old.items ++ key.text bytes.now) }
+    ensures err { OnErr result (KeepsFront out.old.items out.new.items) }
 {
     put_counted(out, 1, bytes.as_slice())
 }
 
 fn put_value(out: &mut Vec<u8>, bytes: &Blob) -> Result<(), NoMemory>
     requires { value.fits bytes.now }
-    ensures { OnOk result (out.new.items ≡ out.old.items ++ value.text bytes.now) }
+    ensures ok { OnOk result (out.new.items ≡ out.old.items ++ value.text bytes.now) }
+    ensures err { OnErr result (KeepsFront out.old.items out.new.items) }
 {
     put_counted(out, 2, bytes.as_slice())
 }

@@ -1,4 +1,5 @@
-ghost use Rattle.std.specs.Prelude.{◌≡◌, ◌≤◌, ◌++◌, ℕ, List, length, drop, OnOk, IfOk, Ok, Err};
+ghost use Rattle.std.specs.Prelude.{◌≡◌, ◌≤◌, ◌++◌, ℕ, List, length, drop, OnOk, OnErr, IfOk, Ok, Err};
+ghost use Rattle.op_fields.specs.Fronts.{KeepsFront};
 ghost use Rattle.op_fields.specs.Form.{items_read};
 ghost use Rattle.op_fields.specs.Taken.{Gives, GivesVec, IfBad};
 ghost use Rattle.op_entry.specs.Forms.{entry, entries_within, entries};
@@ -11,10 +12,25 @@ use std::alloc::Global;
 
 const MOST_ENTRIES: u64 = 1 << 62;
 
-/// Writes an entry at the end. Without memory a part of it may be written.
+/// Writes an entry at the end. Without memory nothing is written.
 pub fn put(out: &mut Vec<u8>, e: &Entry) -> Result<(), NoMemory>
     requires { entry.fits e.now }
-    ensures { OnOk result (out.new.items ≡ out.old.items ++ entry.text e.now) }
+    ensures ok { OnOk result (out.new.items ≡ out.old.items ++ entry.text e.now) }
+    ensures err { OnErr result (out.new.items ≡ out.old.items) }
+{
+    let len = out.len();
+    let Ok(()) = put_parts(out, e) else {
+        out.truncate(len);
+        return Err(NoMemory);
+    };
+    Ok(())
+}
+
+#[tactic(auto, using(op_fields::proofs::Fronts::kept_through))]
+fn put_parts(out: &mut Vec<u8>, e: &Entry) -> Result<(), NoMemory>
+    requires { entry.fits e.now }
+    ensures ok { OnOk result (out.new.items ≡ out.old.items ++ entry.text e.now) }
+    ensures err { OnErr result (KeepsFront out.old.items out.new.items) }
 {
     match e {
         Entry::Command(command) => {
@@ -25,10 +41,11 @@ pub fn put(out: &mut Vec<u8>, e: &Entry) -> Result<(), NoMemory>
     }
 }
 
-/// Writes entries at the end, behind their count.
+/// Writes entries at the end, behind their count. Without memory a part of it may be written.
 pub fn put_entries(out: &mut Vec<u8>, es: &[Entry]) -> Result<(), NoMemory>
     requires { entries.fits es.now }
-    ensures { OnOk result (out.new.items ≡ out.old.items ++ entries.text es.now) }
+    ensures ok { OnOk result (out.new.items ≡ out.old.items ++ entries.text es.now) }
+    ensures err { OnErr result (KeepsFront out.old.items out.new.items) }
 {
     put_u64(out, es.len() as u64)?;
     'entries: for e in es {

@@ -1,4 +1,5 @@
-ghost use Rattle.std.specs.Prelude.{◌≡◌, ◌++◌, OnOk};
+ghost use Rattle.std.specs.Prelude.{◌≡◌, ◌++◌, OnOk, OnErr};
+ghost use Rattle.op_fields.specs.Fronts.{KeepsFront};
 ghost use Rattle.op_fields.specs.Form.{items_read};
 ghost use Rattle.op_fields.specs.Taken.{Gives, GivesVec};
 ghost use Rattle.op_entry.specs.Forms.{member, members};
@@ -7,10 +8,11 @@ use op_fields::{NoMemory, TakeFail, put_u8, put_u32, u8_in, u32_in};
 use op_types::{Members, Pid, Seq};
 use std::alloc::Global;
 
-/// Writes members at the end.
+/// Writes members at the end. Without memory a part of it may be written.
 pub fn put_members(out: &mut Vec<u8>, ids: &Members) -> Result<(), NoMemory>
     requires { members.fits ids.now }
-    ensures { OnOk result (out.new.items ≡ out.old.items ++ members.text ids.now) }
+    ensures ok { OnOk result (out.new.items ≡ out.old.items ++ members.text ids.now) }
+    ensures err { OnErr result (KeepsFront out.old.items out.new.items) }
 {
     put_u8(out, ids.len() as u8)?;
     'ids: for id in ids.as_slice() {

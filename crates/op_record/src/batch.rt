@@ -1,4 +1,5 @@
-ghost use Rattle.std.specs.Prelude.{◌≡◌, ◌++◌, OnOk};
+ghost use Rattle.std.specs.Prelude.{◌≡◌, ◌++◌, OnOk, OnErr};
+ghost use Rattle.op_fields.specs.Fronts.{KeepsFront};
 ghost use Rattle.op_fields.specs.Form.{items_read};
 ghost use Rattle.op_fields.specs.Taken.{Gives, GivesVec};
 ghost use Rattle.op_record.specs.Forms.{change, batch};
@@ -11,9 +12,11 @@ use std::alloc::Global;
 const LAST_PLACE: u64 = 1 << 62;
 
 /// Writes a batch at the end.
+#[tactic(auto, using(op_fields::proofs::Fronts::kept_through))]
 pub fn put_batch(out: &mut Vec<u8>, changes: &Batch) -> Result<(), NoMemory>
     requires { batch.fits changes.now }
-    ensures { OnOk result (out.new.items ≡ out.old.items ++ batch.text changes.now) }
+    ensures ok { OnOk result (out.new.items ≡ out.old.items ++ batch.text changes.now) }
+    ensures err { OnErr result (KeepsFront out.old.items out.new.items) }
 {
     put_u8(out, changes.len() as u8)?;
     'changes: for c in changes.as_slice() {
@@ -22,9 +25,11 @@ pub fn put_batch(out: &mut Vec<u8>, changes: &Batch) -> Result<(), NoMemory>
     Ok(())
 }
 
+#[tactic(auto, using(op_fields::proofs::Fronts::kept_through))]
 fn put_change(out: &mut Vec<u8>, c: &Change) -> Result<(), NoMemory>
     requires { change.fits c.now }
-    ensures { OnOk result (out.new.items ≡ out.old.items ++ change.text c.now) }
+    ensures ok { OnOk result (out.new.items ≡ out.old.items ++ change.text c.now) }
+    ensures err { OnErr result (KeepsFront out.old.items out.new.items) }
 {
     match c {
         Change::Promise(ballot) => {

@@ -1,4 +1,5 @@
-ghost use Rattle.std.specs.Prelude.{◌≡◌, ◌++◌, OnOk, IfOk, Ok, Err};
+ghost use Rattle.std.specs.Prelude.{◌≡◌, ◌++◌, OnOk, OnErr, IfOk, Ok, Err};
+ghost use Rattle.op_fields.specs.Fronts.{KeepsFront};
 ghost use Rattle.op_fields.specs.Form.{whole};
 ghost use Rattle.op_fields.specs.Taken.{Gives, IfBad};
 ghost use Rattle.op_record.specs.Forms.{body};
@@ -18,10 +19,25 @@ pub enum Rec {
     Step(Batch),
 }
 
-/// Writes a record's body at the end. Without memory a part of it may be written.
+/// Writes a record's body at the end. Without memory nothing is written.
 pub fn put(out: &mut Vec<u8>, r: &Rec) -> Result<(), NoMemory>
     requires { body.fits r.now }
-    ensures { OnOk result (out.new.items ≡ out.old.items ++ body.text r.now) }
+    ensures ok { OnOk result (out.new.items ≡ out.old.items ++ body.text r.now) }
+    ensures err { OnErr result (out.new.items ≡ out.old.items) }
+{
+    let len = out.len();
+    let Ok(()) = put_parts(out, r) else {
+        out.truncate(len);
+        return Err(NoMemory);
+    };
+    Ok(())
+}
+
+#[tactic(auto, using(op_fields::proofs::Fronts::kept_through))]
+fn put_parts(out: &mut Vec<u8>, r: &Rec) -> Result<(), NoMemory>
+    requires { body.fits r.now }
+    ensures ok { OnOk result (out.new.items ≡ out.old.items ++ body.text r.now) }
+    ensures err { OnErr result (KeepsFront out.old.items out.new.items) }
 {
     match r {
         Rec::Whole(durable) => {

@@ -1,4 +1,5 @@
-ghost use Rattle.std.specs.Prelude.{◌≡◌, ◌++◌, OnOk};
+ghost use Rattle.std.specs.Prelude.{◌≡◌, ◌++◌, OnOk, OnErr};
+ghost use Rattle.op_fields.specs.Fronts.{KeepsFront};
 ghost use Rattle.op_fields.specs.Form.{optional};
 ghost use Rattle.op_fields.specs.Taken.{Gives};
 ghost use Rattle.op_record.specs.Forms.{part, durable};
@@ -9,18 +10,22 @@ use op_types::{Durable, Part};
 use std::alloc::Global;
 
 /// Writes a durable state at the end. It has no closed and no joining configuration yet.
+#[tactic(auto, using(op_fields::proofs::Fronts::kept_through))]
 pub fn put_durable(out: &mut Vec<u8>, d: &Durable) -> Result<(), NoMemory>
     requires { durable.fits d.now }
-    ensures { OnOk result (out.new.items ≡ out.old.items ++ durable.text d.now) }
+    ensures ok { OnOk result (out.new.items ≡ out.old.items ++ durable.text d.now) }
+    ensures err { OnErr result (KeepsFront out.old.items out.new.items) }
 {
     put_optional_part(out, &d.part)?;
     put_u8(out, 0)?;
     put_u8(out, 0)
 }
 
+#[tactic(auto, using(op_fields::proofs::Fronts::kept_through))]
 fn put_optional_part(out: &mut Vec<u8>, p: &Option<Part>) -> Result<(), NoMemory>
     requires { (optional part).fits p.now }
-    ensures { OnOk result (out.new.items ≡ out.old.items ++ (optional part).text p.now) }
+    ensures ok { OnOk result (out.new.items ≡ out.old.items ++ (optional part).text p.now) }
+    ensures err { OnErr result (KeepsFront out.old.items out.new.items) }
 {
     match p {
         None => put_u8(out, 0),

@@ -1,4 +1,5 @@
-ghost use Rattle.std.specs.Prelude.{◌≡◌, ◌≤◌, ◌++◌, OnOk, IfOk};
+ghost use Rattle.std.specs.Prelude.{◌≡◌, ◌≤◌, ◌++◌, OnOk, OnErr, IfOk};
+ghost use Rattle.op_fields.specs.Fronts.{KeepsFront};
 ghost use Rattle.op_fields.specs.Taken.{Gives};
 ghost use Rattle.op_record.specs.Forms.{base, trimmed, log, part};
 
@@ -17,9 +18,11 @@ const LAST_PLACE: u64 = 1 << 62;
 const EMPTY_BASE: [u8; 16] = [0; 16];
 
 /// Writes a part at the end.
+#[tactic(auto, using(op_fields::proofs::Fronts::kept_through))]
 pub fn put_part(out: &mut Vec<u8>, p: &Part) -> Result<(), NoMemory>
     requires { part.fits p.now }
-    ensures { OnOk result (out.new.items ≡ out.old.items ++ part.text p.now) }
+    ensures ok { OnOk result (out.new.items ≡ out.old.items ++ part.text p.now) }
+    ensures err { OnErr result (KeepsFront out.old.items out.new.items) }
 {
     put_u32(out, p.conf)?;
     put_members(out, &p.members)?;
@@ -31,14 +34,17 @@ pub fn put_part(out: &mut Vec<u8>, p: &Part) -> Result<(), NoMemory>
 
 fn put_base(out: &mut Vec<u8>, bytes: &Blob) -> Result<(), NoMemory>
     requires { base.fits bytes.now }
-    ensures { OnOk result (out.new.items ≡ out.old.items ++ base.text bytes.now) }
+    ensures ok { OnOk result (out.new.items ≡ out.old.items ++ base.text bytes.now) }
+    ensures err { OnErr result (KeepsFront out.old.items out.new.items) }
 {
     put_counted(out, 8, bytes.as_slice())
 }
 
+#[tactic(auto, using(op_fields::proofs::Fronts::kept_through))]
 fn put_log(out: &mut Vec<u8>, p: &Part) -> Result<(), NoMemory>
     requires { part.fits p.now }
-    ensures { OnOk result (out.new.items ≡ out.old.items ++ log.text (p.now.trimmed, (p.now.tail.items, p.now.decided))) }
+    ensures ok { OnOk result (out.new.items ≡ out.old.items ++ log.text (p.now.trimmed, (p.now.tail.items, p.now.decided))) }
+    ensures err { OnErr result (KeepsFront out.old.items out.new.items) }
 {
     put_u64(out, p.trimmed)?;
     put_entries(out, p.tail.as_slice())?;
