@@ -48,6 +48,11 @@ now_left start calls x im = (length calls, omega arith, omega arith, subst (λ (
 pub state_now : (start : List ℕ) (calls : List Call) → InOrder (state_of (fresh start) calls)
 state_now start calls = in_order (fresh start) calls (record { ordered = omega arith; within = omega arith; above = omega arith; below = omega arith })
 
+-- what a crash now may leave, one since an earlier moment may
+pub now_too : (start : List ℕ) (calls : List Call) (t : Moment) (x : List ℕ) → Before t (At (length calls)) → LeftNow start calls x → LeftSince start calls t x
+now_too start calls (At n) x le now = (now.0, omega (arith, le, now.1), now.2, now.3)
+now_too start calls (Both a b) x le now = absurd le
+
 -- one call more
 module _ (start : List ℕ) (calls : List Call) (call : Call) where
   abbrev more : List Call
@@ -68,7 +73,7 @@ module _ (start : List ℕ) (calls : List Call) (call : Call) where
   keeps (Both a b) x le past = absurd past
 
   elapses_push : Elapses (At (length calls)) (At (length more)) (LeftSince start calls) (LeftSince start more) (LeftNow start more)
-  elapses_push = record { later = omega (arith, size); nothing_else = nothing_else; keeps = keeps }
+  elapses_push = record { later = omega (arith, size); nothing_else = nothing_else; keeps = keeps; now_too = now_too start more }
 
   -- the images after it
   image_after : (x : List ℕ) → LeftNow start more x → IsImage (after call (state_of (fresh start) calls)).pending x
@@ -79,7 +84,7 @@ module _ (start : List ℕ) (calls new : List Call) where
       → Elapses (At (length calls)) (At (length new)) (LeftSince start calls) (LeftSince start new) during
   elapses_to call during is crash =
       let e = subst (λ (l : List Call). Elapses (At (length calls)) (At (length l)) (LeftSince start calls) (LeftSince start l) (LeftNow start l)) (sym is) (elapses_push start calls call) in
-      record { later = e.later; keeps = e.keeps; nothing_else = λ t c le left. ⊎_elim (λ past. inl past) (λ now. inr (crash c now)) (e.nothing_else t c le left) }
+      record { later = e.later; keeps = e.keeps; now_too = e.now_too; nothing_else = λ t c le left. ⊎_elim (λ past. inl past) (λ now. inr (crash c now)) (e.nothing_else t c le left) }
 
   pub state_of-more : (call : Call) → new ≡ calls ++ call ∷ [] → state_of (fresh start) new ≡ after call (state_of (fresh start) calls)
   state_of-more call is = ap (λ (l : List Call). state_of (fresh start) l) is ∙ state-push (fresh start) calls call

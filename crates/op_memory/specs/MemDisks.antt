@@ -3,6 +3,7 @@ use Rattle.std.specs.Prelude.{◌≡◌, ◌≢◌, ◌⊎◌, ℕ, ◌+◌, ◌
 use Rattle.op_outside.specs.Moments.{Moment}
 use Rattle.op_outside.specs.Moments.Moment.{At}
 use Rattle.op_memory.specs.declared.disk.MemDisk.{MemDisk}
+use Rattle.op_memory.specs.Syncs.{HasNoSync}
 use Rattle.op_memory.specs.Plans.{next_fate}
 use Rattle.op_memory.specs.declared.plan.Fate.TheVariants.{Runs, Stops}
 use Rattle.op_memory.specs.declared.plan.Fate.TheVariants as fate
@@ -31,6 +32,10 @@ left_now d = LeftNow d.kept.start.items d.kept.calls.items
 -- how often it has failed
 abbrev pub count_of : MemDisk → ℕ
 count_of d = d.tally.count
+
+-- none of the calls that it keeps is a sync
+abbrev pub KeepsNoSync : MemDisk → Type 0
+KeepsNoSync d = HasNoSync d.kept.calls.items
 
 -- A failed call counts once and changes nothing that a read gives. It was to fail, or the disk to stop in it, or its range isn't
 -- there, or the call starves. One that was to fail, or whose range isn't there, starves no disk. The write or the cut in which the

@@ -24,7 +24,7 @@ impl MemDisk {
     ghost use Rattle.std.specs.Prelude.{None, false, OnOk, OnErr};
     ghost use Rattle.op_memory.specs.Plans.{IsPlan, Stays, FailsAt, StopsAt};
     ghost use Rattle.op_memory.specs.Images.{fresh, IsFilled};
-    ghost use Rattle.op_memory.specs.MemDisks.{disk_state};
+    ghost use Rattle.op_memory.specs.MemDisks.{disk_state, KeepsNoSync};
 
     /// A disk that holds these bytes, and of which nothing is pending.
     pub fn new(alloc: Global, bytes: Vec<u8>) -> Result<MemDisk, AllocError>
@@ -109,6 +109,7 @@ impl MemDisk {
     /// The same disk, which no longer keeps the calls up to its last sync. Its moments begin anew, and one of before says
     /// nothing of it. The count of its calls goes on.
     pub fn forget(self) -> Result<MemDisk, AllocError>
+        ensures forgets { IfOk result KeepsNoSync }
         ensures state { IfOk result (λ d. disk_state d ≡ disk_state self) }
         ensures seen { IfOk result (λ d. ⟦<MemDisk as Disk>⟧.seen d ≡ ⟦<MemDisk as Disk>⟧.seen self) }
         ensures count { IfOk result (λ d. ⟦<MemDisk as Disk>⟧.count d ≡ ⟦<MemDisk as Disk>⟧.count self) }

@@ -2,6 +2,7 @@ ghost use Rattle.std.specs.Prelude.{◌≡◌, ◌≤◌, List, ℕ, length, tak
 ghost use Rattle.op_outside.specs.Disks.{Holds, Torn, Shorter, After, Follows, Only, Elapses};
 ghost use Rattle.op_outside.specs.Moments.Moment.{At};
 ghost use Rattle.op_memory.specs.Images.{state_of, fresh, wrote, stopped_in_write, cut_to, stopped_in_cut, LeftSince, LeftNow};
+ghost use Rattle.op_memory.specs.Syncs.{HasNoSync};
 ghost use Rattle.op_memory.specs.Tied.{Tied};
 
 use crate::call::Call;
@@ -117,6 +118,7 @@ impl Kept {
 
     /// Lets go of the calls up to the last sync.
     pub fn forget(self) -> Result<Kept, AllocError>
+        ensures forgets { IfOk result (λ kept. HasNoSync kept.calls.items) }
         ensures bytes { IfOk result (λ kept. kept.bytes.items ≡ self.bytes.items) }
         ensures state { IfOk result (λ kept. state_of (fresh kept.start.items) kept.calls.items ≡ state_of (fresh self.start.items) self.calls.items) }
     {
