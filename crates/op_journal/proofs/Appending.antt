@@ -1,5 +1,6 @@
 -- An append, call by call: what a crash may leave after each, and what it ends with.
-use Rattle.std.proofs.Common.{◌≡◌, inl, ℕ, ◌+◌, ◌<◌, ◌^◌, List, [], ◌∷◌, ◌++◌, length, get_or, drop, ◌∙◌, ap, subst}
+use Rattle.std.proofs.Common.{◌≡◌, inl, ℕ, ◌+◌, ◌<◌, ◌^◌, List, [], ◌∷◌, ◌++◌, length, get_or, take, drop, sym, ◌∙◌, ap, subst}
+use Rattle.std.proofs.lemmas.List.{take_at}
 use Rattle.op_outside.specs.Moments.{Moment}
 use Rattle.op_outside.specs.Disks.{Holds, Torn, After, Follows, Only, Elapses, LeavesOnly}
 use Rattle.op_journal.specs.Areas.{record_text, front, BeforeOrAfter, IsSettled}
@@ -69,11 +70,20 @@ module _ {D : Type 0} (seen : D → List ℕ) (moment : D → Moment) (left_sinc
         pub fourth : LeavesOnly moment left_since start four P
         fourth = goes_on moment left_since start three four P (now three) third time₄ (λ c left. open_from c (crash₃ c left))
 
-        pub done : Holds (seen two) end (165 ∷ []) (seen three) → seen four ≡ seen three → Only (seen four) (now four)
-            → IsSettled generation (bodies ++ body ∷ []) (end + length bs) (seen four) (now four)
-        unfolding F
-        done written₃ seen₄ durable₄ =
-            settles_after generation bodies (seen start) body s.area.stands fit end (end + length bs) (seen four) s.area.place (ap (λ (l : List ℕ). end + length l) is)
-            (seen₄ ∙ written_gate F s.area.stands.gate end s.area.place bs (seen three) (subst (λ f. Holds f end (165 ∷ []) (seen three)) is_staged written₃)
-            ∙ ap (λ (l : List ℕ). F ++ 165 ∷ l) is)
-            (now four) durable₄
+        module _ (written₃ : Holds (seen two) end (165 ∷ []) (seen three)) (seen₄ : seen four ≡ seen three) where
+          -- the record stands behind the open gate
+          is_added : seen four ≡ F ++ 165 ∷ (record_text body ++ 0 ∷ [])
+          unfolding F
+          is_added = seen₄ ∙ written_gate F s.area.stands.gate end s.area.place bs (seen three) (subst (λ f. Holds f end (165 ∷ []) (seen three)) is_staged written₃)
+              ∙ ap (λ (l : List ℕ). F ++ 165 ∷ l) is
+
+          pub replaced : seen four ≡ take end (seen start) ++ 165 ∷ (record_text body ++ 0 ∷ [])
+          unfolding F
+          replaced = is_added ∙ ap (λ (l : List ℕ). l ++ 165 ∷ (record_text body ++ 0 ∷ []))
+              (sym (ap (λ (l : List ℕ). take end l) is_settled ∙ take_at F (s.area.stands.gate ∷ []) end (sym s.area.place)))
+
+          pub done : Only (seen four) (now four) → IsSettled generation (bodies ++ body ∷ []) (end + length bs) (seen four) (now four)
+          unfolding F
+          done durable₄ =
+              settles_after generation bodies (seen start) body s.area.stands fit end (end + length bs) (seen four) s.area.place (ap (λ (l : List ℕ). end + length l) is)
+              is_added (now four) durable₄

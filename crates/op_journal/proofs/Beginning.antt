@@ -1,6 +1,5 @@
 -- An area begun, call by call: what a crash may leave after each, and what it ends with.
-use Rattle.std.proofs.Common.{◌≡◌, inl, inr, ◌⊎◌, ⊎_elim, ℕ, zero, suc, ◌+◌, ◌<◌, ◌≤◌, ◌^◌, true, false, List, [], ◌∷◌, ◌++◌, length, get_or, take, drop, refl, sym, ◌∙◌, ap, subst, arith, append_assoc, length-append}
-use Rattle.std.specs.Prelude.{All}
+use Rattle.std.proofs.Common.{◌≡◌, inl, inr, ◌⊎◌, ⊎_elim, ℕ, ◌+◌, ◌<◌, ◌≤◌, ◌^◌, true, false, List, [], ◌∷◌, ◌++◌, length, get_or, take, drop, refl, sym, ◌∙◌, ap, subst, arith, append_assoc, length-append}
 use Rattle.std.proofs.lemmas.Bool.{cases_eq}
 use Rattle.std.proofs.lemmas.List.{append-nil, drop_all}
 use Rattle.op_outside.specs.Moments.{Moment}
@@ -9,13 +8,10 @@ use Rattle.op_journal.specs.Areas.{record_text, header, front, IsGeneration, Sta
 use Rattle.op_journal.specs.Readings.{IsNew}
 use Rattle.op_journal.specs.Rows.{IsClosed}
 use Rattle.op_journal.specs.Beginnings.{HasNone, IsBehindClosed, area_behind}
+use Rattle.std.proofs.lemmas.List.Elements.{All-push}
 use Rattle.op_journal.proofs.Moments.{started, goes_on, joined}
 use Rattle.op_journal.proofs.Headers.{length-header}
 use Rattle.op_journal.proofs.Layouts.{length-record_text}
-
-All-one : {X : Type 0} (P : X → Type 0) (x : X) → P x → All P (x ∷ [])
-All-one P x p zero d below = p
-All-one P x p (suc k) d below = absurd (omega arith)
 
 -- ---- what bytes are then
 
@@ -134,7 +130,7 @@ length-area_behind generation body =
 -- these bytes are such an area
 pub stands_begun : (generation : ℕ) (body bytes : List ℕ) → IsGeneration generation → length body < 2 ^ 64 → bytes ≡ 165 ∷ area_behind generation body → Stands generation (body ∷ []) bytes
 stands_begun generation body bytes known fit is =
-    record { known = known; some = omega arith; fits = All-one (λ b. length b < 2 ^ 64) body fit; gate = 0; closed = λ e. absurd (omega arith); rest = []; is = is ∙ area_text generation body }
+    record { known = known; some = omega arith; fits = All-push (λ b. length b < 2 ^ 64) [] body (λ k d below. absurd (omega arith)) fit; gate = 0; closed = λ e. absurd (omega arith); rest = []; is = is ∙ area_text generation body }
 
 pub settles_begun : (generation : ℕ) (body bytes : List ℕ) (end : ℕ) (may_leave : List ℕ → Type 0) → IsGeneration generation → length body < 2 ^ 64 → bytes ≡ 165 ∷ area_behind generation body → end ≡ length (area_behind generation body)
     → Only bytes may_leave → IsSettled generation (body ∷ []) end bytes may_leave

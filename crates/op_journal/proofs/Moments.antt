@@ -19,7 +19,7 @@ before-trans (Both a b) (Both c d) (Both e f) p q = (before-trans a c e p.0 q.0,
 module _ {D : Type 0} (moment : D → Moment) (left_since : D → Moment → List ℕ → Type 0) where
   -- before the first call
   pub started : (old : D) (P : List ℕ → Type 0) → LeavesOnly moment left_since old old P
-  started old P = record { later = before-refl (moment old); each = λ t c le left. inl left }
+  started old P = record { later = before-refl (moment old); each = λ t c le left. inl left; now = λ c left. inl left }
 
   -- one call more, after which a crash leaves what has P
   pub goes_on : (old mid new : D) (P during : List ℕ → Type 0) → LeavesOnly moment left_since old mid P → Elapses (moment mid) (moment new) (left_since mid) (left_since new) during
@@ -28,6 +28,8 @@ module _ {D : Type 0} (moment : D → Moment) (left_since : D → Moment → Lis
     later = before-trans (moment old) (moment mid) (moment new) so_far.later time.later;
     each = λ t c le left. ⊎_elim (λ past. so_far.each t c le past) (λ now. inr (here c now))
         (time.nothing_else t c (before-trans t (moment old) (moment mid) le so_far.later) left);
+    now = λ c left. ⊎_elim (λ past. so_far.now c past) (λ now. inr (here c now))
+        (time.nothing_else (moment mid) c (before-refl (moment mid)) (time.now_too (moment mid) c time.later left));
   }
 
   -- one run after another
@@ -39,6 +41,10 @@ module _ {D : Type 0} (moment : D → Moment) (left_since : D → Moment → Lis
         (λ past. ⊎_elim (λ was. inl was) (λ has. inr (p c has)) (one.each t c le past))
         (λ has. inr (q c has))
         (two.each t c (before-trans t (moment old) (moment mid) le one.later) left);
+    now = λ c left. ⊎_elim
+        (λ past. ⊎_elim (λ was. inl was) (λ has. inr (p c has)) (one.now c past))
+        (λ has. inr (q c has))
+        (two.now c left);
   }
 
   -- only calls that change nothing were made

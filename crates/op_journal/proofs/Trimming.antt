@@ -14,7 +14,11 @@ module _ {D : Type 0} (seen : D → List ℕ) (moment : D → Moment) (left_sinc
   Q image = left_since start (moment start) image ⊎ StandForTheSame (seen start) image
 
   pub after_read : LeavesOnly moment left_since start read Q
-  after_read = record { later = quiet.later; each = λ t c le left. ⊎_elim (λ was. inl was) (λ has. inr (inl has)) (quiet.each t c le left) }
+  after_read = record {
+    later = quiet.later;
+    each = λ t c le left. ⊎_elim (λ was. inl was) (λ has. inr (inl has)) (quiet.each t c le left);
+    now = λ c left. ⊎_elim (λ was. inl was) (λ has. inl has) (quiet.now c left);
+  }
 
   pub after_trim : (new : D) (generation : ℕ) (bodies : List (List ℕ)) (end : ℕ) → IsArea generation bodies end (seen start)
       → LeavesOnly moment left_since read new (Stands generation bodies) → LeavesOnly moment left_since start new Q

@@ -1,8 +1,7 @@
 -- What the writes of an append leave, as bytes.
-use Rattle.std.proofs.Common.{◌≡◌, inl, inr, ℕ, zero, suc, ◌+◌, ◌<◌, ◌^◌, List, [], ◌∷◌, ◌++◌, length, get_or, take, drop, sym, ◌∙◌, ap, arith, append_assoc, length-append, take-append-drop}
-use Rattle.std.specs.Prelude.{All}
+use Rattle.std.proofs.Common.{◌≡◌, inl, inr, ℕ, ◌+◌, ◌<◌, ◌^◌, List, [], ◌∷◌, ◌++◌, length, get_or, take, drop, sym, ◌∙◌, ap, arith, append_assoc, length-append, take-append-drop}
 use Rattle.std.proofs.lemmas.List.{take_at, drop_at, drop_more, take_all, drop_all, append-nil, nil_from_length}
-use Rattle.std.proofs.lemmas.List.Elements.{All-append}
+use Rattle.std.proofs.lemmas.List.Elements.{All-push}
 use Rattle.std.proofs.lemmas.Bool.{cases_eq}
 use Rattle.op_outside.specs.Disks.{Holds, Torn}
 use Rattle.op_outside.specs.Disks.{Only}
@@ -73,19 +72,12 @@ module _ (generation : ℕ) (bodies : List (List ℕ)) (before body : List ℕ) 
   stands_after c is = record {
     known = s.known;
     some = omega (arith, length-append bodies (body ∷ []));
-    fits = fits_all;
+    fits = All-push (λ b. length b < 2 ^ 64) bodies body s.fits fit;
     gate = 0;
     closed = λ e. absurd (omega arith);
     rest = [];
     is = is ∙ opened;
   }
-    where
-      one : (k : ℕ) (d : List ℕ) → k < 1 → length (get_or (body ∷ []) k d) < 2 ^ 64
-      one zero d lt = fit
-      one (suc k) d lt = absurd (omega arith)
-
-      fits_all : All (λ b. length b < 2 ^ 64) (bodies ++ body ∷ [])
-      fits_all = All-append (λ b. length b < 2 ^ 64) bodies (body ∷ []) s.fits one
 
   -- a whole record behind any gate counts or it doesn't
   pub any_gate : (gate : ℕ) (c : List ℕ) → c ≡ front generation bodies ++ gate ∷ (record_text body ++ 0 ∷ []) → BeforeOrAfter generation bodies body c

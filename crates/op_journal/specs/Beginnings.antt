@@ -23,3 +23,7 @@ header_behind generation = codes "OMNIPAX" ++ 1 ∷ spelled w64 generation
 -- an area of one record behind its gate, up to the closed gate
 abbrev pub area_behind : ℕ → List ℕ → List ℕ
 area_behind generation body = header_behind generation ++ 165 ∷ (record_text body ++ 0 ∷ [])
+
+-- an area of one record, up to the closed gate
+abbrev pub new_area : ℕ → List ℕ → List ℕ
+new_area generation body = 165 ∷ area_behind generation body

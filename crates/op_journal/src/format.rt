@@ -1,11 +1,11 @@
 //! An area is begun, in three parts: its gate is closed, all behind the gate is written, and the gate is opened.
-ghost use Rattle.std.specs.Prelude.{◌≡◌, ◌<◌, ◌≤◌, ◌^◌, ◌+◌, ◌⊎◌, ◌↔◌, [], ◌∷◌, Bool, List, ℕ, length, IfOk, IfErr, OnOk};
+ghost use Rattle.std.specs.Prelude.{◌≡◌, ◌<◌, ◌≤◌, ◌^◌, ◌+◌, ◌⊎◌, ◌↔◌, [], ◌∷◌, Bool, List, ℕ, length, IfOk, IfErr, OnOk, OnErr};
 ghost use Rattle.op_outside.specs.Causes.{HasCause};
 ghost use Rattle.op_outside.specs.Disks.{LeavesOnly, Only};
 ghost use Rattle.op_journal.specs.Areas.{IsGeneration, Stands, IsSettled};
 ghost use Rattle.op_journal.specs.Readings.{IsNew};
 ghost use Rattle.op_journal.specs.Rows.{IsClosed};
-ghost use Rattle.op_journal.specs.Beginnings.{HasNone, IsBehindClosed, area_behind};
+ghost use Rattle.op_journal.specs.Beginnings.{HasNone, IsBehindClosed, new_area};
 
 use crate::fail::{DiskFault, fault_of};
 use crate::framed::Framed;
@@ -31,9 +31,15 @@ impl Journal {
         ensures begun { D.follows disk.old → IsNew (D.seen disk.old) is_closed → Only (D.seen disk.old) (D.left_since disk.old (D.moment disk.old)) →
             IfOk result (λ end. IsSettled generation (framed ∷ []) end (D.seen disk.new) (D.left_since disk.new (D.moment disk.new))) }
 
+        // It holds nothing but that area.
+        ensures written { D.follows disk.old → IsNew (D.seen disk.old) is_closed → IfOk result (λ _. D.seen disk.new ≡ new_area generation framed) }
+
         // A crash at any moment of the call leaves no area, or the whole one.
         ensures crash { D.follows disk.old → IsNew (D.seen disk.old) is_closed → Only (D.seen disk.old) (D.left_since disk.old (D.moment disk.old)) →
             LeavesOnly D.moment D.left_since disk.old disk.new (λ image. HasNone image ⊎ Stands generation (framed ∷ []) image) }
+
+        // What a read gives is one of the images.
+        ensures image { D.follows disk.old → D.left_since disk.new (D.moment disk.new) (D.seen disk.new) }
 
         ensures end { IfOk result (λ end. end ≡ 26 + length framed) }
         ensures room { IfOk result (λ end. end < 2 ^ 62) }
@@ -55,6 +61,7 @@ impl Journal {
         ensures durable { D.follows disk.old → Only (D.seen disk.old) (D.left_since disk.old (D.moment disk.old)) → OnOk result (Only (D.seen disk.new) (D.left_since disk.new (D.moment disk.new))) }
         ensures crash { D.follows disk.old → IsNew (D.seen disk.old) is_closed → Only (D.seen disk.old) (D.left_since disk.old (D.moment disk.old)) →
             LeavesOnly D.moment D.left_since disk.old disk.new HasNone }
+        ensures image { D.follows disk.old → OnErr result (D.left_since disk.new (D.moment disk.new) (D.seen disk.new)) }
         ensures cause { HasCause (D.count disk.old) (D.count disk.new) result }
         ensures fault { IfErr result (λ e. e.count ≡ D.count disk.new) }
         ensures model { D.follows disk.new ↔ D.follows disk.old }
@@ -79,6 +86,7 @@ impl Journal {
         ensures crash { D.follows disk.old → IsClosed (D.seen disk.old) → Only (D.seen disk.old) (D.left_since disk.old (D.moment disk.old)) →
             LeavesOnly D.moment D.left_since disk.old disk.new IsClosed }
         ensures room { OnOk result (1 + length bytes.now ≤ 2 ^ 62) }
+        ensures image { D.follows disk.old → D.left_since disk.new (D.moment disk.new) (D.seen disk.new) }
         ensures cause { HasCause (D.count disk.old) (D.count disk.new) result }
         ensures fault { IfErr result (λ e. e.count ≡ D.count disk.new) }
         ensures model { D.follows disk.new ↔ D.follows disk.old }
@@ -102,6 +110,7 @@ impl Journal {
         ensures durable { D.follows disk.old → OnOk result (Only (D.seen disk.new) (D.left_since disk.new (D.moment disk.new))) }
         ensures crash { D.follows disk.old → (text : List ℕ) → IsBehindClosed text (D.seen disk.old) → Only (D.seen disk.old) (D.left_since disk.old (D.moment disk.old)) →
             LeavesOnly D.moment D.left_since disk.old disk.new (λ image. IsBehindClosed text image ⊎ (image ≡ 165 ∷ text)) }
+        ensures image { D.follows disk.old → D.left_since disk.new (D.moment disk.new) (D.seen disk.new) }
         ensures cause { HasCause (D.count disk.old) (D.count disk.new) result }
         ensures fault { IfErr result (λ e. e.count ≡ D.count disk.new) }
         ensures model { D.follows disk.new ↔ D.follows disk.old }

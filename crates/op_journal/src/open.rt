@@ -21,6 +21,7 @@ impl Journal {
         ensures seen { D.follows disk.old → OnOk result (D.seen disk.new ≡ D.seen disk.old) }
         ensures durable { D.follows disk.old → OnOk result (Only (D.seen disk.new) (D.left_since disk.new (D.moment disk.new))) }
         ensures crash { D.follows disk.old → LeavesOnly D.moment D.left_since disk.old disk.new (D.left_since disk.old (D.moment disk.old)) }
+        ensures image { D.follows disk.old → D.left_since disk.new (D.moment disk.new) (D.seen disk.new) }
         ensures undamaged { IfDamaged result (λ _. ⊥) }
         ensures cause { TellsFaults (D.count disk.old) (D.count disk.new) result }
         ensures model { D.follows disk.new ↔ D.follows disk.old }
@@ -51,6 +52,7 @@ impl Journal {
         ensures crash { D.follows disk.old → (generation : ℕ) (bodies : List (List ℕ)) → IsArea generation bodies end (D.seen disk.old) →
             Only (D.seen disk.old) (D.left_since disk.old (D.moment disk.old)) →
             LeavesOnly D.moment D.left_since disk.old disk.new (Stands generation bodies) }
+        ensures image { D.follows disk.old → D.left_since disk.new (D.moment disk.new) (D.seen disk.new) }
         ensures cause { HasCause (D.count disk.old) (D.count disk.new) result }
         ensures fault { IfErr result (λ e. e.count ≡ D.count disk.new) }
         ensures model { D.follows disk.new ↔ D.follows disk.old }
@@ -80,6 +82,9 @@ impl Journal {
         // A crash at any moment of the call leaves what it might have left before, or the same records.
         ensures crash { D.follows disk.old → LeavesOnly D.moment D.left_since disk.old disk.new
             (λ image. D.left_since disk.old (D.moment disk.old) image ⊎ StandForTheSame (D.seen disk.old) image) }
+
+        // What a read gives is one of the images.
+        ensures image { D.follows disk.old → D.left_since disk.new (D.moment disk.new) (D.seen disk.new) }
 
         ensures cause { TellsFaults (D.count disk.old) (D.count disk.new) result }
         ensures model { D.follows disk.new ↔ D.follows disk.old }

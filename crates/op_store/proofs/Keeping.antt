@@ -12,7 +12,9 @@ use Rattle.op_journal.proofs.Moments.{before-refl, joined}
 use Rattle.op_journal.proofs.Few.{no_area_in_nothing}
 use Rattle.op_record.specs.declared.body.Rec.TheVariants.{Step}
 use Rattle.op_store.specs.Records.{IsBodyOf, AllMake}
-use Rattle.op_store.specs.Stored.{StandsFor, Settles, LeavesPairs}
+use Rattle.op_store.specs.Stored.{StandsFor, IsStored, Settles, LeavesPairs}
+use Rattle.op_store.specs.Stores.{Keeps, first_of, second_of}
+use Rattle.op_store.specs.declared.store.Store.{Store}
 use Rattle.op_store.specs.Readings.{IsAreaFor, IsDamagedFrom}
 use Rattle.op_store.specs.Openings.{StaysIn, IsFoundIn}
 use Rattle.op_store.specs.Failing.{IsCauseOf, IsDamageOrStopped}
@@ -30,6 +32,7 @@ module _ {D : Type 0} (moment : D → Moment) (left_since : D → Moment → Lis
     first_later = leaves.later;
     second_later = before-refl (moment second);
     each = λ t u x y le here left others. ⊎_elim (λ was. inl (inl was, inl others)) (λ q. inr (has x y q)) (leaves.each t x le left);
+    now = λ x y left others. ⊎_elim (λ was. inl (was, others)) (λ q. inr (has x y q)) (leaves.now x left);
   }
 
   pub pairs_at : LeavesOnly moment left_since first new (λ image. left_since first (moment first) image ⊎ Q image) → ((x y : List ℕ) → Q x → P x y) → LeavesPairs moment left_since first second new second P
@@ -38,12 +41,23 @@ module _ {D : Type 0} (moment : D → Moment) (left_since : D → Moment → Lis
     second_later = before-refl (moment second);
     each = λ t u x y le here left others.
         ⊎_elim (λ was. inl (inl was, inl others)) (λ q. ⊎_elim (λ now. inl (inr now, inl others)) (λ has_q. inr (has x y has_q)) q) (leaves.each t x le left);
+    now = λ x y left others.
+        ⊎_elim (λ was. inl (was, others)) (λ q. ⊎_elim (λ now. inl (now, others)) (λ has_q. inr (has x y has_q)) q) (leaves.now x left);
   }
 
 -- before the first call
 pub pairs_same : {D : Type 0} (moment : D → Moment) (left_since : D → Moment → List ℕ → Type 0) (first second : D) (P : List ℕ → List ℕ → Type 0) → LeavesPairs moment left_since first second first second P
 pairs_same moment left_since first second P =
-    record { first_later = before-refl (moment first); second_later = before-refl (moment second); each = λ t u x y le here left others. inl (inl left, inl others) }
+    record {
+      first_later = before-refl (moment first);
+      second_later = before-refl (moment second);
+      each = λ t u x y le here left others. inl (inl left, inl others);
+      now = λ x y left others. inl (left, others);
+    }
+
+-- what a read gives of a store that keeps a state
+pub seen_stored : {D : Type 0} (seen : D → List ℕ) (moment : D → Moment) (left_since : D → Moment → List ℕ → Type 0) (d : Durable) (s : Store D) → Keeps seen moment left_since d s → IsStored d (seen (first_of s)) (seen (second_of s))
+seen_stored seen moment left_since d s keeps = record { generation = s.generation; bodies = keeps.bodies; stands = keeps.settled.area.stands; make = keeps.make }
 
 -- a record added to an area
 module _ (d : Durable) (batch : List Change) (framed : List ℕ) (is : IsBodyOf (Step batch) framed) (applies : Applies d batch) (generation : ℕ) (bodies : List (List ℕ)) (make : AllMake None bodies (Some d)) where
@@ -52,6 +66,15 @@ module _ (d : Durable) (batch : List Change) (framed : List ℕ) (is : IsBodyOf 
 
   pub settles_added : (end : ℕ) (seen : List ℕ) (may_leave : List ℕ → Type 0) → IsSettled generation (bodies ++ framed ∷ []) end seen may_leave → Settles (durable_after d batch) generation end seen may_leave
   settles_added end seen may_leave s = record { bodies = bodies ++ framed ∷ []; settled = s; make = after_all }
+
+  -- what a call left, and a read gives
+  pub read_after : {D : Type 0} (seen : D → List ℕ) (moment : D → Moment) (left_since : D → Moment → List ℕ → Type 0) (old new : D) (end : ℕ)
+      → IsSettled generation bodies end (seen old) (left_since old (moment old)) → LeavesOnly moment left_since old new (BeforeOrAfter generation bodies framed)
+      → left_since new (moment new) (seen new) → BeforeOrAfter generation bodies framed (seen new)
+  read_after seen moment left_since old new end settled leaves image = ⊎_elim
+      (λ was. inl (subst (λ (l : List ℕ). Stands generation bodies l) (sym (settled.durable.no_other (seen new) was)) settled.area.stands))
+      (λ has. has)
+      (leaves.now (seen new) image)
 
   pub before_or_after : (image : List ℕ) → BeforeOrAfter generation bodies framed image → StandsFor d image ⊎ StandsFor (durable_after d batch) image
   before_or_after image = ⊎_elim

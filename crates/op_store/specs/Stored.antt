@@ -31,9 +31,11 @@ pub record Settles (d : Durable) (generation end : ℕ) (seen : List ℕ) (may_l
 abbrev pub MayHave : {D : Type 0} → (D → Moment) → (D → Moment → List ℕ → Type 0) → D → Moment → List ℕ → Type 0
 MayHave moment left_since disk t x = left_since disk t x ⊎ left_since disk (moment disk) x
 
--- Of two disks a crash at any moment since the old ones leaves what it might have left of them, or what has P.
+-- Of two disks a crash at any moment since the old ones leaves what it might have left of them, or what has P; and so does one now.
 pub record LeavesPairs {D : Type 0} (moment : D → Moment) (left_since : D → Moment → List ℕ → Type 0) (first second new_first new_second : D) (P : List ℕ → List ℕ → Type 0) : Type 0 where
   pub first_later : Before (moment first) (moment new_first)
   pub second_later : Before (moment second) (moment new_second)
   pub each : (t u : Moment) (x y : List ℕ) → Before t (moment first) → Before u (moment second) → left_since new_first t x → left_since new_second u y
       → (MayHave moment left_since first t x × MayHave moment left_since second u y) ⊎ P x y
+  pub now : (x y : List ℕ) → left_since new_first (moment new_first) x → left_since new_second (moment new_second) y
+      → (left_since first (moment first) x × left_since second (moment second) y) ⊎ P x y

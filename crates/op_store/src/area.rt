@@ -4,10 +4,11 @@ ghost use Rattle.op_outside.specs.Causes.{HasCause};
 ghost use Rattle.op_outside.specs.Disks.{LeavesOnly, Only};
 ghost use Rattle.op_journal.specs.Areas.{Stands, IsArea, IsSettled};
 ghost use Rattle.op_journal.specs.Readings.{IsNew};
-ghost use Rattle.op_journal.specs.Beginnings.{HasNone};
+ghost use Rattle.op_journal.specs.Beginnings.{HasNone, new_area};
 ghost use Rattle.op_journal.specs.Failing.{IfDamaged, IsDamagedOrStopped, TellsFaults};
 ghost use Rattle.op_record.specs.Ranges.{DurableInRange};
 ghost use Rattle.op_record.specs.Forms.{body};
+ghost use Rattle.op_record.specs.declared.body.Rec.TheVariants.{Whole};
 ghost use Rattle.op_store.specs.Stored.{StandsFor, Settles};
 ghost use Rattle.op_store.specs.Readings.{IsDamagedFrom, IsAreaFor};
 ghost use Rattle.op_store.specs.Openings.{IsFoundIn, StaysIn};
@@ -41,11 +42,13 @@ pub fn open_area<D: Disk>(
     requires { DurableInRange fresh }
     ensures found { D.follows disk.old → IfOk result (λ a. IsFoundIn fresh (D.seen disk.old) a.durable a.is_new) }
     ensures settled { D.follows disk.old → IfOk result (λ a. Settles a.durable a.generation a.end (D.seen disk.new) (D.left_since disk.new (D.moment disk.new))) }
+    ensures begun { D.follows disk.old → IfOk result (λ a. a.is_new ≡ true → D.seen disk.new ≡ new_area 1 (body.text (Whole fresh))) }
     ensures room { IfOk result (λ a. a.end < 2 ^ 62) }
     ensures damaged { D.follows disk.old → IfDamaged result (IsDamagedFrom (D.seen disk.old)) }
     ensures kept { D.follows disk.old → IfDamaged result (λ _. D.seen disk.new ≡ D.seen disk.old) }
     ensures complete { D.follows disk.old → (at : ℕ) → IsDamagedFrom (D.seen disk.old) at → IsDamagedOrStopped at result }
     ensures crash { D.follows disk.old → LeavesOnly D.moment D.left_since disk.old disk.new (λ image. D.left_since disk.old (D.moment disk.old) image ⊎ StaysIn fresh (D.seen disk.old) image) }
+    ensures image { D.follows disk.old → D.left_since disk.new (D.moment disk.new) (D.seen disk.new) }
     ensures cause { TellsFaults (D.count disk.old) (D.count disk.new) result }
     ensures model { D.follows disk.new ↔ D.follows disk.old }
     ensures mark { D.mark disk.new ≡ D.mark disk.old }
@@ -70,6 +73,7 @@ fn trim_behind<D: Disk>(disk: &mut D, end: u64, len: usize) -> Result<(), DiskFa
     ensures crash { D.follows disk.old → (generation : ℕ) (bodies : List (List ℕ)) → IsArea generation bodies end (D.seen disk.old) →
         Only (D.seen disk.old) (D.left_since disk.old (D.moment disk.old)) →
         LeavesOnly D.moment D.left_since disk.old disk.new (Stands generation bodies) }
+    ensures image { D.follows disk.old → D.left_since disk.old (D.moment disk.old) (D.seen disk.old) → D.left_since disk.new (D.moment disk.new) (D.seen disk.new) }
     ensures cause { HasCause (D.count disk.old) (D.count disk.new) result }
     ensures fault { IfErr result (λ e. e.count ≡ D.count disk.new) }
     ensures model { D.follows disk.new ↔ D.follows disk.old }
@@ -98,6 +102,7 @@ fn resume<D: Disk>(
     ensures undamaged { IfDamaged result (λ _. ⊥) }
     ensures crash { D.follows disk.old → IsAreaFor generation end durable (D.seen disk.old) → Only (D.seen disk.old) (D.left_since disk.old (D.moment disk.old)) →
         LeavesOnly D.moment D.left_since disk.old disk.new (StandsFor durable) }
+    ensures image { D.follows disk.old → D.left_since disk.old (D.moment disk.old) (D.seen disk.old) → D.left_since disk.new (D.moment disk.new) (D.seen disk.new) }
     ensures cause { TellsFaults (D.count disk.old) (D.count disk.new) result }
     ensures model { D.follows disk.new ↔ D.follows disk.old }
     ensures mark { D.mark disk.new ≡ D.mark disk.old }
@@ -122,10 +127,12 @@ fn begin<D: Disk>(
     ensures found { IfOk result (λ a. (a.is_new ≡ true) × (a.durable ≡ fresh)) }
     ensures settled { D.follows disk.old → IsNew (D.seen disk.old) closed → Only (D.seen disk.old) (D.left_since disk.old (D.moment disk.old)) →
         IfOk result (λ a. Settles a.durable a.generation a.end (D.seen disk.new) (D.left_since disk.new (D.moment disk.new))) }
+    ensures written { D.follows disk.old → IsNew (D.seen disk.old) closed → IfOk result (λ _. D.seen disk.new ≡ new_area 1 (body.text (Whole fresh))) }
     ensures room { IfOk result (λ a. a.end < 2 ^ 62) }
     ensures undamaged { IfDamaged result (λ _. ⊥) }
     ensures crash { D.follows disk.old → IsNew (D.seen disk.old) closed → Only (D.seen disk.old) (D.left_since disk.old (D.moment disk.old)) →
         LeavesOnly D.moment D.left_since disk.old disk.new (λ image. HasNone image ⊎ StandsFor fresh image) }
+    ensures image { D.follows disk.old → D.left_since disk.old (D.moment disk.old) (D.seen disk.old) → D.left_since disk.new (D.moment disk.new) (D.seen disk.new) }
     ensures cause { TellsFaults (D.count disk.old) (D.count disk.new) result }
     ensures model { D.follows disk.new ↔ D.follows disk.old }
     ensures mark { D.mark disk.new ≡ D.mark disk.old }
@@ -153,10 +160,12 @@ fn begin_with<D: Disk>(
     requires { body.fits said.now }
     ensures settled { D.follows disk.old → IsNew (D.seen disk.old) closed → Only (D.seen disk.old) (D.left_since disk.old (D.moment disk.old)) →
         IfOk result (λ end. IsSettled 1 (body.text said.now ∷ []) end (D.seen disk.new) (D.left_since disk.new (D.moment disk.new))) }
+    ensures written { D.follows disk.old → IsNew (D.seen disk.old) closed → IfOk result (λ _. D.seen disk.new ≡ new_area 1 (body.text said.now)) }
     ensures room { IfOk result (λ end. end < 2 ^ 62) }
     ensures undamaged { IfDamaged result (λ _. ⊥) }
     ensures crash { D.follows disk.old → IsNew (D.seen disk.old) closed → Only (D.seen disk.old) (D.left_since disk.old (D.moment disk.old)) →
         LeavesOnly D.moment D.left_since disk.old disk.new (λ image. HasNone image ⊎ Stands 1 (body.text said.now ∷ []) image) }
+    ensures image { D.follows disk.old → D.left_since disk.old (D.moment disk.old) (D.seen disk.old) → D.left_since disk.new (D.moment disk.new) (D.seen disk.new) }
     ensures cause { TellsFaults (D.count disk.old) (D.count disk.new) result }
     ensures model { D.follows disk.new ↔ D.follows disk.old }
     ensures mark { D.mark disk.new ≡ D.mark disk.old }

@@ -1,11 +1,13 @@
-ghost use Rattle.std.specs.Prelude.{◌≡◌, ◌⊎◌, ◌≤◌, ◌↔◌, ℕ, List, IfOk, IfErr, OnOk, OnErr};
+ghost use Rattle.std.specs.Prelude.{◌≡◌, ◌⊎◌, ◌≤◌, ◌↔◌, ℕ, true, List, IfOk, IfErr, OnOk, OnErr};
 ghost use Rattle.std.specs.Result.{IsErrAnd};
 ghost use Rattle.op_types.specs.Changes.{Applies, durable_after};
 ghost use Rattle.op_types.specs.declared.durable.Durable.{Durable};
 ghost use Rattle.op_types.specs.declared.changes.Change.{Change};
 ghost use Rattle.op_outside.specs.Causes.{HasCause};
 ghost use Rattle.op_record.specs.Ranges.{DurableInRange};
-ghost use Rattle.op_record.specs.declared.body.Rec.TheVariants.{Step};
+ghost use Rattle.op_record.specs.Forms.{body};
+ghost use Rattle.op_record.specs.declared.body.Rec.TheVariants.{Whole, Step};
+ghost use Rattle.op_journal.specs.Beginnings.{new_area};
 ghost use Rattle.op_store.specs.Records.{IsBodyOf};
 ghost use Rattle.op_store.specs.Stored.{IsStored, LeavesPairs};
 ghost use Rattle.op_store.specs.Stores.{Keeps, IsReady, IsFailed, first_of, second_of, faults_of};
@@ -67,6 +69,9 @@ impl<D: Disk> Store<D> {
         ensures stored { D.follows first → D.follows second → IfOk result (λ o. Keeps D.seen D.moment D.left_since o.1 o.0) }
         ensures ready { IfOk result (λ o. IsReady o.0) }
 
+        // What is begun is an area of the first generation, which holds the fresh durable state and nothing more.
+        ensures begun { D.follows first → D.follows second → IfOk result (λ o. o.2 ≡ true → D.seen (first_of o.0) ≡ new_area 1 (body.text (Whole fresh))) }
+
         // Damage is told at its place, and nothing is cut or written then.
         ensures damaged { D.follows first → D.follows second → IfErr result (λ e. IfDamage e.cause (IsDamageOf (D.seen first) (D.seen second))) }
         ensures kept { D.follows first → D.follows second → IfErr result (λ e. IfDamage e.cause (λ area at. (D.seen e.first ≡ D.seen first) × (D.seen e.second ≡ D.seen second))) }
@@ -76,6 +81,9 @@ impl<D: Disk> Store<D> {
         // stored nothing, nothing or the fresh durable state.
         ensures crash { D.follows first → D.follows second → IfOk result (λ o. LeavesPairs D.moment D.left_since first second (first_of o.0) (second_of o.0) (Remains fresh (D.seen first) (D.seen second))) }
         ensures crash_of_refusal { D.follows first → D.follows second → IfErr result (λ e. LeavesPairs D.moment D.left_since first second e.first e.second (Remains fresh (D.seen first) (D.seen second))) }
+
+        // What a read of the area's disk gives then is one of its images.
+        ensures image_of_refusal { D.follows first → IfErr result (λ e. D.left_since e.first (D.moment e.first) (D.seen e.first)) }
 
         // A fault is told where the count of a disk rose, and nowhere else.
         ensures no_fault { IfOk result (λ o. faults_of D.count o.0 ≡ total (D.count first) (D.count second)) }
@@ -122,6 +130,11 @@ impl<D: Disk> Store<D> {
         ensures crash { D.follows (first_of self.old) → D.follows (second_of self.old) → (d : Durable) (batch : List Change) → Keeps D.seen D.moment D.left_since d self.old →
             IsBodyOf (Step batch) framed.now → Applies d batch →
             LeavesPairs D.moment D.left_since (first_of self.old) (second_of self.old) (first_of self.new) (second_of self.new) (λ x y. IsStored d x y ⊎ IsStored (durable_after d batch) x y) }
+
+        // After a fault a read gives the state before the call, or the one after.
+        ensures left { D.follows (first_of self.old) → D.follows (second_of self.old) → (d : Durable) (batch : List Change) → Keeps D.seen D.moment D.left_since d self.old →
+            IsBodyOf (Step batch) framed.now → Applies d batch →
+            OnErr result (IsStored d (D.seen (first_of self.new)) (D.seen (second_of self.new)) ⊎ IsStored (durable_after d batch) (D.seen (first_of self.new)) (D.seen (second_of self.new))) }
 
         ensures ready { OnOk result (IsReady self.new) }
         ensures failed { OnErr result (IsFailed self.new) }

@@ -1,4 +1,4 @@
-ghost use Rattle.std.specs.Prelude.{◌≡◌, [], None, IfOk, OnOk, OnErr};
+ghost use Rattle.std.specs.Prelude.{◌≡◌, [], None, IfOk, IsErrOf, OnOk, OnErr};
 ghost use Rattle.op_sched.specs.Grammar.{IsPid};
 ghost use Rattle.op_entry.specs.Ranges.{CommandInRange};
 ghost use Rattle.op_steps.specs.Rows.{refusal_of};
@@ -9,6 +9,7 @@ ghost use Rattle.op_sole.specs.Turns.{shown};
 ghost use Rattle.op_store.specs.Stores.{Keeps, IsReady, first_of, second_of, faults_of};
 ghost use Rattle.op_world.specs.Failing.{TellsStep};
 ghost use Rattle.op_world.specs.Members.{IsMember, Ticks, Appends};
+ghost use Rattle.op_world.specs.declared.fail.StepFail.TheVariants as fails;
 
 use crate::fail::StepFail;
 use crate::stepping::commit;
@@ -91,7 +92,7 @@ impl Member {
         }
     }
 
-    /// A tick, stored and then adopted. Where it fails, nothing has changed in memory.
+    /// A tick, stored and then adopted. Where it fails, nothing has changed in memory, and for want of memory nothing at all.
     pub fn tick<D: Disk>(&mut self, store: &mut Store<D>) -> Result<(), StepFail>
         requires member { IsMember self.old }
         requires ready { IsReady store.old }
@@ -100,6 +101,7 @@ impl Member {
         ensures kept { OnErr result (self.new ≡ self.old) }
         ensures stored { D.follows (first_of store.old) → D.follows (second_of store.old) → Keeps D.seen D.moment D.left_since self.old.durable store.old →
             OnOk result (Keeps D.seen D.moment D.left_since self.new.durable store.new) }
+        ensures untouched { IsErrOf result fails.NoMemory → store.new ≡ store.old }
         ensures ready { OnOk result (IsReady store.new) }
         ensures cause { TellsStep (faults_of D.count store.old) (faults_of D.count store.new) result }
     {
@@ -128,6 +130,7 @@ impl Member {
         ensures kept { OnErr result (self.new ≡ record self.old { clients = self.new.clients }) }
         ensures stored { D.follows (first_of store.old) → D.follows (second_of store.old) → Keeps D.seen D.moment D.left_since self.old.durable store.old →
             OnOk result (Keeps D.seen D.moment D.left_since self.new.durable store.new) }
+        ensures untouched { IsErrOf result fails.NoMemory → store.new ≡ store.old }
         ensures ready { OnOk result (IsReady store.new) }
         ensures cause { TellsStep (faults_of D.count store.old) (faults_of D.count store.new) result }
     {

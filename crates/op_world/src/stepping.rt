@@ -1,5 +1,5 @@
 //! A step's batch is stored, and then adopted; nothing of the step is given out before.
-ghost use Rattle.std.specs.Prelude.{◌≡◌, ◌⊎◌, ◌↔◌, IfOk, IfErr, OnOk, OnErr};
+ghost use Rattle.std.specs.Prelude.{◌≡◌, ◌⊎◌, ◌↔◌, IfOk, IfErr, IsErrOf, OnOk, OnErr};
 ghost use Rattle.op_types.specs.Changes.{Applies, durable_after};
 ghost use Rattle.op_types.specs.Rooms.{room_of};
 ghost use Rattle.op_record.specs.Ranges.{BatchInRange};
@@ -57,6 +57,11 @@ pub fn commit<D: Disk>(
     // A crash at any moment of the call leaves the state before it, or the one after.
     ensures crash { D.follows (first_of store.old) → D.follows (second_of store.old) → Keeps D.seen D.moment D.left_since durable.old store.old →
         LeavesPairs D.moment D.left_since (first_of store.old) (second_of store.old) (first_of store.new) (second_of store.new) (λ x y. IsStored durable.old x y ⊎ IsStored (durable_after durable.old batch) x y) }
+
+    // A failure leaves the state before the call, or the one after, and one for want of memory the store as it was.
+    ensures left { D.follows (first_of store.old) → D.follows (second_of store.old) → Keeps D.seen D.moment D.left_since durable.old store.old →
+        OnErr result (IsStored durable.old (D.seen (first_of store.new)) (D.seen (second_of store.new)) ⊎ IsStored (durable_after durable.old batch) (D.seen (first_of store.new)) (D.seen (second_of store.new))) }
+    ensures untouched { IsErrOf result fails.NoMemory → store.new ≡ store.old }
 
     ensures ready { OnOk result (IsReady store.new) }
     ensures cause { TellsStep (faults_of D.count store.old) (faults_of D.count store.new) result }

@@ -1,16 +1,22 @@
-use Rattle.std.proofs.Common.{◌⊎◌, List, ap, ◌∙◌}
+use Rattle.std.proofs.Common.{◌⊎◌, inl, List, ap, ◌∙◌}
 use Rattle.op_types.specs.Changes.{durable_after}
 use Rattle.op_types.specs.declared.changes.Change.{Change}
 use Rattle.op_store.specs.Stored.{IsStored}
 use Rattle.op_store.specs.Stores.{first_of, second_of}
-use Rattle.op_store.proofs.Keeping.{pairs_same}
-use Rattle.op_world.proofs.Serving.{serves_framed}
+use Rattle.op_store.proofs.Keeping.{pairs_same, seen_stored}
+use Rattle.op_world.proofs.Serving.{serves_framed, on_err}
 use Rattle.op_world.proofs.stepping.commit.Goals as goal
 
 pub returns-then-is_empty-clause-crash : goal.returns-then-is_empty-clause-crash
 returns-then-is_empty-clause-crash g c f f₂ keeps =
     let d = c.args.durable.now in
     pairs_same g.D.Disk.moment g.D.Disk.left_since (first_of c.args.store.now) (second_of c.args.store.now) (λ x y. IsStored d x y ⊎ IsStored (durable_after d c.args.batch) x y)
+
+pub returns-in_err-framed-clause-left : goal.returns-in_err-framed-clause-left
+returns-in_err-framed-clause-left g c f f₂ keeps = on_err c.from_residual.result (inl (seen_stored g.D.Disk.seen g.D.Disk.moment g.D.Disk.left_since c.args.durable.now c.args.store.now keeps))
+
+pub returns-in_err-room_for-clause-left : goal.returns-in_err-room_for-clause-left
+returns-in_err-room_for-clause-left g c f f₂ keeps = on_err c.from_residual-in_err-room_for.result (inl (seen_stored g.D.Disk.seen g.D.Disk.moment g.D.Disk.left_since c.args.durable.now c.args.store.now keeps))
 
 pub returns-in_err-framed-clause-crash : goal.returns-in_err-framed-clause-crash
 returns-in_err-framed-clause-crash g c f f₂ keeps =

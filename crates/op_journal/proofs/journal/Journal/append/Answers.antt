@@ -1,5 +1,5 @@
 use Rattle.std.proofs.Common.{◌≡◌, ◌+◌, length, ap, ◌∙◌, arith}
-use Rattle.op_journal.proofs.Appending.{first, second, third, fourth, done}
+use Rattle.op_journal.proofs.Appending.{first, second, third, fourth, replaced, done}
 use Rattle.op_journal.proofs.Layouts.{length-record_text}
 use Rattle.op_journal.proofs.journal.Journal.append.Goals as goal
 
@@ -50,6 +50,15 @@ returns-clause-added g c f generation bodies s =
     let f₃ = c.write_at-2.ensures.model.1 f₂ in
     done d.seen d.moment d.left_since generation bodies c.args.framed.now c.bytes-bytes.ensures.fits c.args.end c.args.disk.now s c.bytes-bytes.result.now c.bytes-bytes.ensures.value
     c.write_at.new.self c.sync.new.self (c.write_at.ensures.crash f) (c.write_at.ensures.time f) (c.sync.ensures.crash f₁) (c.sync.ensures.time f₁) (c.in-Ok.ensures.written f) (c.in-Ok-sync.ensures.seen f₁) (c.in-Ok-sync.ensures.durable f₁) c.write_at-2.new.self (c.write_at-2.ensures.crash f₂) (c.write_at-2.ensures.time f₂) c.sync-2.new.self (c.sync-2.ensures.crash f₃) (c.sync-2.ensures.time f₃) (c.in-Ok-write_at.ensures.written f₂) (c.in-Ok-sync-2.ensures.seen f₃) (c.in-Ok-sync-2.ensures.durable f₃)
+
+pub returns-clause-written : goal.returns-clause-written
+returns-clause-written g c f generation bodies s =
+    let d = g.D.Disk in
+    let f₁ = c.write_at.ensures.model.1 f in
+    let f₂ = c.sync.ensures.model.1 f₁ in
+    let f₃ = c.write_at-2.ensures.model.1 f₂ in
+    replaced d.seen d.moment d.left_since generation bodies c.args.framed.now c.bytes-bytes.ensures.fits c.args.end c.args.disk.now s c.bytes-bytes.result.now c.bytes-bytes.ensures.value
+    c.write_at.new.self c.sync.new.self (c.write_at.ensures.crash f) (c.write_at.ensures.time f) (c.sync.ensures.crash f₁) (c.sync.ensures.time f₁) (c.in-Ok.ensures.written f) (c.in-Ok-sync.ensures.seen f₁) (c.in-Ok-sync.ensures.durable f₁) c.write_at-2.new.self (c.write_at-2.ensures.crash f₂) (c.write_at-2.ensures.time f₂) c.sync-2.new.self (c.sync-2.ensures.crash f₃) (c.sync-2.ensures.time f₃) (c.in-Ok-write_at.ensures.written f₂) (c.in-Ok-sync-2.ensures.seen f₃)
 
 pub returns-clause-next : goal.returns-clause-next
 returns-clause-next g c =
