@@ -1,8 +1,9 @@
-pub mod Deciding
-pub mod Ticking
-pub mod Proposing
-pub mod Showing
-pub mod Finding
-pub mod Meeting
-pub mod Doing
-pub mod Decides
+pub mod DecidesWholeLog
+pub mod TickKeepsLog
+pub mod AppendIsDecided
+pub mod ShowsItsLog
+pub mod FoundAtRestart
+pub mod RunsMeetMachine
+pub mod WorldAfterEvent
+pub mod CommandsDecided
+pub mod RepliesServed

@@ -2,3 +2,4 @@ pub mod World
 pub mod Run
 pub mod Summary
 pub mod Sole
+pub mod Replies

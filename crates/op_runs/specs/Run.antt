@@ -7,17 +7,17 @@ use Rattle.op_types.specs.declared.events.What.TheVariants as what
 use Rattle.op_types.specs.declared.log.Command.{Command}
 use Rattle.op_types.specs.declared.log.Entry.{Entry}
 use Rattle.op_types.specs.declared.log.Entry.TheVariants as entry
-use Rattle.op_model.specs.Machine.{Machine, first_machine, Leads}
-use Rattle.op_model.specs.Ledger.{decided_in, machine_showing, machine_proposing}
-use Rattle.op_model.specs.Laws.{IsSafe, OnlyGrows}
-use Rattle.op_model.specs.Service.{Service, service_of}
-use Rattle.op_model.specs.Stands.{Stands, front_of}
-use Rattle.op_steps.specs.State.{State}
-use Rattle.op_steps.specs.Rows.{refusal_of}
-use Rattle.op_runs.specs.World.{World, Node, Standing, Up, Down, Happening, first_world, world_after, node_at, node_of}
+use Rattle.op_spec.specs.Machine.{Machine, first_machine, Leads}
+use Rattle.op_spec.specs.Ledger.{decided_in, machine_showing, machine_proposing}
+use Rattle.op_spec.specs.Laws.{IsSafe, OnlyGrows}
+use Rattle.op_spec.specs.Service.{Service, service_of}
+use Rattle.op_spec.specs.Stands.{Stands, prefix_of}
+use Rattle.op_protocol.specs.State.{State}
+use Rattle.op_protocol.specs.Rows.{refusal_of}
+use Rattle.op_runs.specs.World.{World, Node, NodeStatus, Up, Down, Happening, first_world, world_after, node_at, node_of}
 
 -- a run so far: its world, and the list machine's state that it shows
-pub record Track : Type 0 where
+pub record Execution : Type 0 where
   pub world : World
   pub machine : Machine
 
@@ -39,7 +39,7 @@ machine_proposing_at m (what.Crash p) s = m
 machine_proposing_at m (what.Start p) s = m
 
 -- at a node that is up
-abbrev pub machine_proposing_if : Standing → Machine → What → State → Machine
+abbrev pub machine_proposing_if : NodeStatus → Machine → What → State → Machine
 machine_proposing_if Up m w s = machine_proposing_at m w s
 machine_proposing_if (Down after) m w s = m
 
@@ -49,29 +49,29 @@ machine_proposing_by m w None = m
 machine_proposing_by m w (Some n) = machine_proposing_if n.standing m w n.state
 
 -- a run after one happening more
-abbrev pub track_with : Track → Happening → Track
-track_with t h =
+abbrev pub execution_with : Execution → Happening → Execution
+execution_with t h =
     record {
       world = world_after t.world h;
       machine = machine_showing_all (machine_proposing_by t.machine h.event.what (node_at t.world.nodes (node_of h.event.what))) (world_after t.world h).nodes;
     }
 
 -- the start of a run
-abbrev pub first_track : List ℕ → Track
-first_track members = record { world = first_world members; machine = first_machine members }
+abbrev pub first_execution : List ℕ → Execution
+first_execution members = record { world = first_world members; machine = first_machine members }
 
 -- a run after these happenings
-abbrev pub track_of : Track → List Happening → Track
-track_of t [] = t
-track_of t (h ∷ hs) = track_of (track_with t h) hs
+abbrev pub execution_of : Execution → List Happening → Execution
+execution_of t [] = t
+execution_of t (h ∷ hs) = execution_of (execution_with t h) hs
 
 -- the service at a part has applied all that is decided there and in the configurations before, and nothing else
 abbrev pub ServesDecided : (ℕ → List Entry) → Option Part → Service → Type 0
 ServesDecided lists None s = Unit {0}
-ServesDecided lists (Some p) s = s ≡ service_of (front_of lists p.conf p.decided)
+ServesDecided lists (Some p) s = s ≡ service_of (prefix_of lists p.conf p.decided)
 
 -- what a run's state keeps: the lists are safe, every node stands, and its service is that of all that it has decided
-pub record IsSound (members : List ℕ) (t : Track) : Type 0 where
+pub record IsSound (members : List ℕ) (t : Execution) : Type 0 where
   pub safe : IsSafe members t.machine
   pub stand : All (λ n. Stands members t.machine.lists n.state.durable) t.world.nodes
   pub serve : All (λ n. ServesDecided t.machine.lists n.state.durable.part n.state.service) t.world.nodes
@@ -86,17 +86,17 @@ abbrev pub DecidedStays : List Node → List Node → Type 0
 DecidedStays old new = (pid conf : ℕ) → decided_at (node_at old pid) conf ≤ decided_at (node_at new pid) conf
 
 -- a happening is finitely many steps of the list machine, which only add to it; nothing decided is lost, and all is sound after it
-pub record GoesOn (members : List ℕ) (t u : Track) : Type 0 where
+pub record GoesOn (members : List ℕ) (t u : Execution) : Type 0 where
   pub leads : Leads t.machine u.machine
   pub grows : OnlyGrows t.machine u.machine
   pub decided : DecidedStays t.world.nodes u.world.nodes
   pub sound : IsSound members u
 
 -- each happening goes on so
-abbrev pub MeetsFrom : List ℕ → Track → List Happening → Type 0
+abbrev pub MeetsFrom : List ℕ → Execution → List Happening → Type 0
 MeetsFrom members t [] = Unit {0}
-MeetsFrom members t (h ∷ hs) = GoesOn members t (track_with t h) × MeetsFrom members (track_with t h) hs
+MeetsFrom members t (h ∷ hs) = GoesOn members t (execution_with t h) × MeetsFrom members (execution_with t h) hs
 
 -- a run of these members meets the list machine, from its start on
 abbrev pub Meets : List ℕ → List Happening → Type 0
-Meets members hs = IsSound members (first_track members) × MeetsFrom members (first_track members) hs
+Meets members hs = IsSound members (first_execution members) × MeetsFrom members (first_execution members) hs

@@ -4,10 +4,10 @@ use Rattle.op_types.specs.declared.ballot.Ballot.{Ballot}
 use Rattle.op_types.specs.declared.log.Entry.{Entry}
 use Rattle.op_types.specs.declared.durable.Part.{Part}
 use Rattle.op_types.specs.declared.durable.Durable.{Durable}
-use Rattle.op_sched.specs.declared.summary.Line.{Line}
-use Rattle.op_model.specs.Service.{new_service, service_of, base_bytes}
-use Rattle.op_steps.specs.State.{State, Volatile, Sent}
-use Rattle.op_runs.specs.World.{Standing, Node, World}
+use Rattle.op_types.specs.declared.summary.Line.{Line}
+use Rattle.op_spec.specs.Service.{new_service, service_of, base_bytes}
+use Rattle.op_protocol.specs.State.{State, Volatile, Sent}
+use Rattle.op_runs.specs.World.{NodeStatus, Node, World}
 
 -- its part
 abbrev pub sole_part : ℕ → Ballot → Ballot → List Entry → Part
@@ -23,11 +23,11 @@ abbrev pub sole_state : Part → Volatile → State
 sole_state p v = record { durable = sole_durable p; volatile = v; service = service_of p.tail.items; waiting = [] }
 
 -- the one node
-abbrev pub sole_node : ℕ → Part → Volatile → Standing → Node
+abbrev pub sole_node : ℕ → Part → Volatile → NodeStatus → Node
 sole_node me p v standing = record { pid = me; state = sole_state p v; standing = standing }
 
 -- the world of this node
-abbrev pub sole_world : ℕ → Part → Volatile → Standing → List Sent → List Line → World
+abbrev pub sole_world : ℕ → Part → Volatile → NodeStatus → List Sent → List Line → World
 sole_world me p v standing messages lines = record { nodes = sole_node me p v standing ∷ []; messages = messages; lines = lines }
 
 -- the log of a part

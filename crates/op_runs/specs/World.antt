@@ -7,23 +7,23 @@ use Rattle.op_types.specs.declared.events.What.{What}
 use Rattle.op_types.specs.declared.events.What.TheVariants as what
 use Rattle.op_types.specs.declared.events.Event.{Event}
 use Rattle.op_types.specs.declared.answers.Outcome.{Outcome}
-use Rattle.op_sched.specs.declared.summary.Line.{Line}
-use Rattle.op_sched.specs.declared.summary.Line.TheVariants as line
-use Rattle.op_model.specs.Service.{new_service, base_bytes}
-use Rattle.op_steps.specs.State.{State, Sent, Planned, state_after}
-use Rattle.op_steps.specs.Rows.{tick_plan, command_plan}
-use Rattle.op_steps.specs.Starting.{first_volatile, state_again}
+use Rattle.op_types.specs.declared.summary.Line.{Line}
+use Rattle.op_types.specs.declared.summary.Line.TheVariants as line
+use Rattle.op_spec.specs.Service.{new_service, base_bytes}
+use Rattle.op_protocol.specs.State.{State, Sent, Planned, state_after}
+use Rattle.op_protocol.specs.Rows.{tick_plan, command_plan}
+use Rattle.op_protocol.specs.Starting.{first_volatile, state_after_restart}
 
 -- how a node runs: when it is down, its next opening finds what it stored before the step in which it stopped, or this
-pub data Standing : Type 0 where
-  Up : Standing
-  Down : (after : Durable) → Standing
+pub data NodeStatus : Type 0 where
+  Up : NodeStatus
+  Down : (after : Durable) → NodeStatus
 
 -- a server, its state, and how it runs
 pub record Node : Type 0 where
   pub pid : ℕ
   pub state : State
-  pub standing : Standing
+  pub standing : NodeStatus
 
 -- all nodes, all messages, and all that was told
 pub record World : Type 0 where
@@ -112,7 +112,7 @@ world_if_up (what.Start p) f at w n = w
 
 -- the node opened again, unless it stops in its opening; waiting clients are lost
 abbrev pub world_opening : Fate → World → Node → Durable → World
-world_opening Done w n found = world_with_node w (record n { state = state_again n.pid found; standing = Up })
+world_opening Done w n found = world_with_node w (record n { state = state_after_restart n.pid found; standing = Up })
 world_opening Stopped w n found = w
 
 -- what happens to a node that is down: only a start has an effect
@@ -123,14 +123,14 @@ world_if_down (what.Crash p) f finds_after after w n = w
 world_if_down (what.Start p) f finds_after after w n = world_opening f w n (if finds_after then after else n.state.durable)
 
 -- what happens to a node, by how it runs
-abbrev pub world_by_standing : Standing → Happening → World → Node → World
-world_by_standing Up h w n = world_if_up h.event.what h.fate h.event.line w n
-world_by_standing (Down after) h w n = world_if_down h.event.what h.fate h.finds_after after w n
+abbrev pub world_by_status : NodeStatus → Happening → World → Node → World
+world_by_status Up h w n = world_if_up h.event.what h.fate h.event.line w n
+world_by_status (Down after) h w n = world_if_down h.event.what h.fate h.finds_after after w n
 
 -- the same, where the node is there
 abbrev pub world_at_node : Option Node → Happening → World → World
 world_at_node None h w = w
-world_at_node (Some n) h w = world_by_standing n.standing h w n
+world_at_node (Some n) h w = world_by_status n.standing h w n
 
 -- the world after one happening
 abbrev pub world_after : World → Happening → World

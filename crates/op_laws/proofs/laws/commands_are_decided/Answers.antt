@@ -1,4 +1,4 @@
-use Rattle.op_laws.proofs.Decides.{sole_members_decide}
+use Rattle.op_laws.proofs.CommandsDecided.{sole_members_decide}
 use Rattle.op_laws.proofs.laws.commands_are_decided.Goals as goal
 
 pub returns : goal.returns

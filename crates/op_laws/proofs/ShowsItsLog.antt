@@ -6,11 +6,11 @@ use Rattle.op_types.specs.declared.ballot.Ballot.{Ballot}
 use Rattle.op_types.specs.declared.log.Command.{Command}
 use Rattle.op_types.specs.declared.log.Entry.{Entry}
 use Rattle.op_types.specs.declared.log.Entry.TheVariants as entry
-use Rattle.op_model.specs.Machine.{Machine, Propose, Choose, Learn, IsAmong, stop_at_end, IsSame, Leads}
-use Rattle.op_model.specs.Ledger.{decided_entries, machine_showing, machine_proposing}
-use Rattle.op_model.proofs.Safety.{IsAmong-push, of_conds}
+use Rattle.op_spec.specs.Machine.{Machine, Propose, Choose, Learn, IsAmong, stop_at_end, IsSame, Leads}
+use Rattle.op_spec.specs.Ledger.{decided_entries, machine_showing, machine_proposing}
+use Rattle.op_spec.proofs.Safety.{IsAmong-push, of_conds}
 use Rattle.op_runs.specs.Sole.{sole_part, sole_durable}
-use Rattle.op_laws.proofs.Deciding.{nothing_past, one_past}
+use Rattle.op_laws.proofs.DecidesWholeLog.{nothing_past, one_past}
 
 -- the machine has this log as the one list, and the node knows it whole
 pub record Shows (me : ℕ) (m : Machine) (log : List Entry) : Type 0 where
@@ -76,12 +76,12 @@ Reaches-same me pr ac m log shows =
 Shows-proposed : (me : ℕ) (m : Machine) (log : List Entry) (e : Entry) → Shows me m log → Shows me (machine_proposing m 1 e) log
 Shows-proposed me m log e shows = record { list = shows.list; known = shows.known; opened = shows.opened; goes_on = shows.goes_on }
 
-Reaches-behind : (me : ℕ) (pr ac : Ballot) (m : Machine) (log : List Entry) (e : Entry) → Reaches me (machine_proposing m 1 e) (machine_proposing m 1 e) pr ac log → Reaches me m (machine_proposing m 1 e) pr ac log
-Reaches-behind me pr ac m log e there = record { leads = (Propose 1 e ∷ there.leads.0, (tt, there.leads.1), there.leads.2); shows = there.shows }
+Reaches-after_proposal : (me : ℕ) (pr ac : Ballot) (m : Machine) (log : List Entry) (e : Entry) → Reaches me (machine_proposing m 1 e) (machine_proposing m 1 e) pr ac log → Reaches me m (machine_proposing m 1 e) pr ac log
+Reaches-after_proposal me pr ac m log e there = record { leads = (Propose 1 e ∷ there.leads.0, (tt, there.leads.1), there.leads.2); shows = there.shows }
 
 -- the command is proposed alone
 pub Reaches-proposed : (me : ℕ) (pr ac : Ballot) (m : Machine) (log : List Entry) (e : Entry) → Shows me m log → Reaches me m (machine_proposing m 1 e) pr ac log
-Reaches-proposed me pr ac m log e shows = Reaches-behind me pr ac m log e (Reaches-same me pr ac (machine_proposing m 1 e) log (Shows-proposed me m log e shows))
+Reaches-proposed me pr ac m log e shows = Reaches-after_proposal me pr ac m log e (Reaches-same me pr ac (machine_proposing m 1 e) log (Shows-proposed me m log e shows))
 
 -- ---- one command more
 
@@ -139,4 +139,4 @@ pub Reaches-appended : (me : ℕ) (pr ac : Ballot) (m : Machine) (log : List Ent
 Reaches-appended me pr ac m log c shows =
     let e : Entry = entry.Command c in
     let x = machine_proposing m 1 e in
-    Reaches-behind me pr ac m (log ++ e ∷ []) e (Reaches-chosen me pr ac x log c (IsAmong-push (m.proposed 1) e) (Shows-proposed me m log e shows))
+    Reaches-after_proposal me pr ac m (log ++ e ∷ []) e (Reaches-chosen me pr ac x log c (IsAmong-push (m.proposed 1) e) (Shows-proposed me m log e shows))

@@ -12,34 +12,34 @@ use Rattle.op_types.specs.declared.log.Entry.{Entry}
 use Rattle.op_types.specs.declared.log.Entry.TheVariants as entry
 use Rattle.op_types.specs.declared.events.What.{What}
 use Rattle.op_types.specs.declared.events.What.TheVariants as what
-use Rattle.op_sched.specs.declared.summary.Line.{Line}
-use Rattle.op_model.specs.Machine.{Machine, Leads}
-use Rattle.op_model.specs.Ledger.{machine_proposing}
-use Rattle.op_model.specs.Laws.{IsSafe, OnlyGrows}
-use Rattle.op_model.specs.Stands.{Stands, front_of}
-use Rattle.op_model.specs.Service.{service_of}
+use Rattle.op_types.specs.declared.summary.Line.{Line}
+use Rattle.op_spec.specs.Machine.{Machine, Leads}
+use Rattle.op_spec.specs.Ledger.{machine_proposing}
+use Rattle.op_spec.specs.Laws.{IsSafe, OnlyGrows}
+use Rattle.op_spec.specs.Stands.{Stands, prefix_of}
+use Rattle.op_spec.specs.Service.{service_of}
 use Rattle.std.proofs.Math.Seq.{take-length}
-use Rattle.op_model.proofs.Safety.{IsAmong-push, of_conds, first_is_safe, steps_keep_safe, steps_only_grow}
-use Rattle.op_steps.specs.State.{State, Volatile, Sent, Planned, state_after}
-use Rattle.op_steps.specs.Rows.{refusal_of, refusal_plan, tick_plan, command_plan_after}
-use Rattle.op_steps.specs.Starting.{first_volatile, volatile_again}
-use Rattle.op_runs.specs.World.{Standing, Up, Down, Node, World, Fate, Done, Stopped, Happening, lines_of, node_at, node_of, world_with_node, world_by_fate, world_if_up, world_opening, world_if_down, world_at_node, world_after}
-use Rattle.op_runs.specs.Run.{Track, first_track, track_with, machine_showing_all, machine_proposing_in, machine_proposing_by, IsSound, ServesDecided, decided_at, DecidedStays, MeetsFrom}
+use Rattle.op_spec.proofs.Safety.{IsAmong-push, of_conds, first_is_safe, steps_keep_safe, steps_only_grow}
+use Rattle.op_protocol.specs.State.{State, Volatile, Sent, Planned, state_after}
+use Rattle.op_protocol.specs.Rows.{refusal_of, refusal_plan, tick_plan, command_plan_after}
+use Rattle.op_protocol.specs.Starting.{first_volatile, volatile_after_restart}
+use Rattle.op_runs.specs.World.{NodeStatus, Up, Down, Node, World, Fate, Done, Stopped, Happening, lines_of, node_at, node_of, world_with_node, world_by_fate, world_if_up, world_opening, world_if_down, world_at_node, world_after}
+use Rattle.op_runs.specs.Run.{Execution, first_execution, execution_with, machine_showing_all, machine_proposing_in, machine_proposing_by, IsSound, ServesDecided, decided_at, DecidedStays, MeetsFrom}
 use Rattle.op_runs.specs.Sole.{sole_part, sole_durable, sole_state, sole_node, sole_world}
 use Rattle.op_laws.specs.Promised.{SoleRunsMeet}
-use Rattle.op_laws.proofs.Ticking.{leaves_ticked}
-use Rattle.op_laws.proofs.Proposing.{adopted-appended}
-use Rattle.op_laws.proofs.Doing.{with_sole, crashed-sole, started-sole}
-use Rattle.op_laws.proofs.Showing.{Shows, Reaches, Reaches-same, Reaches-proposed, Reaches-appended}
-use Rattle.op_laws.proofs.Finding.{IsLogOrNext, Finds, FindsIfDown, Finds-same, Reaches-found}
+use Rattle.op_laws.proofs.TickKeepsLog.{leaves_ticked}
+use Rattle.op_laws.proofs.AppendIsDecided.{adopted-appended}
+use Rattle.op_laws.proofs.WorldAfterEvent.{with_sole, crashed-sole, started-sole}
+use Rattle.op_laws.proofs.ShowsItsLog.{Shows, Reaches, Reaches-same, Reaches-proposed, Reaches-appended}
+use Rattle.op_laws.proofs.FoundAtRestart.{IsLogOrNext, Finds, FindsIfDown, Finds-same, Reaches-found}
 
 -- a run so far is a sole member's
-pub record IsSole (me : ℕ) (t : Track) : Type 0 where
+pub record IsSole (me : ℕ) (t : Execution) : Type 0 where
   pub promised : Ballot
   pub accepted : Ballot
   pub log : List Entry
   pub volatile : Volatile
-  pub standing : Standing
+  pub standing : NodeStatus
   pub messages : List Sent
   pub lines : List Line
   pub is : t.world ≡ sole_world me (sole_part me promised accepted log) volatile standing messages lines
@@ -47,15 +47,15 @@ pub record IsSole (me : ℕ) (t : Track) : Type 0 where
   pub finds : FindsIfDown me (t.machine.proposed 1) log standing
 
 -- the run with this world, when its nodes have shown to x what they store
-abbrev pub track_showing : Machine → World → Track
-track_showing x w = record { world = w; machine = machine_showing_all x w.nodes }
+abbrev pub execution_showing : Machine → World → Execution
+execution_showing x w = record { world = w; machine = machine_showing_all x w.nodes }
 
 -- a happening leaves a sole member, and the machine's steps lead from m to what it shows
 pub record Next (me : ℕ) (m x : Machine) (w : World) : Type 0 where
-  pub sole : IsSole me (track_showing x w)
+  pub sole : IsSole me (execution_showing x w)
   pub leads : Leads m (machine_showing_all x w.nodes)
 
-next_sole : (me : ℕ) (m x : Machine) (pr ac : Ballot) (log : List Entry) (v : Volatile) (st : Standing) (messages : List Sent) (lines : List Line) (w : World)
+next_sole : (me : ℕ) (m x : Machine) (pr ac : Ballot) (log : List Entry) (v : Volatile) (st : NodeStatus) (messages : List Sent) (lines : List Line) (w : World)
     → w ≡ sole_world me (sole_part me pr ac log) v st messages lines → Reaches me m x pr ac log → FindsIfDown me (x.proposed 1) log st → Next me m x w
 next_sole me m x pr ac log v st messages lines w is there finds =
     let here : Next me m x (sole_world me (sole_part me pr ac log) v st messages lines) =
@@ -65,7 +65,7 @@ next_sole me m x pr ac log v st messages lines w is there finds =
     } in
     subst (λ (u : World). Next me m x u) (sym is) here
 
-same_next : (me : ℕ) (m : Machine) (pr ac : Ballot) (log : List Entry) (v : Volatile) (st : Standing) (messages : List Sent) (lines : List Line) → Shows me m log → FindsIfDown me (m.proposed 1) log st
+same_next : (me : ℕ) (m : Machine) (pr ac : Ballot) (log : List Entry) (v : Volatile) (st : NodeStatus) (messages : List Sent) (lines : List Line) → Shows me m log → FindsIfDown me (m.proposed 1) log st
     → Next me m m (sole_world me (sole_part me pr ac log) v st messages lines)
 same_next me m pr ac log v st messages lines shows finds = next_sole me m m pr ac log v st messages lines _ refl (Reaches-same me pr ac m log shows) finds
 
@@ -128,7 +128,7 @@ opening_next : (f : Fate) (me : ℕ) (m : Machine) (pr ac : Ballot) (log : List 
 opening_next Done me m pr ac log v after d messages lines shows later now =
     let p = sole_part me pr ac log in
     let open_at : Durable → World = λ x. world_opening Done (sole_world me p v (Down after) messages lines) (sole_node me p v (Down after)) x in
-    next_sole me m m now.promised now.accepted now.found (volatile_again me (Some (sole_part me now.promised now.accepted now.found))) Up messages lines _
+    next_sole me m m now.promised now.accepted now.found (volatile_after_restart me (Some (sole_part me now.promised now.accepted now.found))) Up messages lines _
     (ap open_at now.is ∙ started-sole me p now.promised now.accepted now.found v after messages lines) (Reaches-found me now.promised now.accepted m log now.found shows now.is_next) tt
 opening_next Stopped me m pr ac log v after d messages lines shows later now = same_next me m pr ac log v (Down after) messages lines shows later
 
@@ -142,12 +142,12 @@ down_next w f finds_after me m pr ac log v after messages lines shows finds = sa
 
 -- ---- any happening
 
-node_next : (me : ℕ) (st : Standing) (h : Happening) (m : Machine) (pr ac : Ballot) (log : List Entry) (v : Volatile) (messages : List Sent) (lines : List Line) → Shows me m log → FindsIfDown me (m.proposed 1) log st
+node_next : (me : ℕ) (st : NodeStatus) (h : Happening) (m : Machine) (pr ac : Ballot) (log : List Entry) (v : Volatile) (messages : List Sent) (lines : List Line) → Shows me m log → FindsIfDown me (m.proposed 1) log st
     → Next me m (machine_proposing_by m h.event.what (Some (sole_node me (sole_part me pr ac log) v st))) (world_at_node (Some (sole_node me (sole_part me pr ac log) v st)) h (sole_world me (sole_part me pr ac log) v st messages lines))
 node_next me Up h m pr ac log v messages lines shows finds = up_next h.fate me h.event.line h.event.what m pr ac log v messages lines shows
 node_next me (Down after) h m pr ac log v messages lines shows finds = down_next h.event.what h.fate h.finds_after me m pr ac log v after messages lines shows finds
 
-next : (me : ℕ) (st : Standing) (h : Happening) (m : Machine) (pr ac : Ballot) (log : List Entry) (v : Volatile) (messages : List Sent) (lines : List Line) → Shows me m log → FindsIfDown me (m.proposed 1) log st
+next : (me : ℕ) (st : NodeStatus) (h : Happening) (m : Machine) (pr ac : Ballot) (log : List Entry) (v : Volatile) (messages : List Sent) (lines : List Line) → Shows me m log → FindsIfDown me (m.proposed 1) log st
     → Next me m (machine_proposing_by m h.event.what (node_at (sole_node me (sole_part me pr ac log) v st ∷ []) (node_of h.event.what))) (world_after (sole_world me (sole_part me pr ac log) v st messages lines) h)
 next me st h m pr ac log v messages lines shows finds =
     let w = sole_world me (sole_part me pr ac log) v st messages lines in
@@ -157,20 +157,20 @@ next me st h m pr ac log v messages lines shows finds =
 
 -- ---- a run, after one happening more
 
-tracked_next : (me : ℕ) (t : Track) (h : Happening) (s : IsSole me t) → Next me t.machine (machine_proposing_by t.machine h.event.what (node_at t.world.nodes (node_of h.event.what))) (world_after t.world h)
-tracked_next me t h s =
+pub next_execution : (me : ℕ) (t : Execution) (h : Happening) (s : IsSole me t) → Next me t.machine (machine_proposing_by t.machine h.event.what (node_at t.world.nodes (node_of h.event.what))) (world_after t.world h)
+next_execution me t h s =
     subst (λ (w : World). Next me t.machine (machine_proposing_by t.machine h.event.what (node_at w.nodes (node_of h.event.what))) (world_after w h)) (sym s.is)
     (next me s.standing h t.machine s.promised s.accepted s.log s.volatile s.messages s.lines s.shows s.finds)
 
-pub sole_tracked : (me : ℕ) (t : Track) (h : Happening) → IsSole me t → IsSole me (track_with t h)
-sole_tracked me t h s = (tracked_next me t h s).sole
+pub sole_executed : (me : ℕ) (t : Execution) (h : Happening) → IsSole me t → IsSole me (execution_with t h)
+sole_executed me t h s = (next_execution me t h s).sole
 
 All-one : {X : Type 0} (P : X → Type 0) (x : X) → P x → All P (x ∷ [])
 All-one P x p zero d below = p
 All-one P x p (suc k) d below = absurd (omega arith)
 
 -- the run's list is the node's log
-pub listed : (me : ℕ) (t : Track) (s : IsSole me t) → t.machine.lists 1 ≡ s.log
+pub listed : (me : ℕ) (t : Execution) (s : IsSole me t) → t.machine.lists 1 ≡ s.log
 listed me t s = s.shows.list
 
 stands_sole : (me : ℕ) (pr ac : Ballot) (log : List Entry) (lists : ℕ → List Entry) → lists 1 ≡ log → Stands (me ∷ []) lists (sole_durable (sole_part me pr ac log))
@@ -186,10 +186,10 @@ stands_sole me pr ac log lists list =
       closed = tt;
     }
 
-serves_sole : (me : ℕ) (pr ac : Ballot) (log : List Entry) (lists : ℕ → List Entry) → lists 1 ≡ log → service_of log ≡ service_of (front_of lists 1 (length log))
+serves_sole : (me : ℕ) (pr ac : Ballot) (log : List Entry) (lists : ℕ → List Entry) → lists 1 ≡ log → service_of log ≡ service_of (prefix_of lists 1 (length log))
 serves_sole me pr ac log lists list = ap service_of (sym (ap (λ (es : List Entry). take (length log) es) list ∙ take-length log))
 
-sound : (me : ℕ) (t : Track) → IsSole me t → IsSafe (me ∷ []) t.machine → IsSound (me ∷ []) t
+sound : (me : ℕ) (t : Execution) → IsSole me t → IsSafe (me ∷ []) t.machine → IsSound (me ∷ []) t
 sound me t s safe =
     let P : Node → Type 0 = λ n. Stands (me ∷ []) t.machine.lists n.state.durable in
     let Q : Node → Type 0 = λ n. ServesDecided t.machine.lists n.state.durable.part n.state.service in
@@ -202,13 +202,13 @@ sound me t s safe =
 
 -- ---- nothing decided is lost
 
-decided_more : (me pid conf : ℕ) (pr ac qr qc : Ballot) (log longer : List Entry) (u v : Volatile) (st su : Standing) → length log ≤ length longer
+decided_more : (me pid conf : ℕ) (pr ac qr qc : Ballot) (log longer : List Entry) (u v : Volatile) (st su : NodeStatus) → length log ≤ length longer
     → decided_at (node_at (sole_node me (sole_part me pr ac log) u st ∷ []) pid) conf ≤ decided_at (node_at (sole_node me (sole_part me qr qc longer) v su ∷ []) pid) conf
 decided_more me pid conf pr ac qr qc log longer u v st su more =
     of_conds (λ (o n : Option Node). decided_at o conf ≤ decided_at n conf) (eqb me pid) (Some (sole_node me (sole_part me pr ac log) u st)) None (Some (sole_node me (sole_part me qr qc longer) v su)) None
     (λ _. of_conds (λ (x y : ℕ). max x 0 ≤ max y 0) (eqb conf 1) (length log) 0 (length longer) 0 (λ _. omega arith) (λ _. omega arith)) (λ _. omega arith)
 
-decided_stays : (me : ℕ) (t u : Track) → IsSole me t → IsSole me u → OnlyGrows t.machine u.machine → DecidedStays t.world.nodes u.world.nodes
+decided_stays : (me : ℕ) (t u : Execution) → IsSole me t → IsSole me u → OnlyGrows t.machine u.machine → DecidedStays t.world.nodes u.world.nodes
 decided_stays me t u s n grows pid conf =
     let more = grows.lists 1 in
     let longer : length s.log ≤ length n.log = omega (arith, ap length (listed me t s), ap length (listed me u n), ap length more.1, length-append (t.machine.lists 1) more.0) in
@@ -218,16 +218,16 @@ decided_stays me t u s n grows pid conf =
 
 -- ---- whole runs
 
-meets_from : (me : ℕ) (t : Track) (hs : List Happening) → IsSole me t → IsSafe (me ∷ []) t.machine → MeetsFrom (me ∷ []) t hs
+meets_from : (me : ℕ) (t : Execution) (hs : List Happening) → IsSole me t → IsSafe (me ∷ []) t.machine → MeetsFrom (me ∷ []) t hs
 meets_from me t [] s safe = tt
 meets_from me t (h ∷ hs) s safe =
-    let u = track_with t h in
-    let n = tracked_next me t h s in
+    let u = execution_with t h in
+    let n = next_execution me t h s in
     let grows = steps_only_grow t.machine u.machine n.leads in
     let still = steps_keep_safe (me ∷ []) t.machine u.machine safe n.leads in
     (record { leads = n.leads; grows = grows; decided = decided_stays me t u s n.sole grows; sound = sound me u n.sole still }, meets_from me u hs n.sole still)
 
-pub sole_first : (me : ℕ) → IsSole me (first_track (me ∷ []))
+pub sole_first : (me : ℕ) → IsSole me (first_execution (me ∷ []))
 sole_first me =
     record {
       promised = no_ballot;
@@ -246,4 +246,4 @@ pub sole_runs_meet : SoleRunsMeet
 sole_runs_meet me hs =
     let safe = first_is_safe (me ∷ []) in
     let s = sole_first me in
-    (sound me (first_track (me ∷ [])) s safe, meets_from me (first_track (me ∷ [])) hs s safe)
+    (sound me (first_execution (me ∷ [])) s safe, meets_from me (first_execution (me ∷ [])) hs s safe)

@@ -4,8 +4,8 @@ use Rattle.op_types.specs.declared.log.Command.{Command}
 use Rattle.op_types.specs.declared.log.Entry.{Entry}
 use Rattle.op_types.specs.declared.log.Entry.TheVariants as entry
 use Rattle.op_types.specs.declared.answers.Reply.{Reply}
-use Rattle.op_model.specs.Service.{Service, service_with, answer_of}
-use Rattle.op_steps.specs.State.{Waiting}
+use Rattle.op_spec.specs.Service.{Service, service_with, answer_of}
+use Rattle.op_protocol.specs.State.{Waiting}
 
 -- whether it is this command that is waited for
 abbrev pub is_for : Command → Waiting → Bool

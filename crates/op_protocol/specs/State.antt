@@ -9,7 +9,7 @@ use Rattle.op_types.specs.declared.messages.Msg.{Msg}
 use Rattle.op_types.specs.declared.answers.Outcome.{Outcome}
 use Rattle.op_types.specs.declared.answers.Reply.{Reply}
 use Rattle.op_types.specs.Changes.{durable_after}
-use Rattle.op_model.specs.Service.{Service}
+use Rattle.op_spec.specs.Service.{Service}
 
 -- a client, and the number of its command
 pub record Waiting : Type 0 where

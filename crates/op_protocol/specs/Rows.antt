@@ -1,7 +1,8 @@
 -- The rows of the step table: what a node's step is, from its state and what happens. With one member these are all that can be met.
-use Rattle.std.specs.Prelude.{◌==◌, ℕ, ◌-◌, ◌^◌, nat_lt, Bool, true, false, not, List, [], ◌∷◌, length, take, drop, map, filter, Option, Some, None, if◌then◌else◌}
+use Rattle.std.specs.Prelude.{◌==◌, ℕ, ◌-◌, nat_lt, Bool, true, false, not, List, [], ◌∷◌, length, take, drop, map, filter, Option, Some, None, if◌then◌else◌}
 use Rattle.op_types.specs.Ballots.{is_below, greater}
 use Rattle.op_types.specs.Changes.{len_of, part_with}
+use Rattle.op_types.specs.Limits.{positions_end}
 use Rattle.op_types.specs.declared.ballot.Ballot.{Ballot}
 use Rattle.op_types.specs.declared.changes.Change.{Change}
 use Rattle.op_types.specs.declared.changes.Change.TheVariants as change
@@ -18,10 +19,10 @@ use Rattle.op_types.specs.declared.answers.Outcome.TheVariants as outcome
 use Rattle.op_types.specs.declared.answers.Refusal.{Refusal}
 use Rattle.op_types.specs.declared.answers.Refusal.TheVariants as refusal
 use Rattle.op_quorum.specs.Quorums.{is_majority}
-use Rattle.op_steps.specs.Heartbeats.{next_round}
-use Rattle.op_steps.specs.Election.{Candidate, Ended, round_end}
-use Rattle.op_steps.specs.State.{State, Volatile, Sent, Planned}
-use Rattle.op_steps.specs.Serving.{Served, serving, waiting_with}
+use Rattle.op_protocol.specs.Heartbeats.{next_round}
+use Rattle.op_protocol.specs.Election.{Candidate, Ended, round_end}
+use Rattle.op_protocol.specs.State.{State, Volatile, Sent, Planned}
+use Rattle.op_protocol.specs.Serving.{Served, serving, waiting_with}
 
 -- nothing changes but the volatile state
 abbrev pub only_volatile : State → Volatile → List Sent → Planned
@@ -103,7 +104,7 @@ is_leading (role.Leading l) = true
 -- Why a proposal is refused, the first cause first. One member that doesn't lead has promised none or its own ballot; with
 -- more, the promise of another's ballot would forward.
 abbrev pub part_refusal : Volatile → Part → Option Refusal
-part_refusal v p = if not (is_leading v.role) then Some refusal.NoLeader else if nat_lt (len_of p) (2 ^ 62) then None else Some refusal.PositionsEnd
+part_refusal v p = if not (is_leading v.role) then Some refusal.NoLeader else if nat_lt (len_of p) positions_end then None else Some refusal.PositionsEnd
 
 -- a node without a part knows no leader
 abbrev pub refusal_of : Volatile → Option Part → Option Refusal

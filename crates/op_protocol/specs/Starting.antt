@@ -1,12 +1,13 @@
 -- What a node begins with in memory, at its first start and when it is opened again.
-use Rattle.std.specs.Prelude.{◌==◌, ◌+◌, ◌-◌, ◌^◌, min, ℕ, false, [], take, Option, Some, None, if◌then◌else◌}
+use Rattle.std.specs.Prelude.{◌==◌, ◌+◌, ◌-◌, min, ℕ, false, [], take, Option, Some, None, if◌then◌else◌}
 use Rattle.op_types.specs.Ballots.{no_ballot}
+use Rattle.op_types.specs.Limits.{greatest_number}
 use Rattle.op_types.specs.declared.ballot.Ballot.{Ballot}
 use Rattle.op_types.specs.declared.durable.Part.{Part}
 use Rattle.op_types.specs.declared.durable.Durable.{Durable}
 use Rattle.op_types.specs.declared.role.Role.TheVariants as role
-use Rattle.op_model.specs.Service.{Service, new_service, service_of}
-use Rattle.op_steps.specs.State.{State, Volatile}
+use Rattle.op_spec.specs.Service.{Service, new_service, service_of}
+use Rattle.op_protocol.specs.State.{State, Volatile}
 
 -- a node that stands for this ballot, and knows this leader's
 abbrev pub volatile_with : Ballot → Ballot → Volatile
@@ -18,19 +19,19 @@ first_volatile me = volatile_with (record { number = 1; pid = me }) no_ballot
 
 -- The own ballot when a server is opened again. One that it had promised itself isn't stood for again: it would equal every
 -- leader's, and nobody would lead. The last number stays.
-abbrev pub own_again : ℕ → Ballot → Ballot
-own_again me promised = if promised.pid == me then record { number = min (promised.number + 1) (2 ^ 62 - 1); pid = me } else record { number = 1; pid = me }
+abbrev pub restart_ballot : ℕ → Ballot → Ballot
+restart_ballot me promised = if promised.pid == me then record { number = min (promised.number + 1) greatest_number; pid = me } else record { number = 1; pid = me }
 
 -- what a server begins with when it is opened again: the leader's ballot is the promise
-abbrev pub volatile_again : ℕ → Option Part → Volatile
-volatile_again me None = first_volatile me
-volatile_again me (Some p) = volatile_with (own_again me p.promised) p.promised
+abbrev pub volatile_after_restart : ℕ → Option Part → Volatile
+volatile_after_restart me None = first_volatile me
+volatile_after_restart me (Some p) = volatile_with (restart_ballot me p.promised) p.promised
 
 -- the service of what is decided; nothing is trimmed yet, so that all of it is in the tail
-abbrev pub service_again : Option Part → Service
-service_again None = new_service
-service_again (Some p) = service_of (take (p.decided - p.trimmed) p.tail.items)
+abbrev pub service_after_restart : Option Part → Service
+service_after_restart None = new_service
+service_after_restart (Some p) = service_of (take (p.decided - p.trimmed) p.tail.items)
 
 -- a node that is opened again, and finds this
-abbrev pub state_again : ℕ → Durable → State
-state_again me d = record { durable = d; volatile = volatile_again me d.part; service = service_again d.part; waiting = [] }
+abbrev pub state_after_restart : ℕ → Durable → State
+state_after_restart me d = record { durable = d; volatile = volatile_after_restart me d.part; service = service_after_restart d.part; waiting = [] }

@@ -11,9 +11,9 @@ use Rattle.op_types.specs.declared.log.Command.{Command}
 use Rattle.op_types.specs.declared.log.Entry.{Entry}
 use Rattle.op_types.specs.declared.log.Entry.TheVariants as entry
 use Rattle.op_types.specs.Changes.{durable_after}
-use Rattle.op_model.specs.Service.{Service, new_service, service_after, service_of}
-use Rattle.op_steps.specs.Serving.{serving, waiting_with, reply_of}
-use Rattle.op_steps.specs.Rows.{decided_change, newly_decided, led_batch, appended_part}
+use Rattle.op_spec.specs.Service.{Service, new_service, service_after, service_of}
+use Rattle.op_protocol.specs.Serving.{serving, waiting_with, reply_of}
+use Rattle.op_protocol.specs.Rows.{decided_change, newly_decided, led_batch, appended_part}
 use Rattle.op_runs.specs.Sole.{sole_part, sole_durable}
 
 pub nothing_past : {A : Type 0} (es : List A) (n : ℕ) → drop (length es - 0) (take n es) ≡ []

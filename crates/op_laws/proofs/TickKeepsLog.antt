@@ -7,14 +7,14 @@ use Rattle.op_types.specs.declared.durable.Durable.{Durable}
 use Rattle.op_types.specs.declared.log.Entry.{Entry}
 use Rattle.op_types.specs.declared.verdict.Verdict.{Verdict}
 use Rattle.op_types.specs.declared.verdict.Verdict.TheVariants as verdict
-use Rattle.op_model.specs.Service.{service_of}
-use Rattle.op_steps.specs.State.{State, Volatile, Sent, Planned, state_after}
-use Rattle.op_steps.specs.Serving.{serving}
-use Rattle.op_steps.specs.Election.{round_end}
-use Rattle.op_steps.specs.Heartbeats.{next_round}
-use Rattle.op_steps.specs.Rows.{only_volatile, candidate_of, leading, lead_plan, lead_plan_after, election_plan, next_round_state, requests, tick_plan}
+use Rattle.op_spec.specs.Service.{service_of}
+use Rattle.op_protocol.specs.State.{State, Volatile, Sent, Planned, state_after}
+use Rattle.op_protocol.specs.Serving.{serving}
+use Rattle.op_protocol.specs.Election.{round_end}
+use Rattle.op_protocol.specs.Heartbeats.{next_round}
+use Rattle.op_protocol.specs.Rows.{only_volatile, candidate_of, leading, lead_plan, lead_plan_after, election_plan, next_round_state, requests, tick_plan}
 use Rattle.op_runs.specs.Sole.{sole_part, sole_state}
-use Rattle.op_laws.proofs.Deciding.{newly_decided-none, applied-led}
+use Rattle.op_laws.proofs.DecidesWholeLog.{newly_decided-none, applied-led}
 
 -- the plan leaves a sole member with this log, and gives nothing out but these sends
 pub record LeavesSole (me : ℕ) (log : List Entry) (s : State) (sends : List Sent) (p : Planned) : Type 0 where

@@ -15,19 +15,19 @@ use Rattle.op_types.specs.declared.log.Entry.TheVariants as entry
 use Rattle.op_types.specs.declared.events.What.{What}
 use Rattle.op_types.specs.declared.events.What.TheVariants as what
 use Rattle.op_types.specs.declared.events.Event.{Event}
-use Rattle.op_sched.specs.declared.summary.Line.{Line}
-use Rattle.op_sched.specs.declared.summary.Line.TheVariants as line
-use Rattle.op_model.specs.Service.{service_of, answer_of}
-use Rattle.op_steps.specs.State.{State, Volatile, Sent, Planned, state_after}
-use Rattle.op_steps.specs.Serving.{Served}
-use Rattle.op_steps.specs.Starting.{volatile_again, state_again}
-use Rattle.op_steps.specs.Rows.{append_plan, part_refusal, command_plan_after}
-use Rattle.op_runs.specs.World.{Standing, Up, Down, Node, World, Done, Happening, done_event, node_of, world_with_node, world_by_fate, world_opening, outcome_lines, world_if_up, world_by_standing, world_at_node, world_after}
+use Rattle.op_types.specs.declared.summary.Line.{Line}
+use Rattle.op_types.specs.declared.summary.Line.TheVariants as line
+use Rattle.op_spec.specs.Service.{service_of, answer_of}
+use Rattle.op_protocol.specs.State.{State, Volatile, Sent, Planned, state_after}
+use Rattle.op_protocol.specs.Serving.{Served}
+use Rattle.op_protocol.specs.Starting.{volatile_after_restart, state_after_restart}
+use Rattle.op_protocol.specs.Rows.{append_plan, part_refusal, command_plan_after}
+use Rattle.op_runs.specs.World.{NodeStatus, Up, Down, Node, World, Done, Happening, done_event, node_of, world_with_node, world_by_fate, world_opening, outcome_lines, world_if_up, world_by_status, world_at_node, world_after}
 use Rattle.op_runs.specs.Sole.{sole_part, sole_durable, sole_state, sole_node, sole_world}
-use Rattle.op_laws.proofs.Proposing.{served-appended, adopted-appended}
+use Rattle.op_laws.proofs.AppendIsDecided.{served-appended, adopted-appended}
 
-pub happened-at : (me : ℕ) (p : Part) (v : Volatile) (st : Standing) (old : List Sent) (lines : List Line) (h : Happening) → eqb me (node_of h.event.what) ≡ true
-    → world_after (sole_world me p v st old lines) h ≡ world_by_standing st h (sole_world me p v st old lines) (sole_node me p v st)
+pub happened-at : (me : ℕ) (p : Part) (v : Volatile) (st : NodeStatus) (old : List Sent) (lines : List Line) (h : Happening) → eqb me (node_of h.event.what) ≡ true
+    → world_after (sole_world me p v st old lines) h ≡ world_by_status st h (sole_world me p v st old lines) (sole_node me p v st)
 happened-at me p v st old lines h here = ap (λ (b : Bool). world_at_node (cond b (Some (sole_node me p v st)) None) h (sole_world me p v st old lines)) here
 
 pub happened-here : (me : ℕ) (p : Part) (v : Volatile) (old : List Sent) (lines : List Line) (e : Event) → eqb me (node_of e.what) ≡ true
@@ -44,17 +44,17 @@ with_sole n k messages lines same = ap (λ (b : Bool). let w : World = record { 
 pub crashed-sole : (me : ℕ) (p : Part) (v : Volatile) (messages : List Sent) (lines : List Line) → world_with_node (sole_world me p v Up messages lines) (sole_node me p v (Down (sole_durable p))) ≡ sole_world me p v (Down (sole_durable p)) messages lines
 crashed-sole me p v messages lines = with_sole (sole_node me p v Up) (sole_node me p v (Down (sole_durable p))) messages lines refl
 
-opened-sole : (me : ℕ) (pr ac : Ballot) (log : List Entry) → state_again me (sole_durable (sole_part me pr ac log)) ≡ sole_state (sole_part me pr ac log) (volatile_again me (Some (sole_part me pr ac log)))
+opened-sole : (me : ℕ) (pr ac : Ballot) (log : List Entry) → state_after_restart me (sole_durable (sole_part me pr ac log)) ≡ sole_state (sole_part me pr ac log) (volatile_after_restart me (Some (sole_part me pr ac log)))
 opened-sole me pr ac log =
     let p = sole_part me pr ac log in
-    ap (λ (es : List Entry). let s : State = record { durable = sole_durable p; volatile = volatile_again me (Some p); service = service_of es; waiting = [] } in s) (take_all (length log - 0) log (omega arith))
+    ap (λ (es : List Entry). let s : State = record { durable = sole_durable p; volatile = volatile_after_restart me (Some p); service = service_of es; waiting = [] } in s) (take_all (length log - 0) log (omega arith))
 
 -- opened again, it has what it finds
 pub started-sole : (me : ℕ) (p : Part) (pr ac : Ballot) (log : List Entry) (v : Volatile) (after : Durable) (messages : List Sent) (lines : List Line)
-    → world_opening Done (sole_world me p v (Down after) messages lines) (sole_node me p v (Down after)) (sole_durable (sole_part me pr ac log)) ≡ sole_world me (sole_part me pr ac log) (volatile_again me (Some (sole_part me pr ac log))) Up messages lines
+    → world_opening Done (sole_world me p v (Down after) messages lines) (sole_node me p v (Down after)) (sole_durable (sole_part me pr ac log)) ≡ sole_world me (sole_part me pr ac log) (volatile_after_restart me (Some (sole_part me pr ac log))) Up messages lines
 started-sole me p pr ac log v after messages lines =
     let new : State → Node = λ s. record { pid = me; state = s; standing = Up } in
-    with_sole (sole_node me p v (Down after)) (new (state_again me (sole_durable (sole_part me pr ac log)))) messages lines refl
+    with_sole (sole_node me p v (Down after)) (new (state_after_restart me (sole_durable (sole_part me pr ac log)))) messages lines refl
     ∙ ap (λ (s : State). let w : World = record { nodes = new s ∷ []; messages = messages; lines = lines } in w) (opened-sole me pr ac log)
 
 -- ---- a plan, done

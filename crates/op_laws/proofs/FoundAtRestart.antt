@@ -5,10 +5,10 @@ use Rattle.op_types.specs.declared.durable.Durable.{Durable}
 use Rattle.op_types.specs.declared.log.Command.{Command}
 use Rattle.op_types.specs.declared.log.Entry.{Entry}
 use Rattle.op_types.specs.declared.log.Entry.TheVariants as entry
-use Rattle.op_model.specs.Machine.{Machine, IsAmong}
-use Rattle.op_runs.specs.World.{Standing, Up, Down}
+use Rattle.op_spec.specs.Machine.{Machine, IsAmong}
+use Rattle.op_runs.specs.World.{NodeStatus, Up, Down}
 use Rattle.op_runs.specs.Sole.{sole_part, sole_durable}
-use Rattle.op_laws.proofs.Showing.{Shows, Reaches, Reaches-same, Reaches-chosen}
+use Rattle.op_laws.proofs.ShowsItsLog.{Shows, Reaches, Reaches-same, Reaches-chosen}
 
 -- the log itself, or with one command more that was proposed
 abbrev pub IsLogOrNext : List Entry → List Entry → List Entry → Type 0
@@ -23,7 +23,7 @@ pub record Finds (me : ℕ) (proposed log : List Entry) (d : Durable) : Type 0 w
   pub is_next : IsLogOrNext proposed log found
 
 -- what the next opening of a node that is down may find
-abbrev pub FindsIfDown : ℕ → List Entry → List Entry → Standing → Type 0
+abbrev pub FindsIfDown : ℕ → List Entry → List Entry → NodeStatus → Type 0
 FindsIfDown me proposed log Up = Unit {0}
 FindsIfDown me proposed log (Down after) = Finds me proposed log after
 

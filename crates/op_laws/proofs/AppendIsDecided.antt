@@ -5,12 +5,12 @@ use Rattle.op_types.specs.declared.durable.Durable.{Durable}
 use Rattle.op_types.specs.declared.log.Command.{Command}
 use Rattle.op_types.specs.declared.log.Entry.{Entry}
 use Rattle.op_types.specs.declared.log.Entry.TheVariants as entry
-use Rattle.op_model.specs.Service.{Service, service_of}
-use Rattle.op_steps.specs.State.{State, Volatile, state_after}
-use Rattle.op_steps.specs.Serving.{Served, serving, waiting_with, reply_of}
-use Rattle.op_steps.specs.Rows.{append_plan, append_plan_after, appended_part, newly_decided}
+use Rattle.op_spec.specs.Service.{Service, service_of}
+use Rattle.op_protocol.specs.State.{State, Volatile, state_after}
+use Rattle.op_protocol.specs.Serving.{Served, serving, waiting_with, reply_of}
+use Rattle.op_protocol.specs.Rows.{append_plan, append_plan_after, appended_part, newly_decided}
 use Rattle.op_runs.specs.Sole.{sole_part, sole_state}
-use Rattle.op_laws.proofs.Deciding.{newly_decided-one, served-one, service_of-push, applied-appended}
+use Rattle.op_laws.proofs.DecidesWholeLog.{newly_decided-one, served-one, service_of-push, applied-appended}
 
 -- what is served when the command is decided
 pub served-appended : (me : ℕ) (pr ac : Ballot) (log : List Entry) (c : Command)
