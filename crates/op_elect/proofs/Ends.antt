@@ -1,13 +1,14 @@
 -- A round ends in one way.
-use Rattle.std.proofs.Common.{◌≡◌, ◌+◌, ◌^◌, Bool, true, false, cond, ltb, List, refl, sym, ap, ◌∙◌}
+use Rattle.std.proofs.Common.{◌≡◌, Bool, true, false, cond, ltb, List, refl, sym, ap, ◌∙◌}
 use Rattle.std.proofs.lemmas.Bool.{cond_both, false≢true, ltb-true, ltb-false, lt-ltb, le-ltb}
+use Rattle.op_types.specs.Limits.{greatest_number}
 use Rattle.op_types.specs.Ballots.{is_below, greater}
 use Rattle.op_types.proofs.Order.{is_total}
 use Rattle.op_types.specs.declared.ballot.Ballot.{Ballot}
 use Rattle.op_types.specs.declared.messages.Heard.{Heard}
 use Rattle.op_types.specs.declared.verdict.Verdict.{Verdict}
 use Rattle.op_types.specs.declared.verdict.Verdict.TheVariants as verdict
-use Rattle.op_steps.specs.Election.{Candidate, Elected, unheard, raised, exhausted, elected, unchanged, Ended, winner, least, raised_ballot, hears_majority, too_low, decided_by, round_end}
+use Rattle.op_protocol.specs.Election.{Candidate, Elected, unheard, raised, exhausted, elected, unchanged, Ended, winner, least, raised_ballot, hears_majority, too_low, decided_by, round_end}
 
 not_true : (b : Bool) → (b ≡ true → ⊥) → b ≡ false
 not_true true h = absurd (h refl)
@@ -44,9 +45,9 @@ Meets c heard e = Elected c heard e.verdict e.after
 
 low_end : (c : Candidate) (heard : List Heard) → hears_majority c heard ≡ true → is_below (winner c heard) (least c) ≡ true → Meets c heard (too_low c)
 low_end c heard majority low =
-    cond_both (ltb ((least c).number + 1) (2 ^ 62)) (record { verdict = verdict.Raised (raised_ballot c); after = record c { own = raised_ballot c; flag = true } }) (record { verdict = verdict.Nobody; after = record c { flag = true } }) (Meets c heard)
-    (λ fits. raised majority low (ltb-true ((least c).number + 1) (2 ^ 62) fits))
-    (λ last. exhausted majority low (ltb-false ((least c).number + 1) (2 ^ 62) last))
+    cond_both (ltb (least c).number greatest_number) (record { verdict = verdict.Raised (raised_ballot c); after = record c { own = raised_ballot c; flag = true } }) (record { verdict = verdict.Nobody; after = record c { flag = true } }) (Meets c heard)
+    (λ fits. raised majority low (ltb-true (least c).number greatest_number fits))
+    (λ last. exhausted majority low (ltb-false (least c).number greatest_number last))
 
 pub some_end : (c : Candidate) (heard : List Heard) → Elected c heard (round_end c heard).verdict (round_end c heard).after
 some_end c heard =
@@ -63,9 +64,9 @@ some_end c heard =
 function_end : (c d : Candidate) (heard : List Heard) (v : Verdict) → Elected c heard v d → round_end c heard ≡ record { verdict = v; after = d }
 function_end c _ heard _ (unheard few) = ap (λ (b : Bool). by_majority c heard b) few
 function_end c _ heard _ (raised majority low fits) =
-    ap (by_majority c heard) majority ∙ ap (by_lowness c heard) low ∙ ap (by_room c) (lt-ltb ((least c).number + 1) (2 ^ 62) fits)
+    ap (by_majority c heard) majority ∙ ap (by_lowness c heard) low ∙ ap (by_room c) (lt-ltb (least c).number greatest_number fits)
 function_end c _ heard _ (exhausted majority low last) =
-    ap (by_majority c heard) majority ∙ ap (by_lowness c heard) low ∙ ap (by_room c) (le-ltb ((least c).number + 1) (2 ^ 62) last)
+    ap (by_majority c heard) majority ∙ ap (by_lowness c heard) low ∙ ap (by_room c) (le-ltb (least c).number greatest_number last)
 function_end c _ heard _ (elected majority high above) = ap (by_majority c heard) majority ∙ ap (by_lowness c heard) high ∙ ap (by_leader c heard) above
 function_end c _ heard _ (unchanged majority high same) =
     ap (by_majority c heard) majority ∙ ap (by_lowness c heard) high ∙ ap (by_leader c heard) (ap (is_below c.leader) same ∙ is_total.irreflexive c.leader)

@@ -1,28 +1,29 @@
 -- The end of a round, from what the code finds.
-use Rattle.std.proofs.Common.{◌≡◌, ℕ, ◌+◌, ◌≤◌, ◌<◌, ◌^◌, Bool, true, false, cond, ltb, Option, Some, None, List, sym, ap, ◌∙◌, subst}
+use Rattle.std.proofs.Common.{◌≡◌, ℕ, ◌+◌, ◌≤◌, ◌<◌, Bool, true, false, cond, ltb, Option, Some, None, List, sym, ap, ◌∙◌, subst}
 use Rattle.std.proofs.lemmas.Bool.{cond_both, ltb-true, ltb-false}
+use Rattle.op_types.specs.Limits.{greatest_number}
 use Rattle.op_types.specs.Ballots.{is_below}
 use Rattle.op_types.specs.declared.ballot.Ballot.{Ballot}
 use Rattle.op_types.specs.declared.messages.Heard.{Heard}
 use Rattle.op_types.specs.declared.verdict.Verdict.{Verdict}
 use Rattle.op_types.specs.declared.verdict.Verdict.TheVariants as verdict
-use Rattle.op_steps.specs.Election.{Candidate, Elected, unheard, raised, exhausted, elected, unchanged, winner, least, hears_majority}
+use Rattle.op_protocol.specs.Election.{Candidate, Elected, unheard, raised, exhausted, elected, unchanged, winner, least, hears_majority}
 use Rattle.op_elect.proofs.Ends.{is_leader}
 
 -- ---- the ballot above another one
 
 abbrev above : ℕ → Ballot → Option Ballot
-above me l = cond (ltb (l.number + 1) (2 ^ 62)) (Some (record { number = l.number + 1; pid = me })) None
+above me l = cond (ltb l.number greatest_number) (Some (record { number = l.number + 1; pid = me })) None
 
-some_above : (me : ℕ) (l r : Ballot) → above me l ≡ Some r → (l.number + 1 < 2 ^ 62) × (record { number = l.number + 1; pid = me } ≡ r)
+some_above : (me : ℕ) (l r : Ballot) → above me l ≡ Some r → (l.number < greatest_number) × (record { number = l.number + 1; pid = me } ≡ r)
 some_above me l r =
-    cond_both (ltb (l.number + 1) (2 ^ 62)) (Some (record { number = l.number + 1; pid = me })) None (λ (o : Option Ballot). o ≡ Some r → (l.number + 1 < 2 ^ 62) × (record { number = l.number + 1; pid = me } ≡ r))
-    (λ fits is. (ltb-true (l.number + 1) (2 ^ 62) fits, cc)) (λ last is. absurd cc)
+    cond_both (ltb l.number greatest_number) (Some (record { number = l.number + 1; pid = me })) None (λ (o : Option Ballot). o ≡ Some r → (l.number < greatest_number) × (record { number = l.number + 1; pid = me } ≡ r))
+    (λ fits is. (ltb-true l.number greatest_number fits, cc)) (λ last is. absurd cc)
 
-none_above : (me : ℕ) (l : Ballot) → above me l ≡ None → 2 ^ 62 ≤ l.number + 1
+none_above : (me : ℕ) (l : Ballot) → above me l ≡ None → greatest_number ≤ l.number
 none_above me l =
-    cond_both (ltb (l.number + 1) (2 ^ 62)) (Some (record { number = l.number + 1; pid = me })) None (λ (o : Option Ballot). o ≡ None → 2 ^ 62 ≤ l.number + 1)
-    (λ fits is. absurd cc) (λ last is. ltb-false (l.number + 1) (2 ^ 62) last)
+    cond_both (ltb l.number greatest_number) (Some (record { number = l.number + 1; pid = me })) None (λ (o : Option Ballot). o ≡ None → greatest_number ≤ l.number)
+    (λ fits is. absurd cc) (λ last is. ltb-false l.number greatest_number last)
 
 -- ---- the cases
 

@@ -3,7 +3,7 @@ use Rattle.std.proofs.Common.{List, ◌++◌}
 use Rattle.op_types.specs.declared.ballot.Ballot.{Ballot}
 use Rattle.op_types.specs.declared.messages.Heard.{Heard}
 use Rattle.op_types.specs.declared.verdict.Verdict.{Verdict}
-use Rattle.op_steps.specs.Election.{Candidate, Elected, unheard, raised, exhausted, elected, unchanged}
+use Rattle.op_protocol.specs.Election.{Candidate, Elected, unheard, raised, exhausted, elected, unchanged}
 use Rattle.op_elect.specs.Elections.{Call, Elections, none, round_ended, floor_raised, ballots_of, RiseAbove}
 
 -- what a round elects is above the leader's ballot, and becomes it

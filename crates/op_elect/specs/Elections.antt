@@ -5,7 +5,7 @@ use Rattle.op_types.specs.declared.ballot.Ballot.{Ballot}
 use Rattle.op_types.specs.declared.messages.Heard.{Heard}
 use Rattle.op_types.specs.declared.verdict.Verdict.{Verdict}
 use Rattle.op_types.specs.declared.verdict.Verdict.TheVariants as verdict
-use Rattle.op_steps.specs.Election.{Candidate, Elected, with_floor}
+use Rattle.op_protocol.specs.Election.{Candidate, Elected, with_floor}
 
 -- what is done to a server's elections
 pub data Call : Type 0 where

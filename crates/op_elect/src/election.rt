@@ -1,12 +1,10 @@
-ghost use Rattle.std.specs.Prelude.{◌≡◌, ◌+◌, ◌^◌, nat_lt, Some, None, if◌then◌else◌};
-ghost use Rattle.op_steps.specs.Election.{candidate, greatest, with_floor, Elected};
+ghost use Rattle.std.specs.Prelude.{◌≡◌, ◌+◌, nat_lt, Some, None, if◌then◌else◌};
+ghost use Rattle.op_types.specs.Limits.{greatest_number};
+ghost use Rattle.op_protocol.specs.Election.{candidate, greatest, with_floor, Elected};
 
 use op_quorum::is_majority;
-use op_types::{Ballot, Heard, Pid, Verdict};
+use op_types::{Ballot, GREATEST_NUMBER, Heard, Pid, Verdict};
 use std::marker::Model;
-
-/// The last number of a ballot.
-pub const LAST_NUMBER: u64 = (1 << 62) - 1;
 
 /// A server that takes part in elections: the ballot that it stands for, the leader's as far as it knows, where elections
 /// begin, and whether it heard a majority in its last round.
@@ -21,7 +19,7 @@ pub struct Election {
 }
 
 impl Model for Election {
-    ghost use Rattle.op_steps.specs.Election.{Candidate};
+    ghost use Rattle.op_protocol.specs.Election.{Candidate};
 
     ghost Value = { Candidate };
 
@@ -45,7 +43,7 @@ impl Election {
         }
     }
 
-    /// Ends a round with the replies that came in it, one of each server that replied.
+    /// Ends a round with the replies that came in it, one of each other member that replied: itself and these are counted.
     pub fn end(&mut self, replies: &[Heard]) -> Verdict
         ensures { Elected self.old replies.now result self.new }
     {
@@ -120,9 +118,10 @@ fn greatest(own: Ballot, replies: &[Heard]) -> Ballot
 
 /// The ballot of this server that is next above another one, unless numbers end there.
 fn ballot_above(least: Ballot, me: Pid) -> Option<Ballot>
-    ensures { result ≡ (if nat_lt (least.number + 1) (2 ^ 62) then Some (record { number = least.number + 1; pid = me }) else None) }
+    ensures { result ≡ (if nat_lt least.number greatest_number
+        then Some (record { number = least.number + 1; pid = me }) else None) }
 {
-    if least.number < LAST_NUMBER {
+    if least.number < GREATEST_NUMBER {
         Some(Ballot {
             number: least.number + 1,
             pid: me,

@@ -1,52 +1,56 @@
-ghost use Rattle.std.specs.Prelude.{◌≡◌, IfOk, vec_capacity};
+ghost use Rattle.std.specs.Prelude.{◌≡◌, ◌+◌, true, ◌∷◌, length, IfOk, vec_capacity};
 ghost use Rattle.op_types.specs.declared.messages.Body.TheVariants.{HeartbeatReply};
-ghost use Rattle.op_quorum.specs.Quorums.{AreVoters};
-ghost use Rattle.op_steps.specs.Heartbeats.{next_round, without};
-ghost use Rattle.op_heartbeat.specs.Hearing.{IsMember, senders, hearing_of, round_begun, reply_taken};
+ghost use Rattle.op_quorum.specs.Quorums.{is_majority, AreVoters, IsQuorum};
+ghost use Rattle.op_protocol.specs.Heartbeats.{next_round, is_other, without};
+ghost use Rattle.op_heartbeat.specs.HeardReplies.{IsMember, senders, heard_replies_of, round_begun, reply_taken};
 
-use op_types::{Ballot, Body, Heard, Members, NoMemory, Pid};
+use op_types::{Ballot, Body, GREATEST_NUMBER, Heard, Members, NoMemory, Pid};
 use std::alloc::Global;
 use std::marker::Model;
 
-/// The last number of a round.
-const LAST_ROUND: u64 = (1 << 62) - 1;
-
-/// The round behind this one: after 2^62 - 1 comes 1.
+/// The round after this one: after the greatest number comes 1.
 pub fn round_after(round: u64) -> u64
     ensures { result ≡ next_round round }
 {
-    if round < LAST_ROUND { round + 1 } else { 1 }
+    if round < GREATEST_NUMBER {
+        round + 1
+    } else {
+        1
+    }
 }
 
-/// The heartbeat rounds of a server: the current one, and who replied in it.
+/// The heartbeat rounds of a member: the current one, and who replied in it. It and those that replied are voters, each once.
 #[derive(Drop)]
 pub struct Rounds {
+    me: Pid,
     members: Vec<Pid>,
     round: u64,
-    /// There is room for a reply of each member.
+    /// The last reply of each other member; there is room for all of them.
     heard: Vec<Heard>,
 }
 
 impl Model for Rounds {
-    ghost use Rattle.std.specs.Prelude.{◌≤◌, length, vec_capacity};
+    ghost use Rattle.std.specs.Prelude.{◌≤◌, ◌∷◌, length, vec_capacity};
     ghost use Rattle.op_quorum.specs.Quorums.{AreVoters};
-    ghost use Rattle.op_heartbeat.specs.Hearing.{Hearing, senders};
+    ghost use Rattle.op_heartbeat.specs.HeardReplies.{HeardReplies, senders};
 
-    ghost Value = { Hearing };
+    ghost Value = { HeardReplies };
 
-    ghost view = { λ r. record { members = r.members.items; round = r.round; heard = r.heard.items } };
+    ghost view = { λ r. record { me = r.me; members = r.members.items; round = r.round; heard = r.heard.items } };
 
-    ghost invariant = { λ r. AreVoters r.members.items (senders r.heard.items) × (length r.members.items ≤ vec_capacity r.heard) };
+    ghost invariant = { λ r. AreVoters r.members.items (r.me ∷ senders r.heard.items) × (length r.members.items ≤ vec_capacity r.heard) };
 }
 
 impl Rounds {
-    /// Before the first round, at a server of these members. Nothing after it takes memory.
-    pub fn new(alloc: Global, members: &Members) -> Result<Rounds, NoMemory>
-        ensures { IfOk result (λ r. r ≡ hearing_of members.now) }
+    /// Before the first round, at one of these members. Nothing after it takes memory.
+    pub fn new(alloc: Global, me: Pid, members: &Members) -> Result<Rounds, NoMemory>
+        requires { IsMember members.now me }
+        ensures { IfOk result (λ r. r ≡ heard_replies_of me members.now) }
     {
         let members = Vec::from_slice(alloc, members.as_slice())?;
         let heard = Vec::with_capacity(alloc, members.len())?;
         Ok(Rounds {
+            me,
             members,
             round: 0,
             heard,
@@ -71,24 +75,33 @@ impl Rounds {
         Body::HeartbeatReply(round, own, flag)
     }
 
-    /// Keeps a member's reply, if it is for the current round. It takes the place of an earlier one of this member.
+    /// Keeps another member's reply, if it is for the current round. It takes the place of an earlier one of this member.
     pub fn take_reply(&mut self, from: Pid, round: u64, ballot: Ballot, flag: bool)
-        requires { IsMember self.old.members from }
-        ensures { self.new ≡ reply_taken self.old round (record { from = from; ballot = ballot; flag = flag }) }
+        ensures { self.new ≡ reply_taken self.old round
+            (record { from = from; ballot = ballot; flag = flag }) }
     {
-        if round != self.round {
+        if round != self.round || !self.is_other(from) {
             return;
         }
-        let_go(&mut self.heard, from);
+        remove_reply(&mut self.heard, from);
         self.heard.push_reserved(Heard { from, ballot, flag });
     }
 
-    /// The replies of the current round, one of each member that replied.
+    /// The replies of the current round, one of each other member that replied.
     pub fn end_round(&self) -> &[Heard]
         ensures heard { result.now ≡ self.now.heard }
-        ensures once { AreVoters self.now.members (senders result.now) }
+        ensures voters { AreVoters self.now.members (self.now.me ∷ senders result.now) }
+        ensures quorum { is_majority (1 + length result.now) (length self.now.members) ≡ true
+            → IsQuorum self.now.members (self.now.me ∷ senders result.now) }
     {
         self.heard.as_slice()
+    }
+
+    /// Whether a server is another member.
+    fn is_other(&self, pid: Pid) -> bool
+        ensures { result ≡ is_other self.now.me self.now.members pid }
+    {
+        pid != self.me && self.members.contains(&pid)
     }
 
     /// The current round's number, 0 before the first one.
@@ -99,8 +112,8 @@ impl Rounds {
     }
 }
 
-/// Lets go of a member's reply, if there is one.
-fn let_go(heard: &mut Vec<Heard>, from: Pid)
+/// Removes a member's reply, if there is one.
+fn remove_reply(heard: &mut Vec<Heard>, from: Pid)
     ensures items { heard.new.items ≡ without heard.old.items from }
     ensures capacity { vec_capacity heard.new ≡ vec_capacity heard.old }
 {

@@ -1,5 +1,5 @@
 use Rattle.std.proofs.Common.{◌≡◌, drop}
-use Rattle.op_steps.specs.Election.{greatest}
+use Rattle.op_protocol.specs.Election.{greatest}
 use Rattle.op_elect.proofs.election.greatest.Given as goal
 
 abbrev pub invariant-loop-reply : goal.invariant-loop-reply

@@ -2,10 +2,11 @@
 use Rattle.std.specs.Prelude.{◌≡◌, ℕ, nat_eq, true, List, [], map}
 use Rattle.std.specs.Set.{is_member}
 use Rattle.op_types.specs.declared.messages.Heard.{Heard}
-use Rattle.op_steps.specs.Heartbeats.{next_round, heard_in}
+use Rattle.op_protocol.specs.Heartbeats.{next_round, heard_in}
 
--- the members, the current round and its replies
-pub record Hearing : Type 0 where
+-- a server, the members, the current round and its replies
+pub record HeardReplies : Type 0 where
+  pub me : ℕ
   pub members : List ℕ
   pub round : ℕ  -- 0 before the first one
   pub heard : List Heard  -- one of each sender
@@ -19,13 +20,13 @@ abbrev pub senders : List Heard → List ℕ
 senders heard = map (λ h. h.from) heard
 
 -- before the first round
-abbrev pub hearing_of : List ℕ → Hearing
-hearing_of members = record { members = members; round = 0; heard = [] }
+abbrev pub heard_replies_of : ℕ → List ℕ → HeardReplies
+heard_replies_of me members = record { me = me; members = members; round = 0; heard = [] }
 
 -- the next round, in which nobody has replied yet
-abbrev pub round_begun : Hearing → Hearing
+abbrev pub round_begun : HeardReplies → HeardReplies
 round_begun h = record h { round = next_round h.round; heard = [] }
 
 -- after a reply for some round came
-abbrev pub reply_taken : Hearing → ℕ → Heard → Hearing
-reply_taken h round reply = record h { heard = heard_in h.round h.heard round reply }
+abbrev pub reply_taken : HeardReplies → ℕ → Heard → HeardReplies
+reply_taken h round reply = record h { heard = heard_in h.me h.members h.round h.heard round reply }

@@ -1,7 +1,7 @@
 use Rattle.std.proofs.Common.{rules, tests, eqb, not}
 use Rattle.std.proofs.lemmas.Fn.{filter_same}
 use Rattle.op_types.specs.declared.messages.Heard.{Heard}
-use Rattle.op_heartbeat.proofs.rounds.let_go.Goals as goal
+use Rattle.op_heartbeat.proofs.rounds.remove_reply.Goals as goal
 
 pub returns-clause-items : goal.returns-clause-items
 returns-clause-items c = filter_same _ (λ (h : Heard). not (eqb h.from c.args.from)) _ (λ x b q r. search (rules, tests)) _ _ c.retain.ensures.filtered
