@@ -1,4 +1,4 @@
-//! Ballots, members and entries as bytes: each is written at the end, and read from a place on.
+//! Ballots, members and entries as bytes: each is appended to bytes, and read from a byte offset on.
 #![tactic(auto)]
 
 mod ballot;
@@ -10,5 +10,5 @@ mod members;
 pub use ballot::{ballot_at, put_ballot};
 pub use command::blob_of;
 pub use entry::{entries_at, entries_within_at, entry_at, put, put_entries, take};
-pub use laws::one_spelling;
+pub use laws::entry_is_unambiguous;
 pub use members::{members_at, put_members};

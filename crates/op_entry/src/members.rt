@@ -1,18 +1,18 @@
 ghost use Rattle.std.specs.Prelude.{◌≡◌, ◌++◌, OnOk, OnErr};
-ghost use Rattle.op_fields.specs.Fronts.{KeepsFront};
+ghost use Rattle.op_fields.specs.Prefixes.{KeepsPrefix};
 ghost use Rattle.op_fields.specs.Form.{items_read};
 ghost use Rattle.op_fields.specs.Taken.{Gives, GivesVec};
 ghost use Rattle.op_entry.specs.Forms.{member, members};
 
 use op_fields::{NoMemory, TakeFail, put_u8, put_u32, u8_in, u32_in};
-use op_types::{Members, Pid, Seq};
+use op_types::{GREATEST_PID, MOST_MEMBERS, Members, Pid, Seq};
 use std::alloc::Global;
 
-/// Writes members at the end. Without memory a part of it may be written.
+/// Appends members after their count. Without memory a part of them may be appended.
 pub fn put_members(out: &mut Vec<u8>, ids: &Members) -> Result<(), NoMemory>
     requires { members.fits ids.now }
     ensures ok { OnOk result (out.new.items ≡ out.old.items ++ members.text ids.now) }
-    ensures err { OnErr result (KeepsFront out.old.items out.new.items) }
+    ensures err { OnErr result (KeepsPrefix out.old.items out.new.items) }
 {
     put_u8(out, ids.len() as u8)?;
     'ids: for id in ids.as_slice() {
@@ -21,11 +21,11 @@ pub fn put_members(out: &mut Vec<u8>, ids: &Members) -> Result<(), NoMemory>
     Ok(())
 }
 
-/// The members at a place, and the place behind them.
+/// The members at a byte offset, and the offset after them.
 pub fn members_at(alloc: Global, bytes: &[u8], at: usize) -> Result<(Members, usize), TakeFail>
     ensures { Gives result (members.read bytes.now at) }
 {
-    let (count, at) = u8_in(bytes, at, 1, 9)?;
+    let (count, at) = u8_in(bytes, at, 1, MOST_MEMBERS as u8)?;
     let (ids, at) = ids_at(alloc, count, bytes, at)?;
     Ok((Seq::from_vec(ids), at))
 }
@@ -53,7 +53,7 @@ fn ids_at(
 fn member_at(bytes: &[u8], at: usize, low: Pid) -> Result<(Pid, usize), TakeFail>
     ensures { Gives result ((member low).read bytes.now at) }
 {
-    let (id, next) = u32_in(bytes, at, 1, 999)?;
+    let (id, next) = u32_in(bytes, at, 1, GREATEST_PID)?;
     if low < id {
         Ok((id, next))
     } else {

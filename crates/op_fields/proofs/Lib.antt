@@ -1,3 +1,6 @@
 pub mod Formats
 pub mod Items
-pub mod Fronts
+pub mod Prefixes
+pub mod Composites
+pub mod Choices
+pub mod Takes

@@ -1,7 +1,7 @@
--- Bytes behind a length of one, two or eight bytes.
+-- Bytes after a length of one, two or eight bytes.
 use Rattle.std.specs.Prelude.{◌≡◌, ◌<◌, ◌^◌, ◌++◌, ◌⊎◌, ℕ, List, length, ◌==◌, if◌then◌else◌}
 use Rattle.std.specs.Int.{Width, w8, w16, w64}
-use Rattle.op_fields.specs.Form.{spelled}
+use Rattle.op_fields.specs.Form.{encoded}
 
 -- the width of a number of so many bytes
 abbrev pub width_of : ℕ → Width
@@ -17,4 +17,4 @@ FitsWidth width n = ((width ≡ 1) × (n < 2 ^ 8)) ⊎ ((width ≡ 2) × (n < 2 
 
 -- the length and the bytes
 abbrev pub counted_text : ℕ → List ℕ → List ℕ
-counted_text width bytes = spelled (width_of width) (length bytes) ++ bytes
+counted_text width bytes = encoded (width_of width) (length bytes) ++ bytes

@@ -1,9 +1,9 @@
--- Formats of bytes: what spells a value, which values have a spelling, and how one is read from a place on.
+-- Formats of bytes: what encodes a value, which values have an encoding, and how one is read from a place on.
 use Rattle.std.specs.Prelude.{◌≤◌, ◌+◌, ◌++◌, ℕ, zero, suc, Bool, IsTrue, List, [], ◌∷◌, length, take, drop, Option, Some, None, Result, Ok, Err, nat_lt, ◌==◌, if◌then◌else◌}
 use Rattle.std.specs.List.{flat_map}
 use Rattle.std.specs.Int.{Width, w8, byte_len, from_be_bytes, to_be_bytes}
 
--- a value and the place behind it, or the place of the first field that is short or out of range
+-- a value and the place after it, or the place of the first field that is short or out of range
 abbrev pub Read : Type 0 → Type 0
 Read A = Result (A × ℕ) ℕ
 
@@ -14,10 +14,10 @@ abbrev pub ◌>>=◌ : {A B : Type 0} → Result A ℕ → (A → Result B ℕ) 
 (Err at) >>= f = Err at
 
 -- the bytes of a number, the highest first; kept closed, so that goals name it and don't compute it
-unfoldable pub spelled : Width → ℕ → List ℕ
-spelled w n = to_be_bytes w n
+unfoldable pub encoded : Width → ℕ → List ℕ
+encoded w n = to_be_bytes w n
 
--- how a value is spelled, which values have a spelling, and how one is read
+-- how a value is encoded, which values have an encoding, and how one is read
 pub record Form (A : Type 0) : Type 1 where
   pub text : A → List ℕ
   pub fits : A → Type 0
@@ -34,7 +34,7 @@ number_read w low high bytes at =
 -- such a number, with its bytes
 abbrev pub number : Width → ℕ → ℕ → Form ℕ
 number w low high = record {
-  text = λ n. spelled w n;
+  text = λ n. encoded w n;
   fits = λ n. (low ≤ n) × (n ≤ high);
   read = number_read w low high;
 }
@@ -48,7 +48,7 @@ counted_read w low high bytes at =
 -- such bytes, with their length
 abbrev pub counted : Width → ℕ → ℕ → Form (List ℕ)
 counted w low high = record {
-  text = λ bs. spelled w (length bs) ++ bs;
+  text = λ bs. encoded w (length bs) ++ bs;
   fits = λ bs. (low ≤ length bs) × (length bs ≤ high);
   read = counted_read w low high;
 }
@@ -61,15 +61,7 @@ pair f g = record {
   read = λ bytes at. f.read bytes at >>= λ a. (g a.0).read bytes a.1 >>= λ b. Ok ((a.0, b.0), b.1);
 }
 
--- the same under another type
-abbrev pub shaped : {A B : Type 0} → (A → B) → (B → A) → Form A → Form B
-shaped to from f = record {
-  text = λ b. f.text (from b);
-  fits = λ b. f.fits (from b);
-  read = λ bytes at. f.read bytes at >>= λ a. Ok (to a.0, a.1);
-}
-
--- the same under another type, where this says which have a spelling
+-- the same under another type, where this says which have an encoding
 abbrev pub fitted : {A B : Type 0} → (A → B) → (B → A) → (B → Type 0) → Form A → Form B
 fitted to from fits f = record {
   text = λ b. f.text (from b);
@@ -85,12 +77,12 @@ tested test f = record {
   read = λ bytes at. f.read bytes at >>= λ a. if test a.0 then Ok a else Err at;
 }
 
--- items; the form of each may depend on the one before it, by its key, but not its spelling
+-- items; the form of each may depend on the one before it, by its key, but not its encoding
 abbrev pub Items : {A : Type 0} → (ℕ → Form A) → (A → ℕ) → ℕ → List A → Type 0
 Items f key low [] = Unit {0}
 Items f key low (x ∷ xs) = (f low).fits x × Items f key (key x) xs
 
--- so many items, one behind the other
+-- so many items, one after the other
 unfoldable pub items_read : {A : Type 0} → (ℕ → Form A) → (A → ℕ) → ℕ → ℕ → List ℕ → ℕ → Read (List A)
 items_read f key zero low bytes at = Ok ([], at)
 items_read f key (suc n) low bytes at =
@@ -100,7 +92,7 @@ items_read f key (suc n) low bytes at =
 -- a count and the items
 abbrev pub listed : {A : Type 0} → Width → ℕ → ℕ → (ℕ → Form A) → (A → ℕ) → ℕ → Form (List A)
 listed w low high f key first = record {
-  text = λ xs. spelled w (length xs) ++ flat_map (f 0).text xs;
+  text = λ xs. encoded w (length xs) ++ flat_map (f 0).text xs;
   fits = λ xs. (low ≤ length xs) × (length xs ≤ high) × Items f key first xs;
   read = λ bytes at. number_read w low high bytes at >>= λ n. items_read f key n.0 first bytes n.1;
 }
@@ -110,7 +102,7 @@ abbrev pub optional_tag : {A : Type 0} → Option A → ℕ
 optional_tag None = 0
 optional_tag (Some a) = 1
 
--- what stands behind the flag
+-- what stands after the flag
 abbrev pub optional_body : {A : Type 0} → Form A → Option A → List ℕ
 optional_body f None = []
 optional_body f (Some a) = f.text a
@@ -123,17 +115,17 @@ optional_fits f (Some a) = f.fits a
 -- a flag, and the value where there is one
 abbrev pub optional : {A : Type 0} → Form A → Form (Option A)
 optional f = record {
-  text = λ o. spelled w8 (optional_tag o) ++ optional_body f o;
+  text = λ o. encoded w8 (optional_tag o) ++ optional_body f o;
   fits = λ o. optional_fits f o;
   read = λ bytes at. number_read w8 0 1 bytes at >>= λ t.
       if t.0 == 0 then Ok (None, t.1) else f.read bytes t.1 >>= λ a. Ok (Some a.0, a.1);
 }
 
--- what stands behind a tag, by the tag
+-- what stands after a tag, by the tag
 abbrev pub Options : Type 0 → Type 0
 Options B = ℕ → List ℕ → ℕ → Read B
 
--- one tag more, and what stands behind it
+-- one tag more, and what stands after it
 abbrev pub option : {A B : Type 0} → ℕ → Form A → (A → B) → Options B → Options B
 option t f make others tag bytes at = if tag == t then (f.read bytes at >>= λ a. Ok (make a.0, a.1)) else others tag bytes at
 
@@ -141,10 +133,10 @@ option t f make others tag bytes at = if tag == t then (f.read bytes at >>= λ a
 abbrev pub no_option : {B : Type 0} → Options B
 no_option tag bytes at = Err at
 
--- a tag from 1 to high, and what stands behind it
+-- a tag from 1 to high, and what stands after it
 abbrev pub choice : {B : Type 0} → ℕ → (B → ℕ) → (B → List ℕ) → (B → Type 0) → Options B → Form B
 choice high tag_of body fits options = record {
-  text = λ b. spelled w8 (tag_of b) ++ body b;
+  text = λ b. encoded w8 (tag_of b) ++ body b;
   fits = fits;
   read = λ bytes at. number_read w8 1 high bytes at >>= λ t. options t.0 bytes t.1;
 }

@@ -2,4 +2,4 @@ pub mod Form
 pub mod Reads
 pub mod Taken
 pub mod Counted
-pub mod Fronts
+pub mod Prefixes

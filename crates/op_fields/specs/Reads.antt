@@ -1,4 +1,4 @@
--- What holds of a format: what is read is spelled so, and what is spelled so is read.
+-- What holds of a format: what is read is encoded so, and what is encoded so is read.
 use Rattle.std.specs.Prelude.{◌≡◌, ◌<◌, ◌≤◌, ◌+◌, ◌++◌, ◌^◌, ℕ, List, length, drop, get_or, Ok}
 use Rattle.std.specs.Int.{Width, w8, w16, w32, w64, w128}
 use Rattle.op_fields.specs.Form.{Form, whole}
@@ -29,7 +29,7 @@ pub record Took (bytes : List ℕ) (at : ℕ) (text : List ℕ) (next : ℕ) : T
   pub place : next ≡ at + length text
   pub within : next ≤ length bytes
 
--- a value that is read is spelled there, and one that is spelled there is read
+-- a value that is read is encoded there, and one that is encoded there is read
 pub record Reads {A : Type 0} (f : Form A) : Type 0 where
   pub takes : (bytes : List ℕ) (at : ℕ) (x : A × ℕ) → IsBytes bytes → at ≤ length bytes → f.read bytes at ≡ Ok x → Took bytes at (f.text x.0) x.1 × f.fits x.0
   pub again : (bytes : List ℕ) (at : ℕ) (a : A) (rest : List ℕ) → f.fits a → at ≤ length bytes → drop at bytes ≡ f.text a ++ rest → f.read bytes at ≡ Ok (a, at + length (f.text a))

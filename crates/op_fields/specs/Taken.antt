@@ -6,11 +6,11 @@ use Rattle.op_fields.specs.declared.fail.Short.{Short}
 use Rattle.op_fields.specs.declared.fail.TakeFail.{TakeFail}
 use Rattle.op_fields.specs.declared.fail.TakeFail.TheVariants.{Bad, NoMemory}
 
--- the number that the bytes at a place spell
+-- the number that the bytes at a place encode
 abbrev pub number_at : Width → List ℕ → ℕ → ℕ
 number_at w bytes at = from_be_bytes w (take (byte_len w) (drop at bytes))
 
--- all its bytes are there, and they spell this number
+-- all its bytes are there, and they encode this number
 abbrev pub IsNumberAt : Width → List ℕ → ℕ → ℕ → Type 0
 IsNumberAt w bytes at n = (at + byte_len w ≤ length bytes) × (n ≡ number_at w bytes at)
 
@@ -18,13 +18,13 @@ IsNumberAt w bytes at n = (at + byte_len w ≤ length bytes) × (n ≡ number_at
 abbrev pub IsShortAt : Width → List ℕ → ℕ → Short → Type 0
 IsShortAt w bytes at e = (e.at ≡ at) × (length bytes < at + byte_len w)
 
--- a length stands at this place, and behind it as many bytes, which are these
+-- a length stands at this place, and after it as many bytes, which are these
 pub record IsCountedAt (w : Width) (bytes : List ℕ) (at : ℕ) (text : List ℕ) : Type 0 where
   pub within : at + byte_len w + length text ≤ length bytes
   pub count : length text ≡ number_at w bytes at
   pub is : text ≡ take (length text) (drop (at + byte_len w) bytes)
 
--- too few bytes remain for a length at this place, or behind it
+-- too few bytes remain for a length at this place, or after it
 abbrev pub IsShortCounted : Width → List ℕ → ℕ → Short → Type 0
 IsShortCounted w bytes at e = (e.at ≡ at) × (length bytes < at + byte_len w + number_at w bytes at)
 

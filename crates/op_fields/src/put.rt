@@ -1,51 +1,51 @@
 ghost use Rattle.std.specs.Prelude.{◌≡◌, ◌++◌, ◌<◌, ◌^◌, ◌*◌, length, OnOk, OnErr};
 ghost use Rattle.std.specs.Int.{w8, w16, w32, w64};
-ghost use Rattle.op_fields.specs.Form.{spelled};
+ghost use Rattle.op_fields.specs.Form.{encoded};
 ghost use Rattle.op_fields.specs.Counted.{FitsWidth, width_of, counted_text};
 
-use crate::memory::NoMemory;
+use std::alloc::AllocError as NoMemory;
 
-/// Writes a number at the end, the highest byte first. Without memory nothing is written.
-#[tactic(auto, unfolding(crate::specs::Form::spelled))]
+/// Appends a number, the highest byte first. Without memory nothing is appended.
+#[tactic(auto, unfolding(crate::specs::Form::encoded))]
 pub fn put_u8(out: &mut Vec<u8>, n: u8) -> Result<(), NoMemory>
-    ensures ok { OnOk result (out.new.items ≡ out.old.items ++ spelled w8 n) }
+    ensures ok { OnOk result (out.new.items ≡ out.old.items ++ encoded w8 n) }
     ensures err { OnErr result (out.new.items ≡ out.old.items) }
 {
     out.extend_from_slice(&n.to_be_bytes())?;
     Ok(())
 }
 
-/// Writes a number at the end, the highest byte first. Without memory nothing is written.
-#[tactic(auto, unfolding(crate::specs::Form::spelled))]
+/// Appends a number, the highest byte first. Without memory nothing is appended.
+#[tactic(auto, unfolding(crate::specs::Form::encoded))]
 pub fn put_u16(out: &mut Vec<u8>, n: u16) -> Result<(), NoMemory>
-    ensures ok { OnOk result (out.new.items ≡ out.old.items ++ spelled w16 n) }
+    ensures ok { OnOk result (out.new.items ≡ out.old.items ++ encoded w16 n) }
     ensures err { OnErr result (out.new.items ≡ out.old.items) }
 {
     out.extend_from_slice(&n.to_be_bytes())?;
     Ok(())
 }
 
-/// Writes a number at the end, the highest byte first. Without memory nothing is written.
-#[tactic(auto, unfolding(crate::specs::Form::spelled))]
+/// Appends a number, the highest byte first. Without memory nothing is appended.
+#[tactic(auto, unfolding(crate::specs::Form::encoded))]
 pub fn put_u32(out: &mut Vec<u8>, n: u32) -> Result<(), NoMemory>
-    ensures ok { OnOk result (out.new.items ≡ out.old.items ++ spelled w32 n) }
+    ensures ok { OnOk result (out.new.items ≡ out.old.items ++ encoded w32 n) }
     ensures err { OnErr result (out.new.items ≡ out.old.items) }
 {
     out.extend_from_slice(&n.to_be_bytes())?;
     Ok(())
 }
 
-/// Writes a number at the end, the highest byte first. Without memory nothing is written.
-#[tactic(auto, unfolding(crate::specs::Form::spelled))]
+/// Appends a number, the highest byte first. Without memory nothing is appended.
+#[tactic(auto, unfolding(crate::specs::Form::encoded))]
 pub fn put_u64(out: &mut Vec<u8>, n: u64) -> Result<(), NoMemory>
-    ensures ok { OnOk result (out.new.items ≡ out.old.items ++ spelled w64 n) }
+    ensures ok { OnOk result (out.new.items ≡ out.old.items ++ encoded w64 n) }
     ensures err { OnErr result (out.new.items ≡ out.old.items) }
 {
     out.extend_from_slice(&n.to_be_bytes())?;
     Ok(())
 }
 
-/// Writes a length of so many bytes, and the bytes. Without memory nothing is written.
+/// Appends the length of these bytes, as a number of `width` bytes, and the bytes. Without memory nothing is appended.
 pub fn put_counted(out: &mut Vec<u8>, width: u8, bytes: &[u8]) -> Result<(), NoMemory>
     requires { FitsWidth width (length bytes.now) }
     ensures ok { OnOk result (out.new.items ≡ out.old.items ++ counted_text width bytes.now) }
@@ -62,7 +62,7 @@ pub fn put_counted(out: &mut Vec<u8>, width: u8, bytes: &[u8]) -> Result<(), NoM
 
 fn put_count(out: &mut Vec<u8>, width: u8, count: usize) -> Result<(), NoMemory>
     requires { FitsWidth width count }
-    ensures ok { OnOk result (out.new.items ≡ out.old.items ++ spelled (width_of width) count) }
+    ensures ok { OnOk result (out.new.items ≡ out.old.items ++ encoded (width_of width) count) }
     ensures err { OnErr result (out.new.items ≡ out.old.items) }
 {
     match width {

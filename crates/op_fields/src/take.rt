@@ -5,7 +5,7 @@ ghost use Rattle.op_fields.specs.Counted.{IsWidth, width_of};
 
 use crate::fail::Short;
 
-/// The number at a place.
+/// The number at byte offset `at`, the highest byte first. It is short where fewer bytes remain there.
 pub fn take_u8(bytes: &[u8], at: usize) -> Result<u8, Short>
     ensures found { IfOk result (IsNumberAt w8 bytes.now at) }
     ensures short { IfErr result (IsShortAt w8 bytes.now at) }
@@ -17,7 +17,7 @@ pub fn take_u8(bytes: &[u8], at: usize) -> Result<u8, Short>
     Ok(u8::from_be_bytes([b[0]]))
 }
 
-/// The number at a place.
+/// The number at byte offset `at`, the highest byte first. It is short where fewer bytes remain there.
 pub fn take_u16(bytes: &[u8], at: usize) -> Result<u16, Short>
     ensures found { IfOk result (IsNumberAt w16 bytes.now at) }
     ensures short { IfErr result (IsShortAt w16 bytes.now at) }
@@ -29,7 +29,7 @@ pub fn take_u16(bytes: &[u8], at: usize) -> Result<u16, Short>
     Ok(u16::from_be_bytes([b[0], b[1]]))
 }
 
-/// The number at a place.
+/// The number at byte offset `at`, the highest byte first. It is short where fewer bytes remain there.
 pub fn take_u32(bytes: &[u8], at: usize) -> Result<u32, Short>
     ensures found { IfOk result (IsNumberAt w32 bytes.now at) }
     ensures short { IfErr result (IsShortAt w32 bytes.now at) }
@@ -41,7 +41,7 @@ pub fn take_u32(bytes: &[u8], at: usize) -> Result<u32, Short>
     Ok(u32::from_be_bytes([b[0], b[1], b[2], b[3]]))
 }
 
-/// The number at a place.
+/// The number at byte offset `at`, the highest byte first. It is short where fewer bytes remain there.
 pub fn take_u64(bytes: &[u8], at: usize) -> Result<u64, Short>
     ensures found { IfOk result (IsNumberAt w64 bytes.now at) }
     ensures short { IfErr result (IsShortAt w64 bytes.now at) }
@@ -53,7 +53,8 @@ pub fn take_u64(bytes: &[u8], at: usize) -> Result<u64, Short>
     Ok(u64::from_be_bytes([b[0], b[1], b[2], b[3], b[4], b[5], b[6], b[7]]))
 }
 
-/// The bytes behind their length, of so many bytes, at a place. Where they are short, so is the length's field.
+/// The bytes after their length, a number of `width` bytes at byte offset `at`. Where fewer bytes remain for either, the
+/// place that is told is the length's.
 pub fn take_counted<'a>(bytes: &'a [u8], at: usize, width: u8) -> Result<&'a [u8], Short>
     requires { IsWidth width }
     ensures found { IfOk result (λ text. IsCountedAt (width_of width) bytes.now at text.now) }

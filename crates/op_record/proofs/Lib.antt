@@ -1,2 +1,2 @@
 pub mod InRange
-pub mod Spellings
+pub mod Encodings

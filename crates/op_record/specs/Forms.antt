@@ -1,7 +1,8 @@
 -- Bodies of records as bytes.
-use Rattle.std.specs.Prelude.{◌≡◌, ◌^◌, ◌-◌, ◌+◌, ℕ, List, Option, None, length}
+use Rattle.std.specs.Prelude.{◌≡◌, ◌-◌, ◌+◌, ℕ, List, Option, None, length}
 use Rattle.std.specs.Int.{w8, w32, w64}
 use Rattle.std.specs.Str.{bytes_eq}
+use Rattle.op_types.specs.Limits.{last_conf, positions_end}
 use Rattle.op_fields.specs.Form.{Form, Options, number, counted, pair, fitted, tested, listed, optional, option, no_option, choice}
 use Rattle.op_types.specs.declared.ballot.Ballot.{Ballot}
 use Rattle.op_types.specs.declared.log.Entry.{Entry}
@@ -10,7 +11,7 @@ use Rattle.op_types.specs.declared.durable.Durable.{Durable}
 use Rattle.op_types.specs.declared.changes.Change.{Change}
 use Rattle.op_types.specs.declared.changes.Change.TheVariants as variant
 use Rattle.op_entry.specs.Forms.{ballot, members, entries_within, entries}
-use Rattle.op_record.specs.Ranges.{empty_base, PartInRange, DurableInRange, ChangeInRange, BatchInRange, RecInRange}
+use Rattle.op_record.specs.Ranges.{empty_base, most_changes, PartInRange, DurableInRange, ChangeInRange, BatchInRange, RecInRange}
 use Rattle.op_record.specs.declared.body.Rec.{Rec}
 use Rattle.op_record.specs.declared.body.Rec.TheVariants.{Whole, Step}
 
@@ -18,11 +19,11 @@ use Rattle.op_record.specs.declared.body.Rec.TheVariants.{Whole, Step}
 
 -- a configuration's number
 abbrev pub conf : Form ℕ
-conf = number w32 1 (2 ^ 32 - 1)
+conf = number w32 1 last_conf
 
--- bytes behind their length; any but the empty base are a fault at the length
+-- bytes after their length; any but the empty base are a fault at the length
 abbrev pub counted_base : Form (List ℕ)
-counted_base = tested (λ b. bytes_eq b empty_base) (counted w64 0 (2 ^ 62))
+counted_base = tested (λ b. bytes_eq b empty_base) (counted w64 0 positions_end)
 
 -- the base: the empty one
 abbrev pub base : Form (List ℕ)
@@ -32,9 +33,9 @@ base = fitted (λ b. b) (λ b. b) (λ b. b ≡ empty_base) counted_base
 abbrev pub trimmed : Form ℕ
 trimmed = number w64 0 0
 
--- how much is trimmed, the entries behind it up to the last position, and how much is decided
+-- how much is trimmed, the entries after it up to the last position, and how much is decided
 abbrev pub log : Form (ℕ × (List Entry × ℕ))
-log = pair trimmed (λ t. pair (entries_within (2 ^ 62 - t)) (λ es. number w64 t (t + length es)))
+log = pair trimmed (λ t. pair (entries_within (positions_end - t)) (λ es. number w64 t (t + length es)))
 
 -- the fields of a part, in their order
 abbrev pub PartFields : Type 0
@@ -57,9 +58,13 @@ part_of x = record {
   decided = x.1.1.1.1.1.1.1;
 }
 
+-- the log of this part
+abbrev pub log_of_part : Part → ℕ × (List Entry × ℕ)
+log_of_part p = (p.trimmed, (p.tail.items, p.decided))
+
 -- the fields of this part
 abbrev pub fields_of_part : Part → PartFields
-fields_of_part p = (p.conf, (p.members, (p.promised, (p.accepted, (p.base, (p.trimmed, (p.tail.items, p.decided)))))))
+fields_of_part p = (p.conf, (p.members, (p.promised, (p.accepted, (p.base, log_of_part p)))))
 
 -- a part
 abbrev pub part : Form Part
@@ -89,7 +94,7 @@ durable = fitted durable_of fields_of_durable DurableInRange durable_fields
 
 -- a position, or the length of a log
 abbrev pub place : Form ℕ
-place = number w64 0 (2 ^ 62)
+place = number w64 0 positions_end
 
 -- a change's tag
 abbrev pub change_tag : Change → ℕ
@@ -99,7 +104,7 @@ change_tag (variant.CutTo n) = 3
 change_tag (variant.Append es) = 4
 change_tag (variant.Decided x) = 5
 
--- what stands behind it
+-- what stands after it
 abbrev pub change_body : Change → List ℕ
 change_body (variant.Promise b) = ballot.text b
 change_body (variant.Accept b) = ballot.text b
@@ -107,7 +112,7 @@ change_body (variant.CutTo n) = place.text n
 change_body (variant.Append es) = entries.text es
 change_body (variant.Decided x) = place.text x
 
--- what is read behind a tag
+-- what is read after a tag
 abbrev pub change_options : Options Change
 change_options =
     option 1 ballot (λ b. variant.Promise b)
@@ -123,7 +128,7 @@ change = choice 5 change_tag change_body ChangeInRange change_options
 
 -- a batch of changes
 abbrev pub batch : Form (List Change)
-batch = fitted (λ changes. changes) (λ changes. changes) BatchInRange (listed w8 0 255 (λ _. change) (λ _. 0) 0)
+batch = fitted (λ changes. changes) (λ changes. changes) BatchInRange (listed w8 0 most_changes (λ _. change) (λ _. 0) 0)
 
 -- ---- a record
 
@@ -132,12 +137,12 @@ abbrev pub body_tag : Rec → ℕ
 body_tag (Whole d) = 1
 body_tag (Step changes) = 2
 
--- what stands behind it
+-- what stands after it
 abbrev pub body_text : Rec → List ℕ
 body_text (Whole d) = durable.text d
 body_text (Step changes) = batch.text changes
 
--- what is read behind a tag
+-- what is read after a tag
 abbrev pub body_options : Options Rec
 body_options = option 1 durable (λ d. Whole d) (option 2 batch (λ changes. Step changes) no_option)
 

@@ -1,21 +1,14 @@
--- Which bodies of records have a spelling.
-use Rattle.std.specs.Prelude.{◌≡◌, ◌≤◌, ◌^◌, ◌-◌, ℕ, List, None, length, replicate, All, IfSome}
+-- Which bodies of records have an encoding.
+use Rattle.std.specs.Prelude.{◌≡◌, ◌≤◌, ℕ, List, None, length, replicate, All, IfSome}
 use Rattle.op_types.specs.Changes.{len_of}
 use Rattle.op_types.specs.declared.durable.Part.{Part}
 use Rattle.op_types.specs.declared.durable.Durable.{Durable}
 use Rattle.op_types.specs.declared.changes.Change.{Change}
 use Rattle.op_types.specs.declared.changes.Change.TheVariants as variant
-use Rattle.op_entry.specs.Ranges.{BallotInRange, MembersInRange, EntryInRange, EntriesInRange}
+use Rattle.op_types.specs.Limits.{positions_end}
+use Rattle.op_types.specs.Ranges.{IsConf, IsPlace, BallotInRange, MembersInRange, EntryInRange, EntriesInRange}
 use Rattle.op_record.specs.declared.body.Rec.{Rec}
 use Rattle.op_record.specs.declared.body.Rec.TheVariants.{Whole, Step}
-
--- a configuration's number
-abbrev pub IsConf : ℕ → Type 0
-IsConf n = (1 ≤ n) × (n ≤ 2 ^ 32 - 1)
-
--- a position, or the length of a log
-abbrev pub IsPlace : ℕ → Type 0
-IsPlace n = n ≤ 2 ^ 62
 
 -- the bytes of a service that applied nothing
 abbrev pub empty_base : List ℕ
@@ -34,7 +27,7 @@ pub record PartInRange (p : Part) : Type 0 where
   pub decided : (p.trimmed ≤ p.decided) × (p.decided ≤ len_of p)
   pub room : p.tail.room ≡ 0
 
--- A durable state whose part is in range. A closed configuration has no spelling yet.
+-- A durable state whose part is in range. A closed configuration has no encoding yet.
 pub record DurableInRange (d : Durable) : Type 0 where
   pub part : IfSome d.part PartInRange
   pub closed : d.closed ≡ None
@@ -44,12 +37,16 @@ abbrev pub ChangeInRange : Change → Type 0
 ChangeInRange (variant.Promise b) = BallotInRange b
 ChangeInRange (variant.Accept b) = BallotInRange b
 ChangeInRange (variant.CutTo n) = IsPlace n
-ChangeInRange (variant.Append es) = EntriesInRange (2 ^ 62) es
+ChangeInRange (variant.Append es) = EntriesInRange positions_end es
 ChangeInRange (variant.Decided x) = IsPlace x
 
--- up to 255 changes, each in range
+-- how many changes a batch has at most: their count is one byte
+abbrev pub most_changes : ℕ
+most_changes = 255
+
+-- a batch whose changes are few enough and in range
 pub record BatchInRange (batch : List Change) : Type 0 where
-  pub few : length batch ≤ 255
+  pub few : length batch ≤ most_changes
   pub each : All ChangeInRange batch
 
 -- a record in range

@@ -1,22 +1,34 @@
 ghost use Rattle.std.specs.Prelude.{◌≡◌, ◌++◌, OnOk, OnErr};
-ghost use Rattle.op_fields.specs.Fronts.{KeepsFront};
+ghost use Rattle.op_fields.specs.Prefixes.{KeepsPrefix};
 ghost use Rattle.op_fields.specs.Form.{items_read};
 ghost use Rattle.op_fields.specs.Taken.{Gives, GivesVec};
 ghost use Rattle.op_record.specs.Forms.{change, batch};
 
 use op_entry::{ballot_at, entries_at, put_ballot, put_entries};
 use op_fields::{NoMemory, TakeFail, put_u8, put_u64, u8_in, u64_in};
-use op_types::{Batch, Change, Seq};
+use op_types::{Batch, Change, POSITIONS_END, Seq};
 use std::alloc::Global;
 
-const LAST_PLACE: u64 = 1 << 62;
+/// How many changes a batch has at most: their count is one byte.
+const MOST_CHANGES: u8 = u8::MAX;
 
-/// Writes a batch at the end.
-#[tactic(auto, using(op_fields::proofs::Fronts::kept_through))]
+/// The tags of changes.
+const PROMISE: u8 = 1;
+
+const ACCEPT: u8 = 2;
+
+const CUT_TO: u8 = 3;
+
+const APPEND: u8 = 4;
+
+const DECIDED: u8 = 5;
+
+/// Appends a batch. Without memory a part of it may be appended.
+#[tactic(auto, using(op_fields::proofs::Prefixes::kept_through))]
 pub fn put_batch(out: &mut Vec<u8>, changes: &Batch) -> Result<(), NoMemory>
     requires { batch.fits changes.now }
     ensures ok { OnOk result (out.new.items ≡ out.old.items ++ batch.text changes.now) }
-    ensures err { OnErr result (KeepsFront out.old.items out.new.items) }
+    ensures err { OnErr result (KeepsPrefix out.old.items out.new.items) }
 {
     put_u8(out, changes.len() as u8)?;
     'changes: for c in changes.as_slice() {
@@ -25,41 +37,41 @@ pub fn put_batch(out: &mut Vec<u8>, changes: &Batch) -> Result<(), NoMemory>
     Ok(())
 }
 
-#[tactic(auto, using(op_fields::proofs::Fronts::kept_through))]
+#[tactic(auto, using(op_fields::proofs::Prefixes::kept_through))]
 fn put_change(out: &mut Vec<u8>, c: &Change) -> Result<(), NoMemory>
     requires { change.fits c.now }
     ensures ok { OnOk result (out.new.items ≡ out.old.items ++ change.text c.now) }
-    ensures err { OnErr result (KeepsFront out.old.items out.new.items) }
+    ensures err { OnErr result (KeepsPrefix out.old.items out.new.items) }
 {
     match c {
         Change::Promise(ballot) => {
-            put_u8(out, 1)?;
+            put_u8(out, PROMISE)?;
             put_ballot(out, *ballot)
         }
         Change::Accept(ballot) => {
-            put_u8(out, 2)?;
+            put_u8(out, ACCEPT)?;
             put_ballot(out, *ballot)
         }
         Change::CutTo(len) => {
-            put_u8(out, 3)?;
+            put_u8(out, CUT_TO)?;
             put_u64(out, *len)
         }
         Change::Append(entries) => {
-            put_u8(out, 4)?;
+            put_u8(out, APPEND)?;
             put_entries(out, entries.as_slice())
         }
         Change::Decided(len) => {
-            put_u8(out, 5)?;
+            put_u8(out, DECIDED)?;
             put_u64(out, *len)
         }
     }
 }
 
-/// The batch at a place, and the place behind it.
+/// The batch at a byte offset, and the offset after it.
 pub fn batch_at(alloc: Global, bytes: &[u8], at: usize) -> Result<(Batch, usize), TakeFail>
     ensures { Gives result (batch.read bytes.now at) }
 {
-    let (count, at) = u8_in(bytes, at, 0, 255)?;
+    let (count, at) = u8_in(bytes, at, 0, MOST_CHANGES)?;
     let (changes, at) = changes_at(alloc, count, bytes, at)?;
     Ok((Seq::from_vec(changes), at))
 }
@@ -85,26 +97,26 @@ fn changes_at(
 fn change_at(alloc: Global, bytes: &[u8], at: usize) -> Result<(Change, usize), TakeFail>
     ensures { Gives result (change.read bytes.now at) }
 {
-    let (tag, at) = u8_in(bytes, at, 1, 5)?;
+    let (tag, at) = u8_in(bytes, at, PROMISE, DECIDED)?;
     match tag {
-        1 => {
+        PROMISE => {
             let (ballot, at) = ballot_at(bytes, at)?;
             Ok((Change::Promise(ballot), at))
         }
-        2 => {
+        ACCEPT => {
             let (ballot, at) = ballot_at(bytes, at)?;
             Ok((Change::Accept(ballot), at))
         }
-        3 => {
-            let (len, at) = u64_in(bytes, at, 0, LAST_PLACE)?;
+        CUT_TO => {
+            let (len, at) = u64_in(bytes, at, 0, POSITIONS_END)?;
             Ok((Change::CutTo(len), at))
         }
-        4 => {
+        APPEND => {
             let (entries, at) = entries_at(alloc, bytes, at)?;
             Ok((Change::Append(entries), at))
         }
-        5 => {
-            let (len, at) = u64_in(bytes, at, 0, LAST_PLACE)?;
+        DECIDED => {
+            let (len, at) = u64_in(bytes, at, 0, POSITIONS_END)?;
             Ok((Change::Decided(len), at))
         }
         _ => Err(TakeFail::Bad { at }),

@@ -1,5 +1,5 @@
 ghost use Rattle.std.specs.Prelude.{◌≡◌, ◌++◌, OnOk, OnErr};
-ghost use Rattle.op_fields.specs.Fronts.{KeepsFront};
+ghost use Rattle.op_fields.specs.Prefixes.{KeepsPrefix};
 ghost use Rattle.op_fields.specs.Form.{optional};
 ghost use Rattle.op_fields.specs.Taken.{Gives};
 ghost use Rattle.op_record.specs.Forms.{part, durable};
@@ -9,23 +9,24 @@ use op_fields::{NoMemory, TakeFail, put_u8, u8_in};
 use op_types::{Durable, Part};
 use std::alloc::Global;
 
-/// Writes a durable state at the end. It has no closed and no joining configuration yet.
-#[tactic(auto, using(op_fields::proofs::Fronts::kept_through))]
+/// Appends a durable state, which has no closed and no joining configuration yet. Without memory a part of it may be
+/// appended.
+#[tactic(auto, using(op_fields::proofs::Prefixes::kept_through))]
 pub fn put_durable(out: &mut Vec<u8>, d: &Durable) -> Result<(), NoMemory>
     requires { durable.fits d.now }
     ensures ok { OnOk result (out.new.items ≡ out.old.items ++ durable.text d.now) }
-    ensures err { OnErr result (KeepsFront out.old.items out.new.items) }
+    ensures err { OnErr result (KeepsPrefix out.old.items out.new.items) }
 {
     put_optional_part(out, &d.part)?;
     put_u8(out, 0)?;
     put_u8(out, 0)
 }
 
-#[tactic(auto, using(op_fields::proofs::Fronts::kept_through))]
+#[tactic(auto, using(op_fields::proofs::Prefixes::kept_through))]
 fn put_optional_part(out: &mut Vec<u8>, p: &Option<Part>) -> Result<(), NoMemory>
     requires { (optional part).fits p.now }
     ensures ok { OnOk result (out.new.items ≡ out.old.items ++ (optional part).text p.now) }
-    ensures err { OnErr result (KeepsFront out.old.items out.new.items) }
+    ensures err { OnErr result (KeepsPrefix out.old.items out.new.items) }
 {
     match p {
         None => put_u8(out, 0),
@@ -36,7 +37,7 @@ fn put_optional_part(out: &mut Vec<u8>, p: &Option<Part>) -> Result<(), NoMemory
     }
 }
 
-/// The durable state at a place, and the place behind it.
+/// The durable state at a byte offset, and the offset after it.
 pub fn durable_at(alloc: Global, bytes: &[u8], at: usize) -> Result<(Durable, usize), TakeFail>
     ensures { Gives result (durable.read bytes.now at) }
 {

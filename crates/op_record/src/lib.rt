@@ -7,5 +7,5 @@ mod durable;
 mod laws;
 mod part;
 
-pub use body::{Rec, put, take};
-pub use laws::one_record;
+pub use body::{Rec, put, put_step, put_whole, take};
+pub use laws::record_is_unambiguous;

@@ -1,4 +1,4 @@
--- What is read is spelled so, and what is spelled so is read: ballots, members, commands and entries.
+-- What is read is encoded so, and what is encoded so is read: ballots, members, commands and entries.
 use Rattle.std.proofs.Common.{ℕ, ◌-◌, ◌^◌, ◌≤◌, refl, arith, lit≤}
 use Rattle.std.specs.Int.{w8, w16, w32, w64}
 use Rattle.op_types.specs.declared.log.Op.{Op}
@@ -7,9 +7,11 @@ use Rattle.op_types.specs.declared.log.Entry.{Entry}
 use Rattle.op_types.specs.declared.log.Entry.TheVariants as variant
 use Rattle.op_fields.specs.Form.{no_option}
 use Rattle.op_fields.specs.Reads.{Reads}
-use Rattle.op_fields.proofs.Formats.{wide8, wide16, wide32, wide64, number-reads, counted-reads, pair-reads, fitted-reads, tested-reads, listed-reads, OptionsTake, OptionsAgain, no_option-takes, option-takes, choice-reads, made, each_fits, all_fit}
+use Rattle.op_fields.proofs.Formats.{wide8, wide16, wide32, wide64, number-reads, counted-reads, made}
+use Rattle.op_fields.proofs.Composites.{pair-reads, fitted-reads, tested-reads, listed-reads, each_fits, all_fit}
+use Rattle.op_fields.proofs.Choices.{OptionsTake, OptionsAgain, no_option-takes, option-takes, choice-reads}
 use Rattle.op_entry.specs.Forms.{owner, ballot_parts, ballot, member, members, key, value, key_value, op_tag, op_body, op_options, op, client_number, command_parts, command, entry_tag, entry_body, entry_options, entry, entries_within, entries}
-use Rattle.op_entry.specs.Ranges.{BallotInRange, MembersInRange, OpInRange, CommandInRange, EntryInRange, EntriesInRange}
+use Rattle.op_types.specs.Ranges.{BallotInRange, MembersInRange, OpInRange, CommandInRange, EntryInRange, EntriesInRange}
 use Rattle.op_entry.proofs.Rising.{rising_items, items_rising, lowest_owner, has_owner}
 
 -- ---- ballots and members

@@ -1,13 +1,15 @@
--- What is read is spelled so, and what is spelled so is read: durable states, batches and records.
+-- What is read is encoded so, and what is encoded so is read: durable states, batches and records.
 use Rattle.std.proofs.Common.{◌≡◌, ◌+◌, ◌-◌, ◌^◌, ◌≤◌, length, refl, arith, lit≤}
 use Rattle.std.specs.Int.{w8, w32, w64}
 use Rattle.op_types.specs.declared.changes.Change.{Change}
 use Rattle.op_types.specs.declared.changes.Change.TheVariants as variant
 use Rattle.op_fields.specs.Form.{optional, no_option}
-use Rattle.op_fields.specs.Reads.{Reads, ReadsWhole}
-use Rattle.op_fields.proofs.Formats.{wide8, wide32, wide64, number-reads, counted-reads, pair-reads, fitted-reads, tested-reads, listed-reads, optional-reads, OptionsTake, OptionsAgain, no_option-takes, option-takes, choice-reads, whole-reads, made, each_fits, all_fit}
+use Rattle.op_fields.specs.Reads.{Reads}
+use Rattle.op_fields.proofs.Formats.{wide8, wide32, wide64, number-reads, counted-reads, made}
+use Rattle.op_fields.proofs.Composites.{pair-reads, fitted-reads, tested-reads, listed-reads, each_fits, all_fit}
+use Rattle.op_fields.proofs.Choices.{optional-reads, OptionsTake, OptionsAgain, no_option-takes, option-takes, choice-reads}
 use Rattle.op_entry.specs.Forms.{ballot, members, entries_within, entries}
-use Rattle.op_entry.proofs.Spellings.{ballot_reads, members_reads, entries_within_reads, entries_reads}
+use Rattle.op_entry.proofs.Encodings.{ballot_reads, members_reads, entries_within_reads, entries_reads}
 use Rattle.op_record.specs.declared.body.Rec.{Rec}
 use Rattle.op_record.specs.declared.body.Rec.TheVariants.{Whole, Step}
 use Rattle.op_record.specs.Ranges.{empty_base, PartInRange, DurableInRange, ChangeInRange, BatchInRange, RecInRange}
@@ -102,6 +104,3 @@ body_tags (Step cs) fit = (lit≤ tt, lit≤ tt)
 
 pub body_reads : Reads body
 body_reads = choice-reads body_tag body_text RecInRange 2 body_options (omega arith) body_tags body_takes body_again
-
-pub body_reads_whole : ReadsWhole body
-body_reads_whole = whole-reads body body_reads

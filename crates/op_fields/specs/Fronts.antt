@@ -1,6 +1,0 @@
--- What a write that found no memory leaves.
-use Rattle.std.specs.Prelude.{◌≡◌, ℕ, List, length, take}
-
--- what was there stands, and perhaps a part of the text behind it
-abbrev pub KeepsFront : List ℕ → List ℕ → Type 0
-KeepsFront old new = take (length old) new ≡ old

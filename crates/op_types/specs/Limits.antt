@@ -1,0 +1,30 @@
+-- The greatest numbers and lengths.
+use Rattle.std.specs.Prelude.{◌-◌, ◌^◌, ℕ}
+
+-- the greatest id of a server
+abbrev pub greatest_pid : ℕ
+greatest_pid = 999
+
+-- how many members a configuration has at most
+abbrev pub most_members : ℕ
+most_members = 9
+
+-- the greatest number of a ballot, a client, a command or a round
+abbrev pub greatest_number : ℕ
+greatest_number = 2 ^ 62 - 1
+
+-- the end of positions, which is the greatest length of a log
+abbrev pub positions_end : ℕ
+positions_end = 2 ^ 62
+
+-- the last configuration
+abbrev pub last_conf : ℕ
+last_conf = 2 ^ 32 - 1
+
+-- how many bytes a key has at most
+abbrev pub most_key_bytes : ℕ
+most_key_bytes = 64
+
+-- how many bytes a value has at most
+abbrev pub most_value_bytes : ℕ
+most_value_bytes = 4096

@@ -1,0 +1,56 @@
+use crate::{Answer, ConfNo, Entries, Members, Outcome, Pid, Seq};
+
+/// A line of a report that an event gave.
+#[derive(Drop)]
+pub enum Line {
+    /// What the proposal of this schedule's line was answered.
+    Answer(u64, Outcome),
+    /// What a client (its number, and the command's) was answered at a node.
+    Reply(Pid, u64, u64, Answer),
+}
+
+/// A configuration's one list.
+#[derive(Drop)]
+pub struct Listed {
+    pub conf: ConfNo,
+    pub members: Members,
+    pub entries: Entries,
+}
+
+/// How a node runs.
+#[derive(Clone, Copy, Debug, PartialEq, Eq)]
+pub enum Running {
+    Up,
+    Down,
+    Failed,
+}
+
+/// Where a node stands in the end.
+#[derive(Clone, Copy, Debug, PartialEq, Eq)]
+pub struct NodeLine {
+    pub pid: Pid,
+    /// The configuration, how much of it is decided, and how much is trimmed; a spare has none.
+    pub at: Option<(ConfNo, u64, u64)>,
+    /// The configuration that the node is joining.
+    pub joining: Option<ConfNo>,
+    pub running: Running,
+}
+
+/// Lines that events gave, in the order of the events.
+pub type Lines = Seq<Line>;
+
+/// Lists, by rising configuration.
+pub type Lists = Seq<Listed>;
+
+/// Where the nodes stand, by rising id.
+pub type NodeLines = Seq<NodeLine>;
+
+/// What a run leaves to be reported.
+#[derive(Drop)]
+pub struct Summary {
+    pub lines: Lines,
+    pub lists: Lists,
+    pub nodes: NodeLines,
+    /// How many messages were sent.
+    pub sent: u64,
+}
