@@ -3,7 +3,7 @@ ghost use Rattle.op_journal.specs.declared.fail.JournalFail.TheVariants as fails
 
 use op_fields::NoMemory;
 use op_outside::Disk;
-use std::alloc::{AllocError, AllocFailed};
+use std::alloc::AllocFailed;
 
 /// The disk has failed so often.
 #[derive(Clone, Copy, Debug, PartialEq, Eq)]
@@ -11,7 +11,7 @@ pub struct DiskFault {
     pub count: u64,
 }
 
-/// The bytes are no area's from this place on.
+/// The bytes are no area's from this byte offset on.
 #[derive(Clone, Copy, Debug, PartialEq, Eq)]
 pub struct Damage {
     pub at: u64,
@@ -20,9 +20,11 @@ pub struct Damage {
 /// Why an area was not opened.
 #[derive(Clone, Copy, Debug, PartialEq, Eq)]
 pub enum JournalFail {
+    /// A call of the disk failed, which has failed so often.
     DiskFault { count: u64 },
-    /// The bytes are no area's from this place on.
+    /// The bytes are no area's from this byte offset on.
     Damaged { at: u64 },
+    /// No memory was found for what was read.
     NoMemory,
 }
 
@@ -50,14 +52,6 @@ impl From<NoMemory> for JournalFail {
     }
 }
 
-impl From<AllocError> for JournalFail {
-    ghost from_gives = { λ _ e. e ≡ fails.NoMemory };
-
-    fn from(_e: AllocError) -> JournalFail {
-        JournalFail::NoMemory
-    }
-}
-
 impl<T: Drop> From<AllocFailed<T>> for JournalFail {
     ghost from_gives = { λ _ e. e ≡ fails.NoMemory };
 
@@ -68,7 +62,7 @@ impl<T: Drop> From<AllocFailed<T>> for JournalFail {
 
 /// What a call that failed is told as.
 pub fn fault_of<D: Disk>(disk: &D) -> DiskFault
-    ensures { result.count ≡ D.count disk.now }
+    ensures { result.count ≡ (D.state disk.now).faults }
 {
     DiskFault {
         count: disk.faults(),

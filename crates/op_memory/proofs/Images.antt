@@ -3,7 +3,7 @@ use Rattle.std.proofs.Common.{◌≡◌, inl, inr, ⊎_elim, ℕ, zero, suc, ◌
 use Rattle.std.proofs.lemmas.List.{take_at, drop_at, take_all, drop_all, get_or_append_left, get_or-append_right, get_or-take, get_or-drop}
 use Rattle.std.proofs.lemmas.Bool.{cases_lt}
 use Rattle.std.proofs.lemmas.Grind.{same_number_lists}
-use Rattle.op_outside.specs.Disks.{Torn, Shorter, Follows, Only}
+use Rattle.op_outside.specs.Disks.{Torn, Shorter, Only}
 use Rattle.op_memory.specs.Images.{Pending, synced, overlaid, written, shortened, IsImage, Uncovered}
 
 -- n bytes of a list from a place on, 0 past its end
@@ -39,11 +39,11 @@ module _ (s : Pending) (ordered : s.low ≤ s.high) (at n : ℕ) (within : at �
   before = (take at x ++ stretch at k s.base) ++ drop (at + n) x
 
   module _ (long : at ≤ length x) where
-    front : length (take at x) ≡ at
-    front = omega (arith, length-take at x)
+    prefix : length (take at x) ≡ at
+    prefix = omega (arith, length-take at x)
 
     two : length (take at x ++ stretch at k s.base) ≡ at + k
-    two = omega (arith, length-append (take at x) (stretch at k s.base), front, length-stretch at k s.base)
+    two = omega (arith, length-append (take at x) (stretch at k s.base), prefix, length-stretch at k s.base)
 
     long_before : length before ≡ min (length x) s.high
     unfolding k before
@@ -59,7 +59,7 @@ module _ (s : Pending) (ordered : s.low ≤ s.high) (at n : ℕ) (within : at �
     torn : Torn at n before x
     unfolding before
     torn = record {
-      before = sym (ap (λ (l : List ℕ). take at l) (append_assoc (take at x) (stretch at k s.base) (drop (at + n) x)) ∙ take_at (take at x) (stretch at k s.base ++ drop (at + n) x) at front);
+      before = sym (ap (λ (l : List ℕ). take at l) (append_assoc (take at x) (stretch at k s.base) (drop (at + n) x)) ∙ take_at (take at x) (stretch at k s.base ++ drop (at + n) x) at prefix);
       after = sym tail;
       no_shorter = omega (arith, long_before);
       no_longer = let top : length x ≤ max s.high (at + n) = im.no_longer in omega (arith, long_before);
@@ -73,10 +73,10 @@ module _ (s : Pending) (ordered : s.low ≤ s.high) (at n : ℕ) (within : at �
     unfolding before
     same_at p below un = ⊎_elim
         (λ (lt : p < at). get_or_append_left (take at x ++ stretch at k s.base) (drop (at + n) x) 0 p (omega (arith, two))
-        ∙ get_or_append_left (take at x) (stretch at k s.base) 0 p (omega (arith, front)) ∙ get_or-take at x p 0 lt ∙ im.same p (omega arith) (inl lt, un))
+        ∙ get_or_append_left (take at x) (stretch at k s.base) 0 p (omega (arith, prefix)) ∙ get_or-take at x p 0 lt ∙ im.same p (omega arith) (inl lt, un))
         (λ (ge : at ≤ p). ⊎_elim
         (λ (lt : p < at + k). get_or_append_left (take at x ++ stretch at k s.base) (drop (at + n) x) 0 p (omega (arith, two))
-        ∙ get_or-append_right (take at x) (stretch at k s.base) at p 0 front ge ∙ get_or-stretch at k s.base (p - at) (omega arith)
+        ∙ get_or-append_right (take at x) (stretch at k s.base) at p 0 prefix ge ∙ get_or-stretch at k s.base (p - at) (omega arith)
         ∙ (let e : at + (p - at) ≡ p = omega arith in ap (λ (i : ℕ). get_or s.base i 0) e))
         (λ (past : at + k ≤ p). let far : at + n ≤ p = omega (arith, reach, long_before) in
         let all : k ≡ n = omega (arith, reach, long_before) in
@@ -101,11 +101,11 @@ module _ (s : Pending) (ordered : s.low ≤ s.high) (at n : ℕ) (within : at �
       (cases_lt (length x) at)
 
 -- a write
-pub write_follows : (s : Pending) (at n : ℕ) → s.low ≤ s.high → at ≤ s.high → Follows (Torn at n) (IsImage s) (IsImage (written at n s))
+pub write_follows : (s : Pending) (at n : ℕ) → s.low ≤ s.high → at ≤ s.high → (x : List ℕ) → IsImage (written at n s) x → (d : List ℕ) × IsImage s d × Torn at n d x
 write_follows s at n ordered within x im = outcome s ordered at n within x im
 
 -- a cut: the part that a shorter image lacks stands in the sync's bytes
-pub cut_follows : (s : Pending) (n : ℕ) → s.low ≤ s.high → Follows (Shorter n) (IsImage s) (IsImage (shortened n s))
+pub cut_follows : (s : Pending) (n : ℕ) → s.low ≤ s.high → (x : List ℕ) → IsImage (shortened n s) x → (d : List ℕ) × IsImage s d × Shorter n d x
 cut_follows s n ordered x im =
     let bot : min s.low n ≤ length x = im.no_shorter in
     let top : length x ≤ s.high = im.no_longer in
@@ -127,13 +127,13 @@ cut_follows s n ordered x im =
       },
       record {
         no_shorter = omega (arith, size);
-        front = take_at x (stretch (length x) (s.low - length x) s.base) (length x) refl;
+        prefix = take_at x (stretch (length x) (s.low - length x) s.base) (length x) refl;
       },
     ))
     (λ (ge : s.low ≤ length x). (
       x,
       record { no_shorter = ge; no_longer = top; same = im.same },
-      record { no_shorter = omega arith; front = take_all (length x) x (omega arith) },
+      record { no_shorter = omega arith; prefix = take_all (length x) x (omega arith) },
     ))
     (cases_lt (length x) s.low)
 
@@ -153,11 +153,11 @@ cut_image s n bytes im = record {
 }
 
 module _ (s : Pending) (at : ℕ) (piece bytes : List ℕ) (within : at ≤ length bytes) (im : IsImage s bytes) where
-  front_len : length (take at bytes) ≡ at
-  front_len = omega (arith, length-take at bytes)
+  prefix_len : length (take at bytes) ≡ at
+  prefix_len = omega (arith, length-take at bytes)
 
   both_len : length (take at bytes ++ piece) ≡ at + length piece
-  both_len = omega (arith, front_len, length-append (take at bytes) piece)
+  both_len = omega (arith, prefix_len, length-append (take at bytes) piece)
 
   whole_len : length (overlaid bytes at piece) ≡ max (length bytes) (at + length piece)
   whole_len = omega (arith, both_len, length-append (take at bytes ++ piece) (drop (at + length piece) bytes), length-drop (at + length piece) bytes)
@@ -165,7 +165,7 @@ module _ (s : Pending) (at : ℕ) (piece bytes : List ℕ) (within : at ≤ leng
   same_there : (p : ℕ) → p < length (overlaid bytes at piece) → Uncovered ((at, length piece) ∷ s.writes) p → get_or (overlaid bytes at piece) p 0 ≡ get_or s.base p 0
   same_there p below un = ⊎_elim
       (λ (lt : p < at). get_or_append_left (take at bytes ++ piece) (drop (at + length piece) bytes) 0 p (omega (arith, both_len))
-      ∙ get_or_append_left (take at bytes) piece 0 p (omega (arith, front_len)) ∙ get_or-take at bytes p 0 lt ∙ im.same p (omega arith) un.1)
+      ∙ get_or_append_left (take at bytes) piece 0 p (omega (arith, prefix_len)) ∙ get_or-take at bytes p 0 lt ∙ im.same p (omega arith) un.1)
       (λ (past : at + length piece ≤ p). get_or-append_right (take at bytes ++ piece) (drop (at + length piece) bytes) (at + length piece) p 0 both_len past
       ∙ get_or-drop (at + length piece) bytes (p - (at + length piece)) 0
       ∙ (let e : at + length piece + (p - (at + length piece)) ≡ p = omega arith in ap (λ (i : ℕ). get_or bytes i 0) e)

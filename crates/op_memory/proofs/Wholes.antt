@@ -1,18 +1,10 @@
 -- What a read gives after some calls, and what it would give had the last one taken place.
-use Rattle.std.proofs.Common.{◌≡◌, ℕ, suc, ◌+◌, ◌<◌, List, [], ◌∷◌, ◌++◌, length, drop, take, get_or, refl, sym, ◌∙◌, ap, arith}
+use Rattle.std.proofs.Common.{◌≡◌, ℕ, suc, ◌+◌, ◌<◌, List, [], ◌∷◌, ◌++◌, length, drop, get_or, refl, sym, ◌∙◌, ap, arith}
 use Rattle.std.proofs.Math.Seq.{drop-cons}
 use Rattle.op_memory.specs.declared.call.Call.{Call}
 use Rattle.op_memory.specs.declared.call.Call.TheVariants.{Write, StoppedWrite, Cut, StoppedCut, Sync}
-use Rattle.op_memory.specs.Images.{State, fresh, overlaid, after, state_of, completed}
-use Rattle.op_memory.proofs.Moments.{state-push}
-
--- the content after a call goes by the content before it
-content-after : (call : Call) (s t : State) → s.content ≡ t.content → (after call s).content ≡ (after call t).content
-content-after (Write at v) s t e = ap (λ (l : List ℕ). overlaid l at v.items) e
-content-after (StoppedWrite at v) s t e = e
-content-after (Cut n) s t e = ap (λ (l : List ℕ). take n l) e
-content-after (StoppedCut n) s t e = e
-content-after Sync s t e = e
+use Rattle.op_memory.specs.Images.{State, fresh, after, state_of, completed}
+use Rattle.op_memory.proofs.Moments.{state-push, content-after}
 
 content-state_of : (calls : List Call) (s t : State) → s.content ≡ t.content → (state_of s calls).content ≡ (state_of t calls).content
 content-state_of [] s t e = e
@@ -22,8 +14,8 @@ pub content_step : (calls : List Call) (i : ℕ) (call : Call) (bytes next : Lis
     → next ≡ (after call (fresh bytes)).content → (state_of (fresh next) (drop (i + 1) calls)).content ≡ (state_of (fresh bytes) (drop i calls)).content
 content_step calls i call bytes next lt is to =
     let e : i + 1 ≡ suc i = omega arith in
-    let front : drop i calls ≡ call ∷ drop (i + 1) calls = drop-cons calls i call lt ∙ ap (λ (x : Call). x ∷ drop (suc i) calls) (sym is) ∙ ap (λ (k : ℕ). call ∷ drop k calls) (sym e) in
-    content-state_of (drop (i + 1) calls) (fresh next) (after call (fresh bytes)) to ∙ ap (λ (l : List Call). (state_of (fresh bytes) l).content) (sym front)
+    let prefix : drop i calls ≡ call ∷ drop (i + 1) calls = drop-cons calls i call lt ∙ ap (λ (x : Call). x ∷ drop (suc i) calls) (sym is) ∙ ap (λ (k : ℕ). call ∷ drop k calls) (sym e) in
+    content-state_of (drop (i + 1) calls) (fresh next) (after call (fresh bytes)) to ∙ ap (λ (l : List Call). (state_of (fresh bytes) l).content) (sym prefix)
 
 completed-after : (call : Call) (s : State) → completed call (after call s).content ≡ (after call s).whole
 completed-after (Write at v) s = refl
@@ -32,10 +24,10 @@ completed-after (Cut n) s = refl
 completed-after (StoppedCut n) s = refl
 completed-after Sync s = refl
 
-pub completed_last : (s : State) (calls front : List Call) (call : Call) (bytes : List ℕ) → calls ≡ front ++ call ∷ [] → bytes ≡ (state_of s calls).content → completed call bytes ≡ (state_of s calls).whole
-completed_last s calls front call bytes is same =
-    let there : state_of s calls ≡ after call (state_of s front) = ap (λ (l : List Call). state_of s l) is ∙ state-push s front call in
-    ap (completed call) (same ∙ ap (λ (t : State). t.content) there) ∙ completed-after call (state_of s front) ∙ ap (λ (t : State). t.whole) (sym there)
+pub completed_last : (s : State) (calls prefix : List Call) (call : Call) (bytes : List ℕ) → calls ≡ prefix ++ call ∷ [] → bytes ≡ (state_of s calls).content → completed call bytes ≡ (state_of s calls).whole
+completed_last s calls prefix call bytes is same =
+    let there : state_of s calls ≡ after call (state_of s prefix) = ap (λ (l : List Call). state_of s l) is ∙ state-push s prefix call in
+    ap (completed call) (same ∙ ap (λ (t : State). t.content) there) ∙ completed-after call (state_of s prefix) ∙ ap (λ (t : State). t.whole) (sym there)
 
 pub none_last : (start : List ℕ) (calls : List Call) (bytes : List ℕ) → calls ≡ [] → bytes ≡ (state_of (fresh start) calls).content → bytes ≡ (state_of (fresh start) calls).whole
 none_last start calls bytes none same =

@@ -1,5 +1,7 @@
 -- What a crash may leave of a disk in memory: its images after its calls.
 use Rattle.std.specs.Prelude.{◌≡◌, ◌⊎◌, ℕ, ◌+◌, ◌<◌, ◌≤◌, max, min, List, [], ◌∷◌, ◌++◌, length, take, drop, slice_index}
+use Rattle.op_outside.specs.Disks.{DiskState, Only, Edit}
+use Rattle.op_outside.specs.Disks.Edit.{Nothing, Write as Writes, Cut as Cuts}
 use Rattle.op_outside.specs.Moments.{Moment}
 use Rattle.op_outside.specs.Moments.Moment.{At, Both}
 use Rattle.op_memory.specs.declared.call.Call.{Call}
@@ -98,6 +100,30 @@ pub record IsFilled (s : Pending) (byte : ℕ) (x : List ℕ) : Type 0 where
   pub filled : (p : ℕ) → Covered s.writes p → slice_index x p ≡ byte
   pub same : (p : ℕ) → Uncovered s.writes p → slice_index x p ≡ slice_index s.base p
 
+-- the change that a disk is asked for by this call
+abbrev pub edit_of : Call → Edit
+edit_of (Write at piece) = Writes at piece.items
+edit_of (StoppedWrite at piece) = Writes at piece.items
+edit_of (Cut n) = Cuts n
+edit_of (StoppedCut n) = Cuts n
+edit_of Sync = Nothing
+
+-- the place of a write, or the length of a cut, is not past the end
+abbrev pub IsWithin : Call → List ℕ → Type 0
+IsWithin (Write at piece) bytes = at ≤ length bytes
+IsWithin (StoppedWrite at piece) bytes = at ≤ length bytes
+IsWithin (Cut n) bytes = n ≤ length bytes
+IsWithin (StoppedCut n) bytes = n ≤ length bytes
+IsWithin Sync bytes = Unit {0}
+
+-- after a sync a crash leaves these bytes and nothing else
+abbrev pub IfSync : Call → List ℕ → (List ℕ → Type 0) → Type 0
+IfSync (Write at piece) bytes may_leave = Unit {0}
+IfSync (StoppedWrite at piece) bytes may_leave = Unit {0}
+IfSync (Cut n) bytes may_leave = Unit {0}
+IfSync (StoppedCut n) bytes may_leave = Unit {0}
+IfSync Sync bytes may_leave = Only bytes may_leave
+
 -- a crash after some call from this moment on
 abbrev pub LeftSince : List ℕ → List Call → Moment → List ℕ → Type 0
 LeftSince start calls (At n) x = (k : ℕ) × (n ≤ k) × (k ≤ length calls) × IsImage (state_of (fresh start) (take k calls)).pending x
@@ -106,3 +132,16 @@ LeftSince start calls (Both a b) x = ⊥
 -- a crash now
 abbrev pub LeftNow : List ℕ → List Call → List ℕ → Type 0
 LeftNow start calls = LeftSince start calls (At (length calls))
+
+-- what is known of a disk that these calls made of these first bytes, of which a read gives these, and which counts so many faults
+-- and so many device calls
+abbrev pub known : List ℕ → List Call → List ℕ → ℕ → ℕ → DiskState
+known start calls bytes faults made = record {
+  obeys = Unit {0};
+  content = bytes;
+  moment = At (length calls);
+  left_since = LeftSince start calls;
+  faults = faults;
+  calls = made;
+  mark = [];
+}

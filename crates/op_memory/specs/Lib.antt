@@ -1,5 +1,12 @@
 pub mod Images
+pub mod Fills
 pub mod MemDisks
-pub mod Plans
+pub mod Streams
+pub mod FaultScripts
 pub mod Syncs
 pub mod Tied
+pub mod Histories
+pub mod Fakes
+pub mod FakeClocks
+pub mod FakeSpawners
+pub mod ScriptNets

@@ -1,4 +1,5 @@
 ghost use Rattle.std.specs.Prelude.{◌↔◌, ℕ, List};
+ghost use Rattle.op_outside.specs.Disks.{MayLeave};
 ghost use Rattle.op_memory.specs.declared.disk.MemDisk.{MemDisk};
 ghost use Rattle.op_memory.specs.Images.{IsImage};
 ghost use Rattle.op_memory.specs.MemDisks.{disk_state};
@@ -8,5 +9,6 @@ use op_outside::Disk;
 
 /// What a crash of a disk in memory may leave now is each image of what is pending, and nothing else.
 pub fn what_a_crash_leaves()
-    ensures { (d : MemDisk) (x : List ℕ) → ⟦<MemDisk as Disk>⟧.left_since d (⟦<MemDisk as Disk>⟧.moment d) x ↔ IsImage (disk_state d).pending x }
+    ensures { (d : MemDisk) (x : List ℕ) →
+        MayLeave (⟦<MemDisk as Disk>⟧.state d) x ↔ IsImage (disk_state d).pending x }
 {}

@@ -1,20 +1,29 @@
 //! The outside in memory, for tests and replays.
 #![tactic(auto)]
 
+mod adding;
 mod call;
+mod call_fate;
 mod crash;
 mod disk;
+mod disk_history;
 mod edits;
-mod kept;
+mod fake_clock;
+mod fake_spawner;
+mod fault_count;
+mod fault_script;
+mod forgetting;
 mod laws;
-mod plan;
 mod replay;
+mod script_net;
 mod sink;
 mod source;
 mod syncs;
-mod tally;
 
 pub use disk::MemDisk;
+pub use fake_clock::FakeClock;
+pub use fake_spawner::{FakeSpawner, KeptChild};
 pub use laws::what_a_crash_leaves;
+pub use script_net::{Incoming, KeptCall, NetScript, ScriptNet};
 pub use sink::MemSink;
 pub use source::MemSource;

@@ -1,3 +1,6 @@
-pub mod Making
-pub mod OneState
-pub mod Keeping
+pub mod RecordsMakeStates
+pub mod UniqueState
+pub mod CommitCrashes
+pub mod BeginningCalls
+pub mod OpeningOutcomes
+pub mod RefusalCauses

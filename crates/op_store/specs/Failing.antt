@@ -1,6 +1,7 @@
 -- Why a store was not opened, and what holds then.
-use Rattle.std.specs.Prelude.{◌≡◌, ◌+◌, ◌-◌, ◌^◌, min, ℕ}
-use Rattle.op_outside.specs.Causes.{Rose}
+use Rattle.std.specs.Prelude.{◌≡◌, ◌+◌, min, ℕ}
+use Rattle.op_outside.specs.Causes.{last_count, FaultsRose}
+use Rattle.op_store.specs.Stored.{Disks}
 use Rattle.op_journal.specs.declared.fail.JournalFail.{JournalFail}
 use Rattle.op_journal.specs.declared.fail.JournalFail.TheVariants as journal
 use Rattle.op_store.specs.declared.fail.StoreFail.{StoreFail}
@@ -8,7 +9,11 @@ use Rattle.op_store.specs.declared.fail.StoreFail.TheVariants.{DiskFault, Damage
 
 -- how often two disks have failed, up to the last value of a u64
 abbrev pub total : ℕ → ℕ → ℕ
-total first second = min (first + second) (2 ^ 64 - 1)
+total first second = min (first + second) last_count
+
+-- how often the two disks have failed
+abbrev pub faults : Disks → ℕ
+faults disks = total disks.first.faults disks.second.faults
 
 -- why an area was not opened is why the store was not, with the faults of both disks
 abbrev pub IsCauseOf : JournalFail → ℕ → StoreFail → Type 0
@@ -30,6 +35,6 @@ IsDamageOrStopped area at NoMemory = Unit {0}
 
 -- a disk fault is told where the count rose, with that count, and nowhere else
 abbrev pub IsFaultOf : ℕ → ℕ → StoreFail → Type 0
-IsFaultOf before now (DiskFault n) = (n ≡ now) × Rose before now
+IsFaultOf before now (DiskFault n) = (n ≡ now) × FaultsRose before now
 IsFaultOf before now (Damaged area at) = now ≡ before
 IsFaultOf before now NoMemory = now ≡ before

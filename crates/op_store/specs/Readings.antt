@@ -1,32 +1,33 @@
 -- What an area's bytes are read as: a durable state, nothing, or damage at a place.
-use Rattle.std.specs.Prelude.{◌≡◌, ◌⊎◌, ◌<◌, ◌^◌, ℕ, List, [], ◌∷◌, ◌++◌, length, drop, Option, Some, None}
+use Rattle.std.specs.Prelude.{◌≡◌, ◌⊎◌, ℕ, List, drop, Option, Some, None}
 use Rattle.op_types.specs.declared.durable.Durable.{Durable}
-use Rattle.op_journal.specs.Areas.{record_text, HasHeader, IsArea}
+use Rattle.op_journal.specs.Areas.{HasHeader, IsArea}
 use Rattle.op_journal.specs.Readings.{IsNew, HasNoHeader}
-use Rattle.op_journal.specs.Rows.{AreRecords, IsRow}
+use Rattle.op_journal.specs.Rows.{AreRecords, IsRecordAt, IsClosed, IsRow}
 use Rattle.op_store.specs.Records.{Makes, AllMake}
 use Rattle.op_store.specs.declared.reading.Reading.{Reading}
 use Rattle.op_store.specs.declared.reading.Reading.TheVariants as reading
 
--- no gate, or an open one and behind it no record that makes anything of what those before made
-abbrev pub EndsAt : Option Durable → List ℕ → Type 0
-EndsAt made bytes = (bytes ≡ []) ⊎ ((behind : List ℕ) × (bytes ≡ 165 ∷ behind) × ((body more : List ℕ) (d : Durable) → length body < 2 ^ 64 → behind ≡ record_text body ++ more → Makes made body d → ⊥))
+-- no closed gate stands at this place, and no record that makes anything of what those before made
+pub record EndsAt (made : Option Durable) (bytes : List ℕ) (at : ℕ) : Type 0 where
+  pub not_closed : IsClosed (drop at bytes) → ⊥
+  pub no_record : (body : List ℕ) (next : ℕ) (d : Durable) → IsRecordAt bytes at body next → Makes made body d → ⊥
 
--- records behind a header that make a durable state, up to a closed gate
+-- records after a header that make a durable state, up to a closed gate
 pub record IsRowFor (bytes : List ℕ) (end : ℕ) (d : Durable) : Type 0 where
   pub bodies : List (List ℕ)
-  pub row : IsRow bytes 17 bodies end
+  pub row : IsRow bytes bodies end
   pub make : AllMake None bodies (Some d)
 
--- records behind a header up to this place, where there is no gate or no record that goes on
+-- records after a header up to this place, where they neither end nor go on
 pub record StopsAt (bytes : List ℕ) (at : ℕ) : Type 0 where
   pub bodies : List (List ℕ)
-  pub records : AreRecords bytes 17 bodies at
+  pub records : AreRecords bytes bodies at
   pub made : Option Durable
   pub make : AllMake None bodies made
-  pub ends : EndsAt made (drop at bytes)
+  pub ends : EndsAt made bytes at
 
--- the bytes are damaged at this place: at 0 no right header stands behind an open gate, and elsewhere the records stop behind one
+-- the bytes are damaged at this place: at 0 no right header stands after an open gate, and elsewhere the records stop after one
 abbrev pub IsDamagedFrom : List ℕ → ℕ → Type 0
 IsDamagedFrom bytes at = ((at ≡ 0) × HasNoHeader bytes) ⊎ ((generation : ℕ) × HasHeader generation bytes × StopsAt bytes at)
 

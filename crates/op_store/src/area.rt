@@ -1,30 +1,28 @@
 //! An area of one disk is opened: what it stands for, or a fresh durable state.
-ghost use Rattle.std.specs.Prelude.{◌≡◌, ◌⊎◌, ◌<◌, ◌^◌, ◌↔◌, ℕ, true, false, List, [], ◌∷◌, length, IfOk, IfErr, OnOk};
-ghost use Rattle.op_outside.specs.Causes.{HasCause};
-ghost use Rattle.op_outside.specs.Disks.{LeavesOnly, Only};
-ghost use Rattle.op_journal.specs.Areas.{Stands, IsArea, IsSettled};
+ghost use Rattle.std.specs.Prelude.{◌≡◌, ◌<◌, ◌≤◌, ◌+◌, ℕ, length, OnOk, IfOk, IfErr};
+ghost use Rattle.op_outside.specs.Disks.{disk_end, IsAtRest, Called, Kept, Counts, Costs};
 ghost use Rattle.op_journal.specs.Readings.{IsNew};
-ghost use Rattle.op_journal.specs.Beginnings.{HasNone, new_area};
-ghost use Rattle.op_journal.specs.Failing.{IfDamaged, IsDamagedOrStopped, TellsFaults};
+ghost use Rattle.op_journal.specs.Failing.{IfDamaged, IsFault, TellsFaults};
+ghost use Rattle.op_journal.specs.Calls.{synced_calls, format_calls};
 ghost use Rattle.op_record.specs.Ranges.{DurableInRange};
 ghost use Rattle.op_record.specs.Forms.{body};
 ghost use Rattle.op_record.specs.declared.body.Rec.TheVariants.{Whole};
-ghost use Rattle.op_store.specs.Stored.{StandsFor, Settles};
-ghost use Rattle.op_store.specs.Readings.{IsDamagedFrom, IsAreaFor};
-ghost use Rattle.op_store.specs.Openings.{IsFoundIn, StaysIn};
+ghost use Rattle.op_journal.specs.Beginnings.{Formats, first_generation};
+ghost use Rattle.op_store.specs.Readings.{IsAreaFor};
+ghost use Rattle.op_store.specs.Openings.{OpensArea, Resumes, Begins, CountsUnformatted};
 
 use crate::reading::{Reading, read};
-use op_journal::{DiskFault, Journal, JournalFail};
+use op_journal::{Framed, Journal, JournalFail};
 use op_outside::Disk;
-use op_record::{Rec, put};
+use op_record::put_whole;
 use op_types::Durable;
 use std::alloc::Global;
 
 /// The generation of the first area.
 const FIRST_GENERATION: u64 = 1;
 
-/// An area that is open: its generation, the place of its closed gate, the durable state that it stands for, and whether it
-/// was begun just now.
+/// An area that is open: its generation, the byte offset of its closed gate, the durable state that it stands for, and
+/// whether it was begun just now.
 #[derive(Drop)]
 pub struct OpenArea {
     pub generation: u64,
@@ -40,18 +38,10 @@ pub fn open_area<D: Disk>(
     disk: &mut D,
 ) -> Result<OpenArea, JournalFail>
     requires { DurableInRange fresh }
-    ensures found { D.follows disk.old → IfOk result (λ a. IsFoundIn fresh (D.seen disk.old) a.durable a.is_new) }
-    ensures settled { D.follows disk.old → IfOk result (λ a. Settles a.durable a.generation a.end (D.seen disk.new) (D.left_since disk.new (D.moment disk.new))) }
-    ensures begun { D.follows disk.old → IfOk result (λ a. a.is_new ≡ true → D.seen disk.new ≡ new_area 1 (body.text (Whole fresh))) }
-    ensures room { IfOk result (λ a. a.end < 2 ^ 62) }
-    ensures damaged { D.follows disk.old → IfDamaged result (IsDamagedFrom (D.seen disk.old)) }
-    ensures kept { D.follows disk.old → IfDamaged result (λ _. D.seen disk.new ≡ D.seen disk.old) }
-    ensures complete { D.follows disk.old → (at : ℕ) → IsDamagedFrom (D.seen disk.old) at → IsDamagedOrStopped at result }
-    ensures crash { D.follows disk.old → LeavesOnly D.moment D.left_since disk.old disk.new (λ image. D.left_since disk.old (D.moment disk.old) image ⊎ StaysIn fresh (D.seen disk.old) image) }
-    ensures image { D.follows disk.old → D.left_since disk.new (D.moment disk.new) (D.seen disk.new) }
-    ensures cause { TellsFaults (D.count disk.old) (D.count disk.new) result }
-    ensures model { D.follows disk.new ↔ D.follows disk.old }
-    ensures mark { D.mark disk.new ≡ D.mark disk.old }
+    ensures opens { (D.state disk.old).obeys → OpensArea fresh (D.state disk.old) (D.state disk.new) result }
+    ensures room { IfOk result (λ a. a.end < disk_end) }
+    ensures told { TellsFaults (D.state disk.old).faults (D.state disk.new).faults result }
+    ensures called { Called (D.state disk.old) (D.state disk.new) }
 {
     let bytes = Journal::read_all(alloc, disk)?;
     match read(alloc, &bytes)? {
@@ -64,27 +54,6 @@ pub fn open_area<D: Disk>(
     }
 }
 
-/// Cuts what lies behind the closed gate at `end`, of a disk that holds so many bytes.
-fn trim_behind<D: Disk>(disk: &mut D, end: u64, len: usize) -> Result<(), DiskFault>
-    requires { end < 2 ^ 62 }
-    ensures settled { D.follows disk.old → (generation : ℕ) (bodies : List (List ℕ)) → IsArea generation bodies end (D.seen disk.old) → length (D.seen disk.old) ≡ len →
-        Only (D.seen disk.old) (D.left_since disk.old (D.moment disk.old)) →
-        OnOk result (IsSettled generation bodies end (D.seen disk.new) (D.left_since disk.new (D.moment disk.new))) }
-    ensures crash { D.follows disk.old → (generation : ℕ) (bodies : List (List ℕ)) → IsArea generation bodies end (D.seen disk.old) →
-        Only (D.seen disk.old) (D.left_since disk.old (D.moment disk.old)) →
-        LeavesOnly D.moment D.left_since disk.old disk.new (Stands generation bodies) }
-    ensures image { D.follows disk.old → D.left_since disk.old (D.moment disk.old) (D.seen disk.old) → D.left_since disk.new (D.moment disk.new) (D.seen disk.new) }
-    ensures cause { HasCause (D.count disk.old) (D.count disk.new) result }
-    ensures fault { IfErr result (λ e. e.count ≡ D.count disk.new) }
-    ensures model { D.follows disk.new ↔ D.follows disk.old }
-    ensures mark { D.mark disk.new ≡ D.mark disk.old }
-{
-    if end + 1 < len as u64 {
-        Journal::trim(disk, end)?;
-    }
-    Ok(())
-}
-
 /// Opens an area that was read, of a disk that holds so many bytes.
 fn resume<D: Disk>(
     disk: &mut D,
@@ -93,21 +62,19 @@ fn resume<D: Disk>(
     end: u64,
     len: usize,
 ) -> Result<OpenArea, JournalFail>
-    requires { end < 2 ^ 62 }
-    ensures same { IfOk result (λ a. (a.is_new ≡ false) × (a.durable ≡ durable)) }
-    ensures settled { D.follows disk.old → IsAreaFor generation end durable (D.seen disk.old) → length (D.seen disk.old) ≡ len →
-        Only (D.seen disk.old) (D.left_since disk.old (D.moment disk.old)) →
-        IfOk result (λ a. Settles a.durable a.generation a.end (D.seen disk.new) (D.left_since disk.new (D.moment disk.new))) }
-    ensures room { IfOk result (λ a. a.end < 2 ^ 62) }
-    ensures undamaged { IfDamaged result (λ _. ⊥) }
-    ensures crash { D.follows disk.old → IsAreaFor generation end durable (D.seen disk.old) → Only (D.seen disk.old) (D.left_since disk.old (D.moment disk.old)) →
-        LeavesOnly D.moment D.left_since disk.old disk.new (StandsFor durable) }
-    ensures image { D.follows disk.old → D.left_since disk.old (D.moment disk.old) (D.seen disk.old) → D.left_since disk.new (D.moment disk.new) (D.seen disk.new) }
-    ensures cause { TellsFaults (D.count disk.old) (D.count disk.new) result }
-    ensures model { D.follows disk.new ↔ D.follows disk.old }
-    ensures mark { D.mark disk.new ≡ D.mark disk.old }
+    requires { end < disk_end }
+    ensures resumes { IsAreaFor generation end durable (D.state disk.old).content →
+        IsAtRest (D.state disk.old) →
+        length (D.state disk.old).content ≡ len →
+        Resumes durable (D.state disk.old) (D.state disk.new) result }
+    ensures calls { end + 1 < len → Costs synced_calls (D.state disk.old) (D.state disk.new) result }
+    ensures uncalled { len ≤ end + 1 → disk.new ≡ disk.old }
+    ensures end { IfOk result (λ a. a.end ≡ end) }
+    ensures fault { IfErr result IsFault }
+    ensures told { TellsFaults (D.state disk.old).faults (D.state disk.new).faults result }
+    ensures kept { Kept (D.state disk.old) (D.state disk.new) }
 {
-    trim_behind(disk, end, len)?;
+    Journal::trim_after(disk, end, len)?;
     Ok(OpenArea {
         generation,
         end,
@@ -124,54 +91,43 @@ fn begin<D: Disk>(
     closed: bool,
 ) -> Result<OpenArea, JournalFail>
     requires { DurableInRange fresh }
-    ensures found { IfOk result (λ a. (a.is_new ≡ true) × (a.durable ≡ fresh)) }
-    ensures settled { D.follows disk.old → IsNew (D.seen disk.old) closed → Only (D.seen disk.old) (D.left_since disk.old (D.moment disk.old)) →
-        IfOk result (λ a. Settles a.durable a.generation a.end (D.seen disk.new) (D.left_since disk.new (D.moment disk.new))) }
-    ensures written { D.follows disk.old → IsNew (D.seen disk.old) closed → IfOk result (λ _. D.seen disk.new ≡ new_area 1 (body.text (Whole fresh))) }
-    ensures room { IfOk result (λ a. a.end < 2 ^ 62) }
+    ensures begins { IsNew (D.state disk.old).content closed → IsAtRest (D.state disk.old) →
+        Begins fresh closed (D.state disk.old) (D.state disk.new) result }
+    ensures room { IfOk result (λ a. a.end < disk_end) }
     ensures undamaged { IfDamaged result (λ _. ⊥) }
-    ensures crash { D.follows disk.old → IsNew (D.seen disk.old) closed → Only (D.seen disk.old) (D.left_since disk.old (D.moment disk.old)) →
-        LeavesOnly D.moment D.left_since disk.old disk.new (λ image. HasNone image ⊎ StandsFor fresh image) }
-    ensures image { D.follows disk.old → D.left_since disk.old (D.moment disk.old) (D.seen disk.old) → D.left_since disk.new (D.moment disk.new) (D.seen disk.new) }
-    ensures cause { TellsFaults (D.count disk.old) (D.count disk.new) result }
-    ensures model { D.follows disk.new ↔ D.follows disk.old }
-    ensures mark { D.mark disk.new ≡ D.mark disk.old }
+    ensures told { TellsFaults (D.state disk.old).faults (D.state disk.new).faults result }
+    ensures kept { Kept (D.state disk.old) (D.state disk.new) }
 {
-    let whole = Rec::Whole(fresh);
-    let end = begin_with(alloc, disk, closed, &whole)?;
-    match whole {
-        Rec::Whole(durable) => Ok(OpenArea {
-            generation: FIRST_GENERATION,
-            end,
-            durable,
-            is_new: true,
-        }),
-        Rec::Step(_batch) => unreachable!(),
-    }
+    let end = begin_with(alloc, &fresh, disk, closed)?;
+    Ok(OpenArea {
+        generation: FIRST_GENERATION,
+        end,
+        durable: fresh,
+        is_new: true,
+    })
 }
 
-/// Begins the first area, of this record alone, and gives the place of the closed gate behind it.
+/// Begins the first area, of the record of this durable state alone, and gives the byte offset of the closed gate after it.
 fn begin_with<D: Disk>(
     alloc: Global,
+    fresh: &Durable,
     disk: &mut D,
     closed: bool,
-    said: &Rec,
 ) -> Result<u64, JournalFail>
-    requires { body.fits said.now }
-    ensures settled { D.follows disk.old → IsNew (D.seen disk.old) closed → Only (D.seen disk.old) (D.left_since disk.old (D.moment disk.old)) →
-        IfOk result (λ end. IsSettled 1 (body.text said.now ∷ []) end (D.seen disk.new) (D.left_since disk.new (D.moment disk.new))) }
-    ensures written { D.follows disk.old → IsNew (D.seen disk.old) closed → IfOk result (λ _. D.seen disk.new ≡ new_area 1 (body.text said.now)) }
-    ensures room { IfOk result (λ end. end < 2 ^ 62) }
+    requires { DurableInRange fresh.now }
+    ensures formats { IsNew (D.state disk.old).content closed →
+        Formats first_generation (body.text (Whole fresh.now)) (D.state disk.old) (D.state disk.new) result }
+    ensures calls { (D.state disk.old).obeys →
+        OnOk result (Counts (format_calls closed) (D.state disk.old).calls (D.state disk.new).calls) }
+    ensures failing { (D.state disk.old).obeys →
+        IfErr result (λ e. CountsUnformatted closed e (D.state disk.old).calls (D.state disk.new).calls) }
+    ensures room { IfOk result (λ end. end < disk_end) }
     ensures undamaged { IfDamaged result (λ _. ⊥) }
-    ensures crash { D.follows disk.old → IsNew (D.seen disk.old) closed → Only (D.seen disk.old) (D.left_since disk.old (D.moment disk.old)) →
-        LeavesOnly D.moment D.left_since disk.old disk.new (λ image. HasNone image ⊎ Stands 1 (body.text said.now ∷ []) image) }
-    ensures image { D.follows disk.old → D.left_since disk.old (D.moment disk.old) (D.seen disk.old) → D.left_since disk.new (D.moment disk.new) (D.seen disk.new) }
-    ensures cause { TellsFaults (D.count disk.old) (D.count disk.new) result }
-    ensures model { D.follows disk.new ↔ D.follows disk.old }
-    ensures mark { D.mark disk.new ≡ D.mark disk.old }
+    ensures told { TellsFaults (D.state disk.old).faults (D.state disk.new).faults result }
+    ensures kept { Kept (D.state disk.old) (D.state disk.new) }
 {
-    let mut bytes = Vec::new(alloc);
-    put(&mut bytes, said)?;
-    let framed = Journal::framed(alloc, &bytes)?;
+    let mut bytes = Framed::start(alloc)?;
+    put_whole(&mut bytes, fresh)?;
+    let framed = Framed::finish(bytes)?;
     Ok(Journal::format(disk, closed, FIRST_GENERATION, framed)?)
 }

@@ -1,9 +1,10 @@
 //! An area's bytes are read: what its records make, one after the other.
-ghost use Rattle.std.specs.Prelude.{◌≡◌, ◌≤◌, ℕ, List, length, slice_index, Some, IfOk, IfSome, IfNone};
+ghost use Rattle.std.specs.Prelude.{◌≡◌, ℕ, List, Some, IfOk, IfSome, IfNone};
 ghost use Rattle.op_types.specs.Changes.{Applies, durable_after};
 ghost use Rattle.op_types.specs.declared.changes.Change.{Change};
 ghost use Rattle.op_types.specs.declared.durable.Durable.{Durable};
 ghost use Rattle.op_record.specs.declared.body.Rec.TheVariants.{Whole, Step};
+ghost use Rattle.op_journal.specs.Rows.{IsBegun};
 ghost use Rattle.op_journal.specs.Failing.{IfDamaged, IfFault, IsDamagedOrNoMemory};
 ghost use Rattle.op_store.specs.Records.{Makes};
 ghost use Rattle.op_store.specs.Readings.{IsRowFor, StopsAt, IsDamagedFrom, IsRead};
@@ -18,13 +19,13 @@ use std::alloc::Global;
 /// What an area's bytes hold.
 #[derive(Drop)]
 pub enum Reading {
-    /// An area of this generation, the durable state that its records make, and the place of its closed gate.
+    /// An area of this generation, the durable state that its records make, and the byte offset of its closed gate.
     Area {
         generation: u64,
         durable: Durable,
         end: u64,
     },
-    /// No area: a byte at most or, where it is closed, more bytes behind a closed gate.
+    /// No area: a byte at most or, where it is closed, more bytes after a closed gate.
     New {
         closed: bool,
     },
@@ -39,8 +40,8 @@ pub fn read(alloc: Global, bytes: &[u8]) -> Result<Reading, JournalFail>
 {
     match Journal::begun(bytes)? {
         Begun::New { closed } => Ok(Reading::New { closed }),
-        Begun::Area { generation } => {
-            let (durable, end) = durable_of(alloc, bytes)?;
+        Begun::Area { generation, first } => {
+            let (durable, end) = durable_of(alloc, bytes, first)?;
             Ok(Reading::Area {
                 generation,
                 durable,
@@ -50,22 +51,21 @@ pub fn read(alloc: Global, bytes: &[u8]) -> Result<Reading, JournalFail>
     }
 }
 
-/// What the records behind a header make, and the place of the closed gate behind them.
-fn durable_of(alloc: Global, bytes: &[u8]) -> Result<(Durable, u64), JournalFail>
-    requires long { 18 ≤ length bytes.now }
-    requires opened { slice_index bytes.now 17 ≡ 165 }
+/// What the records after a header make, from the first one on, and the byte offset of the closed gate after them.
+fn durable_of(alloc: Global, bytes: &[u8], first: usize) -> Result<(Durable, u64), JournalFail>
+    requires { (generation : ℕ) × IsBegun generation first bytes.now }
     ensures found { IfOk result (λ r. IsRowFor bytes.now r.1 r.0) }
     ensures damaged { IfDamaged result (StopsAt bytes.now) }
     ensures no_fault { IfFault result (λ _. ⊥) }
 {
     let mut made = None;
-    let mut at = 17;
-    'records: while let Some(body) = Journal::record_at(bytes, at)? {
+    let mut at = first;
+    'records: while let Some((body, next)) = Journal::record_at(bytes, at)? {
         let Some(durable) = after_record(alloc, made, body)? else {
             return Err(JournalFail::Damaged { at: at as u64 });
         };
         made = Some(durable);
-        at += 9 + body.len();
+        at = next;
     }
     match made {
         Some(durable) => Ok((durable, at as u64)),
@@ -109,9 +109,11 @@ fn whole_in(said: Rec) -> Option<Durable>
 /// What the step that a record says makes of a durable state, or none where it doesn't apply or the record says none.
 fn after_step(durable: Durable, said: Rec) -> Result<Option<Durable>, NoMemory>
     requires { room_of durable.part ≡ 0 }
-    ensures applied { IfOk result (λ o. IfSome o (λ d. (batch : List Change) × (said ≡ Step batch) × Applies durable batch × (d ≡ durable_after durable batch))) }
+    ensures applied { IfOk result (λ o. IfSome o (λ d. (batch : List Change) ×
+        (said ≡ Step batch) × Applies durable batch × (d ≡ durable_after durable batch))) }
     ensures room { IfOk result (λ o. IfSome o (λ d. room_of d.part ≡ 0)) }
-    ensures none { IfOk result (λ o. IfNone o ((batch : List Change) → said ≡ Step batch → Applies durable batch → ⊥)) }
+    ensures none { IfOk result (λ o. IfNone o ((batch : List Change) →
+        said ≡ Step batch → Applies durable batch → ⊥)) }
 {
     let Rec::Step(batch) = said else {
         return Ok(None);

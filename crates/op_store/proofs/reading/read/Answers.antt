@@ -3,10 +3,9 @@ use Rattle.std.specs.Prelude.{IsErr}
 use Rattle.op_journal.specs.Areas.{HasHeader}
 use Rattle.op_journal.specs.Readings.{HasNoHeader}
 use Rattle.op_journal.specs.Failing.{IfDamaged, IfFault}
-use Rattle.op_journal.proofs.Headers.{header_long, header_gate}
-use Rattle.op_journal.proofs.Holding.{IfDamaged-map, told_of}
+use Rattle.op_journal.proofs.FoundAreas.{IfDamaged-map, told_of}
 use Rattle.op_store.specs.Readings.{IsDamagedFrom, StopsAt}
-use Rattle.op_store.proofs.OneState.{area_for, stands_area, undamaged_state, told}
+use Rattle.op_store.proofs.UniqueState.{area_for, stands_area, undamaged_state, told}
 use Rattle.op_store.proofs.reading.read.Goals as goal
 
 pub returns-in_err-closed-clause-complete : goal.returns-in_err-closed-clause-complete
@@ -17,14 +16,6 @@ returns-in_err-closed-clause-complete c at here =
     let none : IfFault r (λ _. ⊥) = search rules in
     let err : IsErr r = search rules in
     told_of at r none (told bytes at r err (IfDamaged-map r (λ place. (place ≡ 0) × HasNoHeader bytes) (IsDamagedFrom bytes) (λ place h. inl h) said) here)
-
-pub durable_of-requires-clause-long : goal.durable_of-requires-clause-long
-durable_of-requires-clause-long c =
-    let h : HasHeader c.in-Area.generation c.args.bytes.now = search rules in header_long c.in-Area.generation c.args.bytes.now h
-
-pub durable_of-requires-clause-opened : goal.durable_of-requires-clause-opened
-durable_of-requires-clause-opened c =
-    let h : HasHeader c.in-Area.generation c.args.bytes.now = search rules in header_gate c.in-Area.generation c.args.bytes.now h
 
 pub returns-in_err-durable-in-Area-clause-complete : goal.returns-in_err-durable-in-Area-clause-complete
 returns-in_err-durable-in-Area-clause-complete c at here =

@@ -1,16 +1,20 @@
-use Rattle.std.proofs.Common.{rules, ◌≡◌, ◌<◌, length}
-use Rattle.op_memory.specs.Plans.{next_fate}
-use Rattle.op_memory.specs.Images.{stopped_in_cut}
-use Rattle.op_memory.specs.MemDisks.{seen_of}
+use Rattle.std.proofs.Common.{refl, rules}
+use Rattle.std.specs.Prelude.{OnOk}
+use Rattle.op_outside.specs.Disks.{Edits}
+use Rattle.op_outside.specs.Disks.Edit.{Cut}
 use Rattle.op_memory.specs.declared.disk.MemDisk.{MemDisk}
-use Rattle.op_memory.specs.declared.plan.Fate.TheVariants.{Stops}
-use Rattle.op_memory.proofs.Stopping.{stopped_fails}
+use Rattle.op_memory.specs.MemDisks.{seen_of}
+use Rattle.op_memory.proofs.Calling.{history_call}
 use Rattle.op_memory.proofs.disk.MemDiskDisk.cut.Goals as goal
 
-pub returns-then-eq-2-clause-err : goal.returns-then-eq-2-clause-err
-returns-then-eq-2-clause-err c =
-    let new : MemDisk = record { alloc = c.args.self.now.alloc; kept = c.stop_in_cut-done.new.self; plan = c.next_fate-fate.new.self; tally = c.stop.new.self } in
-    let stops : next_fate c.args.self.now.plan ≡ Stops = search rules in
-    let within : length (seen_of c.args.self.now) < c.args.len → ⊥ = search rules in
-    stopped_fails c.args.self.now new (length (seen_of c.args.self.now) < c.args.len) (stopped_in_cut c.args.len) c.stop_in_cut-done.result
-    c.stop.ensures.by_one c.stop_in_cut-done.ensures.bytes stops c.stop_in_cut-done.ensures.state c.stop_in_cut-done.ensures.same c.stop.ensures.starved within
+pub returns-then-eq-2-clause-does : goal.returns-then-eq-2-clause-does
+returns-then-eq-2-clause-does c =
+    let new : MemDisk = record { alloc = c.args.self.now.alloc; history = c.add-done.new.self; script = c.next_fate-fate.new.self; faults = c.stop.new.self } in
+    history_call (Cut c.args.len) (Cut c.args.len) c.args.self.now new _ refl
+    (record { later = c.stop.ensures.later; ok = search rules; err = search rules }) c.add-done.ensures.goes_on (search rules)
+
+pub returns-clause-does : goal.returns-clause-does
+returns-clause-does c =
+    let new : MemDisk = record { alloc = c.args.self.now.alloc; history = c.add-done-2.new.self; script = c.next_fate-fate.new.self; faults = c.settle.new.self } in
+    let done : OnOk c.settle.result (Edits (Cut c.args.len) (seen_of c.args.self.now) (seen_of new)) = search rules in
+    history_call (Cut c.args.len) (Cut c.args.len) c.args.self.now new c.settle.result refl c.settle.ensures.cause c.add-done-2.ensures.goes_on done

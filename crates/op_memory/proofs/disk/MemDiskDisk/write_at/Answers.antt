@@ -1,16 +1,22 @@
-use Rattle.std.proofs.Common.{rules, ◌≡◌, ◌<◌, length}
-use Rattle.op_memory.specs.Plans.{next_fate}
-use Rattle.op_memory.specs.Images.{stopped_in_write}
-use Rattle.op_memory.specs.MemDisks.{seen_of}
+use Rattle.std.proofs.Common.{◌≡◌, ap, rules}
+use Rattle.std.specs.Prelude.{OnOk}
+use Rattle.op_outside.specs.Disks.{Edits}
+use Rattle.op_outside.specs.Disks.Edit.{Write}
 use Rattle.op_memory.specs.declared.disk.MemDisk.{MemDisk}
-use Rattle.op_memory.specs.declared.plan.Fate.TheVariants.{Stops}
-use Rattle.op_memory.proofs.Stopping.{stopped_fails}
+use Rattle.op_memory.specs.MemDisks.{seen_of}
+use Rattle.op_memory.proofs.Calling.{history_call}
 use Rattle.op_memory.proofs.disk.MemDiskDisk.write_at.Goals as goal
 
-pub returns-then-eq-2-clause-err : goal.returns-then-eq-2-clause-err
-returns-then-eq-2-clause-err c =
-    let new : MemDisk = record { alloc = c.args.self.now.alloc; kept = c.stop_in_write-done.new.self; plan = c.next_fate-fate.new.self; tally = c.stop.new.self } in
-    let stops : next_fate c.args.self.now.plan ≡ Stops = search rules in
-    let within : length (seen_of c.args.self.now) < c.args.at → ⊥ = search rules in
-    stopped_fails c.args.self.now new (length (seen_of c.args.self.now) < c.args.at) (stopped_in_write c.args.at c.args.bytes.now) c.stop_in_write-done.result
-    c.stop.ensures.by_one c.stop_in_write-done.ensures.bytes stops c.stop_in_write-done.ensures.state c.stop_in_write-done.ensures.same c.stop.ensures.starved within
+pub returns-then-eq-2-clause-does : goal.returns-then-eq-2-clause-does
+returns-then-eq-2-clause-does c =
+    let new : MemDisk = record { alloc = c.args.self.now.alloc; history = c.add-done.new.self; script = c.next_fate-fate.new.self; faults = c.stop.new.self } in
+    let same : c.in-Ok.piece.items ≡ c.args.bytes.now = search rules in
+    history_call (Write c.args.at c.in-Ok.piece.items) (Write c.args.at c.args.bytes.now) c.args.self.now new _ (ap (Write c.args.at) same)
+    (record { later = c.stop.ensures.later; ok = search rules; err = search rules }) c.add-done.ensures.goes_on (search rules)
+
+pub returns-clause-does : goal.returns-clause-does
+returns-clause-does c =
+    let new : MemDisk = record { alloc = c.args.self.now.alloc; history = c.add-done-2.new.self; script = c.next_fate-fate.new.self; faults = c.settle.new.self } in
+    let same : c.in-Ok.piece.items ≡ c.args.bytes.now = search rules in
+    let done : OnOk c.settle.result (Edits (Write c.args.at c.args.bytes.now) (seen_of c.args.self.now) (seen_of new)) = search rules in
+    history_call (Write c.args.at c.in-Ok.piece.items) (Write c.args.at c.args.bytes.now) c.args.self.now new c.settle.result (ap (Write c.args.at) same) c.settle.ensures.cause c.add-done-2.ensures.goes_on done

@@ -1,0 +1,19 @@
+//! Crashes and damage of stored records, run over the disk in memory.
+#![tactic(auto)]
+
+#[cfg(test)]
+mod areas;
+#[cfg(test)]
+mod damage;
+#[cfg(test)]
+mod memory;
+#[cfg(test)]
+mod silent;
+#[cfg(test)]
+mod store_damage;
+#[cfg(test)]
+mod store_stops;
+#[cfg(test)]
+mod stored;
+#[cfg(test)]
+mod stores;

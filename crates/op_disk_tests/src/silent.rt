@@ -1,0 +1,61 @@
+//! A disk that tells nothing of its content, as a real file: it fits the trait, and the journal runs over it.
+ghost use Rattle.std.specs.Prelude.{◌≤◌};
+ghost use Rattle.op_outside.specs.Disks.{untold};
+ghost use Rattle.op_outside.specs.Causes.{FaultsRose};
+
+use op_journal::Journal;
+use op_outside::{Disk, DiskFail};
+use std::test::Fail;
+
+/// A disk whose every call fails.
+#[derive(Drop)]
+struct Silent {
+    count: u64,
+}
+
+impl Silent {
+    fn fail(&mut self) -> DiskFail
+        ensures later { self.old.count ≤ self.new.count }
+        ensures rose { FaultsRose self.old.count self.new.count }
+    {
+        self.count = self.count.saturating_add(1);
+        DiskFail
+    }
+}
+
+impl Disk for Silent {
+    ghost state = { λ d. untold d.count };
+
+    fn faults(&self) -> u64 {
+        self.count
+    }
+
+    fn len(&mut self) -> Result<u64, DiskFail> {
+        Err(self.fail())
+    }
+
+    fn read(&mut self, _at: u64, _buf: &mut [u8]) -> Result<(), DiskFail> {
+        Err(self.fail())
+    }
+
+    fn write_at(&mut self, _at: u64, _bytes: &[u8]) -> Result<(), DiskFail> {
+        Err(self.fail())
+    }
+
+    fn cut(&mut self, _len: u64) -> Result<(), DiskFail> {
+        Err(self.fail())
+    }
+
+    fn sync(&mut self) -> Result<(), DiskFail> {
+        Err(self.fail())
+    }
+}
+
+#[test]
+fn a_boxed_disk_goes_through_generic_code(rt: HostRuntime) -> Result<(), Fail> {
+    let alloc = rt.alloc();
+    let mut disk: Box<dyn Disk> = Box::new(alloc, Silent { count: 0 })?;
+    assert!(rt; Journal::open(alloc, &mut disk).is_err());
+    assert_eq!(rt; disk.faults(), 1);
+    Ok(())
+}

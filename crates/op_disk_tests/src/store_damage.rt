@@ -1,0 +1,77 @@
+//! Stores whose area is new, whole or damaged.
+
+use crate::stored::{FIRST_STEP, WHOLE};
+use crate::stores::{check_bytes, disks, open, refused};
+use op_store::StoreFail;
+use std::alloc::Global;
+use std::process::Abort;
+use std::test::Fail;
+
+/// An area of these parts is opened: it is new, or has what the steps of these commands leave. Afterwards the disk holds
+/// what is left.
+fn check_opens(
+    rt: &(impl Abort + Alloc<A = Global>),
+    parts: &[&[u8]],
+    is_new: bool,
+    seqs: &[u64],
+    left: &[&[u8]],
+) -> Result<(), Fail> {
+    let (store, found_new) = open(rt, disks(rt.alloc(), parts)?, seqs)?;
+    assert_eq!(rt; found_new, is_new);
+    let (first, _) = store.into_disks();
+    check_bytes(rt, &first, left)
+}
+
+/// Parts of an area, whether it is new, the commands of its steps, and what is left: a whole durable state and a batch; a
+/// closed gate before; more bytes after the closed gate, which are cut.
+const OPENED: [(&[&[u8]], bool, &[u64], &[&[u8]]); 3] = [
+    (
+        &[&WHOLE, &FIRST_STEP, &[0]],
+        false,
+        &[1],
+        &[&WHOLE, &FIRST_STEP, &[0]],
+    ),
+    (
+        &[&[0], &WHOLE, &FIRST_STEP, &[0]],
+        true,
+        &[],
+        &[&WHOLE, &[0]],
+    ),
+    (&[&WHOLE, &[0], b"fives"], false, &[], &[&WHOLE, &[0]]),
+];
+
+#[test]
+fn an_area_without_damage_is_opened(rt: HostRuntime) -> Result<(), Fail> {
+    for (parts, is_new, seqs, left) in OPENED.iter() {
+        check_opens(&rt, parts, *is_new, seqs, left)?;
+    }
+    Ok(())
+}
+
+/// An area of these parts is damaged at this place, and it is left as it is.
+fn check_damage(
+    rt: &(impl Abort + Alloc<A = Global>),
+    parts: &[&[u8]],
+    at: u64,
+) -> Result<(), Fail> {
+    let returned = refused(rt.alloc(), disks(rt.alloc(), parts)?)?;
+    assert_eq!(rt; returned.cause, StoreFail::Damaged { area: 0, at });
+    check_bytes(rt, &returned.first, parts)
+}
+
+#[test]
+fn damage_is_told_at_its_place(rt: HostRuntime) -> Result<(), Fail> {
+    let (whole, step) = (&WHOLE, &FIRST_STEP);
+    // The first change has no change's tag.
+    check_damage(&rt, &[whole, &step[..11], &[6], &step[12..], &[0]], 111)?;
+    // More is decided than there are entries.
+    check_damage(&rt, &[whole, &step[..51], &[2], &[0]], 111)?;
+    // A second whole durable state.
+    check_damage(&rt, &[whole, &whole[17..], &[0]], 111)?;
+    // The first record is a batch.
+    check_damage(&rt, &[&whole[..17], step, &[0]], 17)?;
+    // Version 9.
+    check_damage(&rt, &[&whole[..8], &[9], &whole[9..], step, &[0]], 0)?;
+    // No gate stands after the record.
+    check_damage(&rt, &[whole], 111)
+}

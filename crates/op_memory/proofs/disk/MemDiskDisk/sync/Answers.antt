@@ -1,0 +1,14 @@
+use Rattle.std.proofs.Common.{refl, rules}
+use Rattle.std.specs.Prelude.{OnOk}
+use Rattle.op_outside.specs.Disks.{Edits}
+use Rattle.op_outside.specs.Disks.Edit.{Nothing}
+use Rattle.op_memory.specs.declared.disk.MemDisk.{MemDisk}
+use Rattle.op_memory.specs.MemDisks.{seen_of}
+use Rattle.op_memory.proofs.Calling.{history_call}
+use Rattle.op_memory.proofs.disk.MemDiskDisk.sync.Goals as goal
+
+pub returns-clause-does : goal.returns-clause-does
+returns-clause-does c =
+    let new : MemDisk = record { alloc = c.args.self.now.alloc; history = c.add-done.new.self; script = c.next_fate.new.self; faults = c.settle.new.self } in
+    let done : OnOk c.settle.result (Edits Nothing (seen_of c.args.self.now) (seen_of new)) = search rules in
+    history_call Nothing Nothing c.args.self.now new c.settle.result refl c.settle.ensures.cause c.add-done.ensures.goes_on done

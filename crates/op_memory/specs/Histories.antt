@@ -1,0 +1,25 @@
+-- The history of a disk in memory, and one call more.
+use Rattle.std.specs.Prelude.{◌≡◌, ℕ}
+use Rattle.op_outside.specs.Disks.{DiskState}
+use Rattle.op_memory.specs.declared.call.Call.{Call}
+use Rattle.op_memory.specs.declared.disk_history.DiskHistory.{DiskHistory}
+use Rattle.op_memory.specs.Images.{State, state_of, fresh, after, known, IfSync, LeftNow}
+
+-- what is known of a disk with this history that counts so many faults and so many device calls
+abbrev pub known_of : DiskHistory → ℕ → ℕ → DiskState
+known_of h faults made = known h.start.items h.calls.items h.bytes.items faults made
+
+-- what is pending, and what a read gives
+abbrev pub history_state : DiskHistory → State
+history_state h = state_of (fresh h.start.items) h.calls.items
+
+-- one call more was made
+pub record Adds (call : Call) (old new : DiskHistory) : Type 0 where
+  pub state : history_state new ≡ after call (history_state old)
+  pub bytes : new.bytes.items ≡ (after call (fresh old.bytes.items)).content
+  pub synced : IfSync call new.bytes.items (LeftNow new.start.items new.calls.items)
+
+-- nothing has changed
+pub record IsSame (old new : DiskHistory) : Type 0 where
+  pub state : history_state new ≡ history_state old
+  pub bytes : new.bytes.items ≡ old.bytes.items

@@ -1,0 +1,25 @@
+ghost use Rattle.std.specs.Prelude.{ℕ, OnOk, OnErr};
+ghost use Rattle.op_outside.specs.Disks.{GoesOn};
+ghost use Rattle.op_memory.specs.Images.{edit_of, IsWithin};
+ghost use Rattle.op_memory.specs.Histories.{known_of, Adds, IsSame};
+
+use crate::call::Call;
+use crate::disk_history::DiskHistory;
+use crate::replay::run;
+use std::alloc::AllocError;
+
+impl DiskHistory {
+    /// Makes a call. One that finds no memory changes nothing.
+    pub fn add(&mut self, call: Call) -> Result<(), AllocError>
+        requires { IsWithin call self.old.bytes.items }
+        ensures added { OnOk result (Adds call self.old self.new) }
+        ensures err { OnErr result (IsSame self.old self.new) }
+        ensures goes_on { (f i g j : ℕ) →
+            GoesOn (edit_of call) (known_of self.old f i) (known_of self.new g j) }
+    {
+        self.calls.reserve(1)?;
+        run(&mut self.bytes, &call)?;
+        self.calls.push_reserved(call);
+        Ok(())
+    }
+}
