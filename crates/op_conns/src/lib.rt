@@ -1,0 +1,9 @@
+//! The bytes that wait for each open connection.
+#![tactic(auto)]
+
+mod laws;
+mod queue;
+mod table;
+
+pub use laws::queues_apart;
+pub use table::Table;
