@@ -13,6 +13,7 @@ pub struct Input<R> {
 }
 
 impl<R: Read> Input<R> {
+    /// A source over this reader, which hasn't failed yet.
     pub fn new(inner: R) -> Self
         ensures left { ⟦<Input<R> as Source>⟧.left result ≡ R.remaining inner }
         ensures count { ⟦<Input<R> as Source>⟧.fault_count result ≡ 0 }

@@ -1,13 +1,28 @@
-//! The real streams, as sources and sinks: bytes are handed on as they are, and failures are counted.
+//! The real things outside the program: streams, files, sockets, the clock and child programs. Bytes are handed on as they
+//! are, and failures are counted.
 #![tactic(auto)]
 
+mod arguments;
+mod faults;
+mod file_disk;
 mod input;
+mod lazy_file;
+mod mio_net;
+mod monotonic_clock;
+mod options;
 mod output;
-mod standard;
+mod peer;
+mod poller;
+mod programs;
+mod sockets;
 
+pub use arguments::words;
+pub use file_disk::FileDisk;
 pub use input::Input;
+pub use mio_net::MioNet;
+pub use monotonic_clock::MonotonicClock;
 pub use output::Output;
-pub use standard::StandardStream;
+pub use programs::Programs;
 
 /// How often a call is tried that a signal cuts short.
 const TRIES: u32 = 1000;

@@ -13,6 +13,7 @@ pub struct Output<W> {
 }
 
 impl<W: Write> Output<W> {
+    /// A sink over this writer, which hasn't failed yet.
     pub fn new(inner: W) -> Self
         ensures held { ⟦<Output<W> as Sink>⟧.held result ≡ W.contents inner }
         ensures count { ⟦<Output<W> as Sink>⟧.fault_count result ≡ 0 }

@@ -1,2 +1,10 @@
+pub mod AddressTexts
+pub mod FoundAlike
+pub mod KeyValues
+pub mod OnePeers
+pub mod PeerIds
+pub mod PeerRows
+pub mod Readings
+pub mod RisingIds
 pub mod Taken
 pub mod Words

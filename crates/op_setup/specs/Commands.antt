@@ -1,6 +1,7 @@
 -- The commands as clap sees them. Only what is inside the crate speaks of this.
-use Rattle.std.specs.Prelude.{codes, true}
-use Rattle.clap.specs.Words.{App, new_app, with_subcommand}
+use Rattle.std.specs.Prelude.{◌≡◌, ℕ, List, codes, slice_get, true}
+use Rattle.clap.specs.Words.{App, new_app, subcommand_name_of, with_subcommand}
+use Rattle.clap.specs.declared.parser.matches.ArgMatches.{ArgMatches}
 
 -- `replay`, with no more words
 abbrev pub replay_app : App
@@ -13,3 +14,7 @@ program_app = let a = new_app (codes "omni") in record a { top = record a.top { 
 -- the program and its commands
 abbrev pub omni_app : App
 omni_app = with_subcommand program_app replay_app.top
+
+-- clap found the command that the first word names
+abbrev pub NamesFirst : ArgMatches → List (List ℕ) → Type 0
+NamesFirst m words = subcommand_name_of m ≡ slice_get words 0

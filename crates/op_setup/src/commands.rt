@@ -7,6 +7,7 @@ ghost use Rattle.op_setup.specs.Commands.{replay_app, program_app, omni_app};
 use clap::Command;
 use std::alloc::{AllocError, Global};
 
+/// The command `replay`, which takes no more words.
 fn replay<'a>(alloc: Global) -> Command<'a>
     ensures app { app_of result ≡ replay_app }
     ensures local { (fields_of result).has_globals ≡ false }

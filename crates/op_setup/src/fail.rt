@@ -1,3 +1,4 @@
+//! Why no task is found.
 ghost use Rattle.std.specs.Prelude.{◌≡◌, ◌↔◌};
 ghost use Rattle.clap.specs.Words.{kind_of};
 ghost use Rattle.clap.specs.declared.error.kind.ErrorKind.TheVariants.{OutOfMemory};
@@ -10,8 +11,9 @@ use std::alloc::AllocError;
 /// Why words give no task.
 #[derive(Clone, Copy, Debug, PartialEq, Eq)]
 pub enum TaskFail {
-    /// They are no command.
+    /// The words are no task's.
     Usage,
+    /// The words are a task's, and the allocator has no memory for clap.
     NoMemory,
 }
 

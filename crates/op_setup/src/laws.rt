@@ -1,9 +1,24 @@
-ghost use Rattle.std.specs.Prelude.{◌≡◌, ℕ, List, IsTrue};
+//! What the words of the command line and texts of settings promise.
+ghost use Rattle.std.specs.Prelude.{◌≡◌, ℕ, List, Option, IsTrue};
 ghost use Rattle.op_setup.specs.declared.tasks.Task.{Task};
+ghost use Rattle.op_setup.specs.declared.config.Settings.{Settings};
+ghost use Rattle.op_setup.specs.declared.config_cause.ConfigCause.{ConfigCause};
+ghost use Rattle.op_setup.specs.Settings.{IsSettings};
+ghost use Rattle.op_setup.specs.Causes.{IsFirstCause};
 ghost use Rattle.op_setup.specs.Tasks.{task_words, IsTask, has_flag};
 
-/// Words are those of one task at most, and of none where one of them begins with `-`.
-pub fn one_task()
+/// No two tasks have the same words, and words are no task's where one of them begins with `-`.
+pub fn words_are_unambiguous()
     ensures one { (s t : Task) → task_words s ≡ task_words t → s ≡ t }
     ensures flag { (words : List (List ℕ)) → IsTrue (has_flag words) → IsTask words → ⊥ }
+{}
+
+/// A text has one reading: no two settings, no two first causes, and not both.
+pub fn settings_are_unambiguous()
+    ensures one { (text : List ℕ) (id : Option ℕ) (s t : Settings) →
+        IsSettings text id s → IsSettings text id t → s ≡ t }
+    ensures first { (text : List ℕ) (id : Option ℕ) (c d : ConfigCause) →
+        IsFirstCause text id c → IsFirstCause text id d → c ≡ d }
+    ensures apart { (text : List ℕ) (id : Option ℕ) (s : Settings) (c : ConfigCause) →
+        IsSettings text id s → IsFirstCause text id c → ⊥ }
 {}

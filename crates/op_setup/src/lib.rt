@@ -1,13 +1,21 @@
-//! What the words of the command line ask.
+//! What the words of the command line ask, and what a text of settings sets.
 #![tactic(auto)]
 
 mod commands;
+mod config;
+mod config_cause;
 mod fail;
 mod laws;
 mod reading;
+mod settings_fail;
 mod tasks;
+mod toml_keys;
 
+pub use config::{MOST_PEERS, MOST_TICK_MS, MOST_TURNS, Peers, Settings};
+pub use config_cause::ConfigCause;
 pub use fail::TaskFail;
-pub use laws::one_task;
+pub use laws::{settings_are_unambiguous, words_are_unambiguous};
 pub use reading::task;
+pub use settings_fail::SettingsFail;
 pub use tasks::Task;
+pub use toml_keys::settings;

@@ -1,6 +1,7 @@
-ghost use Rattle.std.specs.Prelude.{◌≡◌, ◌↔◌, map, string_bytes, slice_get, IfOk, IfSome, IfNone, IsTrue, Err};
-ghost use Rattle.clap.specs.Words.{subcommand_name_of};
+//! The task that words ask for.
+ghost use Rattle.std.specs.Prelude.{◌≡◌, ◌↔◌, map, string_bytes, IfOk, IfSome, IfNone, IsTrue, Err};
 ghost use Rattle.op_setup.specs.declared.tasks.Task.TheVariants.{Replay};
+ghost use Rattle.op_setup.specs.Commands.{NamesFirst};
 ghost use Rattle.op_setup.specs.Tasks.{task_words, IsTask};
 
 use crate::commands::omni;
@@ -9,12 +10,14 @@ use crate::tasks::Task;
 use clap::ArgMatches;
 use std::alloc::Global;
 
+/// Whether a word is this text.
 fn is_text(word: &String, text: &str) -> bool
     ensures { IsTrue result ↔ (string_bytes word.now ≡ text.now) }
 {
     word.as_str() == text
 }
 
+/// Whether the words are those of `replay`.
 fn is_replay(words: &[String]) -> bool
     ensures { IsTrue result ↔ (map string_bytes words.now ≡ task_words Replay) }
 {
@@ -31,10 +34,11 @@ fn are_asked(words: &[String]) -> bool
     is_replay(words)
 }
 
-/// The task of the command that clap found, where the words are all its words.
+/// The task of the command that clap found, if these are its words.
 fn found_task(matches: &ArgMatches<'_>, words: &[String]) -> Option<Task>
     ensures found { IfSome result (λ t. map string_bytes words.now ≡ task_words t) }
-    ensures none { IfNone result (subcommand_name_of matches.now ≡ slice_get (map string_bytes words.now) 0 → IsTask (map string_bytes words.now) → ⊥) }
+    ensures none { IfNone result
+        (NamesFirst matches.now (map string_bytes words.now) → IsTask (map string_bytes words.now) → ⊥) }
 {
     match matches.subcommand_name()? {
         "replay" if is_replay(words) => Some(Task::Replay),
@@ -42,18 +46,19 @@ fn found_task(matches: &ArgMatches<'_>, words: &[String]) -> Option<Task>
     }
 }
 
-/// What clap makes of a task's words: it finds their command, unless there is no memory.
+/// What clap makes of a task's words: it finds their command, and fails only for want of memory.
 fn matched<'a>(alloc: Global, words: &'a [String]) -> Result<ArgMatches<'a>, TaskFail>
     requires { IsTask (map string_bytes words.now) }
-    ensures found { IfOk result (λ m. subcommand_name_of m ≡ slice_get (map string_bytes words.now) 0) }
+    ensures found { IfOk result (λ m. NamesFirst m (map string_bytes words.now)) }
     ensures memory { result ≡ Err TaskFail.Usage → ⊥ }
 {
     let command = omni(alloc)?;
     Ok(command.try_get_matches_from(words)?)
 }
 
-/// The task that the words ask for: those of the command line, without the program's name. Words that are no task's are
-/// refused before clap reads any of them, and take no memory.
+/// The task that the words of the command line ask for; the program's name isn't one of them. `Usage` comes
+/// exactly where they are no task's, before clap reads any of them and with no memory taken. `NoMemory` comes
+/// only where clap gets none.
 pub fn task(alloc: Global, words: &[String]) -> Result<Task, TaskFail>
     ensures found { IfOk result (λ t. map string_bytes words.now ≡ task_words t) }
     ensures usage { result ≡ Err TaskFail.Usage → IsTask (map string_bytes words.now) → ⊥ }

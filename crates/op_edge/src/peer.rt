@@ -1,0 +1,143 @@
+ghost use Rattle.std.specs.Prelude.{◌≡◌, ◌≢◌, ◌<◌, length, Ok, IfOk, IfErr};
+ghost use Rattle.std_io.specs.IoError.{error_kind};
+ghost use Rattle.std_io.specs.declared.io.kind.ErrorKind.TheVariants.{WouldBlock};
+ghost use Rattle.op_outside.specs.Nets.{GotWithin, TookWithin};
+
+use mio::event::Event;
+use mio::net::TcpStream;
+use op_outside::{Conn, Got, Happening, Took};
+use std::io::{self, ErrorKind, Read, Write};
+
+/// A connection, and what the system said of it. It says a thing once, at a change: so each is kept until a read or a write
+/// finds it otherwise.
+#[derive(Drop)]
+pub(crate) struct Peer {
+    stream: TcpStream,
+    /// Whether a read may find bytes, or the end.
+    readable: bool,
+    /// Whether there is room again, of which `told_of_room` wasn't called.
+    writable: bool,
+    ended: bool,
+    /// Where it waits for room: when it has ended unless there is room before, in milliseconds of the net's clock.
+    pub(crate) deadline: Option<u64>,
+}
+
+impl Peer {
+    /// A connection that waits for room until this time: so does one that was dialled, until it is open.
+    pub(crate) fn new(stream: TcpStream, deadline: Option<u64>) -> Peer {
+        Peer {
+            stream,
+            readable: false,
+            writable: false,
+            ended: false,
+            deadline,
+        }
+    }
+
+    /// Notes what the system says of it.
+    pub(crate) fn note(&mut self, event: &Event) {
+        self.readable |= event.is_readable() || event.is_read_closed() || event.is_error();
+        self.ended |= event.is_error() || event.is_write_closed();
+        if event.is_writable() && self.deadline.take().is_some() {
+            self.writable = true;
+        }
+    }
+
+    /// Notes the time, in milliseconds of the net's clock.
+    pub(crate) fn note_time(&mut self, now: u64) {
+        if self.deadline.is_some_and(|deadline| deadline <= now) {
+            self.deadline = None;
+            self.readable = false;
+            self.ended = true;
+        }
+    }
+
+    /// Whether there is something to tell of it.
+    pub(crate) fn has_news(&self) -> bool {
+        self.readable || self.writable || self.ended
+    }
+
+    /// Whether it has bytes, or has ended. Its last bytes come before its end.
+    pub(crate) fn news(&self, conn: Conn) -> Option<Happening> {
+        if self.readable {
+            Some(Happening::Readable(conn))
+        } else if self.ended {
+            Some(Happening::Ended(conn))
+        } else {
+            None
+        }
+    }
+
+    /// Whether it has room again.
+    pub(crate) fn room(&self, conn: Conn) -> Option<Happening> {
+        self.writable.then_some(Happening::Writable(conn))
+    }
+
+    pub(crate) fn told_of_room(&mut self) {
+        self.writable = false;
+    }
+
+    pub(crate) fn read(&mut self, buf: &mut [u8]) -> Got
+        requires { 0 < length buf.old }
+        ensures { GotWithin (length buf.old) (Ok result) }
+    {
+        let got = got_of(self.stream.read(buf));
+        match got {
+            Got::Bytes(_) => {}
+            Got::NotYet => self.readable = false,
+            Got::Ended => {
+                self.readable = false;
+                self.ended = true;
+            }
+        }
+        got
+    }
+
+    /// Writes what there is room for. Where there is none, it has ended unless there is room before `deadline`, or the deadline
+    /// that stands.
+    pub(crate) fn write(&mut self, piece: &[u8], deadline: u64) -> Took
+        requires { 0 < length piece.now }
+        ensures { TookWithin (length piece.now) (Ok result) }
+    {
+        let took = took_of(self.stream.write(piece));
+        match took {
+            Took::Bytes(_) => self.deadline = None,
+            Took::NotYet => {
+                self.writable = false;
+                self.deadline.get_or_insert(deadline);
+            }
+            Took::Ended => self.ended = true,
+        }
+        took
+    }
+}
+
+/// What the system's answer to a read says.
+fn got_of(answer: io::Result<usize>) -> Got
+    ensures bytes { IfOk answer (λ n. 0 < n → result ≡ Got.Bytes n) }
+    ensures end { IfOk answer (λ n. n ≡ 0 → result ≡ Got.Ended) }
+    ensures not_yet { IfErr answer (λ e. error_kind e ≡ WouldBlock → result ≡ Got.NotYet) }
+    ensures gone { IfErr answer (λ e. error_kind e ≢ WouldBlock → result ≡ Got.Ended) }
+{
+    match answer {
+        Ok(0) => Got::Ended,
+        Ok(count) => Got::Bytes(count),
+        Err(error) if error.kind() == ErrorKind::WouldBlock => Got::NotYet,
+        Err(_) => Got::Ended,
+    }
+}
+
+/// What the system's answer to a write says.
+fn took_of(answer: io::Result<usize>) -> Took
+    ensures bytes { IfOk answer (λ n. 0 < n → result ≡ Took.Bytes n) }
+    ensures end { IfOk answer (λ n. n ≡ 0 → result ≡ Took.Ended) }
+    ensures not_yet { IfErr answer (λ e. error_kind e ≡ WouldBlock → result ≡ Took.NotYet) }
+    ensures gone { IfErr answer (λ e. error_kind e ≢ WouldBlock → result ≡ Took.Ended) }
+{
+    match answer {
+        Ok(0) => Took::Ended,
+        Ok(count) => Took::Bytes(count),
+        Err(error) if error.kind() == ErrorKind::WouldBlock => Took::NotYet,
+        Err(_) => Took::Ended,
+    }
+}

@@ -1,0 +1,258 @@
+ghost use Rattle.std.specs.Prelude.{◌≤◌, ◌<◌, length, vec_len, Ok};
+ghost use Rattle.op_outside.specs.Nets.{most_happenings, GotWithin, TookWithin};
+
+use crate::options::{UNMOVED_MILLIS, set_options};
+use crate::peer::Peer;
+use crate::poller::{LISTENER, Poller};
+use mio::event::Event;
+use mio::net::{TcpListener, TcpStream};
+use op_outside::{Addr, Clock, Conn, Got, Happening, MOST_HAPPENINGS, Took};
+use std::alloc::Global;
+use std::collections::BTreeMap;
+use std::io::{self, ErrorKind};
+use std::net::{Ipv4Addr, Net, SocketAddr};
+use std::ops::Range;
+
+/// How long a dial may go without an answer, in milliseconds.
+const UNANSWERED_MILLIS: u64 = 1000;
+
+/// How many connections a wait accepts at most.
+const MOST_ACCEPTED: u32 = 16;
+
+/// A listener and connections. Each connection has a number that none had before.
+#[derive(Drop)]
+pub(crate) struct Sockets<R: Net + Drop, C: Clock + Drop> {
+    rt: R,
+    clock: C,
+    /// None where the system gave none.
+    poller: Option<Poller>,
+    listener: Option<TcpListener>,
+    /// Whether connections may wait at the listener.
+    acceptable: bool,
+    peers: BTreeMap<Conn, Peer>,
+    /// The number of the next connection.
+    next: Conn,
+    /// With which connection the next happenings begin, so that each has its turn.
+    turn: Conn,
+}
+
+impl<R: Net + Drop, C: Clock + Drop> Sockets<R, C> {
+    pub(crate) fn new(rt: R, alloc: Global, clock: C) -> Self {
+        let poller = Poller::new(&rt, alloc).ok();
+        Sockets {
+            rt,
+            clock,
+            poller,
+            listener: None,
+            acceptable: false,
+            peers: BTreeMap::new(alloc),
+            next: 0,
+            turn: 0,
+        }
+    }
+
+    /// Accepts connections at this address from now on, and at no other.
+    pub(crate) fn listen(&mut self, addr: &Addr) -> io::Result<()> {
+        let Some(poller) = &self.poller else {
+            return Err(ErrorKind::Other.into());
+        };
+        let mut listener = TcpListener::bind(&self.rt, socket_addr(addr))?;
+        poller.add_listener(&mut listener)?;
+        self.listener = Some(listener);
+        Ok(())
+    }
+
+    /// Begins a connection to this address. There is none where the system refuses it at once, as where no way leads there.
+    pub(crate) fn dial(&mut self, addr: &Addr) -> io::Result<Option<Conn>> {
+        let deadline = self.clock.millis().saturating_add(UNANSWERED_MILLIS);
+        match TcpStream::connect(&self.rt, socket_addr(addr)) {
+            Ok(stream) => self.keep(stream, Some(deadline)).map(Some),
+            Err(_) => Ok(None),
+        }
+    }
+
+    fn keep(&mut self, mut stream: TcpStream, deadline: Option<u64>) -> io::Result<Conn> {
+        let conn = self.next;
+        let Some(next) = conn.checked_add(1) else {
+            return Err(ErrorKind::Other.into());
+        };
+        let Some(poller) = &self.poller else {
+            return Err(ErrorKind::Other.into());
+        };
+        set_options(&stream)?;
+        poller.add(&mut stream, conn)?;
+        self.peers.insert(conn, Peer::new(stream, deadline))?;
+        self.next = next;
+        Ok(conn)
+    }
+
+    /// Waits for happenings, for `ms` milliseconds at most, and gives 64 of them at most. The others are given later.
+    pub(crate) fn wait(&mut self, ms: u64, given: &mut Vec<Happening>) -> io::Result<()>
+        requires { vec_len given.old ≤ most_happenings }
+        ensures { vec_len given.new ≤ most_happenings }
+    {
+        given.reserve(MOST_HAPPENINGS)?;
+        self.poll(ms)?;
+        self.accept(given)?;
+        give_in_turn(&self.peers, self.turn, given);
+        Ok(())
+    }
+
+    /// Waits, and notes what the system says.
+    fn poll(&mut self, ms: u64) -> io::Result<()> {
+        let ms = self.patience(ms);
+        let Some(poller) = &mut self.poller else {
+            return Err(ErrorKind::Other.into());
+        };
+        poller.wait(ms)?;
+        for event in &poller.events {
+            if event.token() == LISTENER {
+                self.acceptable = true;
+            } else {
+                note(&mut self.peers, event);
+            }
+        }
+        self.note_time();
+        Ok(())
+    }
+
+    fn note_time(&mut self) {
+        let now = self.clock.millis();
+        for peer in self.peers.values_mut() {
+            peer.note_time(now);
+        }
+    }
+
+    /// How long to wait, in milliseconds: not where there is something to tell, and not past a deadline.
+    fn patience(&mut self, ms: u64) -> u64 {
+        if self.acceptable || self.peers.values().any(|peer| peer.has_news()) {
+            return 0;
+        }
+        let now = self.clock.millis();
+        self.peers.values().filter_map(|peer| peer.deadline).fold(
+            ms,
+            |least, deadline| least.min(deadline.saturating_sub(now)),
+        )
+    }
+
+    /// Takes what waits at the listener. An error comes only where nothing was taken before it.
+    fn accept(&mut self, given: &mut Vec<Happening>) -> io::Result<()>
+        requires { vec_len given.old ≤ most_happenings }
+        ensures { vec_len given.new ≤ most_happenings }
+    {
+        'accepted: for _ in 0..MOST_ACCEPTED {
+            if !self.acceptable {
+                break;
+            }
+            match self.accept_one() {
+                Ok(conn) => put(given, conn.map(Happening::Accepted)),
+                Err(error) if given.is_empty() => return Err(error),
+                Err(_) => break,
+            }
+        }
+        Ok(())
+    }
+
+    /// The next connection at the listener. One that has ended already, or that can't be kept, is closed.
+    fn accept_one(&mut self) -> io::Result<Option<Conn>> {
+        let Some(listener) = &self.listener else {
+            self.acceptable = false;
+            return Ok(None);
+        };
+        match listener.accept() {
+            Ok((stream, _)) => Ok(self.keep(stream, None).ok()),
+            Err(error) if error.kind() == ErrorKind::WouldBlock => {
+                self.acceptable = false;
+                Ok(None)
+            }
+            Err(error) if error.kind() == ErrorKind::ConnectionAborted => Ok(None),
+            Err(error) => Err(error),
+        }
+    }
+
+    /// Notes that a happening was told.
+    pub(crate) fn told(&mut self, happening: Happening) {
+        if let Happening::Writable(conn) = happening {
+            if let Some(peer) = self.peers.get_mut(&conn) {
+                peer.told_of_room();
+            }
+        }
+        match happening {
+            Happening::Accepted(_) => {}
+            Happening::Readable(conn) | Happening::Writable(conn) | Happening::Ended(conn) => {
+                self.turn = conn.saturating_add(1);
+            }
+        }
+    }
+
+    pub(crate) fn read(&mut self, conn: Conn, buf: &mut [u8]) -> Got
+        requires { 0 < length buf.old }
+        ensures { GotWithin (length buf.old) (Ok result) }
+    {
+        match self.peers.get_mut(&conn) {
+            Some(peer) => peer.read(buf),
+            None => Got::Ended,
+        }
+    }
+
+    pub(crate) fn write(&mut self, conn: Conn, piece: &[u8]) -> Took
+        requires { 0 < length piece.now }
+        ensures { TookWithin (length piece.now) (Ok result) }
+    {
+        let now = self.clock.millis();
+        let deadline = now.saturating_add(u64::from(UNMOVED_MILLIS));
+        match self.peers.get_mut(&conn) {
+            Some(peer) => peer.write(piece, deadline),
+            None => Took::Ended,
+        }
+    }
+
+    pub(crate) fn close(&mut self, conn: Conn) {
+        self.peers.remove(&conn);
+    }
+}
+
+fn socket_addr(addr: &Addr) -> SocketAddr {
+    SocketAddr::from((Ipv4Addr::from(addr.host), addr.port))
+}
+
+/// Notes what the system says of a connection.
+fn note(peers: &mut BTreeMap<Conn, Peer>, event: &Event) {
+    if let Some(peer) = peers.get_mut(&(event.token().0 as u64)) {
+        peer.note(event);
+    }
+}
+
+/// Gives what happened, from this connection on and then round to it.
+fn give_in_turn(peers: &BTreeMap<Conn, Peer>, turn: Conn, given: &mut Vec<Happening>)
+    requires { vec_len given.old ≤ most_happenings }
+    ensures { vec_len given.new ≤ most_happenings }
+{
+    give(peers, turn..Conn::MAX, given);
+    give(peers, 0..turn, given);
+}
+
+/// Gives what happened at these connections, while there is room.
+fn give(peers: &BTreeMap<Conn, Peer>, which: Range<Conn>, given: &mut Vec<Happening>)
+    requires order { which.start ≤ which.end }
+    requires most { vec_len given.old ≤ most_happenings }
+    ensures { vec_len given.new ≤ most_happenings }
+{
+    'peers: for (conn, peer) in peers.range(which) {
+        put(given, peer.news(*conn));
+        put(given, peer.room(*conn));
+    }
+}
+
+/// Gives a happening, if there is one, and room.
+fn put(given: &mut Vec<Happening>, happening: Option<Happening>)
+    requires { vec_len given.old ≤ most_happenings }
+    ensures { vec_len given.new ≤ most_happenings }
+{
+    if let Some(happening) = happening {
+        if given.len() < MOST_HAPPENINGS {
+            // the room was made before
+            let _ = given.push(happening);
+        }
+    }
+}

@@ -1,0 +1,29 @@
+//! What a text of settings sets.
+
+use op_outside::Addr;
+use op_types::{Members, Pid, Seq};
+
+/// The most milliseconds between two ticks.
+pub const MOST_TICK_MS: u64 = 60_000;
+
+/// The most turns of the serving loop.
+pub const MOST_TURNS: u64 = 1_000_000_000_000;
+
+/// The most nodes of a cluster.
+pub const MOST_PEERS: usize = 31;
+
+/// Each node's id and its address, by rising id.
+pub type Peers = Seq<(Pid, Addr)>;
+
+/// The settings of a node, or of a cluster.
+#[derive(Drop)]
+pub struct Settings {
+    /// Milliseconds between two ticks, from 1 to 60,000.
+    pub tick_ms: u64,
+    /// The turns that the serving loop takes, from 1 to 10^12.
+    pub turns: u64,
+    /// The members of the first configuration, 1 to 9, rising.
+    pub members: Members,
+    /// The nodes, 1 to 31, every member among them.
+    pub peers: Peers,
+}

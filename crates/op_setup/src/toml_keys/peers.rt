@@ -1,0 +1,158 @@
+//! The nodes of the cluster.
+ghost use Rattle.std.specs.Prelude.{◌≡◌, ◌==◌, ◌≤◌, ◌<◌, ◌^◌, ◌↔◌, decimal, length, string_bytes, Contains, IfOk, IfSome, IfNone, IsTrue, List};
+ghost use Rattle.std.specs.List.{list_all, list_any};
+ghost use Rattle.std.specs.Map.{keys_of};
+ghost use Rattle.toml.specs.Data.{string};
+ghost use Rattle.toml.specs.View.{table_view, view};
+ghost use Rattle.op_types.specs.Ranges.{IsPid};
+ghost use Rattle.op_setup.specs.Found.{IsFound};
+ghost use Rattle.op_setup.specs.Addresses.{AddrInRange, addr_text};
+ghost use Rattle.op_setup.specs.Settings.{AreRows, IsAmong, IsRow, Peer, SetsPeers, most_peers};
+
+use crate::config::{MOST_PEERS, Peers};
+use crate::toml_keys::addresses::addr;
+use crate::toml_keys::values::table_at;
+use op_outside::Addr;
+use op_types::{GREATEST_PID, NoMemory, Pid};
+use std::alloc::Global;
+use std::collections::BTreeMap;
+use toml::{Table, Value};
+
+/// The nodes of the cluster, if every member is among them.
+pub fn peers(alloc: Global, table: &Table, members: &[Pid]) -> Result<Option<Peers>, NoMemory>
+    ensures { IfOk result (IsFound (SetsPeers (table_view table.now) members.now)) }
+{
+    let Some(rows) = table_at(table, "peers") else {
+        return Ok(None);
+    };
+    let Some(peers) = rows_peers(alloc, rows)? else {
+        return Ok(None);
+    };
+    if !are_few(peers.as_slice()) {
+        return Ok(None);
+    }
+    if !are_with_all(peers.as_slice(), members) {
+        return Ok(None);
+    }
+    Ok(Some(peers))
+}
+
+/// Whether there are peers, and no more than a cluster has.
+fn are_few(peers: &[(Pid, Addr)]) -> bool
+    ensures { IsTrue result ↔ ((1 ≤ length peers.now) × (length peers.now ≤ most_peers)) }
+{
+    !peers.is_empty() && peers.len() <= MOST_PEERS
+}
+
+/// Whether every member is among the peers.
+fn are_with_all(peers: &[(Pid, Addr)], members: &[Pid]) -> bool
+    ensures { result ≡ list_all (λ id. list_any (λ p. p.0 == id) peers.now) members.now }
+{
+    members.iter().all(|id| any_is(peers, *id))
+}
+
+/// Whether the own id, where there is one, is among the peers.
+pub fn are_with(peers: &[(Pid, Addr)], id: Option<Pid>) -> bool
+    ensures { IsTrue result ↔ IsAmong peers.now id }
+{
+    match id {
+        Some(id) => has_id(peers, id),
+        None => true,
+    }
+}
+
+/// Whether an id is among the peers.
+fn has_id(peers: &[(Pid, Addr)], id: Pid) -> bool
+    ensures { IsTrue result ↔ Contains (keys_of peers.now) id }
+{
+    any_is(peers, id)
+}
+
+/// Whether some peer has this id.
+fn any_is(peers: &[(Pid, Addr)], id: Pid) -> bool
+    ensures { result ≡ list_any (λ p. p.0 == id) peers.now }
+{
+    peers.iter().any(|peer| peer.0 == id)
+}
+
+/// The peers of a table's rows, by rising id.
+fn rows_peers(alloc: Global, rows: &Table) -> Result<Option<Peers>, NoMemory>
+    ensures { IfOk result (IsFound (AreRows (table_view rows.now))) }
+{
+    let Some(by_id) = by_id(alloc, rows)? else {
+        return Ok(None);
+    };
+    Ok(Some(in_order(alloc, by_id)?))
+}
+
+/// The entries of a map, in order.
+fn in_order(alloc: Global, by_id: BTreeMap<Pid, Addr>) -> Result<Peers, NoMemory>
+    ensures { IfOk result (λ peers. peers ≡ by_id.entries) }
+{
+    Ok(Peers::from_vec(by_id.into_iter().collect(alloc)?))
+}
+
+/// The address of each id that a table's rows name.
+fn by_id(alloc: Global, rows: &Table) -> Result<Option<BTreeMap<Pid, Addr>>, NoMemory>
+    ensures found { IfOk result (λ o. IfSome o (λ m. AreRows (table_view rows.now) m.entries)) }
+    ensures none { IfOk result (λ o.
+        IfNone o ((peers : List Peer) → AreRows (table_view rows.now) peers → ⊥)) }
+{
+    let mut by_id = BTreeMap::new(alloc);
+    for (key, value) in rows {
+        let Some((id, addr)) = peer(alloc, key, value)? else {
+            return Ok(None);
+        };
+        by_id.insert(id, addr)?;
+    }
+    Ok(Some(by_id))
+}
+
+/// The peer of a row.
+fn peer(alloc: Global, key: &String, value: &Value) -> Result<Option<(Pid, Addr)>, NoMemory>
+    ensures { IfOk result (IsFound (IsRow (string_bytes key.now) (view value.now))) }
+{
+    let Some(id) = key_id(alloc, key.as_str())? else {
+        return Ok(None);
+    };
+    let Some(addr) = value_addr(alloc, value)? else {
+        return Ok(None);
+    };
+    Ok(Some((id, addr)))
+}
+
+/// The id of a row's key.
+#[tactic(auto, using(std::proofs::lemmas::Fmt::decimal_injective))]
+fn key_id(alloc: Global, key: &str) -> Result<Option<Pid>, NoMemory>
+    ensures { IfOk result (IsFound (λ id. IsPid id × (key.now ≡ decimal id))) }
+{
+    match number(alloc, key)? {
+        Some(id) if 1 <= id && id <= GREATEST_PID => Ok(Some(id)),
+        _ => Ok(None),
+    }
+}
+
+/// The number that a text writes with no sign and no leading zero.
+fn number(alloc: Global, text: &str) -> Result<Option<u32>, NoMemory>
+    ensures { IfOk result (IsFound (λ n. (n < 2 ^ 32) × (text.now ≡ decimal n))) }
+{
+    let Ok(n) = text.parse::<u32>() else {
+        return Ok(None);
+    };
+    // A sign or a leading zero isn't printed again.
+    let printed = format!(in alloc; "{n}")?;
+    if printed.as_str() != text {
+        return Ok(None);
+    }
+    Ok(Some(n))
+}
+
+/// The address of a row's value.
+fn value_addr(alloc: Global, value: &Value) -> Result<Option<Addr>, NoMemory>
+    ensures { IfOk result (IsFound (λ a. AddrInRange a × (view value.now ≡ string (addr_text a)))) }
+{
+    match value.as_str() {
+        Some(text) => addr(alloc, text),
+        None => Ok(None),
+    }
+}
