@@ -1,6 +1,8 @@
 pub mod LineEnds
-pub mod OneReading
-pub mod OneSpelling
+pub mod UnambiguousSchedules
+pub mod UnambiguousEncoding
 pub mod PlainBytes
-pub mod Shapes
-pub mod Unspelled
+pub mod WordLists
+pub mod Decoding
+pub mod FoundAlike
+pub mod EventWords

@@ -5,10 +5,10 @@ use Rattle.std.proofs.lemmas.List.{take_all}
 use Rattle.std.proofs.lemmas.List.Splits.{slice_split_none, slice_split_first, length-slice_split}
 use Rattle.std.proofs.lemmas.List.Sums.{fails_before_first}
 use Rattle.std.specs.List.{slice_split, position_or_len}
-use Rattle.op_sched.specs.Grammar.{lines_of, without_empty_end}
+use Rattle.op_sched.specs.Grammar.{line_feed, lines_of, without_empty_end}
 
 abbrev is_end : ℕ → Bool
-is_end b = eqb b 10
+is_end b = eqb b line_feed
 
 -- where the first LF stands, as `position` gives it
 abbrev pub line_end : List ℕ → Option ℕ

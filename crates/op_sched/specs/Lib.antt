@@ -1,4 +1,6 @@
 pub mod Failing
+pub mod Forms
+pub mod Found
 pub mod Grammar
-pub mod Plain
+pub mod Percent
 pub mod Text

@@ -1,4 +1,4 @@
--- The report, as text.
+-- The report of a run, as text.
 use Rattle.std.specs.Prelude.{◌+◌, ℕ, List, [], ◌∷◌, ◌++◌, codes, decimal, Option, Some, None}
 use Rattle.std.specs.List.{flat_map}
 use Rattle.op_types.specs.declared.log.Op.{Op}
@@ -11,14 +11,14 @@ use Rattle.op_types.specs.declared.answers.Refusal.{Refusal}
 use Rattle.op_types.specs.declared.answers.Refusal.TheVariants as refusal
 use Rattle.op_types.specs.declared.answers.Answer.{Answer}
 use Rattle.op_types.specs.declared.answers.Answer.TheVariants as answer
-use Rattle.op_sched.specs.declared.summary.Line.{Line}
-use Rattle.op_sched.specs.declared.summary.Line.TheVariants as line
-use Rattle.op_sched.specs.declared.summary.Listed.{Listed}
-use Rattle.op_sched.specs.declared.summary.Running.{Running}
-use Rattle.op_sched.specs.declared.summary.Running.TheVariants as running
-use Rattle.op_sched.specs.declared.summary.NodeLine.{NodeLine}
-use Rattle.op_sched.specs.declared.summary.Summary.{Summary}
-use Rattle.op_sched.specs.Plain.{spelled}
+use Rattle.op_types.specs.declared.summary.Line.{Line}
+use Rattle.op_types.specs.declared.summary.Line.TheVariants as line
+use Rattle.op_types.specs.declared.summary.Listed.{Listed}
+use Rattle.op_types.specs.declared.summary.Running.{Running}
+use Rattle.op_types.specs.declared.summary.Running.TheVariants as running
+use Rattle.op_types.specs.declared.summary.NodeLine.{NodeLine}
+use Rattle.op_types.specs.declared.summary.Summary.{Summary}
+use Rattle.op_sched.specs.Percent.{encoded}
 
 -- ---- what events were answered
 
@@ -39,18 +39,23 @@ answer_text answer.Stale = codes "stale"
 
 -- the line of an answer or a reply
 abbrev pub line_text : Line → List ℕ
-line_text (line.Answer at outcome) = codes "answer " ++ decimal at ++ codes " " ++ outcome_text outcome ++ codes "\n"
-line_text (line.Reply pid client seq answer) = codes "reply " ++ decimal pid ++ codes " " ++ decimal client ++ codes " " ++ decimal seq ++ codes " " ++ answer_text answer ++ codes "\n"
+line_text (line.Answer at outcome) =
+    codes "answer " ++ decimal at ++ codes " " ++ outcome_text outcome ++ codes "\n"
+line_text (line.Reply pid client seq answer) =
+    codes "reply " ++ decimal pid ++ codes " " ++ decimal client ++ codes " " ++ decimal seq ++ codes " "
+    ++ answer_text answer ++ codes "\n"
 
 -- ---- the lists
 
--- an id behind a space
+-- an id after a space
 abbrev pub pid_text : ℕ → List ℕ
-pid_text p = 32 ∷ decimal p
+pid_text p = codes " " ++ decimal p
 
 -- a client's operation
 abbrev pub op_text : ℕ → ℕ → Op → List ℕ
-op_text client seq (Put key value) = codes "put " ++ decimal client ++ codes " " ++ decimal seq ++ codes " " ++ spelled key ++ codes " " ++ spelled value
+op_text client seq (Put key value) =
+    codes "put " ++ decimal client ++ codes " " ++ decimal seq ++ codes " " ++ encoded key ++ codes " "
+    ++ encoded value
 
 -- what a log holds at a position
 abbrev pub entry_text : Entry → List ℕ
@@ -59,7 +64,8 @@ entry_text (entry.Stop s) = codes "stop" ++ flat_map pid_text s.members
 
 -- the line of an entry
 abbrev pub entry_line : ℕ → ℕ → Entry → List ℕ
-entry_line conf pos e = codes "entry " ++ decimal conf ++ codes " " ++ decimal pos ++ codes " " ++ entry_text e ++ codes "\n"
+entry_line conf pos e =
+    codes "entry " ++ decimal conf ++ codes " " ++ decimal pos ++ codes " " ++ entry_text e ++ codes "\n"
 
 -- the entries of a configuration, from a position on
 abbrev pub entries_text : ℕ → ℕ → List Entry → List ℕ
@@ -68,7 +74,8 @@ entries_text conf pos (e ∷ es) = entry_line conf pos e ++ entries_text conf (p
 
 -- the line that begins a configuration's list
 abbrev pub config_line : ℕ → List ℕ → List ℕ
-config_line conf members = codes "config " ++ decimal conf ++ codes " members" ++ flat_map pid_text members ++ codes "\n"
+config_line conf members =
+    codes "config " ++ decimal conf ++ codes " members" ++ flat_map pid_text members ++ codes "\n"
 
 -- a configuration's list
 abbrev pub listed_text : Listed → List ℕ
@@ -79,7 +86,9 @@ listed_text l = config_line l.conf l.members ++ entries_text l.conf 0 l.entries
 -- where a node stands; a spare stands nowhere
 abbrev pub at_text : Option (ℕ × ℕ × ℕ) → List ℕ
 at_text None = codes " spare"
-at_text (Some at) = codes " config " ++ decimal at.0 ++ codes " decided " ++ decimal at.1 ++ codes " trimmed " ++ decimal at.2
+at_text (Some at) =
+    codes " config " ++ decimal at.0 ++ codes " decided " ++ decimal at.1 ++ codes " trimmed "
+    ++ decimal at.2
 
 -- which configuration a node is joining
 abbrev pub joining_text : Option ℕ → List ℕ
@@ -94,7 +103,9 @@ running_text running.Failed = codes " failed"
 
 -- the line of a node
 abbrev pub node_text : NodeLine → List ℕ
-node_text n = codes "node " ++ decimal n.pid ++ at_text n.at ++ joining_text n.joining ++ running_text n.running ++ codes "\n"
+node_text n =
+    codes "node " ++ decimal n.pid ++ at_text n.at ++ joining_text n.joining ++ running_text n.running
+    ++ codes "\n"
 
 -- the report of a run
 abbrev pub report_of : Summary → List ℕ

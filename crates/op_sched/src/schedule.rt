@@ -6,23 +6,30 @@ use op_types::{Events, Members};
 /// What a schedule's text says.
 #[derive(Drop)]
 pub struct Schedule {
+    /// The servers of the first configuration.
     pub members: Members,
+    /// The servers that a later configuration may name; so far the grammar has none.
     pub spares: Members,
+    /// What happens, in the order of the lines.
     pub events: Events,
 }
 
 /// Why a text is not read.
 #[derive(Clone, Copy, Debug, PartialEq, Eq)]
 pub enum SchedFail {
-    /// The first line, counted from 1, that isn't in the grammar; of a text without a header, the one behind its last line.
-    BadLine { line: u64 },
+    /// The first line that isn't in the grammar; of a text without a header, the one after its last line.
+    BadLine {
+        /// The line's number, from 1.
+        line: u64,
+    },
+    /// The allocator has no memory for what the text says.
     NoMemory,
 }
 
 impl From<op_types::NoMemory> for SchedFail {
-    ghost from_gives = { λ _ e. e ≡ NoMemory };
+    ghost from_gives = { λ _ fail. fail ≡ NoMemory };
 
-    fn from(_e: op_types::NoMemory) -> SchedFail {
+    fn from(_error: op_types::NoMemory) -> SchedFail {
         SchedFail::NoMemory
     }
 }

@@ -9,14 +9,14 @@ use Rattle.op_types.specs.declared.durable.Durable.{Durable}
 use Rattle.op_types.specs.declared.log.Command.{Command}
 use Rattle.op_types.specs.declared.log.Entry.{Entry}
 use Rattle.op_types.specs.declared.log.Entry.TheVariants as entry
-use Rattle.op_model.specs.Service.{service_of}
-use Rattle.op_steps.specs.State.{State, Volatile, Planned, state_after}
-use Rattle.op_steps.specs.Serving.{Served, reply_of}
-use Rattle.op_steps.specs.Heartbeats.{next_round}
-use Rattle.op_steps.specs.Rows.{requests, tick_plan, append_plan}
+use Rattle.op_spec.specs.Service.{service_of}
+use Rattle.op_protocol.specs.State.{State, Volatile, Planned, state_after}
+use Rattle.op_protocol.specs.Serving.{Served, reply_of}
+use Rattle.op_protocol.specs.Heartbeats.{next_round}
+use Rattle.op_protocol.specs.Rows.{requests, tick_plan, append_plan}
 use Rattle.op_runs.specs.Sole.{sole_part, sole_durable, sole_state}
-use Rattle.op_laws.proofs.Ticking.{leaves_ticked}
-use Rattle.op_laws.proofs.Proposing.{served-appended, adopted-appended}
+use Rattle.op_laws.proofs.TickKeepsLog.{leaves_ticked}
+use Rattle.op_laws.proofs.AppendIsDecided.{served-appended, adopted-appended}
 use Rattle.op_sole.specs.SoleMember.{IsSolePart}
 
 -- ---- a tick

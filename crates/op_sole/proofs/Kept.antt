@@ -10,8 +10,8 @@ use Rattle.op_types.specs.declared.ballot.Ballot.{Ballot}
 use Rattle.op_types.specs.declared.durable.Part.{Part}
 use Rattle.op_types.specs.declared.durable.Durable.{Durable}
 use Rattle.op_types.specs.declared.log.Entry.{Entry}
-use Rattle.op_sched.specs.Grammar.{IsPid}
-use Rattle.op_entry.specs.Ranges.{AreRising, BallotInRange, EntryInRange, EntriesInRange}
+use Rattle.op_types.specs.Ranges.{IsPid}
+use Rattle.op_types.specs.Ranges.{AreRising, BallotInRange, EntryInRange, EntriesInRange}
 use Rattle.op_record.specs.Ranges.{PartInRange, DurableInRange, ChangeInRange, BatchInRange}
 use Rattle.op_runs.specs.Sole.{sole_part, sole_durable}
 use Rattle.op_sole.specs.SoleMember.{IsSolePart, SoleInRange, IsSoleDurable, StaysSole}

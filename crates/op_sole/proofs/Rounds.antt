@@ -1,14 +1,15 @@
 -- The end of a round at a member that has heard nobody: its own ballot alone can be elected.
-use Rattle.std.proofs.Common.{◌≡◌, ℕ, ◌<◌, ◌^◌, List, length, refl, sym, ap, ◌∙◌, subst, arith}
+use Rattle.std.proofs.Common.{◌≡◌, ℕ, ◌+◌, ◌<◌, List, length, refl, sym, ap, ◌∙◌, subst, arith}
 use Rattle.op_types.specs.declared.ballot.Ballot.{Ballot}
 use Rattle.op_types.specs.declared.durable.Part.{Part}
 use Rattle.op_types.specs.declared.messages.Heard.{Heard}
 use Rattle.op_types.specs.declared.verdict.Verdict.{Verdict}
 use Rattle.op_types.specs.declared.verdict.Verdict.TheVariants as verdict
-use Rattle.op_entry.specs.Ranges.{BallotInRange}
-use Rattle.op_steps.specs.Election.{Candidate, Elected, unheard, raised, exhausted, elected, unchanged, greatest, winner}
-use Rattle.op_steps.specs.Rows.{candidate_of}
-use Rattle.op_sched.specs.Grammar.{IsPid}
+use Rattle.op_types.specs.Limits.{greatest_number}
+use Rattle.op_types.specs.Ranges.{BallotInRange}
+use Rattle.op_protocol.specs.Election.{Candidate, Elected, unheard, raised, exhausted, elected, unchanged, greatest, winner}
+use Rattle.op_protocol.specs.Rows.{candidate_of}
+use Rattle.op_types.specs.Ranges.{IsPid}
 use Rattle.op_sole.specs.declared.turn.Turn.{Turn}
 use Rattle.op_sole.specs.declared.volatile.Volatile.{Volatile}
 use Rattle.op_sole.specs.SoleMember.{IsSolePart, IsSoleVolatile}
@@ -47,7 +48,7 @@ record StaysCandidate (c d : Candidate) : Type 0 where
   pub members : d.members ≡ c.members
   pub own : IsBallotOf c.me d.own
 
-raised_own : (me n : ℕ) → IsPid me → n < 2 ^ 62 → IsBallotOf me (record { number = n; pid = me })
+raised_own : (me n : ℕ) → IsPid me → n < greatest_number → IsBallotOf me (record { number = n + 1; pid = me })
 raised_own me n id fits = record { pid = refl; in_range = record { number = omega arith; pid = omega (arith, id.1); owner = λ _. omega (arith, id.0) } }
 
 stays : (c d : Candidate) (heard : List Heard) (v : Verdict) → IsPid c.me → IsBallotOf c.me c.own → Elected c heard v d → StaysCandidate c d

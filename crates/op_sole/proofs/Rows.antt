@@ -9,13 +9,13 @@ use Rattle.op_types.specs.declared.changes.Change.TheVariants as change
 use Rattle.op_types.specs.declared.durable.Part.{Part}
 use Rattle.op_types.specs.declared.verdict.Verdict.{Verdict}
 use Rattle.op_types.specs.declared.verdict.Verdict.TheVariants as verdict
-use Rattle.op_steps.specs.State as steps
-use Rattle.op_steps.specs.Heartbeats.{next_round}
-use Rattle.op_steps.specs.Election.{Candidate, Elected, Ended, with_floor, round_end}
-use Rattle.op_steps.specs.Rows.{only_volatile, candidate_of, next_round_state, requests, decided_change, led_batch, leading, lead_plan, majority_lead_plan, election_plan, tick_plan}
+use Rattle.op_protocol.specs.State as steps
+use Rattle.op_protocol.specs.Heartbeats.{next_round}
+use Rattle.op_protocol.specs.Election.{Candidate, Elected, Ended, with_floor, round_end}
+use Rattle.op_protocol.specs.Rows.{only_volatile, candidate_of, next_round_state, requests, decided_change, led_batch, leading, lead_plan, majority_lead_plan, election_plan, tick_plan}
 use Rattle.op_elect.proofs.Ends.{one_end}
 use Rattle.op_runs.specs.Sole.{sole_state}
-use Rattle.op_laws.proofs.Deciding.{decided_change-none}
+use Rattle.op_laws.proofs.DecidesWholeLog.{decided_change-none}
 use Rattle.op_sole.specs.declared.turn.Turn.{Turn}
 use Rattle.op_sole.specs.declared.volatile.Volatile.{Volatile}
 use Rattle.op_sole.specs.Batches.{lead_batch, stood_batch}

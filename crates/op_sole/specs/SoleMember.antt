@@ -4,8 +4,8 @@ use Rattle.op_types.specs.Changes.{durable_after}
 use Rattle.op_types.specs.declared.changes.Change.{Change}
 use Rattle.op_types.specs.declared.durable.Part.{Part}
 use Rattle.op_types.specs.declared.durable.Durable.{Durable}
-use Rattle.op_sched.specs.Grammar.{IsPid}
-use Rattle.op_entry.specs.Ranges.{BallotInRange, EntriesInRange}
+use Rattle.op_types.specs.Ranges.{IsPid}
+use Rattle.op_types.specs.Ranges.{BallotInRange, EntriesInRange}
 use Rattle.op_runs.specs.Sole.{sole_part, sole_durable}
 use Rattle.op_sole.specs.declared.volatile.Volatile.{Volatile}
 

@@ -7,9 +7,9 @@ use Rattle.op_types.specs.declared.durable.Part.{Part}
 use Rattle.op_types.specs.declared.role.Leading.{Leading}
 use Rattle.op_types.specs.declared.role.Role.{Role}
 use Rattle.op_types.specs.declared.role.Role.TheVariants as role
-use Rattle.op_steps.specs.State as steps
-use Rattle.op_steps.specs.Election.{with_floor}
-use Rattle.op_heartbeat.specs.Hearing.{round_begun}
+use Rattle.op_protocol.specs.State as steps
+use Rattle.op_protocol.specs.Election.{with_floor}
+use Rattle.op_heartbeat.specs.HeardReplies.{round_begun}
 use Rattle.op_sole.specs.declared.turn.Turn.{Turn}
 use Rattle.op_sole.specs.declared.volatile.Volatile.{Volatile}
 

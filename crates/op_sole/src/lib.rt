@@ -9,10 +9,10 @@ mod ticking;
 mod turn;
 mod volatile;
 
-pub use clients::{Clients, clients_of, serve};
+pub use clients::Clients;
 pub use laws::sole_states_are_in_range;
 pub use proposal::{append_batch, refusal};
-pub use starting::{first_durable, first_volatile, volatile_again};
+pub use starting::{first_durable, first_volatile, volatile_after_restart};
 pub use ticking::tick;
 pub use turn::Turn;
 pub use volatile::Volatile;

@@ -1,10 +1,10 @@
 //! The step of a command: it is refused, or appended and decided at once.
 ghost use Rattle.std.specs.Prelude.{◌≡◌, ◌<◌, ◌^◌, IfOk, IfNone, ℕ};
 ghost use Rattle.op_types.specs.Changes.{Applies, len_of};
-ghost use Rattle.op_entry.specs.Ranges.{CommandInRange};
+ghost use Rattle.op_types.specs.Ranges.{CommandInRange};
 ghost use Rattle.op_record.specs.Ranges.{BatchInRange};
-ghost use Rattle.op_steps.specs.State.{State};
-ghost use Rattle.op_steps.specs.Rows.{part_refusal, append_plan};
+ghost use Rattle.op_protocol.specs.State.{State};
+ghost use Rattle.op_protocol.specs.Rows.{part_refusal, append_plan};
 ghost use Rattle.op_runs.specs.Sole.{sole_durable};
 ghost use Rattle.op_sole.specs.SoleMember.{IsSole, StaysSole};
 ghost use Rattle.op_sole.specs.Turns.{shown};

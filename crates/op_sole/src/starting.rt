@@ -1,20 +1,22 @@
 //! What a sole member begins with, at first and when it is opened again.
 ghost use Rattle.std.specs.Prelude.{◌≡◌, ◌∷◌, [], Some, length, IfOk};
 ghost use Rattle.op_types.specs.Ballots.{no_ballot};
-ghost use Rattle.op_sched.specs.Grammar.{IsPid};
+ghost use Rattle.op_types.specs.Ranges.{IsPid};
 ghost use Rattle.op_record.specs.Ranges.{DurableInRange};
-ghost use Rattle.op_steps.specs.Starting as steps;
+ghost use Rattle.op_protocol.specs.Starting as steps;
 ghost use Rattle.op_runs.specs.World as runs;
 ghost use Rattle.op_runs.specs.Sole.{sole_part};
-ghost use Rattle.op_steps.specs.Election.{candidate};
-ghost use Rattle.op_heartbeat.specs.Hearing.{hearing_of};
+ghost use Rattle.op_protocol.specs.Election.{candidate};
+ghost use Rattle.op_heartbeat.specs.HeardReplies.{IsMember, heard_replies_of};
 ghost use Rattle.op_sole.specs.SoleMember.{IsSolePart, IsSoleDurable, IsSoleVolatile};
 ghost use Rattle.op_sole.specs.Turns.{shown};
 
 use crate::volatile::Volatile;
-use op_elect::{Election, LAST_NUMBER};
+use op_elect::Election;
 use op_heartbeat::Rounds;
-use op_types::{Ballot, Blob, Durable, Members, NoMemory, Part, Pid, Role, Roomy};
+use op_types::{
+    Ballot, Blob, Durable, GREATEST_NUMBER, Members, NoMemory, Part, Pid, Reserved, Role,
+};
 use std::alloc::Global;
 
 /// What a sole member has stored at first: nothing is promised, and its log is empty.
@@ -42,7 +44,7 @@ fn first_part(alloc: Global, me: Pid) -> Result<Part, NoMemory>
         accepted: Ballot::NONE,
         base: Blob::from_slice(alloc, [0u8; 16].as_slice())?,
         trimmed: 0,
-        tail: Roomy::new(alloc),
+        tail: Reserved::new(alloc),
         decided: 0,
     })
 }
@@ -51,6 +53,7 @@ fn first_part(alloc: Global, me: Pid) -> Result<Part, NoMemory>
 pub fn first_volatile(alloc: Global, me: Pid, part: &Part) -> Result<Volatile, NoMemory>
     requires { IsSolePart me part.now }
     ensures first { IfOk result (λ v. shown v ≡ steps.first_volatile me) }
+    ensures rounds { IfOk result (λ v. v.rounds ≡ heard_replies_of me part.now.members) }
     ensures own { IsPid me → IfOk result (IsSoleVolatile me) }
 {
     volatile_with(alloc, part, Ballot { number: 1, pid: me }, Ballot::NONE)
@@ -58,24 +61,30 @@ pub fn first_volatile(alloc: Global, me: Pid, part: &Part) -> Result<Volatile, N
 
 /// What a member begins with in memory when it is opened again. If it had promised a ballot of its own, it now stands for the
 /// next number; at 2^62 - 1 the number stays.
-pub fn volatile_again(alloc: Global, me: Pid, part: &Part) -> Result<Volatile, NoMemory>
+pub fn volatile_after_restart(alloc: Global, me: Pid, part: &Part) -> Result<Volatile, NoMemory>
     requires { IsSolePart me part.now }
-    ensures again { IfOk result (λ v. shown v ≡ steps.volatile_again me (Some part.now)) }
+    ensures again { IfOk result (λ v. shown v ≡ steps.volatile_after_restart me (Some part.now)) }
+    ensures rounds { IfOk result (λ v. v.rounds ≡ heard_replies_of me part.now.members) }
     ensures own { IsPid me → IfOk result (IsSoleVolatile me) }
 {
-    volatile_with(alloc, part, own_again(me, part.promised), part.promised)
+    volatile_with(
+        alloc,
+        part,
+        restart_ballot(me, part.promised),
+        part.promised,
+    )
 }
 
 /// The ballot that a member stands for when it is opened again.
-fn own_again(me: Pid, promised: Ballot) -> Ballot
-    ensures { result ≡ steps.own_again me promised }
+fn restart_ballot(me: Pid, promised: Ballot) -> Ballot
+    ensures { result ≡ steps.restart_ballot me promised }
 {
     let number = if promised.pid != me {
         1
-    } else if promised.number < LAST_NUMBER {
+    } else if promised.number < GREATEST_NUMBER {
         promised.number + 1
     } else {
-        LAST_NUMBER
+        GREATEST_NUMBER
     };
     Ballot { number, pid: me }
 }
@@ -87,13 +96,15 @@ fn volatile_with(
     own: Ballot,
     leader: Ballot,
 ) -> Result<Volatile, NoMemory>
+    requires { IsMember part.now.members own.pid }
     ensures shown { IfOk result (λ v. shown v ≡ steps.volatile_with own leader) }
-    ensures election { IfOk result (λ v. v.election ≡ candidate own.pid (length part.now.members) own leader) }
-    ensures alone { IfOk result (λ v. v.rounds ≡ hearing_of part.now.members) }
+    ensures election { IfOk result (λ v.
+        v.election ≡ candidate own.pid (length part.now.members) own leader) }
+    ensures alone { IfOk result (λ v. v.rounds ≡ heard_replies_of own.pid part.now.members) }
 {
     Ok(Volatile {
         election: Election::new(own.pid, part.members.len(), own, leader),
-        rounds: Rounds::new(alloc, &part.members)?,
+        rounds: Rounds::new(alloc, own.pid, &part.members)?,
         role: Role::Idle,
     })
 }

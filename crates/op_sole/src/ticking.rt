@@ -2,8 +2,8 @@
 ghost use Rattle.std.specs.Prelude.{◌≡◌, None, IfOk};
 ghost use Rattle.op_types.specs.Changes.{Applies};
 ghost use Rattle.op_record.specs.Ranges.{BatchInRange};
-ghost use Rattle.op_steps.specs.Election.{Elected};
-ghost use Rattle.op_steps.specs.Rows.{tick_plan};
+ghost use Rattle.op_protocol.specs.Election.{Elected};
+ghost use Rattle.op_protocol.specs.Rows.{tick_plan};
 ghost use Rattle.op_runs.specs.Sole.{sole_state, sole_durable};
 ghost use Rattle.op_sole.specs.SoleMember.{IsSolePart, IsSoleVolatile, StaysSole};
 ghost use Rattle.op_sole.specs.Batches.{lead_batch, stood_batch};
@@ -23,8 +23,11 @@ pub fn tick(
 ) -> Result<(Batch, Turn), NoMemory>
     requires sole { IsSolePart me part.now }
     requires range { IsSoleVolatile me volatile.now }
-    ensures batch { IfOk result (λ x. x.0 ≡ (tick_plan me (sole_state part.now (shown volatile.now)) (Some part.now)).batch) }
-    ensures turn { IfOk result (λ x. shown (turned x.1 volatile.now) ≡ (tick_plan me (sole_state part.now (shown volatile.now)) (Some part.now)).volatile) }
+    ensures batch { IfOk result (λ x.
+        x.0 ≡ (tick_plan me (sole_state part.now (shown volatile.now)) (Some part.now)).batch) }
+    ensures turn { IfOk result (λ x.
+        shown (turned x.1 volatile.now)
+        ≡ (tick_plan me (sole_state part.now (shown volatile.now)) (Some part.now)).volatile) }
     ensures in_range { IfOk result (λ x. BatchInRange x.0) }
     ensures applies { IfOk result (λ x. Applies (sole_durable part.now) x.0) }
     ensures own { IfOk result (λ x. IsSoleVolatile me (turned x.1 volatile.now)) }

@@ -1,3 +1,4 @@
 pub mod Runs
-pub mod Complete
-pub mod Words
+pub mod ValidOrBad
+pub mod OneMember
+pub mod RepliesServed

@@ -1,57 +1,39 @@
 -- A run of events, one after the other, and what is reported of it.
-use Rattle.std.proofs.Common.{◌≡◌, ℕ, true, false, List, [], ◌∷◌, get_or, refl, sym, ap, ◌∙◌, subst, inl, inr, arith}
-use Rattle.std.proofs.lemmas.List.Elements.{All-head, All-tail}
-use Rattle.op_types.specs.declared.log.Op.{Op}
-use Rattle.op_types.specs.declared.log.Op.TheVariants.{Put}
-use Rattle.op_types.specs.declared.events.What.{What}
-use Rattle.op_types.specs.declared.events.What.TheVariants as what
-use Rattle.op_entry.specs.Ranges as spellings
-use Rattle.op_sched.specs.Grammar.{AreInRange, IsWhat, IsNumber, IsOp}
+use Rattle.std.proofs.Common.{◌≡◌, ℕ, true, false, List, [], ◌∷◌, get_or, refl, sym, ap, ◌∙◌, subst, inl, inr}
+use Rattle.std.proofs.lemmas.List.Elements.{All-tail}
+use Rattle.op_types.specs.Ranges.{WhatInRange}
+use Rattle.op_sched.specs.Grammar.{AreInRange}
 use Rattle.op_types.specs.declared.events.Event.{Event}
 use Rattle.op_types.specs.declared.log.Entry.{Entry}
-use Rattle.op_sched.specs.declared.summary.Summary.{Summary}
+use Rattle.op_types.specs.declared.summary.Summary.{Summary}
 use Rattle.std.specs.Prelude.{nat_eq}
 use Rattle.std.specs.Set.{is_member}
 use Rattle.op_runs.specs.World.{World, Happening, first_world, node_of, world_after, run_of, done_event, all_done}
-use Rattle.op_runs.specs.Run.{Track, first_track, track_with, track_of, Meets}
+use Rattle.op_runs.specs.Run.{Execution, first_execution, execution_with, execution_of, Meets}
 use Rattle.op_runs.specs.Summary.{summary_of}
-use Rattle.op_laws.proofs.Decides.{sole_run}
-use Rattle.op_laws.proofs.Meeting.{IsSole, sole_first, listed, sole_runs_meet}
-use Rattle.op_world.specs.Worlds.{sole_summary, WhatInRange}
-use Rattle.op_top.specs.Replay.{AllPresent, IsFirstAbsent, run_track, run_summary}
+use Rattle.op_laws.proofs.CommandsDecided.{sole_run}
+use Rattle.op_laws.proofs.RunsMeetMachine.{IsSole, sole_first, listed, sole_runs_meet}
+use Rattle.op_world.specs.Worlds.{sole_summary}
+use Rattle.op_top.specs.Replay.{AllPresent, IsFirstAbsent, run_execution, run_summary}
 use Rattle.op_runs.specs.Sole.{log_of}
 
-world-track_of : (t : Track) (hs : List Happening) → (track_of t hs).world ≡ run_of t.world hs
-world-track_of t [] = refl
-world-track_of t (h ∷ hs) = world-track_of (track_with t h) hs
+world-execution_of : (t : Execution) (hs : List Happening) → (execution_of t hs).world ≡ run_of t.world hs
+world-execution_of t [] = refl
+world-execution_of t (h ∷ hs) = world-execution_of (execution_with t h) hs
 
 -- a sole member's summary is that of its run
-sole_summary-track : (me : ℕ) (t : Track) → IsSole me t → sole_summary (me ∷ []) t.world ≡ summary_of (me ∷ []) t
-sole_summary-track me t s =
+sole_summary-execution : (me : ℕ) (t : Execution) → IsSole me t → sole_summary (me ∷ []) t.world ≡ summary_of (me ∷ []) t
+sole_summary-execution me t s =
     let log : log_of t.world.nodes ≡ t.machine.lists 1 = ap (λ (w : World). log_of w.nodes) s.is ∙ sym (listed me t s) in
     ap (λ (es : List Entry). let x : Summary = record { lines = (summary_of (me ∷ []) t).lines; lists = record { conf = 1; members = me ∷ []; entries = es } ∷ []; nodes = (summary_of (me ∷ []) t).nodes; sent = (summary_of (me ∷ []) t).sent } in x) log
 
 pub summary-run : (me : ℕ) (members : List ℕ) (events : List Event) (w : World) → members ≡ me ∷ [] → w ≡ run_of (first_world members) (all_done events) → sole_summary members w ≡ run_summary members events
 summary-run me members events w sole ran =
-    let t = run_track (me ∷ []) events in
-    let is : w ≡ t.world = ran ∙ ap (λ (ms : List ℕ). run_of (first_world ms) (all_done events)) sole ∙ sym (world-track_of (first_track (me ∷ [])) (all_done events)) in
+    let t = run_execution (me ∷ []) events in
+    let is : w ≡ t.world = ran ∙ ap (λ (ms : List ℕ). run_of (first_world ms) (all_done events)) sole ∙ sym (world-execution_of (first_execution (me ∷ [])) (all_done events)) in
     ap (λ (ms : List ℕ). sole_summary ms w) sole ∙ ap (λ (x : World). sole_summary (me ∷ []) x) is
-    ∙ sole_summary-track me t (sole_run me (first_track (me ∷ [])) (all_done events) (sole_first me))
+    ∙ sole_summary-execution me t (sole_run me (first_execution (me ∷ [])) (all_done events) (sole_first me))
     ∙ ap (λ (ms : List ℕ). run_summary ms events) (sym sole)
-
--- ---- ranges
-
-number_in_range : (n : ℕ) → IsNumber n → spellings.IsNumber n
-number_in_range n p = (p.0, omega (arith, p.1))
-
-op_in_range : (o : Op) → IsOp o → spellings.OpInRange o
-op_in_range (Put key value) ((low, high, key_bytes), (few, value_bytes)) = ((low, high), few)
-
-what_in_range : (w : What) → IsWhat w → WhatInRange w
-what_in_range (what.Tick p) h = tt
-what_in_range (what.Command p c) h = record { client = number_in_range c.client h.1.0; seq = number_in_range c.seq h.1.1; op = op_in_range c.op h.1.2 }
-what_in_range (what.Crash p) h = tt
-what_in_range (what.Start p) h = tt
 
 -- ---- the events that are left
 
@@ -78,7 +60,7 @@ continues_next members w v left rest events e c first here step =
       ran = ap (λ (x : World). run_of x (all_done rest)) step ∙ ap (λ (es : List Event). run_of w (all_done es)) (sym first) ∙ c.ran;
       present = λ h. c.present (subst (λ (es : List Event). AllPresent members es) (sym first) (here, h));
       absent = λ n h. c.absent n (subst (λ (es : List Event). IsFirstAbsent members es n) (sym first) (inr (here, h)));
-      range = All-tail (λ (f : Event). IsWhat f.what) e rest (subst (λ (es : List Event). AreInRange es) first c.range);
+      range = All-tail (λ (f : Event). WhatInRange f.what) e rest (subst (λ (es : List Event). AreInRange es) first c.range);
     }
 
 pub absent_here : (members : List ℕ) (w : World) (left rest events : List Event) (e : Event) → Continues members w left events → left ≡ e ∷ rest → is_member nat_eq members (node_of e.what) ≡ false → IsFirstAbsent members events e.line
@@ -92,6 +74,3 @@ ran_end me members w left events sole c none = summary-run me members events w s
 
 pub meets_members : (members : List ℕ) (events : List Event) → members ≡ get_or members 0 0 ∷ [] → Meets members (all_done events)
 meets_members members events sole = subst (λ (ms : List ℕ). Meets ms (all_done events)) (sym sole) (sole_runs_meet (get_or members 0 0) (all_done events))
-
-pub next_in_range : (members : List ℕ) (w : World) (left rest events : List Event) (e : Event) → Continues members w left events → left ≡ e ∷ rest → WhatInRange e.what
-next_in_range members w left rest events e c first = what_in_range e.what (All-head (λ (f : Event). IsWhat f.what) e rest (subst (λ (es : List Event). AreInRange es) first c.range))

@@ -4,20 +4,30 @@ use Rattle.std.specs.Io.KnownBytes.{Appends}
 use Rattle.op_sched.specs.Grammar.{IsSchedule, IsFirstBadLine}
 use Rattle.op_sched.specs.Text.{report_of}
 use Rattle.op_sched.specs.declared.schedule.Schedule.{Schedule}
-use Rattle.op_outside.specs.Streams.{AppendsFront}
+use Rattle.op_outside.specs.Streams.{AppendsPrefix}
 use Rattle.op_runs.specs.World.{all_done}
 use Rattle.op_runs.specs.Run.{Meets}
+use Rattle.op_runs.specs.Replies.{RepliesAreServed}
 use Rattle.op_top.specs.Replay.{AllPresent, IsFirstAbsent, run_summary}
+
+-- how many bytes of input are read at most
+abbrev pub input_limit : ℕ
+input_limit = 67108864
 
 -- the input isn't longer than a schedule may be
 abbrev pub IsWithinLimit : List ℕ → Type 0
-IsWithinLimit input = length input ≤ 67108864
+IsWithinLimit input = length input ≤ input_limit
 
--- the text is the report of this schedule's run; each event is at a node that is there, and the run meets the list machine
+-- the text is the report of this schedule's run
 pub record IsReportOf (s : Schedule) (text : List ℕ) : Type 0 where
+  -- each event is at a node that is there
   pub present : AllPresent s.members s.events
+  -- the text says what the run leaves
   pub written : text ≡ report_of (run_summary s.members s.events)
+  -- the run meets the list machine
   pub meets : Meets s.members (all_done s.events)
+  -- each client is answered by the lists that are reported
+  pub served : RepliesAreServed (run_summary s.members s.events)
 
 -- the input is a schedule, and this text is the report of its run
 abbrev pub Reports : List ℕ → List ℕ → Type 0
@@ -27,9 +37,9 @@ Reports input text = (s : Schedule) × IsSchedule input s × IsReportOf s text
 abbrev pub IsReported : List ℕ → Option (List ℕ) → Option (List ℕ) → Type 0
 IsReported input old new = (text : List ℕ) × IsWithinLimit input × Reports input text × Appends old new text
 
--- a front of that report was written
-abbrev pub IsReportedFront : List ℕ → Option (List ℕ) → Option (List ℕ) → Type 0
-IsReportedFront input old new = (text : List ℕ) × IsWithinLimit input × Reports input text × AppendsFront old new text
+-- a prefix of that report was written
+abbrev pub IsReportedPrefix : List ℕ → Option (List ℕ) → Option (List ℕ) → Type 0
+IsReportedPrefix input old new = (text : List ℕ) × IsWithinLimit input × Reports input text × AppendsPrefix old new text
 
 -- line n is the first that isn't in the grammar or, where all are, that of the first event at a node that isn't there
 abbrev pub IsBadAt : List ℕ → ℕ → Type 0

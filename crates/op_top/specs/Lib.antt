@@ -1,3 +1,5 @@
 pub mod Replay
 pub mod Called
 pub mod Statuses
+pub mod Answers
+pub mod Sessions

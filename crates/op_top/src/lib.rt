@@ -2,8 +2,10 @@
 #![tactic(auto)]
 
 mod replay;
+mod sessions;
 mod status;
 mod top;
 
+pub use sessions::session;
 pub use status::Status;
 pub use top::omni;

@@ -64,7 +64,7 @@ fn tell_text<K: Sink>(err: &mut K, text: &[u8])
     let _ = write_all(err, text);
 }
 
-/// Writes three texts, one behind the other, up to the first failure.
+/// Writes three texts, one after the other, up to the first failure.
 fn write_parts<K: Sink>(
     err: &mut K,
     first: &[u8],

@@ -1,10 +1,17 @@
-ghost use Rattle.std.specs.Prelude.{◌≡◌, ◌<◌, ℕ, length, map, string_bytes, IfSome};
-ghost use Rattle.std.specs.Io.KnownBytes.{IsAtEnd};
-ghost use Rattle.op_outside.specs.Causes.{Rose, NoFault};
-ghost use Rattle.op_outside.specs.Streams.{HasAtLeast, TakesAtMost, Tells};
-ghost use Rattle.op_setup.specs.Tasks.{task_words, IsTask};
-ghost use Rattle.op_top.specs.Called.{IsWithinLimit, IsReported, IsReportedFront, IsRefusedAt, IsValid};
-ghost use Rattle.op_top.specs.Statuses.{IsQuiet, IsOrNoMemory, status_line};
+ghost use Rattle.std.specs.Prelude.{◌≡◌, map, string_bytes};
+ghost use Rattle.op_outside.specs.Causes.{NoFault};
+ghost use Rattle.op_outside.specs.Streams.{Tells};
+ghost use Rattle.op_setup.specs.Tasks.{task_words};
+ghost use Rattle.op_top.specs.Answers.{
+  EndsIfValid,
+  IsFault,
+  IsReplay,
+  LeavesInput,
+  LeavesOutput,
+  RefusesInput,
+  RefusesWords,
+};
+ghost use Rattle.op_top.specs.Statuses.{status_line};
 
 use crate::replay::replayed;
 use crate::status::Status;
@@ -17,24 +24,16 @@ use std::alloc::Global;
 const INPUT_LIMIT: usize = 67_108_864;
 
 fn replay<S: Source, K: Sink>(alloc: Global, input: &mut S, out: &mut K) -> Status
-    ensures ended { result ≡ Status.Ended → IfSome (S.left input.old) (λ bytes. IsReported bytes (K.held out.old) (K.held out.new)) }
-    ensures read { result ≡ Status.Ended → IsAtEnd (S.left input.new) }
-    ensures bad { (line : ℕ) → result ≡ Status.BadSchedule line → IfSome (S.left input.old) (λ bytes. IsRefusedAt bytes line) }
-    ensures bad_always { NoFault (S.fault_count input.old) (S.fault_count input.new)
-        → IfSome (S.left input.old) (λ bytes. (line : ℕ) → IsRefusedAt bytes line → IsOrNoMemory (Status.BadSchedule line) result) }
-    ensures read_fault { result ≡ Status.ReadFault → Rose (S.fault_count input.old) (S.fault_count input.new) }
-    ensures read_fault_always { (result ≡ Status.ReadFault → ⊥) → S.fault_count input.new ≡ S.fault_count input.old }
-    ensures write_fault { result ≡ Status.WriteFault → Rose (K.fault_count out.old) (K.fault_count out.new) }
-    ensures write_fault_always { (result ≡ Status.WriteFault → ⊥) → K.fault_count out.new ≡ K.fault_count out.old }
-    ensures taken { TakesAtMost 67108865 (S.left input.old) (S.left input.new) }
-    ensures too_long { result ≡ Status.InputLimit → HasAtLeast (S.left input.old) 67108865 }
-    ensures too_long_always { NoFault (S.fault_count input.old) (S.fault_count input.new)
-        → IfSome (S.left input.old) (λ bytes. 67108864 < length bytes → IsOrNoMemory Status.InputLimit result) }
-    ensures cut { result ≡ Status.WriteFault → IfSome (S.left input.old) (λ bytes. IsReportedFront bytes (K.held out.old) (K.held out.new)) }
-    ensures quiet { IsQuiet result → K.held out.new ≡ K.held out.old }
+    ensures output { LeavesOutput result (S.left input.old) (K.held out.old) (K.held out.new) }
+    ensures input { LeavesInput result (S.left input.old) (S.left input.new) }
+    ensures refused { RefusesInput result (task_words Task.Replay) (S.left input.old)
+        (S.fault_count input.old) (S.fault_count input.new) }
+    ensures read_fault { IsFault Status.ReadFault result (S.fault_count input.old) (S.fault_count input.new) }
+    ensures write_fault { IsFault Status.WriteFault result (K.fault_count out.old) (K.fault_count out.new) }
     ensures no_usage { result ≡ Status.Usage → ⊥ }
-    ensures complete { NoFault (S.fault_count input.old) (S.fault_count input.new) → NoFault (K.fault_count out.old) (K.fault_count out.new)
-        → IfSome (S.left input.old) (λ bytes. IsWithinLimit bytes → IsValid bytes → IsOrNoMemory Status.Ended result) }
+    ensures complete { NoFault (S.fault_count input.old) (S.fault_count input.new)
+        → NoFault (K.fault_count out.old) (K.fault_count out.new)
+        → EndsIfValid result (S.left input.old) }
 {
     let bytes = match read_all(alloc, input, INPUT_LIMIT) {
         Ok(bytes) => bytes,
@@ -61,41 +60,26 @@ pub fn omni<S: Source, K: Sink>(
     out: &mut K,
     err: &mut K,
 ) -> Status
-    // What is written is the report of the run that the bytes read say, and that run meets the list machine.
-    ensures ended { result ≡ Status.Ended → IfSome (S.left input.old) (λ bytes. IsReported bytes (K.held out.old) (K.held out.new)) }
-    ensures read { result ≡ Status.Ended → IsAtEnd (S.left input.new) }
+    // What is written is the report of the schedule's run, which meets the list machine, and whose lists answer each client.
+    ensures output { LeavesOutput result (S.left input.old) (K.held out.old) (K.held out.new) }
+    ensures input { LeavesInput result (S.left input.old) (S.left input.new) }
 
-    // Words are refused exactly where they are no command's. No input is read then.
-    ensures usage { result ≡ Status.Usage → IsTask (map string_bytes words.now) → ⊥ }
-    ensures usage_always { (IsTask (map string_bytes words.now) → ⊥) → result ≡ Status.Usage }
-    ensures unread { result ≡ Status.Usage → S.left input.new ≡ S.left input.old }
-
-    // A schedule is refused exactly where it is bad, and at its first bad line.
-    ensures bad { (line : ℕ) → result ≡ Status.BadSchedule line → IfSome (S.left input.old) (λ bytes. IsRefusedAt bytes line) }
-    ensures bad_always { map string_bytes words.now ≡ task_words Task.Replay → NoFault (S.fault_count input.old) (S.fault_count input.new)
-        → IfSome (S.left input.old) (λ bytes. (line : ℕ) → IsRefusedAt bytes line → IsOrNoMemory (Status.BadSchedule line) result) }
-
-    // Input is refused exactly where it is too long, and no more of it is read than tells so.
-    ensures taken { TakesAtMost 67108865 (S.left input.old) (S.left input.new) }
-    ensures too_long { result ≡ Status.InputLimit → HasAtLeast (S.left input.old) 67108865 }
-    ensures too_long_always { map string_bytes words.now ≡ task_words Task.Replay → NoFault (S.fault_count input.old) (S.fault_count input.new)
-        → IfSome (S.left input.old) (λ bytes. 67108864 < length bytes → IsOrNoMemory Status.InputLimit result) }
+    // Words are refused exactly where they are no command's, and input exactly where it is bad or too long.
+    ensures usage { RefusesWords result (map string_bytes words.now) }
+    ensures refused { RefusesInput result (map string_bytes words.now) (S.left input.old)
+        (S.fault_count input.old) (S.fault_count input.new) }
 
     // A fault is answered where the stream failed in this call, and nowhere else.
-    ensures read_fault { result ≡ Status.ReadFault → Rose (S.fault_count input.old) (S.fault_count input.new) }
-    ensures read_fault_always { (result ≡ Status.ReadFault → ⊥) → S.fault_count input.new ≡ S.fault_count input.old }
-    ensures write_fault { result ≡ Status.WriteFault → Rose (K.fault_count out.old) (K.fault_count out.new) }
-    ensures write_fault_always { (result ≡ Status.WriteFault → ⊥) → K.fault_count out.new ≡ K.fault_count out.old }
-
-    // With a write fault a front of the report stands there, and with other refusals nothing more than before.
-    ensures cut { result ≡ Status.WriteFault → IfSome (S.left input.old) (λ bytes. IsReportedFront bytes (K.held out.old) (K.held out.new)) }
-    ensures quiet { IsQuiet result → K.held out.new ≡ K.held out.old }
-
-    ensures told { Tells K.held K.fault_count err.old err.new (status_line result) }
+    ensures read_fault { IsFault Status.ReadFault result (S.fault_count input.old) (S.fault_count input.new) }
+    ensures write_fault { IsFault Status.WriteFault result (K.fault_count out.old) (K.fault_count out.new) }
 
     // A valid schedule is reported, unless a stream fails or there is no memory.
-    ensures complete { map string_bytes words.now ≡ task_words Task.Replay → NoFault (S.fault_count input.old) (S.fault_count input.new) → NoFault (K.fault_count out.old) (K.fault_count out.new)
-        → IfSome (S.left input.old) (λ bytes. IsWithinLimit bytes → IsValid bytes → IsOrNoMemory Status.Ended result) }
+    ensures complete { IsReplay (map string_bytes words.now)
+        → NoFault (S.fault_count input.old) (S.fault_count input.new)
+        → NoFault (K.fault_count out.old) (K.fault_count out.new)
+        → EndsIfValid result (S.left input.old) }
+
+    ensures told { Tells K.held K.fault_count err.old err.new (status_line result) }
 {
     let status = match task(alloc, words) {
         Ok(Task::Replay) => replay(alloc, input, out),

@@ -1,22 +1,19 @@
-ghost use Rattle.std.specs.Prelude.{◌≡◌, [], None, IfOk, IsErrOf, OnOk, OnErr};
-ghost use Rattle.op_sched.specs.Grammar.{IsPid};
-ghost use Rattle.op_entry.specs.Ranges.{CommandInRange};
-ghost use Rattle.op_steps.specs.Rows.{refusal_of};
-ghost use Rattle.op_steps.specs.Starting as steps;
+ghost use Rattle.std.specs.Prelude.{◌≡◌, [], None, length, IfOk, OnOk, OnErr};
+ghost use Rattle.op_types.specs.Ranges.{IsPid, CommandInRange};
+ghost use Rattle.op_protocol.specs.Rows.{refusal_of};
+ghost use Rattle.op_protocol.specs.Starting as steps;
 ghost use Rattle.op_runs.specs.Sole.{log_of_part};
 ghost use Rattle.op_sole.specs.SoleMember.{IsSoleDurable};
 ghost use Rattle.op_sole.specs.Turns.{shown};
-ghost use Rattle.op_store.specs.Stores.{Keeps, IsReady, first_of, second_of, faults_of};
-ghost use Rattle.op_world.specs.Failing.{TellsStep};
-ghost use Rattle.op_world.specs.Members.{IsMember, Ticks, Appends};
-ghost use Rattle.op_world.specs.declared.fail.StepFail.TheVariants as fails;
+ghost use Rattle.op_store.specs.Stores.{IsReady};
+ghost use Rattle.op_world.specs.Members.{IsMember, Ticks, Appends, AppendsToLog, tick_batch, command_batch};
+ghost use Rattle.op_world.specs.Steps.{Steps};
 
 use crate::fail::StepFail;
 use crate::stepping::commit;
 use op_outside::Disk;
 use op_sole::{
-    Clients, Volatile, append_batch, clients_of, first_volatile, refusal, serve, tick,
-    volatile_again,
+    Clients, Volatile, append_batch, first_volatile, refusal, tick, volatile_after_restart,
 };
 use op_store::Store;
 use op_types::{Answer, Command, Durable, NoMemory, Pid, Refusal};
@@ -64,14 +61,15 @@ impl Member {
         requires sole { IsSoleDurable me durable }
         ensures member { IfOk result IsMember }
         ensures durable { IfOk result (λ m. m.durable ≡ durable) }
-        ensures volatile { IfOk result (λ m. shown m.volatile ≡ steps.volatile_again me durable.part) }
+        ensures volatile { IfOk result (λ m.
+            shown m.volatile ≡ steps.volatile_after_restart me durable.part) }
         ensures me { IfOk result (λ m. m.me ≡ me) }
     {
         let Some(part) = &durable.part else {
             unreachable!();
         };
-        let volatile = volatile_again(alloc, me, part)?;
-        let clients = clients_of(alloc, part.tail.as_slice())?;
+        let volatile = volatile_after_restart(alloc, me, part)?;
+        let clients = Clients::replay(alloc, part.tail.as_slice())?;
         Ok(Member {
             alloc,
             me,
@@ -99,11 +97,7 @@ impl Member {
         ensures ticked { OnOk result (Ticks self.old self.new) }
         ensures member { OnOk result (IsMember self.new) }
         ensures kept { OnErr result (self.new ≡ self.old) }
-        ensures stored { D.follows (first_of store.old) → D.follows (second_of store.old) → Keeps D.seen D.moment D.left_since self.old.durable store.old →
-            OnOk result (Keeps D.seen D.moment D.left_since self.new.durable store.new) }
-        ensures untouched { IsErrOf result fails.NoMemory → store.new ≡ store.old }
-        ensures ready { OnOk result (IsReady store.new) }
-        ensures cause { TellsStep (faults_of D.count store.old) (faults_of D.count store.new) result }
+        ensures steps { Steps D.state self.old.durable (tick_batch self.old) store.old store.new result }
     {
         let Some(part) = &self.durable.part else {
             unreachable!();
@@ -114,8 +108,8 @@ impl Member {
         Ok(())
     }
 
-    /// Appends a command that isn't refused, which is decided at once: its position, and its answer. Where it fails, nothing
-    /// of it was adopted but, perhaps, the client's last command: the member is then to be opened again.
+    /// Appends a command that isn't refused, which is decided at once: its position, and its answer. Where it fails, nothing has
+    /// changed in memory, and for want of memory nothing at all.
     pub fn append<D: Disk>(
         &mut self,
         store: &mut Store<D>,
@@ -127,20 +121,44 @@ impl Member {
         requires ready { IsReady store.old }
         ensures appended { IfOk result (λ x. Appends self.old command self.new x.0 x.1) }
         ensures member { OnOk result (IsMember self.new) }
-        ensures kept { OnErr result (self.new ≡ record self.old { clients = self.new.clients }) }
-        ensures stored { D.follows (first_of store.old) → D.follows (second_of store.old) → Keeps D.seen D.moment D.left_since self.old.durable store.old →
-            OnOk result (Keeps D.seen D.moment D.left_since self.new.durable store.new) }
-        ensures untouched { IsErrOf result fails.NoMemory → store.new ≡ store.old }
-        ensures ready { OnOk result (IsReady store.new) }
-        ensures cause { TellsStep (faults_of D.count store.old) (faults_of D.count store.new) result }
+        ensures kept { OnErr result (self.new ≡ self.old) }
+        ensures steps { Steps D.state self.old.durable (command_batch self.old command)
+            store.old store.new result }
     {
-        let answer = serve(&mut self.clients, &command)?;
+        let client = command.client;
+        let last = self.clients.last(client);
+        let answer = self.clients.serve(&command)?;
+        match self.append_to_log(store, command) {
+            Ok(position) => Ok((position, answer)),
+            Err(fail) => {
+                self.clients.take_back(client, last);
+                Err(fail)
+            }
+        }
+    }
+
+    /// The part of it that is stored: the command's position.
+    fn append_to_log<D: Disk>(
+        &mut self,
+        store: &mut Store<D>,
+        command: Command,
+    ) -> Result<u64, StepFail>
+        requires sole { IsSoleDurable self.old.me self.old.durable }
+        requires accepts { refusal_of (shown self.old.volatile) self.old.durable.part ≡ None }
+        requires range { CommandInRange command }
+        requires ready { IsReady store.old }
+        ensures place { IfOk result (λ at. at ≡ length (log_of_part self.old.durable.part)) }
+        ensures stored { OnOk result (AppendsToLog self.old command self.new) }
+        ensures kept { OnErr result (self.new ≡ self.old) }
+        ensures steps { Steps D.state self.old.durable (command_batch self.old command)
+            store.old store.new result }
+    {
         let Some(part) = &self.durable.part else {
             unreachable!();
         };
         let position = part.tail.len() as u64;
         let batch = append_batch(self.alloc, part, command)?;
         commit(self.alloc, &mut self.durable, store, batch)?;
-        Ok((position, answer))
+        Ok(position)
     }
 }

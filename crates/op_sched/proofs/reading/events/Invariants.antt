@@ -1,12 +1,12 @@
 use Rattle.std.proofs.Common.{◌+◌, ◌≤◌, ℕ, List, ◌++◌, length}
 use Rattle.op_types.specs.declared.events.Event.{Event}
-use Rattle.op_sched.specs.Grammar.{lines_of, numbered, AreEvents, IsFirstBadEvent}
+use Rattle.op_sched.specs.Grammar.{numbered_lines, AreEvents, IsFirstBadEvent}
 use Rattle.op_sched.proofs.reading.events.Given as goal
 
 abbrev pub invariant-loop-next : goal.invariant-loop-next
 invariant-loop-next l = record {
-  good : (more : List Event) → AreEvents (numbered l.at (lines_of l.rest)) more → AreEvents (numbered l.number (lines_of l.text)) (l.events ++ more);
-  bad : (n : ℕ) → IsFirstBadEvent (numbered l.at (lines_of l.rest)) n → IsFirstBadEvent (numbered l.number (lines_of l.text)) n;
+  good : (more : List Event) → AreEvents (numbered_lines l.at l.rest) more → AreEvents (numbered_lines l.number l.text) (l.events ++ more);
+  bad : (n : ℕ) → IsFirstBadEvent (numbered_lines l.at l.rest) n → IsFirstBadEvent (numbered_lines l.number l.text) n;
   fits : l.at + length l.rest ≤ l.number + length l.text;
 }
 

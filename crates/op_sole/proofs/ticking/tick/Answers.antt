@@ -2,7 +2,7 @@ use Rattle.std.proofs.Common.{◌≡◌, sym, ap, ◌∙◌, subst}
 use Rattle.std.proofs.lemmas.Result.{IfOk-weaker}
 use Rattle.op_types.specs.declared.verdict.Verdict.TheVariants as verdict
 use Rattle.op_record.specs.Ranges.{BatchInRange}
-use Rattle.op_steps.specs.State.{Planned}
+use Rattle.op_protocol.specs.State.{Planned}
 use Rattle.op_sole.specs.declared.turn.Turn.{Turn}
 use Rattle.op_sole.specs.SoleMember.{IsSoleVolatile, StaysSole}
 use Rattle.op_sole.specs.Turns.{shown, turned}

@@ -1,6 +1,6 @@
 use Rattle.std.proofs.Common.{Err, ap, ◌∙◌}
 use Rattle.op_setup.specs.declared.tasks.Task.TheVariants.{Replay}
-use Rattle.op_top.proofs.Complete.{told_no_memory}
+use Rattle.op_top.proofs.ValidOrBad.{told_no_memory}
 use Rattle.op_top.proofs.top.omni.Goals.{in-Ok-Replay, in-Err-Usage, in-Err-NoMemory}
 use Rattle.op_top.proofs.top.omni.Goals as goal
 

@@ -1,0 +1,158 @@
+-- A text has one reading, which is in range.
+use Rattle.std.proofs.Common.{◌≡◌, ℕ, ◌+◌, List, [], ◌∷◌, get_or, map, length, refl, sym, ap, ◌∙◌, arith, inl, inr}
+use Rattle.std.specs.Fmt.{decimal}
+use Rattle.std.proofs.lemmas.Bool.{false≢true}
+use Rattle.std.proofs.lemmas.Fmt.{decimal_injective}
+use Rattle.std.proofs.lemmas.Slice.Eq.{bytes_eq-Decides}
+use Rattle.std.proofs.lemmas.List.Elements.{All-cons}
+use Rattle.op_types.specs.declared.log.Op.{Op}
+use Rattle.op_types.specs.declared.log.Op.TheVariants.{Put}
+use Rattle.op_types.specs.declared.log.Command.{Command}
+use Rattle.op_types.specs.declared.events.What.{What}
+use Rattle.op_types.specs.declared.events.What.TheVariants as what
+use Rattle.op_types.specs.declared.events.Event.{Event}
+use Rattle.op_sched.specs.declared.schedule.Schedule.{Schedule}
+use Rattle.op_sched.proofs.UnambiguousEncoding.{one_encoding_of}
+use Rattle.op_types.specs.Ranges.{IsPid, IsNumber, CommandInRange, WhatInRange}
+use Rattle.op_sched.specs.Grammar.{IsHeader, IsOneMember, IsOfBytes, OpIsOfBytes, AreInRange, AreOfBytes, AreEvents, AreLines, IsSchedule, IsFirstBadEvent, IsFirstBadOf, IsFirstBadLine, op_words, what_words, lines_of, numbered_lines}
+use Rattle.op_sched.proofs.EventWords.{first, after_first, name_of, named}
+
+no_bad_event : (n : ℕ) (lines : List (ℕ × List ℕ)) (events : List Event) → AreEvents lines events → IsFirstBadEvent lines n → ⊥
+no_bad_event n [] events good bad = absurd bad
+no_bad_event n (line ∷ lines) [] good bad = absurd good
+no_bad_event n (line ∷ lines) (e ∷ events) good (inl bad) = bad.1 (e.what, good.1)
+no_bad_event n (line ∷ lines) (e ∷ events) good (inr bad) = no_bad_event n lines events good.2 bad.1
+
+no_bad_of : (end : ℕ) (lines : List (ℕ × List ℕ)) (s : Schedule) (n : ℕ) → AreLines lines s → IsFirstBadOf end lines n → ⊥
+no_bad_of end [] s n good bad = absurd good
+no_bad_of end (header ∷ lines) s n good (inl bad) = bad.1 (s.members, good.0)
+no_bad_of end (header ∷ lines) s n good (inr bad) = no_bad_event n lines s.events good.2 bad.1
+
+-- a schedule's text has no bad line
+pub no_bad_line : (text : List ℕ) (s : Schedule) (n : ℕ) → IsSchedule text s → IsFirstBadLine text n → ⊥
+no_bad_line text s n good bad = no_bad_of (length (lines_of text) + 1) (numbered_lines 1 text) s n good bad
+
+-- ---- one schedule
+
+one_pid : (p q : ℕ) → IsPid p → IsPid q → decimal p ≡ decimal q → p ≡ q
+one_pid p q ip iq e = decimal_injective p q (omega arith) (omega arith) e
+
+-- two lines with different names differ
+one_name : (w v : What) → what_words w ≡ what_words v → name_of w ≡ name_of v
+one_name w v e = sym (named w) ∙ ap first e ∙ named v
+
+abbrev command : ℕ → ℕ → Op → Command
+command client seq op = record { client = client; seq = seq; op = op }
+
+one_op : (p q a b m n : ℕ) (o r : Op) → IsPid p → IsPid q → IsNumber a → IsNumber b → IsNumber m → IsNumber n → OpIsOfBytes o → OpIsOfBytes r → op_words p a m o ≡ op_words q b n r → (p ≡ q) × (a ≡ b) × (m ≡ n) × (o ≡ r)
+one_op p q a b m n (Put k v) (Put l w) hp hq ha hb hm hn io ir e =
+    let keys = one_encoding_of k l io.0 ir.0 cc in
+    let values = one_encoding_of v w io.1 ir.1 cc in
+    (one_pid p q hp hq cc, decimal_injective a b (omega arith) (omega arith) cc, decimal_injective m n (omega arith) (omega arith) cc, cc (keys, values))
+
+one_command : (p q : ℕ) (c d : Command) → IsPid p → IsPid q → CommandInRange c → CommandInRange d → OpIsOfBytes c.op → OpIsOfBytes d.op → op_words p c.client c.seq c.op ≡ op_words q d.client d.seq d.op → what.Command p c ≡ what.Command q d
+one_command p q c d hp hq ic id bc bd e =
+    let same = one_op p q c.client d.client c.seq d.seq c.op d.op hp hq ic.client id.client ic.seq id.seq bc bd e in
+    let here : c ≡ d = cc (ap (λ (x : ℕ). command x c.seq c.op) same.1, ap (λ (x : ℕ). command d.client x c.op) same.2, ap (λ (x : Op). command d.client d.seq x) same.3) in
+    ap (λ (x : ℕ). what.Command x c) same.0 ∙ ap (what.Command q) here
+
+one_what : (w v : What) → WhatInRange w → WhatInRange v → IsOfBytes w → IsOfBytes v → what_words w ≡ what_words v → w ≡ v
+one_what (what.Tick p) (what.Tick q) iw iv bw bv e = ap what.Tick (one_pid p q iw iv cc)
+one_what (what.Crash p) (what.Crash q) iw iv bw bv e = ap what.Crash (one_pid p q iw iv cc)
+one_what (what.Start p) (what.Start q) iw iv bw bv e = ap what.Start (one_pid p q iw iv cc)
+one_what (what.Command p c) (what.Command q d) iw iv bw bv e = one_command p q c d iw.0 iv.0 iw.1 iv.1 bw bv e
+one_what w v iw iv bw bv e = absurd (false≢true ((bytes_eq-Decides (name_of w) (name_of v)).1 (one_name w v e)))
+
+abbrev event : ℕ → What → Event
+event line w = record { line = line; what = w }
+
+one_events : (lines : List (ℕ × List ℕ)) (es fs : List Event) → AreEvents lines es → AreEvents lines fs → es ≡ fs
+one_events [] [] [] p q = refl
+one_events [] [] (f ∷ fs) p q = absurd q
+one_events [] (e ∷ es) fs p q = absurd p
+one_events (line ∷ lines) [] fs p q = absurd p
+one_events (line ∷ lines) (e ∷ es) [] p q = absurd q
+one_events (line ∷ lines) (e ∷ es) (f ∷ fs) p q =
+    let same = one_what e.what f.what p.1.in_range q.1.in_range p.1.of_bytes q.1.of_bytes (sym p.1.written ∙ q.1.written) in
+    let here : e ≡ f = ap (λ (n : ℕ). event n e.what) (p.0 ∙ sym q.0) ∙ ap (event f.line) same in
+    let rest = one_events lines es fs p.2 q.2 in
+    cc (here, rest)
+
+one_list : (ps qs : List ℕ) → IsOneMember ps → IsOneMember qs → map decimal ps ≡ map decimal qs → ps ≡ qs
+one_list ps qs (a, ea, ia) (b, eb, ib) e =
+    let words : decimal a ∷ [] ≡ decimal b ∷ [] = ap (map decimal) (sym ea) ∙ e ∙ ap (map decimal) eb in
+    ea ∙ ap (λ (x : ℕ). x ∷ []) (one_pid a b ia ib cc) ∙ sym eb
+
+one_header : (line : List ℕ) (ps qs : List ℕ) → IsHeader line ps → IsHeader line qs → ps ≡ qs
+one_header line ps qs p q = one_list ps qs p.in_range q.in_range (ap after_first (sym p.written ∙ q.written))
+
+abbrev schedule : List ℕ → List ℕ → List Event → Schedule
+schedule members spares events = record { members = members; spares = spares; events = events }
+
+one_of : (lines : List (ℕ × List ℕ)) (s t : Schedule) → AreLines lines s → AreLines lines t → s ≡ t
+one_of [] s t p q = absurd p
+one_of (header ∷ lines) s t p q =
+    ap (λ (ms : List ℕ). schedule ms s.spares s.events) (one_header header.1 s.members t.members p.0 q.0)
+    ∙ ap (λ (ms : List ℕ). schedule t.members ms s.events) (p.1 ∙ sym q.1)
+    ∙ ap (schedule t.members t.spares) (one_events lines s.events t.events p.2 q.2)
+
+-- a text is one schedule's
+pub one_schedule : (text : List ℕ) (s t : Schedule) → IsSchedule text s → IsSchedule text t → s ≡ t
+one_schedule text s t p q = one_of (numbered_lines 1 text) s t p q
+
+-- ---- one bad line
+
+one_bad_event : (m n : ℕ) (lines : List (ℕ × List ℕ)) → IsFirstBadEvent lines m → IsFirstBadEvent lines n → m ≡ n
+one_bad_event m n [] p q = absurd p
+one_bad_event m n (line ∷ lines) (inl p) (inl q) = p.0 ∙ sym q.0
+one_bad_event m n (line ∷ lines) (inl p) (inr q) = absurd (p.1 q.0)
+one_bad_event m n (line ∷ lines) (inr p) (inl q) = absurd (q.1 p.0)
+one_bad_event m n (line ∷ lines) (inr p) (inr q) = one_bad_event m n lines p.1 q.1
+
+one_bad_of : (end : ℕ) (lines : List (ℕ × List ℕ)) (m n : ℕ) → IsFirstBadOf end lines m → IsFirstBadOf end lines n → m ≡ n
+one_bad_of end [] m n p q = p ∙ sym q
+one_bad_of end (header ∷ lines) m n (inl p) (inl q) = p.0 ∙ sym q.0
+one_bad_of end (header ∷ lines) m n (inl p) (inr q) = absurd (p.1 q.0)
+one_bad_of end (header ∷ lines) m n (inr p) (inl q) = absurd (q.1 p.0)
+one_bad_of end (header ∷ lines) m n (inr p) (inr q) = one_bad_event m n lines p.1 q.1
+
+-- a text has one first bad line
+pub one_bad_line : (text : List ℕ) (m n : ℕ) → IsFirstBadLine text m → IsFirstBadLine text n → m ≡ n
+one_bad_line text m n p q = one_bad_of (length (lines_of text) + 1) (numbered_lines 1 text) m n p q
+
+-- ---- what a schedule says is in range
+
+one_member_of : (lines : List (ℕ × List ℕ)) (s : Schedule) → AreLines lines s → IsOneMember s.members
+one_member_of [] s p = absurd p
+one_member_of (header ∷ lines) s p = p.0.in_range
+
+-- a schedule's one member is an id
+pub member_in_range : (text : List ℕ) (s : Schedule) → IsSchedule text s → IsOneMember s.members
+member_in_range text s p = one_member_of (numbered_lines 1 text) s p
+
+one_id : (members : List ℕ) → IsOneMember members → members ≡ get_or members 0 0 ∷ []
+one_id members (p, e, h) = rw e refl
+
+-- a schedule has one member
+pub one_member : (text : List ℕ) (s : Schedule) → IsSchedule text s → s.members ≡ get_or s.members 0 0 ∷ []
+one_member text s p = one_id s.members (member_in_range text s p)
+
+each_in_range : (lines : List (ℕ × List ℕ)) (events : List Event) → AreEvents lines events → AreInRange events × AreOfBytes events
+each_in_range [] [] p = (λ i d lt. absurd (omega arith), λ i d lt. absurd (omega arith))
+each_in_range [] (e ∷ events) p = absurd p
+each_in_range (line ∷ lines) [] p = absurd p
+each_in_range (line ∷ lines) (e ∷ events) p =
+    let rest = each_in_range lines events p.2 in
+    (All-cons (λ (f : Event). WhatInRange f.what) e events p.1.in_range rest.0, All-cons (λ (f : Event). IsOfBytes f.what) e events p.1.of_bytes rest.1)
+
+each_in_range_of : (lines : List (ℕ × List ℕ)) (s : Schedule) → AreLines lines s → AreInRange s.events × AreOfBytes s.events
+each_in_range_of [] s p = absurd p
+each_in_range_of (header ∷ lines) s p = each_in_range lines s.events p.2
+
+-- each event of a schedule is in range
+pub events_in_range : (text : List ℕ) (s : Schedule) → IsSchedule text s → AreInRange s.events
+events_in_range text s p = (each_in_range_of (numbered_lines 1 text) s p).0
+
+-- the keys and values of a schedule are bytes
+pub events_of_bytes : (text : List ℕ) (s : Schedule) → IsSchedule text s → AreOfBytes s.events
+events_of_bytes text s p = (each_in_range_of (numbered_lines 1 text) s p).1

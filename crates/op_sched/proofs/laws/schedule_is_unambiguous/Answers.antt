@@ -1,0 +1,5 @@
+use Rattle.op_sched.proofs.UnambiguousSchedules.{no_bad_line, one_schedule, one_bad_line, member_in_range, events_in_range, events_of_bytes}
+use Rattle.op_sched.proofs.laws.schedule_is_unambiguous.Goals as goal
+
+pub returns : goal.returns
+returns c = record { apart = no_bad_line; one = one_schedule; first = one_bad_line; member = member_in_range; in_range = events_in_range; of_bytes = events_of_bytes }

@@ -1,0 +1,17 @@
+//! The words of a line.
+ghost use Rattle.std.specs.Prelude.{◌≡◌, map, take, IfOk};
+ghost use Rattle.op_sched.specs.Grammar.{words_of};
+
+use op_types::NoMemory;
+use std::alloc::Global;
+
+/// How many words of a line are read: one more than the longest form, `put`, has. A line with as many is of no
+/// form, so its other words need no memory.
+pub const MOST_WORDS: usize = 7;
+
+/// The first words of a line.
+pub fn words(alloc: Global, line: &[u8]) -> Result<Vec<&[u8]>, NoMemory>
+    ensures { IfOk result (λ words. map (λ x. x.now) words.items ≡ take MOST_WORDS (words_of line.now)) }
+{
+    Ok(line.split(|b| *b == b' ').take(MOST_WORDS).collect(alloc)?)
+}

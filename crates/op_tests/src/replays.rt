@@ -1,0 +1,281 @@
+ghost use Rattle.std.specs.Prelude.{◌<◌};
+
+use crate::letters::Letters;
+use op_memory::{MemSink, MemSource};
+use op_sched::bytes_of;
+use op_top::{Status, omni};
+use std::alloc::{AllocError, Global};
+use std::process::Abort;
+use std::test::Fail;
+
+const ONE_PUT: &str = "members 1\ntick 1\nput 1 7 1 a x\n";
+
+const ONE_PUT_REPORT: &str =
+    "answer 3 appended 1 0\nreply 1 7 1 done\nconfig 1 members 1\nentry 1 0 put 7 1 a x\nnode 1 config 1 decided 1 trimmed 0\n";
+
+/// A schedule, how its replay ends, what it writes and what it tells.
+const ROWS: [(&str, Status, &str, &str); 18] = [
+    (ONE_PUT, Status::Ended, ONE_PUT_REPORT, ""),
+    (
+        "",
+        Status::BadSchedule { line: 1 },
+        "",
+        "bad schedule line 1\n",
+    ),
+    (
+        "members 1\nput 1 7 1 a x",
+        Status::Ended,
+        "answer 2 refused noleader\nconfig 1 members 1\nnode 1 config 1 decided 0 trimmed 0\n",
+        "",
+    ),
+    (
+        "members 5\ntick 5\nput 5 7 2 a x\nput 5 7 2 b y\nput 5 7 1 c z\n",
+        Status::Ended,
+        "answer 3 appended 1 0\nreply 5 7 2 done\nanswer 4 appended 1 1\nreply 5 7 2 done\nanswer 5 appended 1 2\nreply 5 7 1 stale\nconfig 1 members 5\nentry 1 0 put 7 2 a x\nentry 1 1 put 7 2 b y\nentry 1 2 put 7 1 c z\nnode 5 config 1 decided 3 trimmed 0\n",
+        "",
+    ),
+    (
+        "members 1\ntick 1\ntick 1\ntick 1\nput 1 9 1 k v",
+        Status::Ended,
+        "answer 5 appended 1 0\nreply 1 9 1 done\nconfig 1 members 1\nentry 1 0 put 9 1 k v\nnode 1 config 1 decided 1 trimmed 0\n",
+        "",
+    ),
+    (
+        "members 1\ntick 1\nput 1 7 1 a x\ncrash 1\nput 1 7 2 b y\nstart 1\nput 1 7 2 b y\ntick 1\nput 1 7 3 c z",
+        Status::Ended,
+        "answer 3 appended 1 0\nreply 1 7 1 done\nanswer 7 refused noleader\nanswer 9 appended 1 1\nreply 1 7 3 done\nconfig 1 members 1\nentry 1 0 put 7 1 a x\nentry 1 1 put 7 3 c z\nnode 1 config 1 decided 2 trimmed 0\n",
+        "",
+    ),
+    (
+        "members 2\ntick 2\nput 2 7 2 a x\ncrash 2\nstart 2\nstart 2\ntick 2\nput 2 7 1 b y\ncrash 2\ncrash 2\ntick 2\n",
+        Status::Ended,
+        "answer 3 appended 1 0\nreply 2 7 2 done\nanswer 8 appended 1 1\nreply 2 7 1 stale\nconfig 1 members 2\nentry 1 0 put 7 2 a x\nentry 1 1 put 7 1 b y\nnode 2 config 1 decided 2 trimmed 0 down\n",
+        "",
+    ),
+    (
+        "members 1\ntick 1\ntick 2\nput\n",
+        Status::BadSchedule { line: 4 },
+        "",
+        "bad schedule line 4\n",
+    ),
+    (
+        "members 1\ntick 1\ntick 2\nput 2 7 1 a x\n",
+        Status::BadSchedule { line: 3 },
+        "",
+        "bad schedule line 3\n",
+    ),
+    (
+        "members 1\ntick 01\n",
+        Status::BadSchedule { line: 2 },
+        "",
+        "bad schedule line 2\n",
+    ),
+    (
+        "members 1\n\n",
+        Status::Ended,
+        "config 1 members 1\nnode 1 config 1 decided 0 trimmed 0\n",
+        "",
+    ),
+    (
+        "# one\n\nmembers 1\ntick 1\nput 1 7 1 a %\n",
+        Status::Ended,
+        "answer 5 appended 1 0\nreply 1 7 1 done\nconfig 1 members 1\nentry 1 0 put 7 1 a %\nnode 1 config 1 decided 1 trimmed 0\n",
+        "",
+    ),
+    (
+        "members 1\n#\ntick 1\n\nput 1 7 1 %C3%A9 %20.%00%25\n#tick 2",
+        Status::Ended,
+        "answer 5 appended 1 0\nreply 1 7 1 done\nconfig 1 members 1\nentry 1 0 put 7 1 %C3%A9 %20.%00%25\nnode 1 config 1 decided 1 trimmed 0\n",
+        "",
+    ),
+    (
+        "# a\n\n",
+        Status::BadSchedule { line: 3 },
+        "",
+        "bad schedule line 3\n",
+    ),
+    (
+        "\n# a\ntick 1\n",
+        Status::BadSchedule { line: 3 },
+        "",
+        "bad schedule line 3\n",
+    ),
+    (
+        "# a\nmembers 1\n\n# b\ntick 1\n # c\n",
+        Status::BadSchedule { line: 6 },
+        "",
+        "bad schedule line 6\n",
+    ),
+    (
+        "# a\nmembers 1\n# b\n\ntick 2\n",
+        Status::BadSchedule { line: 5 },
+        "",
+        "bad schedule line 5\n",
+    ),
+    (
+        "members 1\nput 1 7 1 % a\n",
+        Status::BadSchedule { line: 2 },
+        "",
+        "bad schedule line 2\n",
+    ),
+];
+
+/// Words, and what each encodes, if it is a encoding.
+const WORDS: [(&str, Option<&str>); 14] = [
+    ("%", Some("")),
+    ("Az.09_", Some("Az.09_")),
+    ("%25", Some("%")),
+    ("%7F%00a", Some("\x7F\0a")),
+    ("caf%C3%A9%20", Some("café ")),
+    ("", None),
+    ("%41", None),
+    ("%c3", None),
+    ("%%", None),
+    ("a%", None),
+    ("%4", None),
+    ("%2G", None),
+    ("a b", None),
+    ("é", None),
+];
+
+fn replay_word(alloc: Global) -> Result<Vec<String>, AllocError> {
+    let mut words = Vec::new(alloc);
+    words.push(String::from_str(alloc, "replay")?)?;
+    Ok(words)
+}
+
+fn source(alloc: Global, text: &str, most: usize, fails: &[u64]) -> Result<MemSource, AllocError>
+    requires { 0 < most }
+{
+    let bytes = Vec::from_slice(alloc, text.as_bytes())?;
+    Ok(MemSource::new(bytes, most, Vec::from_slice(alloc, fails)?))
+}
+
+fn sink(alloc: Global, most: usize, fails: &[u64]) -> Result<MemSink, AllocError>
+    requires { 0 < most }
+{
+    Ok(MemSink::new(Vec::new(alloc), most, Vec::from_slice(alloc, fails)?))
+}
+
+fn check_row(
+    rt: &(impl Abort + Alloc<A = Global>),
+    row: &(&str, Status, &str, &str),
+) -> Result<(), Fail> {
+    let alloc = rt.alloc();
+    let words = replay_word(alloc)?;
+    let mut input = source(alloc, row.0, 7, &[])?;
+    let mut out = sink(alloc, 11, &[])?;
+    let mut err = sink(alloc, 3, &[])?;
+    assert!(rt; omni(alloc, &words, &mut input, &mut out, &mut err) == row.1);
+    assert_eq!(rt; out.bytes.as_slice(), row.2.as_bytes());
+    assert_eq!(rt; err.bytes.as_slice(), row.3.as_bytes());
+    Ok(())
+}
+
+/// With ample memory a row's answers are its own: so a body that always answers want of memory fails here.
+#[test]
+fn rows_end_as_they_are_told(rt: HostRuntime) -> Result<(), Fail> {
+    for row in ROWS.iter() {
+        check_row(&rt, row)?;
+    }
+    Ok(())
+}
+
+fn check_word(
+    rt: &(impl Abort + Alloc<A = Global>),
+    row: &(&str, Option<&str>),
+) -> Result<(), Fail> {
+    match (bytes_of(rt.alloc(), row.0)?, row.1) {
+        (Some(bytes), Some(text)) => assert_eq!(rt; bytes.as_slice(), text.as_bytes()),
+        (bytes, text) => assert!(rt; bytes.is_none() && text.is_none()),
+    }
+    Ok(())
+}
+
+/// With ample memory a word's answer is its own.
+#[test]
+fn words_encode_what_they_are_told_to(rt: HostRuntime) -> Result<(), Fail> {
+    for row in WORDS.iter() {
+        check_word(&rt, row)?;
+    }
+    Ok(())
+}
+
+#[test]
+fn other_words_are_refused(rt: HostRuntime) -> Result<(), Fail> {
+    let alloc = rt.alloc();
+    let mut words = Vec::new(alloc);
+    let mut input = source(alloc, ONE_PUT, 7, &[])?;
+    let mut out = sink(alloc, 100, &[])?;
+    let mut err = sink(alloc, 100, &[])?;
+    assert!(rt; omni(alloc, &words, &mut input, &mut out, &mut err) == Status::Usage);
+    words.push(String::from_str(alloc, "--help")?)?;
+    assert!(rt; omni(alloc, &words, &mut input, &mut out, &mut err) == Status::Usage);
+    assert_eq!(rt; out.bytes.len(), 0);
+    assert_eq!(rt; err.bytes.as_slice(), b"usage\nusage\n".as_slice());
+    Ok(())
+}
+
+#[test]
+fn a_source_that_fails_in_mid_stream_is_a_read_fault(rt: HostRuntime) -> Result<(), Fail> {
+    let alloc = rt.alloc();
+    let words = replay_word(alloc)?;
+    for fail_at in 1..6 {
+        let mut input = source(alloc, ONE_PUT, 8, &[fail_at])?;
+        let mut out = sink(alloc, 100, &[])?;
+        let mut err = sink(alloc, 100, &[])?;
+        assert!(rt; omni(alloc, &words, &mut input, &mut out, &mut err) == Status::ReadFault);
+        assert_eq!(rt; out.bytes.len(), 0);
+        assert_eq!(rt; err.bytes.as_slice(), b"read fault\n".as_slice());
+    }
+    Ok(())
+}
+
+#[test]
+fn a_sink_that_fails_in_mid_stream_keeps_a_prefix(rt: HostRuntime) -> Result<(), Fail> {
+    let alloc = rt.alloc();
+    let words = replay_word(alloc)?;
+    let report = ONE_PUT_REPORT.as_bytes();
+    assert_eq!(rt; report.len(), 116);
+    for fail_at in 1..7 {
+        let mut input = source(alloc, ONE_PUT, 100, &[])?;
+        let mut out = sink(alloc, 20, &[fail_at])?;
+        let mut err = sink(alloc, 100, &[])?;
+        assert!(rt; omni(alloc, &words, &mut input, &mut out, &mut err) == Status::WriteFault);
+        let whole = (fail_at as usize - 1) * 20;
+        assert_eq!(rt; out.bytes.as_slice(), &report[..whole]);
+        assert_eq!(rt; err.bytes.as_slice(), b"write fault\n".as_slice());
+    }
+    Ok(())
+}
+
+#[test]
+fn a_failed_write_of_the_line_changes_no_status(rt: HostRuntime) -> Result<(), Fail> {
+    let alloc = rt.alloc();
+    let words = Vec::new(alloc);
+    let mut input = source(alloc, "", 1, &[])?;
+    let mut out = sink(alloc, 1, &[])?;
+    let mut err = sink(alloc, 2, &[2])?;
+    assert!(rt; omni(alloc, &words, &mut input, &mut out, &mut err) == Status::Usage);
+    assert_eq!(rt; err.bytes.as_slice(), b"us".as_slice());
+    Ok(())
+}
+
+#[test]
+fn one_byte_more_than_the_limit_is_refused(rt: HostRuntime) -> Result<(), Fail> {
+    let alloc = rt.alloc();
+    let words = replay_word(alloc)?;
+    let mut out = sink(alloc, 100, &[])?;
+    let mut err = sink(alloc, 100, &[])?;
+    let mut input = Letters { left: 67_108_864 };
+    let status = omni(alloc, &words, &mut input, &mut out, &mut err);
+    assert!(rt; status == Status::BadSchedule { line: 1 });
+    let mut input = Letters { left: 67_108_865 };
+    let status = omni(alloc, &words, &mut input, &mut out, &mut err);
+    assert!(rt; status == Status::InputLimit);
+    assert_eq!(rt;
+        err.bytes.as_slice(),
+        b"bad schedule line 1\ninput too long\n".as_slice()
+    );
+    Ok(())
+}
