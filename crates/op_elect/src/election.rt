@@ -1,9 +1,10 @@
 ghost use Rattle.std.specs.Prelude.{◌≡◌, ◌+◌, nat_lt, Some, None, if◌then◌else◌};
 ghost use Rattle.op_types.specs.Limits.{greatest_number};
 ghost use Rattle.op_protocol.specs.Election.{candidate, greatest, with_floor, Elected};
+ghost use Rattle.op_elect.specs.States.{state_of, with_state};
 
 use op_quorum::is_majority;
-use op_types::{Ballot, GREATEST_NUMBER, Heard, Pid, Verdict};
+use op_types::{Ballot, ElectionState, GREATEST_NUMBER, Heard, Pid, Verdict};
 use std::marker::Model;
 
 /// A server that takes part in elections: the ballot that it stands for, the leader's as far as it knows, where elections
@@ -72,6 +73,28 @@ impl Election {
         ensures { self.new ≡ with_floor self.old ballot }
     {
         self.floor = self.floor.greater(ballot);
+    }
+
+    /// What it keeps for elections.
+    pub fn state(&self) -> ElectionState
+        ensures { result ≡ state_of self.now }
+    {
+        ElectionState {
+            own: self.own,
+            leader: self.leader,
+            floor: self.floor,
+            flag: self.flag,
+        }
+    }
+
+    /// Keeps this for elections from now on.
+    pub fn set_state(&mut self, state: ElectionState)
+        ensures { self.new ≡ with_state self.old state }
+    {
+        self.own = state.own;
+        self.leader = state.leader;
+        self.floor = state.floor;
+        self.flag = state.flag;
     }
 
     /// The ballot that the server stands for.

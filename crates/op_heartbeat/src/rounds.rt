@@ -98,7 +98,7 @@ impl Rounds {
     }
 
     /// Whether a server is another member.
-    fn is_other(&self, pid: Pid) -> bool
+    pub fn is_other(&self, pid: Pid) -> bool
         ensures { result ≡ is_other self.now.me self.now.members pid }
     {
         pid != self.me && self.members.contains(&pid)

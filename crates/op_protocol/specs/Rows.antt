@@ -1,151 +1,139 @@
--- The rows of the step table: what a node's step is, from its state and what happens. With one member these are all that can be met.
-use Rattle.std.specs.Prelude.{◌==◌, ℕ, ◌-◌, nat_lt, Bool, true, false, not, List, [], ◌∷◌, length, take, drop, map, filter, Option, Some, None, if◌then◌else◌}
-use Rattle.op_types.specs.Ballots.{is_below, greater}
-use Rattle.op_types.specs.Changes.{len_of, part_with}
+-- The step table: what a node's step is, from its state and what happens.
+use Rattle.std.specs.Prelude.{◌==◌, ◌&&◌, ◌||◌, ℕ, nat_lt, nat_eq, Bool, true, false, List, [], ◌∷◌, ◌++◌, Option, Some, None, if◌then◌else◌}
+use Rattle.std.specs.Set.{is_member}
 use Rattle.op_types.specs.Limits.{positions_end}
-use Rattle.op_types.specs.declared.ballot.Ballot.{Ballot}
-use Rattle.op_types.specs.declared.changes.Change.{Change}
-use Rattle.op_types.specs.declared.changes.Change.TheVariants as change
+use Rattle.op_types.specs.Ballots.{no_ballot, is_same_ballot}
+use Rattle.op_types.specs.Changes.{len_of}
 use Rattle.op_types.specs.declared.log.Command.{Command}
 use Rattle.op_types.specs.declared.log.Entry.{Entry}
 use Rattle.op_types.specs.declared.log.Entry.TheVariants as entry
+use Rattle.op_types.specs.declared.changes.Change.{Change}
 use Rattle.op_types.specs.declared.durable.Part.{Part}
-use Rattle.op_types.specs.declared.role.Role.{Role}
-use Rattle.op_types.specs.declared.role.Role.TheVariants as role
+use Rattle.op_types.specs.declared.messages.Body.{Body}
 use Rattle.op_types.specs.declared.messages.Body.TheVariants as body
-use Rattle.op_types.specs.declared.verdict.Verdict.{Verdict}
-use Rattle.op_types.specs.declared.verdict.Verdict.TheVariants as verdict
+use Rattle.op_types.specs.declared.messages.Msg.{Msg}
+use Rattle.op_types.specs.declared.events.Input.{Input}
+use Rattle.op_types.specs.declared.events.Input.TheVariants as input
+use Rattle.op_types.specs.declared.answers.Outcome.{Outcome}
 use Rattle.op_types.specs.declared.answers.Outcome.TheVariants as outcome
 use Rattle.op_types.specs.declared.answers.Refusal.{Refusal}
 use Rattle.op_types.specs.declared.answers.Refusal.TheVariants as refusal
-use Rattle.op_quorum.specs.Quorums.{is_majority}
-use Rattle.op_protocol.specs.Heartbeats.{next_round}
-use Rattle.op_protocol.specs.Election.{Candidate, Ended, round_end}
-use Rattle.op_protocol.specs.State.{State, Volatile, Sent, Planned}
-use Rattle.op_protocol.specs.Serving.{Served, serving, waiting_with}
+use Rattle.op_types.specs.Roles.{Role, Idle}
+use Rattle.op_types.specs.Effects.{Effects}
+use Rattle.op_protocol.specs.State.{State, Volatile, Waiting, PartStep, with_effects, Planned}
+use Rattle.op_protocol.specs.Serving.{Served, serving, waiting_with, Dropping, dropping}
+use Rattle.op_protocol.specs.Parts.{pending, is_admitted_body, part_after, decided_since, others, message, nothing, saying}
+use Rattle.op_protocol.specs.Leader.{on_promise, on_accepted, on_prepare_req, on_forward, session_down, propose}
+use Rattle.op_protocol.specs.Follower.{on_prepare, on_accept_sync, on_accept, on_decide}
+use Rattle.op_protocol.specs.Tick.{remembering, on_tick, on_heartbeat_request, on_heartbeat_reply, on_refuse}
 
--- nothing changes but the volatile state
-abbrev pub only_volatile : State → Volatile → List Sent → Planned
-only_volatile s v sends = record { batch = []; volatile = v; service = s.service; waiting = s.waiting; sends = sends; replies = []; outcome = None }
+-- ---- messages
 
--- ---- deciding
+-- what a message does, by what it says
+abbrev pub on_body : ℕ → Part → Volatile → ℕ → Body → PartStep
+on_body me p v q (body.HeartbeatRequest round) = on_heartbeat_request p v q round
+on_body me p v q (body.HeartbeatReply round b flag) = on_heartbeat_reply me p v q round b flag
+on_body me p v q (body.Prepare n na nl nd) = with_effects v (on_prepare p v.role q n na nl nd)
+on_body me p v q (body.Promise n fa fl fd s entries) = with_effects v (on_promise me p v.role n (record { from = q; accepted = fa; len = fl; decided = fd; start = s; entries = entries }))
+on_body me p v q (body.AcceptSync n x entries) = with_effects v (on_accept_sync p v.role q n x entries)
+on_body me p v q (body.Accept n at entries) = with_effects v (on_accept p v.role q n at entries)
+on_body me p v q (body.Accepted n x) = with_effects v (on_accepted me p v.role q n x)
+on_body me p v q (body.Decide n x) = with_effects v (on_decide p v.role n x)
+on_body me p v q body.PrepareReq = with_effects v (on_prepare_req p v.role q)
+on_body me p v q (body.Refuse n b) = on_refuse v b
+on_body me p v q (body.Forward e) = with_effects v (on_forward me p v.role e)
 
--- the length that a majority has: with no follower's word, the own length where one member is a majority
-abbrev pub backed : Part → ℕ
-backed p = if is_majority 1 (length p.members) then len_of p else 0
-
--- the change that decides it, if it is new
-abbrev pub decided_change : Part → List Change
-decided_change p = if nat_lt p.decided (backed p) then change.Decided (backed p) ∷ [] else []
-
--- the entries that are decided newly
-abbrev pub newly_decided : Part → List Entry
-newly_decided p = drop (p.decided - p.trimmed) (take (backed p - p.trimmed) p.tail.items)
-
--- ---- the tick
-
--- the node as one that takes part in elections
-abbrev pub candidate_of : ℕ → Part → Volatile → Candidate
-candidate_of me p v = record { me = me; members = length p.members; own = v.own; leader = v.leader; floor = v.floor; flag = v.flag }
-
--- the volatile state when a round has ended and the next one begins
-abbrev pub next_round_state : Volatile → Candidate → Volatile
-next_round_state v c = record { own = c.own; leader = c.leader; floor = c.floor; flag = c.flag; round = next_round v.round; heard = []; role = v.role }
-
--- each other member is asked for a reply in the new round
-abbrev pub requests : ℕ → Part → ℕ → List Sent
-requests me p round = map (λ q. record { from = me; to = q; message = record { conf = p.conf; body = body.HeartbeatRequest round } }) (filter (λ q. not (q == me)) p.members)
-
--- A ballot of its own that a node leads: it is promised, the own log is adopted and accepted in it, and what a majority has is decided.
-abbrev pub led_batch : Part → Ballot → List Change
-led_batch p n = change.Promise n ∷ change.Accept n ∷ decided_change p
-
--- the role of a leader
-abbrev pub leading : Part → Ballot → Role
-leading p n = role.Leading (record { ballot = n; adopted_round = p.accepted; adopted_len = len_of p })
-
--- the step of a lead, when the newly decided entries were served
-abbrev pub lead_plan_after : State → Part → Volatile → Ballot → List Sent → Served → Planned
-lead_plan_after s p v n sends t =
-    record { batch = led_batch p n; volatile = record v { role = leading p n }; service = t.service; waiting = t.waiting; sends = sends; replies = t.replies; outcome = None }
-
--- the step of a lead
-abbrev pub lead_plan : State → Part → Volatile → Ballot → List Sent → Planned
-lead_plan s p v n sends = lead_plan_after s p v n sends (serving s.service s.waiting (newly_decided p))
-
--- A ballot above the promise: one that is a majority by itself leads it at once. With more members it would prepare.
-abbrev pub majority_lead_plan : State → Part → Volatile → Ballot → List Sent → Planned
-majority_lead_plan s p v n sends = if is_majority 1 (length p.members) then lead_plan s p v n sends else only_volatile s v sends
-
--- an own ballot that was elected is led if it is above the promise; otherwise elections begin at the promise
-abbrev pub election_plan : ℕ → State → Part → Volatile → List Sent → Verdict → Planned
-election_plan me s p v sends verdict.Nobody = only_volatile s v sends
-election_plan me s p v sends (verdict.Raised b) = only_volatile s v sends
-election_plan me s p v sends (verdict.Elected n) =
-    if n.pid == me then (if is_below p.promised n then majority_lead_plan s p v n sends else only_volatile s (record v { floor = greater v.floor p.promised }) sends)
-    else only_volatile s v sends
-
--- the step of a tick, when the round has ended
-abbrev pub tick_plan_after : ℕ → State → Part → Ended → Planned
-tick_plan_after me s p e = election_plan me s p (next_round_state s.volatile e.after) (requests me p (next_round s.volatile.round)) e.verdict
-
--- a tick ends the round and begins the next one
-abbrev pub tick_plan : ℕ → State → Option Part → Planned
-tick_plan me s None = only_volatile s s.volatile []
-tick_plan me s (Some p) = tick_plan_after me s p (round_end (candidate_of me p s.volatile) s.volatile.heard)
+-- a message of another configuration does nothing, nor does one whose entries aren't admitted
+abbrev pub on_message : ℕ → Part → Volatile → ℕ → Msg → PartStep
+on_message me p v q m = if m.conf == p.conf && is_admitted_body p m.body then on_body me p v q m.body else remembering v []
 
 -- ---- proposals
 
--- whether the role is that of a leader
-abbrev pub is_leading : Role → Bool
-is_leading role.Idle = false
-is_leading (role.Leading l) = true
+-- whether the node neither leads nor prepares
+abbrev pub is_idle : Role → Bool
+is_idle Idle = true
+is_idle r = false
 
--- Why a proposal is refused, the first cause first. One member that doesn't lead has promised none or its own ballot; with
--- more, the promise of another's ballot would forward.
-abbrev pub part_refusal : Volatile → Part → Option Refusal
-part_refusal v p = if not (is_leading v.role) then Some refusal.NoLeader else if nat_lt (len_of p) positions_end then None else Some refusal.PositionsEnd
+-- the node has promised no ballot, or its own and doesn't stand for it
+abbrev pub knows_no_leader : ℕ → Role → Part → Bool
+knows_no_leader me r p = is_same_ballot p.promised no_ballot || (p.promised.pid == me && is_idle r)
 
--- a node without a part knows no leader
-abbrev pub refusal_of : Volatile → Option Part → Option Refusal
-refusal_of v None = Some refusal.NoLeader
-refusal_of v (Some p) = part_refusal v p
+-- why a proposal is refused by a log that no stop-sign ends
+abbrev pub open_refusal : ℕ → Role → Part → Option Refusal
+open_refusal me r p = if knows_no_leader me r p then Some refusal.NoLeader else if nat_lt (len_of p) positions_end then None else Some refusal.PositionsEnd
 
--- the step of a refused proposal
-abbrev pub refusal_plan : State → Refusal → Planned
-refusal_plan s r = record { batch = []; volatile = s.volatile; service = s.service; waiting = s.waiting; sends = []; replies = []; outcome = Some (outcome.Refused r) }
+-- a stop-sign at the log's end is the first cause
+abbrev pub refusal_after : ℕ → Role → Part → Option ℕ → Option Refusal
+refusal_after me r p (Some pos) = Some (refusal.PendingStop pos)
+refusal_after me r p None = open_refusal me r p
 
--- the part when the command stands at its log's end
-abbrev pub appended_part : Part → Command → Part
-appended_part p c = part_with p (change.Append (entry.Command c ∷ []))
+-- why a proposal is refused, the first cause first; a node without a part knows no leader
+abbrev pub refusal_of : ℕ → Role → Option Part → Option Refusal
+refusal_of me r None = Some refusal.NoLeader
+refusal_of me r (Some p) = refusal_after me r p (pending p)
 
--- the step of a leader that appends, when the newly decided entries were served
-abbrev pub append_plan_after : State → Part → Command → Served → Planned
-append_plan_after s p c t =
-    record {
-      batch = change.Append (entry.Command c ∷ []) ∷ decided_change (appended_part p c);
-      volatile = s.volatile;
-      service = t.service;
-      waiting = t.waiting;
-      sends = [];
-      replies = t.replies;
-      outcome = Some (outcome.Appended p.conf (len_of p));
-    }
+-- ---- the step at a part
 
--- a leader appends the command, which waits, and decides what a majority has
-abbrev pub append_plan : State → Part → Command → Planned
-append_plan s p c = append_plan_after s p c (serving s.service (waiting_with s.waiting c) (newly_decided (appended_part p c)))
+-- a session begins with one of the others: if it leads, it is to prepare this node
+abbrev pub session_up : ℕ → Part → Role → ℕ → Effects
+session_up me p r q = if is_member nat_eq (others me p.members) q then saying r (message p.conf q body.PrepareReq ∷ []) else nothing r
 
--- the step of a proposal that nothing refuses
-abbrev pub accepted_plan : State → Option Part → Command → Planned
-accepted_plan s None c = only_volatile s s.volatile []
-accepted_plan s (Some p) c = append_plan s p c
+-- nothing changes, and a proposal is answered so
+abbrev pub answering : Volatile → Option Outcome → PartStep
+answering v o = record { batch = []; volatile = v; sends = []; replies = []; outcome = o }
 
--- the step of a command, by what refuses it
-abbrev pub command_plan_after : State → Command → Option Refusal → Planned
-command_plan_after s c (Some r) = refusal_plan s r
-command_plan_after s c None = accepted_plan s s.durable.part c
+-- a command that nothing refuses is proposed
+abbrev pub command_step : ℕ → Part → Volatile → Command → Option Refusal → PartStep
+command_step me p v c (Some r) = answering v (Some (outcome.Refused r))
+command_step me p v c None = with_effects v (propose me p v.role (entry.Command c))
 
--- a client proposes a command
-abbrev pub command_plan : State → Command → Planned
-command_plan s c = command_plan_after s c (refusal_of s.volatile s.durable.part)
+-- the step at a part
+abbrev pub part_step : ℕ → Part → Volatile → Input → PartStep
+part_step me p v input.Tick = on_tick me p v
+part_step me p v (input.Deliver q m) = on_message me p v q m
+part_step me p v (input.Command c) = command_step me p v c (refusal_of me v.role (Some p))
+part_step me p v (input.Up q) = with_effects v (session_up me p v.role q)
+part_step me p v (input.Down q) = with_effects v (session_down v.role q)
+
+-- a node without a part refuses commands, and nothing else happens there
+abbrev pub partless_step : Volatile → Input → PartStep
+partless_step v (input.Command c) = answering v (Some (outcome.Refused refusal.NoLeader))
+partless_step v x = answering v None
+
+-- the step in a configuration, or without one
+abbrev pub step_at : ℕ → Option Part → Volatile → Input → PartStep
+step_at me None v x = partless_step v x
+step_at me (Some p) v x = part_step me p v x
+
+-- ---- the whole step
+
+-- whose client waits for a command that nothing refuses
+abbrev pub waiting_for : List Waiting → Command → Option Refusal → List Waiting
+waiting_for waiting c (Some r) = waiting
+waiting_for waiting c None = waiting_with waiting c
+
+-- who waits when this has come
+abbrev pub waiting_at : ℕ → State → Input → List Waiting
+waiting_at me s (input.Command c) = waiting_for s.waiting c (refusal_of me s.volatile.role s.durable.part)
+waiting_at me s x = s.waiting
+
+-- the entries that a batch newly decides
+abbrev pub newly_decided : Option Part → List Change → List Entry
+newly_decided None batch = []
+newly_decided (Some p) batch = decided_since p (part_after p batch)
+
+-- what is decided goes to the service; its clients are answered first, and then those are told whose proposals are given up
+abbrev pub planned_serving : PartStep → Dropping → Served → Planned
+planned_serving x d t = record { batch = x.batch; volatile = x.volatile; service = t.service; waiting = t.waiting; sends = x.sends; replies = t.replies ++ d.replies; outcome = x.outcome }
+
+-- the same, when these are told
+abbrev pub planned_dropping : State → PartStep → Dropping → Planned
+planned_dropping s x d = planned_serving x d (serving s.service d.waiting (newly_decided s.durable.part x.batch))
+
+-- the plan of what a step does at a part, where these clients wait
+abbrev pub planned : State → List Waiting → PartStep → Planned
+planned s waiting x = planned_dropping s x (dropping waiting x.replies)
+
+-- a node's step
+abbrev pub step_plan : ℕ → State → Input → Planned
+step_plan me s x = planned s (waiting_at me s x) (step_at me s.durable.part s.volatile x)

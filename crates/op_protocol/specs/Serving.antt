@@ -1,5 +1,5 @@
--- Decided entries go to the service in order, and whoever waits here for one is answered.
-use Rattle.std.specs.Prelude.{◌==◌, ◌&&◌, ◌||◌, Bool, false, not, List, [], ◌∷◌, ◌++◌, if◌then◌else◌, fold, filter}
+-- Decided entries go to the service in order, and whoever waits here for one is answered; so is whoever waits for one given up.
+use Rattle.std.specs.Prelude.{◌==◌, ◌&&◌, ◌||◌, ℕ, Bool, false, not, List, [], ◌∷◌, ◌++◌, if◌then◌else◌, fold, filter}
 use Rattle.op_types.specs.declared.log.Command.{Command}
 use Rattle.op_types.specs.declared.log.Entry.{Entry}
 use Rattle.op_types.specs.declared.log.Entry.TheVariants as entry
@@ -7,18 +7,22 @@ use Rattle.op_types.specs.declared.answers.Reply.{Reply}
 use Rattle.op_spec.specs.Service.{Service, service_with, answer_of}
 use Rattle.op_protocol.specs.State.{Waiting}
 
--- whether it is this command that is waited for
-abbrev pub is_for : Command → Waiting → Bool
-is_for c w = w.client == c.client && w.seq == c.seq
+-- whether it is this client that waits, for this number
+abbrev pub is_for : ℕ → ℕ → Waiting → Bool
+is_for client seq w = w.client == client && w.seq == seq
 
--- whether the command is waited for
-abbrev pub waits : List Waiting → Command → Bool
-waits [] c = false
-waits (w ∷ waiting) c = is_for c w || waits waiting c
+-- whether the client waits for the number
+abbrev pub waits : List Waiting → ℕ → ℕ → Bool
+waits [] client seq = false
+waits (w ∷ waiting) client seq = is_for client seq w || waits waiting client seq
 
--- those that wait when the command waits too, once
+-- the others that wait
+abbrev pub without_waiting : List Waiting → ℕ → ℕ → List Waiting
+without_waiting waiting client seq = filter (λ w. not (is_for client seq w)) waiting
+
+-- those that wait when a command's client waits too, once
 abbrev pub waiting_with : List Waiting → Command → List Waiting
-waiting_with waiting c = if waits waiting c then waiting else waiting ++ record { client = c.client; seq = c.seq } ∷ []
+waiting_with waiting c = if waits waiting c.client c.seq then waiting else waiting ++ record { client = c.client; seq = c.seq } ∷ []
 
 -- the command's reply
 abbrev pub reply_of : Service → Command → Reply
@@ -35,8 +39,8 @@ abbrev pub serving_command : Served → Command → Served
 serving_command t c =
     record {
       service = service_with t.service c;
-      waiting = filter (λ w. not (is_for c w)) t.waiting;
-      replies = if waits t.waiting c then t.replies ++ reply_of t.service c ∷ [] else t.replies;
+      waiting = without_waiting t.waiting c.client c.seq;
+      replies = if waits t.waiting c.client c.seq then t.replies ++ reply_of t.service c ∷ [] else t.replies;
     }
 
 -- after one more entry is decided
@@ -47,3 +51,25 @@ serving_entry t (entry.Stop stop) = t
 -- after these entries are decided, in order
 abbrev pub serving : Service → List Waiting → List Entry → Served
 serving s waiting entries = fold serving_entry (record { service = s; waiting = waiting; replies = [] }) entries
+
+-- ---- what is given up
+
+-- those that wait, and what the others were told
+pub record Dropping : Type 0 where
+  pub waiting : List Waiting
+  pub replies : List Reply
+
+-- who proposed a stop-sign is told by client 0 and number 0, and doesn't wait
+abbrev pub is_of_stop : Reply → Bool
+is_of_stop r = r.client == 0 && r.seq == 0
+
+-- after one more is given up: whoever waits for it is told why, and waits no longer
+abbrev pub dropping_reply : Dropping → Reply → Dropping
+dropping_reply t r =
+    if is_of_stop r then record t { replies = t.replies ++ r ∷ [] }
+    else if waits t.waiting r.client r.seq then record { waiting = without_waiting t.waiting r.client r.seq; replies = t.replies ++ r ∷ [] }
+    else t
+
+-- after these are given up, in order
+abbrev pub dropping : List Waiting → List Reply → Dropping
+dropping waiting replies = fold dropping_reply (record { waiting = waiting; replies = [] }) replies

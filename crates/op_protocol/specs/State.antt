@@ -3,12 +3,13 @@ use Rattle.std.specs.Prelude.{ℕ, Bool, List, Option}
 use Rattle.op_types.specs.declared.durable.Durable.{Durable}
 use Rattle.op_types.specs.declared.ballot.Ballot.{Ballot}
 use Rattle.op_types.specs.declared.messages.Heard.{Heard}
-use Rattle.op_types.specs.declared.role.Role.{Role}
 use Rattle.op_types.specs.declared.changes.Change.{Change}
 use Rattle.op_types.specs.declared.messages.Msg.{Msg}
 use Rattle.op_types.specs.declared.answers.Outcome.{Outcome}
 use Rattle.op_types.specs.declared.answers.Reply.{Reply}
 use Rattle.op_types.specs.Changes.{durable_after}
+use Rattle.op_types.specs.Roles.{Role}
+use Rattle.op_types.specs.Effects.{Effects}
 use Rattle.op_spec.specs.Service.{Service}
 
 -- a client, and the number of its command
@@ -33,19 +34,25 @@ pub record State : Type 0 where
   pub service : Service  -- after all that is decided
   pub waiting : List Waiting  -- for a reply, here
 
--- a message, from one node to another
-pub record Sent : Type 0 where
-  pub from : ℕ
-  pub to : ℕ
-  pub message : Msg
+-- what a step does at a part, with all that the node keeps of it in memory
+pub record PartStep : Type 0 where
+  pub batch : List Change
+  pub volatile : Volatile
+  pub sends : List (ℕ × Msg)
+  pub replies : List Reply
+  pub outcome : Option Outcome
 
--- what a step changes and gives out; the batch is stored before anything else of it happens
+-- the effects of a row, at a node that keeps this in memory
+abbrev pub with_effects : Volatile → Effects → PartStep
+with_effects v e = record { batch = e.batch; volatile = record v { role = e.role }; sends = e.sends; replies = e.replies; outcome = e.outcome }
+
+-- What a whole step changes and gives out. The batch is stored before anything else of it happens.
 pub record Planned : Type 0 where
   pub batch : List Change
   pub volatile : Volatile
   pub service : Service
   pub waiting : List Waiting
-  pub sends : List Sent
+  pub sends : List (ℕ × Msg)
   pub replies : List Reply
   pub outcome : Option Outcome
 

@@ -2,8 +2,8 @@
 use Rattle.std.specs.Prelude.{◌≡◌, ◌≤◌, ℕ, List, [], ◌∷◌, fold, Option, Some, None, All}
 use Rattle.op_types.specs.declared.durable.Part.{Part}
 use Rattle.op_types.specs.declared.answers.Refusal.{Refusal}
-use Rattle.op_types.specs.declared.events.What.{What}
-use Rattle.op_types.specs.declared.events.What.TheVariants as what
+use Rattle.op_types.specs.declared.events.Input.{Input}
+use Rattle.op_types.specs.declared.events.Input.TheVariants as input
 use Rattle.op_types.specs.declared.log.Command.{Command}
 use Rattle.op_types.specs.declared.log.Entry.{Entry}
 use Rattle.op_types.specs.declared.log.Entry.TheVariants as entry
@@ -14,7 +14,7 @@ use Rattle.op_spec.specs.Service.{Service, service_of}
 use Rattle.op_spec.specs.Stands.{Stands, prefix_of}
 use Rattle.op_protocol.specs.State.{State}
 use Rattle.op_protocol.specs.Rows.{refusal_of}
-use Rattle.op_runs.specs.World.{World, Node, NodeStatus, Up, Down, Happening, first_world, world_after, node_at, node_of}
+use Rattle.op_runs.specs.World.{World, Node, NodeStatus, Up, Down, Happening, Doing, Steps, Stops, Opens, Tells, Deed, first_world, world_after, node_at, deed_of}
 
 -- a run so far: its world, and the list machine's state that it shows
 pub record Execution : Type 0 where
@@ -31,29 +31,42 @@ machine_proposing_in m c None r = m
 machine_proposing_in m c (Some p) (Some r) = m
 machine_proposing_in m c (Some p) None = machine_proposing m p.conf (entry.Command c)
 
--- an event proposes its command
-abbrev pub machine_proposing_at : Machine → What → State → Machine
-machine_proposing_at m (what.Tick p) s = m
-machine_proposing_at m (what.Command p c) s = machine_proposing_in m c s.durable.part (refusal_of s.volatile s.durable.part)
-machine_proposing_at m (what.Crash p) s = m
-machine_proposing_at m (what.Start p) s = m
+-- a step proposes its command
+abbrev pub machine_proposing_input : Machine → ℕ → State → Input → Machine
+machine_proposing_input m me s input.Tick = m
+machine_proposing_input m me s (input.Deliver q x) = m
+machine_proposing_input m me s (input.Command c) = machine_proposing_in m c s.durable.part (refusal_of me s.volatile.role s.durable.part)
+machine_proposing_input m me s (input.Up q) = m
+machine_proposing_input m me s (input.Down q) = m
+
+-- the same, of what is done at a node
+abbrev pub machine_proposing_doing : Machine → ℕ → State → Doing → Machine
+machine_proposing_doing m me s (Steps x) = machine_proposing_input m me s x
+machine_proposing_doing m me s Stops = m
+machine_proposing_doing m me s Opens = m
+machine_proposing_doing m me s Tells = m
 
 -- at a node that is up
-abbrev pub machine_proposing_if : NodeStatus → Machine → What → State → Machine
-machine_proposing_if Up m w s = machine_proposing_at m w s
-machine_proposing_if (Down after) m w s = m
+abbrev pub machine_proposing_if : NodeStatus → Machine → ℕ → State → Doing → Machine
+machine_proposing_if Up m me s d = machine_proposing_doing m me s d
+machine_proposing_if (Down after) m me s d = m
+
+-- the same, where the node is there
+abbrev pub machine_proposing_at : Machine → Option Node → Doing → Machine
+machine_proposing_at m None d = m
+machine_proposing_at m (Some n) d = machine_proposing_if n.status m n.pid n.state d
 
 -- a command that a node's part doesn't refuse is proposed in its configuration, whether or not the step then ends
-abbrev pub machine_proposing_by : Machine → What → Option Node → Machine
-machine_proposing_by m w None = m
-machine_proposing_by m w (Some n) = machine_proposing_if n.standing m w n.state
+abbrev pub machine_proposing_by : Machine → List Node → Option Deed → Machine
+machine_proposing_by m nodes None = m
+machine_proposing_by m nodes (Some x) = machine_proposing_at m (node_at nodes x.pid) x.doing
 
 -- a run after one happening more
 abbrev pub execution_with : Execution → Happening → Execution
 execution_with t h =
     record {
       world = world_after t.world h;
-      machine = machine_showing_all (machine_proposing_by t.machine h.event.what (node_at t.world.nodes (node_of h.event.what))) (world_after t.world h).nodes;
+      machine = machine_showing_all (machine_proposing_by t.machine t.world.nodes (deed_of t.world.messages h.event.what)) (world_after t.world h).nodes;
     }
 
 -- the start of a run

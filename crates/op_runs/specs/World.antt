@@ -1,29 +1,41 @@
 -- A world of nodes: what happens to them, one event after the other.
-use Rattle.std.specs.Prelude.{◌==◌, ℕ, Bool, false, List, [], ◌∷◌, ◌++◌, map, Option, Some, None, if◌then◌else◌}
+use Rattle.std.specs.Prelude.{◌==◌, ℕ, Bool, false, List, [], ◌∷◌, ◌++◌, map, Option, Some, None, slice_get, if◌then◌else◌}
 use Rattle.op_types.specs.Ballots.{no_ballot}
 use Rattle.op_types.specs.Changes.{durable_after}
+use Rattle.op_types.specs.declared.durable.Part.{Part}
 use Rattle.op_types.specs.declared.durable.Durable.{Durable}
 use Rattle.op_types.specs.declared.events.What.{What}
 use Rattle.op_types.specs.declared.events.What.TheVariants as what
 use Rattle.op_types.specs.declared.events.Event.{Event}
+use Rattle.op_types.specs.declared.events.Input.{Input}
+use Rattle.op_types.specs.declared.events.Input.TheVariants as input
+use Rattle.op_types.specs.declared.answers.Answer.{Answer}
+use Rattle.op_types.specs.declared.answers.Answer.TheVariants as answer
 use Rattle.op_types.specs.declared.answers.Outcome.{Outcome}
 use Rattle.op_types.specs.declared.summary.Line.{Line}
 use Rattle.op_types.specs.declared.summary.Line.TheVariants as line
 use Rattle.op_spec.specs.Service.{new_service, base_bytes}
-use Rattle.op_protocol.specs.State.{State, Sent, Planned, state_after}
-use Rattle.op_protocol.specs.Rows.{tick_plan, command_plan}
-use Rattle.op_protocol.specs.Starting.{first_volatile, state_after_restart}
+use Rattle.op_types.specs.declared.messages.Msg.{Msg}
+use Rattle.op_protocol.specs.State.{State, Planned, state_after}
+use Rattle.op_protocol.specs.Rows.{step_plan}
+use Rattle.op_protocol.specs.Starting.{first_volatile, state_after_restart, sends_after_restart}
 
 -- how a node runs: when it is down, its next opening finds what it stored before the step in which it stopped, or this
 pub data NodeStatus : Type 0 where
   Up : NodeStatus
   Down : (after : Durable) → NodeStatus
 
+-- a message, from one node to another
+pub record Sent : Type 0 where
+  pub from : ℕ
+  pub to : ℕ
+  pub message : Msg
+
 -- a server, its state, and how it runs
 pub record Node : Type 0 where
   pub pid : ℕ
   pub state : State
-  pub standing : NodeStatus
+  pub status : NodeStatus
 
 -- all nodes, all messages, and all that was told
 pub record World : Type 0 where
@@ -55,7 +67,7 @@ first_durable members =
 -- a member at its start
 abbrev pub first_node : List ℕ → ℕ → Node
 first_node members pid =
-    record { pid = pid; state = record { durable = first_durable members; volatile = first_volatile pid; service = new_service; waiting = [] }; standing = Up }
+    record { pid = pid; state = record { durable = first_durable members; volatile = first_volatile pid; service = new_service; waiting = [] }; status = Up }
 
 -- all members at their start
 abbrev pub first_world : List ℕ → World
@@ -63,12 +75,33 @@ first_world members = record { nodes = map (first_node members) members; message
 
 -- ---- events
 
--- the server that an event is at
-abbrev pub node_of : What → ℕ
-node_of (what.Tick p) = p
-node_of (what.Command p c) = p
-node_of (what.Crash p) = p
-node_of (what.Start p) = p
+-- what an event does at a node: a step of it, a stop between two steps, an opening, or it tells the node's ballots
+pub data Doing : Type 0 where
+  Steps : (x : Input) → Doing
+  Stops : Doing
+  Opens : Doing
+  Tells : Doing
+
+-- what is done, and at which node
+pub record Deed : Type 0 where
+  pub pid : ℕ
+  pub doing : Doing
+
+-- a message is delivered to its addressee; one that wasn't sent is not
+abbrev pub delivery : Option Sent → Option Deed
+delivery None = None
+delivery (Some m) = Some (record { pid = m.to; doing = Steps (input.Deliver m.from m.message) })
+
+-- what an event does, where these messages were sent
+abbrev pub deed_of : List Sent → What → Option Deed
+deed_of messages (what.Tick p) = Some (record { pid = p; doing = Steps input.Tick })
+deed_of messages (what.Command p c) = Some (record { pid = p; doing = Steps (input.Command c) })
+deed_of messages (what.Deliver i) = delivery (slice_get messages i)
+deed_of messages (what.Up p q) = Some (record { pid = p; doing = Steps (input.Up q) })
+deed_of messages (what.Down p q) = Some (record { pid = p; doing = Steps (input.Down q) })
+deed_of messages (what.Crash p) = Some (record { pid = p; doing = Stops })
+deed_of messages (what.Start p) = Some (record { pid = p; doing = Opens })
+deed_of messages (what.Ballots p) = Some (record { pid = p; doing = Tells })
 
 -- the node of this id, if there is one
 abbrev pub node_at : List Node → ℕ → Option Node
@@ -80,14 +113,29 @@ abbrev pub with_node : List Node → Node → List Node
 with_node [] m = []
 with_node (n ∷ nodes) m = if n.pid == m.pid then m ∷ nodes else n ∷ with_node nodes m
 
+-- messages that a node sends, each to a node
+abbrev pub sent_by : ℕ → List (ℕ × Msg) → List Sent
+sent_by me sends = map (λ s. record { from = me; to = s.0; message = s.1 }) sends
+
 -- the line of an outcome, if there is one
 abbrev pub outcome_lines : ℕ → Option Outcome → List Line
 outcome_lines at None = []
 outcome_lines at (Some o) = line.Answer at o ∷ []
 
+-- the line of what a client is answered
+abbrev pub answer_line : ℕ → ℕ → ℕ → Answer → Line
+answer_line pid client seq answer.Done = line.Reply pid client seq answer.Done
+answer_line pid client seq answer.Stale = line.Reply pid client seq answer.Stale
+answer_line pid client seq (answer.Dropped cause) = line.Dropped pid client seq cause
+
 -- what a step gives to be reported
 abbrev pub lines_of : ℕ → ℕ → Planned → List Line
-lines_of at pid p = outcome_lines at p.outcome ++ map (λ r. line.Reply pid r.client r.seq r.answer) p.replies
+lines_of at pid p = outcome_lines at p.outcome ++ map (λ r. answer_line pid r.client r.seq r.answer) p.replies
+
+-- a node's ballots
+abbrev pub ballot_lines : ℕ → State → Option Part → List Line
+ballot_lines pid s None = []
+ballot_lines pid s (Some p) = line.Ballots pid s.volatile.own s.volatile.leader p.promised ∷ []
 
 -- the world with this node in the place of the one of its id
 abbrev pub world_with_node : World → Node → World
@@ -98,43 +146,49 @@ abbrev pub world_by_fate : Fate → ℕ → World → Node → Planned → World
 world_by_fate Done at w n p =
     record {
       nodes = with_node w.nodes (record n { state = state_after n.state p });
-      messages = w.messages ++ p.sends;
+      messages = w.messages ++ sent_by n.pid p.sends;
       lines = w.lines ++ lines_of at n.pid p;
     }
-world_by_fate Stopped at w n p = world_with_node w (record n { standing = Down (durable_after n.state.durable p.batch) })
+world_by_fate Stopped at w n p = world_with_node w (record n { status = Down (durable_after n.state.durable p.batch) })
 
--- What happens to a node that is up. A crash stops it between two steps, and a start does nothing.
-abbrev pub world_if_up : What → Fate → ℕ → World → Node → World
-world_if_up (what.Tick p) f at w n = world_by_fate f at w n (tick_plan n.pid n.state n.state.durable.part)
-world_if_up (what.Command p c) f at w n = world_by_fate f at w n (command_plan n.state c)
-world_if_up (what.Crash p) f at w n = world_with_node w (record n { standing = Down n.state.durable })
-world_if_up (what.Start p) f at w n = w
+-- what happens at a node that is up, where an opening does nothing
+abbrev pub world_if_up : Doing → Fate → ℕ → World → Node → World
+world_if_up (Steps x) f at w n = world_by_fate f at w n (step_plan n.pid n.state x)
+world_if_up Stops f at w n = world_with_node w (record n { status = Down n.state.durable })
+world_if_up Opens f at w n = w
+world_if_up Tells f at w n = record w { lines = w.lines ++ ballot_lines n.pid n.state n.state.durable.part }
 
 -- the node opened again, unless it stops in its opening; waiting clients are lost
 abbrev pub world_opening : Fate → World → Node → Durable → World
-world_opening Done w n found = world_with_node w (record n { state = state_after_restart n.pid found; standing = Up })
+world_opening Done w n found =
+    record { nodes = with_node w.nodes (record n { state = state_after_restart n.pid found; status = Up }); messages = w.messages ++ sent_by n.pid (sends_after_restart n.pid found.part); lines = w.lines }
 world_opening Stopped w n found = w
 
--- what happens to a node that is down: only a start has an effect
-abbrev pub world_if_down : What → Fate → Bool → Durable → World → Node → World
-world_if_down (what.Tick p) f finds_after after w n = w
-world_if_down (what.Command p c) f finds_after after w n = w
-world_if_down (what.Crash p) f finds_after after w n = w
-world_if_down (what.Start p) f finds_after after w n = world_opening f w n (if finds_after then after else n.state.durable)
+-- what happens at a node that is down: only an opening has an effect
+abbrev pub world_if_down : Doing → Fate → Bool → Durable → World → Node → World
+world_if_down (Steps x) f finds_after after w n = w
+world_if_down Stops f finds_after after w n = w
+world_if_down Opens f finds_after after w n = world_opening f w n (if finds_after then after else n.state.durable)
+world_if_down Tells f finds_after after w n = w
 
--- what happens to a node, by how it runs
-abbrev pub world_by_status : NodeStatus → Happening → World → Node → World
-world_by_status Up h w n = world_if_up h.event.what h.fate h.event.line w n
-world_by_status (Down after) h w n = world_if_down h.event.what h.fate h.finds_after after w n
+-- what happens at a node, by how it runs
+abbrev pub world_by_status : NodeStatus → Doing → Happening → World → Node → World
+world_by_status Up d h w n = world_if_up d h.fate h.event.line w n
+world_by_status (Down after) d h w n = world_if_down d h.fate h.finds_after after w n
 
 -- the same, where the node is there
-abbrev pub world_at_node : Option Node → Happening → World → World
-world_at_node None h w = w
-world_at_node (Some n) h w = world_by_status n.standing h w n
+abbrev pub world_at_node : Option Node → Doing → Happening → World → World
+world_at_node None d h w = w
+world_at_node (Some n) d h w = world_by_status n.status d h w n
+
+-- the world after what is done at a node
+abbrev pub world_with : Option Deed → Happening → World → World
+world_with None h w = w
+world_with (Some x) h w = world_at_node (node_at w.nodes x.pid) x.doing h w
 
 -- the world after one happening
 abbrev pub world_after : World → Happening → World
-world_after w h = world_at_node (node_at w.nodes (node_of h.event.what)) h w
+world_after w h = world_with (deed_of w.messages h.event.what) h w
 
 -- the world after these happenings
 abbrev pub run_of : World → List Happening → World

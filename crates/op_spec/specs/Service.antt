@@ -76,10 +76,11 @@ service_of entries = all_after new_service entries
 
 -- ---- bytes of a service's state
 
--- the tag of an answer
+-- the tag of an answer that is kept; what was given up was never applied
 abbrev pub answer_bytes : Answer → List ℕ
 answer_bytes answer.Done = 1 ∷ []
 answer_bytes answer.Stale = 4 ∷ []
+answer_bytes (answer.Dropped why) = []
 
 -- a key and its value, each after its length
 abbrev pub pair_bytes : List ℕ × List ℕ → List ℕ

@@ -1,5 +1,5 @@
 -- Which ids, numbers, ballots, members, commands and entries are in range.
-use Rattle.std.specs.Prelude.{◌≤◌, ◌<◌, ℕ, List, [], ◌∷◌, length, All}
+use Rattle.std.specs.Prelude.{◌≤◌, ◌<◌, ◌^◌, ℕ, List, [], ◌∷◌, length, All}
 use Rattle.op_types.specs.Limits.{greatest_pid, most_members, greatest_number, positions_end, last_conf, most_key_bytes, most_value_bytes}
 use Rattle.op_types.specs.declared.ballot.Ballot.{Ballot}
 use Rattle.op_types.specs.declared.log.Op.{Op}
@@ -75,5 +75,9 @@ pub record EntriesInRange (most : ℕ) (es : List Entry) : Type 0 where
 abbrev pub WhatInRange : What → Type 0
 WhatInRange (what.Tick p) = IsPid p
 WhatInRange (what.Command p c) = IsPid p × CommandInRange c
+WhatInRange (what.Deliver i) = i < 2 ^ 64
+WhatInRange (what.Up p q) = IsPid p × IsPid q
+WhatInRange (what.Down p q) = IsPid p × IsPid q
 WhatInRange (what.Crash p) = IsPid p
 WhatInRange (what.Start p) = IsPid p
+WhatInRange (what.Ballots p) = IsPid p

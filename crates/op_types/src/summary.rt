@@ -1,4 +1,4 @@
-use crate::{Answer, ConfNo, Entries, Members, Outcome, Pid, Seq};
+use crate::{Answer, Ballot, Cause, ConfNo, Entries, Members, Outcome, Pid, Seq};
 
 /// A line of a report that an event gave.
 #[derive(Drop)]
@@ -7,6 +7,10 @@ pub enum Line {
     Answer(u64, Outcome),
     /// What a client (its number, and the command's) was answered at a node.
     Reply(Pid, u64, u64, Answer),
+    /// A proposal (its client, and its number) that was buffered at a node and is given up.
+    Dropped(Pid, u64, u64, Cause),
+    /// A node's own ballot, the leader's as far as it knows, and what it has promised.
+    Ballots(Pid, Ballot, Ballot, Ballot),
 }
 
 /// A configuration's one list.

@@ -1,0 +1,63 @@
+-- What a node keeps that prepares or leads, as contracts see it: without the room of its lists.
+use Rattle.std.specs.Prelude.{◌==◌, ℕ, nat_eq, nat_lt, not, List, [], ◌∷◌, ◌++◌, filter, Option, Some, None, if◌then◌else◌}
+use Rattle.std.specs.Set.{is_member}
+use Rattle.op_types.specs.declared.ballot.Ballot.{Ballot}
+use Rattle.op_types.specs.declared.role.Promised.{Promised}
+use Rattle.op_types.specs.declared.role.Buffered.{Buffered}
+use Rattle.op_types.specs.declared.role.Acknowledged.{Acknowledged}
+
+-- of a node that prepares a ballot of its own
+pub record Preparing : Type 0 where
+  pub ballot : Ballot
+  pub promises : List Promised  -- one of each sender
+  pub buffer : List Buffered  -- proposals that wait for the log to be adopted
+
+-- of a leader
+pub record Leading : Type 0 where
+  pub ballot : Ballot
+  pub adopted_round : Ballot  -- of the log that was adopted
+  pub adopted_len : ℕ
+  pub synced : List ℕ  -- the followers that were sent the log, and get what is added to it
+  pub acknowledged : List Acknowledged  -- one of each sender
+
+-- ---- promises
+
+-- the promise of a sender, if it is kept
+abbrev pub promise_of : List Promised → ℕ → Option Promised
+promise_of [] q = None
+promise_of (k ∷ promises) q = if k.from == q then Some k else promise_of promises q
+
+-- the promises with one more, which takes the place of an earlier one of its sender
+abbrev pub promises_with : List Promised → Promised → List Promised
+promises_with promises k = filter (λ j. not (j.from == k.from)) promises ++ k ∷ []
+
+-- a promise more is kept
+abbrev pub with_promise : Preparing → Promised → Preparing
+with_promise r k = record r { promises = promises_with r.promises k }
+
+-- a proposal more waits
+abbrev pub with_buffered : Preparing → Buffered → Preparing
+with_buffered r b = record r { buffer = r.buffer ++ b ∷ [] }
+
+-- ---- followers
+
+-- a follower more is synced
+abbrev pub with_synced : Leading → ℕ → Leading
+with_synced l q = if is_member nat_eq l.synced q then l else record l { synced = l.synced ++ q ∷ [] }
+
+-- a follower is synced no more
+abbrev pub without_synced : Leading → ℕ → Leading
+without_synced l q = record l { synced = filter (λ p. not (p == q)) l.synced }
+
+-- the length that a sender has acknowledged
+abbrev pub acknowledged_of : List Acknowledged → ℕ → ℕ
+acknowledged_of [] q = 0
+acknowledged_of (a ∷ acks) q = if a.from == q then a.len else acknowledged_of acks q
+
+-- the acknowledged lengths with this one, where it is greater than its sender's before
+abbrev pub acknowledged_with : List Acknowledged → Acknowledged → List Acknowledged
+acknowledged_with acks a = if nat_lt (acknowledged_of acks a.from) a.len then filter (λ b. not (b.from == a.from)) acks ++ a ∷ [] else acks
+
+-- a length is acknowledged
+abbrev pub with_acknowledged : Leading → Acknowledged → Leading
+with_acknowledged l a = record l { acknowledged = acknowledged_with l.acknowledged a }

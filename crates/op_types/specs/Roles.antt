@@ -1,0 +1,98 @@
+-- A role, as contracts see it, and what a turn makes of it.
+use Rattle.std.specs.Prelude.{◌<◌, List, Some, None}
+use Rattle.op_types.specs.RoleStates as state
+use Rattle.op_types.specs.RoleStates.{with_promise, with_buffered, with_synced, without_synced, with_acknowledged}
+use Rattle.op_types.specs.declared.role.Promised.{Promised}
+use Rattle.op_types.specs.declared.role.Buffered.{Buffered}
+use Rattle.op_types.specs.declared.role.Preparing as preparing
+use Rattle.op_types.specs.declared.role.Leading as leading
+use Rattle.op_types.specs.declared.role.Role as role
+use Rattle.op_types.specs.declared.role.Role.TheVariants as variant
+use Rattle.op_types.specs.declared.turn.Turn.{Turn}
+use Rattle.op_types.specs.declared.turn.Turn.TheVariants as turn
+
+-- what a node does in its part
+pub data Role : Type 0 where
+  Idle : Role
+  Preparing : state.Preparing → Role
+  Leading : state.Leading → Role
+
+-- what is prepared, without room
+abbrev pub preparing_of : preparing.Preparing → state.Preparing
+preparing_of r = record { ballot = r.ballot; promises = r.promises.items; buffer = r.buffer.items }
+
+-- what is led, without room
+abbrev pub leading_of : leading.Leading → state.Leading
+leading_of l = record { ballot = l.ballot; adopted_round = l.adopted_round; adopted_len = l.adopted_len; synced = l.synced.items; acknowledged = l.acknowledged.items }
+
+-- a role, without room
+abbrev pub role_of : role.Role → Role
+role_of variant.Idle = Idle
+role_of (variant.Preparing r) = Preparing (preparing_of r)
+role_of (variant.Leading l) = Leading (leading_of l)
+
+-- ---- turns
+
+-- where the node prepares
+abbrev pub if_preparing : (state.Preparing → state.Preparing) → Role → Role
+if_preparing f (Preparing r) = Preparing (f r)
+if_preparing f r = r
+
+-- where the node leads
+abbrev pub if_leading : (state.Leading → state.Leading) → Role → Role
+if_leading f (Leading l) = Leading (f l)
+if_leading f r = r
+
+-- the role when the turn is adopted
+abbrev pub turned : Turn → Role → Role
+turned turn.Stay r = r
+turned (turn.Become n) r = role_of n
+turned (turn.Keep k) r = if_preparing (λ s. with_promise s k) r
+turned (turn.Buffer b) r = if_preparing (λ s. with_buffered s b) r
+turned (turn.Sync q) r = if_leading (λ l. with_synced l q) r
+turned (turn.Unsync q) r = if_leading (λ l. without_synced l q) r
+turned (turn.Acknowledge a) r = if_leading (λ l. with_acknowledged l a) r
+turned (turn.Hear h) r = r
+turned (turn.RaiseFloor b) r = r
+turned (turn.NextRound e None) r = r
+turned (turn.NextRound e (Some n)) r = role_of n
+
+-- ---- room
+
+-- for a promise, where the node prepares
+abbrev pub RoomToKeep : role.Role → Type 0
+RoomToKeep (variant.Preparing r) = 0 < r.promises.room
+RoomToKeep r = Unit {0}
+
+-- for a proposal, where the node prepares
+abbrev pub RoomToBuffer : role.Role → Type 0
+RoomToBuffer (variant.Preparing r) = 0 < r.buffer.room
+RoomToBuffer r = Unit {0}
+
+-- for a follower, where the node leads
+abbrev pub RoomToSync : role.Role → Type 0
+RoomToSync (variant.Leading l) = 0 < l.synced.room
+RoomToSync r = Unit {0}
+
+-- for a length, where the node leads
+abbrev pub RoomToAcknowledge : role.Role → Type 0
+RoomToAcknowledge (variant.Leading l) = 0 < l.acknowledged.room
+RoomToAcknowledge r = Unit {0}
+
+-- the turn changes the role alone, and there is room for what it adds
+abbrev pub HasRoom : Turn → role.Role → Type 0
+HasRoom turn.Stay r = Unit {0}
+HasRoom (turn.Become n) r = Unit {0}
+HasRoom (turn.Keep k) r = RoomToKeep r
+HasRoom (turn.Buffer b) r = RoomToBuffer r
+HasRoom (turn.Sync q) r = RoomToSync r
+HasRoom (turn.Unsync q) r = Unit {0}
+HasRoom (turn.Acknowledge a) r = RoomToAcknowledge r
+HasRoom (turn.Hear h) r = ⊥
+HasRoom (turn.RaiseFloor b) r = ⊥
+HasRoom (turn.NextRound e n) r = ⊥
+
+-- the turn gives the node another role, which needs no room
+abbrev pub IsBecome : Turn → Type 0
+IsBecome (turn.Become n) = Unit {0}
+IsBecome t = ⊥

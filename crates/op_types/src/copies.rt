@@ -1,0 +1,105 @@
+//! Copies, each equal to what it was made from.
+ghost use Rattle.std.specs.Prelude.{◌≡◌, IfOk};
+
+use crate::{Blob, Body, Command, Entries, Entry, Members, Op, StopSign};
+use std::alloc::{AllocError as NoMemory, Global};
+
+impl Blob {
+    /// An equal value.
+    pub fn copy(&self, alloc: Global) -> Result<Blob, NoMemory>
+        ensures { IfOk result (λ b. b ≡ self.now) }
+    {
+        Blob::from_slice(alloc, self.as_slice())
+    }
+}
+
+fn copy_ids(alloc: Global, ids: &Members) -> Result<Members, NoMemory>
+    ensures { IfOk result (λ copy. copy ≡ ids.now) }
+{
+    let copy = Vec::from_slice(alloc, ids.as_slice())?;
+    Ok(Members::from_vec(copy))
+}
+
+impl Op {
+    /// An equal value.
+    pub fn copy(&self, alloc: Global) -> Result<Op, NoMemory>
+        ensures { IfOk result (λ op. op ≡ self.now) }
+    {
+        match self {
+            Op::Put(key, value) => Ok(Op::Put(key.copy(alloc)?, value.copy(alloc)?)),
+        }
+    }
+}
+
+impl Command {
+    /// An equal value.
+    pub fn copy(&self, alloc: Global) -> Result<Command, NoMemory>
+        ensures { IfOk result (λ c. c ≡ self.now) }
+    {
+        Ok(Command {
+            client: self.client,
+            seq: self.seq,
+            op: self.op.copy(alloc)?,
+        })
+    }
+}
+
+impl StopSign {
+    /// An equal value.
+    pub fn copy(&self, alloc: Global) -> Result<StopSign, NoMemory>
+        ensures { IfOk result (λ s. s ≡ self.now) }
+    {
+        Ok(StopSign {
+            next: self.next,
+            members: copy_ids(alloc, &self.members)?,
+        })
+    }
+}
+
+impl Entry {
+    /// An equal value.
+    pub fn copy(&self, alloc: Global) -> Result<Entry, NoMemory>
+        ensures { IfOk result (λ e. e ≡ self.now) }
+    {
+        match self {
+            Entry::Command(command) => Ok(Entry::Command(command.copy(alloc)?)),
+            Entry::Stop(stop) => Ok(Entry::Stop(stop.copy(alloc)?)),
+        }
+    }
+}
+
+impl Body {
+    /// An equal value.
+    pub fn copy(&self, alloc: Global) -> Result<Body, NoMemory>
+        ensures { IfOk result (λ b. b ≡ self.now) }
+    {
+        Ok(match self {
+            Body::HeartbeatRequest(round) => Body::HeartbeatRequest(*round),
+            Body::HeartbeatReply(round, own, flag) => Body::HeartbeatReply(*round, *own, *flag),
+            Body::Prepare(n, na, nl, nd) => Body::Prepare(*n, *na, *nl, *nd),
+            Body::Promise(n, fa, fl, fd, s, es) => {
+                Body::Promise(*n, *fa, *fl, *fd, *s, copy_entries(alloc, es.as_slice())?)
+            }
+            Body::AcceptSync(n, x, es) => {
+                Body::AcceptSync(*n, *x, copy_entries(alloc, es.as_slice())?)
+            }
+            Body::Accept(n, a, es) => Body::Accept(*n, *a, copy_entries(alloc, es.as_slice())?),
+            Body::Accepted(n, x) => Body::Accepted(*n, *x),
+            Body::Decide(n, x) => Body::Decide(*n, *x),
+            Body::PrepareReq => Body::PrepareReq,
+            Body::Refuse(n, b) => Body::Refuse(*n, *b),
+            Body::Forward(entry) => Body::Forward(entry.copy(alloc)?),
+        })
+    }
+}
+
+/// Copies of these entries, in order.
+pub fn copy_entries(alloc: Global, entries: &[Entry]) -> Result<Entries, NoMemory>
+    ensures { IfOk result (λ copies. copies ≡ entries.now) }
+{
+    let mut copies = Entries::new(alloc);
+    for entry in entries {
+        copies.push(entry.copy(alloc)?)?;
+    }
+    Ok(copies)
+}

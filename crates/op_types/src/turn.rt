@@ -1,0 +1,150 @@
+//! A change of a role, whose room is made before it is adopted.
+ghost use Rattle.std.specs.Prelude.{◌≡◌, ◌==◌, not, filter, nat_eq};
+ghost use Rattle.std.specs.Set.{is_member};
+ghost use Rattle.op_types.specs.RoleStates.{acknowledged_of, with_promise, with_buffered, with_synced, without_synced, with_acknowledged};
+ghost use Rattle.op_types.specs.Roles.{role_of, turned, if_preparing, if_leading, HasRoom, RoomToKeep, RoomToBuffer, RoomToSync, RoomToAcknowledge};
+
+use crate::{Acknowledged, Ballot, Buffered, ElectionState, Heard, Pid, Promised, Reserved, Role};
+
+/// What a step changes of what a node keeps in memory of its part: of its role, its heartbeat round or its election.
+#[derive(Drop)]
+pub enum Turn {
+    Stay,
+    Become(Role),
+    /// A node that prepares keeps a promise.
+    Keep(Promised),
+    /// A node that prepares keeps a proposal.
+    Buffer(Buffered),
+    /// A leader syncs a follower.
+    Sync(Pid),
+    /// A leader's session with a follower ended.
+    Unsync(Pid),
+    /// A follower acknowledged a length.
+    Acknowledge(Acknowledged),
+    /// A heartbeat reply of the current round is kept.
+    Hear(Heard),
+    /// Elections begin at this ballot from now on, unless they begin above it already.
+    RaiseFloor(Ballot),
+    /// A heartbeat round ended so, and the next one begins; an own ballot that was elected is led.
+    NextRound(ElectionState, Option<Role>),
+}
+
+impl Turn {
+    /// Changes the role, in the room that was made. It takes no memory and can't fail.
+    pub fn adopt(self, role: &mut Role)
+        requires { HasRoom self role.old }
+        ensures { role_of role.new ≡ turned self (role_of role.old) }
+    {
+        match self {
+            Turn::Stay => {}
+            Turn::Become(next) => *role = next,
+            Turn::Keep(promised) => keep(role, promised),
+            Turn::Buffer(buffered) => buffer(role, buffered),
+            Turn::Sync(pid) => sync(role, pid),
+            Turn::Unsync(pid) => unsync(role, pid),
+            Turn::Acknowledge(acknowledged) => acknowledge(role, acknowledged),
+            Turn::Hear(_) | Turn::RaiseFloor(_) | Turn::NextRound(_, _) => unreachable!(),
+        }
+    }
+}
+
+fn keep(role: &mut Role, promised: Promised)
+    requires { RoomToKeep role.old }
+    ensures { role_of role.new ≡ if_preparing (λ r. with_promise r promised) (role_of role.old) }
+{
+    if let Role::Preparing(preparing) = role {
+        remove_promise(&mut preparing.promises, promised.from);
+        preparing.promises.add(promised);
+    }
+}
+
+/// Removes a sender's promise, if there is one.
+fn remove_promise(promises: &mut Reserved<Promised>, from: Pid)
+    ensures items { promises.new.items ≡ filter (λ j. not (j.from == from)) promises.old.items }
+    ensures room { promises.new.room ≡ promises.old.room }
+{
+    promises.retain(|promised| promised.from != from);
+}
+
+fn buffer(role: &mut Role, buffered: Buffered)
+    requires { RoomToBuffer role.old }
+    ensures { role_of role.new ≡ if_preparing (λ r. with_buffered r buffered) (role_of role.old) }
+{
+    if let Role::Preparing(preparing) = role {
+        preparing.buffer.add(buffered);
+    }
+}
+
+fn sync(role: &mut Role, pid: Pid)
+    requires { RoomToSync role.old }
+    ensures { role_of role.new ≡ if_leading (λ l. with_synced l pid) (role_of role.old) }
+{
+    if let Role::Leading(leading) = role {
+        if !is_among(leading.synced.as_slice(), pid) {
+            leading.synced.add(pid);
+        }
+    }
+}
+
+/// Whether an id is among these.
+pub fn is_among(pids: &[Pid], pid: Pid) -> bool
+    ensures { result ≡ is_member nat_eq pids.now pid }
+{
+    match pids {
+        [] => false,
+        [first, rest @ ..] => pid == *first || is_among(rest, pid),
+    }
+}
+
+fn unsync(role: &mut Role, pid: Pid)
+    ensures { role_of role.new ≡ if_leading (λ l. without_synced l pid) (role_of role.old) }
+{
+    if let Role::Leading(leading) = role {
+        remove_pid(&mut leading.synced, pid);
+    }
+}
+
+/// Removes an id, if it is there.
+fn remove_pid(pids: &mut Reserved<Pid>, pid: Pid)
+    ensures items { pids.new.items ≡ filter (λ p. not (p == pid)) pids.old.items }
+    ensures room { pids.new.room ≡ pids.old.room }
+{
+    pids.retain(|other| *other != pid);
+}
+
+fn acknowledge(role: &mut Role, acknowledged: Acknowledged)
+    requires { RoomToAcknowledge role.old }
+    ensures { role_of role.new ≡ if_leading (λ l. with_acknowledged l acknowledged) (role_of role.old) }
+{
+    if let Role::Leading(leading) = role {
+        let acknowledgements = &mut leading.acknowledged;
+        if acknowledged_by(acknowledgements.as_slice(), acknowledged.from) < acknowledged.len {
+            remove_acknowledged(acknowledgements, acknowledged.from);
+            acknowledgements.add(acknowledged);
+        }
+    }
+}
+
+/// Removes a sender's acknowledged length, if there is one.
+fn remove_acknowledged(acknowledgements: &mut Reserved<Acknowledged>, from: Pid)
+    ensures items { acknowledgements.new.items ≡ filter (λ a. not (a.from == from)) acknowledgements.old.items }
+    ensures room { acknowledgements.new.room ≡ acknowledgements.old.room }
+{
+    acknowledgements.retain(|acknowledged| acknowledged.from != from);
+}
+
+/// The length that a sender has acknowledged, 0 at first.
+pub fn acknowledged_by(acknowledgements: &[Acknowledged], pid: Pid) -> u64
+    ensures { result ≡ acknowledged_of acknowledgements.now pid }
+{
+    match acknowledgements {
+        [] => 0,
+        [first, rest @ ..] => {
+            if first.from == pid {
+                first.len
+            } else {
+                acknowledged_by(rest, pid)
+            }
+        }
+    }
+}
