@@ -121,7 +121,7 @@ module _ (ms : List ℕ) (w : World) (g : History) (good : Good ms w g) (es : Li
     is : slice_get (log_at i) place ≡ Some e
 
   abbrev Stage : ℕ → Type 0
-  Stage i = InBuffer i ⊎ (Logged i ⊎ Dropped ms w p es come)
+  Stage i = InBuffer i ⊎ (Logged i ⊎ Dropped ms w p es come e)
 
   abbrev Before : ℕ → Type 0
   Before i = PreparesAt i ⊎ LeadsAt i
@@ -176,6 +176,7 @@ module _ (ms : List ℕ) (w : World) (g : History) (good : Good ms w g) (es : Li
         inr (inr (record {
           place = the_place;
           buffered = buffered;
+          held = in_buffer;
           gone = le;
           because_full = subst (λ (l : List Entry). (has_stop l ≡ true) ⊎ (positions_end ≤ length l)) (sym y.log) (fitting_ends y.adopted ((k.prepares).prep).buffer (length (k.first).buffer) (omega (arith, le, long)) (slice_get_within ((k.prepares).prep).buffer (length (k.first).buffer) e in_buffer));
         })))
@@ -309,10 +310,10 @@ module _ (ms : List ℕ) (w : World) (g : History) (good : Good ms w g) (es : Li
       roles_differ k.prep (s.leads).lead ((at end).nodes p).role k.role (s.leads).role
 
   -- what was proposed is decided at its place, or was dropped
-  pub exchange_ends : ((place : ℕ) × IsPlaced ms w p es come place × HasDecided (at end) p e place) ⊎ Dropped ms w p es come
+  pub exchange_ends : ((place : ℕ) × IsPlaced ms w p es come place × HasDecided (at end) p e place) ⊎ Dropped ms w p es come e
   exchange_ends = by stage_end
     where
-      by : Stage end → ((place : ℕ) × IsPlaced ms w p es come place × HasDecided (at end) p e place) ⊎ Dropped ms w p es come
+      by : Stage end → ((place : ℕ) × IsPlaced ms w p es come place × HasDecided (at end) p e place) ⊎ Dropped ms w p es come e
       by (inl k) = absurd (not_preparing others refl k.prepares)
       by (inr (inl k)) = inl (k.place, k.placed, logged_decides k)
       by (inr (inr k)) = inr k
@@ -323,9 +324,9 @@ exchange_decides ms conf early es p b others e x =
     let a = run_good ms early start first (start_good ms) in
     let w = run ms early start in
     let y = needed ms w p b others es e x in
-    let r = subst (λ at. ((place : ℕ) × IsPlaced ms w p es at place × HasDecided (W ms w es (length es)) p e place) ⊎ Dropped ms w p es at) y.1 (exchange_ends ms w a.0 a.1 es p b others e y.0) in
+    let r = subst (λ at. ((place : ℕ) × IsPlaced ms w p es at place × HasDecided (W ms w es (length es)) p e place) ⊎ Dropped ms w p es at e) y.1 (exchange_ends ms w a.0 a.1 es p b others e y.0) in
     ⊎_elim (λ (h : (place : ℕ) × IsPlaced ms w p es x.proposed_at place × HasDecided (W ms w es (length es)) p e place). inl (h.0, h.1, is_decided ms conf (early ++ es) p e h.0 (subst (λ (y : World). HasDecided y p e h.0) (last_is ms w es (length es) (omega arith) ∙ sym (run_append ms early es start)) h.2)))
-    (λ (h : Dropped ms w p es x.proposed_at). inr h) r
+    (λ (h : Dropped ms w p es x.proposed_at e). inr h) r
 
 -- ---- a leader that is a majority alone
 alone_step : (ms : List ℕ) (p : ℕ) (e : Entry) (nd : Node) (l : LeadingState) → majority_passes ms (λ q. q == p) ≡ true → is_full nd.log ≡ false

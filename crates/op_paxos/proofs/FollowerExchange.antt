@@ -1,7 +1,7 @@
 -- What one other member does in an exchange: it takes the leader's log, each entry after it, and the leader hears of that.
 use Rattle.std.proofs.Common.{◌≡◌, ℕ, zero, suc, ◌+◌, ◌-◌, ◌<◌, ◌≤◌, ◌⊎◌, inl, inr, ⊎_elim, List, [], ◌∷◌, ◌++◌, length, true, ◌&&◌, take, drop, refl, sym, ap, ◌∙◌, subst, arith, ◌==◌, length-append}
 use Rattle.std.specs.Prelude.{nat_lt, nat_le, if◌then◌else◌}
-use Rattle.std.proofs.lemmas.Bool.{cases_eq, cases_lt, cond_both, both_ways, eq-eqb, lt-ltb, le-ltb, le-leb, ltb-true, ltb-false}
+use Rattle.std.proofs.lemmas.Bool.{cases_eq, cases_lt, cond_both, both_ways, eq-eqb, lt-ltb, le-leb, ltb-true, ltb-false}
 use Rattle.std.proofs.lemmas.List.{length-take-le}
 use Rattle.std.proofs.lemmas.Option.{slice_get_within}
 use Rattle.op_types.specs.declared.log.Entry.{Entry}

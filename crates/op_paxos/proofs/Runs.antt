@@ -1,7 +1,7 @@
 -- Every event keeps the invariant.
 use Rattle.std.proofs.Common.{◌≡◌, ℕ, ◌<◌, ◌≤◌, inl, List, [], ◌∷◌, ◌++◌, length, true, false, take, refl, sym, ◌∙◌, subst, arith, Option, Some, None, ◌==◌, ◌&&◌}
 use Rattle.std.specs.Prelude.{nat_lt, nat_le, if◌then◌else◌, slice_get}
-use Rattle.std.proofs.lemmas.Bool.{cond_both, cases_eq, cases_lt, eqb-true, ne_eqb}
+use Rattle.std.proofs.lemmas.Bool.{cond_both, eqb-true}
 use Rattle.op_types.specs.declared.log.Entry.{Entry}
 use Rattle.op_spec.specs.Machine.{with_at, IsAmong}
 use Rattle.op_paxos.specs.Nodes.{owner, Promised, PreparingState, Role, Idle, Preparing, Leading, Node}

@@ -41,6 +41,10 @@ Proposed =
 abbrev pub Ends : Type 0
 Ends = (members : List ℕ) (events : List Event) (p : ℕ) → NoneAfterStop (decided_log (run members events start) p)
 
+-- nor does an entry stand after a stop-sign in any node's whole log
+abbrev pub LogsEnd : Type 0
+LogsEnd = (members : List ℕ) (events : List Event) (p : ℕ) → NoneAfterStop ((run members events start).nodes p).log
+
 -- what a node has decided never falls
 abbrev pub NeverFalls : Type 0
 NeverFalls =

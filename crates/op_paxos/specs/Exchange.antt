@@ -88,10 +88,11 @@ IsPlaced members w p events at place =
     ((l : LeadingState) × ((node_before members w events at p).role ≡ Leading l) × (place ≡ length (node_before members w events at p).log))
     ⊎ ((x : Buffered members w p events at place) × (place < length (node_before members w events (suc x.adds_at) p).log))
 
--- or it is dropped when p begins to lead, after a stop-sign or at the end of positions
-pub record Dropped (members : List ℕ) (w : World) (p : ℕ) (events : List Event) (at : ℕ) : Type 0 where
+-- or e, which came at p at event number at, is dropped when p begins to lead, after a stop-sign or at the end of positions
+pub record Dropped (members : List ℕ) (w : World) (p : ℕ) (events : List Event) (at : ℕ) (e : Entry) : Type 0 where
   pub place : ℕ
   pub buffered : Buffered members w p events at place
+  pub held : slice_get buffered.begins.preparation.buffer (length buffered.preparation.buffer) ≡ Some e  -- it waits there until then
   pub gone : length (node_before members w events (suc buffered.adds_at) p).log ≤ place
   pub because_full :
       (has_stop (node_before members w events (suc buffered.adds_at) p).log ≡ true)
@@ -182,7 +183,7 @@ ExchangeDecides =
     (members : List ℕ) (conf : ℕ) (early events : List Event) (p b : ℕ) (others : List ℕ) (e : Entry)
     → let w = run members early start in (x : Exchange members w p b others events e)
     → ((place : ℕ) × IsPlaced members w p events x.proposed_at place × IsDecided members conf (early ++ events) p e place)
-    ⊎ Dropped members w p events x.proposed_at
+    ⊎ Dropped members w p events x.proposed_at e
 
 -- a leader that is a majority alone decides what is proposed to it, unless it refuses, at once
 abbrev pub AloneDecides : Type 0

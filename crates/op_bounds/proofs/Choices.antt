@@ -1,0 +1,167 @@
+-- The log that a node adopts is in range, and so is what of its buffer fits after that log.
+use Rattle.std.proofs.Common.{◌≡◌, ◌≤◌, ◌<◌, ◌+◌, ◌-◌, ℕ, true, not, ltb, leb, eqb, ◌&&◌, ◌⊎◌, inl, inr, is_some, List, [], ◌∷◌, ◌++◌, length, filter, Option, Some, None, refl, arith, All}
+use Rattle.std.specs.Prelude.{IfSome}
+use Rattle.std.proofs.lemmas.Bool.{cond_both, ltb-true, leb-true, and_parts}
+use Rattle.std.proofs.lemmas.Bool.Decides.{nat_tests}
+use Rattle.std.proofs.lemmas.List.Elements.{All-nil, All-cons, All-head, All-tail, All-append, All-filter}
+use Rattle.op_types.specs.Limits.{positions_end}
+use Rattle.op_types.specs.Ranges.{IsPlace, EntryInRange}
+use Rattle.op_types.specs.Changes.{len_of}
+use Rattle.op_types.specs.RoleStates.{promise_of, promises_with}
+use Rattle.op_types.specs.declared.ballot.Ballot.{Ballot}
+use Rattle.op_types.specs.declared.log.Entry.{Entry}
+use Rattle.op_types.specs.declared.durable.Part.{Part}
+use Rattle.op_types.specs.declared.role.Promised.{Promised}
+use Rattle.op_types.specs.declared.role.Buffered.{Buffered}
+use Rattle.op_types.specs.declared.answers.Cause.TheVariants as cause
+use Rattle.op_protocol.specs.Parts.{stop_at}
+use Rattle.op_protocol.specs.Promises.{is_above, is_usable, Choice, own_choice, choice_of, better, best, stop_here, fitting, dropped, left_over}
+use Rattle.op_spec.specs.Machine.{stop_of, stop_at_end}
+use Rattle.op_bounds.specs.Messages.{BallotOf, ReplyInRange}
+use Rattle.op_bounds.specs.States.{PromisedInRange, BufferedInRange}
+use Rattle.op_bounds.proofs.Batches.{PartIn}
+use Rattle.op_bounds.proofs.Effects.{drop_one}
+
+-- ---- promises that are kept
+
+pub promise_found : (members : List ℕ) (ks : List Promised) (q : ℕ) → All (PromisedInRange members) ks → IfSome (promise_of ks q) (PromisedInRange members)
+promise_found members [] q each = tt
+promise_found members (k ∷ ks) q each =
+    cond_both (eqb k.from q) (Some k) (promise_of ks q) (λ (o : Option Promised). IfSome o (PromisedInRange members))
+    (λ _. All-head (PromisedInRange members) k ks each) (λ _. promise_found members ks q (All-tail (PromisedInRange members) k ks each))
+
+pub promises_more : (members : List ℕ) (ks : List Promised) (k : Promised) → All (PromisedInRange members) ks → PromisedInRange members k → All (PromisedInRange members) (promises_with ks k)
+promises_more members ks k each one =
+    All-append (PromisedInRange members) (filter (λ j. not (eqb j.from k.from)) ks) (k ∷ []) (All-filter (λ j. not (eqb j.from k.from)) (PromisedInRange members) ks each)
+    (All-cons (PromisedInRange members) k [] one (All-nil (PromisedInRange members)))
+
+-- ---- logs by round and length
+
+-- the first log isn't above the second one, as a fact: by round's number, its owner, and length
+abbrev IsUpTo : Ballot → ℕ → Ballot → ℕ → Type 0
+IsUpTo a m b n = (a.number < b.number) ⊎ ((a.number ≡ b.number) × ((a.pid < b.pid) ⊎ ((a.pid ≡ b.pid) × (m ≤ n))))
+
+abbrev IsOver : Ballot → ℕ → Ballot → ℕ → Type 0
+IsOver a m b n = (b.number < a.number) ⊎ ((b.number ≡ a.number) × ((b.pid < a.pid) ⊎ ((b.pid ≡ a.pid) × (n < m))))
+
+over_from : (a : Ballot) (m : ℕ) (b : Ballot) (n : ℕ) → is_above a m b n ≡ true → IsOver a m b n
+over_from a m b n h = grind (arith, nat_tests)
+
+over_to : (a : Ballot) (m : ℕ) (b : Ballot) (n : ℕ) → IsOver a m b n → is_above a m b n ≡ true
+over_to a m b n h = grind (arith, nat_tests)
+
+over_both : (a : Ballot) (m : ℕ) (b : Ballot) (n : ℕ) (c : Ballot) (o : ℕ) → IsOver a m b n → IsUpTo c o b n → IsOver a m c o
+over_both a m b n c o (inl x) (inl y) = inl (omega arith)
+over_both a m b n c o (inl x) (inr y) = inl (omega arith)
+over_both a m b n c o (inr x) (inl y) = inl (omega arith)
+over_both a m b n c o (inr (e, inl x)) (inr (f, inl y)) = inr (omega arith, inl (omega arith))
+over_both a m b n c o (inr (e, inl x)) (inr (f, inr y)) = inr (omega arith, inl (omega arith))
+over_both a m b n c o (inr (e, inr x)) (inr (f, inl y)) = inr (omega arith, inl (omega arith))
+over_both a m b n c o (inr (e, inr x)) (inr (f, inr y)) = inr (omega arith, inr (omega arith, omega arith))
+
+up_to_over : (a : Ballot) (m : ℕ) (b : Ballot) (n : ℕ) → IsOver a m b n → IsUpTo b n a m
+up_to_over a m b n (inl x) = inl x
+up_to_over a m b n (inr (e, inl x)) = inr (e, inl x)
+up_to_over a m b n (inr (e, inr x)) = inr (e, inr (x.0, omega arith))
+
+-- ---- the choice
+
+-- a log to adopt at a part: it goes on from the part's log where nothing is decided beyond, and isn't below that log
+pub record ChoiceIn (members : List ℕ) (p : Part) (c : Choice) : Type 0 where
+  pub accepted : BallotOf members c.accepted
+  pub len : IsPlace c.len
+  pub low : p.decided ≤ c.start
+  pub high : c.start ≤ len_of p
+  pub ends : c.start + length c.entries ≤ positions_end
+  pub entries : All EntryInRange c.entries
+  pub above : IsUpTo p.accepted (len_of p) c.accepted c.len
+
+own_in : (members : List ℕ) (p : Part) → PartIn members p → ChoiceIn members p (own_choice p)
+own_in members p k =
+    record {
+      accepted = k.of.accepted;
+      len = k.range.len;
+      low = k.range.decided.1;
+      high = omega arith;
+      ends = omega (arith, k.range.len);
+      entries = All-nil EntryInRange;
+      above = inr (refl, inr (refl, omega arith));
+    }
+
+-- a usable promise whose log is above the own one goes on from it
+usable_goes_on : (p : Part) (k : Promised) → is_usable p k ≡ true → is_above k.accepted k.len p.accepted (len_of p) ≡ true → (p.decided ≤ k.start) × (k.start ≤ len_of p)
+usable_goes_on p k usable above =
+    let rest : (leb p.decided k.start && (leb k.start (len_of p) && eqb (k.start + length k.entries) k.len)) ≡ true = rw above at usable in
+    let parts = and_parts (leb p.decided k.start) (leb k.start (len_of p) && eqb (k.start + length k.entries) k.len) rest in
+    (leb-true p.decided k.start parts.0, leb-true k.start (len_of p) (and_parts (leb k.start (len_of p)) (eqb (k.start + length k.entries) k.len) parts.1).0)
+
+promise_chosen : (members : List ℕ) (p : Part) (k : Promised) (c : Choice) → PromisedInRange members k → ChoiceIn members p c → is_usable p k ≡ true → is_above k.accepted k.len c.accepted c.len ≡ true
+    → ChoiceIn members p (choice_of k)
+promise_chosen members p k c one now usable above =
+    let over : IsOver k.accepted k.len p.accepted (len_of p) = over_both k.accepted k.len c.accepted c.len p.accepted (len_of p) (over_from k.accepted k.len c.accepted c.len above) now.above in
+    let goes = usable_goes_on p k usable (over_to k.accepted k.len p.accepted (len_of p) over) in
+    record {
+      accepted = one.accepted;
+      len = one.len;
+      low = goes.0;
+      high = goes.1;
+      ends = one.ends;
+      entries = one.entries;
+      above = up_to_over k.accepted k.len p.accepted (len_of p) over;
+    }
+
+better_in : (members : List ℕ) (p : Part) (o : Option Promised) (c : Choice) → IfSome o (PromisedInRange members) → ChoiceIn members p c → ChoiceIn members p (better p o c)
+better_in members p None c one now = now
+better_in members p (Some k) c one now =
+    cond_both (is_usable p k && is_above k.accepted k.len c.accepted c.len) (choice_of k) c (ChoiceIn members p)
+    (λ h. let parts = and_parts (is_usable p k) (is_above k.accepted k.len c.accepted c.len) h in promise_chosen members p k c one now parts.0 parts.1)
+    (λ _. now)
+
+best_from : (members : List ℕ) (p : Part) (ks : List Promised) → All (PromisedInRange members) ks → (qs : List ℕ) (c : Choice) → ChoiceIn members p c → ChoiceIn members p (best p ks qs c)
+best_from members p ks each [] c now = now
+best_from members p ks each (q ∷ qs) c now = best_from members p ks each qs (better p (promise_of ks q) c) (better_in members p (promise_of ks q) c (promise_found members ks q each) now)
+
+pub best_in : (members : List ℕ) (p : Part) (ks : List Promised) → PartIn members p → All (PromisedInRange members) ks → ChoiceIn members p (best p ks p.members (own_choice p))
+best_in members p ks k each = best_from members p ks each p.members (own_choice p) (own_in members p k)
+
+-- ---- the buffer
+
+-- a place of a stop-sign, if there is one
+abbrev pub StopInRange : Option ℕ → Type 0
+StopInRange stop = IfSome stop IsPlace
+
+pub stop_at_in : (at : ℕ) (es : List Entry) → at + length es ≤ positions_end → StopInRange (stop_at at es)
+stop_at_in at es ends = cond_both (is_some (stop_at_end es)) (Some (at + length es - 1)) None StopInRange (λ _. omega arith) (λ _. tt)
+
+stop_here_in : (e : Entry) (at : ℕ) → IsPlace at → StopInRange (stop_here e at)
+stop_here_in e at place = cond_both (is_some (stop_of e)) (Some at) None StopInRange (λ _. place) (λ _. tt)
+
+-- entries that end within the positions
+pub record EndsInRange (len : ℕ) (es : List Entry) : Type 0 where
+  pub ends : len + length es ≤ positions_end
+  pub each : All EntryInRange es
+
+none_more : (len : ℕ) → IsPlace len → EndsInRange len []
+none_more len place = record { ends = omega (arith, place); each = All-nil EntryInRange }
+
+pub fitting_in : (stop : Option ℕ) (len : ℕ) (buffer : List Buffered) → IsPlace len → All BufferedInRange buffer → EndsInRange len (fitting stop len buffer)
+fitting_in (Some pos) len buffer place each = none_more len place
+fitting_in None len [] place each = none_more len place
+fitting_in None len (b ∷ buffer) place each =
+    cond_both (ltb len positions_end) (b.entry ∷ fitting (stop_here b.entry len) (len + 1) buffer) [] (EndsInRange len)
+    (λ h. let room = ltb-true len positions_end h in
+    let more = fitting_in (stop_here b.entry len) (len + 1) buffer (omega (arith, room)) (All-tail BufferedInRange b buffer each) in
+    record { ends = omega (arith, more.ends); each = All-cons EntryInRange b.entry _ (All-head BufferedInRange b buffer each) more.each })
+    (λ _. none_more len place)
+
+pub left_over_in : (members : List ℕ) (stop : Option ℕ) (len : ℕ) (buffer : List Buffered) → StopInRange stop → All BufferedInRange buffer → All (ReplyInRange members) (left_over stop len buffer)
+left_over_in members None len [] in_stop each = All-nil (ReplyInRange members)
+left_over_in members (Some pos) len [] in_stop each = All-nil (ReplyInRange members)
+left_over_in members (Some pos) len (b ∷ buffer) in_stop each =
+    All-append (ReplyInRange members) (dropped (cause.Stop pos) b) (left_over (Some pos) len buffer) (drop_one members (cause.Stop pos) b in_stop (All-head BufferedInRange b buffer each))
+    (left_over_in members (Some pos) len buffer in_stop (All-tail BufferedInRange b buffer each))
+left_over_in members None len (b ∷ buffer) in_stop each =
+    cond_both (ltb len positions_end) (left_over (stop_here b.entry len) (len + 1) buffer) (dropped cause.End b ++ left_over None len buffer) (All (ReplyInRange members))
+    (λ h. let room = ltb-true len positions_end h in left_over_in members (stop_here b.entry len) (len + 1) buffer (stop_here_in b.entry len (omega (arith, room))) (All-tail BufferedInRange b buffer each))
+    (λ _. All-append (ReplyInRange members) (dropped cause.End b) (left_over None len buffer) (drop_one members cause.End b tt (All-head BufferedInRange b buffer each))
+    (left_over_in members None len buffer in_stop (All-tail BufferedInRange b buffer each)))

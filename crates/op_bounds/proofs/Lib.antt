@@ -1,0 +1,14 @@
+pub mod Batches
+pub mod Effects
+pub mod LogChanges
+pub mod FollowerRows
+pub mod Choices
+pub mod Leading
+pub mod LeaderRows
+pub mod Ballots
+pub mod TickRows
+pub mod PartSteps
+pub mod Serving
+pub mod Steps
+pub mod Starts
+pub mod Runs

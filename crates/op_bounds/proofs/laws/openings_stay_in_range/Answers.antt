@@ -1,0 +1,5 @@
+use Rattle.op_bounds.proofs.Starts.{openings_stay}
+use Rattle.op_bounds.proofs.laws.openings_stay_in_range.Goals as goal
+
+pub returns : goal.returns
+returns c = record { stay = openings_stay }

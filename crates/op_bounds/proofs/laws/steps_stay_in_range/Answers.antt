@@ -1,0 +1,5 @@
+use Rattle.op_bounds.proofs.Steps.{steps_stay}
+use Rattle.op_bounds.proofs.laws.steps_stay_in_range.Goals as goal
+
+pub returns : goal.returns
+returns c = record { stay = steps_stay }
