@@ -1,0 +1,289 @@
+-- Each row's batch applies, and leaves what the next one needs.
+use Rattle.std.proofs.Common.{◌≡◌, ℕ, zero, suc, ◌+◌, ◌-◌, ◌<◌, ◌≤◌, Bool, true, false, cond, min, ◌&&◌, ◌==◌, not, List, [], ◌∷◌, ◌++◌, length, take, drop, filter, All, Option, Some, None, IfSome, refl, sym, ap, ◌∙◌, subst, arith, length-append}
+use Rattle.std.proofs.lemmas.Bool.{ltb-true, ltb-false, and_parts, leb-true}
+use Rattle.std.proofs.lemmas.List.{length-take, length-drop}
+use Rattle.std.proofs.lemmas.List.Elements.{All-nil, All-cons, All-head, All-tail, All-drop, All-filter, All-push}
+use Rattle.std.specs.Prelude.{nat_lt, nat_le}
+use Rattle.op_types.specs.Limits.{positions_end, last_conf}
+use Rattle.op_types.specs.Ballots.{is_below, is_same_ballot}
+use Rattle.op_types.specs.Changes.{len_of, part_with, IsCommand, EndsNowhere}
+use Rattle.op_types.specs.RoleStates as state
+use Rattle.op_types.specs.RoleStates.{promise_of, with_promise, with_buffered, with_synced, without_synced, with_acknowledged}
+use Rattle.op_types.specs.Roles.{Role, Idle, Preparing, Leading}
+use Rattle.op_types.specs.Effects.{Effects}
+use Rattle.op_types.specs.declared.ballot.Ballot.{Ballot}
+use Rattle.op_types.specs.declared.changes.Change.{Change}
+use Rattle.op_types.specs.declared.changes.Change.TheVariants as change
+use Rattle.op_types.specs.declared.durable.Part.{Part}
+use Rattle.op_types.specs.declared.log.Entry.{Entry}
+use Rattle.op_types.specs.declared.messages.Body.TheVariants as body
+use Rattle.op_types.specs.declared.messages.Msg.{Msg}
+use Rattle.op_types.specs.declared.role.Buffered.{Buffered}
+use Rattle.op_types.specs.declared.role.Promised.{Promised}
+use Rattle.op_protocol.specs.Parts.{pending, part_after, part_in_round, cutting, appending, message, saying, nothing}
+use Rattle.op_protocol.specs.Promises.{has_quorum, is_usable, is_above, Choice, own_choice, better, best, choice_changes, chosen_log, chosen_stop, chosen_len, stop_here, fitting}
+use Rattle.op_protocol.specs.Leader.{backed, counted, decides, count, is_synced, sync_sends, first_leading, leading_with, begin_leading, adopt_with, adopt, prepares, lead, on_promise, decided_again, on_accepted, on_prepare_req, extends, propose, on_forward_leading, on_forward, session_down}
+use Rattle.op_protocol.specs.Follower.{suffix_start, on_prepare, added_changes, accepts, accept_entries, on_accept, synced_changes, sync_entries, on_accept_sync, on_decide}
+use Rattle.op_plans.specs.Positions.{FitsPositions}
+use Rattle.op_leader.specs.Adopting.{AreAdmitted, PromisesAreAdmitted, ChoiceFits}
+use Rattle.op_leader.proofs.Fits.{best_fits}
+use Rattle.op_leader.proofs.Admitted.{admitted_with}
+use Rattle.op_instance.specs.Sound.{StopsFit, IsSound}
+use Rattle.op_instance.proofs.Batches.{BatchApplies, joined, conf_after, choice_part, adopted_part, appending_applies, replaced_applies}
+
+-- a batch applies to a part, and this role may follow
+pub record Leaves (p : Part) (batch : List Change) (r : Role) : Type 0 where
+  pub applies : BatchApplies p batch
+  pub promises : PromisesAreAdmitted r
+  pub stops : StopsFit p.conf r
+
+abbrev pub RowLeaves : Part → Effects → Type 0
+RowLeaves p e = Leaves p e.batch e.role
+
+-- entries may go to the log from a position on
+pub record MayGo (p : Part) (at : ℕ) (es : List Entry) : Type 0 where
+  pub small : at + length es ≤ positions_end
+  pub stops : EndsNowhere p.conf es
+
+by_test : (p : Part) (b : Bool) (d e : Effects) → (b ≡ true → RowLeaves p d) → (b ≡ false → RowLeaves p e) → RowLeaves p (cond b d e)
+by_test p true d e so other = so refl
+by_test p false d e so other = other refl
+
+says : (p : Part) (r : Role) (sends : List (ℕ × Msg)) → IsSound p r → RowLeaves p (saying r sends)
+says p r sends sound = record { applies = tt; promises = sound.promises; stops = sound.stops }
+
+leads : (p : Part) (l : state.Leading) (sends : List (ℕ × Msg)) → RowLeaves p (saying (Leading l) sends)
+leads p l sends = record { applies = tt; promises = tt; stops = tt }
+
+-- ---- a follower
+
+pub prepare_leaves : (p : Part) (r : Role) (q : ℕ) (n na : Ballot) (nl nd : ℕ) → IsSound p r → RowLeaves p (on_prepare p r q n na nl nd)
+prepare_leaves p r q n na nl nd sound =
+    by_test p (is_below n p.promised) (saying r (message p.conf q (body.Refuse n p.promised) ∷ [])) _ (λ low. says p r (message p.conf q (body.Refuse n p.promised) ∷ []) sound)
+    (λ high. by_test p (nat_lt (suffix_start p na nl nd) p.trimmed) (nothing r) _ (λ gone. says p r [] sound)
+    (λ here. by_test p (is_below p.promised n) _ (nothing r) (λ above. record { applies = (tt, tt); promises = tt; stops = tt }) (λ same. says p r [] sound)))
+
+accepts_leaves : (p : Part) (r : Role) (q : ℕ) (n : Ballot) (batch : List Change) → IsSound p r → BatchApplies p batch → RowLeaves p (accepts p r q n batch)
+accepts_leaves p r q n batch sound all = record { applies = joined p batch [] all tt; promises = sound.promises; stops = sound.stops }
+
+added_small : (p : Part) (at : ℕ) (es : List Entry) → FitsPositions p → at ≤ len_of p → at + length es ≤ positions_end → len_of p + length (drop (len_of p - at) es) ≤ positions_end
+added_small p at es fits low small = let len = length-drop (len_of p - at) es in let ends : len_of p ≤ positions_end = fits.small in omega arith
+
+pub accept_leaves : (p : Part) (r : Role) (q : ℕ) (n : Ballot) (at : ℕ) (es : List Entry) → IsSound p r → MayGo p at es → RowLeaves p (on_accept p r q n at es)
+accept_leaves p r q n at es sound may =
+    by_test p (is_same_ballot p.promised n && is_same_ballot p.accepted n) (accept_entries p r q n at es) (nothing r)
+    (λ same. by_test p (nat_lt (len_of p) at) (saying r (message p.conf q body.PrepareReq ∷ [])) (accepts p r q n (added_changes p at es)) (λ gap. says p r (message p.conf q body.PrepareReq ∷ []) sound)
+    (λ whole. accepts_leaves p r q n (added_changes p at es) sound
+    (appending_applies p (drop (len_of p - at) es) (added_small p at es sound.positions (ltb-false (len_of p) at whole) may.small) (λ last. All-drop IsCommand (len_of p - at) es (may.stops last)))))
+    (λ other. says p r [] sound)
+
+pub accept_sync_leaves : (p : Part) (r : Role) (q : ℕ) (n : Ballot) (x : ℕ) (es : List Entry) → IsSound p r → MayGo p x es → RowLeaves p (on_accept_sync p r q n x es)
+accept_sync_leaves p r q n x es sound may =
+    by_test p (is_same_ballot p.promised n && is_below p.accepted n) (sync_entries p r q n x es) (on_accept p r q n x es)
+    (λ new. by_test p (nat_le p.decided x && nat_le x (len_of p)) (accepts p r q n (synced_changes p n x es)) (nothing r)
+    (λ here. let both = and_parts (nat_le p.decided x) (nat_le x (len_of p)) here in
+    accepts_leaves p r q n (synced_changes p n x es) sound
+    (joined p (cutting p x ++ appending es) (change.Accept n ∷ []) (replaced_applies p x es sound.positions (leb-true p.decided x both.0) (leb-true x (len_of p) both.1) may.small may.stops) (tt, tt)))
+    (λ off. says p r [] sound))
+    (λ old. accept_leaves p r q n x es sound may)
+
+pub decide_leaves : (p : Part) (r : Role) (n : Ballot) (x : ℕ) → IsSound p r → RowLeaves p (on_decide p r n x)
+decide_leaves p r n x sound =
+    by_test p (is_same_ballot p.promised n && (is_same_ballot p.accepted n && nat_lt p.decided (min x (len_of p)))) _ (nothing r)
+    (λ all. let rest = and_parts (is_same_ballot p.promised n) (is_same_ballot p.accepted n && nat_lt p.decided (min x (len_of p))) all in
+    let both = and_parts (is_same_ballot p.accepted n) (nat_lt p.decided (min x (len_of p))) rest.1 in
+    let more : p.decided < min x (len_of p) = ltb-true p.decided (min x (len_of p)) both.1 in
+    record { applies = ((omega arith, omega arith), tt); promises = sound.promises; stops = sound.stops })
+    (λ none. says p r [] sound)
+
+-- ---- a leader
+
+cond_low : (b : Bool) (x y k : ℕ) → x ≤ k → y ≤ k → cond b x y ≤ k
+cond_low true x y k low also = low
+cond_low false x y k low also = also
+
+backed_low : (has : ℕ → ℕ) (members : List ℕ) (k : ℕ) → backed has members k ≤ k
+backed_low has members zero = omega arith
+backed_low has members (suc k) = cond_low _ (suc k) (backed has members k) (suc k) (omega arith) (let low : backed has members k ≤ k = backed_low has members k in omega arith)
+
+count_leaves : (me : ℕ) (p : Part) (len : ℕ) (l : state.Leading) (otherwise : List (ℕ × Msg)) → len ≤ len_of p → RowLeaves p (count me p len l otherwise)
+count_leaves me p len l otherwise within =
+    let x : ℕ = counted me p.members len l.acknowledged in
+    by_test p (nat_lt p.decided x) (decides me p l x) (saying (Leading l) otherwise)
+    (λ more. let new : p.decided < x = ltb-true p.decided x more in let low : x ≤ len = backed_low _ p.members len in
+    record { applies = ((omega arith, omega arith), tt); promises = tt; stops = tt })
+    (λ none. leads p l otherwise)
+
+extends_leaves : (me : ℕ) (p : Part) (l : state.Leading) (e : Entry) → len_of p < positions_end → EndsNowhere p.conf (e ∷ []) → RowLeaves p (extends me p l e)
+extends_leaves me p l e room stops =
+    let q : Part = part_with p (change.Append (e ∷ [])) in
+    let len = length-append p.tail.items (e ∷ []) in
+    let counts : RowLeaves q (count me q (len_of p + 1) l []) = count_leaves me q (len_of p + 1) l [] (omega arith) in
+    record { applies = ((omega arith, stops), counts.applies); promises = counts.promises; stops = counts.stops }
+
+begins_leaves : (me : ℕ) (p : Part) (l : state.Leading) (promises : List Promised) → RowLeaves p (begin_leading me p l promises)
+begins_leaves me p l promises =
+    let counts : RowLeaves p (count me p (len_of p) (leading_with p l promises) []) = count_leaves me p (len_of p) (leading_with p l promises) [] (omega arith) in
+    record { applies = counts.applies; promises = counts.promises; stops = counts.stops }
+
+-- the length of the log of a choice
+chosen_end : (p : Part) (c : Choice) → FitsPositions p → ChoiceFits p c → chosen_len p c ≡ c.start + length c.entries
+chosen_end p c fits chosen =
+    let len = length-append (take (c.start - p.trimmed) p.tail.items) c.entries in
+    let prefix = length-take (c.start - p.trimmed) p.tail.items in
+    let begins : p.trimmed ≤ p.decided = fits.trimmed in
+    let low : p.decided ≤ c.start = chosen.low in
+    let high : c.start ≤ len_of p = chosen.high in
+    omega arith
+
+adopt_with_leaves : (me : ℕ) (p : Part) (r : state.Preparing) (c : Choice) (more : List Entry) → FitsPositions p → ChoiceFits p c → EndsNowhere p.conf c.entries
+    → chosen_len p c + length more ≤ positions_end → EndsNowhere p.conf more → RowLeaves p (adopt_with me p r c more)
+adopt_with_leaves me p r c more fits chosen stops small also =
+    let q : Part = part_after p (choice_changes p c) in
+    let changes : List Change = choice_changes p c ++ appending more ++ change.Accept r.ballot ∷ [] in
+    let after : Part = part_in_round p r.ballot (chosen_log p c ++ more) in
+    let is : part_after p changes ≡ after = adopted_part p r.ballot c more in
+    let end : len_of q ≡ chosen_len p c = ap (λ (x : Part). len_of x) (choice_part p c) in
+    let made : BatchApplies p changes =
+    joined p (choice_changes p c ++ appending more) (change.Accept r.ballot ∷ [])
+    (joined p (choice_changes p c) (appending more) (replaced_applies p c.start c.entries fits chosen.low chosen.high chosen.small stops)
+    (appending_applies q more (omega arith) (λ last. also (sym (conf_after p (choice_changes p c)) ∙ last)))) (tt, tt) in
+    let begins : RowLeaves after (begin_leading me after (first_leading r.ballot c) r.promises) = begins_leaves me after (first_leading r.ballot c) r.promises in
+    record {
+      applies = joined p changes _ made (subst (λ (x : Part). BatchApplies x (begin_leading me after (first_leading r.ballot c) r.promises).batch) (sym is) begins.applies);
+      promises = begins.promises;
+      stops = begins.stops;
+    }
+
+-- ---- the choice, and what is buffered
+
+better_by : (conf : ℕ) (k : Promised) (c : Choice) (taken : Bool) → EndsNowhere conf k.entries → EndsNowhere conf c.entries → (let t : Choice = cond taken (record { accepted = k.accepted; len = k.len; start = k.start; entries = k.entries }) c in EndsNowhere conf t.entries)
+better_by conf k c true one rest = one
+better_by conf k c false one rest = rest
+
+better_stops : (conf : ℕ) (p : Part) (o : Option Promised) (c : Choice) → IfSome o (λ k. EndsNowhere conf k.entries) → EndsNowhere conf c.entries → EndsNowhere conf (better p o c).entries
+better_stops conf p None c one rest = rest
+better_stops conf p (Some k) c one rest = better_by conf k c (is_usable p k && is_above k.accepted k.len c.accepted c.len) one rest
+
+found_by : (P : Promised → Type 0) (b : Bool) (k : Promised) (o : Option Promised) → P k → IfSome o P → IfSome (cond b (Some k) o) P
+found_by P true k o one rest = one
+found_by P false k o one rest = rest
+
+found : (P : Promised → Type 0) (promises : List Promised) (q : ℕ) → All P promises → IfSome (promise_of promises q) P
+found P [] q all = tt
+found P (k ∷ promises) q all = found_by P (k.from == q) k (promise_of promises q) (All-head P k promises all) (found P promises q (All-tail P k promises all))
+
+best_stops : (conf : ℕ) (p : Part) (promises : List Promised) (members : List ℕ) (c : Choice) → All (λ k. EndsNowhere conf k.entries) promises → EndsNowhere conf c.entries → EndsNowhere conf (best p promises members c).entries
+best_stops conf p promises [] c all rest = rest
+best_stops conf p promises (q ∷ members) c all rest =
+    best_stops conf p promises members (better p (promise_of promises q) c) all (better_stops conf p (promise_of promises q) c (found (λ k. EndsNowhere conf k.entries) promises q all) rest)
+
+fitting_by : (at : ℕ) (b : Bool) (e : Entry) (es : List Entry) → nat_lt at positions_end ≡ b → at ≤ positions_end → (at < positions_end → at + 1 + length es ≤ positions_end) → at + length (cond b (e ∷ es) []) ≤ positions_end
+fitting_by at true e es is low more = let here : at < positions_end = ltb-true at positions_end is in let rest : at + 1 + length es ≤ positions_end = more here in omega arith
+fitting_by at false e es is low more = omega arith
+
+fitting_small : (stop : Option ℕ) (at : ℕ) (buffer : List Buffered) → at ≤ positions_end → at + length (fitting stop at buffer) ≤ positions_end
+fitting_small (Some pos) at buffer low = omega arith
+fitting_small None at [] low = omega arith
+fitting_small None at (b ∷ buffer) low =
+    fitting_by at (nat_lt at positions_end) b.entry (fitting (stop_here b.entry at) (at + 1) buffer) refl low (λ here. fitting_small (stop_here b.entry at) (at + 1) buffer (omega arith))
+
+commands_by : (b : Bool) (e : Entry) (es : List Entry) → IsCommand e → All IsCommand es → All IsCommand (cond b (e ∷ es) [])
+commands_by true e es one rest = All-cons IsCommand e es one rest
+commands_by false e es one rest = All-nil IsCommand
+
+fitting_commands : (stop : Option ℕ) (at : ℕ) (buffer : List Buffered) → All (λ b. IsCommand b.entry) buffer → All IsCommand (fitting stop at buffer)
+fitting_commands (Some pos) at buffer all = All-nil IsCommand
+fitting_commands None at [] all = All-nil IsCommand
+fitting_commands None at (b ∷ buffer) all =
+    commands_by (nat_lt at positions_end) b.entry (fitting (stop_here b.entry at) (at + 1) buffer) (All-head (λ b. IsCommand b.entry) b buffer all)
+    (fitting_commands (stop_here b.entry at) (at + 1) buffer (All-tail (λ b. IsCommand b.entry) b buffer all))
+
+buffer_commands : (conf : ℕ) (buffer : List Buffered) → All (λ b. EndsNowhere conf (b.entry ∷ [])) buffer → conf ≡ last_conf → All (λ b. IsCommand b.entry) buffer
+buffer_commands conf [] all last = All-nil (λ b. IsCommand b.entry)
+buffer_commands conf (b ∷ buffer) all last =
+    All-cons (λ b. IsCommand b.entry) b buffer (All-head IsCommand b.entry [] (All-head (λ b. EndsNowhere conf (b.entry ∷ [])) b buffer all last))
+    (buffer_commands conf buffer (All-tail (λ b. EndsNowhere conf (b.entry ∷ [])) b buffer all) last)
+
+-- ---- a node that prepares
+
+pub prepares_leaves : (me : ℕ) (p : Part) (r : state.Preparing) → IsSound p (Preparing r) → RowLeaves p (prepares me p r)
+prepares_leaves me p r sound =
+    let c : Choice = best p r.promises p.members (own_choice p) in
+    let chosen : ChoiceFits p c = best_fits p r.promises sound.positions sound.promises in
+    let end : chosen_len p c ≡ c.start + length c.entries = chosen_end p c sound.positions chosen in
+    let within : c.start + length c.entries ≤ positions_end = chosen.small in
+    by_test p (has_quorum me p.members r.promises) (adopt me p r) (nothing (Preparing r))
+    (λ quorum. adopt_with_leaves me p r c (fitting (chosen_stop p c) (chosen_len p c) r.buffer) sound.positions chosen
+    (best_stops p.conf p r.promises p.members (own_choice p) sound.stops.0 (λ last. All-nil IsCommand))
+    (fitting_small (chosen_stop p c) (chosen_len p c) r.buffer (omega arith))
+    (λ last. fitting_commands (chosen_stop p c) (chosen_len p c) r.buffer (buffer_commands p.conf r.buffer sound.stops.1 last)))
+    (λ few. says p (Preparing r) [] sound)
+
+pub lead_leaves : (me : ℕ) (p : Part) (r : Role) (n : Ballot) → IsSound p r → RowLeaves p (lead me p r n)
+lead_leaves me p r n sound =
+    let s : state.Preparing = record { ballot = n; promises = []; buffer = [] } in
+    let q : Part = part_with p (change.Promise n) in
+    let here : IsSound q (Preparing s) =
+    record {
+      positions = record { trimmed = sound.positions.trimmed; decided = sound.positions.decided; small = sound.positions.small };
+      members = sound.members;
+      promises = tt;
+      stops = (All-nil (λ k. EndsNowhere q.conf k.entries), All-nil (λ b. EndsNowhere q.conf (b.entry ∷ [])));
+    } in
+    let led : RowLeaves q (prepares me q s) = prepares_leaves me q s here in
+    record { applies = (tt, led.applies); promises = led.promises; stops = led.stops }
+
+pub promise_leaves : (me : ℕ) (p : Part) (r : Role) (n : Ballot) (k : Promised) → IsSound p r → MayGo p k.start k.entries → RowLeaves p (on_promise me p r n k)
+promise_leaves me p Idle n k sound may = says p Idle [] sound
+promise_leaves me p (Preparing r) n k sound may =
+    by_test p (is_same_ballot n r.ballot && is_usable p k) (prepares me p (with_promise r k)) (nothing (Preparing r))
+    (λ taken. prepares_leaves me p (with_promise r k) (record {
+      positions = sound.positions;
+      members = sound.members;
+      promises = admitted_with r.promises k sound.promises may.small;
+      stops = (All-push (λ k. EndsNowhere p.conf k.entries) (filter (λ j. not (j.from == k.from)) r.promises) k (All-filter (λ j. not (j.from == k.from)) (λ k. EndsNowhere p.conf k.entries) r.promises sound.stops.0) may.stops, sound.stops.1);
+    }))
+    (λ other. says p (Preparing r) [] sound)
+promise_leaves me p (Leading l) n k sound may =
+    by_test p (is_same_ballot n l.ballot) (saying (Leading (cond (is_synced p l k) (with_synced l k.from) l)) (sync_sends p l k)) (nothing (Leading l)) (λ own. leads p (cond (is_synced p l k) (with_synced l k.from) l) (sync_sends p l k)) (λ other. leads p l [])
+
+pub accepted_leaves : (me : ℕ) (p : Part) (r : Role) (q : ℕ) (n : Ballot) (x : ℕ) → IsSound p r → RowLeaves p (on_accepted me p r q n x)
+accepted_leaves me p Idle q n x sound = says p Idle [] sound
+accepted_leaves me p (Preparing r) q n x sound = says p (Preparing r) [] sound
+accepted_leaves me p (Leading l) q n x sound =
+    by_test p (is_same_ballot n l.ballot && nat_le x (len_of p)) (count me p (len_of p) (with_acknowledged l (record { from = q; len = x })) (decided_again p q l.ballot)) (nothing (Leading l))
+    (λ own. count_leaves me p (len_of p) (with_acknowledged l (record { from = q; len = x })) (decided_again p q l.ballot) (omega arith)) (λ other. leads p l [])
+
+pub prepare_req_leaves : (p : Part) (r : Role) (q : ℕ) → IsSound p r → RowLeaves p (on_prepare_req p r q)
+prepare_req_leaves p Idle q sound = says p Idle [] sound
+prepare_req_leaves p (Preparing r) q sound = record { applies = tt; promises = sound.promises; stops = sound.stops }
+prepare_req_leaves p (Leading l) q sound = record { applies = tt; promises = tt; stops = tt }
+
+-- ---- proposals
+
+buffered_leaves : (p : Part) (r : state.Preparing) (b : Buffered) → IsSound p (Preparing r) → EndsNowhere p.conf (b.entry ∷ []) → RowLeaves p (nothing (Preparing (with_buffered r b)))
+buffered_leaves p r b sound stops =
+    record { applies = tt; promises = sound.promises; stops = (sound.stops.0, All-push (λ b. EndsNowhere p.conf (b.entry ∷ [])) r.buffer b sound.stops.1 stops) }
+
+pub propose_leaves : (me : ℕ) (p : Part) (r : Role) (e : Entry) → IsSound p r → len_of p < positions_end → EndsNowhere p.conf (e ∷ []) → RowLeaves p (propose me p r e)
+propose_leaves me p Idle e sound room stops = record { applies = tt; promises = tt; stops = tt }
+propose_leaves me p (Preparing r) e sound room stops =
+    let kept = buffered_leaves p r (record { entry = e; is_own = true }) sound stops in record { applies = tt; promises = kept.promises; stops = kept.stops }
+propose_leaves me p (Leading l) e sound room stops =
+    let added : RowLeaves p (extends me p l e) = extends_leaves me p l e room stops in record { applies = added.applies; promises = added.promises; stops = added.stops }
+
+forward_by : (me : ℕ) (p : Part) (l : state.Leading) (e : Entry) (o : Option ℕ) → EndsNowhere p.conf (e ∷ []) → RowLeaves p (on_forward_leading me p l e o)
+forward_by me p l e (Some pos) stops = leads p l []
+forward_by me p l e None stops =
+    by_test p (nat_lt (len_of p) positions_end) (extends me p l e) (nothing (Leading l)) (λ room. extends_leaves me p l e (ltb-true (len_of p) positions_end room) stops) (λ full. leads p l [])
+
+pub forward_leaves : (me : ℕ) (p : Part) (r : Role) (e : Entry) → IsSound p r → EndsNowhere p.conf (e ∷ []) → RowLeaves p (on_forward me p r e)
+forward_leaves me p Idle e sound stops = says p Idle [] sound
+forward_leaves me p (Preparing r) e sound stops = buffered_leaves p r (record { entry = e; is_own = false }) sound stops
+forward_leaves me p (Leading l) e sound stops = forward_by me p l e (pending p) stops
+
+pub session_down_leaves : (p : Part) (r : Role) (q : ℕ) → IsSound p r → RowLeaves p (session_down r q)
+session_down_leaves p Idle q sound = says p Idle [] sound
+session_down_leaves p (Preparing r) q sound = says p (Preparing r) [] sound
+session_down_leaves p (Leading l) q sound = leads p (without_synced l q) []

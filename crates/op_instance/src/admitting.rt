@@ -1,0 +1,52 @@
+//! What a message brings has to fit the log.
+ghost use Rattle.std.specs.Prelude.{◌≡◌, ◌∷◌, []};
+ghost use Rattle.op_protocol.specs.Parts.{has_stop, is_admitted, is_admitted_body};
+
+use op_plans::is_stop;
+use op_types::{Body, Entry, LAST_CONF, POSITIONS_END, Part};
+
+/// Whether some entry is a stop-sign.
+fn has_stop(entries: &[Entry]) -> bool
+    ensures { result ≡ has_stop entries.now }
+{
+    for entry in entries {
+        if is_stop(entry) {
+            return true;
+        }
+    }
+    false
+}
+
+/// Whether entries end within the positions, and are no stop-sign of the last configuration.
+fn is_admitted(part: &Part, at: u64, entries: &[Entry]) -> bool
+    ensures { result ≡ is_admitted part.now at entries.now }
+{
+    at as u128 + entries.len() as u128 <= POSITIONS_END as u128
+        && !(part.conf == LAST_CONF && has_stop(entries))
+}
+
+/// Whether an entry that is forwarded isn't a stop-sign of the last configuration.
+fn is_admitted_entry(part: &Part, entry: &Entry) -> bool
+    ensures { result ≡ is_admitted part.now 0 (entry.now ∷ []) }
+{
+    !(part.conf == LAST_CONF && is_stop(entry))
+}
+
+/// Whether what a message brings is admitted.
+pub(crate) fn is_admitted_body(part: &Part, body: &Body) -> bool
+    ensures { result ≡ is_admitted_body part.now body.now }
+{
+    match body {
+        Body::Promise(_, _, _, _, start, entries) => is_admitted(part, *start, entries.as_slice()),
+        Body::AcceptSync(_, start, entries) => is_admitted(part, *start, entries.as_slice()),
+        Body::Accept(_, at, entries) => is_admitted(part, *at, entries.as_slice()),
+        Body::Forward(entry) => is_admitted_entry(part, entry),
+        Body::HeartbeatRequest(_)
+        | Body::HeartbeatReply(_, _, _)
+        | Body::Prepare(_, _, _, _)
+        | Body::Accepted(_, _)
+        | Body::Decide(_, _)
+        | Body::PrepareReq
+        | Body::Refuse(_, _) => true,
+    }
+}
