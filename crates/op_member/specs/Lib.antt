@@ -1,0 +1,5 @@
+pub mod Answering
+pub mod Clients
+pub mod Failing
+pub mod Members
+pub mod Steps
