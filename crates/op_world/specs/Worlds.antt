@@ -1,122 +1,149 @@
--- A sole member and its disks in memory, as its world is.
-use Rattle.std.specs.Prelude.{◌≡◌, ℕ, List, [], ◌∷◌, length, map, Option}
+-- Nodes and their disks in memory, as their world is.
+use Rattle.std.specs.Prelude.{◌≡◌, ◌==◌, ℕ, ◌+◌, nat_eq, true, List, [], ◌∷◌, ◌++◌, map, All, Some, if◌then◌else◌}
+use Rattle.std.specs.Set.{is_member}
+use Rattle.op_types.specs.Ranges.{MembersInRange}
 use Rattle.op_types.specs.declared.durable.Durable.{Durable}
-use Rattle.op_types.specs.declared.answers.Refusal.{Refusal}
-use Rattle.op_types.specs.declared.events.What.{What}
-use Rattle.op_types.specs.declared.events.What.TheVariants as what
-use Rattle.op_types.specs.Ranges.{CommandInRange}
+use Rattle.op_types.specs.declared.durable.Part.{Part}
+use Rattle.op_types.specs.declared.events.Event.{Event}
+use Rattle.op_types.specs.declared.messages.Msg.{Msg}
 use Rattle.op_types.specs.declared.summary.Line.{Line}
-use Rattle.op_types.specs.declared.summary.Summary.{Summary}
+use Rattle.op_types.specs.declared.summary.Running.{Running}
+use Rattle.op_types.specs.declared.summary.Running.TheVariants as running
 use Rattle.op_memory.specs.MemDisks.{seen_of, known_disk}
 use Rattle.op_memory.specs.declared.disk.MemDisk.{MemDisk}
 use Rattle.op_protocol.specs.State.{State}
-use Rattle.op_protocol.specs.Rows.{refusal_of}
 use Rattle.op_store.specs.Stored.{IsStored}
 use Rattle.op_store.specs.Stores.{Represents, IsReady}
 use Rattle.op_store.specs.declared.store.Store.{Store}
-use Rattle.op_runs.specs.World as runs
-use Rattle.op_runs.specs.World.{World, Node, NodeStatus, Happening, done_event, world_by_status}
-use Rattle.op_runs.specs.Sole.{log_of}
-use Rattle.op_runs.specs.Summary.{node_line}
-use Rattle.op_sole.specs.SoleMember.{IsSoleDurable}
-use Rattle.op_world.specs.Members.{IsMember, state_of}
-use Rattle.op_world.specs.declared.member.Member.{Member}
+use Rattle.op_runs.specs.World.{World, Node, Sent, NodeStatus, Up, Down, Happening, Doing, Steps, Stops, Opens, Tells, Deed, first_world, run_of, world_by_status, node_at, with_node, sent_by, done_event}
+use Rattle.op_bounds.specs.Messages.{InputInRange}
+use Rattle.op_bounds.specs.Laws.{HappeningInRange, NodeInRange}
+use Rattle.op_member.specs.Members.{IsStateOf, IsSoundMember}
+use Rattle.op_world.specs.declared.deed.Deed as deed
+use Rattle.op_world.specs.declared.deed.Doing as doing
+use Rattle.op_world.specs.declared.deed.Doing.TheVariants as variant
+use Rattle.op_member.specs.declared.member.Member.{Member}
 use Rattle.op_world.specs.declared.node_state.NodeState.{NodeState}
 use Rattle.op_world.specs.declared.node_state.NodeState.TheVariants as node
+use Rattle.op_world.specs.declared.node_state.WorldNode.{WorldNode}
 
--- the node of a sole member: up, in some state, or down, where the bytes on its two disks are all that is left of it
-pub data SoleNode : Type 0 where
-  Up : State → SoleNode
-  Down : (first second : List ℕ) → SoleNode
-
--- a sole member's id, its node, and what its events gave to be reported
-pub record SoleWorld : Type 0 where
-  pub me : ℕ
-  pub node : SoleNode
+-- the members, their nodes, all messages that were sent, and what the events gave to be reported
+pub record Parts : Type 0 where
+  pub members : List ℕ
+  pub nodes : List WorldNode  -- rising by id
+  pub messages : List Sent
   pub lines : List Line
-
--- the node that the code keeps
-abbrev pub node_of_state : NodeState → SoleNode
-node_of_state (node.Up member store) = Up (state_of member)
-node_of_state (node.Down first second) = Down (seen_of first) (seen_of second)
-
--- ---- what the code keeps
-
--- an open store whose every image stands for what its member has stored
-pub record RunsAs (me : ℕ) (m : Member) (store : Store MemDisk) : Type 0 where
-  pub id : m.me ≡ me
-  pub member : IsMember m
-  pub stored : Represents known_disk m.durable store
-  pub ready : IsReady store
-
--- disks that store what a sole member stores
-pub record Stores (me : ℕ) (first second : List ℕ) : Type 0 where
-  pub durable : Durable
-  pub sole : IsSoleDurable me durable
-  pub stored : IsStored durable first second
-
--- the node of this member
-abbrev pub IsNodeOf : ℕ → NodeState → Type 0
-IsNodeOf me (node.Up member store) = RunsAs me member store
-IsNodeOf me (node.Down first second) = Stores me (seen_of first) (seen_of second)
 
 -- ---- the world that is shown
 
--- this is the node's state; of a node that is down the durable one is what the bytes stand for, and the rest is lost
-abbrev pub IsStateOf : SoleNode → State → Type 0
-IsStateOf (Up s) t = t ≡ s
-IsStateOf (Down first second) t = IsStored t.durable first second
+-- the node is in this state, and runs so; of one that is down the durable state is what the bytes stand for, and the rest is lost
+abbrev pub IsShown : NodeState → State → NodeStatus → Type 0
+IsShown (node.Up member store) s status = IsStateOf member s × (status ≡ Up)
+IsShown (node.Down first second) s status = IsStored s.durable (seen_of first) (seen_of second) × (status ≡ Down s.durable)
 
--- how the node runs, having stored this: one that is down stopped between two steps
-abbrev pub status_of : SoleNode → Durable → NodeStatus
-status_of (Up s) d = runs.Up
-status_of (Down first second) d = runs.Down d
+-- the node is this one
+pub record ShowsNode (n : WorldNode) (x : Node) : Type 0 where
+  pub pid : x.pid ≡ n.pid
+  pub state : IsShown n.state x.state x.status
 
--- the world of the sole member, where this is its node's state
-abbrev pub world_of : SoleWorld → State → World
-world_of w s = record { nodes = record { pid = w.me; state = s; standing = status_of w.node s.durable } ∷ []; messages = []; lines = w.lines }
+-- the nodes are these, in order
+abbrev pub ShowNodes : List WorldNode → List Node → Type 0
+ShowNodes [] [] = Unit {0}
+ShowNodes [] (x ∷ xs) = ⊥
+ShowNodes (n ∷ nodes) [] = ⊥
+ShowNodes (n ∷ nodes) (x ∷ xs) = ShowsNode n x × ShowNodes nodes xs
 
--- the sole member's world is this one
-pub record Shows (w : SoleWorld) (x : World) : Type 0 where
-  pub state : State
-  pub here : IsStateOf w.node state
-  pub is : x ≡ world_of w state
+-- the world is this one
+pub record Shows (w : Parts) (x : World) : Type 0 where
+  pub nodes : ShowNodes w.nodes x.nodes
+  pub messages : x.messages ≡ w.messages
+  pub lines : x.lines ≡ w.lines
+
+-- ---- what the code keeps
+
+-- it has a part: no member leaves its configuration yet
+abbrev pub HasPart : Durable → Type 0
+HasPart d = (p : Part) × (d.part ≡ Some p)
+
+-- an open store whose every image stands for what its member has stored
+pub record RunsAs (pid : ℕ) (m : Member) (store : Store MemDisk) : Type 0 where
+  pub me : m.me ≡ pid
+  pub sound : IsSoundMember m
+  pub part : HasPart m.durable
+  pub stored : Represents known_disk m.durable store
+  pub ready : IsReady store
+
+-- disks that store a part
+abbrev pub StoreAPart : List ℕ → List ℕ → Type 0
+StoreAPart first second = (d : Durable) × IsStored d first second × HasPart d
+
+-- a node that is up runs so, and one that is down stores a part
+abbrev pub IsKept : ℕ → NodeState → Type 0
+IsKept pid (node.Up member store) = RunsAs pid member store
+IsKept pid (node.Down first second) = StoreAPart (seen_of first) (seen_of second)
+
+-- one of these members has a node for each, and shows the world of some run of them
+pub record IsWorld (w : Parts) : Type 0 where
+  pub range : MembersInRange w.members
+  pub pids : map (λ n. n.pid) w.nodes ≡ w.members
+  pub kept : All (λ n. IsKept n.pid n.state) w.nodes
+  pub happenings : List Happening
+  pub happened : All HappeningInRange happenings
+  pub shows : Shows w (run_of (first_world w.members) happenings)
 
 -- ---- events
 
--- a world after something happened at its first node
-abbrev pub world_at_first : World → List Node → Happening → World
-world_at_first w [] h = w
-world_at_first w (n ∷ nodes) h = world_by_status n.standing h w n
+-- how a node runs, as it is reported
+abbrev pub running_of_state : NodeState → Running
+running_of_state (node.Up member store) = running.Up
+running_of_state (node.Down first second) = running.Down
 
--- a world after this, said in a line, was done at its first node
-abbrev pub world_doing : World → What → ℕ → World
-world_doing w x line = world_at_first w w.nodes (done_event (record { line = line; what = x }))
+-- how many nodes stand before the one of this id
+abbrev pub place_of : List WorldNode → ℕ → ℕ
+place_of [] pid = 0
+place_of (n ∷ nodes) pid = if n.pid == pid then 0 else 1 + place_of nodes pid
 
--- a world after an event of the sole member is the pure world after it
-abbrev pub Does : SoleWorld → What → ℕ → SoleWorld → Type 0
-Does w x line new = (old : World) → Shows w old → Shows new (world_doing old x line)
+-- ---- what is done at a node
 
--- what is proposed is in range
-abbrev pub WhatInRange : What → Type 0
-WhatInRange (what.Tick p) = Unit {0}
-WhatInRange (what.Command p c) = CommandInRange c
-WhatInRange (what.Crash p) = Unit {0}
-WhatInRange (what.Start p) = Unit {0}
+-- what the code does, as the world has it
+abbrev pub doing_of : doing.Doing → Doing
+doing_of (variant.Steps x) = Steps x
+doing_of variant.Stops = Stops
+doing_of variant.Opens = Opens
+doing_of variant.Tells = Tells
 
--- the node is down
-abbrev pub IsDown : SoleNode → Type 0
-IsDown (Up s) = ⊥
-IsDown (Down first second) = Unit {0}
+-- the same, with its node
+abbrev pub deed_shown : deed.Deed → Deed
+deed_shown d = record { pid = d.pid; doing = doing_of d.doing }
 
--- the node is up, and this is why it refuses a command
-abbrev pub RefusesBy : Option Refusal → SoleNode → Type 0
-RefusesBy r (Up s) = refusal_of s.volatile s.durable.part ≡ r
-RefusesBy r (Down first second) = ⊥
+-- what a world becomes by what is done at one of its nodes: this node takes its place, and these messages and lines come
+pub record NodeDone (x : Node) (d : Doing) (line : ℕ) (y : Node) (sends : List (ℕ × Msg)) (told : List Line) : Type 0 where
+  pub pid : y.pid ≡ x.pid
+  pub world : (w : World) (e : Event) → e.line ≡ line → node_at w.nodes x.pid ≡ Some x → world_by_status x.status d (done_event e) w x
+      ≡ record { nodes = with_node w.nodes y; messages = w.messages ++ sent_by x.pid sends; lines = w.lines ++ told }
 
--- ---- the report
+-- what is done at a node: it shows the node after it, with these messages and lines
+pub record IsDoneAt (pid : ℕ) (old : NodeState) (d : Doing) (line : ℕ) (new : NodeState) (sends : List (ℕ × Msg)) (told : List Line) : Type 0 where
+  pub after : (x : Node) → x.pid ≡ pid → IsShown old x.state x.status → (y : Node) × IsShown new y.state y.status × NodeDone x d line y sends told
+  pub kept : IsKept pid new
 
--- what is reported of a sole member's world
-abbrev pub sole_summary : List ℕ → World → Summary
-sole_summary members w =
-    record { lines = w.lines; lists = record { conf = 1; members = members; entries = log_of w.nodes } ∷ []; nodes = map node_line w.nodes; sent = length w.messages }
+-- some node that is shown is in range
+pub record IsInRange (members : List ℕ) (pid : ℕ) (state : NodeState) : Type 0 where
+  pub members_are : MembersInRange members
+  pub kept : IsKept pid state
+  pub node : Node
+  pub here : node.pid ≡ pid
+  pub shown : IsShown state node.state node.status
+  pub range : NodeInRange members node
+
+-- what is done begins with something in range
+abbrev pub DoingInRange : List ℕ → Doing → Type 0
+DoingInRange members (Steps x) = InputInRange members x
+DoingInRange members Stops = Unit {0}
+DoingInRange members Opens = Unit {0}
+DoingInRange members Tells = Unit {0}
+
+-- its node is a member's, and what it does begins with something in range
+pub record IsPossibleDeed (w : Parts) (d : deed.Deed) : Type 0 where
+  pub pid : is_member nat_eq w.members d.pid ≡ true
+  pub doing : DoingInRange w.members (doing_of d.doing)

@@ -1,25 +1,28 @@
-//! The node of a sole member, which has its disks in memory: up or down.
-ghost use Rattle.std.specs.Prelude.{◌≡◌, [], IfOk, IsTrue, ◌↔◌};
+//! A node, which has its disks in memory: up or down.
+ghost use Rattle.std.specs.Prelude.{◌≡◌, ◌≤◌, [], length, IfOk};
 ghost use Rattle.op_types.specs.declared.durable.Durable.{Durable as SomeDurable};
-ghost use Rattle.op_types.specs.Ranges.{IsPid};
 ghost use Rattle.op_outside.specs.Disks.{MayLeave};
 ghost use Rattle.op_memory.specs.MemDisks.{seen_of, known_disk};
-ghost use Rattle.op_protocol.specs.State.{State};
 ghost use Rattle.op_store.specs.Stored.{IsStored};
 ghost use Rattle.op_store.specs.Stores.{Represents, IsReady};
 ghost use Rattle.op_store.specs.Openings.{Opened};
 ghost use Rattle.op_record.specs.Ranges.{DurableInRange};
-ghost use Rattle.op_runs.specs.Summary.{running_of};
-ghost use Rattle.op_world.specs.Worlds.{IsNodeOf, IsDown, IsStateOf, node_of_state, status_of};
+ghost use Rattle.op_world.specs.Worlds.{running_of_state, place_of};
 
-use crate::member::Member;
+use op_member::Member;
 use op_memory::MemDisk;
-use op_sole::first_durable;
 use op_store::Store;
 use op_types::{Durable, NoMemory, Pid, Running};
 use std::alloc::Global;
 
-/// The node of a sole member.
+/// A node of a world.
+#[derive(Drop)]
+pub struct WorldNode {
+    pub pid: Pid,
+    pub state: NodeState,
+}
+
+/// How a node is.
 #[derive(Drop)]
 pub enum NodeState {
     /// It is up, and has its disks open.
@@ -31,37 +34,11 @@ pub enum NodeState {
 impl NodeState {
     /// How it runs.
     pub fn running(&self) -> Running
-        ensures { (d : SomeDurable) → result ≡ running_of (status_of (node_of_state self.now) d) }
+        ensures { result ≡ running_of_state self.now }
     {
         match self {
             NodeState::Up(_, _) => Running::Up,
             NodeState::Down(_, _) => Running::Down,
-        }
-    }
-
-    /// Whether it is down.
-    pub fn is_down(&self) -> bool
-        ensures { IsTrue result ↔ IsDown (node_of_state self.now) }
-    {
-        match self {
-            NodeState::Up(_, _) => false,
-            NodeState::Down(_, _) => true,
-        }
-    }
-
-    /// What it has stored: while it is down, its disks are read.
-    pub fn into_durable(self, alloc: Global, me: Pid) -> Result<Durable, NoMemory>
-        requires id { IsPid me }
-        requires node { IsNodeOf me self }
-        ensures { IfOk result (λ d. (s : State) → IsStateOf (node_of_state self) s → d ≡ s.durable) }
-    {
-        match self {
-            NodeState::Up(member, _store) => Ok(member.durable),
-            NodeState::Down(first, second) => {
-                let fresh = first_durable(alloc, me)?;
-                let (_store, durable, _) = opened(alloc, fresh, first, second)?;
-                Ok(durable)
-            }
         }
     }
 }
@@ -118,4 +95,21 @@ pub fn forgetting(store: Store<MemDisk>) -> Result<Store<MemDisk>, NoMemory>
     let (detached, first, second) = store.into_parts();
     let first = first.forget()?;
     Ok(Store::from_parts(detached, first, second))
+}
+
+/// The nodes' place of an id: how many nodes stand before it, or how many there are where none has it.
+pub fn place_of(nodes: &[WorldNode], pid: Pid) -> usize
+    ensures place { result ≡ place_of nodes.now pid }
+    ensures most { result ≤ length nodes.now }
+{
+    match nodes {
+        [] => 0,
+        [first, rest @ ..] => {
+            if first.pid == pid {
+                0
+            } else {
+                1 + place_of(rest, pid)
+            }
+        }
+    }
 }
