@@ -1,0 +1,142 @@
+-- Messages between servers as bytes.
+use Rattle.std.specs.Prelude.{◌≡◌, ◌==◌, if◌then◌else◌, ℕ, Bool, List, [], Ok}
+use Rattle.std.specs.Int.{w8, w32, w64}
+use Rattle.op_types.specs.Limits.{greatest_pid, greatest_number, last_conf, positions_end}
+use Rattle.op_fields.specs.Form.{Form, Options, number, pair, fitted, option, no_option}
+use Rattle.op_types.specs.declared.ballot.Ballot.{Ballot}
+use Rattle.op_types.specs.declared.log.Entry.{Entry}
+use Rattle.op_types.specs.declared.messages.Body.{Body}
+use Rattle.op_types.specs.declared.messages.Body.TheVariants as variant
+use Rattle.op_types.specs.declared.messages.Msg.{Msg}
+use Rattle.op_entry.specs.Forms.{ballot, entry, entries}
+use Rattle.op_msg.specs.Ranges.{BodyInRange, MsgInRange, AddressedInRange}
+
+-- ---- fields
+
+-- a heartbeat round
+abbrev pub round : Form ℕ
+round = number w64 0 greatest_number
+
+-- a position, or the length of a log
+abbrev pub place : Form ℕ
+place = number w64 0 positions_end
+
+-- 1 for yes, 0 for no
+abbrev pub flag : Form Bool
+flag = fitted (λ n. n == 1) (λ b. if b then 1 else 0) (λ b. Unit {0}) (number w8 0 1)
+
+-- no bytes
+abbrev pub nothing : Form (Unit {0})
+nothing = record { text = λ x. []; fits = λ x. Unit {0}; read = λ bytes at. Ok (tt, at) }
+
+-- a server's id
+abbrev pub pid : Form ℕ
+pid = number w32 1 greatest_pid
+
+-- a configuration's number, or 0
+abbrev pub conf : Form ℕ
+conf = number w32 0 last_conf
+
+-- ---- the fields of each kind
+
+-- a round, the replier's own ballot, and whether it heard a majority
+abbrev pub heartbeat_reply : Form (ℕ × (Ballot × Bool))
+heartbeat_reply = pair round (λ _. pair ballot (λ _. flag))
+
+-- the leader's ballot, and of its log the accepted round, the length and how much is decided
+abbrev pub prepare : Form (Ballot × (Ballot × (ℕ × ℕ)))
+prepare = pair ballot (λ _. pair ballot (λ _. pair place (λ _. place)))
+
+-- a log's length, how much is decided, a position and the entries from there on
+abbrev pub told : Form (ℕ × (ℕ × (ℕ × List Entry)))
+told = pair place (λ _. pair place (λ _. pair place (λ _. entries)))
+
+-- the promised ballot, and of the sender's log the accepted round and the rest
+abbrev pub promise : Form (Ballot × (Ballot × (ℕ × (ℕ × (ℕ × List Entry)))))
+promise = pair ballot (λ _. pair ballot (λ _. told))
+
+-- the leader's ballot, a position and the entries from there on
+abbrev pub entries_from : Form (Ballot × (ℕ × List Entry))
+entries_from = pair ballot (λ _. pair place (λ _. entries))
+
+-- a ballot and a length
+abbrev pub length_in : Form (Ballot × ℕ)
+length_in = pair ballot (λ _. place)
+
+-- the ballot that is refused, and the promised one
+abbrev pub refuse : Form (Ballot × Ballot)
+refuse = pair ballot (λ _. ballot)
+
+-- ---- a message
+
+-- the tag of what a message says
+abbrev pub body_tag : Body → ℕ
+body_tag (variant.HeartbeatRequest r) = 1
+body_tag (variant.HeartbeatReply r own heard) = 2
+body_tag (variant.Prepare n na nl nd) = 3
+body_tag (variant.Promise n fa fl fd s es) = 4
+body_tag (variant.AcceptSync n x es) = 5
+body_tag (variant.Accept n a es) = 6
+body_tag (variant.Accepted n x) = 7
+body_tag (variant.Decide n x) = 8
+body_tag variant.PrepareReq = 9
+body_tag (variant.Refuse n b) = 10
+body_tag (variant.Forward e) = 11
+
+-- its fields
+abbrev pub body_text : Body → List ℕ
+body_text (variant.HeartbeatRequest r) = round.text r
+body_text (variant.HeartbeatReply r own heard) = heartbeat_reply.text (r, (own, heard))
+body_text (variant.Prepare n na nl nd) = prepare.text (n, (na, (nl, nd)))
+body_text (variant.Promise n fa fl fd s es) = promise.text (n, (fa, (fl, (fd, (s, es)))))
+body_text (variant.AcceptSync n x es) = entries_from.text (n, (x, es))
+body_text (variant.Accept n a es) = entries_from.text (n, (a, es))
+body_text (variant.Accepted n x) = length_in.text (n, x)
+body_text (variant.Decide n x) = length_in.text (n, x)
+body_text variant.PrepareReq = nothing.text tt
+body_text (variant.Refuse n b) = refuse.text (n, b)
+body_text (variant.Forward e) = entry.text e
+
+-- what is read where the tag is this one
+abbrev pub body_options : Options Body
+body_options =
+    option 1 round (λ r. variant.HeartbeatRequest r)
+    (option 2 heartbeat_reply (λ x. variant.HeartbeatReply x.0 x.1.0 x.1.1)
+    (option 3 prepare (λ x. variant.Prepare x.0 x.1.0 x.1.1.0 x.1.1.1)
+    (option 4 promise (λ x. variant.Promise x.0 x.1.0 x.1.1.0 x.1.1.1.0 x.1.1.1.1.0 x.1.1.1.1.1)
+    (option 5 entries_from (λ x. variant.AcceptSync x.0 x.1.0 x.1.1)
+    (option 6 entries_from (λ x. variant.Accept x.0 x.1.0 x.1.1)
+    (option 7 length_in (λ x. variant.Accepted x.0 x.1)
+    (option 8 length_in (λ x. variant.Decide x.0 x.1)
+    (option 9 nothing (λ x. variant.PrepareReq)
+    (option 10 refuse (λ x. variant.Refuse x.0 x.1)
+    (option 11 entry (λ e. variant.Forward e)
+    no_option))))))))))
+
+-- what a message with this tag says
+abbrev pub body : ℕ → Form Body
+body tag = record {
+  text = body_text;
+  fits = λ b. BodyInRange b × (body_tag b ≡ tag);
+  read = body_options tag;
+}
+
+-- a tag
+abbrev pub kind : Form ℕ
+kind = number w8 1 11
+
+-- a tag, a configuration and what the tag says
+abbrev pub msg_parts : Form (ℕ × (ℕ × Body))
+msg_parts = pair kind (λ tag. pair conf (λ _. body tag))
+
+-- a message
+abbrev pub msg : Form Msg
+msg = fitted (λ x. record { conf = x.1.0; body = x.1.1 }) (λ m. (body_tag m.body, (m.conf, m.body))) MsgInRange msg_parts
+
+-- a sender, an addressee and a message
+abbrev pub addressed_parts : Form (ℕ × (ℕ × Msg))
+addressed_parts = pair pid (λ _. pair pid (λ _. msg))
+
+-- the same as one triple: all that a frame between servers holds
+abbrev pub addressed : Form (ℕ × ℕ × Msg)
+addressed = fitted (λ x. (x.0, x.1.0, x.1.1)) (λ y. (y.0, (y.1, y.2))) AddressedInRange addressed_parts

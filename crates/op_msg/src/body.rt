@@ -1,0 +1,117 @@
+ghost use Rattle.std.specs.Prelude.{◌≡◌, ◌++◌, OnOk, OnErr};
+ghost use Rattle.op_fields.specs.Prefixes.{KeepsPrefix};
+ghost use Rattle.op_fields.specs.Taken.{Gives};
+ghost use Rattle.op_msg.specs.Ranges.{BodyInRange};
+ghost use Rattle.op_msg.specs.Forms.{body_tag, body_text, body_options};
+
+use crate::accepting::{
+    accept_at, accept_sync_at, accepted_at, decide_at, put_entries_from, put_length_in,
+};
+use crate::heartbeats::{heartbeat_reply_at, heartbeat_request_at, put_heartbeat_reply};
+use crate::preparing::{prepare_at, promise_at, put_prepare, put_promise, put_refuse, refuse_at};
+use op_entry::{entry_at, put as put_entry};
+use op_fields::{NoMemory, TakeFail, put_u64};
+use op_types::Body;
+use std::alloc::Global;
+
+/// The tags of messages, from the least to the greatest.
+pub const HEARTBEAT_REQUEST: u8 = 1;
+
+const HEARTBEAT_REPLY: u8 = 2;
+
+const PREPARE: u8 = 3;
+
+const PROMISE: u8 = 4;
+
+const ACCEPT_SYNC: u8 = 5;
+
+const ACCEPT: u8 = 6;
+
+const ACCEPTED: u8 = 7;
+
+const DECIDE: u8 = 8;
+
+const PREPARE_REQ: u8 = 9;
+
+const REFUSE: u8 = 10;
+
+pub const FORWARD: u8 = 11;
+
+/// The tag of what a message says.
+pub fn tag_of(body: &Body) -> u8
+    ensures { result ≡ body_tag body.now }
+{
+    match body {
+        Body::HeartbeatRequest(_) => HEARTBEAT_REQUEST,
+        Body::HeartbeatReply(_, _, _) => HEARTBEAT_REPLY,
+        Body::Prepare(_, _, _, _) => PREPARE,
+        Body::Promise(_, _, _, _, _, _) => PROMISE,
+        Body::AcceptSync(_, _, _) => ACCEPT_SYNC,
+        Body::Accept(_, _, _) => ACCEPT,
+        Body::Accepted(_, _) => ACCEPTED,
+        Body::Decide(_, _) => DECIDE,
+        Body::PrepareReq => PREPARE_REQ,
+        Body::Refuse(_, _) => REFUSE,
+        Body::Forward(_) => FORWARD,
+    }
+}
+
+/// Appends what a message says, without its tag. Without memory a part of it may be appended.
+pub fn put_body(out: &mut Vec<u8>, body: &Body) -> Result<(), NoMemory>
+    requires { BodyInRange body.now }
+    ensures ok { OnOk result (out.new.items ≡ out.old.items ++ body_text body.now) }
+    ensures err { OnErr result (KeepsPrefix out.old.items out.new.items) }
+{
+    match body {
+        Body::HeartbeatRequest(number) => put_u64(out, *number),
+        Body::HeartbeatReply(number, own, heard) => put_heartbeat_reply(out, *number, *own, *heard),
+        Body::Prepare(ballot, accepted, len, decided) => {
+            put_prepare(out, *ballot, *accepted, *len, *decided)
+        }
+        Body::Promise(ballot, accepted, len, decided, start, entries) => {
+            put_promise(
+                out,
+                *ballot,
+                *accepted,
+                *len,
+                *decided,
+                *start,
+                entries.as_slice(),
+            )
+        }
+        Body::AcceptSync(ballot, start, entries) => {
+            put_entries_from(out, *ballot, *start, entries.as_slice())
+        }
+        Body::Accept(ballot, start, entries) => {
+            put_entries_from(out, *ballot, *start, entries.as_slice())
+        }
+        Body::Accepted(ballot, len) => put_length_in(out, *ballot, *len),
+        Body::Decide(ballot, len) => put_length_in(out, *ballot, *len),
+        Body::PrepareReq => Ok(()),
+        Body::Refuse(refused, promised) => put_refuse(out, *refused, *promised),
+        Body::Forward(entry) => put_entry(out, entry),
+    }
+}
+
+/// What a message with this tag says, at a byte offset, and the offset after it.
+pub fn body_at(alloc: Global, bytes: &[u8], at: usize, tag: u8) -> Result<(Body, usize), TakeFail>
+    ensures { Gives result (body_options tag bytes.now at) }
+{
+    match tag {
+        HEARTBEAT_REQUEST => heartbeat_request_at(bytes, at),
+        HEARTBEAT_REPLY => heartbeat_reply_at(bytes, at),
+        PREPARE => prepare_at(bytes, at),
+        PROMISE => promise_at(alloc, bytes, at),
+        ACCEPT_SYNC => accept_sync_at(alloc, bytes, at),
+        ACCEPT => accept_at(alloc, bytes, at),
+        ACCEPTED => accepted_at(bytes, at),
+        DECIDE => decide_at(bytes, at),
+        PREPARE_REQ => Ok((Body::PrepareReq, at)),
+        REFUSE => refuse_at(bytes, at),
+        FORWARD => {
+            let (entry, at) = entry_at(alloc, bytes, at)?;
+            Ok((Body::Forward(entry), at))
+        }
+        _ => Err(TakeFail::Bad { at }),
+    }
+}
