@@ -1,5 +1,7 @@
--- What is said in words has a name, which comes first, and a put's value stands last.
-use Rattle.std.proofs.Common.{◌≡◌, ℕ, List, [], ◌∷◌, get_or, refl, sym, ap, ◌∙◌, map}
+-- What is said in words has a name, which comes first; a put's value stands last, and a session's servers differ.
+use Rattle.std.proofs.Common.{◌≡◌, ℕ, List, [], ◌∷◌, get_or, refl, sym, ap, ◌∙◌, map, arith}
+use Rattle.std.specs.Fmt.{decimal}
+use Rattle.std.proofs.lemmas.Fmt.{decimal_injective}
 use Rattle.std.specs.Prelude.{codes}
 use Rattle.std.proofs.lemmas.Bool.{false≢true}
 use Rattle.std.proofs.lemmas.Slice.Eq.{bytes_eq-Decides}
@@ -7,10 +9,10 @@ use Rattle.op_types.specs.declared.log.Op.{Op}
 use Rattle.op_types.specs.declared.log.Op.TheVariants.{Put}
 use Rattle.op_types.specs.declared.events.What.{What}
 use Rattle.op_types.specs.declared.events.What.TheVariants as what
-use Rattle.op_types.specs.Ranges.{IsValue, OpInRange}
+use Rattle.op_types.specs.Ranges.{IsPid, IsValue, OpInRange}
 use Rattle.op_sched.specs.declared.reading.forms.Form.{Form}
 use Rattle.op_sched.specs.declared.reading.forms.Form.TheVariants as form
-use Rattle.op_sched.specs.Forms.{form_name}
+use Rattle.op_sched.specs.Forms.{form_name, ArePeers}
 use Rattle.op_sched.specs.Percent.{IsEncoded}
 use Rattle.op_sched.specs.Grammar.{AreWordsOf, OpIsOfBytes, op_words, what_words}
 use Rattle.op_sched.proofs.WordLists.{word_at}
@@ -27,40 +29,38 @@ abbrev pub after_first : List (List ℕ) → List (List ℕ)
 after_first [] = []
 after_first (a ∷ more) = more
 
+-- the form of what happens
+abbrev pub form_by : What → Form
+form_by (what.Tick p) = form.Tick
+form_by (what.Command p c) = form.Put
+form_by (what.Deliver i) = form.Deliver
+form_by (what.Up p q) = form.Up
+form_by (what.Down p q) = form.Drop
+form_by (what.Crash p) = form.Crash
+form_by (what.Start p) = form.Start
+form_by (what.Ballots p) = form.Ballots
+
 -- the name of what happens
 abbrev pub name_of : What → List ℕ
-name_of (what.Tick p) = codes "tick"
-name_of (what.Command p c) = codes "put"
-name_of (what.Crash p) = codes "crash"
-name_of (what.Start p) = codes "start"
+name_of w = form_name (form_by w)
 
 named_op : (p client seq : ℕ) (op : Op) → first (op_words p client seq op) ≡ codes "put"
 named_op p client seq (Put k v) = refl
 
 -- its words begin with the name
 pub named : (w : What) → first (what_words w) ≡ name_of w
-named (what.Tick p) = refl
 named (what.Command p c) = named_op p c.client c.seq c.op
+named (what.Tick p) = refl
+named (what.Deliver i) = refl
+named (what.Up p q) = refl
+named (what.Down p q) = refl
 named (what.Crash p) = refl
 named (what.Start p) = refl
-
--- the form of what happens
-form_by : What → Form
-form_by (what.Tick p) = form.Tick
-form_by (what.Command p c) = form.Put
-form_by (what.Crash p) = form.Crash
-form_by (what.Start p) = form.Start
-
-form_named : (w : What) → form_name (form_by w) ≡ name_of w
-unfolding form_by
-form_named (what.Tick p) = refl
-form_named (what.Command p c) = refl
-form_named (what.Crash p) = refl
-form_named (what.Start p) = refl
+named (what.Ballots p) = refl
 
 -- a word that names no form begins no event's line
 pub no_event : (name : List ℕ) (words : List (List ℕ)) → ((f : Form) → name ≡ form_name f → ⊥) → (w : What) → AreWordsOf (name ∷ words) w → ⊥
-no_event name words none w h = none (form_by w) (ap first h.written ∙ named w ∙ sym (form_named w))
+no_event name words none w h = none (form_by w) (ap first h.written ∙ named w)
 
 -- ---- a put
 
@@ -75,3 +75,30 @@ op_value now words p client seq (Put k v) range bytes e = λ d. (v, (range.1, (b
 pub put_value : {A : Type 0} (now : A → List ℕ) (words : List A) (w : What) → AreWordsOf (codes "put" ∷ map now words) w → HasValue now words
 put_value now words (what.Command p c) h = op_value now words p c.client c.seq c.op h.in_range.1.op h.of_bytes h.written
 put_value now words w h = absurd (false≢true ((bytes_eq-Decides (codes "put") (name_of w)).1 (ap first h.written ∙ named w)))
+
+-- ---- a session
+
+one_id : (p q : ℕ) → IsPid p → IsPid q → decimal p ≡ decimal q → p ≡ q
+one_id p q hp hq e = decimal_injective p q (omega (arith, hp.1)) (omega (arith, hq.1)) e
+
+-- words that name one server twice name no two that differ
+pub no_peers : {A : Type 0} (now : A → List ℕ) (words : List A) (d0 d1 : A) (p q : ℕ) → IsPid p → IsPid q → p ≡ q → now (get_or words 0 d0) ≡ decimal p → now (get_or words 1 d1) ≡ decimal q
+    → (x : ℕ × ℕ) → ArePeers x.0 x.1 × (map now words ≡ decimal x.0 ∷ decimal x.1 ∷ []) → ⊥
+no_peers now words d0 d1 p q hp hq same here there x (peers, e) =
+    let one : p ≡ x.0 = one_id p x.0 hp peers.0 (sym here ∙ word_at now words 0 d0 _ e) in
+    let other : q ≡ x.1 = one_id q x.1 hq peers.1 (sym there ∙ word_at now words 1 d1 _ e) in
+    peers.2 (sym one ∙ same ∙ other)
+
+-- the words name no two servers that differ
+abbrev NameNoPeers : List (List ℕ) → Type 0
+NameNoPeers words = (x : ℕ × ℕ) → ArePeers x.0 x.1 × (words ≡ decimal x.0 ∷ decimal x.1 ∷ []) → ⊥
+
+-- such words begin no session
+pub no_up : (words : List (List ℕ)) → NameNoPeers words → (w : What) → AreWordsOf (codes "up" ∷ words) w → ⊥
+no_up words none (what.Up p q) h = none (p, q) ((h.in_range.0, h.in_range.1, h.between), ap after_first h.written)
+no_up words none w h = absurd (false≢true ((bytes_eq-Decides (codes "up") (name_of w)).1 (ap first h.written ∙ named w)))
+
+-- and end none
+pub no_down : (words : List (List ℕ)) → NameNoPeers words → (w : What) → AreWordsOf (codes "drop" ∷ words) w → ⊥
+no_down words none (what.Down p q) h = none (p, q) ((h.in_range.0, h.in_range.1, h.between), ap after_first h.written)
+no_down words none w h = absurd (false≢true ((bytes_eq-Decides (codes "drop") (name_of w)).1 (ap first h.written ∙ named w)))

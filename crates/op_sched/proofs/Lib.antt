@@ -6,3 +6,4 @@ pub mod WordLists
 pub mod Decoding
 pub mod FoundAlike
 pub mod EventWords
+pub mod RisingIds

@@ -1,5 +1,5 @@
 -- A text has one reading, which is in range.
-use Rattle.std.proofs.Common.{◌≡◌, ℕ, ◌+◌, List, [], ◌∷◌, get_or, map, length, refl, sym, ap, ◌∙◌, arith, inl, inr}
+use Rattle.std.proofs.Common.{◌≡◌, ℕ, ◌+◌, List, [], ◌∷◌, map, length, All, refl, sym, ap, ◌∙◌, arith, inl, inr}
 use Rattle.std.specs.Fmt.{decimal}
 use Rattle.std.proofs.lemmas.Bool.{false≢true}
 use Rattle.std.proofs.lemmas.Fmt.{decimal_injective}
@@ -13,8 +13,8 @@ use Rattle.op_types.specs.declared.events.What.TheVariants as what
 use Rattle.op_types.specs.declared.events.Event.{Event}
 use Rattle.op_sched.specs.declared.schedule.Schedule.{Schedule}
 use Rattle.op_sched.proofs.UnambiguousEncoding.{one_encoding_of}
-use Rattle.op_types.specs.Ranges.{IsPid, IsNumber, CommandInRange, WhatInRange}
-use Rattle.op_sched.specs.Grammar.{IsHeader, IsOneMember, IsOfBytes, OpIsOfBytes, AreInRange, AreOfBytes, AreEvents, AreLines, IsSchedule, IsFirstBadEvent, IsFirstBadOf, IsFirstBadLine, op_words, what_words, lines_of, numbered_lines}
+use Rattle.op_types.specs.Ranges.{IsPid, IsNumber, AreRising, MembersInRange, CommandInRange, WhatInRange}
+use Rattle.op_sched.specs.Grammar.{IsHeader, IsOfBytes, IsBetweenTwo, OpIsOfBytes, AreInRange, AreOfBytes, AreBetweenTwo, AreEvents, AreLines, IsSchedule, IsFirstBadEvent, IsFirstBadOf, IsFirstBadLine, AreWordsOf, op_words, what_words, words_of, lines_of, numbered_lines}
 use Rattle.op_sched.proofs.EventWords.{first, after_first, name_of, named}
 
 no_bad_event : (n : ℕ) (lines : List (ℕ × List ℕ)) (events : List Event) → AreEvents lines events → IsFirstBadEvent lines n → ⊥
@@ -60,6 +60,10 @@ one_what : (w v : What) → WhatInRange w → WhatInRange v → IsOfBytes w → 
 one_what (what.Tick p) (what.Tick q) iw iv bw bv e = ap what.Tick (one_pid p q iw iv cc)
 one_what (what.Crash p) (what.Crash q) iw iv bw bv e = ap what.Crash (one_pid p q iw iv cc)
 one_what (what.Start p) (what.Start q) iw iv bw bv e = ap what.Start (one_pid p q iw iv cc)
+one_what (what.Ballots p) (what.Ballots q) iw iv bw bv e = ap what.Ballots (one_pid p q iw iv cc)
+one_what (what.Deliver i) (what.Deliver j) iw iv bw bv e = ap what.Deliver (decimal_injective i j iw iv cc)
+one_what (what.Up p q) (what.Up r s) iw iv bw bv e = cc (one_pid p r iw.0 iv.0 cc, one_pid q s iw.1 iv.1 cc)
+one_what (what.Down p q) (what.Down r s) iw iv bw bv e = cc (one_pid p r iw.0 iv.0 cc, one_pid q s iw.1 iv.1 cc)
 one_what (what.Command p c) (what.Command q d) iw iv bw bv e = one_command p q c d iw.0 iv.0 iw.1 iv.1 bw bv e
 one_what w v iw iv bw bv e = absurd (false≢true ((bytes_eq-Decides (name_of w) (name_of v)).1 (one_name w v e)))
 
@@ -78,13 +82,17 @@ one_events (line ∷ lines) (e ∷ es) (f ∷ fs) p q =
     let rest = one_events lines es fs p.2 q.2 in
     cc (here, rest)
 
-one_list : (ps qs : List ℕ) → IsOneMember ps → IsOneMember qs → map decimal ps ≡ map decimal qs → ps ≡ qs
-one_list ps qs (a, ea, ia) (b, eb, ib) e =
-    let words : decimal a ∷ [] ≡ decimal b ∷ [] = ap (map decimal) (sym ea) ∙ e ∙ ap (map decimal) eb in
-    ea ∙ ap (λ (x : ℕ). x ∷ []) (one_pid a b ia ib cc) ∙ sym eb
+one_list : (low : ℕ) (ps qs : List ℕ) → AreRising low ps → AreRising low qs → map decimal ps ≡ map decimal qs → ps ≡ qs
+one_list low [] [] hp hq e = refl
+one_list low [] (q ∷ qs) hp hq e = absurd (let none : [] ≡ decimal q ∷ map decimal qs = e in cc)
+one_list low (p ∷ ps) [] hp hq e = absurd (let none : decimal p ∷ map decimal ps ≡ [] = e in cc)
+one_list low (p ∷ ps) (q ∷ qs) hp hq e =
+    let here : p ≡ q = decimal_injective p q (omega (arith, hp.1)) (omega (arith, hq.1)) cc in
+    let rest = one_list q ps qs (rw here at hp.2) hq.2 cc in
+    cc (here, rest)
 
 one_header : (line : List ℕ) (ps qs : List ℕ) → IsHeader line ps → IsHeader line qs → ps ≡ qs
-one_header line ps qs p q = one_list ps qs p.in_range q.in_range (ap after_first (sym p.written ∙ q.written))
+one_header line ps qs p q = one_list 0 ps qs p.in_range.rising q.in_range.rising (ap after_first (sym p.written ∙ q.written))
 
 abbrev schedule : List ℕ → List ℕ → List Event → Schedule
 schedule members spares events = record { members = members; spares = spares; events = events }
@@ -122,37 +130,36 @@ one_bad_line text m n p q = one_bad_of (length (lines_of text) + 1) (numbered_li
 
 -- ---- what a schedule says is in range
 
-one_member_of : (lines : List (ℕ × List ℕ)) (s : Schedule) → AreLines lines s → IsOneMember s.members
-one_member_of [] s p = absurd p
-one_member_of (header ∷ lines) s p = p.0.in_range
+members_of_header : (lines : List (ℕ × List ℕ)) (s : Schedule) → AreLines lines s → MembersInRange s.members
+members_of_header [] s p = absurd p
+members_of_header (header ∷ lines) s p = p.0.in_range
 
--- a schedule's one member is an id
-pub member_in_range : (text : List ℕ) (s : Schedule) → IsSchedule text s → IsOneMember s.members
-member_in_range text s p = one_member_of (numbered_lines 1 text) s p
+-- a schedule's members are in range
+pub members_in_range : (text : List ℕ) (s : Schedule) → IsSchedule text s → MembersInRange s.members
+members_in_range text s p = members_of_header (numbered_lines 1 text) s p
 
-one_id : (members : List ℕ) → IsOneMember members → members ≡ get_or members 0 0 ∷ []
-one_id members (p, e, h) = rw e refl
+-- what each line's words promise of their event
+abbrev EachIs : (What → Type 0) → List Event → Type 0
+EachIs P events = All (λ e. P e.what) events
 
--- a schedule has one member
-pub one_member : (text : List ℕ) (s : Schedule) → IsSchedule text s → s.members ≡ get_or s.members 0 0 ∷ []
-one_member text s p = one_id s.members (member_in_range text s p)
+each_of_lines : (P : What → Type 0) → ((words : List (List ℕ)) (w : What) → AreWordsOf words w → P w) → (lines : List (ℕ × List ℕ)) (events : List Event) → AreEvents lines events → EachIs P events
+each_of_lines P by [] [] p = λ i d lt. absurd (omega arith)
+each_of_lines P by [] (e ∷ events) p = absurd p
+each_of_lines P by (line ∷ lines) [] p = absurd p
+each_of_lines P by (line ∷ lines) (e ∷ events) p = All-cons (λ (f : Event). P f.what) e events (by (words_of line.1) e.what p.1) (each_of_lines P by lines events p.2)
 
-each_in_range : (lines : List (ℕ × List ℕ)) (events : List Event) → AreEvents lines events → AreInRange events × AreOfBytes events
-each_in_range [] [] p = (λ i d lt. absurd (omega arith), λ i d lt. absurd (omega arith))
-each_in_range [] (e ∷ events) p = absurd p
-each_in_range (line ∷ lines) [] p = absurd p
-each_in_range (line ∷ lines) (e ∷ events) p =
-    let rest = each_in_range lines events p.2 in
-    (All-cons (λ (f : Event). WhatInRange f.what) e events p.1.in_range rest.0, All-cons (λ (f : Event). IsOfBytes f.what) e events p.1.of_bytes rest.1)
-
-each_in_range_of : (lines : List (ℕ × List ℕ)) (s : Schedule) → AreLines lines s → AreInRange s.events × AreOfBytes s.events
-each_in_range_of [] s p = absurd p
-each_in_range_of (header ∷ lines) s p = each_in_range lines s.events p.2
+each_of : (P : What → Type 0) → ((words : List (List ℕ)) (w : What) → AreWordsOf words w → P w) → (lines : List (ℕ × List ℕ)) (s : Schedule) → AreLines lines s → EachIs P s.events
+each_of P by [] s p = absurd p
+each_of P by (header ∷ lines) s p = each_of_lines P by lines s.events p.2
 
 -- each event of a schedule is in range
 pub events_in_range : (text : List ℕ) (s : Schedule) → IsSchedule text s → AreInRange s.events
-events_in_range text s p = (each_in_range_of (numbered_lines 1 text) s p).0
+events_in_range text s p = each_of WhatInRange (λ words w h. h.in_range) (numbered_lines 1 text) s p
 
 -- the keys and values of a schedule are bytes
 pub events_of_bytes : (text : List ℕ) (s : Schedule) → IsSchedule text s → AreOfBytes s.events
-events_of_bytes text s p = (each_in_range_of (numbered_lines 1 text) s p).1
+events_of_bytes text s p = each_of IsOfBytes (λ words w h. h.of_bytes) (numbered_lines 1 text) s p
+
+-- the sessions of a schedule are between two servers
+pub events_between_two : (text : List ℕ) (s : Schedule) → IsSchedule text s → AreBetweenTwo s.events
+events_between_two text s p = each_of IsBetweenTwo (λ words w h. h.between) (numbered_lines 1 text) s p

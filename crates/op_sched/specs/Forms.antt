@@ -1,5 +1,6 @@
--- The names that begin events' lines. Only what is inside the crate speaks of this.
-use Rattle.std.specs.Prelude.{ℕ, List, codes}
+-- The names that begin events' lines, and the ids that stand after one. Only what is inside the crate speaks of this.
+use Rattle.std.specs.Prelude.{◌≡◌, ℕ, List, codes, map, decimal}
+use Rattle.op_types.specs.Ranges.{IsPid, MembersInRange}
 use Rattle.op_sched.specs.declared.reading.forms.Form.{Form}
 use Rattle.op_sched.specs.declared.reading.forms.Form.TheVariants as form
 
@@ -7,5 +8,17 @@ use Rattle.op_sched.specs.declared.reading.forms.Form.TheVariants as form
 abbrev pub form_name : Form → List ℕ
 form_name form.Tick = codes "tick"
 form_name form.Put = codes "put"
+form_name form.Deliver = codes "deliver"
+form_name form.Up = codes "up"
+form_name form.Drop = codes "drop"
 form_name form.Crash = codes "crash"
 form_name form.Start = codes "start"
+form_name form.Ballots = codes "ballots"
+
+-- two servers that differ
+abbrev pub ArePeers : ℕ → ℕ → Type 0
+ArePeers p q = IsPid p × IsPid q × (p ≡ q → ⊥)
+
+-- the words are these members' ids
+abbrev pub AreMembersOf : List (List ℕ) → List ℕ → Type 0
+AreMembersOf words ids = MembersInRange ids × (words ≡ map decimal ids)

@@ -2,7 +2,7 @@
 use Rattle.std.specs.Prelude.{◌≡◌, ◌==◌, ◌⊎◌, ℕ, ◌+◌, Bool, true, if◌then◌else◌}
 use Rattle.std.specs.Prelude.{List, [], ◌∷◌, length, map, All, codes, decimal}
 use Rattle.std.specs.List.{slice_split}
-use Rattle.op_types.specs.Ranges.{IsPid, WhatInRange}
+use Rattle.op_types.specs.Ranges.{MembersInRange, WhatInRange}
 use Rattle.op_types.specs.declared.log.Op.{Op}
 use Rattle.op_types.specs.declared.log.Op.TheVariants.{Put}
 use Rattle.op_types.specs.declared.events.What.{What}
@@ -56,13 +56,9 @@ words_of line = slice_split (λ b. b == space) line
 
 -- ---- the header
 
--- one member, in range
-abbrev pub IsOneMember : List ℕ → Type 0
-IsOneMember members = (p : ℕ) × (members ≡ p ∷ []) × IsPid p
-
 -- the words name the members
 pub record AreHeaderWords (words : List (List ℕ)) (members : List ℕ) : Type 0 where
-  pub in_range : IsOneMember members
+  pub in_range : MembersInRange members
   pub written : words ≡ codes "members" ∷ map decimal members
 
 -- the line names the members
@@ -80,8 +76,12 @@ op_words p client seq (Put key value) =
 abbrev pub what_words : What → List (List ℕ)
 what_words (what.Tick p) = codes "tick" ∷ decimal p ∷ []
 what_words (what.Command p c) = op_words p c.client c.seq c.op
+what_words (what.Deliver i) = codes "deliver" ∷ decimal i ∷ []
+what_words (what.Up p q) = codes "up" ∷ decimal p ∷ decimal q ∷ []
+what_words (what.Down p q) = codes "drop" ∷ decimal p ∷ decimal q ∷ []
 what_words (what.Crash p) = codes "crash" ∷ decimal p ∷ []
 what_words (what.Start p) = codes "start" ∷ decimal p ∷ []
+what_words (what.Ballots p) = codes "ballots" ∷ decimal p ∷ []
 
 -- the operation's key and value are bytes
 abbrev pub OpIsOfBytes : Op → Type 0
@@ -89,15 +89,20 @@ OpIsOfBytes (Put key value) = AreBytes key × AreBytes value
 
 -- the keys and values of what happens are bytes
 abbrev pub IsOfBytes : What → Type 0
-IsOfBytes (what.Tick p) = Unit {0}
 IsOfBytes (what.Command p c) = OpIsOfBytes c.op
-IsOfBytes (what.Crash p) = Unit {0}
-IsOfBytes (what.Start p) = Unit {0}
+IsOfBytes w = Unit {0}
+
+-- a session is one between two different servers
+abbrev pub IsBetweenTwo : What → Type 0
+IsBetweenTwo (what.Up p q) = p ≡ q → ⊥
+IsBetweenTwo (what.Down p q) = p ≡ q → ⊥
+IsBetweenTwo w = Unit {0}
 
 -- the words say what happens
 pub record AreWordsOf (words : List (List ℕ)) (w : What) : Type 0 where
   pub in_range : WhatInRange w
   pub of_bytes : IsOfBytes w
+  pub between : IsBetweenTwo w
   pub written : words ≡ what_words w
 
 -- the line says what happens
@@ -111,6 +116,10 @@ AreInRange events = All (λ e. WhatInRange e.what) events
 -- the keys and values of each event are bytes
 abbrev pub AreOfBytes : List Event → Type 0
 AreOfBytes events = All (λ e. IsOfBytes e.what) events
+
+-- each session is one between two different servers
+abbrev pub AreBetweenTwo : List Event → Type 0
+AreBetweenTwo events = All (λ e. IsBetweenTwo e.what) events
 
 -- ---- the text of a schedule
 

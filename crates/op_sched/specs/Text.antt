@@ -1,6 +1,7 @@
 -- The report of a run, as text.
 use Rattle.std.specs.Prelude.{◌+◌, ℕ, List, [], ◌∷◌, ◌++◌, codes, decimal, Option, Some, None}
 use Rattle.std.specs.List.{flat_map}
+use Rattle.op_types.specs.declared.ballot.Ballot.{Ballot}
 use Rattle.op_types.specs.declared.log.Op.{Op}
 use Rattle.op_types.specs.declared.log.Op.TheVariants.{Put}
 use Rattle.op_types.specs.declared.log.Entry.{Entry}
@@ -9,6 +10,8 @@ use Rattle.op_types.specs.declared.answers.Outcome.{Outcome}
 use Rattle.op_types.specs.declared.answers.Outcome.TheVariants as outcome
 use Rattle.op_types.specs.declared.answers.Refusal.{Refusal}
 use Rattle.op_types.specs.declared.answers.Refusal.TheVariants as refusal
+use Rattle.op_types.specs.declared.answers.Cause.{Cause}
+use Rattle.op_types.specs.declared.answers.Cause.TheVariants as cause
 use Rattle.op_types.specs.declared.answers.Answer.{Answer}
 use Rattle.op_types.specs.declared.answers.Answer.TheVariants as answer
 use Rattle.op_types.specs.declared.summary.Line.{Line}
@@ -24,26 +27,46 @@ use Rattle.op_sched.specs.Percent.{encoded}
 
 -- why a proposal is refused
 abbrev pub refusal_text : Refusal → List ℕ
+refusal_text (refusal.PendingStop pos) = codes "pending " ++ decimal pos
 refusal_text refusal.NoLeader = codes "noleader"
 refusal_text refusal.PositionsEnd = codes "end"
 
 -- what a proposal is answered
 abbrev pub outcome_text : Outcome → List ℕ
 outcome_text (outcome.Appended conf pos) = codes "appended " ++ decimal conf ++ codes " " ++ decimal pos
+outcome_text outcome.Buffered = codes "buffered"
+outcome_text (outcome.Forwarded pid) = codes "forwarded " ++ decimal pid
 outcome_text (outcome.Refused cause) = codes "refused " ++ refusal_text cause
+
+-- a ballot's number, and its owner
+abbrev pub ballot_text : Ballot → List ℕ
+ballot_text b = decimal b.number ++ codes " " ++ decimal b.pid
+
+-- why a buffered proposal is given up
+abbrev pub cause_text : Cause → List ℕ
+cause_text (cause.Ballot b) = codes "ballot " ++ ballot_text b
+cause_text (cause.Stop pos) = codes "stop " ++ decimal pos
+cause_text cause.End = codes "end"
 
 -- what a command is answered
 abbrev pub answer_text : Answer → List ℕ
 answer_text answer.Done = codes "done"
 answer_text answer.Stale = codes "stale"
+answer_text (answer.Dropped cause) = codes "dropped " ++ cause_text cause
 
--- the line of an answer or a reply
+-- a line that an event gave
 abbrev pub line_text : Line → List ℕ
 line_text (line.Answer at outcome) =
     codes "answer " ++ decimal at ++ codes " " ++ outcome_text outcome ++ codes "\n"
 line_text (line.Reply pid client seq answer) =
     codes "reply " ++ decimal pid ++ codes " " ++ decimal client ++ codes " " ++ decimal seq ++ codes " "
     ++ answer_text answer ++ codes "\n"
+line_text (line.Dropped pid client seq cause) =
+    codes "dropped " ++ decimal pid ++ codes " " ++ decimal client ++ codes " " ++ decimal seq ++ codes " "
+    ++ cause_text cause ++ codes "\n"
+line_text (line.Ballots pid own leader promised) =
+    codes "ballots " ++ decimal pid ++ codes " own " ++ ballot_text own ++ codes " leader " ++ ballot_text leader
+    ++ codes " promised " ++ ballot_text promised ++ codes "\n"
 
 -- ---- the lists
 

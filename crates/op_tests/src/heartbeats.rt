@@ -6,6 +6,13 @@ fn ballot(number: u64, pid: Pid) -> Ballot {
     Ballot { number, pid }
 }
 
+fn is_reply(body: &Body, round: u64, own: Ballot, flag: bool) -> bool {
+    let Body::HeartbeatReply(said_round, said_own, said_flag) = body else {
+        return false;
+    };
+    *said_round == round && *said_own == own && *said_flag == flag
+}
+
 #[test]
 fn the_replies_of_a_round_are_kept_once_for_each_other_member(rt: HostRuntime) -> Result<(), Fail> {
     let members = Members::from_vec(Vec::from_slice(rt.alloc(), &[1, 2, 3])?);
@@ -30,9 +37,13 @@ fn the_replies_of_a_round_are_kept_once_for_each_other_member(rt: HostRuntime) -
     assert_eq!(rt; rounds.end_round(), [third, second].as_slice());
     assert_eq!(rt; rounds.begin_round(), 2);
     assert!(rt; rounds.end_round().is_empty());
-    assert_eq!(rt;
-        Rounds::answer(2, ballot(1, 1), true),
-        Body::HeartbeatReply(2, ballot(1, 1), true)
+    assert!(rt;
+        is_reply(
+            &Rounds::answer(2, ballot(1, 1), true),
+            2,
+            ballot(1, 1),
+            true
+        )
     );
     Ok(())
 }

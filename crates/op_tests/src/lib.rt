@@ -2,6 +2,10 @@
 #![tactic(auto)]
 
 #[cfg(test)]
+mod clients;
+#[cfg(test)]
+mod clusters;
+#[cfg(test)]
 mod connections;
 #[cfg(test)]
 mod edges;
@@ -18,9 +22,13 @@ mod letters;
 #[cfg(test)]
 mod majorities;
 #[cfg(test)]
+mod messages;
+#[cfg(test)]
 mod puts;
 #[cfg(test)]
 mod records;
+#[cfg(test)]
+mod refusals;
 #[cfg(test)]
 mod replays;
 #[cfg(test)]

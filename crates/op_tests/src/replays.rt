@@ -14,7 +14,9 @@ const ONE_PUT_REPORT: &str =
     "answer 3 appended 1 0\nreply 1 7 1 done\nconfig 1 members 1\nentry 1 0 put 7 1 a x\nnode 1 config 1 decided 1 trimmed 0\n";
 
 /// A schedule, how its replay ends, what it writes and what it tells.
-const ROWS: [(&str, Status, &str, &str); 18] = [
+pub type Row = (&'static str, Status, &'static str, &'static str);
+
+const ROWS: [Row; 18] = [
     (ONE_PUT, Status::Ended, ONE_PUT_REPORT, ""),
     (
         "",
@@ -157,10 +159,7 @@ fn sink(alloc: Global, most: usize, fails: &[u64]) -> Result<MemSink, AllocError
     Ok(MemSink::new(Vec::new(alloc), most, Vec::from_slice(alloc, fails)?))
 }
 
-fn check_row(
-    rt: &(impl Abort + Alloc<A = Global>),
-    row: &(&str, Status, &str, &str),
-) -> Result<(), Fail> {
+pub fn check_row(rt: &(impl Abort + Alloc<A = Global>), row: &Row) -> Result<(), Fail> {
     let alloc = rt.alloc();
     let words = replay_word(alloc)?;
     let mut input = source(alloc, row.0, 7, &[])?;

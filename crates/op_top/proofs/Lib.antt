@@ -1,4 +1,2 @@
-pub mod Runs
+pub mod FirstBad
 pub mod ValidOrBad
-pub mod OneMember
-pub mod RepliesServed

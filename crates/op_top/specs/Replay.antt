@@ -1,27 +1,12 @@
--- The replay of a schedule's events, at the nodes that it names.
-use Rattle.std.specs.Prelude.{◌≡◌, ◌⊎◌, ℕ, true, false, List, [], ◌∷◌}
+-- The replay of a schedule's events, at the members that it names.
+use Rattle.std.specs.Prelude.{◌≡◌, ℕ, List, Some, slice_get}
 use Rattle.op_types.specs.declared.events.Event.{Event}
-use Rattle.op_types.specs.declared.summary.Summary.{Summary}
-use Rattle.std.specs.Prelude.{nat_eq}
-use Rattle.std.specs.Set.{is_member}
-use Rattle.op_runs.specs.World.{node_of, all_done}
-use Rattle.op_runs.specs.Run.{Execution, first_execution, execution_of}
-use Rattle.op_runs.specs.Summary.{summary_of}
+use Rattle.op_runs.specs.Possible.{IsFirstBad}
 
--- each event is at a member
-abbrev pub AllPresent : List ℕ → List Event → Type 0
-AllPresent members [] = Unit {0}
-AllPresent members (e ∷ es) = (is_member nat_eq members (node_of e.what) ≡ true) × AllPresent members es
-
--- the line of the first event at a node that isn't there
-abbrev pub IsFirstAbsent : List ℕ → List Event → ℕ → Type 0
-IsFirstAbsent members [] n = ⊥
-IsFirstAbsent members (e ∷ es) n = ((n ≡ e.line) × (is_member nat_eq members (node_of e.what) ≡ false)) ⊎ ((is_member nat_eq members (node_of e.what) ≡ true) × IsFirstAbsent members es n)
-
--- the run of a schedule: each event's step is done
-abbrev pub run_execution : List ℕ → List Event → Execution
-run_execution members events = execution_of (first_execution members) (all_done events)
-
--- what is reported of a schedule's run
-abbrev pub run_summary : List ℕ → List Event → Summary
-run_summary members events = summary_of members (run_execution members events)
+-- the line of the first event that names a server that is no member, or a message that wasn't sent
+pub record IsLineOfFirstBad (members : List ℕ) (events : List Event) (line : ℕ) : Type 0 where
+  pub index : ℕ
+  pub event : Event
+  pub first : IsFirstBad members events index
+  pub there : slice_get events index ≡ Some event
+  pub line_is : line ≡ event.line

@@ -1,39 +1,45 @@
 //! From a schedule's bytes to the report of its run.
-ghost use Rattle.std.specs.Prelude.{◌≡◌, ◌==◌, ℕ, nat_eq, IfOk};
+ghost use Rattle.std.specs.Prelude.{◌≡◌, map, IfOk};
+ghost use Rattle.op_types.specs.Ranges.{MembersInRange};
 ghost use Rattle.op_sched.specs.Failing.{IfBadLine};
-ghost use Rattle.op_sched.specs.Grammar.{IsOneMember, AreInRange};
-ghost use Rattle.std.specs.Set.{is_member};
-ghost use Rattle.op_top.specs.Replay.{AllPresent, IsFirstAbsent, run_summary};
+ghost use Rattle.op_sched.specs.Grammar.{AreInRange};
+ghost use Rattle.op_world.specs.Runs.{IsReportOfRun};
+ghost use Rattle.op_top.specs.Replay.{IsLineOfFirstBad};
 ghost use Rattle.op_top.specs.Called.{Reports, IsBadAt};
 
 use op_sched::{SchedFail, Summary, read, report};
-use op_types::{Events, Members, Pid};
-use op_world::{World, node_of};
-use std::alloc::Global;
+use op_types::{Event, Events, Members};
+use op_world::{RunFail, World};
+use std::alloc::{AllocError, Global};
 
-fn is_member(members: &Members, pid: Pid) -> bool
-    ensures { result ≡ is_member nat_eq members.now pid }
+/// The line of each event, in order.
+fn lines_of(alloc: Global, events: &[Event]) -> Result<Vec<u64>, AllocError>
+    ensures { IfOk result (λ lines. lines.items ≡ map (λ e. e.line) events.now) }
 {
-    members.as_slice().contains(&pid)
+    let mut lines = Vec::new(alloc);
+    for event in events {
+        lines.push(event.line)?;
+    }
+    Ok(lines)
 }
 
-/// Runs the events at the one member, up to the first that is at another node.
+/// Runs the events at these members. A refusal tells the line of the first event that can't come.
 fn run(alloc: Global, members: Members, events: Events) -> Result<Summary, SchedFail>
-    requires sole { IsOneMember members }
+    requires members { MembersInRange members }
     requires range { AreInRange events }
-    ensures ran { IfOk result (λ s. s ≡ run_summary members events) }
-    ensures present { IfOk result (λ s. AllPresent members events) }
-    ensures absent { IfBadLine result (IsFirstAbsent members events) }
+    ensures report { IfOk result (IsReportOfRun members events) }
+    ensures bad { IfBadLine result (IsLineOfFirstBad members events) }
 {
-    let me = members.as_slice()[0];
-    let mut world = World::new(alloc, me)?;
-    for event in events.into_vec() {
-        if !is_member(&members, node_of(&event.what)) {
-            return Err(SchedFail::BadLine { line: event.line });
-        }
-        world = world.event(event)?;
+    let Ok(lines) = lines_of(alloc, events.as_slice()) else {
+        return Err(SchedFail::NoMemory);
+    };
+    match World::run(alloc, members, events) {
+        Ok(summary) => Ok(summary),
+        Err(RunFail::BadEvent { index }) => Err(SchedFail::BadLine {
+            line: lines[index as usize],
+        }),
+        Err(RunFail::NoMemory) => Err(SchedFail::NoMemory),
     }
-    Ok(world.summary(members)?)
 }
 
 /// The report of the run that a schedule's bytes say. The bytes are let go before the run.

@@ -13,7 +13,7 @@ pub enum Status {
     Ended,
     /// The words are no command.
     Usage,
-    /// This line, from 1, isn't in the grammar, or its event is at a node that isn't there.
+    /// This line, from 1, isn't in the grammar, or its event names a server that is no member, or a message that wasn't sent.
     BadSchedule { line: u64 },
     ReadFault,
     WriteFault,

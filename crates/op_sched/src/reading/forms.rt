@@ -3,11 +3,11 @@ ghost use Rattle.std.specs.Prelude.{◌≡◌, ◌∷◌, [], ◌↔◌, map, co
 ghost use Rattle.op_types.specs.Ranges.{IsPid};
 ghost use Rattle.op_sched.specs.Found.{IsFound};
 ghost use Rattle.op_sched.specs.Grammar.{AreHeaderWords, AreWordsOf};
-ghost use Rattle.op_sched.specs.Forms.{form_name};
+ghost use Rattle.op_sched.specs.Forms.{form_name, ArePeers, AreMembersOf};
 
 use crate::reading::decoding;
-use crate::reading::numbers::{client_number, pid};
-use op_types::{Command, Members, NoMemory, Op, Pid, What};
+use crate::reading::numbers::{client_number, number, pid};
+use op_types::{Command, MOST_MEMBERS, Members, NoMemory, Op, Pid, What};
 use std::alloc::Global;
 
 /// Whether a word is this name.
@@ -27,7 +27,44 @@ fn one_server(words: &[&[u8]]) -> Option<Pid>
     }
 }
 
-/// The members that a header's words name, one so far.
+/// The two servers that words name, which differ.
+fn two_servers(words: &[&[u8]]) -> Option<(Pid, Pid)>
+    ensures { IsFound (λ x. ArePeers x.0 x.1
+        × (map (λ w. w.now) words.now ≡ decimal x.0 ∷ decimal x.1 ∷ [])) result }
+{
+    let [first, second] = words else {
+        return None;
+    };
+    let (first, second) = (pid(first)?, pid(second)?);
+    if first == second {
+        return None;
+    }
+    Some((first, second))
+}
+
+/// The ids that words name, from 1 to 9, each above the one before it.
+fn rising_ids(alloc: Global, words: &[&[u8]]) -> Result<Option<Members>, NoMemory>
+    ensures { IfOk result (IsFound (AreMembersOf (map (λ x. x.now) words.now))) }
+{
+    if words.is_empty() || MOST_MEMBERS < words.len() {
+        return Ok(None);
+    }
+    let mut ids = Members::new(alloc);
+    let mut last = 0;
+    for word in words {
+        let Some(id) = pid(word) else {
+            return Ok(None);
+        };
+        if id <= last {
+            return Ok(None);
+        }
+        ids.push(id)?;
+        last = id;
+    }
+    Ok(Some(ids))
+}
+
+/// The members that a header's words name.
 pub fn members(alloc: Global, words: &[&[u8]]) -> Result<Option<Members>, NoMemory>
     ensures { IfOk result (IsFound (AreHeaderWords (map (λ x. x.now) words.now))) }
 {
@@ -37,12 +74,7 @@ pub fn members(alloc: Global, words: &[&[u8]]) -> Result<Option<Members>, NoMemo
     if !is_name(name, b"members") {
         return Ok(None);
     }
-    let Some(id) = one_server(words) else {
-        return Ok(None);
-    };
-    let mut members = Members::new(alloc);
-    members.push(id)?;
-    Ok(Some(members))
+    rising_ids(alloc, words)
 }
 
 /// `tick`: a server.
@@ -50,6 +82,34 @@ fn tick(words: &[&[u8]]) -> Option<What>
     ensures { IsFound (AreWordsOf (codes "tick" ∷ map (λ x. x.now) words.now)) result }
 {
     Some(What::Tick(one_server(words)?))
+}
+
+/// `deliver`: a message's number, from 0.
+fn deliver(words: &[&[u8]]) -> Option<What>
+    ensures { IsFound (AreWordsOf (codes "deliver" ∷ map (λ x. x.now) words.now)) result }
+{
+    match words {
+        [index] => Some(What::Deliver(number(index)?)),
+        _ => None,
+    }
+}
+
+/// `up`: the server where a session begins, and the one that it is with.
+#[tactic(auto, using(crate::proofs::EventWords::no_up))]
+fn up(words: &[&[u8]]) -> Option<What>
+    ensures { IsFound (AreWordsOf (codes "up" ∷ map (λ x. x.now) words.now)) result }
+{
+    let (at, peer) = two_servers(words)?;
+    Some(What::Up(at, peer))
+}
+
+/// `drop`: the server where a session ends, and the one that it was with.
+#[tactic(auto, using(crate::proofs::EventWords::no_down))]
+fn down(words: &[&[u8]]) -> Option<What>
+    ensures { IsFound (AreWordsOf (codes "drop" ∷ map (λ x. x.now) words.now)) result }
+{
+    let (at, peer) = two_servers(words)?;
+    Some(What::Down(at, peer))
 }
 
 /// `crash`: a server.
@@ -64,6 +124,13 @@ fn start(words: &[&[u8]]) -> Option<What>
     ensures { IsFound (AreWordsOf (codes "start" ∷ map (λ x. x.now) words.now)) result }
 {
     Some(What::Start(one_server(words)?))
+}
+
+/// `ballots`: a server.
+fn ballots(words: &[&[u8]]) -> Option<What>
+    ensures { IsFound (AreWordsOf (codes "ballots" ∷ map (λ x. x.now) words.now)) result }
+{
+    Some(What::Ballots(one_server(words)?))
 }
 
 /// `put`: a server, a client, the number of its command, a key and a value.
@@ -94,10 +161,18 @@ pub enum Form {
     Tick,
     /// `put`
     Put,
+    /// `deliver`
+    Deliver,
+    /// `up`
+    Up,
+    /// `drop`
+    Drop,
     /// `crash`
     Crash,
     /// `start`
     Start,
+    /// `ballots`
+    Ballots,
 }
 
 /// The form that a line's first word names.
@@ -108,10 +183,18 @@ fn form_of(word: &[u8]) -> Option<Form>
         Some(Form::Tick)
     } else if is_name(word, b"put") {
         Some(Form::Put)
+    } else if is_name(word, b"deliver") {
+        Some(Form::Deliver)
+    } else if is_name(word, b"up") {
+        Some(Form::Up)
+    } else if is_name(word, b"drop") {
+        Some(Form::Drop)
     } else if is_name(word, b"crash") {
         Some(Form::Crash)
     } else if is_name(word, b"start") {
         Some(Form::Start)
+    } else if is_name(word, b"ballots") {
+        Some(Form::Ballots)
     } else {
         None
     }
@@ -130,7 +213,11 @@ pub fn event(alloc: Global, words: &[&[u8]]) -> Result<Option<What>, NoMemory>
     match form {
         Form::Tick => Ok(tick(words)),
         Form::Put => put(alloc, words),
+        Form::Deliver => Ok(deliver(words)),
+        Form::Up => Ok(up(words)),
+        Form::Drop => Ok(down(words)),
         Form::Crash => Ok(crash(words)),
         Form::Start => Ok(start(words)),
+        Form::Ballots => Ok(ballots(words)),
     }
 }

@@ -8,7 +8,7 @@ use op_types::{GREATEST_NUMBER, GREATEST_PID, Pid};
 use std::str;
 
 /// The number that a word writes with no sign and no leading zero.
-fn number(word: &[u8]) -> Option<u64>
+pub fn number(word: &[u8]) -> Option<u64>
     ensures { IsFound (λ n. (n < 2 ^ 64) × (word.now ≡ decimal n)) result }
 {
     let Ok(text) = str::from_utf8(word) else {

@@ -1,8 +1,9 @@
 //! The lines that events give, as text.
 ghost use Rattle.std.specs.Prelude.{Some};
-ghost use Rattle.op_sched.specs.Text.{answer_text, line_text, outcome_text, refusal_text};
+ghost use Rattle.op_sched.specs.Text.{ballot_text, line_text};
 
-use op_types::{Answer, Line, Outcome, Refusal};
+use crate::reporting::display_answer::{AnswerText, CauseText, OutcomeText};
+use op_types::{Ballot, Line};
 use std::fmt;
 
 /// A line of the report, which prints with its end.
@@ -20,51 +21,30 @@ impl fmt::Display for LineText<'_> {
             Line::Reply(pid, client, seq, answer) => {
                 writeln!(f, "reply {pid} {client} {seq} {}", AnswerText(*answer))
             }
+            Line::Dropped(pid, client, seq, cause) => {
+                writeln!(f, "dropped {pid} {client} {seq} {}", CauseText(*cause))
+            }
+            Line::Ballots(pid, own, leader, promised) => {
+                let own = BallotText(*own);
+                let leader = BallotText(*leader);
+                let promised = BallotText(*promised);
+                writeln!(
+                    f,
+                    "ballots {pid} own {own} leader {leader} promised {promised}"
+                )
+            }
         }
     }
 }
 
-/// What a proposal was answered.
+/// A ballot: its number, and its owner.
 #[derive(Clone, Copy)]
-pub struct OutcomeText(pub Outcome);
+pub struct BallotText(pub Ballot);
 
-impl fmt::Display for OutcomeText {
-    ghost output = { λ o. Some (outcome_text o.0) };
+impl fmt::Display for BallotText {
+    ghost output = { λ b. Some (ballot_text b.0) };
 
     fn fmt<W: fmt::Write>(&self, f: &mut fmt::Formatter<W>) -> fmt::Result {
-        match self.0 {
-            Outcome::Appended(conf, pos) => write!(f, "appended {conf} {pos}"),
-            Outcome::Refused(cause) => write!(f, "refused {}", RefusalText(cause)),
-        }
-    }
-}
-
-/// Why a proposal was refused.
-#[derive(Clone, Copy)]
-struct RefusalText(Refusal);
-
-impl fmt::Display for RefusalText {
-    ghost output = { λ r. Some (refusal_text r.0) };
-
-    fn fmt<W: fmt::Write>(&self, f: &mut fmt::Formatter<W>) -> fmt::Result {
-        match self.0 {
-            Refusal::NoLeader => f.write_str("noleader"),
-            Refusal::PositionsEnd => f.write_str("end"),
-        }
-    }
-}
-
-/// What a command was answered.
-#[derive(Clone, Copy)]
-pub struct AnswerText(pub Answer);
-
-impl fmt::Display for AnswerText {
-    ghost output = { λ a. Some (answer_text a.0) };
-
-    fn fmt<W: fmt::Write>(&self, f: &mut fmt::Formatter<W>) -> fmt::Result {
-        match self.0 {
-            Answer::Done => f.write_str("done"),
-            Answer::Stale => f.write_str("stale"),
-        }
+        write!(f, "{} {}", self.0.number, self.0.pid)
     }
 }

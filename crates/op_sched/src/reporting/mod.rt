@@ -3,6 +3,7 @@ ghost use Rattle.std.specs.Prelude.{◌≡◌, ◌++◌, IfOk, OnOk, string_byte
 ghost use Rattle.std.specs.List.{flat_map};
 ghost use Rattle.op_sched.specs.Text.{line_text, entries_text, listed_text, node_text, report_of};
 
+mod display_answer;
 mod display_entry;
 mod display_line;
 mod display_node;

@@ -2,7 +2,7 @@
 ghost use Rattle.std.specs.Prelude.{◌≡◌, IfOk};
 ghost use Rattle.op_sched.specs.Text.{answer_text, node_text, outcome_text};
 
-use crate::reporting::display_line::{AnswerText, OutcomeText};
+use crate::reporting::display_answer::{AnswerText, OutcomeText};
 use crate::reporting::display_node::NodeText;
 use op_types::{Answer, NoMemory, NodeLine, Outcome};
 use std::alloc::Global;

@@ -20,6 +20,7 @@ returns c =
     record {
       in_range = (id.0, record { client = client.0; seq = seq.0; op = (key.0, value.0) });
       of_bytes = (key.1.0, value.1.0);
+      between = tt;
       written = ap (λ words. codes "put" ∷ words) (five_words _ _ _ _ _ _ _ _ _ _ _ _ c.in-len5.len_at_least c.in-len5.len_below
           id.1 client.1 seq.1 (sym key.1.1) (sym value.1.1));
     }

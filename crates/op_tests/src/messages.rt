@@ -1,0 +1,142 @@
+ghost use Rattle.std.specs.Prelude.{IfOk};
+ghost use Rattle.op_msg.specs.Ranges.{MsgInRange};
+
+use crate::puts::{is_one_put, one_put};
+use op_fields::TakeFail;
+use op_frame::{Frames, NextFail};
+use op_msg::{put, take};
+use op_types::{Ballot, Body, Msg, NoMemory, Seq};
+use std::alloc::Global;
+use std::test::Fail;
+
+/// The frame in which server 2 asks server 1 for a prepare in configuration 1.
+const PREPARE_REQ: [u8; 21] = [
+    0, 0, 0, 0, 0, 0, 0, 13, // the length
+    0, 0, 0, 2, 0, 0, 0, 1, // from 2 to 1
+    9, 0, 0, 0, 1, // the tag, and the configuration
+];
+
+#[test]
+fn a_request_for_a_prepare_is_13_bytes_in_its_frame(rt: HostRuntime) -> Result<(), Fail> {
+    let message = Msg {
+        conf: 1,
+        body: Body::PrepareReq,
+    };
+    let mut out = Vec::new(rt.alloc());
+    assert!(rt; put(&mut out, 2, 1, &message).is_ok());
+    assert_eq!(rt; out.as_slice(), &PREPARE_REQ[8..]);
+    let mut frames = Frames::new(rt.alloc(), 8, 100);
+    frames.feed(&PREPARE_REQ[..20])?;
+    assert!(rt; matches!(&frames.next(), Err(NextFail::NotYet)));
+    frames.feed(&PREPARE_REQ[20..])?;
+    let body = frames.next();
+    assert!(rt; body.is_ok());
+    if let Ok(body) = &body {
+        let taken = take(rt.alloc(), body.as_slice());
+        assert!(rt;
+            matches!(
+                &taken,
+                Ok((
+                    2,
+                    1,
+                    Msg {
+                        conf: 1,
+                        body: Body::PrepareReq
+                    }
+                ))
+            )
+        );
+    }
+    Ok(())
+}
+
+/// The promise of ballot 5 of server 3 by server 2, which accepted `put 7 1 a x` in ballot 4 of server 1, and has decided
+/// nothing.
+const PROMISE: [u8; 92] = [
+    0, 0, 0, 2, 0, 0, 0, 3, // from 2 to 3
+    4, 0, 0, 0, 1, // the tag, and the configuration
+    0, 0, 0, 0, 0, 0, 0, 5, 0, 0, 0, 3, // the promised ballot
+    0, 0, 0, 0, 0, 0, 0, 4, 0, 0, 0, 1, // the accepted round
+    0, 0, 0, 0, 0, 0, 0, 1, // the log's length
+    0, 0, 0, 0, 0, 0, 0, 0, // decided
+    0, 0, 0, 0, 0, 0, 0, 0, // entries from this position on
+    0, 0, 0, 0, 0, 0, 0, 1, // one entry: a put
+    1, 0, 0, 0, 0, 0, 0, 0, 7, 0, 0, 0, 0, 0, 0, 0, 1, 1, 1, b'a', 0, 1, b'x',
+];
+
+fn promise(alloc: Global) -> Result<Msg, NoMemory>
+    ensures { IfOk result MsgInRange }
+{
+    let promised = Ballot { number: 5, pid: 3 };
+    let accepted = Ballot { number: 4, pid: 1 };
+    let mut entries = Seq::new(alloc);
+    entries.push(one_put(alloc)?)?;
+    Ok(Msg {
+        conf: 1,
+        body: Body::Promise(promised, accepted, 1, 0, 0, entries),
+    })
+}
+
+/// Whether it says what the promise above does.
+fn is_promise(message: &Msg) -> bool {
+    let Body::Promise(promised, accepted, 1, 0, 0, entries) = &message.body else {
+        return false;
+    };
+    let ballots = promised.number == 5
+        && promised.pid == 3
+        && accepted.number == 4
+        && accepted.pid == 1;
+    match entries.as_slice() {
+        [entry] => ballots && is_one_put(entry),
+        _ => false,
+    }
+}
+
+#[test]
+fn a_promise_is_written_and_read(rt: HostRuntime) -> Result<(), Fail> {
+    let mut out = Vec::new(rt.alloc());
+    let message = promise(rt.alloc());
+    assert!(rt; message.is_ok());
+    if let Ok(message) = &message {
+        assert!(rt; put(&mut out, 2, 3, message).is_ok());
+    }
+    assert_eq!(rt; out.as_slice(), PROMISE.as_slice());
+    let taken = take(rt.alloc(), &PROMISE);
+    assert!(rt; taken.is_ok());
+    if let Ok((from, to, message)) = &taken {
+        assert!(rt; *from == 2 && *to == 3);
+        assert!(rt; is_promise(message));
+    }
+    Ok(())
+}
+
+#[test]
+fn the_first_bad_field_is_named(rt: HostRuntime) -> Result<(), Fail> {
+    // Bytes of the promise that are changed, and the place that is then named.
+    for (at, byte, place) in [
+        (3, 0, 0),
+        (6, 4, 4),
+        (8, 12, 8),
+        (24, 0, 21),
+        (37, 64, 37),
+        (61, 65, 61),
+        (69, 2, 69),
+        (87, 0, 87),
+    ] {
+        let mut bytes = PROMISE;
+        bytes[at] = byte;
+        assert!(rt; is_bad(rt.alloc(), &bytes, place), "{place}");
+    }
+    assert!(rt; is_bad(rt.alloc(), &PREPARE_REQ[8..20], 9));
+    let mut longer = Vec::from_slice(rt.alloc(), PROMISE.as_slice())?;
+    longer.push(0)?;
+    assert!(rt; is_bad(rt.alloc(), longer.as_slice(), 92));
+    Ok(())
+}
+
+fn is_bad(alloc: Global, bytes: &[u8], at: usize) -> bool {
+    match take(alloc, bytes) {
+        Ok(_) => false,
+        Err(e) => e == TakeFail::Bad { at },
+    }
+}

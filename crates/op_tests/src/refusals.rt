@@ -1,0 +1,46 @@
+ghost use Rattle.std.specs.Prelude.{◌≤◌, ◌^◌, IfOk};
+ghost use Rattle.op_plans.specs.Positions.{FitsPositions};
+
+use op_instance::refusal;
+use op_types::{Ballot, Blob, Leading, Members, POSITIONS_END, Part, Refusal, Reserved, Role};
+use std::alloc::{AllocError, Global};
+use std::test::Fail;
+
+/// The part of a sole member that has decided and trimmed so many entries.
+fn part(alloc: Global, ballot: Ballot, trimmed: u64) -> Result<Part, AllocError>
+    requires { trimmed ≤ 2 ^ 62 }
+    ensures { IfOk result FitsPositions }
+{
+    Ok(Part {
+        conf: 1,
+        members: Members::from_vec(Vec::from_slice(alloc, &[1])?),
+        promised: ballot,
+        accepted: ballot,
+        base: Blob::from_vec(Vec::new(alloc)),
+        trimmed,
+        tail: Reserved::new(alloc),
+        decided: trimmed,
+    })
+}
+
+fn leading(alloc: Global, ballot: Ballot, adopted_len: u64) -> Role {
+    Role::Leading(Leading {
+        ballot,
+        adopted_round: ballot,
+        adopted_len,
+        synced: Reserved::new(alloc),
+        acknowledged: Reserved::new(alloc),
+    })
+}
+
+#[test]
+fn a_log_takes_no_command_at_the_end_of_positions(rt: HostRuntime) -> Result<(), Fail> {
+    let alloc = rt.alloc();
+    let ballot = Ballot { number: 1, pid: 1 };
+    let full = part(alloc, ballot, POSITIONS_END)?;
+    let role = leading(alloc, ballot, POSITIONS_END);
+    assert!(rt; refusal(1, &full, &role) == Some(Refusal::PositionsEnd));
+    let nearly_full = part(alloc, ballot, POSITIONS_END - 1)?;
+    assert!(rt; refusal(1, &nearly_full, &role).is_none());
+    Ok(())
+}
