@@ -1,0 +1,97 @@
+"""Schedules that the benches run, and how a run is timed."""
+import os
+import subprocess
+import sys
+import tempfile
+
+TOP = os.path.dirname(os.path.dirname(os.path.abspath(__file__)))
+
+
+def built_program():
+    subprocess.run([os.path.join(TOP, 'omni'), 'build'], stderr=subprocess.DEVNULL)
+    return os.environ.get('OMNI', os.path.join(TOP, 'crates', 'omni', 'out', 'omni'))
+
+
+def run(program, path):
+    """Seconds that the processor worked, and greatest memory (in MB), of one run."""
+    with open(path) as text, open(os.devnull, 'w') as out:
+        child = subprocess.Popen([program, 'replay'], stdin=text, stdout=out)
+        _, status, usage = os.wait4(child.pid, 0)
+    if status != 0:
+        sys.exit('replay ended with status %d' % os.waitstatus_to_exitcode(status))
+    return usage.ru_utime + usage.ru_stime, usage.ru_maxrss / 1024
+
+
+def best_of(runs, program, write):
+    """The best of some runs over the schedule that `write` writes to a file, line by line: so no run starts from a large process."""
+    with tempfile.NamedTemporaryFile('w', suffix='.schedule') as file:
+        write(file)
+        file.flush()
+        return min(run(program, file.name) for _ in range(runs))
+
+
+def put(number):
+    return 'put 1 %d %d key%d value%d' % (1 + number % 50, number, number % 1000, number)
+
+
+def short_put(server, number):
+    """So short that a million of them and what comes of them fit into the input."""
+    return 'put %d %d %d k v' % (server, 1 + number % 50, number)
+
+
+def write_sole(file, events):
+    print('members 1\ntick 1', file=file)
+    for number in range(1, events):
+        print(put(number), file=file)
+
+
+class Cluster:
+    """Three members, of which server 1 leads, and both others are synced. `sent` is the number of the next message."""
+
+    def __init__(self, file):
+        self.file = file
+        self.events = 0
+        self.sent = 13
+        self.puts = 0
+        print('members 1 2 3', file=file)
+        for line in ('tick 1', 'deliver 0', 'deliver 2', 'tick 1'):
+            self.add(line)
+        # Prepares (5, 6), Promises (7, 9), AcceptSyncs (8, 10) and Accepteds (11, 12).
+        for number in (5, 7, 6, 9, 8, 10, 11, 12):
+            self.deliver(number)
+
+    def add(self, line):
+        print(line, file=self.file)
+        self.events += 1
+
+    def deliver(self, number):
+        self.add('deliver %d' % number)
+
+    def put(self):
+        """A put at the leader: an Accept to each follower."""
+        self.puts += 1
+        self.add(short_put(1, self.puts))
+        self.sent += 2
+        return self.sent - 2, self.sent - 1
+
+    def accept(self, accept):
+        """An Accept at its follower, which sends an Accepted."""
+        self.deliver(accept)
+        self.sent += 1
+        return self.sent - 1
+
+    def put_and_deliver(self):
+        """A put that is decided at all three."""
+        accepted = [self.accept(accept) for accept in self.put()]
+        decide = self.sent
+        self.deliver(accepted[0])  # a majority has it: a Decide to each follower
+        self.deliver(accepted[1])  # nothing new: a Decide again to its sender
+        self.sent += 3
+        for number in range(decide, self.sent):
+            self.deliver(number)
+
+    def forward(self):
+        """A put at a follower, which forwards it."""
+        self.puts += 1
+        self.add(short_put(2, self.puts))
+        self.sent += 1
