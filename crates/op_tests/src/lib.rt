@@ -14,6 +14,8 @@ mod elections;
 #[cfg(test)]
 mod entries;
 #[cfg(test)]
+mod fates;
+#[cfg(test)]
 mod frames;
 #[cfg(test)]
 mod heartbeats;

@@ -1,0 +1,155 @@
+-- A possible event is at a member, and the world after it is of a run of one happening more.
+use Rattle.std.proofs.Common.{◌≡◌, ℕ, zero, suc, Bool, true, nat_eq, ◌<◌, List, [], ◌∷◌, ◌++◌, length, get_or, insert, remove, Option, Some, None, All, slice_get, IfSome, refl, sym, ap, subst, ◌∙◌, arith}
+use Rattle.std.proofs.lemmas.Bool.{and_parts}
+use Rattle.std.proofs.lemmas.List.Elements.{All-head, All-tail, All-push}
+use Rattle.std.specs.Set.{is_member}
+use Rattle.op_types.specs.Ranges.{MembersInRange}
+use Rattle.op_types.specs.declared.events.What.{What}
+use Rattle.op_types.specs.declared.events.What.TheVariants as what
+use Rattle.op_types.specs.declared.events.Input.TheVariants as input
+use Rattle.op_types.specs.declared.messages.Body.{Body}
+use Rattle.op_types.specs.declared.messages.Msg.{Msg}
+use Rattle.op_types.specs.declared.summary.Line.{Line}
+use Rattle.op_runs.specs.World.{World, Node, Sent, Happening, Fate, Steps, Deed, first_world, run_of, delivery, deed_of, node_at, with_node, sent_by, world_after, world_with, world_at_node}
+use Rattle.op_runs.specs.Possible.{is_possible}
+use Rattle.op_bounds.specs.Laws.{SentInRange, HappeningInRange}
+use Rattle.op_bounds.specs.Messages.{IsMember}
+use Rattle.op_bounds.proofs.Runs.{runs_stay}
+use Rattle.op_pure.specs.declared.deed.Deed as deed
+use Rattle.op_pure.specs.declared.node.PureNode.{PureNode}
+use Rattle.op_pure.specs.Nodes.{ShowsNode, IsKept, IsDoneAt, doing_of}
+use Rattle.op_pure.specs.Worlds.{Parts, Shows, ShowNodes, IsWorld, Does, place_of, deed_shown}
+use Rattle.op_pure.proofs.Worlds.{pids, replaced, stands, shown, shown_with, pids-replaced, all_replaced}
+
+-- ---- deeds at members
+
+delivery_at : (members : List ℕ) (o : Option Sent) → IfSome o (SentInRange members) → IfSome (delivery o) (λ d. IsMember members d.pid)
+delivery_at members None k = tt
+delivery_at members (Some m) k = k.to
+
+message_found : (members : List ℕ) (ms : List Sent) (i : ℕ) → All (SentInRange members) ms → IfSome (slice_get ms i) (SentInRange members)
+message_found members [] i each = tt
+message_found members (m ∷ ms) zero each = All-head (SentInRange members) m ms each
+message_found members (m ∷ ms) (suc i) each = message_found members ms i (All-tail (SentInRange members) m ms each)
+
+deed_at : (members : List ℕ) (ms : List Sent) (sent : ℕ) (w : What) → All (SentInRange members) ms → is_possible members sent w ≡ true → IfSome (deed_of ms w) (λ d. IsMember members d.pid)
+deed_at members ms sent (what.Tick p) each can = can
+deed_at members ms sent (what.Command p c) each can = can
+deed_at members ms sent (what.Deliver i) each can = delivery_at members (slice_get ms i) (message_found members ms i each)
+deed_at members ms sent (what.Up p q) each can = (and_parts (is_member nat_eq members p) (is_member nat_eq members q) can).0
+deed_at members ms sent (what.Down p q) each can = (and_parts (is_member nat_eq members p) (is_member nat_eq members q) can).0
+deed_at members ms sent (what.Crash p) each can = can
+deed_at members ms sent (what.Start p) each can = can
+deed_at members ms sent (what.Ballots p) each can = can
+
+-- what a possible event does is done at a member: the messages are in range, as those of the run that the world shows
+pub possible_deed : (w : Parts) → IsWorld w → (x : What) → is_possible w.members (length w.messages) x ≡ true → (d : deed.Deed) → deed_of w.messages x ≡ Some (deed_shown d) → IsMember w.members d.pid
+possible_deed w i x can d is =
+    let run = runs_stay w.members i.range i.happenings i.happened in
+    let each : All (SentInRange w.members) w.messages = subst (λ (ms : List Sent). All (SentInRange w.members) ms) i.shows.messages run.messages in
+    subst (λ (o : Option Deed). IfSome o (λ d. IsMember w.members d.pid)) is (deed_at w.members w.messages (length w.messages) x each can)
+
+-- ---- a delivery
+
+message_at : (ms : List Sent) (k : ℕ) (m : Sent) → k < length ms → slice_get ms k ≡ Some (get_or ms k m)
+message_at [] k m there = absurd (omega arith)
+message_at (x ∷ ms) zero m there = refl
+message_at (x ∷ ms) (suc k) m there = message_at ms k m (let less : k < length ms = omega arith in less)
+
+-- the message of this number, with a copy of what it says
+pub delivered : (ms : List Sent) (k : ℕ) (m s : Sent) (said : Body) (d : Deed) → k < length ms → m ≡ get_or ms k m → s ≡ m → said ≡ s.message.body
+    → d ≡ record { pid = s.to; doing = Steps (input.Deliver s.from (record { conf = s.message.conf; body = said })) } → delivery (slice_get ms k) ≡ Some d
+delivered ms k m s said d there at same copied is =
+    let deed_saying : Body → Option Deed = λ b. Some (record { pid = s.to; doing = Steps (input.Deliver s.from (record { conf = s.message.conf; body = b })) }) in
+    let found : slice_get ms k ≡ Some s = message_at ms k m there ∙ ap (λ (x : Sent). Some x) (sym at ∙ sym same) in
+    ap delivery found ∙ ap deed_saying (sym copied) ∙ ap (λ (x : Deed). Some x) (sym is)
+
+-- ---- the node of a deed
+
+-- this node stands at its member's place
+pub record IsPlaced (w : Parts) (pid k : ℕ) (n : PureNode) : Type 0 where
+  pub member : is_member nat_eq w.members pid ≡ true
+  pub place : k ≡ place_of w.nodes pid
+  pub node : n ≡ get_or w.nodes k n
+
+-- what it shows of this world
+record Shown (n : PureNode) (pid : ℕ) (xs : List Node) : Type 0 where
+  pub node : Node
+  pub found : node_at xs pid ≡ Some node
+  pub shows : ShowsNode n node
+  pub is : n.pid ≡ pid
+
+has_node : (w : Parts) → IsWorld w → (pid k : ℕ) (n : PureNode) → IsPlaced w pid k n → is_member nat_eq (pids w.nodes) pid ≡ true
+has_node w i pid k n p = ap (λ (ms : List ℕ). is_member nat_eq ms pid) i.pids ∙ p.member
+
+shown_node : (w : Parts) → IsWorld w → (pid k : ℕ) (n : PureNode) → IsPlaced w pid k n → (xs : List Node) → ShowNodes w.nodes xs → Shown n pid xs
+shown_node w i pid k n p xs show =
+    let member = has_node w i pid k n p in
+    let at : n ≡ get_or w.nodes (place_of w.nodes pid) n = subst (λ (j : ℕ). n ≡ get_or w.nodes j n) p.place p.node in
+    let s = shown w.nodes xs pid show member in
+    record {
+      node = s.node;
+      found = s.found;
+      shows = subst (λ (v : PureNode). ShowsNode v s.node) (sym at) (s.shows n);
+      is = ap (λ (v : PureNode). v.pid) at ∙ (stands w.nodes pid member).is n;
+    }
+
+pub place_there : (w : Parts) → IsWorld w → (pid k : ℕ) → is_member nat_eq w.members pid ≡ true → k ≡ place_of w.nodes pid → k < length w.nodes
+place_there w i pid k member place =
+    subst (λ (j : ℕ). j < length w.nodes) (sym place) (stands w.nodes pid (ap (λ (ms : List ℕ). is_member nat_eq ms pid) i.pids ∙ member)).place
+
+pub node_kept : (w : Parts) → IsWorld w → (pid k : ℕ) (n : PureNode) → IsPlaced w pid k n → IsKept n
+node_kept w i pid k n p = subst (λ (v : PureNode). IsKept v) (sym p.node) (i.kept k n (place_there w i pid k p.member p.place))
+
+-- ---- the world after a deed
+
+-- this node was done so, and this is what its world became
+pub record IsDeedDone (w v : Parts) (d : deed.Deed) (fate : Fate) (finds_after : Bool) (line k : ℕ) (n m : PureNode) (sends : List (ℕ × Msg)) (told : List Line) : Type 0 where
+  pub placed : IsPlaced w d.pid k n
+  pub done : IsDoneAt n (doing_of d.doing) fate finds_after line m sends told
+  pub members : v.members ≡ w.members
+  pub nodes : v.nodes ≡ insert (remove w.nodes k) k m
+  pub messages : v.messages ≡ w.messages ++ sent_by n.pid sends
+  pub lines : v.lines ≡ w.lines ++ told
+
+run_of-push : (x : World) (hs : List Happening) (h : Happening) → run_of x (hs ++ h ∷ []) ≡ world_after (run_of x hs) h
+run_of-push x [] h = refl
+run_of-push x (g ∷ hs) h = run_of-push (world_after x g) hs h
+
+module _ (w v : Parts) (i : IsWorld w) (d : deed.Deed) (fate : Fate) (finds_after : Bool) (line k : ℕ) (n m : PureNode) (sends : List (ℕ × Msg)) (told : List Line) (t : IsDeedDone w v d fate finds_after line k n m sends told) where
+  nodes_now : v.nodes ≡ replaced w.nodes d.pid m
+  nodes_now =
+      let s = stands w.nodes d.pid (has_node w i d.pid k n t.placed) in
+      t.nodes ∙ ap (λ (j : ℕ). insert (remove w.nodes j) j m) t.placed.place ∙ s.swapped m
+
+  pub deed_shows : (x : World) (h : Happening) → Shows w x → Does x.messages h d fate finds_after line → Shows v (world_after x h)
+  deed_shows x h show does =
+      let s = shown_node w i d.pid k n t.placed x.nodes show.nodes in
+      let after = t.done.after s.node s.shows in
+      let y : Node = after.0 in
+      let found : node_at x.nodes s.node.pid ≡ Some s.node = ap (λ (id : ℕ). node_at x.nodes id) (s.shows.pid ∙ s.is) ∙ s.found in
+      let new : World = record { nodes = with_node x.nodes y; messages = x.messages ++ sent_by s.node.pid sends; lines = x.lines ++ told } in
+      let becomes : world_after x h ≡ new =
+      ap (λ (o : Option Deed). world_with o h x) does.deed_is ∙ ap (λ (o : Option Node). world_at_node o (doing_of d.doing) h x) s.found ∙ after.2.world x h does.fate_is does.finds does.line_is found in
+      let shows : Shows v new = record {
+        nodes = subst (λ (ns : List PureNode). ShowNodes ns (with_node x.nodes y)) (sym nodes_now) (shown_with w.nodes x.nodes d.pid m y (t.done.pid ∙ s.is) after.1 show.nodes);
+        messages = ap (λ (ms : List Sent). ms ++ sent_by s.node.pid sends) show.messages ∙ ap (λ (id : ℕ). w.messages ++ sent_by id sends) s.shows.pid ∙ sym t.messages;
+        lines = ap (λ (ls : List Line). ls ++ told) show.lines ∙ sym t.lines;
+      } in
+      subst (λ (z : World). Shows v z) (sym becomes) shows
+
+  pub deed_kept : (h : Happening) → HappeningInRange h → Does w.messages h d fate finds_after line → IsWorld v
+  deed_kept h fit does =
+      let x : World = run_of (first_world w.members) i.happenings in
+      let s = shown_node w i d.pid k n t.placed x.nodes i.shows.nodes in
+      let here : Does x.messages h d fate finds_after line = subst (λ (ms : List Sent). Does ms h d fate finds_after line) (sym i.shows.messages) does in
+      let ran : world_after x h ≡ run_of (first_world v.members) (i.happenings ++ h ∷ []) =
+      sym (run_of-push (first_world w.members) i.happenings h) ∙ ap (λ (ms : List ℕ). run_of (first_world ms) (i.happenings ++ h ∷ [])) (sym t.members) in
+      record {
+        range = subst (λ (ms : List ℕ). MembersInRange ms) (sym t.members) i.range;
+        pids = ap pids nodes_now ∙ pids-replaced w.nodes d.pid m (t.done.pid ∙ s.is) ∙ i.pids ∙ sym t.members;
+        kept = subst (λ (ns : List PureNode). All IsKept ns) (sym nodes_now) (all_replaced IsKept w.nodes d.pid m t.done.kept i.kept);
+        happenings = i.happenings ++ h ∷ [];
+        happened = All-push HappeningInRange i.happenings h i.happened fit;
+        shows = subst (λ (z : World). Shows v z) ran (deed_shows x h i.shows here);
+      }

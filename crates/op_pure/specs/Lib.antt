@@ -1,0 +1,4 @@
+pub mod Happenings
+pub mod Nodes
+pub mod Runs
+pub mod Worlds

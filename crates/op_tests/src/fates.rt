@@ -1,0 +1,99 @@
+//! Runs of the plain program, in which a step stops inside.
+ghost use Rattle.std.specs.Prelude.{All, IfOk};
+ghost use Rattle.op_types.specs.Ranges.{MembersInRange, WhatInRange};
+
+use op_pure::{Fate, Happening, Happenings, PureWorld};
+use op_types::{Blob, Command, Event, Line, Members, NoMemory, Op, Outcome, What};
+use op_world::RunFail;
+use std::alloc::Global;
+use std::test::Fail;
+
+fn sole(alloc: Global) -> Result<Members, NoMemory>
+    ensures { IfOk result MembersInRange }
+{
+    Ok(Members::from_vec(Vec::from_slice(alloc, &[1])?))
+}
+
+/// At server 1, client 7 proposes its command number 1.
+fn put(alloc: Global) -> Result<What, NoMemory>
+    ensures { IfOk result WhatInRange }
+{
+    let key = Blob::from_slice(alloc, b"a")?;
+    let value = Blob::from_slice(alloc, b"x")?;
+    let op = Op::Put(key, value);
+    Ok(What::Command(
+        1,
+        Command {
+            client: 7,
+            seq: 1,
+            op,
+        },
+    ))
+}
+
+/// Adds a happening, said in this line.
+fn add(
+    happenings: &mut Happenings,
+    line: u64,
+    what: What,
+    fate: Fate,
+    finds_after: bool,
+) -> Result<(), NoMemory>
+    requires what { WhatInRange what }
+    requires others { All (λ h. WhatInRange h.event.what) happenings.old }
+    ensures { All (λ h. WhatInRange h.event.what) happenings.new }
+{
+    happenings.push(Happening {
+        event: Event { line, what },
+        fate,
+        finds_after,
+    })
+}
+
+/// A sole member is elected, stops inside the step of a put, and is opened again: it finds what it stored before that step or after
+/// it. Elected again, it is sent the same put.
+fn stops_in_a_put(alloc: Global, finds_after: bool) -> Result<Happenings, NoMemory>
+    ensures { IfOk result (λ happenings. All (λ h. WhatInRange h.event.what) happenings) }
+{
+    let mut happenings = Happenings::new(alloc);
+    add(&mut happenings, 2, What::Tick(1), Fate::Done, false)?;
+    add(&mut happenings, 3, put(alloc)?, Fate::Stopped, false)?;
+    add(&mut happenings, 4, What::Start(1), Fate::Done, finds_after)?;
+    add(&mut happenings, 5, What::Tick(1), Fate::Done, false)?;
+    add(&mut happenings, 6, put(alloc)?, Fate::Done, false)?;
+    Ok(happenings)
+}
+
+#[test]
+fn a_stopped_step_is_found_undone_or_done(rt: HostRuntime) -> Result<(), Fail> {
+    let alloc = rt.alloc();
+    for (finds_after, position) in [(false, 0), (true, 1)] {
+        let happenings = stops_in_a_put(alloc, finds_after)?;
+        match PureWorld::run(alloc, sole(alloc)?, happenings) {
+            Ok(world) => match world.lines() {
+                [
+                    Line::Answer(6, Outcome::Appended(1, at)),
+                    Line::Reply(1, 7, 1, _),
+                ] => {
+                    assert_eq!(rt; *at, position);
+                }
+                _ => assert!(rt; false, "other lines"),
+            },
+            Err(_) => assert!(rt; false, "no world"),
+        }
+    }
+    Ok(())
+}
+
+#[test]
+fn a_server_that_is_no_member_is_refused(rt: HostRuntime) -> Result<(), Fail> {
+    let alloc = rt.alloc();
+    let mut happenings = Happenings::new(alloc);
+    add(&mut happenings, 2, What::Tick(1), Fate::Done, false)?;
+    add(&mut happenings, 3, What::Tick(2), Fate::Done, false)?;
+    match PureWorld::run(alloc, sole(alloc)?, happenings) {
+        Ok(_) => assert!(rt; false, "a world"),
+        Err(fail) => assert!(rt; fail == RunFail::BadEvent { index: 1 }),
+    }
+    Ok(())
+}
