@@ -24,16 +24,16 @@ use Rattle.op_bounds.proofs.Effects.{drop_one}
 
 -- ---- promises that are kept
 
-pub promise_found : (members : List ℕ) (ks : List Promised) (q : ℕ) → All (PromisedInRange members) ks → IfSome (promise_of ks q) (PromisedInRange members)
-promise_found members [] q each = tt
-promise_found members (k ∷ ks) q each =
-    cond_both (eqb k.from q) (Some k) (promise_of ks q) (λ (o : Option Promised). IfSome o (PromisedInRange members))
-    (λ _. All-head (PromisedInRange members) k ks each) (λ _. promise_found members ks q (All-tail (PromisedInRange members) k ks each))
+pub promise_found : (Known : ℕ → Type 0) (ks : List Promised) (q : ℕ) → All (PromisedInRange Known) ks → IfSome (promise_of ks q) (PromisedInRange Known)
+promise_found Known [] q each = tt
+promise_found Known (k ∷ ks) q each =
+    cond_both (eqb k.from q) (Some k) (promise_of ks q) (λ (o : Option Promised). IfSome o (PromisedInRange Known))
+    (λ _. All-head (PromisedInRange Known) k ks each) (λ _. promise_found Known ks q (All-tail (PromisedInRange Known) k ks each))
 
-pub promises_more : (members : List ℕ) (ks : List Promised) (k : Promised) → All (PromisedInRange members) ks → PromisedInRange members k → All (PromisedInRange members) (promises_with ks k)
-promises_more members ks k each one =
-    All-append (PromisedInRange members) (filter (λ j. not (eqb j.from k.from)) ks) (k ∷ []) (All-filter (λ j. not (eqb j.from k.from)) (PromisedInRange members) ks each)
-    (All-cons (PromisedInRange members) k [] one (All-nil (PromisedInRange members)))
+pub promises_more : (Known : ℕ → Type 0) (ks : List Promised) (k : Promised) → All (PromisedInRange Known) ks → PromisedInRange Known k → All (PromisedInRange Known) (promises_with ks k)
+promises_more Known ks k each one =
+    All-append (PromisedInRange Known) (filter (λ j. not (eqb j.from k.from)) ks) (k ∷ []) (All-filter (λ j. not (eqb j.from k.from)) (PromisedInRange Known) ks each)
+    (All-cons (PromisedInRange Known) k [] one (All-nil (PromisedInRange Known)))
 
 -- ---- logs by round and length
 
@@ -67,8 +67,8 @@ up_to_over a m b n (inr (e, inr x)) = inr (e, inr (x.0, omega arith))
 -- ---- the choice
 
 -- a log to adopt at a part: it goes on from the part's log where nothing is decided beyond, and isn't below that log
-pub record ChoiceIn (members : List ℕ) (p : Part) (c : Choice) : Type 0 where
-  pub accepted : BallotOf members c.accepted
+pub record ChoiceIn (Known : ℕ → Type 0) (p : Part) (c : Choice) : Type 0 where
+  pub accepted : BallotOf Known c.accepted
   pub len : IsPlace c.len
   pub low : p.decided ≤ c.start
   pub high : c.start ≤ len_of p
@@ -76,8 +76,8 @@ pub record ChoiceIn (members : List ℕ) (p : Part) (c : Choice) : Type 0 where
   pub entries : All EntryInRange c.entries
   pub above : IsUpTo p.accepted (len_of p) c.accepted c.len
 
-own_in : (members : List ℕ) (p : Part) → PartIn members p → ChoiceIn members p (own_choice p)
-own_in members p k =
+own_in : (Known : ℕ → Type 0) (p : Part) → PartIn Known p → ChoiceIn Known p (own_choice p)
+own_in Known p k =
     record {
       accepted = k.of.accepted;
       len = k.range.len;
@@ -95,9 +95,9 @@ usable_goes_on p k usable above =
     let parts = and_parts (leb p.decided k.start) (leb k.start (len_of p) && eqb (k.start + length k.entries) k.len) rest in
     (leb-true p.decided k.start parts.0, leb-true k.start (len_of p) (and_parts (leb k.start (len_of p)) (eqb (k.start + length k.entries) k.len) parts.1).0)
 
-promise_chosen : (members : List ℕ) (p : Part) (k : Promised) (c : Choice) → PromisedInRange members k → ChoiceIn members p c → is_usable p k ≡ true → is_above k.accepted k.len c.accepted c.len ≡ true
-    → ChoiceIn members p (choice_of k)
-promise_chosen members p k c one now usable above =
+promise_chosen : (Known : ℕ → Type 0) (p : Part) (k : Promised) (c : Choice) → PromisedInRange Known k → ChoiceIn Known p c → is_usable p k ≡ true → is_above k.accepted k.len c.accepted c.len ≡ true
+    → ChoiceIn Known p (choice_of k)
+promise_chosen Known p k c one now usable above =
     let over : IsOver k.accepted k.len p.accepted (len_of p) = over_both k.accepted k.len c.accepted c.len p.accepted (len_of p) (over_from k.accepted k.len c.accepted c.len above) now.above in
     let goes = usable_goes_on p k usable (over_to k.accepted k.len p.accepted (len_of p) over) in
     record {
@@ -110,19 +110,19 @@ promise_chosen members p k c one now usable above =
       above = up_to_over k.accepted k.len p.accepted (len_of p) over;
     }
 
-better_in : (members : List ℕ) (p : Part) (o : Option Promised) (c : Choice) → IfSome o (PromisedInRange members) → ChoiceIn members p c → ChoiceIn members p (better p o c)
-better_in members p None c one now = now
-better_in members p (Some k) c one now =
-    cond_both (is_usable p k && is_above k.accepted k.len c.accepted c.len) (choice_of k) c (ChoiceIn members p)
-    (λ h. let parts = and_parts (is_usable p k) (is_above k.accepted k.len c.accepted c.len) h in promise_chosen members p k c one now parts.0 parts.1)
+better_in : (Known : ℕ → Type 0) (p : Part) (o : Option Promised) (c : Choice) → IfSome o (PromisedInRange Known) → ChoiceIn Known p c → ChoiceIn Known p (better p o c)
+better_in Known p None c one now = now
+better_in Known p (Some k) c one now =
+    cond_both (is_usable p k && is_above k.accepted k.len c.accepted c.len) (choice_of k) c (ChoiceIn Known p)
+    (λ h. let parts = and_parts (is_usable p k) (is_above k.accepted k.len c.accepted c.len) h in promise_chosen Known p k c one now parts.0 parts.1)
     (λ _. now)
 
-best_from : (members : List ℕ) (p : Part) (ks : List Promised) → All (PromisedInRange members) ks → (qs : List ℕ) (c : Choice) → ChoiceIn members p c → ChoiceIn members p (best p ks qs c)
-best_from members p ks each [] c now = now
-best_from members p ks each (q ∷ qs) c now = best_from members p ks each qs (better p (promise_of ks q) c) (better_in members p (promise_of ks q) c (promise_found members ks q each) now)
+best_from : (Known : ℕ → Type 0) (p : Part) (ks : List Promised) → All (PromisedInRange Known) ks → (qs : List ℕ) (c : Choice) → ChoiceIn Known p c → ChoiceIn Known p (best p ks qs c)
+best_from Known p ks each [] c now = now
+best_from Known p ks each (q ∷ qs) c now = best_from Known p ks each qs (better p (promise_of ks q) c) (better_in Known p (promise_of ks q) c (promise_found Known ks q each) now)
 
-pub best_in : (members : List ℕ) (p : Part) (ks : List Promised) → PartIn members p → All (PromisedInRange members) ks → ChoiceIn members p (best p ks p.members (own_choice p))
-best_in members p ks k each = best_from members p ks each p.members (own_choice p) (own_in members p k)
+pub best_in : (Known : ℕ → Type 0) (p : Part) (ks : List Promised) → PartIn Known p → All (PromisedInRange Known) ks → ChoiceIn Known p (best p ks p.members (own_choice p))
+best_in Known p ks k each = best_from Known p ks each p.members (own_choice p) (own_in Known p k)
 
 -- ---- the buffer
 
@@ -154,14 +154,14 @@ fitting_in None len (b ∷ buffer) place each =
     record { ends = omega (arith, more.ends); each = All-cons EntryInRange b.entry _ (All-head BufferedInRange b buffer each) more.each })
     (λ _. none_more len place)
 
-pub left_over_in : (members : List ℕ) (stop : Option ℕ) (len : ℕ) (buffer : List Buffered) → StopInRange stop → All BufferedInRange buffer → All (ReplyInRange members) (left_over stop len buffer)
-left_over_in members None len [] in_stop each = All-nil (ReplyInRange members)
-left_over_in members (Some pos) len [] in_stop each = All-nil (ReplyInRange members)
-left_over_in members (Some pos) len (b ∷ buffer) in_stop each =
-    All-append (ReplyInRange members) (dropped (cause.Stop pos) b) (left_over (Some pos) len buffer) (drop_one members (cause.Stop pos) b in_stop (All-head BufferedInRange b buffer each))
-    (left_over_in members (Some pos) len buffer in_stop (All-tail BufferedInRange b buffer each))
-left_over_in members None len (b ∷ buffer) in_stop each =
-    cond_both (ltb len positions_end) (left_over (stop_here b.entry len) (len + 1) buffer) (dropped cause.End b ++ left_over None len buffer) (All (ReplyInRange members))
-    (λ h. let room = ltb-true len positions_end h in left_over_in members (stop_here b.entry len) (len + 1) buffer (stop_here_in b.entry len (omega (arith, room))) (All-tail BufferedInRange b buffer each))
-    (λ _. All-append (ReplyInRange members) (dropped cause.End b) (left_over None len buffer) (drop_one members cause.End b tt (All-head BufferedInRange b buffer each))
-    (left_over_in members None len buffer in_stop (All-tail BufferedInRange b buffer each)))
+pub left_over_in : (Known : ℕ → Type 0) (stop : Option ℕ) (len : ℕ) (buffer : List Buffered) → StopInRange stop → All BufferedInRange buffer → All (ReplyInRange Known) (left_over stop len buffer)
+left_over_in Known None len [] in_stop each = All-nil (ReplyInRange Known)
+left_over_in Known (Some pos) len [] in_stop each = All-nil (ReplyInRange Known)
+left_over_in Known (Some pos) len (b ∷ buffer) in_stop each =
+    All-append (ReplyInRange Known) (dropped (cause.Stop pos) b) (left_over (Some pos) len buffer) (drop_one Known (cause.Stop pos) b in_stop (All-head BufferedInRange b buffer each))
+    (left_over_in Known (Some pos) len buffer in_stop (All-tail BufferedInRange b buffer each))
+left_over_in Known None len (b ∷ buffer) in_stop each =
+    cond_both (ltb len positions_end) (left_over (stop_here b.entry len) (len + 1) buffer) (dropped cause.End b ++ left_over None len buffer) (All (ReplyInRange Known))
+    (λ h. let room = ltb-true len positions_end h in left_over_in Known (stop_here b.entry len) (len + 1) buffer (stop_here_in b.entry len (omega (arith, room))) (All-tail BufferedInRange b buffer each))
+    (λ _. All-append (ReplyInRange Known) (dropped cause.End b) (left_over None len buffer) (drop_one Known cause.End b tt (All-head BufferedInRange b buffer each))
+    (left_over_in Known None len buffer in_stop (All-tail BufferedInRange b buffer each)))

@@ -23,7 +23,7 @@ use Rattle.op_types.specs.declared.answers.Outcome.TheVariants as outcome
 use Rattle.op_protocol.specs.Parts.{pending, message, others, to_each, prepare_body, saying, nothing}
 use Rattle.op_protocol.specs.Promises.{is_usable}
 use Rattle.op_protocol.specs.Leader.{synced_others, count, is_synced, sync_sends, prepares, given_up_by, lead, on_promise, decided_again, on_accepted, on_prepare_req, extends, propose, on_forward_leading, on_forward, session_down}
-use Rattle.op_bounds.specs.Messages.{IsMember, BallotOf, SendInRange, ReplyInRange}
+use Rattle.op_bounds.specs.Messages.{BallotOf, SendInRange, ReplyInRange}
 use Rattle.op_bounds.specs.States.{PromisedInRange, BufferedInRange, AcknowledgedInRange, PreparingInRange, LeadingInRange, RoleInRange}
 use Rattle.op_bounds.proofs.Batches.{PartIn, after_one}
 use Rattle.op_bounds.proofs.Effects.{RowInRange, row_saying, row_nothing, row_first, row_answered, send_one, send_each, others_all, given_up}
@@ -33,113 +33,113 @@ use Rattle.op_bounds.proofs.Leading.{prepare_said, synced_all, count_in, sync_sa
 
 -- ---- what a turn makes of a role
 
-buffered_more : (members : List ℕ) (r : Preparing) (b : Buffered) → PreparingInRange members r → BufferedInRange b → PreparingInRange members (with_buffered r b)
-buffered_more members r b in_preparing one =
+buffered_more : (Known : ℕ → Type 0) (r : Preparing) (b : Buffered) → PreparingInRange Known r → BufferedInRange b → PreparingInRange Known (with_buffered r b)
+buffered_more Known r b in_preparing one =
     record { ballot = in_preparing.ballot; promises = in_preparing.promises; buffer = All-append BufferedInRange r.buffer (b ∷ []) in_preparing.buffer (All-cons BufferedInRange b [] one (All-nil BufferedInRange)) }
 
-promise_more : (members : List ℕ) (r : Preparing) (k : Promised) → PreparingInRange members r → PromisedInRange members k → PreparingInRange members (with_promise r k)
-promise_more members r k in_preparing one = record { ballot = in_preparing.ballot; promises = promises_more members r.promises k in_preparing.promises one; buffer = in_preparing.buffer }
+promise_more : (Known : ℕ → Type 0) (r : Preparing) (k : Promised) → PreparingInRange Known r → PromisedInRange Known k → PreparingInRange Known (with_promise r k)
+promise_more Known r k in_preparing one = record { ballot = in_preparing.ballot; promises = promises_more Known r.promises k in_preparing.promises one; buffer = in_preparing.buffer }
 
 -- a leader with these followers
-synced_now : (members : List ℕ) (l : Leading) (qs : List ℕ) → LeadingInRange members l → All (IsMember members) qs → LeadingInRange members (record l { synced = qs })
-synced_now members l qs in_leading all = record { ballot = in_leading.ballot; adopted_round = in_leading.adopted_round; adopted_len = in_leading.adopted_len; synced = all; acknowledged = in_leading.acknowledged }
+synced_now : (Known : ℕ → Type 0) (l : Leading) (qs : List ℕ) → LeadingInRange Known l → All Known qs → LeadingInRange Known (record l { synced = qs })
+synced_now Known l qs in_leading all = record { ballot = in_leading.ballot; adopted_round = in_leading.adopted_round; adopted_len = in_leading.adopted_len; synced = all; acknowledged = in_leading.acknowledged }
 
-synced_more : (members : List ℕ) (l : Leading) (q : ℕ) → LeadingInRange members l → IsMember members q → LeadingInRange members (with_synced l q)
-synced_more members l q in_leading one =
-    cond_both (is_member nat_eq l.synced q) l (record l { synced = l.synced ++ q ∷ [] }) (LeadingInRange members) (λ _. in_leading)
-    (λ _. synced_now members l (l.synced ++ q ∷ []) in_leading (All-append (IsMember members) l.synced (q ∷ []) in_leading.synced (All-cons (IsMember members) q [] one (All-nil (IsMember members)))))
+synced_more : (Known : ℕ → Type 0) (l : Leading) (q : ℕ) → LeadingInRange Known l → Known q → LeadingInRange Known (with_synced l q)
+synced_more Known l q in_leading one =
+    cond_both (is_member nat_eq l.synced q) l (record l { synced = l.synced ++ q ∷ [] }) (LeadingInRange Known) (λ _. in_leading)
+    (λ _. synced_now Known l (l.synced ++ q ∷ []) in_leading (All-append Known l.synced (q ∷ []) in_leading.synced (All-cons Known q [] one (All-nil Known))))
 
 -- with these acknowledged lengths
-acknowledged_now : (members : List ℕ) (l : Leading) (acks : List Acknowledged) → LeadingInRange members l → All (AcknowledgedInRange members) acks → LeadingInRange members (record l { acknowledged = acks })
-acknowledged_now members l acks in_leading all = record { ballot = in_leading.ballot; adopted_round = in_leading.adopted_round; adopted_len = in_leading.adopted_len; synced = in_leading.synced; acknowledged = all }
+acknowledged_now : (Known : ℕ → Type 0) (l : Leading) (acks : List Acknowledged) → LeadingInRange Known l → All (AcknowledgedInRange Known) acks → LeadingInRange Known (record l { acknowledged = acks })
+acknowledged_now Known l acks in_leading all = record { ballot = in_leading.ballot; adopted_round = in_leading.adopted_round; adopted_len = in_leading.adopted_len; synced = in_leading.synced; acknowledged = all }
 
-acknowledged_more : (members : List ℕ) (l : Leading) (a : Acknowledged) → LeadingInRange members l → AcknowledgedInRange members a → LeadingInRange members (with_acknowledged l a)
-acknowledged_more members l a in_leading one =
-    cond_both (ltb (acknowledged_of l.acknowledged a.from) a.len) (filter (λ b. not (eqb b.from a.from)) l.acknowledged ++ a ∷ []) l.acknowledged (λ (acks : List Acknowledged). LeadingInRange members (record l { acknowledged = acks }))
-    (λ _. acknowledged_now members l (filter (λ b. not (eqb b.from a.from)) l.acknowledged ++ a ∷ []) in_leading
-    (All-append (AcknowledgedInRange members) (filter (λ b. not (eqb b.from a.from)) l.acknowledged) (a ∷ []) (All-filter (λ b. not (eqb b.from a.from)) (AcknowledgedInRange members) l.acknowledged in_leading.acknowledged)
-    (All-cons (AcknowledgedInRange members) a [] one (All-nil (AcknowledgedInRange members)))))
+acknowledged_more : (Known : ℕ → Type 0) (l : Leading) (a : Acknowledged) → LeadingInRange Known l → AcknowledgedInRange Known a → LeadingInRange Known (with_acknowledged l a)
+acknowledged_more Known l a in_leading one =
+    cond_both (ltb (acknowledged_of l.acknowledged a.from) a.len) (filter (λ b. not (eqb b.from a.from)) l.acknowledged ++ a ∷ []) l.acknowledged (λ (acks : List Acknowledged). LeadingInRange Known (record l { acknowledged = acks }))
+    (λ _. acknowledged_now Known l (filter (λ b. not (eqb b.from a.from)) l.acknowledged ++ a ∷ []) in_leading
+    (All-append (AcknowledgedInRange Known) (filter (λ b. not (eqb b.from a.from)) l.acknowledged) (a ∷ []) (All-filter (λ b. not (eqb b.from a.from)) (AcknowledgedInRange Known) l.acknowledged in_leading.acknowledged)
+    (All-cons (AcknowledgedInRange Known) a [] one (All-nil (AcknowledgedInRange Known)))))
     (λ _. in_leading)
 
 -- ---- the rows
 
-module _ (members : List ℕ) (me : ℕ) (p : Part) (k : PartIn members p) where
-  pub lead_in : (r : Role) (n : Ballot) → RoleInRange members r → BallotOf members n → RowInRange members p 6 (lead me p r n)
+module _ (Known : ℕ → Type 0) (me : ℕ) (p : Part) (k : PartIn Known p) where
+  pub lead_in : (r : Role) (n : Ballot) → RoleInRange Known r → BallotOf Known n → RowInRange Known p 6 (lead me p r n)
   lead_in r n in_role of =
-      row_first members p 6 5 (change.Promise n ∷ []) (to_each p.conf (others me p.members) (prepare_body p n)) (given_up_by r (cause.Ballot n))
+      row_first Known p 6 5 (change.Promise n ∷ []) (to_each p.conf (others me p.members) (prepare_body p n)) (given_up_by r (cause.Ballot n))
       (prepares me (part_with p (change.Promise n)) (record { ballot = n; promises = []; buffer = [] })) (of, tt) (omega arith)
-      (send_each members p.conf (others me p.members) (prepare_body p n) k.range.conf (others_all members me p k) (prepare_said members me p k n of))
-      (given_up members r (cause.Ballot n) in_role of)
-      (prepares_in members me (part_with p (change.Promise n)) (after_one members p (change.Promise n) k of) (record { ballot = n; promises = []; buffer = [] })
-      (record { ballot = of; promises = All-nil (PromisedInRange members); buffer = All-nil BufferedInRange }))
+      (send_each Known p.conf (others me p.members) (prepare_body p n) k.range.conf (others_all Known me p k) (prepare_said Known me p k n of))
+      (given_up Known r (cause.Ballot n) in_role of)
+      (prepares_in Known me (part_with p (change.Promise n)) (after_one Known p (change.Promise n) k of) (record { ballot = n; promises = []; buffer = [] })
+      (record { ballot = of; promises = All-nil (PromisedInRange Known); buffer = All-nil BufferedInRange }))
 
-  pub promise_in : (r : Role) (n : Ballot) (j : Promised) → RoleInRange members r → PromisedInRange members j → RowInRange members p 5 (on_promise me p r n j)
-  promise_in role.Idle n j in_role one = row_nothing members p 5 role.Idle tt
+  pub promise_in : (r : Role) (n : Ballot) (j : Promised) → RoleInRange Known r → PromisedInRange Known j → RowInRange Known p 5 (on_promise me p r n j)
+  promise_in role.Idle n j in_role one = row_nothing Known p 5 role.Idle tt
   promise_in (role.Preparing r) n j in_role one =
-      cond_both (is_same_ballot n r.ballot && is_usable p j) (prepares me p (with_promise r j)) (nothing (role.Preparing r)) (RowInRange members p 5)
-      (λ _. prepares_in members me p k (with_promise r j) (promise_more members r j in_role one)) (λ _. row_nothing members p 5 (role.Preparing r) in_role)
+      cond_both (is_same_ballot n r.ballot && is_usable p j) (prepares me p (with_promise r j)) (nothing (role.Preparing r)) (RowInRange Known p 5)
+      (λ _. prepares_in Known me p k (with_promise r j) (promise_more Known r j in_role one)) (λ _. row_nothing Known p 5 (role.Preparing r) in_role)
   promise_in (role.Leading l) n j in_role one =
-      cond_both (is_same_ballot n l.ballot) (saying (role.Leading (cond (is_synced p l j) (with_synced l j.from) l)) (sync_sends p l j)) (nothing (role.Leading l)) (RowInRange members p 5)
-      (λ _. row_saying members p 5 (role.Leading (cond (is_synced p l j) (with_synced l j.from) l)) (sync_sends p l j)
-      (cond_both (is_synced p l j) (with_synced l j.from) l (LeadingInRange members) (λ _. synced_more members l j.from in_role one.from) (λ _. in_role))
-      (sync_said members me p k l j in_role.ballot one))
-      (λ _. row_nothing members p 5 (role.Leading l) in_role)
+      cond_both (is_same_ballot n l.ballot) (saying (role.Leading (cond (is_synced p l j) (with_synced l j.from) l)) (sync_sends p l j)) (nothing (role.Leading l)) (RowInRange Known p 5)
+      (λ _. row_saying Known p 5 (role.Leading (cond (is_synced p l j) (with_synced l j.from) l)) (sync_sends p l j)
+      (cond_both (is_synced p l j) (with_synced l j.from) l (LeadingInRange Known) (λ _. synced_more Known l j.from in_role one.from) (λ _. in_role))
+      (sync_said Known me p k l j in_role.ballot one))
+      (λ _. row_nothing Known p 5 (role.Leading l) in_role)
 
-  again_said : (q : ℕ) (n : Ballot) → IsMember members q → BallotOf members n → All (SendInRange members) (decided_again p q n)
+  again_said : (q : ℕ) (n : Ballot) → Known q → BallotOf Known n → All (SendInRange Known) (decided_again p q n)
   again_said q n to of =
-      cond_both (ltb 0 p.decided) (message p.conf q (body.Decide n p.decided) ∷ []) [] (All (SendInRange members))
-      (λ _. send_one members p.conf q (body.Decide n p.decided) k.range.conf to (of, decided_place members p k)) (λ _. All-nil (SendInRange members))
+      cond_both (ltb 0 p.decided) (message p.conf q (body.Decide n p.decided) ∷ []) [] (All (SendInRange Known))
+      (λ _. send_one Known p.conf q (body.Decide n p.decided) k.range.conf to (of, decided_place Known p k)) (λ _. All-nil (SendInRange Known))
 
-  pub accepted_in : (r : Role) (q : ℕ) (n : Ballot) (x : ℕ) → RoleInRange members r → IsMember members q → IsPlace x → RowInRange members p 1 (on_accepted me p r q n x)
-  accepted_in role.Idle q n x in_role from place = row_nothing members p 1 role.Idle tt
-  accepted_in (role.Preparing r) q n x in_role from place = row_nothing members p 1 (role.Preparing r) in_role
+  pub accepted_in : (r : Role) (q : ℕ) (n : Ballot) (x : ℕ) → RoleInRange Known r → Known q → IsPlace x → RowInRange Known p 1 (on_accepted me p r q n x)
+  accepted_in role.Idle q n x in_role from place = row_nothing Known p 1 role.Idle tt
+  accepted_in (role.Preparing r) q n x in_role from place = row_nothing Known p 1 (role.Preparing r) in_role
   accepted_in (role.Leading l) q n x in_role from place =
-      cond_both (is_same_ballot n l.ballot && leb x (len_of p)) (count me p (len_of p) (with_acknowledged l (record { from = q; len = x })) (decided_again p q l.ballot)) (nothing (role.Leading l)) (RowInRange members p 1)
-      (λ _. count_in members me p k p (len_of p) (with_acknowledged l (record { from = q; len = x })) (decided_again p q l.ballot) refl (omega arith) k.range.len
-      (acknowledged_more members l (record { from = q; len = x }) in_role (record { from = from; len = place })) (again_said q l.ballot from in_role.ballot))
-      (λ _. row_nothing members p 1 (role.Leading l) in_role)
+      cond_both (is_same_ballot n l.ballot && leb x (len_of p)) (count me p (len_of p) (with_acknowledged l (record { from = q; len = x })) (decided_again p q l.ballot)) (nothing (role.Leading l)) (RowInRange Known p 1)
+      (λ _. count_in Known me p k p (len_of p) (with_acknowledged l (record { from = q; len = x })) (decided_again p q l.ballot) refl (omega arith) k.range.len
+      (acknowledged_more Known l (record { from = q; len = x }) in_role (record { from = from; len = place })) (again_said q l.ballot from in_role.ballot))
+      (λ _. row_nothing Known p 1 (role.Leading l) in_role)
 
-  pub prepare_req_in : (r : Role) (q : ℕ) → RoleInRange members r → IsMember members q → RowInRange members p 0 (on_prepare_req p r q)
-  prepare_req_in role.Idle q in_role from = row_nothing members p 0 role.Idle tt
+  pub prepare_req_in : (r : Role) (q : ℕ) → RoleInRange Known r → Known q → RowInRange Known p 0 (on_prepare_req p r q)
+  prepare_req_in role.Idle q in_role from = row_nothing Known p 0 role.Idle tt
   prepare_req_in (role.Preparing r) q in_role from =
-      row_saying members p 0 (role.Preparing r) (message p.conf q (prepare_body p r.ballot) ∷ []) in_role (send_one members p.conf q (prepare_body p r.ballot) k.range.conf from (prepare_said members me p k r.ballot in_role.ballot))
+      row_saying Known p 0 (role.Preparing r) (message p.conf q (prepare_body p r.ballot) ∷ []) in_role (send_one Known p.conf q (prepare_body p r.ballot) k.range.conf from (prepare_said Known me p k r.ballot in_role.ballot))
   prepare_req_in (role.Leading l) q in_role from =
-      row_saying members p 0 (role.Leading l) (message p.conf q (prepare_body p l.ballot) ∷ []) in_role (send_one members p.conf q (prepare_body p l.ballot) k.range.conf from (prepare_said members me p k l.ballot in_role.ballot))
+      row_saying Known p 0 (role.Leading l) (message p.conf q (prepare_body p l.ballot) ∷ []) in_role (send_one Known p.conf q (prepare_body p l.ballot) k.range.conf from (prepare_said Known me p k l.ballot in_role.ballot))
 
   -- ---- proposals
-  extends_in : (l : Leading) (e : Entry) → LeadingInRange members l → EntryInRange e → len_of p < positions_end → RowInRange members p 2 (extends me p l e)
+  extends_in : (l : Leading) (e : Entry) → LeadingInRange Known l → EntryInRange e → len_of p < positions_end → RowInRange Known p 2 (extends me p l e)
   extends_in l e in_leading fit room =
       let one : All EntryInRange (e ∷ []) = All-cons EntryInRange e [] fit (All-nil EntryInRange) in
-      row_first members p 2 1 (change.Append (e ∷ []) ∷ []) (to_each p.conf (synced_others me p.members l) (body.Accept l.ballot (len_of p) (e ∷ []))) [] (count me p (len_of p + 1) l [])
+      row_first Known p 2 1 (change.Append (e ∷ []) ∷ []) (to_each p.conf (synced_others me p.members l) (body.Accept l.ballot (len_of p) (e ∷ []))) [] (count me p (len_of p + 1) l [])
       ((omega (arith, room), one), tt) (omega arith)
-      (send_each members p.conf (synced_others me p.members l) (body.Accept l.ballot (len_of p) (e ∷ [])) k.range.conf (synced_all members me p k l) (in_leading.ballot, k.range.len, record { few = omega arith; each = one }))
-      (All-nil (ReplyInRange members))
-      (count_in members me p k (part_with p (change.Append (e ∷ []))) (len_of p + 1) l [] refl (omega (arith, length-append p.tail.items (e ∷ []))) (omega (arith, room)) in_leading (All-nil (SendInRange members)))
+      (send_each Known p.conf (synced_others me p.members l) (body.Accept l.ballot (len_of p) (e ∷ [])) k.range.conf (synced_all Known me p k l) (in_leading.ballot, k.range.len, record { few = omega arith; each = one }))
+      (All-nil (ReplyInRange Known))
+      (count_in Known me p k (part_with p (change.Append (e ∷ []))) (len_of p + 1) l [] refl (omega (arith, length-append p.tail.items (e ∷ []))) (omega (arith, room)) in_leading (All-nil (SendInRange Known)))
 
-  pub propose_in : (r : Role) (e : Entry) → RoleInRange members r → EntryInRange e → len_of p < positions_end → (r ≡ role.Idle → IsMember members p.promised.pid) → RowInRange members p 2 (propose me p r e)
+  pub propose_in : (r : Role) (e : Entry) → RoleInRange Known r → EntryInRange e → len_of p < positions_end → (r ≡ role.Idle → Known p.promised.pid) → RowInRange Known p 2 (propose me p r e)
   propose_in role.Idle e in_role fit room known =
-      row_answered members p 2 (outcome.Forwarded p.promised.pid) (saying role.Idle (message p.conf p.promised.pid (body.Forward e) ∷ [])) (known refl)
-      (row_saying members p 2 role.Idle (message p.conf p.promised.pid (body.Forward e) ∷ []) tt (send_one members p.conf p.promised.pid (body.Forward e) k.range.conf (known refl) fit))
+      row_answered Known p 2 (outcome.Forwarded p.promised.pid) (saying role.Idle (message p.conf p.promised.pid (body.Forward e) ∷ [])) (known refl)
+      (row_saying Known p 2 role.Idle (message p.conf p.promised.pid (body.Forward e) ∷ []) tt (send_one Known p.conf p.promised.pid (body.Forward e) k.range.conf (known refl) fit))
   propose_in (role.Preparing r) e in_role fit room known =
-      row_answered members p 2 outcome.Buffered (nothing (role.Preparing (with_buffered r (record { entry = e; is_own = true })))) tt
-      (row_nothing members p 2 (role.Preparing (with_buffered r (record { entry = e; is_own = true }))) (buffered_more members r (record { entry = e; is_own = true }) in_role fit))
-  propose_in (role.Leading l) e in_role fit room known = row_answered members p 2 (outcome.Appended p.conf (len_of p)) (extends me p l e) (k.range.conf, k.range.len) (extends_in l e in_role fit room)
+      row_answered Known p 2 outcome.Buffered (nothing (role.Preparing (with_buffered r (record { entry = e; is_own = true })))) tt
+      (row_nothing Known p 2 (role.Preparing (with_buffered r (record { entry = e; is_own = true }))) (buffered_more Known r (record { entry = e; is_own = true }) in_role fit))
+  propose_in (role.Leading l) e in_role fit room known = row_answered Known p 2 (outcome.Appended p.conf (len_of p)) (extends me p l e) (k.range.conf, k.range.len) (extends_in l e in_role fit room)
 
-  forward_leading_in : (l : Leading) (e : Entry) (stop : Option ℕ) → LeadingInRange members l → EntryInRange e → RowInRange members p 2 (on_forward_leading me p l e stop)
-  forward_leading_in l e (Some pos) in_leading fit = row_nothing members p 2 (role.Leading l) in_leading
+  forward_leading_in : (l : Leading) (e : Entry) (stop : Option ℕ) → LeadingInRange Known l → EntryInRange e → RowInRange Known p 2 (on_forward_leading me p l e stop)
+  forward_leading_in l e (Some pos) in_leading fit = row_nothing Known p 2 (role.Leading l) in_leading
   forward_leading_in l e None in_leading fit =
-      cond_both (ltb (len_of p) positions_end) (extends me p l e) (nothing (role.Leading l)) (RowInRange members p 2)
-      (λ h. extends_in l e in_leading fit (ltb-true (len_of p) positions_end h)) (λ _. row_nothing members p 2 (role.Leading l) in_leading)
+      cond_both (ltb (len_of p) positions_end) (extends me p l e) (nothing (role.Leading l)) (RowInRange Known p 2)
+      (λ h. extends_in l e in_leading fit (ltb-true (len_of p) positions_end h)) (λ _. row_nothing Known p 2 (role.Leading l) in_leading)
 
-  pub forward_in : (r : Role) (e : Entry) → RoleInRange members r → EntryInRange e → RowInRange members p 2 (on_forward me p r e)
-  forward_in role.Idle e in_role fit = row_nothing members p 2 role.Idle tt
+  pub forward_in : (r : Role) (e : Entry) → RoleInRange Known r → EntryInRange e → RowInRange Known p 2 (on_forward me p r e)
+  forward_in role.Idle e in_role fit = row_nothing Known p 2 role.Idle tt
   forward_in (role.Preparing r) e in_role fit =
-      row_nothing members p 2 (role.Preparing (with_buffered r (record { entry = e; is_own = false }))) (buffered_more members r (record { entry = e; is_own = false }) in_role fit)
+      row_nothing Known p 2 (role.Preparing (with_buffered r (record { entry = e; is_own = false }))) (buffered_more Known r (record { entry = e; is_own = false }) in_role fit)
   forward_in (role.Leading l) e in_role fit = forward_leading_in l e (pending p) in_role fit
 
   -- ---- sessions
-  pub down_in : (r : Role) (q : ℕ) → RoleInRange members r → RowInRange members p 0 (session_down r q)
-  down_in role.Idle q in_role = row_nothing members p 0 role.Idle tt
-  down_in (role.Preparing r) q in_role = row_nothing members p 0 (role.Preparing r) in_role
+  pub down_in : (r : Role) (q : ℕ) → RoleInRange Known r → RowInRange Known p 0 (session_down r q)
+  down_in role.Idle q in_role = row_nothing Known p 0 role.Idle tt
+  down_in (role.Preparing r) q in_role = row_nothing Known p 0 (role.Preparing r) in_role
   down_in (role.Leading l) q in_role =
-      row_nothing members p 0 (role.Leading (without_synced l q)) (synced_now members l (filter (λ s. not (eqb s q)) l.synced) in_role (All-filter (λ s. not (eqb s q)) (IsMember members) l.synced in_role.synced))
+      row_nothing Known p 0 (role.Leading (without_synced l q)) (synced_now Known l (filter (λ s. not (eqb s q)) l.synced) in_role (All-filter (λ s. not (eqb s q)) Known l.synced in_role.synced))

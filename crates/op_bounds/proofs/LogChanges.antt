@@ -46,33 +46,33 @@ len_after_log p x es low high =
 
 -- ---- that they fit
 
-pub fits_appending : (members : List ℕ) (p : Part) (es : List Entry) → len_of p + length es ≤ positions_end → All EntryInRange es → BatchFits members p (appending es)
-fits_appending members p [] ends each = tt
-fits_appending members p (e ∷ es) ends each = ((ends, each), tt)
+pub fits_appending : (Known : ℕ → Type 0) (p : Part) (es : List Entry) → len_of p + length es ≤ positions_end → All EntryInRange es → BatchFits Known p (appending es)
+fits_appending Known p [] ends each = tt
+fits_appending Known p (e ∷ es) ends each = ((ends, each), tt)
 
-fits_cutting : (members : List ℕ) (p : Part) (x : ℕ) → p.decided ≤ x → BatchFits members p (cutting p x)
-fits_cutting members p x low =
-    cond_both (ltb x (len_of p)) (change.CutTo x ∷ []) [] (λ (b : List Change). BatchFits members p b) (λ h. let l = ltb-true x (len_of p) h in ((low, omega arith), tt)) (λ h. tt)
+fits_cutting : (Known : ℕ → Type 0) (p : Part) (x : ℕ) → p.decided ≤ x → BatchFits Known p (cutting p x)
+fits_cutting Known p x low =
+    cond_both (ltb x (len_of p)) (change.CutTo x ∷ []) [] (λ (b : List Change). BatchFits Known p b) (λ h. let l = ltb-true x (len_of p) h in ((low, omega arith), tt)) (λ h. tt)
 
 -- a place that isn't trimmed, and isn't decided beyond
-pub fits_log : (members : List ℕ) (p : Part) (x : ℕ) (es : List Entry) → p.trimmed ≤ p.decided → p.decided ≤ x → x ≤ len_of p → x + length es ≤ positions_end → All EntryInRange es
-    → BatchFits members p (cutting p x ++ appending es)
-fits_log members p x es first low high ends each =
-    fits_both members p (cutting p x) (appending es) (fits_cutting members p x low)
-    (subst (λ (q : Part). BatchFits members q (appending es)) (sym (after_cutting p x))
-    (fits_appending members (part_with_log p (take (x - p.trimmed) p.tail.items)) es (omega (arith, ends, high, length-take-le (x - p.trimmed) p.tail.items (omega (arith, high)))) each))
+pub fits_log : (Known : ℕ → Type 0) (p : Part) (x : ℕ) (es : List Entry) → p.trimmed ≤ p.decided → p.decided ≤ x → x ≤ len_of p → x + length es ≤ positions_end → All EntryInRange es
+    → BatchFits Known p (cutting p x ++ appending es)
+fits_log Known p x es first low high ends each =
+    fits_both Known p (cutting p x) (appending es) (fits_cutting Known p x low)
+    (subst (λ (q : Part). BatchFits Known q (appending es)) (sym (after_cutting p x))
+    (fits_appending Known (part_with_log p (take (x - p.trimmed) p.tail.items)) es (omega (arith, ends, high, length-take-le (x - p.trimmed) p.tail.items (omega (arith, high)))) each))
 
-pub fits_accepting : (members : List ℕ) (p : Part) (batch : List Change) (n : Ballot) → BatchFits members p batch → BallotOf members n → BatchFits members p (batch ++ change.Accept n ∷ [])
-fits_accepting members p batch n fit of = fits_both members p batch (change.Accept n ∷ []) fit (of, tt)
+pub fits_accepting : (Known : ℕ → Type 0) (p : Part) (batch : List Change) (n : Ballot) → BatchFits Known p batch → BallotOf Known n → BatchFits Known p (batch ++ change.Accept n ∷ [])
+fits_accepting Known p batch n fit of = fits_both Known p batch (change.Accept n ∷ []) fit (of, tt)
 
-pub fits_adopting : (members : List ℕ) (p : Part) (x : ℕ) (es more : List Entry) (n : Ballot) → p.trimmed ≤ p.decided → p.decided ≤ x → x ≤ len_of p
-    → x + length es + length more ≤ positions_end → All EntryInRange es → All EntryInRange more → BallotOf members n
-    → BatchFits members p (cutting p x ++ appending es ++ appending more ++ change.Accept n ∷ [])
-fits_adopting members p x es more n first low high ends each others of =
-    fits_accepting members p (cutting p x ++ appending es ++ appending more) n
-    (fits_both members p (cutting p x ++ appending es) (appending more) (fits_log members p x es first low high (omega (arith, ends)) each)
-    (subst (λ (q : Part). BatchFits members q (appending more)) (sym (after_log p x es))
-    (fits_appending members (part_with_log p (take (x - p.trimmed) p.tail.items ++ es)) more (omega (arith, ends, len_after_log p x es (omega arith) high)) others)))
+pub fits_adopting : (Known : ℕ → Type 0) (p : Part) (x : ℕ) (es more : List Entry) (n : Ballot) → p.trimmed ≤ p.decided → p.decided ≤ x → x ≤ len_of p
+    → x + length es + length more ≤ positions_end → All EntryInRange es → All EntryInRange more → BallotOf Known n
+    → BatchFits Known p (cutting p x ++ appending es ++ appending more ++ change.Accept n ∷ [])
+fits_adopting Known p x es more n first low high ends each others of =
+    fits_accepting Known p (cutting p x ++ appending es ++ appending more) n
+    (fits_both Known p (cutting p x ++ appending es) (appending more) (fits_log Known p x es first low high (omega (arith, ends)) each)
+    (subst (λ (q : Part). BatchFits Known q (appending more)) (sym (after_log p x es))
+    (fits_appending Known (part_with_log p (take (x - p.trimmed) p.tail.items ++ es)) more (omega (arith, ends, len_after_log p x es (omega arith) high)) others)))
     of
 
 -- ---- how many they are

@@ -6,7 +6,7 @@ use Rattle.std.proofs.lemmas.Bool.{cond_both, ltb-true, leb-true, and_parts, or_
 use Rattle.std.proofs.lemmas.List.Elements.{All-nil}
 use Rattle.op_types.specs.Ballots.{no_ballot, is_same_ballot}
 use Rattle.op_types.specs.Limits.{positions_end, last_conf}
-use Rattle.op_types.specs.Ranges.{IsPlace, MembersInRange, CommandInRange}
+use Rattle.op_types.specs.Ranges.{IsPlace, CommandInRange}
 use Rattle.op_types.specs.Changes.{len_of}
 use Rattle.op_types.specs.Roles.{Role}
 use Rattle.op_types.specs.declared.log.Command.{Command}
@@ -26,7 +26,7 @@ use Rattle.op_protocol.specs.Leader.{on_promise, on_accepted, on_prepare_req, on
 use Rattle.op_protocol.specs.Follower.{on_prepare, on_accept_sync, on_accept, on_decide}
 use Rattle.op_protocol.specs.Tick.{remembering}
 use Rattle.op_protocol.specs.Rows.{on_body, on_message, is_idle, knows_no_leader, open_refusal, refusal_after, refusal_of, session_up, command_step, part_step}
-use Rattle.op_bounds.specs.Messages.{IsMember, BodyInRange, MsgInRange, SendInRange, ReplyInRange, RefusalInRange, InputInRange}
+use Rattle.op_bounds.specs.Messages.{AreIds, BodyInRange, MsgInRange, SendInRange, ReplyInRange, RefusalInRange, InputInRange}
 use Rattle.op_bounds.specs.States.{RoleInRange, VolatileInRange}
 use Rattle.op_bounds.proofs.Batches.{PartIn}
 use Rattle.op_bounds.proofs.Effects.{RowInRange, row_saying, row_nothing, send_one, others_all, all_at}
@@ -41,68 +41,68 @@ admitted_ends : (p : Part) (at : ℕ) (es : List Entry) → is_admitted p at es 
 admitted_ends p at es h = leb-true (at + length es) positions_end (and_parts (leb (at + length es) positions_end) (not (eqb p.conf last_conf && has_stop es)) h).0
 
 -- what is known where a proposal is refused, and where it isn't
-abbrev RefusalTells : List ℕ → Part → Option Refusal → Type 0
-RefusalTells members p (Some r) = RefusalInRange r
-RefusalTells members p None = (len_of p < positions_end) × IsMember members p.promised.pid
+abbrev RefusalTells : (ℕ → Type 0) → Part → Option Refusal → Type 0
+RefusalTells Known p (Some r) = RefusalInRange r
+RefusalTells Known p None = (len_of p < positions_end) × Known p.promised.pid
 
-module _ (members : List ℕ) (range : MembersInRange members) (me : ℕ) (one : IsMember members me) (p : Part) (k : PartIn members p) where
+module _ (Known : ℕ → Type 0) (ids : AreIds Known) (me : ℕ) (one : Known me) (p : Part) (k : PartIn Known p) where
   -- ---- messages
-  body_in : (v : Volatile) (q : ℕ) (b : Body) → VolatileInRange members v → IsMember members q → BodyInRange members b → is_admitted_body p b ≡ true → PartStepInRange members p (on_body me p v q b)
-  body_in v q (body.HeartbeatRequest round) in_volatile from fit admitted = request_in members range me one p k v q round in_volatile from fit
-  body_in v q (body.HeartbeatReply round b flag) in_volatile from fit admitted = reply_in members range me one p k v q round b flag in_volatile fit.1
+  body_in : (v : Volatile) (q : ℕ) (b : Body) → VolatileInRange Known v → Known q → BodyInRange Known b → is_admitted_body p b ≡ true → PartStepInRange Known p (on_body me p v q b)
+  body_in v q (body.HeartbeatRequest round) in_volatile from fit admitted = request_in Known ids me one p k v q round in_volatile from fit
+  body_in v q (body.HeartbeatReply round b flag) in_volatile from fit admitted = reply_in Known ids me one p k v q round b flag in_volatile fit.1
   body_in v q (body.Prepare n na nl nd) in_volatile from fit admitted =
-      effects_in members p 1 v (on_prepare p v.role q n na nl nd) (omega arith) in_volatile (follower.prepare_in members p k v.role in_volatile.role q n na nl nd from fit.0 fit.2 fit.3)
+      effects_in Known p 1 v (on_prepare p v.role q n na nl nd) (omega arith) in_volatile (follower.prepare_in Known p k v.role in_volatile.role q n na nl nd from fit.0 fit.2 fit.3)
   body_in v q (body.Promise n fa fl fd s es) in_volatile from fit admitted =
-      effects_in members p 5 v (on_promise me p v.role n (record { from = q; accepted = fa; len = fl; decided = fd; start = s; entries = es })) (omega arith) in_volatile
-      (leader.promise_in members me p k v.role n (record { from = q; accepted = fa; len = fl; decided = fd; start = s; entries = es }) in_volatile.role
+      effects_in Known p 5 v (on_promise me p v.role n (record { from = q; accepted = fa; len = fl; decided = fd; start = s; entries = es })) (omega arith) in_volatile
+      (leader.promise_in Known me p k v.role n (record { from = q; accepted = fa; len = fl; decided = fd; start = s; entries = es }) in_volatile.role
       (record { from = from; accepted = fit.1; len = fit.2; decided = fit.3; ends = admitted_ends p s es admitted; entries = fit.5.each }))
   body_in v q (body.AcceptSync n x es) in_volatile from fit admitted =
-      effects_in members p 3 v (on_accept_sync p v.role q n x es) (omega arith) in_volatile (follower.accept_sync_in members p k v.role in_volatile.role q n x es from fit.0 (admitted_ends p x es admitted) fit.2.each)
+      effects_in Known p 3 v (on_accept_sync p v.role q n x es) (omega arith) in_volatile (follower.accept_sync_in Known p k v.role in_volatile.role q n x es from fit.0 (admitted_ends p x es admitted) fit.2.each)
   body_in v q (body.Accept n at es) in_volatile from fit admitted =
-      effects_in members p 3 v (on_accept p v.role q n at es) (omega arith) in_volatile (follower.accept_in members p k v.role in_volatile.role q n at es from fit.0 (admitted_ends p at es admitted) fit.2.each)
+      effects_in Known p 3 v (on_accept p v.role q n at es) (omega arith) in_volatile (follower.accept_in Known p k v.role in_volatile.role q n at es from fit.0 (admitted_ends p at es admitted) fit.2.each)
   body_in v q (body.Accepted n x) in_volatile from fit admitted =
-      effects_in members p 1 v (on_accepted me p v.role q n x) (omega arith) in_volatile (leader.accepted_in members me p k v.role q n x in_volatile.role from fit.1)
-  body_in v q (body.Decide n x) in_volatile from fit admitted = effects_in members p 1 v (on_decide p v.role n x) (omega arith) in_volatile (follower.decide_in members p k v.role in_volatile.role n x)
-  body_in v q body.PrepareReq in_volatile from fit admitted = effects_in members p 0 v (on_prepare_req p v.role q) (omega arith) in_volatile (leader.prepare_req_in members me p k v.role q in_volatile.role from)
-  body_in v q (body.Refuse n b) in_volatile from fit admitted = refuse_in members range me one p k v b in_volatile fit.1
-  body_in v q (body.Forward e) in_volatile from fit admitted = effects_in members p 2 v (on_forward me p v.role e) (omega arith) in_volatile (leader.forward_in members me p k v.role e in_volatile.role fit)
+      effects_in Known p 1 v (on_accepted me p v.role q n x) (omega arith) in_volatile (leader.accepted_in Known me p k v.role q n x in_volatile.role from fit.1)
+  body_in v q (body.Decide n x) in_volatile from fit admitted = effects_in Known p 1 v (on_decide p v.role n x) (omega arith) in_volatile (follower.decide_in Known p k v.role in_volatile.role n x)
+  body_in v q body.PrepareReq in_volatile from fit admitted = effects_in Known p 0 v (on_prepare_req p v.role q) (omega arith) in_volatile (leader.prepare_req_in Known me p k v.role q in_volatile.role from)
+  body_in v q (body.Refuse n b) in_volatile from fit admitted = refuse_in Known ids me one p k v b in_volatile fit.1
+  body_in v q (body.Forward e) in_volatile from fit admitted = effects_in Known p 2 v (on_forward me p v.role e) (omega arith) in_volatile (leader.forward_in Known me p k v.role e in_volatile.role fit)
 
-  message_in : (v : Volatile) (q : ℕ) (m : Msg) → VolatileInRange members v → IsMember members q → MsgInRange members m → PartStepInRange members p (on_message me p v q m)
+  message_in : (v : Volatile) (q : ℕ) (m : Msg) → VolatileInRange Known v → Known q → MsgInRange Known m → PartStepInRange Known p (on_message me p v q m)
   message_in v q m in_volatile from fit =
-      cond_both (eqb m.conf p.conf && is_admitted_body p m.body) (on_body me p v q m.body) (remembering v []) (PartStepInRange members p)
+      cond_both (eqb m.conf p.conf && is_admitted_body p m.body) (on_body me p v q m.body) (remembering v []) (PartStepInRange Known p)
       (λ h. body_in v q m.body in_volatile from fit.body (and_parts (eqb m.conf p.conf) (is_admitted_body p m.body) h).1)
-      (λ _. remembering_in members p v [] in_volatile (All-nil (SendInRange members)))
+      (λ _. remembering_in Known p v [] in_volatile (All-nil (SendInRange Known)))
 
   -- ---- proposals
-  open_tells : (r : Role) → RefusalTells members p (open_refusal me r p)
+  open_tells : (r : Role) → RefusalTells Known p (open_refusal me r p)
   open_tells r =
-      cond_both (knows_no_leader me r p) (Some refusal.NoLeader) (cond (ltb (len_of p) positions_end) None (Some refusal.PositionsEnd)) (RefusalTells members p) (λ _. tt)
+      cond_both (knows_no_leader me r p) (Some refusal.NoLeader) (cond (ltb (len_of p) positions_end) None (Some refusal.PositionsEnd)) (RefusalTells Known p) (λ _. tt)
       (λ h. let other = (or_parts (is_same_ballot p.promised no_ballot) (eqb p.promised.pid me && is_idle r) h).0 in
-      cond_both (ltb (len_of p) positions_end) None (Some refusal.PositionsEnd) (RefusalTells members p)
-      (λ room. (ltb-true (len_of p) positions_end room, has_owner members p.promised k.of.promised other)) (λ _. tt))
+      cond_both (ltb (len_of p) positions_end) None (Some refusal.PositionsEnd) (RefusalTells Known p)
+      (λ room. (ltb-true (len_of p) positions_end room, has_owner Known p.promised k.of.promised other)) (λ _. tt))
 
-  after_tells : (r : Role) (stop : Option ℕ) → IfSome stop IsPlace → RefusalTells members p (refusal_after me r p stop)
+  after_tells : (r : Role) (stop : Option ℕ) → IfSome stop IsPlace → RefusalTells Known p (refusal_after me r p stop)
   after_tells r (Some pos) in_stop = in_stop
   after_tells r None in_stop = open_tells r
 
-  refusal_tells : (r : Role) → RefusalTells members p (refusal_of me r (Some p))
+  refusal_tells : (r : Role) → RefusalTells Known p (refusal_of me r (Some p))
   refusal_tells r = after_tells r (pending p) (stop_at_in p.trimmed p.tail.items k.range.len)
 
-  command_in : (v : Volatile) (c : Command) (o : Option Refusal) → VolatileInRange members v → CommandInRange c → RefusalTells members p o → PartStepInRange members p (command_step me p v c o)
-  command_in v c (Some r) in_volatile fit told = record { batch = tt; few = omega arith; volatile = in_volatile; sends = All-nil (SendInRange members); replies = All-nil (ReplyInRange members); outcome = told }
+  command_in : (v : Volatile) (c : Command) (o : Option Refusal) → VolatileInRange Known v → CommandInRange c → RefusalTells Known p o → PartStepInRange Known p (command_step me p v c o)
+  command_in v c (Some r) in_volatile fit told = record { batch = tt; few = omega arith; volatile = in_volatile; sends = All-nil (SendInRange Known); replies = All-nil (ReplyInRange Known); outcome = told }
   command_in v c None in_volatile fit told =
-      effects_in members p 2 v (propose me p v.role (entry.Command c)) (omega arith) in_volatile (leader.propose_in members me p k v.role (entry.Command c) in_volatile.role fit told.0 (λ _. told.1))
+      effects_in Known p 2 v (propose me p v.role (entry.Command c)) (omega arith) in_volatile (leader.propose_in Known me p k v.role (entry.Command c) in_volatile.role fit told.0 (λ _. told.1))
 
   -- ---- sessions
-  up_in : (r : Role) (q : ℕ) → RoleInRange members r → RowInRange members p 0 (session_up me p r q)
+  up_in : (r : Role) (q : ℕ) → RoleInRange Known r → RowInRange Known p 0 (session_up me p r q)
   up_in r q in_role =
-      cond_both (is_member nat_eq (others me p.members) q) (saying r (message p.conf q body.PrepareReq ∷ [])) (nothing r) (RowInRange members p 0)
-      (λ h. row_saying members p 0 r (message p.conf q body.PrepareReq ∷ []) in_role (send_one members p.conf q body.PrepareReq k.range.conf (all_at (IsMember members) (others me p.members) q (others_all members me p k) h) tt))
-      (λ _. row_nothing members p 0 r in_role)
+      cond_both (is_member nat_eq (others me p.members) q) (saying r (message p.conf q body.PrepareReq ∷ [])) (nothing r) (RowInRange Known p 0)
+      (λ h. row_saying Known p 0 r (message p.conf q body.PrepareReq ∷ []) in_role (send_one Known p.conf q body.PrepareReq k.range.conf (all_at Known (others me p.members) q (others_all Known me p k) h) tt))
+      (λ _. row_nothing Known p 0 r in_role)
 
-  pub part_step_in : (v : Volatile) (x : Input) → VolatileInRange members v → InputInRange members x → PartStepInRange members p (part_step me p v x)
-  part_step_in v input.Tick in_volatile fit = tick_in members range me one p k v in_volatile
+  pub part_step_in : (v : Volatile) (x : Input) → VolatileInRange Known v → InputInRange Known x → PartStepInRange Known p (part_step me p v x)
+  part_step_in v input.Tick in_volatile fit = tick_in Known ids me one p k v in_volatile
   part_step_in v (input.Deliver q m) in_volatile fit = message_in v q m in_volatile fit.0 fit.1
   part_step_in v (input.Command c) in_volatile fit = command_in v c (refusal_of me v.role (Some p)) in_volatile fit (refusal_tells v.role)
-  part_step_in v (input.Up q) in_volatile fit = effects_in members p 0 v (session_up me p v.role q) (omega arith) in_volatile (up_in v.role q in_volatile.role)
-  part_step_in v (input.Down q) in_volatile fit = effects_in members p 0 v (session_down v.role q) (omega arith) in_volatile (leader.down_in members me p k v.role q in_volatile.role)
+  part_step_in v (input.Up q) in_volatile fit = effects_in Known p 0 v (session_up me p v.role q) (omega arith) in_volatile (up_in v.role q in_volatile.role)
+  part_step_in v (input.Down q) in_volatile fit = effects_in Known p 0 v (session_down v.role q) (omega arith) in_volatile (leader.down_in Known me p k v.role q in_volatile.role)

@@ -5,7 +5,6 @@ use Rattle.std.proofs.lemmas.Bool.{cond_both, ltb-true}
 use Rattle.std.proofs.lemmas.List.Elements.{All-nil, All-cons, All-append, All-filter}
 use Rattle.op_types.specs.Ballots.{is_below}
 use Rattle.op_types.specs.Limits.{greatest_number}
-use Rattle.op_types.specs.Ranges.{MembersInRange}
 use Rattle.op_types.specs.Effects.{Effects}
 use Rattle.op_types.specs.declared.ballot.Ballot.{Ballot}
 use Rattle.op_types.specs.declared.durable.Part.{Part}
@@ -20,7 +19,7 @@ use Rattle.op_protocol.specs.State.{Volatile, PartStep, with_effects}
 use Rattle.op_protocol.specs.Parts.{message, others, first}
 use Rattle.op_protocol.specs.Leader.{lead}
 use Rattle.op_protocol.specs.Tick.{candidate_of, next_round_state, requests, remembering, with_floor_at, only_asks, elected, by_verdict, on_tick, on_heartbeat_request, on_heartbeat_reply, on_refuse}
-use Rattle.op_bounds.specs.Messages.{IsMember, BallotOf, SendInRange, ReplyInRange, OutcomeInRange}
+use Rattle.op_bounds.specs.Messages.{AreIds, BallotOf, SendInRange, ReplyInRange, OutcomeInRange}
 use Rattle.op_bounds.specs.States.{HeardInRange, VolatileInRange}
 use Rattle.op_bounds.proofs.Batches.{PartIn, BatchFits}
 use Rattle.op_bounds.proofs.Effects.{RowInRange, row_first, send_one, send_each, others_all}
@@ -28,16 +27,16 @@ use Rattle.op_bounds.proofs.LeaderRows.{lead_in}
 use Rattle.op_bounds.proofs.Ballots.{own_ballot_in, greater_in, greatest_in}
 
 -- what a step does at a part, in range
-pub record PartStepInRange (members : List ℕ) (p : Part) (x : PartStep) : Type 0 where
-  pub batch : BatchFits members p x.batch
+pub record PartStepInRange (Known : ℕ → Type 0) (p : Part) (x : PartStep) : Type 0 where
+  pub batch : BatchFits Known p x.batch
   pub few : length x.batch ≤ 6
-  pub volatile : VolatileInRange members x.volatile
-  pub sends : All (SendInRange members) x.sends
-  pub replies : All (ReplyInRange members) x.replies
-  pub outcome : IfSome x.outcome (OutcomeInRange members)
+  pub volatile : VolatileInRange Known x.volatile
+  pub sends : All (SendInRange Known) x.sends
+  pub replies : All (ReplyInRange Known) x.replies
+  pub outcome : IfSome x.outcome (OutcomeInRange Known)
 
-pub effects_in : (members : List ℕ) (p : Part) (most : ℕ) (v : Volatile) (e : Effects) → most ≤ 6 → VolatileInRange members v → RowInRange members p most e → PartStepInRange members p (with_effects v e)
-effects_in members p most v e small in_volatile row =
+pub effects_in : (Known : ℕ → Type 0) (p : Part) (most : ℕ) (v : Volatile) (e : Effects) → most ≤ 6 → VolatileInRange Known v → RowInRange Known p most e → PartStepInRange Known p (with_effects v e)
+effects_in Known p most v e small in_volatile row =
     record {
       batch = row.batch;
       few = omega (arith, row.few);
@@ -47,104 +46,104 @@ effects_in members p most v e small in_volatile row =
       outcome = row.outcome;
     }
 
-pub remembering_in : (members : List ℕ) (p : Part) (v : Volatile) (sends : List (ℕ × Msg)) → VolatileInRange members v → All (SendInRange members) sends → PartStepInRange members p (remembering v sends)
-remembering_in members p v sends in_volatile said = record { batch = tt; few = omega arith; volatile = in_volatile; sends = said; replies = All-nil (ReplyInRange members); outcome = tt }
+pub remembering_in : (Known : ℕ → Type 0) (p : Part) (v : Volatile) (sends : List (ℕ × Msg)) → VolatileInRange Known v → All (SendInRange Known) sends → PartStepInRange Known p (remembering v sends)
+remembering_in Known p v sends in_volatile said = record { batch = tt; few = omega arith; volatile = in_volatile; sends = said; replies = All-nil (ReplyInRange Known); outcome = tt }
 
-floor_in : (members : List ℕ) (v : Volatile) (b : Ballot) → VolatileInRange members v → BallotOf members b → VolatileInRange members (with_floor_at v b)
-floor_in members v b in_volatile of =
-    record { own = in_volatile.own; leader = in_volatile.leader; floor = greater_in members v.floor b in_volatile.floor of; round = in_volatile.round; heard = in_volatile.heard; role = in_volatile.role }
+floor_in : (Known : ℕ → Type 0) (v : Volatile) (b : Ballot) → VolatileInRange Known v → BallotOf Known b → VolatileInRange Known (with_floor_at v b)
+floor_in Known v b in_volatile of =
+    record { own = in_volatile.own; leader = in_volatile.leader; floor = greater_in Known v.floor b in_volatile.floor of; round = in_volatile.round; heard = in_volatile.heard; role = in_volatile.role }
 
 -- ---- the end of a round
 
 -- a candidate's ballots
-record CandidateIn (members : List ℕ) (c : Candidate) : Type 0 where
-  pub me : IsMember members c.me
-  pub own : BallotOf members c.own
-  pub leader : BallotOf members c.leader
-  pub floor : BallotOf members c.floor
+record CandidateIn (Known : ℕ → Type 0) (c : Candidate) : Type 0 where
+  pub me : Known c.me
+  pub own : BallotOf Known c.own
+  pub leader : BallotOf Known c.leader
+  pub floor : BallotOf Known c.floor
 
-abbrev VerdictIn : List ℕ → Verdict → Type 0
-VerdictIn members verdict.Nobody = Unit {0}
-VerdictIn members (verdict.Raised b) = BallotOf members b
-VerdictIn members (verdict.Elected b) = BallotOf members b
+abbrev VerdictIn : (ℕ → Type 0) → Verdict → Type 0
+VerdictIn Known verdict.Nobody = Unit {0}
+VerdictIn Known (verdict.Raised b) = BallotOf Known b
+VerdictIn Known (verdict.Elected b) = BallotOf Known b
 
-record EndedIn (members : List ℕ) (e : Ended) : Type 0 where
-  pub verdict : VerdictIn members e.verdict
-  pub after : CandidateIn members e.after
+record EndedIn (Known : ℕ → Type 0) (e : Ended) : Type 0 where
+  pub verdict : VerdictIn Known e.verdict
+  pub after : CandidateIn Known e.after
 
-flagged : (members : List ℕ) (c : Candidate) (flag : Bool) → CandidateIn members c → CandidateIn members (record c { flag = flag })
-flagged members c flag k = record { me = k.me; own = k.own; leader = k.leader; floor = k.floor }
+flagged : (Known : ℕ → Type 0) (c : Candidate) (flag : Bool) → CandidateIn Known c → CandidateIn Known (record c { flag = flag })
+flagged Known c flag k = record { me = k.me; own = k.own; leader = k.leader; floor = k.floor }
 
-too_low_in : (members : List ℕ) (c : Candidate) → MembersInRange members → CandidateIn members c → EndedIn members (too_low c)
-too_low_in members c range k =
-    cond_both (ltb (least c).number greatest_number) (record { verdict = verdict.Raised (raised_ballot c); after = record c { own = raised_ballot c; flag = true } }) (record { verdict = verdict.Nobody; after = record c { flag = true } }) (EndedIn members)
-    (λ h. let raised : BallotOf members (raised_ballot c) = own_ballot_in members c.me ((least c).number + 1) range k.me (omega (arith, ltb-true (least c).number greatest_number h)) in
+too_low_in : (Known : ℕ → Type 0) (c : Candidate) → AreIds Known → CandidateIn Known c → EndedIn Known (too_low c)
+too_low_in Known c ids k =
+    cond_both (ltb (least c).number greatest_number) (record { verdict = verdict.Raised (raised_ballot c); after = record c { own = raised_ballot c; flag = true } }) (record { verdict = verdict.Nobody; after = record c { flag = true } }) (EndedIn Known)
+    (λ h. let raised : BallotOf Known (raised_ballot c) = own_ballot_in Known c.me ((least c).number + 1) ids k.me (omega (arith, ltb-true (least c).number greatest_number h)) in
     record { verdict = raised; after = record { me = k.me; own = raised; leader = k.leader; floor = k.floor } })
-    (λ _. record { verdict = tt; after = flagged members c true k })
+    (λ _. record { verdict = tt; after = flagged Known c true k })
 
-decided_in : (members : List ℕ) (c : Candidate) (g : Ballot) → MembersInRange members → CandidateIn members c → BallotOf members g → EndedIn members (decided_by c g)
-decided_in members c g range k of =
+decided_in : (Known : ℕ → Type 0) (c : Candidate) (g : Ballot) → AreIds Known → CandidateIn Known c → BallotOf Known g → EndedIn Known (decided_by c g)
+decided_in Known c g ids k of =
     cond_both (is_below g (least c)) (too_low c)
-    (cond (is_below c.leader g) (record { verdict = verdict.Elected g; after = record c { leader = g; flag = true } }) (record { verdict = verdict.Nobody; after = record c { flag = true } })) (EndedIn members)
-    (λ _. too_low_in members c range k)
-    (λ _. cond_both (is_below c.leader g) (record { verdict = verdict.Elected g; after = record c { leader = g; flag = true } }) (record { verdict = verdict.Nobody; after = record c { flag = true } }) (EndedIn members)
+    (cond (is_below c.leader g) (record { verdict = verdict.Elected g; after = record c { leader = g; flag = true } }) (record { verdict = verdict.Nobody; after = record c { flag = true } })) (EndedIn Known)
+    (λ _. too_low_in Known c ids k)
+    (λ _. cond_both (is_below c.leader g) (record { verdict = verdict.Elected g; after = record c { leader = g; flag = true } }) (record { verdict = verdict.Nobody; after = record c { flag = true } }) (EndedIn Known)
     (λ _. record { verdict = of; after = record { me = k.me; own = k.own; leader = of; floor = k.floor } })
-    (λ _. record { verdict = tt; after = flagged members c true k }))
+    (λ _. record { verdict = tt; after = flagged Known c true k }))
 
-round_end_in : (members : List ℕ) (c : Candidate) (heard : List Heard) → MembersInRange members → CandidateIn members c → All (HeardInRange members) heard → EndedIn members (round_end c heard)
-round_end_in members c heard range k each =
-    cond_both (hears_majority c heard) (decided_by c (winner c heard)) (record { verdict = verdict.Nobody; after = record c { flag = false } }) (EndedIn members)
-    (λ _. decided_in members c (winner c heard) range k (greatest_in members heard c.own each k.own)) (λ _. record { verdict = tt; after = flagged members c false k })
+round_end_in : (Known : ℕ → Type 0) (c : Candidate) (heard : List Heard) → AreIds Known → CandidateIn Known c → All (HeardInRange Known) heard → EndedIn Known (round_end c heard)
+round_end_in Known c heard ids k each =
+    cond_both (hears_majority c heard) (decided_by c (winner c heard)) (record { verdict = verdict.Nobody; after = record c { flag = false } }) (EndedIn Known)
+    (λ _. decided_in Known c (winner c heard) ids k (greatest_in Known heard c.own each k.own)) (λ _. record { verdict = tt; after = flagged Known c false k })
 
 next_round_small : (round : ℕ) → next_round round ≤ greatest_number
 next_round_small round = cond_both (ltb round greatest_number) (round + 1) 1 (λ (n : ℕ). n ≤ greatest_number) (λ h. omega (arith, ltb-true round greatest_number h)) (λ _. omega arith)
 
 -- ---- the rows
 
-module _ (members : List ℕ) (range : MembersInRange members) (me : ℕ) (one : IsMember members me) (p : Part) (k : PartIn members p) where
-  requests_said : (round : ℕ) → round ≤ greatest_number → All (SendInRange members) (requests me p round)
-  requests_said round small = send_each members p.conf (others me p.members) (body.HeartbeatRequest round) k.range.conf (others_all members me p k) small
+module _ (Known : ℕ → Type 0) (ids : AreIds Known) (me : ℕ) (one : Known me) (p : Part) (k : PartIn Known p) where
+  requests_said : (round : ℕ) → round ≤ greatest_number → All (SendInRange Known) (requests me p round)
+  requests_said round small = send_each Known p.conf (others me p.members) (body.HeartbeatRequest round) k.range.conf (others_all Known me p k) small
 
-  asks_in : (v : Volatile) → VolatileInRange members v → PartStepInRange members p (only_asks me p v)
-  asks_in v in_volatile = remembering_in members p v (requests me p v.round) in_volatile (requests_said v.round in_volatile.round)
+  asks_in : (v : Volatile) → VolatileInRange Known v → PartStepInRange Known p (only_asks me p v)
+  asks_in v in_volatile = remembering_in Known p v (requests me p v.round) in_volatile (requests_said v.round in_volatile.round)
 
-  elected_in : (v : Volatile) (n : Ballot) → VolatileInRange members v → BallotOf members n → PartStepInRange members p (elected me p v n)
+  elected_in : (v : Volatile) (n : Ballot) → VolatileInRange Known v → BallotOf Known n → PartStepInRange Known p (elected me p v n)
   elected_in v n in_volatile of =
-      cond_both (is_below p.promised n) (with_effects v (first [] (requests me p v.round) [] (lead me p v.role n))) (only_asks me p (with_floor_at v p.promised)) (PartStepInRange members p)
-      (λ _. effects_in members p 6 v (first [] (requests me p v.round) [] (lead me p v.role n)) (omega arith) in_volatile
-      (row_first members p 6 6 [] (requests me p v.round) [] (lead me p v.role n) tt (omega arith) (requests_said v.round in_volatile.round) (All-nil (ReplyInRange members))
-      (lead_in members me p k v.role n in_volatile.role of)))
-      (λ _. asks_in (with_floor_at v p.promised) (floor_in members v p.promised in_volatile k.of.promised))
+      cond_both (is_below p.promised n) (with_effects v (first [] (requests me p v.round) [] (lead me p v.role n))) (only_asks me p (with_floor_at v p.promised)) (PartStepInRange Known p)
+      (λ _. effects_in Known p 6 v (first [] (requests me p v.round) [] (lead me p v.role n)) (omega arith) in_volatile
+      (row_first Known p 6 6 [] (requests me p v.round) [] (lead me p v.role n) tt (omega arith) (requests_said v.round in_volatile.round) (All-nil (ReplyInRange Known))
+      (lead_in Known me p k v.role n in_volatile.role of)))
+      (λ _. asks_in (with_floor_at v p.promised) (floor_in Known v p.promised in_volatile k.of.promised))
 
-  verdict_in : (v : Volatile) (o : Verdict) → VolatileInRange members v → VerdictIn members o → PartStepInRange members p (by_verdict me p v o)
+  verdict_in : (v : Volatile) (o : Verdict) → VolatileInRange Known v → VerdictIn Known o → PartStepInRange Known p (by_verdict me p v o)
   verdict_in v verdict.Nobody in_volatile of = asks_in v in_volatile
   verdict_in v (verdict.Raised b) in_volatile of = asks_in v in_volatile
   verdict_in v (verdict.Elected n) in_volatile of =
-      cond_both (eqb n.pid me) (elected me p v n) (only_asks me p v) (PartStepInRange members p) (λ _. elected_in v n in_volatile of) (λ _. asks_in v in_volatile)
+      cond_both (eqb n.pid me) (elected me p v n) (only_asks me p v) (PartStepInRange Known p) (λ _. elected_in v n in_volatile of) (λ _. asks_in v in_volatile)
 
-  pub tick_in : (v : Volatile) → VolatileInRange members v → PartStepInRange members p (on_tick me p v)
+  pub tick_in : (v : Volatile) → VolatileInRange Known v → PartStepInRange Known p (on_tick me p v)
   tick_in v in_volatile =
       let e : Ended = round_end (candidate_of me p v) v.heard in
-      let ended : EndedIn members e = round_end_in members (candidate_of me p v) v.heard range (record { me = one; own = in_volatile.own; leader = in_volatile.leader; floor = in_volatile.floor }) in_volatile.heard in
+      let ended : EndedIn Known e = round_end_in Known (candidate_of me p v) v.heard ids (record { me = one; own = in_volatile.own; leader = in_volatile.leader; floor = in_volatile.floor }) in_volatile.heard in
       verdict_in (next_round_state v e.after) e.verdict
-      (record { own = ended.after.own; leader = ended.after.leader; floor = ended.after.floor; round = next_round_small v.round; heard = All-nil (HeardInRange members); role = in_volatile.role })
+      (record { own = ended.after.own; leader = ended.after.leader; floor = ended.after.floor; round = next_round_small v.round; heard = All-nil (HeardInRange Known); role = in_volatile.role })
       ended.verdict
 
   -- ---- messages
-  pub request_in : (v : Volatile) (q round : ℕ) → VolatileInRange members v → IsMember members q → round ≤ greatest_number → PartStepInRange members p (on_heartbeat_request p v q round)
+  pub request_in : (v : Volatile) (q round : ℕ) → VolatileInRange Known v → Known q → round ≤ greatest_number → PartStepInRange Known p (on_heartbeat_request p v q round)
   request_in v q round in_volatile from small =
-      remembering_in members p v (message p.conf q (body.HeartbeatReply round v.own v.flag) ∷ []) in_volatile (send_one members p.conf q (body.HeartbeatReply round v.own v.flag) k.range.conf from (small, in_volatile.own))
+      remembering_in Known p v (message p.conf q (body.HeartbeatReply round v.own v.flag) ∷ []) in_volatile (send_one Known p.conf q (body.HeartbeatReply round v.own v.flag) k.range.conf from (small, in_volatile.own))
 
-  heard_more : (current : ℕ) (heard : List Heard) (round : ℕ) (h : Heard) → All (HeardInRange members) heard → HeardInRange members h → All (HeardInRange members) (heard_in me p.members current heard round h)
+  heard_more : (current : ℕ) (heard : List Heard) (round : ℕ) (h : Heard) → All (HeardInRange Known) heard → HeardInRange Known h → All (HeardInRange Known) (heard_in me p.members current heard round h)
   heard_more current heard round h each of =
-      cond_both (eqb round current && is_other me p.members h.from) (heard_with heard h) heard (All (HeardInRange members))
-      (λ _. All-append (HeardInRange members) (without heard h.from) (h ∷ []) (All-filter (λ j. not (eqb j.from h.from)) (HeardInRange members) heard each) (All-cons (HeardInRange members) h [] of (All-nil (HeardInRange members))))
+      cond_both (eqb round current && is_other me p.members h.from) (heard_with heard h) heard (All (HeardInRange Known))
+      (λ _. All-append (HeardInRange Known) (without heard h.from) (h ∷ []) (All-filter (λ j. not (eqb j.from h.from)) (HeardInRange Known) heard each) (All-cons (HeardInRange Known) h [] of (All-nil (HeardInRange Known))))
       (λ _. each)
 
-  pub reply_in : (v : Volatile) (q round : ℕ) (b : Ballot) (flag : Bool) → VolatileInRange members v → BallotOf members b → PartStepInRange members p (on_heartbeat_reply me p v q round b flag)
+  pub reply_in : (v : Volatile) (q round : ℕ) (b : Ballot) (flag : Bool) → VolatileInRange Known v → BallotOf Known b → PartStepInRange Known p (on_heartbeat_reply me p v q round b flag)
   reply_in v q round b flag in_volatile of =
       let h : Heard = record { from = q; ballot = b; flag = flag } in
-      remembering_in members p (record v { heard = heard_in me p.members v.round v.heard round h }) []
+      remembering_in Known p (record v { heard = heard_in me p.members v.round v.heard round h }) []
       (record {
         own = in_volatile.own;
         leader = in_volatile.leader;
@@ -153,7 +152,7 @@ module _ (members : List ℕ) (range : MembersInRange members) (me : ℕ) (one :
         heard = heard_more v.round v.heard round h in_volatile.heard of;
         role = in_volatile.role;
       })
-      (All-nil (SendInRange members))
+      (All-nil (SendInRange Known))
 
-  pub refuse_in : (v : Volatile) (b : Ballot) → VolatileInRange members v → BallotOf members b → PartStepInRange members p (on_refuse v b)
-  refuse_in v b in_volatile of = remembering_in members p (with_floor_at v b) [] (floor_in members v b in_volatile of) (All-nil (SendInRange members))
+  pub refuse_in : (v : Volatile) (b : Ballot) → VolatileInRange Known v → BallotOf Known b → PartStepInRange Known p (on_refuse v b)
+  refuse_in v b in_volatile of = remembering_in Known p (with_floor_at v b) [] (floor_in Known v b in_volatile of) (All-nil (SendInRange Known))

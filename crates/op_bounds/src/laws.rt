@@ -1,15 +1,19 @@
+ghost use Rattle.std.specs.Prelude.{ℕ, Bool};
+ghost use Rattle.op_bounds.specs.Messages.{Passes};
 ghost use Rattle.op_bounds.specs.Laws.{StepsStayInRange, OpeningsStayInRange};
 ghost use Rattle.op_bounds.specs.Laws.{StartsAreInRange, HappeningsStayInRange, RunsStayInRange};
 
-/// A step of a node in range, from an input in range, stores a batch that applies and is in range, sends messages in range to
-/// members alone, answers in range, and leaves the node in range.
+/// Whichever servers' ids may be named, as those of the members or all: a step of a node in range, from an input in range,
+/// stores a batch that applies and is in range, sends messages in range to such ids alone, answers in range, and leaves the
+/// node in range.
 pub fn steps_stay_in_range()
-    ensures stay { StepsStayInRange }
+    ensures stay { (known : ℕ → Bool) → StepsStayInRange (Passes known) }
 {}
 
-/// A node that is opened, and finds a durable state in range, is in range, and so is what it sends.
+/// Whichever servers' ids may be named: a node that is opened, and finds a durable state in range, is in range, and so is
+/// what it sends.
 pub fn openings_stay_in_range()
-    ensures stay { OpeningsStayInRange }
+    ensures stay { (known : ℕ → Bool) → OpeningsStayInRange (Passes known) }
 {}
 
 /// One to nine members start in range, each happening in range keeps them so, and so does each run: every node is in range, with

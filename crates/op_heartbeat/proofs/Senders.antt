@@ -15,7 +15,8 @@ use Rattle.op_types.specs.declared.messages.Heard.{Heard}
 use Rattle.op_quorum.specs.Quorums.{AreVoters}
 use Rattle.op_quorum.proofs.Meeting.{member_passing}
 use Rattle.op_protocol.specs.Heartbeats.{is_other, without, heard_with}
-use Rattle.op_heartbeat.specs.HeardReplies.{IsMember, senders}
+use Rattle.op_types.specs.Ranges.{IsMember}
+use Rattle.op_heartbeat.specs.HeardReplies.{senders}
 
 one_or : (a b : Bool) {P : Type 0} → (a ≡ true → P) → (b ≡ true → P) → (a || b) ≡ true → P
 one_or true b first second h = first refl

@@ -3,6 +3,7 @@ use Rattle.std.specs.Prelude.{◌≡◌, ℕ, nat_eq, true, List, [], map}
 use Rattle.std.specs.Set.{is_member}
 use Rattle.op_types.specs.declared.messages.Heard.{Heard}
 use Rattle.op_protocol.specs.Heartbeats.{next_round, heard_in}
+use Rattle.op_types.specs.Ranges.{IsMember}
 
 -- a server, the members, the current round and its replies
 pub record HeardReplies : Type 0 where
@@ -10,10 +11,6 @@ pub record HeardReplies : Type 0 where
   pub members : List ℕ
   pub round : ℕ  -- 0 before the first one
   pub heard : List Heard  -- one of each sender
-
--- a member among these
-abbrev pub IsMember : List ℕ → ℕ → Type 0
-IsMember members p = is_member nat_eq members p ≡ true
 
 -- those that replied
 abbrev pub senders : List Heard → List ℕ

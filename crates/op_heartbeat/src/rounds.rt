@@ -2,7 +2,8 @@ ghost use Rattle.std.specs.Prelude.{◌≡◌, ◌+◌, true, ◌∷◌, length,
 ghost use Rattle.op_types.specs.declared.messages.Body.TheVariants.{HeartbeatReply};
 ghost use Rattle.op_quorum.specs.Quorums.{is_majority, AreVoters, IsQuorum};
 ghost use Rattle.op_protocol.specs.Heartbeats.{next_round, is_other, without};
-ghost use Rattle.op_heartbeat.specs.HeardReplies.{IsMember, senders, heard_replies_of, round_begun, reply_taken};
+ghost use Rattle.op_types.specs.Ranges.{IsMember};
+ghost use Rattle.op_heartbeat.specs.HeardReplies.{senders, heard_replies_of, round_begun, reply_taken};
 
 use op_types::{Ballot, Body, GREATEST_NUMBER, Heard, Members, NoMemory, Pid};
 use std::alloc::Global;

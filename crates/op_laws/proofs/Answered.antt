@@ -1,6 +1,6 @@
 -- A client that waits at a node goes on waiting or is answered there, whatever happens while the node stays up.
-use Rattle.std.proofs.Common.{◌≡◌, ℕ, zero, suc, ◌⊎◌, inl, inr, ⊎_elim, Bool, true, false, cond, ◌||◌, List, [], ◌∷◌, ◌++◌, take, Option, Some, None, refl, sym, ap, ◌∙◌, subst, append-nil, append_assoc}
-use Rattle.std.proofs.lemmas.Bool.{cond_both, both_ways, cases_eq}
+use Rattle.std.proofs.Common.{◌≡◌, ℕ, zero, suc, ◌⊎◌, inl, inr, ⊎_elim, true, cond, List, [], ◌∷◌, ◌++◌, take, Option, Some, None, refl, sym, ap, ◌∙◌, subst, append-nil, append_assoc}
+use Rattle.std.proofs.lemmas.Bool.{cases_eq}
 use Rattle.op_types.specs.Changes.{durable_after}
 use Rattle.op_types.specs.declared.answers.Answer.{Answer}
 use Rattle.op_types.specs.declared.answers.Refusal.{Refusal}
@@ -9,12 +9,13 @@ use Rattle.op_types.specs.declared.events.Input.{Input}
 use Rattle.op_types.specs.declared.events.Input.TheVariants as input
 use Rattle.op_types.specs.declared.summary.Line.{Line}
 use Rattle.op_spec.specs.Machine.{IsAmong}
-use Rattle.op_protocol.specs.State.{State, Waiting, Planned, state_after}
-use Rattle.op_protocol.specs.Serving.{is_for, waits}
+use Rattle.op_protocol.specs.State.{State, Planned, state_after}
+use Rattle.op_protocol.specs.Serving.{waits}
 use Rattle.op_protocol.specs.Rows.{refusal_of, waiting_for, waiting_at, step_at, step_plan}
 use Rattle.op_protocol.specs.Starting.{state_after_restart}
 use Rattle.op_runs.specs.World.{World, Node, NodeStatus, Up, Down, Fate, Done, Stopped, Happening, Doing, Steps, Stops, Opens, Tells, Deed, deed_of, node_at, with_node, world_by_fate, world_if_up, world_opening, world_by_status, world_at_node, world_with, world_after, answer_line, lines_of, ballot_lines}
 use Rattle.op_runs.specs.Run.{Execution, execution_with, execution_of}
+use Rattle.op_laws.proofs.WaitingSets.{still_waits}
 use Rattle.op_laws.proofs.Worlds.{IfThere, found, node_at-other, node_at-here}
 use Rattle.op_laws.proofs.Elections.{each_unit}
 use Rattle.op_laws.proofs.Drops.{in_left, in_right, plan_known, told_line}
@@ -142,14 +143,6 @@ pub record WaitsOrTold (p client seq : ℕ) (since : List Line) (s : State) (lin
   pub known : (waits s.waiting client seq ≡ true) ⊎ ((a : Answer) × IsAmong more (answer_line p client seq a))
 
 -- an input that brings no command leaves those that wait, and a command adds one
-still_waits : (ws : List Waiting) (w : Waiting) (client seq : ℕ) → waits ws client seq ≡ true → waits (ws ++ w ∷ []) client seq ≡ true
-still_waits [] w client seq h = absurd (both_ways false refl h)
-still_waits (x ∷ ws) w client seq h = or_step (is_for client seq x) (λ k. still_waits ws w client seq k) h
-  where
-    or_step : (b : Bool) → (waits ws client seq ≡ true → waits (ws ++ w ∷ []) client seq ≡ true) → (b || waits ws client seq) ≡ true → (b || waits (ws ++ w ∷ []) client seq) ≡ true
-    or_step true more k = refl
-    or_step false more k = more k
-
 pub waiting_keeps : (me : ℕ) (s : State) (x : Input) (client seq : ℕ) → waits s.waiting client seq ≡ true → waits (waiting_at me s x) client seq ≡ true
 waiting_keeps me s input.Tick client seq h = h
 waiting_keeps me s (input.Deliver q m) client seq h = h
@@ -159,7 +152,7 @@ waiting_keeps me s (input.Command c) client seq h = by_refusal (refusal_of me s.
   where
     by_refusal : (o : Option Refusal) → waits (waiting_for s.waiting c o) client seq ≡ true
     by_refusal (Some r) = h
-    by_refusal None = cond_both (waits s.waiting c.client c.seq) s.waiting _ (λ (ws : List Waiting). waits ws client seq ≡ true) (λ _. h) (λ _. still_waits s.waiting (record { client = c.client; seq = c.seq }) client seq h)
+    by_refusal None = still_waits s.waiting c.client c.seq client seq h
 
 -- a step tells the client, or leaves it waiting
 pub step_known : (p client seq : ℕ) (since : List Line) (s : State) (lines : List Line) (at : ℕ) (pid : ℕ) → pid ≡ p → (x : Input) → waits (waiting_at pid s x) client seq ≡ true → (more : List Line) → lines ≡ since ++ more

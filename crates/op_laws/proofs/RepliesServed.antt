@@ -62,6 +62,8 @@ reply_lines pid rs = map (λ r. answer_line pid r.client r.seq r.answer) rs
 
 served_line : (history : List Entry) (pid client seq : ℕ) (a : Answer) → IsServed history client seq a → IfReplyServed history (answer_line pid client seq a)
 served_line history pid client seq answer.Done s = s
+served_line history pid client seq (answer.Value value) s = s
+served_line history pid client seq answer.Absent s = s
 served_line history pid client seq answer.Stale s = s
 served_line history pid client seq (answer.Dropped why) s = tt
 
@@ -78,7 +80,7 @@ outcome_served history at None = tt
 outcome_served history at (Some o) = (tt, tt)
 
 -- a step of a node that has applied the history's prefix, which goes on with what the step decides
-step_lines : (history before more : List Entry) (at me : ℕ) (p : Part) (v : Volatile) (s : Service) (waiting : List Waiting) (x : Input) (pl : Planned)
+step_lines : (history before more : List Entry) (at me : ℕ) (p : Part) (v : Volatile) (s : Service) (waiting : Waiting) (x : Input) (pl : Planned)
     → pl ≡ step_plan me (record { durable = member_durable p; volatile = v; service = s; waiting = waiting }) x → s ≡ service_of before
     → history ≡ before ++ (decided_since p (part_after p pl.batch) ++ more) → Each (IfReplyServed history) (lines_of at me pl)
 step_lines history before more at me p v s waiting x pl is serves place =

@@ -108,12 +108,12 @@ step_at me (Some p) v x = part_step me p v x
 -- ---- the whole step
 
 -- whose client waits for a command that nothing refuses
-abbrev pub waiting_for : List Waiting → Command → Option Refusal → List Waiting
+abbrev pub waiting_for : Waiting → Command → Option Refusal → Waiting
 waiting_for waiting c (Some r) = waiting
 waiting_for waiting c None = waiting_with waiting c
 
 -- who waits when this has come
-abbrev pub waiting_at : ℕ → State → Input → List Waiting
+abbrev pub waiting_at : ℕ → State → Input → Waiting
 waiting_at me s (input.Command c) = waiting_for s.waiting c (refusal_of me s.volatile.role s.durable.part)
 waiting_at me s x = s.waiting
 
@@ -131,7 +131,7 @@ abbrev pub planned_dropping : State → PartStep → Dropping → Planned
 planned_dropping s x d = planned_serving x d (serving s.service d.waiting (newly_decided s.durable.part x.batch))
 
 -- the plan of what a step does at a part, where these clients wait
-abbrev pub planned : State → List Waiting → PartStep → Planned
+abbrev pub planned : State → Waiting → PartStep → Planned
 planned s waiting x = planned_dropping s x (dropping waiting x.replies)
 
 -- a node's step

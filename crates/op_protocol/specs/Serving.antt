@@ -1,5 +1,11 @@
 -- Decided entries go to the service in order, and whoever waits here for one is answered; so is whoever waits for one given up.
-use Rattle.std.specs.Prelude.{◌==◌, ◌&&◌, ◌||◌, ℕ, Bool, false, not, List, [], ◌∷◌, ◌++◌, if◌then◌else◌, fold, filter}
+use Rattle.std.specs.Prelude.{◌==◌, ◌&&◌, ℕ, Bool, List, [], ◌∷◌, ◌++◌, if◌then◌else◌, fold}
+use Rattle.std.specs.List.{list_any}
+use Rattle.std.specs.Set.{remove_key}
+use Rattle.std.specs.BTreeMap.{is_at}
+use Rattle.std.specs.BTreeSet.{insert_key}
+use Rattle.std.specs.Ordering.{nat_cmp, ordering_then}
+use Rattle.std.specs.declared.cmp.Ordering.{Ordering}
 use Rattle.op_types.specs.declared.log.Command.{Command}
 use Rattle.op_types.specs.declared.log.Entry.{Entry}
 use Rattle.op_types.specs.declared.log.Entry.TheVariants as entry
@@ -7,22 +13,21 @@ use Rattle.op_types.specs.declared.answers.Reply.{Reply}
 use Rattle.op_spec.specs.Service.{Service, service_with, answer_of}
 use Rattle.op_protocol.specs.State.{Waiting}
 
--- whether it is this client that waits, for this number
-abbrev pub is_for : ℕ → ℕ → Waiting → Bool
-is_for client seq w = w.client == client && w.seq == seq
+-- the order of clients and their numbers
+abbrev pub waiting_cmp : ℕ × ℕ → ℕ × ℕ → Ordering
+waiting_cmp x y = ordering_then (nat_cmp x.0 y.0) (nat_cmp x.1 y.1)
 
 -- whether the client waits for the number
-abbrev pub waits : List Waiting → ℕ → ℕ → Bool
-waits [] client seq = false
-waits (w ∷ waiting) client seq = is_for client seq w || waits waiting client seq
+abbrev pub waits : Waiting → ℕ → ℕ → Bool
+waits waiting client seq = list_any (is_at (waiting_cmp (client, seq))) waiting
 
 -- the others that wait
-abbrev pub without_waiting : List Waiting → ℕ → ℕ → List Waiting
-without_waiting waiting client seq = filter (λ w. not (is_for client seq w)) waiting
+abbrev pub without_waiting : Waiting → ℕ → ℕ → Waiting
+without_waiting waiting client seq = remove_key (is_at (waiting_cmp (client, seq))) waiting
 
 -- those that wait when a command's client waits too, once
-abbrev pub waiting_with : List Waiting → Command → List Waiting
-waiting_with waiting c = if waits waiting c.client c.seq then waiting else waiting ++ record { client = c.client; seq = c.seq } ∷ []
+abbrev pub waiting_with : Waiting → Command → Waiting
+waiting_with waiting c = insert_key waiting_cmp waiting (c.client, c.seq)
 
 -- the command's reply
 abbrev pub reply_of : Service → Command → Reply
@@ -31,7 +36,7 @@ reply_of s c = record { client = c.client; seq = c.seq; answer = answer_of s c }
 -- the service, those that wait, and the replies given so far
 pub record Served : Type 0 where
   pub service : Service
-  pub waiting : List Waiting
+  pub waiting : Waiting
   pub replies : List Reply
 
 -- after one more command is decided
@@ -49,14 +54,14 @@ serving_entry t (entry.Command c) = serving_command t c
 serving_entry t (entry.Stop stop) = t
 
 -- after these entries are decided, in order
-abbrev pub serving : Service → List Waiting → List Entry → Served
+abbrev pub serving : Service → Waiting → List Entry → Served
 serving s waiting entries = fold serving_entry (record { service = s; waiting = waiting; replies = [] }) entries
 
 -- ---- what is given up
 
 -- those that wait, and what the others were told
 pub record Dropping : Type 0 where
-  pub waiting : List Waiting
+  pub waiting : Waiting
   pub replies : List Reply
 
 -- who proposed a stop-sign is told by client 0 and number 0, and doesn't wait
@@ -71,5 +76,5 @@ dropping_reply t r =
     else t
 
 -- after these are given up, in order
-abbrev pub dropping : List Waiting → List Reply → Dropping
+abbrev pub dropping : Waiting → List Reply → Dropping
 dropping waiting replies = fold dropping_reply (record { waiting = waiting; replies = [] }) replies

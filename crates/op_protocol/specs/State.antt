@@ -12,10 +12,9 @@ use Rattle.op_types.specs.Roles.{Role}
 use Rattle.op_types.specs.Effects.{Effects}
 use Rattle.op_spec.specs.Service.{Service}
 
--- a client, and the number of its command
-pub record Waiting : Type 0 where
-  pub client : ℕ
-  pub seq : ℕ
+-- who waits for a reply: clients, each with the number of its command, rising by client and number
+abbrev pub Waiting : Type 0
+Waiting = List (ℕ × ℕ)
 
 -- what a node keeps of its part in memory alone
 pub record Volatile : Type 0 where
@@ -32,7 +31,7 @@ pub record State : Type 0 where
   pub durable : Durable
   pub volatile : Volatile
   pub service : Service  -- after all that is decided
-  pub waiting : List Waiting  -- for a reply, here
+  pub waiting : Waiting  -- for a reply, here
 
 -- what a step does at a part, with all that the node keeps of it in memory
 pub record PartStep : Type 0 where
@@ -51,7 +50,7 @@ pub record Planned : Type 0 where
   pub batch : List Change
   pub volatile : Volatile
   pub service : Service
-  pub waiting : List Waiting
+  pub waiting : Waiting
   pub sends : List (ℕ × Msg)
   pub replies : List Reply
   pub outcome : Option Outcome

@@ -125,6 +125,8 @@ outcome_lines at (Some o) = line.Answer at o ∷ []
 -- the line of what a client is answered
 abbrev pub answer_line : ℕ → ℕ → ℕ → Answer → Line
 answer_line pid client seq answer.Done = line.Reply pid client seq answer.Done
+answer_line pid client seq (answer.Value value) = line.Reply pid client seq (answer.Value value)
+answer_line pid client seq answer.Absent = line.Reply pid client seq answer.Absent
 answer_line pid client seq answer.Stale = line.Reply pid client seq answer.Stale
 answer_line pid client seq (answer.Dropped cause) = line.Dropped pid client seq cause
 

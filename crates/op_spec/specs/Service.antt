@@ -1,9 +1,9 @@
 -- The key-value service: what a list of entries makes of it, and what it answers a command.
-use Rattle.std.specs.Prelude.{◌==◌, ℕ, nat_lt, List, [], ◌∷◌, ◌++◌, length, Option, Some, None, if◌then◌else◌, fold, flat_map}
+use Rattle.std.specs.Prelude.{◌==◌, ℕ, nat_lt, Bool, false, bytes_eq, List, [], ◌∷◌, ◌++◌, length, Option, Some, None, if◌then◌else◌, fold, flat_map}
 use Rattle.std.specs.Int.{w8, w16, w64, to_be_bytes}
 use Rattle.std.specs.Ordering.{nat_cmp}
 use Rattle.std.specs.Cmp.Lexicographic.{slice_cmp}
-use Rattle.std.specs.Map.{lookup}
+use Rattle.std.specs.Map.{lookup, remove_entry}
 use Rattle.std.specs.BTreeMap.{insert_entry, is_at}
 use Rattle.op_types.specs.declared.log.Op.{Op}
 use Rattle.op_types.specs.declared.log.Op.TheVariants as op
@@ -14,22 +14,48 @@ use Rattle.op_types.specs.declared.answers.Answer.{Answer}
 use Rattle.op_types.specs.declared.answers.Answer.TheVariants as answer
 use Rattle.op_types.specs.declared.answers.Applied.{Applied}
 
+-- keys and values, rising by key
+abbrev pub Pairs : Type 0
+Pairs = List (List ℕ × List ℕ)
+
 -- the service's state
 pub record Service : Type 0 where
-  pub pairs : List (List ℕ × List ℕ)  -- keys and values, rising by key
+  pub pairs : Pairs
   pub clients : List (ℕ × Applied)  -- each client's last command, rising by client
 
 -- nothing is kept at the start
 abbrev pub new_service : Service
 new_service = record { pairs = []; clients = [] }
 
--- the pairs after an operation took its effect
-abbrev pub pairs_after : Op → List (List ℕ × List ℕ) → List (List ℕ × List ℕ)
-pairs_after (op.Put key value) pairs = insert_entry (slice_cmp nat_cmp) pairs key value
+-- a key's value, if it has one
+abbrev pub value_at : List ℕ → Pairs → Option (List ℕ)
+value_at key pairs = lookup (is_at (slice_cmp nat_cmp key)) pairs
 
--- what a command is answered that takes its effect
-abbrev pub effect_answer : Op → List (List ℕ × List ℕ) → Answer
+-- there is a value, and it is this one
+abbrev pub is_value : List ℕ → Option (List ℕ) → Bool
+is_value value None = false
+is_value value (Some found) = bytes_eq found value
+
+-- what tells a key's value
+abbrev pub told_value : Option (List ℕ) → Answer
+told_value None = answer.Absent
+told_value (Some value) = answer.Value value
+
+-- the pairs after an operation took its effect
+abbrev pub pairs_after : Op → Pairs → Pairs
+pairs_after (op.Put key value) pairs = insert_entry (slice_cmp nat_cmp) pairs key value
+pairs_after (op.Del key) pairs = remove_entry (is_at (slice_cmp nat_cmp key)) pairs
+pairs_after (op.Get key) pairs = pairs
+pairs_after (op.Cas key old new) pairs =
+    if is_value old (value_at key pairs) then insert_entry (slice_cmp nat_cmp) pairs key new else pairs
+
+-- what a command is answered that takes its effect; a value that is not replaced is told
+abbrev pub effect_answer : Op → Pairs → Answer
 effect_answer (op.Put key value) pairs = answer.Done
+effect_answer (op.Del key) pairs = answer.Done
+effect_answer (op.Get key) pairs = told_value (value_at key pairs)
+effect_answer (op.Cas key old new) pairs =
+    if is_value old (value_at key pairs) then answer.Done else told_value (value_at key pairs)
 
 -- the command takes its effect, and its answer is kept
 abbrev pub service_with_effect : Service → Command → Service
@@ -76,9 +102,11 @@ service_of entries = all_after new_service entries
 
 -- ---- bytes of a service's state
 
--- the tag of an answer that is kept; what was given up was never applied
+-- the bytes of an answer that is kept, after its tag; what took effect is answered in one of the first three ways
 abbrev pub answer_bytes : Answer → List ℕ
 answer_bytes answer.Done = 1 ∷ []
+answer_bytes (answer.Value value) = 2 ∷ to_be_bytes w16 (length value) ++ value
+answer_bytes answer.Absent = 3 ∷ []
 answer_bytes answer.Stale = 4 ∷ []
 answer_bytes (answer.Dropped why) = []
 

@@ -1,9 +1,10 @@
 -- Which ids, numbers, ballots, members, commands and entries are in range.
-use Rattle.std.specs.Prelude.{◌≤◌, ◌<◌, ◌^◌, ℕ, List, [], ◌∷◌, length, All}
+use Rattle.std.specs.Prelude.{◌≡◌, ◌≤◌, ◌<◌, ◌^◌, ℕ, true, nat_eq, List, [], ◌∷◌, length, All}
+use Rattle.std.specs.Set.{is_member}
 use Rattle.op_types.specs.Limits.{greatest_pid, most_members, greatest_number, positions_end, last_conf, most_key_bytes, most_value_bytes}
 use Rattle.op_types.specs.declared.ballot.Ballot.{Ballot}
 use Rattle.op_types.specs.declared.log.Op.{Op}
-use Rattle.op_types.specs.declared.log.Op.TheVariants.{Put}
+use Rattle.op_types.specs.declared.log.Op.TheVariants.{Put, Del, Get, Cas}
 use Rattle.op_types.specs.declared.log.Command.{Command}
 use Rattle.op_types.specs.declared.log.Entry.{Entry}
 use Rattle.op_types.specs.declared.log.Entry.TheVariants as entries
@@ -37,6 +38,10 @@ abbrev pub AreRising : ℕ → List ℕ → Type 0
 AreRising low [] = Unit {0}
 AreRising low (id ∷ ids) = (low < id) × (id ≤ greatest_pid) × AreRising id ids
 
+-- one of these members
+abbrev pub IsMember : List ℕ → ℕ → Type 0
+IsMember members q = is_member nat_eq members q ≡ true
+
 -- the members of a configuration, rising
 pub record MembersInRange (ids : List ℕ) : Type 0 where
   pub some : 1 ≤ length ids
@@ -54,6 +59,16 @@ IsValue value = length value ≤ most_value_bytes
 -- an operation whose parts are in range
 abbrev pub OpInRange : Op → Type 0
 OpInRange (Put key value) = IsKey key × IsValue value
+OpInRange (Del key) = IsKey key
+OpInRange (Get key) = IsKey key
+OpInRange (Cas key old new) = IsKey key × IsValue old × IsValue new
+
+-- the operation is a put
+abbrev pub IsPut : Op → Type 0
+IsPut (Put key value) = Unit {0}
+IsPut (Del key) = ⊥
+IsPut (Get key) = ⊥
+IsPut (Cas key old new) = ⊥
 
 -- a command whose parts are in range
 pub record CommandInRange (c : Command) : Type 0 where
@@ -71,10 +86,10 @@ pub record EntriesInRange (most : ℕ) (es : List Entry) : Type 0 where
   pub few : length es ≤ most
   pub each : All EntryInRange es
 
--- what happens, at a server in range, with its parts in range
+-- what happens, at a server in range, with its parts in range; a schedule's commands are puts yet
 abbrev pub WhatInRange : What → Type 0
 WhatInRange (what.Tick p) = IsPid p
-WhatInRange (what.Command p c) = IsPid p × CommandInRange c
+WhatInRange (what.Command p c) = IsPid p × CommandInRange c × IsPut c.op
 WhatInRange (what.Deliver i) = i < 2 ^ 64
 WhatInRange (what.Up p q) = IsPid p × IsPid q
 WhatInRange (what.Down p q) = IsPid p × IsPid q

@@ -1,9 +1,7 @@
 -- A role, as contracts see it, and what a turn makes of it.
-use Rattle.std.specs.Prelude.{◌<◌, List, Some, None}
+use Rattle.std.specs.Prelude.{◌<◌, Some, None}
 use Rattle.op_types.specs.RoleStates as state
 use Rattle.op_types.specs.RoleStates.{with_promise, with_buffered, with_synced, without_synced, with_acknowledged}
-use Rattle.op_types.specs.declared.role.Promised.{Promised}
-use Rattle.op_types.specs.declared.role.Buffered.{Buffered}
 use Rattle.op_types.specs.declared.role.Preparing as preparing
 use Rattle.op_types.specs.declared.role.Leading as leading
 use Rattle.op_types.specs.declared.role.Role as role

@@ -1,7 +1,7 @@
 //! Copies, each equal to what it was made from.
 ghost use Rattle.std.specs.Prelude.{◌≡◌, IfOk};
 
-use crate::{Blob, Body, Command, Entries, Entry, Members, Op, StopSign};
+use crate::{Answer, Applied, Blob, Body, Command, Entries, Entry, Members, Op, Reply, StopSign};
 use std::alloc::{AllocError as NoMemory, Global};
 
 impl Blob {
@@ -27,6 +27,13 @@ impl Op {
     {
         match self {
             Op::Put(key, value) => Ok(Op::Put(key.copy(alloc)?, value.copy(alloc)?)),
+            Op::Del(key) => Ok(Op::Del(key.copy(alloc)?)),
+            Op::Get(key) => Ok(Op::Get(key.copy(alloc)?)),
+            Op::Cas(key, old, new) => Ok(Op::Cas(
+                key.copy(alloc)?,
+                old.copy(alloc)?,
+                new.copy(alloc)?,
+            )),
         }
     }
 }
@@ -65,6 +72,46 @@ impl Entry {
             Entry::Command(command) => Ok(Entry::Command(command.copy(alloc)?)),
             Entry::Stop(stop) => Ok(Entry::Stop(stop.copy(alloc)?)),
         }
+    }
+}
+
+impl Answer {
+    /// An equal value.
+    pub fn copy(&self, alloc: Global) -> Result<Answer, NoMemory>
+        ensures { IfOk result (λ a. a ≡ self.now) }
+    {
+        Ok(match self {
+            Answer::Done => Answer::Done,
+            Answer::Value(value) => Answer::Value(value.copy(alloc)?),
+            Answer::Absent => Answer::Absent,
+            Answer::Stale => Answer::Stale,
+            Answer::Dropped(cause) => Answer::Dropped(*cause),
+        })
+    }
+}
+
+impl Reply {
+    /// An equal value.
+    pub fn copy(&self, alloc: Global) -> Result<Reply, NoMemory>
+        ensures { IfOk result (λ r. r ≡ self.now) }
+    {
+        Ok(Reply {
+            client: self.client,
+            seq: self.seq,
+            answer: self.answer.copy(alloc)?,
+        })
+    }
+}
+
+impl Applied {
+    /// An equal value.
+    pub fn copy(&self, alloc: Global) -> Result<Applied, NoMemory>
+        ensures { IfOk result (λ a. a ≡ self.now) }
+    {
+        Ok(Applied {
+            seq: self.seq,
+            answer: self.answer.copy(alloc)?,
+        })
     }
 }
 

@@ -126,11 +126,11 @@ fn acknowledge(role: &mut Role, acknowledged: Acknowledged)
 }
 
 /// Removes a sender's acknowledged length, if there is one.
-fn remove_acknowledged(acknowledgements: &mut Reserved<Acknowledged>, from: Pid)
-    ensures items { acknowledgements.new.items ≡ filter (λ a. not (a.from == from)) acknowledgements.old.items }
-    ensures room { acknowledgements.new.room ≡ acknowledgements.old.room }
+fn remove_acknowledged(lengths: &mut Reserved<Acknowledged>, from: Pid)
+    ensures items { lengths.new.items ≡ filter (λ a. not (a.from == from)) lengths.old.items }
+    ensures room { lengths.new.room ≡ lengths.old.room }
 {
-    acknowledgements.retain(|acknowledged| acknowledged.from != from);
+    lengths.retain(|acknowledged| acknowledged.from != from);
 }
 
 /// The length that a sender has acknowledged, 0 at first.

@@ -1,5 +1,6 @@
+use Rattle.op_bounds.specs.Messages.{Passes}
 use Rattle.op_bounds.proofs.Steps.{steps_stay}
 use Rattle.op_bounds.proofs.laws.steps_stay_in_range.Goals as goal
 
 pub returns : goal.returns
-returns c = record { stay = steps_stay }
+returns c = record { stay = λ known. steps_stay (Passes known) }

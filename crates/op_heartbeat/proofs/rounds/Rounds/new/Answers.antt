@@ -1,5 +1,5 @@
 use Rattle.std.proofs.Common.{ℕ, List, sym, ◌∙◌, subst, arith}
-use Rattle.op_heartbeat.specs.HeardReplies.{IsMember}
+use Rattle.op_types.specs.Ranges.{IsMember}
 use Rattle.op_heartbeat.proofs.Senders.{AreVoters-none}
 use Rattle.op_heartbeat.proofs.rounds.Rounds.new.Goals as goal
 
