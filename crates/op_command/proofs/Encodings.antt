@@ -12,16 +12,16 @@ use Rattle.op_fields.specs.Reads.{Reads}
 use Rattle.op_fields.proofs.Formats.{wide8, wide16, wide32, wide64, number-reads, counted-reads, made}
 use Rattle.op_fields.proofs.Composites.{pair-reads, fitted-reads, tested-reads}
 use Rattle.op_fields.proofs.Choices.{OptionsTake, OptionsAgain, no_option-takes, option-takes, choice-reads}
-use Rattle.op_entry.specs.Forms.{ballot, command}
-use Rattle.op_entry.proofs.Encodings.{ballot_reads, command_reads}
-use Rattle.op_command.specs.declared.request.Request.{Request}
-use Rattle.op_command.specs.declared.request.Request.TheVariants as request
+use Rattle.op_entry.specs.Forms.{ballot, value, command}
+use Rattle.op_entry.proofs.Encodings.{ballot_reads, value_reads, command_reads}
+use Rattle.op_types.specs.declared.events.Request.{Request}
+use Rattle.op_types.specs.declared.events.Request.TheVariants as request
 use Rattle.op_command.specs.declared.said.Said.{Said}
 use Rattle.op_command.specs.declared.said.Said.TheVariants as said
 use Rattle.op_command.specs.Tagged.{no_fields}
 use Rattle.op_command.specs.Ranges.{RequestInRange, CauseInRange, DenialInRange, SaidInRange, ReplyInRange}
 use Rattle.op_command.specs.Requests.{request_tag_form, request_tag, request_body, request_options, request_form}
-use Rattle.op_command.specs.Replies.{place, cause_tag, cause_body, cause_options, cause_form, denial_tag, denial_body, denial_options, denial_form, said_of, appended, pid, line, offset, said_tag_form, said_tag, said_body, said_options, said_form, client, number_of, reply_parts, reply_form}
+use Rattle.op_command.specs.Replies.{place, cause_tag, cause_body, cause_options, cause_form, fault_count, denial_tag, denial_body, denial_options, denial_form, said_of, appended, pid, line, offset, said_tag_form, said_tag, said_body, said_options, said_form, client, number_of, reply_parts, reply_form}
 use Rattle.op_command.proofs.Tags.{no_fields-reads, tagged-reads}
 use Rattle.op_command.proofs.Asked.{number_below, asked_fits, fits_asked}
 
@@ -77,28 +77,34 @@ cause_reads = choice-reads cause_tag cause_body CauseInRange 3 cause_options (om
 
 -- ---- why a proposal is refused
 
+fault_count_reads : Reads fault_count
+fault_count_reads = number-reads w64 (2 ^ 64) wide64 0 (2 ^ 64 - 1) (omega arith)
+
 denial_takes : OptionsTake denial_tag denial_body DenialInRange denial_options
 denial_takes =
-    option-takes denial_tag denial_body DenialInRange 2 place _ _ place_reads (λ n fit. (refl, fit.1, refl))
+    option-takes denial_tag denial_body DenialInRange 1 fault_count _ _ fault_count_reads (λ n fit. (refl, fit.1, refl))
+    (option-takes denial_tag denial_body DenialInRange 2 place _ _ place_reads (λ n fit. (refl, fit.1, refl))
     (option-takes denial_tag denial_body DenialInRange 3 no_fields (λ _. Some refusal.NoLeader) _ no_fields-reads (λ _ fit. (refl, fit, refl))
     (option-takes denial_tag denial_body DenialInRange 4 no_fields (λ _. Some refusal.PositionsEnd) _ no_fields-reads (λ _ fit. (refl, fit, refl))
     (option-takes denial_tag denial_body DenialInRange 5 no_fields (λ _. None) no_option no_fields-reads (λ _ fit. (refl, fit, refl))
-    (no_option-takes denial_tag denial_body DenialInRange))))
+    (no_option-takes denial_tag denial_body DenialInRange)))))
 
 denial_again : OptionsAgain denial_tag denial_body DenialInRange denial_options
+denial_again (Some (refusal.StorageFailed n)) bytes at rest fit le is = made (fault_count.read bytes at) (λ n. Some (refusal.StorageFailed n)) n _ (fault_count_reads.again bytes at n rest (omega arith, fit) le is)
 denial_again (Some (refusal.PendingStop n)) bytes at rest fit le is = made (place.read bytes at) (λ n. Some (refusal.PendingStop n)) n _ (place_reads.again bytes at n rest (omega arith, fit) le is)
 denial_again (Some refusal.NoLeader) bytes at rest fit le is = made (no_fields.read bytes at) (λ _. Some refusal.NoLeader) tt _ (no_fields-reads.again bytes at tt rest fit le is)
 denial_again (Some refusal.PositionsEnd) bytes at rest fit le is = made (no_fields.read bytes at) (λ _. Some refusal.PositionsEnd) tt _ (no_fields-reads.again bytes at tt rest fit le is)
 denial_again None bytes at rest fit le is = made (no_fields.read bytes at) (λ _. None) tt _ (no_fields-reads.again bytes at tt rest fit le is)
 
-denial_tags : (d : Option Refusal) → DenialInRange d → (2 ≤ denial_tag d) × (denial_tag d ≤ 5)
+denial_tags : (d : Option Refusal) → DenialInRange d → (1 ≤ denial_tag d) × (denial_tag d ≤ 5)
+denial_tags (Some (refusal.StorageFailed n)) fit = (lit≤ tt, lit≤ tt)
 denial_tags (Some (refusal.PendingStop n)) fit = (lit≤ tt, lit≤ tt)
 denial_tags (Some refusal.NoLeader) fit = (lit≤ tt, lit≤ tt)
 denial_tags (Some refusal.PositionsEnd) fit = (lit≤ tt, lit≤ tt)
 denial_tags None fit = (lit≤ tt, lit≤ tt)
 
 denial_reads : Reads denial_form
-denial_reads = tagged-reads (number w8 2 5) (number-reads w8 (2 ^ 8) wide8 2 5 (omega arith)) denial_tag denial_body DenialInRange denial_options denial_tags denial_takes denial_again
+denial_reads = choice-reads denial_tag denial_body DenialInRange 5 denial_options (omega arith) denial_tags denial_takes denial_again
 
 -- what is said of a refusal
 said_denial : (d : Option Refusal) → DenialInRange d → (said_body (said_of d) ≡ denial_form.text d) × SaidInRange (said_of d) × (said_tag (said_of d) ≡ 6)
@@ -125,6 +131,8 @@ said_tag_reads = tested-reads _ _ (number-reads w8 (2 ^ 8) wide8 1 14 (omega ari
 said_takes : OptionsTake said_tag said_body SaidInRange said_options
 said_takes =
     option-takes said_tag said_body SaidInRange 1 no_fields (λ _. said.Answer answer.Done) _ no_fields-reads (λ _ fit. (refl, fit, refl))
+    (option-takes said_tag said_body SaidInRange 2 value _ _ value_reads (λ v fit. (refl, fit.1, refl))
+    (option-takes said_tag said_body SaidInRange 3 no_fields (λ _. said.Answer answer.Absent) _ no_fields-reads (λ _ fit. (refl, fit, refl))
     (option-takes said_tag said_body SaidInRange 4 no_fields (λ _. said.Answer answer.Stale) _ no_fields-reads (λ _ fit. (refl, fit, refl))
     (option-takes said_tag said_body SaidInRange 5 cause_form _ _ cause_reads (λ c fit. (refl, fit, refl))
     (option-takes said_tag said_body SaidInRange 6 denial_form said_of _ denial_reads said_denial
@@ -134,10 +142,12 @@ said_takes =
     (option-takes said_tag said_body SaidInRange 12 line _ _ line_reads (λ t fit. (refl, fit.1, refl))
     (option-takes said_tag said_body SaidInRange 13 no_fields (λ _. said.Ended) _ no_fields-reads (λ _ fit. (refl, fit, refl))
     (option-takes said_tag said_body SaidInRange 14 offset _ no_option offset_reads (λ n fit. (refl, fit.1, refl))
-    (no_option-takes said_tag said_body SaidInRange))))))))))
+    (no_option-takes said_tag said_body SaidInRange))))))))))))
 
 said_again : OptionsAgain said_tag said_body SaidInRange said_options
 said_again (said.Answer answer.Done) bytes at rest fit le is = made (no_fields.read bytes at) (λ _. said.Answer answer.Done) tt _ (no_fields-reads.again bytes at tt rest fit le is)
+said_again (said.Answer (answer.Value v)) bytes at rest fit le is = made (value.read bytes at) (λ v. said.Answer (answer.Value v)) v _ (value_reads.again bytes at v rest (omega arith, fit) le is)
+said_again (said.Answer answer.Absent) bytes at rest fit le is = made (no_fields.read bytes at) (λ _. said.Answer answer.Absent) tt _ (no_fields-reads.again bytes at tt rest fit le is)
 said_again (said.Answer answer.Stale) bytes at rest fit le is = made (no_fields.read bytes at) (λ _. said.Answer answer.Stale) tt _ (no_fields-reads.again bytes at tt rest fit le is)
 said_again (said.Answer (answer.Dropped c)) bytes at rest fit le is = made (cause_form.read bytes at) (λ c. said.Answer (answer.Dropped c)) c _ (cause_reads.again bytes at c rest fit le is)
 said_again (said.Outcome (outcome.Refused why)) bytes at rest fit le is = made (denial_form.read bytes at) said_of (Some why) _ (denial_reads.again bytes at (Some why) rest fit le is)
@@ -151,6 +161,8 @@ said_again (said.BadRequest n) bytes at rest fit le is = made (offset.read bytes
 
 said_tags : (s : Said) → SaidInRange s → said_tag_form.fits (said_tag s)
 said_tags (said.Answer answer.Done) fit = ((lit≤ tt, lit≤ tt), cc)
+said_tags (said.Answer (answer.Value v)) fit = ((lit≤ tt, lit≤ tt), cc)
+said_tags (said.Answer answer.Absent) fit = ((lit≤ tt, lit≤ tt), cc)
 said_tags (said.Answer answer.Stale) fit = ((lit≤ tt, lit≤ tt), cc)
 said_tags (said.Answer (answer.Dropped c)) fit = ((lit≤ tt, lit≤ tt), cc)
 said_tags (said.Outcome (outcome.Refused why)) fit = ((lit≤ tt, lit≤ tt), cc)

@@ -1,6 +1,6 @@
 -- Which requests and replies have an encoding.
 use Rattle.std.specs.Prelude.{◌≡◌, ◌≤◌, ◌-◌, ◌^◌, ◌⊎◌, ℕ, Option, Some, None, length}
-use Rattle.op_types.specs.Ranges.{IsPid, IsConf, IsPlace, IsNumber, BallotInRange, CommandInRange}
+use Rattle.op_types.specs.Ranges.{IsPid, IsConf, IsPlace, IsNumber, IsValue, BallotInRange, CommandInRange}
 use Rattle.op_types.specs.declared.answers.Refusal.{Refusal}
 use Rattle.op_types.specs.declared.answers.Refusal.TheVariants as refusal
 use Rattle.op_types.specs.declared.answers.Outcome.{Outcome}
@@ -9,8 +9,8 @@ use Rattle.op_types.specs.declared.answers.Cause.{Cause}
 use Rattle.op_types.specs.declared.answers.Cause.TheVariants as cause
 use Rattle.op_types.specs.declared.answers.Answer.{Answer}
 use Rattle.op_types.specs.declared.answers.Answer.TheVariants as answer
-use Rattle.op_command.specs.declared.request.Request.{Request}
-use Rattle.op_command.specs.declared.request.Request.TheVariants as request
+use Rattle.op_types.specs.declared.events.Request.{Request}
+use Rattle.op_types.specs.declared.events.Request.TheVariants as request
 use Rattle.op_command.specs.declared.said.Said.{Said}
 use Rattle.op_command.specs.declared.said.Said.TheVariants as said
 use Rattle.op_command.specs.declared.reply.ClientReply.{ClientReply}
@@ -30,11 +30,18 @@ CauseInRange cause.End = Unit {0}
 -- what a command is answered
 abbrev pub AnswerInRange : Answer → Type 0
 AnswerInRange answer.Done = Unit {0}
+AnswerInRange (answer.Value v) = IsValue v
+AnswerInRange answer.Absent = Unit {0}
 AnswerInRange answer.Stale = Unit {0}
 AnswerInRange (answer.Dropped why) = CauseInRange why
 
+-- the greatest count that eight bytes can name
+abbrev pub greatest_count : ℕ
+greatest_count = 2 ^ 64 - 1
+
 -- why a proposal is refused
 abbrev pub RefusalInRange : Refusal → Type 0
+RefusalInRange (refusal.StorageFailed count) = count ≤ greatest_count
 RefusalInRange (refusal.PendingStop pos) = IsPlace pos
 RefusalInRange refusal.NoLeader = Unit {0}
 RefusalInRange refusal.PositionsEnd = Unit {0}

@@ -1,5 +1,5 @@
 -- Replies as bytes.
-use Rattle.std.specs.Prelude.{◌==◌, ◌&&◌, ◌||◌, if◌then◌else◌, ℕ, Bool, List, [], Option, Some, None, nat_le}
+use Rattle.std.specs.Prelude.{◌==◌, ◌||◌, if◌then◌else◌, ℕ, Bool, List, [], Option, Some, None, nat_le}
 use Rattle.std.specs.Int.{w8, w16, w32, w64}
 use Rattle.op_types.specs.Limits.{greatest_pid, greatest_number, positions_end, last_conf}
 use Rattle.op_fields.specs.Form.{Form, Options, number, counted, pair, fitted, tested, option, no_option, choice}
@@ -9,9 +9,9 @@ use Rattle.op_types.specs.declared.answers.Outcome.TheVariants as outcome
 use Rattle.op_types.specs.declared.answers.Cause.{Cause}
 use Rattle.op_types.specs.declared.answers.Cause.TheVariants as cause
 use Rattle.op_types.specs.declared.answers.Answer.TheVariants as answer
-use Rattle.op_entry.specs.Forms.{ballot}
+use Rattle.op_entry.specs.Forms.{ballot, value}
 use Rattle.op_command.specs.Tagged.{no_fields, tagged}
-use Rattle.op_command.specs.Ranges.{CauseInRange, DenialInRange, SaidInRange, ReplyInRange, most_line_bytes, greatest_offset}
+use Rattle.op_command.specs.Ranges.{CauseInRange, DenialInRange, SaidInRange, ReplyInRange, most_line_bytes, greatest_offset, greatest_count}
 use Rattle.op_command.specs.declared.said.Said.{Said}
 use Rattle.op_command.specs.declared.said.Said.TheVariants as said
 use Rattle.op_command.specs.declared.reply.ClientReply.{ClientReply}
@@ -48,8 +48,13 @@ cause_form = choice 3 cause_tag cause_body CauseInRange cause_options
 
 -- ---- why a proposal is refused; None stands for want of memory
 
--- the tag of a refusal; 1 has none yet
+-- a count of faults
+abbrev pub fault_count : Form ℕ
+fault_count = number w64 0 greatest_count
+
+-- the tag of a refusal
 abbrev pub denial_tag : Option Refusal → ℕ
+denial_tag (Some (refusal.StorageFailed count)) = 1
 denial_tag (Some (refusal.PendingStop pos)) = 2
 denial_tag (Some refusal.NoLeader) = 3
 denial_tag (Some refusal.PositionsEnd) = 4
@@ -57,6 +62,7 @@ denial_tag None = 5
 
 -- what stands after it
 abbrev pub denial_body : Option Refusal → List ℕ
+denial_body (Some (refusal.StorageFailed count)) = fault_count.text count
 denial_body (Some (refusal.PendingStop pos)) = place.text pos
 denial_body (Some refusal.NoLeader) = []
 denial_body (Some refusal.PositionsEnd) = []
@@ -65,15 +71,16 @@ denial_body None = []
 -- what is read after a tag
 abbrev pub denial_options : Options (Option Refusal)
 denial_options =
-    option 2 place (λ pos. Some (refusal.PendingStop pos))
+    option 1 fault_count (λ count. Some (refusal.StorageFailed count))
+    (option 2 place (λ pos. Some (refusal.PendingStop pos))
     (option 3 no_fields (λ _. Some refusal.NoLeader)
     (option 4 no_fields (λ _. Some refusal.PositionsEnd)
     (option 5 no_fields (λ _. None)
-    no_option)))
+    no_option))))
 
 -- why a proposal is refused
 abbrev pub denial_form : Form (Option Refusal)
-denial_form = tagged (number w8 2 5) denial_tag denial_body DenialInRange denial_options
+denial_form = choice 5 denial_tag denial_body DenialInRange denial_options
 
 -- what is said where a proposal is refused
 abbrev pub said_of : Option Refusal → Said
@@ -98,9 +105,9 @@ line = counted w16 0 most_line_bytes
 abbrev pub offset : Form ℕ
 offset = number w64 0 greatest_offset
 
--- the tags of replies; 2, 3, 10 and 11 have none yet
+-- the tags of replies; 10 and 11 have none yet
 abbrev pub is_said_tag : ℕ → Bool
-is_said_tag tag = tag == 1 || nat_le 4 tag && nat_le tag 9 || nat_le 12 tag
+is_said_tag tag = nat_le tag 9 || nat_le 12 tag
 
 -- a reply's tag; any other is a fault at its place
 abbrev pub said_tag_form : Form ℕ
@@ -109,6 +116,8 @@ said_tag_form = tested is_said_tag (number w8 1 14)
 -- a reply's tag
 abbrev pub said_tag : Said → ℕ
 said_tag (said.Answer answer.Done) = 1
+said_tag (said.Answer (answer.Value v)) = 2
+said_tag (said.Answer answer.Absent) = 3
 said_tag (said.Answer answer.Stale) = 4
 said_tag (said.Answer (answer.Dropped why)) = 5
 said_tag (said.Outcome (outcome.Refused why)) = 6
@@ -123,6 +132,8 @@ said_tag (said.BadRequest at) = 14
 -- what stands after it
 abbrev pub said_body : Said → List ℕ
 said_body (said.Answer answer.Done) = []
+said_body (said.Answer (answer.Value v)) = value.text v
+said_body (said.Answer answer.Absent) = []
 said_body (said.Answer answer.Stale) = []
 said_body (said.Answer (answer.Dropped why)) = cause_form.text why
 said_body (said.Outcome (outcome.Refused why)) = denial_form.text (Some why)
@@ -138,6 +149,8 @@ said_body (said.BadRequest at) = offset.text at
 abbrev pub said_options : Options Said
 said_options =
     option 1 no_fields (λ _. said.Answer answer.Done)
+    (option 2 value (λ v. said.Answer (answer.Value v))
+    (option 3 no_fields (λ _. said.Answer answer.Absent)
     (option 4 no_fields (λ _. said.Answer answer.Stale)
     (option 5 cause_form (λ why. said.Answer (answer.Dropped why))
     (option 6 denial_form said_of
@@ -147,7 +160,7 @@ said_options =
     (option 12 line (λ text. said.Status text)
     (option 13 no_fields (λ _. said.Ended)
     (option 14 offset (λ at. said.BadRequest at)
-    no_option)))))))))
+    no_option)))))))))))
 
 -- what is said
 abbrev pub said_form : Form Said

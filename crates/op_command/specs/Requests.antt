@@ -5,8 +5,8 @@ use Rattle.op_fields.specs.Form.{Form, Options, number, tested, option, no_optio
 use Rattle.op_entry.specs.Forms.{command}
 use Rattle.op_command.specs.Tagged.{no_fields, tagged}
 use Rattle.op_command.specs.Ranges.{RequestInRange}
-use Rattle.op_command.specs.declared.request.Request.{Request}
-use Rattle.op_command.specs.declared.request.Request.TheVariants as request
+use Rattle.op_types.specs.declared.events.Request.{Request}
+use Rattle.op_types.specs.declared.events.Request.TheVariants as request
 
 -- the tags of requests; 2 and 3 have no request yet
 abbrev pub is_request_tag : ℕ → Bool

@@ -1,33 +1,21 @@
-ghost use Rattle.std.specs.Prelude.{◌≡◌, ◌++◌, ◌+◌, OnOk, OnErr, IfOk, Ok, Err};
-ghost use Rattle.std.specs.Int.{w8};
-ghost use Rattle.op_fields.specs.Form.{number_read, whole};
+ghost use Rattle.std.specs.Prelude.{◌≡◌, ◌++◌, OnOk, OnErr, IfOk, Ok, Err};
+ghost use Rattle.op_fields.specs.Prefixes.{KeepsPrefix};
+ghost use Rattle.op_fields.specs.Form.{whole};
 ghost use Rattle.op_fields.specs.Taken.{Gives, IfBad};
-ghost use Rattle.op_entry.specs.Forms.{command};
 ghost use Rattle.op_command.specs.Ranges.{RequestInRange};
 ghost use Rattle.op_command.specs.Requests.{request_tag_form, request_form};
 
-use op_entry::{entry_at, put};
+use op_entry::{command_at, put_command};
 use op_fields::{NoMemory, TakeFail, put_u8, u8_in};
-use op_types::{Command, Entry};
+use op_types::{Command, Request};
 use std::alloc::Global;
 
-/// The tags of requests. A command is asked as the entry that it becomes, whose tag is this one.
+/// The tags of requests. A command's is that of the entry that it becomes.
 const COMMAND: u8 = 1;
 
 const STATUS: u8 = 4;
 
 const END: u8 = 5;
-
-/// What a client asks a node.
-#[derive(Drop)]
-pub enum Request {
-    /// To propose this command.
-    Command(Command),
-    /// Where the node stands.
-    Status,
-    /// To end serving.
-    End,
-}
 
 /// Appends a request. Without memory nothing is appended.
 pub fn put_request(out: &mut Vec<u8>, r: &Request) -> Result<(), NoMemory>
@@ -35,12 +23,24 @@ pub fn put_request(out: &mut Vec<u8>, r: &Request) -> Result<(), NoMemory>
     ensures ok { OnOk result (out.new.items ≡ out.old.items ++ request_form.text r.now) }
     ensures err { OnErr result (out.new.items ≡ out.old.items) }
 {
+    let len = out.len();
+    let Ok(()) = put_parts(out, r) else {
+        out.truncate(len);
+        return Err(NoMemory);
+    };
+    Ok(())
+}
+
+#[tactic(auto, using(op_fields::proofs::Prefixes::kept_through))]
+fn put_parts(out: &mut Vec<u8>, r: &Request) -> Result<(), NoMemory>
+    requires { RequestInRange r.now }
+    ensures ok { OnOk result (out.new.items ≡ out.old.items ++ request_form.text r.now) }
+    ensures err { OnErr result (KeepsPrefix out.old.items out.new.items) }
+{
     match r {
         Request::Command(command) => {
-            // An entry owns its command.
-            let alloc = *out.allocator();
-            let entry = Entry::Command(command.copy(alloc)?);
-            put(out, &entry)
+            put_u8(out, COMMAND)?;
+            put_command(out, command)
         }
         Request::Status => put_u8(out, STATUS),
         Request::End => put_u8(out, END),
@@ -78,7 +78,7 @@ fn request_at(alloc: Global, bytes: &[u8], at: usize) -> Result<(Request, usize)
     let (tag, next) = request_tag_at(bytes, at)?;
     match tag {
         COMMAND => {
-            let (command, end) = command_at(alloc, bytes, at)?;
+            let (command, end) = command_at(alloc, bytes, next)?;
             Ok((Request::Command(command), end))
         }
         STATUS => Ok((Request::Status, next)),
@@ -88,24 +88,11 @@ fn request_at(alloc: Global, bytes: &[u8], at: usize) -> Result<(Request, usize)
 }
 
 fn request_tag_at(bytes: &[u8], at: usize) -> Result<(u8, usize), TakeFail>
-    ensures read { Gives result (request_tag_form.read bytes.now at) }
-    ensures next { IfOk result (λ x. x.1 ≡ at + 1) }
+    ensures { Gives result (request_tag_form.read bytes.now at) }
 {
     let (tag, next) = u8_in(bytes, at, COMMAND, END)?;
     match tag {
         COMMAND | STATUS | END => Ok((tag, next)),
         _ => Err(TakeFail::Bad { at }),
-    }
-}
-
-/// The command of the entry at a byte offset, where the tag of one stands.
-fn command_at(alloc: Global, bytes: &[u8], at: usize) -> Result<(Command, usize), TakeFail>
-    requires { number_read w8 1 5 bytes.now at ≡ Ok (1, at + 1) }
-    ensures { Gives result (command.read bytes.now (at + 1)) }
-{
-    let (entry, end) = entry_at(alloc, bytes, at)?;
-    match entry {
-        Entry::Command(command) => Ok((command, end)),
-        Entry::Stop(_) => unreachable!(),
     }
 }

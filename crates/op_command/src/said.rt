@@ -7,7 +7,7 @@ ghost use Rattle.op_command.specs.declared.said.Said.TheVariants as said;
 
 use crate::cause::{cause_at, put_cause};
 use crate::denial::{denial_at, put_denial};
-use op_entry::blob_of;
+use op_entry::{blob_of, put_value, value_at};
 use op_fields::{
     NoMemory, TakeFail, bytes_after_u16, put_counted, put_u8, put_u32, put_u64, u8_in, u32_in,
     u64_in,
@@ -17,6 +17,10 @@ use std::alloc::Global;
 
 /// The tags of replies.
 const DONE: u8 = 1;
+
+const VALUE: u8 = 2;
+
+const ABSENT: u8 = 3;
 
 const STALE: u8 = 4;
 
@@ -61,7 +65,7 @@ pub fn put_said(out: &mut Vec<u8>, s: &Said) -> Result<(), NoMemory>
     ensures err { OnErr result (KeepsPrefix out.old.items out.new.items) }
 {
     match s {
-        Said::Answer(answer) => put_answer(out, *answer),
+        Said::Answer(answer) => put_answer(out, answer),
         Said::Outcome(outcome) => put_outcome(out, *outcome),
         Said::RefusedMemory => put_refused(out, None),
         Said::Status(text) => {
@@ -77,17 +81,22 @@ pub fn put_said(out: &mut Vec<u8>, s: &Said) -> Result<(), NoMemory>
 }
 
 #[tactic(auto, using(op_fields::proofs::Prefixes::kept_through))]
-fn put_answer(out: &mut Vec<u8>, answer: Answer) -> Result<(), NoMemory>
-    requires { AnswerInRange answer }
-    ensures ok { OnOk result (out.new.items ≡ out.old.items ++ said_form.text (said.Answer answer)) }
+fn put_answer(out: &mut Vec<u8>, answer: &Answer) -> Result<(), NoMemory>
+    requires { AnswerInRange answer.now }
+    ensures ok { OnOk result (out.new.items ≡ out.old.items ++ said_form.text (said.Answer answer.now)) }
     ensures err { OnErr result (KeepsPrefix out.old.items out.new.items) }
 {
     match answer {
         Answer::Done => put_u8(out, DONE),
+        Answer::Value(value) => {
+            put_u8(out, VALUE)?;
+            put_value(out, value)
+        }
+        Answer::Absent => put_u8(out, ABSENT),
         Answer::Stale => put_u8(out, STALE),
         Answer::Dropped(cause) => {
             put_u8(out, DROPPED)?;
-            put_cause(out, cause)
+            put_cause(out, *cause)
         }
     }
 }
@@ -131,6 +140,11 @@ pub fn said_at(alloc: Global, bytes: &[u8], at: usize) -> Result<(Said, usize), 
     let (tag, at) = said_tag_at(bytes, at)?;
     match tag {
         DONE => Ok((Said::Answer(Answer::Done), at)),
+        VALUE => {
+            let (value, at) = value_at(alloc, bytes, at)?;
+            Ok((Said::Answer(Answer::Value(value)), at))
+        }
+        ABSENT => Ok((Said::Answer(Answer::Absent), at)),
         STALE => Ok((Said::Answer(Answer::Stale), at)),
         DROPPED => {
             let (cause, at) = cause_at(bytes, at)?;
@@ -166,7 +180,7 @@ fn said_tag_at(bytes: &[u8], at: usize) -> Result<(u8, usize), TakeFail>
     ensures { Gives result (said_tag_form.read bytes.now at) }
 {
     let (tag, next) = u8_in(bytes, at, DONE, BAD_REQUEST)?;
-    if tag == DONE || STALE <= tag && tag <= FORWARDED || STATUS <= tag {
+    if tag <= FORWARDED || STATUS <= tag {
         Ok((tag, next))
     } else {
         Err(TakeFail::Bad { at })

@@ -2,7 +2,7 @@
 use Rattle.std.proofs.Common.{ℕ, ◌-◌, ◌^◌, ◌≤◌, refl, arith, lit≤}
 use Rattle.std.specs.Int.{w8, w16, w32, w64}
 use Rattle.op_types.specs.declared.log.Op.{Op}
-use Rattle.op_types.specs.declared.log.Op.TheVariants.{Put}
+use Rattle.op_types.specs.declared.log.Op.TheVariants.{Put, Del, Get, Cas}
 use Rattle.op_types.specs.declared.log.Entry.{Entry}
 use Rattle.op_types.specs.declared.log.Entry.TheVariants as variant
 use Rattle.op_fields.specs.Form.{no_option}
@@ -10,7 +10,7 @@ use Rattle.op_fields.specs.Reads.{Reads}
 use Rattle.op_fields.proofs.Formats.{wide8, wide16, wide32, wide64, number-reads, counted-reads, made}
 use Rattle.op_fields.proofs.Composites.{pair-reads, fitted-reads, tested-reads, listed-reads, each_fits, all_fit}
 use Rattle.op_fields.proofs.Choices.{OptionsTake, OptionsAgain, no_option-takes, option-takes, choice-reads}
-use Rattle.op_entry.specs.Forms.{owner, ballot_parts, ballot, member, members, key, value, key_value, op_tag, op_body, op_options, op, client_number, command_parts, command, entry_tag, entry_body, entry_options, entry, entries_within, entries}
+use Rattle.op_entry.specs.Forms.{owner, ballot_parts, ballot, member, members, key, value, key_value, key_values, op_tag, op_body, op_options, op, client_number, command_parts, command, entry_tag, entry_body, entry_options, entry, entries_within, entries}
 use Rattle.op_types.specs.Ranges.{BallotInRange, MembersInRange, OpInRange, CommandInRange, EntryInRange, EntriesInRange}
 use Rattle.op_entry.proofs.Rising.{rising_items, items_rising, lowest_owner, has_owner}
 
@@ -40,25 +40,37 @@ members_reads = fitted-reads _ _ MembersInRange _ (listed-reads member (λ n. n)
 key_reads : Reads key
 key_reads = counted-reads w8 (2 ^ 8) wide8 1 64 (omega arith)
 
-value_reads : Reads value
+pub value_reads : Reads value
 value_reads = counted-reads w16 (2 ^ 16) wide16 0 4096 (omega arith)
 
 key_value_reads : Reads key_value
 key_value_reads = pair-reads key (λ _. value) key_reads (λ _ _. value_reads)
 
+key_values_reads : Reads key_values
+key_values_reads = pair-reads key _ key_reads (λ _ _. pair-reads value _ value_reads (λ _ _. value_reads))
+
 op_takes : OptionsTake op_tag op_body OpInRange op_options
 op_takes =
-    option-takes op_tag op_body OpInRange 1 key_value _ no_option key_value_reads (λ x fit. (refl, (fit.0, fit.1.1), refl))
-    (no_option-takes op_tag op_body OpInRange)
+    option-takes op_tag op_body OpInRange 1 key_value _ _ key_value_reads (λ x fit. (refl, (fit.0, fit.1.1), refl))
+    (option-takes op_tag op_body OpInRange 2 key (λ k. Del k) _ key_reads (λ k fit. (refl, fit, refl))
+    (option-takes op_tag op_body OpInRange 3 key (λ k. Get k) _ key_reads (λ k fit. (refl, fit, refl))
+    (option-takes op_tag op_body OpInRange 4 key_values _ no_option key_values_reads (λ x fit. (refl, (fit.0, fit.1.0.1, fit.1.1.1), refl))
+    (no_option-takes op_tag op_body OpInRange))))
 
 op_again : OptionsAgain op_tag op_body OpInRange op_options
 op_again (Put k v) bytes at rest fit le is = made (key_value.read bytes at) (λ x. Put x.0 x.1) (k, v) _ (key_value_reads.again bytes at (k, v) rest (fit.0, (omega arith, fit.1)) le is)
+op_again (Del k) bytes at rest fit le is = made (key.read bytes at) (λ k. Del k) k _ (key_reads.again bytes at k rest fit le is)
+op_again (Get k) bytes at rest fit le is = made (key.read bytes at) (λ k. Get k) k _ (key_reads.again bytes at k rest fit le is)
+op_again (Cas k old new) bytes at rest fit le is = made (key_values.read bytes at) (λ x. Cas x.0 x.1.0 x.1.1) (k, (old, new)) _ (key_values_reads.again bytes at (k, (old, new)) rest (fit.0, ((omega arith, fit.1), (omega arith, fit.2))) le is)
 
-op_tags : (o : Op) → OpInRange o → (1 ≤ op_tag o) × (op_tag o ≤ 1)
+op_tags : (o : Op) → OpInRange o → (1 ≤ op_tag o) × (op_tag o ≤ 4)
 op_tags (Put k v) fit = (lit≤ tt, lit≤ tt)
+op_tags (Del k) fit = (lit≤ tt, lit≤ tt)
+op_tags (Get k) fit = (lit≤ tt, lit≤ tt)
+op_tags (Cas k old new) fit = (lit≤ tt, lit≤ tt)
 
 op_reads : Reads op
-op_reads = choice-reads op_tag op_body OpInRange 1 op_options (omega arith) op_tags op_takes op_again
+op_reads = choice-reads op_tag op_body OpInRange 4 op_options (omega arith) op_tags op_takes op_again
 
 client_number_reads : Reads client_number
 client_number_reads = number-reads w64 (2 ^ 64) wide64 1 (2 ^ 62 - 1) (omega arith)

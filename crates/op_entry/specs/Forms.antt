@@ -5,7 +5,7 @@ use Rattle.op_types.specs.Limits.{greatest_pid, greatest_number, most_members, m
 use Rattle.op_fields.specs.Form.{Form, Options, number, counted, pair, fitted, tested, listed, option, no_option, choice}
 use Rattle.op_types.specs.declared.ballot.Ballot.{Ballot}
 use Rattle.op_types.specs.declared.log.Op.{Op}
-use Rattle.op_types.specs.declared.log.Op.TheVariants.{Put}
+use Rattle.op_types.specs.declared.log.Op.TheVariants.{Put, Del, Get, Cas}
 use Rattle.op_types.specs.declared.log.Command.{Command}
 use Rattle.op_types.specs.declared.log.Entry.{Entry}
 use Rattle.op_types.specs.declared.log.Entry.TheVariants as variant
@@ -47,21 +47,36 @@ value = counted w16 0 most_value_bytes
 abbrev pub key_value : Form (List ℕ × List ℕ)
 key_value = pair key (λ _. value)
 
+-- a key and two values: the one that is to be there, and the one that replaces it
+abbrev pub key_values : Form (List ℕ × (List ℕ × List ℕ))
+key_values = pair key (λ _. pair value (λ _. value))
+
 -- an operation's tag
 abbrev pub op_tag : Op → ℕ
 op_tag (Put k v) = 1
+op_tag (Del k) = 2
+op_tag (Get k) = 3
+op_tag (Cas k old new) = 4
 
 -- what stands after it
 abbrev pub op_body : Op → List ℕ
 op_body (Put k v) = key_value.text (k, v)
+op_body (Del k) = key.text k
+op_body (Get k) = key.text k
+op_body (Cas k old new) = key_values.text (k, (old, new))
 
 -- what is read after a tag
 abbrev pub op_options : Options Op
-op_options = option 1 key_value (λ x. Put x.0 x.1) no_option
+op_options =
+    option 1 key_value (λ x. Put x.0 x.1)
+    (option 2 key (λ k. Del k)
+    (option 3 key (λ k. Get k)
+    (option 4 key_values (λ x. Cas x.0 x.1.0 x.1.1)
+    no_option)))
 
 -- an operation
 abbrev pub op : Form Op
-op = choice 1 op_tag op_body OpInRange op_options
+op = choice 4 op_tag op_body OpInRange op_options
 
 -- a client, or the number of one of its commands
 abbrev pub client_number : Form ℕ

@@ -1,12 +1,13 @@
 ghost use Rattle.std.specs.Prelude.{◌≡◌, ◌≤◌, ◌++◌, ℕ, List, length, drop, OnOk, OnErr, IfOk, Ok, Err};
 ghost use Rattle.op_fields.specs.Prefixes.{KeepsPrefix};
 ghost use Rattle.op_fields.specs.Form.{items_read};
+ghost use Rattle.op_fields.specs.Items.{GivesItem};
 ghost use Rattle.op_fields.specs.Taken.{Gives, GivesVec, IfBad};
 ghost use Rattle.op_entry.specs.Forms.{entry, entries_within, entries};
 ghost use Rattle.op_types.specs.declared.log.Entry.{Entry};
 
 use crate::command::{command_at, put_command};
-use op_fields::{NoMemory, TakeFail, put_u8, put_u64, u8_in, u64_in};
+use op_fields::{NoMemory, TakeFail, items_at, put_u8, put_u64, u8_in, u64_in};
 use op_types::{Entries, Entry, POSITIONS_END, Seq};
 use std::alloc::Global;
 
@@ -105,11 +106,11 @@ pub fn entries_within_at(
     ensures range { IfOk result (λ x. length x.0 ≤ most) }
 {
     let (count, at) = u64_in(bytes, at, 0, most)?;
-    let (items, at) = items_at(alloc, count, bytes, at)?;
+    let (items, at) = entry_items_at(alloc, count, bytes, at)?;
     Ok((Seq::from_vec(items), at))
 }
 
-fn items_at(
+fn entry_items_at(
     alloc: Global,
     count: u64,
     bytes: &[u8],
@@ -117,12 +118,15 @@ fn items_at(
 ) -> Result<(Vec<Entry>, usize), TakeFail>
     ensures { GivesVec result (items_read (λ _. entry) (λ _. 0) count 0 bytes.now first) }
 {
-    let mut items = Vec::new(alloc);
-    let mut at = first;
-    'items: for _ in 0..count {
-        let (item, next) = entry_at(alloc, bytes, at)?;
-        items.push(item)?;
-        at = next;
-    }
-    Ok((items, at))
+    items_at(
+        alloc,
+        count,
+        first,
+        |at, _|
+            ensures { GivesItem (λ _. 0) result (entry.read bytes.entry.now at) }
+        {
+            let (entry, next) = entry_at(alloc, bytes, at)?;
+            Ok((entry, 0, next))
+        },
+    )
 }

@@ -1,10 +1,11 @@
 ghost use Rattle.std.specs.Prelude.{◌≡◌, ◌++◌, OnOk, OnErr};
 ghost use Rattle.op_fields.specs.Prefixes.{KeepsPrefix};
 ghost use Rattle.op_fields.specs.Form.{items_read};
+ghost use Rattle.op_fields.specs.Items.{GivesItem};
 ghost use Rattle.op_fields.specs.Taken.{Gives, GivesVec};
 ghost use Rattle.op_entry.specs.Forms.{member, members};
 
-use op_fields::{NoMemory, TakeFail, put_u8, put_u32, u8_in, u32_in};
+use op_fields::{NoMemory, TakeFail, items_at, put_u8, put_u32, u8_in, u32_in};
 use op_types::{GREATEST_PID, MOST_MEMBERS, Members, Pid, Seq};
 use std::alloc::Global;
 
@@ -26,11 +27,11 @@ pub fn members_at(alloc: Global, bytes: &[u8], at: usize) -> Result<(Members, us
     ensures { Gives result (members.read bytes.now at) }
 {
     let (count, at) = u8_in(bytes, at, 1, MOST_MEMBERS as u8)?;
-    let (ids, at) = ids_at(alloc, count, bytes, at)?;
+    let (ids, at) = member_items_at(alloc, count, bytes, at)?;
     Ok((Seq::from_vec(ids), at))
 }
 
-fn ids_at(
+fn member_items_at(
     alloc: Global,
     count: u8,
     bytes: &[u8],
@@ -38,23 +39,24 @@ fn ids_at(
 ) -> Result<(Vec<Pid>, usize), TakeFail>
     ensures { GivesVec result (items_read member (λ n. n) count 0 bytes.now first) }
 {
-    let mut ids = Vec::new(alloc);
-    let mut low = 0;
-    let mut at = first;
-    'ids: for _ in 0..count {
-        let (id, next) = member_at(bytes, at, low)?;
-        ids.push(id)?;
-        low = id;
-        at = next;
-    }
-    Ok((ids, at))
+    items_at(
+        alloc,
+        count as u64,
+        first,
+        |at, low|
+            ensures { GivesItem (λ n. n) result ((member low).read bytes.entry.now at) }
+        {
+            let (id, next) = member_at(bytes, at, low)?;
+            Ok((id, id as u64, next))
+        },
+    )
 }
 
-fn member_at(bytes: &[u8], at: usize, low: Pid) -> Result<(Pid, usize), TakeFail>
+fn member_at(bytes: &[u8], at: usize, low: u64) -> Result<(Pid, usize), TakeFail>
     ensures { Gives result ((member low).read bytes.now at) }
 {
     let (id, next) = u32_in(bytes, at, 1, GREATEST_PID)?;
-    if low < id {
+    if low < id as u64 {
         Ok((id, next))
     } else {
         Err(TakeFail::Bad { at })

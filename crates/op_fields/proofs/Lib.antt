@@ -1,5 +1,5 @@
 pub mod Formats
-pub mod Items
+pub mod ItemSteps
 pub mod Prefixes
 pub mod Composites
 pub mod Choices

@@ -3,3 +3,4 @@ pub mod Reads
 pub mod Taken
 pub mod Counted
 pub mod Prefixes
+pub mod Items

@@ -1,11 +1,12 @@
 ghost use Rattle.std.specs.Prelude.{◌≡◌, ◌++◌, OnOk, OnErr};
 ghost use Rattle.op_fields.specs.Prefixes.{KeepsPrefix};
 ghost use Rattle.op_fields.specs.Form.{items_read};
+ghost use Rattle.op_fields.specs.Items.{GivesItem};
 ghost use Rattle.op_fields.specs.Taken.{Gives, GivesVec};
 ghost use Rattle.op_record.specs.Forms.{change, batch};
 
 use op_entry::{ballot_at, entries_at, put_ballot, put_entries};
-use op_fields::{NoMemory, TakeFail, put_u8, put_u64, u8_in, u64_in};
+use op_fields::{NoMemory, TakeFail, items_at, put_u8, put_u64, u8_in, u64_in};
 use op_types::{Batch, Change, POSITIONS_END, Seq};
 use std::alloc::Global;
 
@@ -72,11 +73,11 @@ pub fn batch_at(alloc: Global, bytes: &[u8], at: usize) -> Result<(Batch, usize)
     ensures { Gives result (batch.read bytes.now at) }
 {
     let (count, at) = u8_in(bytes, at, 0, MOST_CHANGES)?;
-    let (changes, at) = changes_at(alloc, count, bytes, at)?;
+    let (changes, at) = change_items_at(alloc, count, bytes, at)?;
     Ok((Seq::from_vec(changes), at))
 }
 
-fn changes_at(
+fn change_items_at(
     alloc: Global,
     count: u8,
     bytes: &[u8],
@@ -84,14 +85,17 @@ fn changes_at(
 ) -> Result<(Vec<Change>, usize), TakeFail>
     ensures { GivesVec result (items_read (λ _. change) (λ _. 0) count 0 bytes.now first) }
 {
-    let mut changes = Vec::new(alloc);
-    let mut at = first;
-    'changes: for _ in 0..count {
-        let (change, next) = change_at(alloc, bytes, at)?;
-        changes.push(change)?;
-        at = next;
-    }
-    Ok((changes, at))
+    items_at(
+        alloc,
+        count as u64,
+        first,
+        |at, _|
+            ensures { GivesItem (λ _. 0) result (change.read bytes.entry.now at) }
+        {
+            let (change, next) = change_at(alloc, bytes, at)?;
+            Ok((change, 0, next))
+        },
+    )
 }
 
 fn change_at(alloc: Global, bytes: &[u8], at: usize) -> Result<(Change, usize), TakeFail>

@@ -1,10 +1,12 @@
 -- Reading items one after the other, as a loop does.
-use Rattle.std.proofs.Common.{◌≡◌, ℕ, suc, ◌-◌, ◌+◌, ◌≤◌, ◌<◌, List, [], ◌∷◌, ◌++◌, Ok, Err, refl, sym, ap, ◌∙◌, append_assoc, arith}
+use Rattle.std.specs.Global.{Vec}
+use Rattle.std.proofs.Common.{◌≡◌, ℕ, zero, suc, ◌-◌, ◌+◌, ◌≤◌, ◌<◌, List, [], ◌∷◌, ◌++◌, Result, Ok, Err, refl, sym, ap, subst, ◌∙◌, append_assoc, arith}
 use Rattle.std.proofs.lemmas.List.{append-nil}
 use Rattle.op_fields.specs.declared.fail.TakeFail.{TakeFail}
 use Rattle.op_fields.specs.declared.fail.TakeFail.TheVariants as fails
 use Rattle.op_fields.specs.Form.{Read, ◌>>=◌, Form, items_read}
-use Rattle.op_fields.specs.Taken.{Fails}
+use Rattle.op_fields.specs.Taken.{Fails, GivesVec}
+use Rattle.op_fields.specs.Items.{read_by}
 
 -- what was read before, and what is still read
 abbrev pub with_prefix : {A : Type 0} → List A → Read (List A) → Read (List A)
@@ -38,3 +40,23 @@ module _ {A : Type 0} (f : ℕ → Form A) (key : A → ℕ) where
       let k : count - i ≡ 0 = omega arith in
       let one : with_prefix prefix (items_read f key (count - i) low bytes at) ≡ Ok (prefix, at) = rw k (ap (λ (ns : List A). Ok (ns, at)) (append-nil prefix)) in
       sym so_far ∙ one
+
+same_step : {A B : Type 0} (r : Read A) (p q : A × ℕ → Read B) → ((x : A × ℕ) → p x ≡ q x) → (r >>= p) ≡ (r >>= q)
+same_step (Ok x) p q same = same x
+same_step (Err at) p q same = refl
+
+abbrev before : {A : Type 0} → A → Read (List A) → Read (List A)
+before x read = read >>= λ xs. Ok (x ∷ xs.0, xs.1)
+
+-- only the reading of a form counts
+pub same_items : {A : Type 0} (f : ℕ → Form A) (key : A → ℕ) (n low : ℕ) (bytes : List ℕ) (at : ℕ) → items_read (read_by (λ k. (f k).read)) key n low bytes at ≡ items_read f key n low bytes at
+unfolding items_read
+same_items f key zero low bytes at = refl
+same_items f key (suc n) low bytes at =
+    same_step ((f low).read bytes at) (λ x. before x.0 (items_read (read_by (λ k. (f k).read)) key n (key x.0) bytes x.1)) (λ x. before x.0 (items_read f key n (key x.0) bytes x.1))
+    (λ x. ap (before x.0) (same_items f key n (key x.0) bytes x.1))
+
+-- items that were read one after the other are those of this form
+pub of_form : {A : Type 0} (f : ℕ → Form A) (key : A → ℕ) (n : ℕ) (bytes : List ℕ) (at : ℕ) (r : Result (Vec A × ℕ) TakeFail)
+    → GivesVec r (items_read (read_by (λ k. (f k).read)) key n 0 bytes at) → GivesVec r (items_read f key n 0 bytes at)
+of_form {A = A} f key n bytes at r given = subst (λ (read : Read (List A)). GivesVec r read) (same_items f key n 0 bytes at) given
