@@ -1,0 +1,11 @@
+pub mod BaseIs
+pub mod BaseReads
+pub mod Climbs
+pub mod Deletes
+pub mod Entries
+pub mod RisingEntries
+pub mod RisingReads
+pub mod RisingSteps
+pub mod Services
+pub mod Shown
+pub mod Written

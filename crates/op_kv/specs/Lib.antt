@@ -1,0 +1,4 @@
+pub mod Over
+pub mod Rising
+pub mod Bases
+pub mod Looked

@@ -1,0 +1,231 @@
+ghost use Rattle.std.specs.Prelude.{◌≡◌, ◌++◌, OnOk, IfOk, Bool, option_copied};
+ghost use Rattle.std.specs.Ordering.{nat_cmp};
+ghost use Rattle.std.specs.Cmp.Lexicographic.{slice_cmp};
+ghost use Rattle.std.specs.Map.{remove_entry};
+ghost use Rattle.std.specs.BTreeMap.{insert_entry, is_at};
+ghost use Rattle.op_spec.specs.Service.{value_at, is_value, told_value, pairs_after, effect_answer};
+ghost use Rattle.op_spec.specs.Service.{last_of, answer_of, service_with, service_with_effect, all_after};
+ghost use Rattle.op_kv.specs.Over.{nothing_written, pairs_over, clients_over, service_over, answers_of, told_again};
+
+use crate::Answers;
+use crate::tables::Tables;
+use op_types::{Answer, Applied, Blob, Command, Entry, NoMemory, Op};
+use std::alloc::Global;
+use std::collections::{BTreeMap, BTreeSet};
+use std::marker::Model;
+
+/// What commands wrote that a map has not taken in: pairs, keys that were taken out, and the clients' last commands. A
+/// key's pair stands over its being taken out.
+#[derive(Drop)]
+pub struct KvChange {
+    pub(crate) pairs: BTreeMap<Blob, Blob>,
+    pub(crate) gone: BTreeSet<Blob>,
+    pub(crate) clients: BTreeMap<u64, Applied>,
+}
+
+impl Model for KvChange {
+    ghost use Rattle.std.specs.BTreeMap.{IsOrdered};
+    ghost use Rattle.std.specs.Ordering.{nat_cmp};
+    ghost use Rattle.std.specs.Cmp.Lexicographic.{slice_cmp};
+    ghost use Rattle.op_kv.specs.Over.{Written};
+
+    ghost Value = { Written };
+
+    ghost view = { λ t. record { pairs = t.pairs.entries; gone = t.gone.keys; clients = t.clients.entries } };
+
+    ghost invariant = { λ t. IsOrdered (slice_cmp nat_cmp) t.pairs × IsOrdered nat_cmp t.clients };
+}
+
+impl KvChange {
+    /// Nothing is written.
+    pub(crate) fn new(alloc: Global) -> Self
+        ensures { result ≡ nothing_written }
+    {
+        KvChange {
+            pairs: BTreeMap::new(alloc),
+            gone: BTreeSet::new(alloc),
+            clients: BTreeMap::new(alloc),
+        }
+    }
+
+    /// Serves the commands among these entries, over the tables below, and adds what they are answered.
+    pub(crate) fn serve_all(
+        &mut self,
+        alloc: Global,
+        below: &Tables,
+        answers: &mut Answers,
+        entries: &[Entry],
+    ) -> Result<(), NoMemory>
+        ensures answers { OnOk result (answers.new
+            ≡ answers.old ++ answers_of (service_over below.now self.old) entries.now) }
+        ensures change { OnOk result (service_over below.now self.new
+            ≡ all_after (service_over below.now self.old) entries.now) }
+    {
+        'entries: for entry in entries {
+            if let Entry::Command(command) = entry {
+                answers.push(self.serve(alloc, below, command)?)?;
+            }
+        }
+        Ok(())
+    }
+
+    /// What the service of the tables below and of this change answers a command, which takes its effect here.
+    fn serve(
+        &mut self,
+        alloc: Global,
+        below: &Tables,
+        command: &Command,
+    ) -> Result<Answer, NoMemory>
+        ensures answer { IfOk result (λ a. a ≡ answer_of (service_over below.now self.old) command.now) }
+        ensures effect { OnOk result (service_over below.now self.new
+            ≡ service_with (service_over below.now self.old) command.now) }
+    {
+        match self.told_again(alloc, below, command.client, command.seq)? {
+            Some(answer) => Ok(answer),
+            None => self.take_effect(alloc, below, command),
+        }
+    }
+
+    /// What a number is answered that isn't above its client's last one: the last one's answer, or that it is stale.
+    fn told_again(
+        &self,
+        alloc: Global,
+        below: &Tables,
+        client: u64,
+        seq: u64,
+    ) -> Result<Option<Answer>, NoMemory>
+        ensures { IfOk result (λ a. a ≡ told_again (last_of (service_over below.now self.now) client) seq) }
+    {
+        match self.last_of(below, client) {
+            Some(last) if seq < last.seq => Ok(Some(Answer::Stale)),
+            Some(last) if seq == last.seq => Ok(Some(last.answer.copy(alloc)?)),
+            _ => Ok(None),
+        }
+    }
+
+    /// The command takes its effect, and its answer is kept.
+    fn take_effect(
+        &mut self,
+        alloc: Global,
+        below: &Tables,
+        command: &Command,
+    ) -> Result<Answer, NoMemory>
+        ensures answer { IfOk result (λ a. a
+            ≡ effect_answer command.now.op (pairs_over below.now.pairs self.old)) }
+        ensures effect { OnOk result (service_over below.now self.new
+            ≡ service_with_effect (service_over below.now self.old) command.now) }
+    {
+        let answer = self.apply(alloc, below, &command.op)?;
+        let last = Applied {
+            seq: command.seq,
+            answer: answer.copy(alloc)?,
+        };
+        self.keep_last(below, command.client, last)?;
+        Ok(answer)
+    }
+
+    /// The operation takes its effect on the pairs.
+    fn apply(&mut self, alloc: Global, below: &Tables, op: &Op) -> Result<Answer, NoMemory>
+        ensures answer { IfOk result (λ a. a ≡ effect_answer op.now (pairs_over below.now.pairs self.old)) }
+        ensures pairs { OnOk result (pairs_over below.now.pairs self.new
+            ≡ pairs_after op.now (pairs_over below.now.pairs self.old)) }
+        ensures clients { OnOk result (self.new.clients ≡ self.old.clients) }
+    {
+        match op {
+            Op::Put(key, value) => self.put(alloc, below, key, value),
+            Op::Del(key) => self.delete(alloc, below, key),
+            Op::Get(key) => self.tell(alloc, below, key),
+            Op::Cas(key, old, new) => {
+                if self.has_value(below, key, old) {
+                    self.put(alloc, below, key, new)
+                } else {
+                    self.tell(alloc, below, key)
+                }
+            }
+        }
+    }
+
+    /// The key gets the value.
+    fn put(
+        &mut self,
+        alloc: Global,
+        below: &Tables,
+        key: &Blob,
+        value: &Blob,
+    ) -> Result<Answer, NoMemory>
+        ensures answer { IfOk result (λ a. a ≡ Answer.Done) }
+        ensures pairs { OnOk result (pairs_over below.now.pairs self.new
+            ≡ insert_entry (slice_cmp nat_cmp) (pairs_over below.now.pairs self.old) key.now value.now) }
+        ensures clients { OnOk result (self.new.clients ≡ self.old.clients) }
+    {
+        let _ = &below.pairs;
+        self.pairs.insert(key.copy(alloc)?, value.copy(alloc)?)?;
+        Ok(Answer::Done)
+    }
+
+    /// The key is taken out.
+    fn delete(&mut self, alloc: Global, below: &Tables, key: &Blob) -> Result<Answer, NoMemory>
+        ensures answer { IfOk result (λ a. a ≡ Answer.Done) }
+        ensures pairs { OnOk result (pairs_over below.now.pairs self.new
+            ≡ remove_entry (is_at (slice_cmp nat_cmp key.now)) (pairs_over below.now.pairs self.old)) }
+        ensures clients { OnOk result (self.new.clients ≡ self.old.clients) }
+    {
+        let _ = &below.pairs;
+        self.gone.insert(key.copy(alloc)?)?;
+        self.pairs.remove(key);
+        Ok(Answer::Done)
+    }
+
+    /// What tells the key's value.
+    fn tell(&self, alloc: Global, below: &Tables, key: &Blob) -> Result<Answer, NoMemory>
+        ensures { IfOk result (λ a. a ≡ told_value (value_at key.now (pairs_over below.now.pairs self.now))) }
+    {
+        match self.value_of(below, key) {
+            Some(value) => Ok(Answer::Value(value.copy(alloc)?)),
+            None => Ok(Answer::Absent),
+        }
+    }
+
+    /// Whether the key has this value.
+    fn has_value(&self, below: &Tables, key: &Blob, value: &Blob) -> bool
+        ensures { result ≡ is_value value.now (value_at key.now (pairs_over below.now.pairs self.now)) }
+    {
+        match self.value_of(below, key) {
+            Some(found) => found == value,
+            None => false,
+        }
+    }
+
+    /// A key's value, as it is written here or else stands below.
+    pub(crate) fn value_of<'a>(&'a self, below: &'a Tables, key: &Blob) -> Option<&'a Blob>
+        ensures { option_copied result ≡ value_at key.now (pairs_over below.now.pairs self.now) }
+    {
+        let _ = &below.pairs;
+        match self.pairs.get(key) {
+            Some(value) => Some(value),
+            None if self.gone.contains(key) => None,
+            None => below.pairs.get(key),
+        }
+    }
+
+    /// The client's last command is this one.
+    fn keep_last(&mut self, below: &Tables, client: u64, last: Applied) -> Result<(), NoMemory>
+        ensures clients { OnOk result (clients_over below.now.clients self.new
+            ≡ insert_entry nat_cmp (clients_over below.now.clients self.old) client last) }
+        ensures rest { OnOk result (self.new ≡ record self.old { clients = self.new.clients }) }
+    {
+        let _ = &below.clients;
+        self.clients.insert(client, last)?;
+        Ok(())
+    }
+
+    /// A client's last command, as it is kept here or else below.
+    fn last_of<'a>(&'a self, below: &'a Tables, client: u64) -> Option<&'a Applied>
+        ensures { option_copied result ≡ last_of (service_over below.now self.now) client }
+    {
+        match self.clients.get(&client) {
+            Some(last) => Some(last),
+            None => below.clients.get(&client),
+        }
+    }
+}

@@ -1,0 +1,19 @@
+//! The key-value service: what it answers commands, and a change of it that is made ready before it is adopted.
+#![tactic(auto)]
+
+mod base;
+mod change;
+mod laws;
+mod map;
+mod reading;
+mod standing;
+mod tables;
+mod told;
+mod writing;
+
+pub use change::KvChange;
+pub use laws::bases_are_unambiguous;
+pub use map::Map;
+
+/// What commands are answered, in order.
+pub type Answers = op_types::Seq<op_types::Answer>;

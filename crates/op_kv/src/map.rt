@@ -1,0 +1,143 @@
+ghost use Rattle.std.specs.Prelude.{◌≡◌, ◌++◌, ◌↔◌, OnOk, IfOk, IsTrue, option_copied};
+ghost use Rattle.op_spec.specs.Service.{new_service, value_at, all_after, base_bytes};
+ghost use Rattle.op_spec.specs.ServiceRanges.{ServiceInRange, ServiceIsOrdered};
+ghost use Rattle.op_kv.specs.Bases.{IsBase};
+ghost use Rattle.op_kv.specs.Over.{service_over, answers_of};
+
+use crate::Answers;
+use crate::base::{base_end, tables_of};
+use crate::change::KvChange;
+use crate::tables::Tables;
+use crate::writing::{put_clients, put_pairs};
+use op_types::{Blob, Entry, NoMemory};
+use std::alloc::Global;
+use std::marker::Model;
+
+/// The service's state. The change that was adopted last stands over the rest until the next plan.
+#[derive(Drop)]
+pub struct Map {
+    kept: Tables,
+    newer: KvChange,
+}
+
+impl Model for Map {
+    ghost use Rattle.std.specs.Prelude.{◌+◌, length};
+    ghost use Rattle.op_kv.specs.Over.{MapState, service_over};
+
+    ghost Value = { MapState };
+
+    ghost view = { λ m. record {
+      service = service_over m.kept m.newer;
+      waiting = length m.newer.pairs + length m.newer.gone + length m.newer.clients;
+    } };
+}
+
+impl Map {
+    /// The service that nothing was put to.
+    pub fn new(alloc: Global) -> Self
+        ensures { result ≡ record { service = new_service; waiting = 0 } }
+    {
+        Map {
+            kept: Tables::new(alloc),
+            newer: KvChange::new(alloc),
+        }
+    }
+
+    /// A key's value.
+    pub fn get(&self, key: &Blob) -> Option<&Blob>
+        ensures { option_copied result ≡ value_at key.now self.now.service.pairs }
+    {
+        self.newer.value_of(&self.kept, key)
+    }
+
+    /// Moves what was adopted last to its place, as each plan does first.
+    pub fn settle(&mut self) -> Result<(), NoMemory>
+        ensures stays { self.new.service ≡ self.old.service }
+        ensures ready { OnOk result (self.new.waiting ≡ 0) }
+    {
+        self.kept.take_in(&mut self.newer)
+    }
+
+    /// What the service answers these commands, and the change that they make. The service stays as it is.
+    pub fn plan(
+        &mut self,
+        alloc: Global,
+        commands: &[Entry],
+    ) -> Result<(Answers, KvChange), NoMemory>
+        ensures stays { self.new.service ≡ self.old.service }
+        ensures ready { OnOk result (self.new.waiting ≡ 0) }
+        ensures answers { IfOk result (λ r. r.0 ≡ answers_of self.old.service commands.now) }
+        ensures change { IfOk result (λ r. service_over self.old.service r.1
+            ≡ all_after self.old.service commands.now) }
+    {
+        self.settle()?;
+        let mut answers = Answers::new(alloc);
+        let mut change = KvChange::new(alloc);
+        self.plan_more(alloc, &mut answers, &mut change, commands)?;
+        Ok((answers, change))
+    }
+
+    /// Goes on with a plan: the answers to these commands too, and the change that they make too. Without memory the plan
+    /// is to be given up, since a part of it is done.
+    pub fn plan_more(
+        &self,
+        alloc: Global,
+        answers: &mut Answers,
+        change: &mut KvChange,
+        commands: &[Entry],
+    ) -> Result<(), NoMemory>
+        requires { self.now.waiting ≡ 0 }
+        ensures answers { OnOk result (answers.new
+            ≡ answers.old ++ answers_of (service_over self.now.service change.old) commands.now) }
+        ensures change { OnOk result (service_over self.now.service change.new
+            ≡ all_after (service_over self.now.service change.old) commands.now) }
+    {
+        change.serve_all(alloc, &self.kept, answers, commands)
+    }
+
+    /// The planned change takes effect. This can't fail, and takes no memory.
+    pub fn adopt(&mut self, change: KvChange)
+        requires { self.old.waiting ≡ 0 }
+        ensures { self.new.service ≡ service_over self.old.service change }
+    {
+        self.newer = change;
+    }
+
+    /// The bytes of the service's state, as they stand, also before what was adopted last is at its place.
+    pub fn base_bytes(&self, alloc: Global) -> Result<Blob, NoMemory>
+        ensures bytes { IfOk result (λ bytes. bytes ≡ base_bytes self.now.service) }
+        ensures order { OnOk result (ServiceIsOrdered self.now.service) }
+    {
+        let mut out = Vec::new(alloc);
+        put_pairs(&mut out, &self.kept.pairs_with(alloc, &self.newer)?)?;
+        put_clients(&mut out, &self.kept.clients_with(alloc, &self.newer)?)?;
+        Ok(Blob::from_vec(out))
+    }
+
+    /// Whether a service in range and in order has these bytes as its base. This takes no memory.
+    pub fn is_base(bytes: &[u8]) -> bool
+        ensures { IsTrue result ↔ IsBase bytes.now }
+    {
+        match base_end(bytes) {
+            Some(end) => end == bytes.len(),
+            None => false,
+        }
+    }
+
+    /// The service that has these bytes as its base, settled.
+    pub fn from_base(alloc: Global, bytes: &[u8]) -> Result<Self, NoMemory>
+        requires { IsBase bytes.now }
+        ensures bytes { IfOk result (λ m. base_bytes m.service ≡ bytes.now) }
+        ensures range { IfOk result (λ m. ServiceInRange m.service) }
+        ensures order { IfOk result (λ m. ServiceIsOrdered m.service) }
+        ensures settled { IfOk result (λ m. m.waiting ≡ 0) }
+    {
+        let Some(kept) = tables_of(alloc, bytes)? else {
+            unreachable!()
+        };
+        Ok(Map {
+            kept,
+            newer: KvChange::new(alloc),
+        })
+    }
+}
