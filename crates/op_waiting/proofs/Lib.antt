@@ -1,2 +1,1 @@
-pub mod SameMembers
-pub mod TakenBack
+pub mod Coming

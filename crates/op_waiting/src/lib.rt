@@ -1,6 +1,6 @@
 //! Who waits at a node for a reply.
 #![tactic(auto)]
 
-mod waiting;
+mod waiting_set;
 
-pub use waiting::{Waiting, WaitingList};
+pub use waiting_set::{Waiter, WaitingSet};

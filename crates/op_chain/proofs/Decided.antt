@@ -1,0 +1,100 @@
+-- The log that a batch leaves, change by change.
+use Rattle.std.proofs.Common.{◌≡◌, ℕ, ◌⊎◌, inl, inr, ◌+◌, ◌-◌, ◌<◌, ◌≤◌, ◌∷◌, ◌++◌, List, [], length, take, get_or, refl, sym, ap, subst, ◌∙◌, append_assoc, arith}
+use Rattle.std.specs.Prelude.{Result, Ok, Err, OnOk, IfOk}
+use Rattle.std.proofs.lemmas.List.{take_more, take_all}
+use Rattle.std.proofs.lemmas.List.Sums.{fold-append}
+use Rattle.op_types.specs.Changes.{part_with}
+use Rattle.op_types.specs.declared.answers.Answer.{Answer}
+use Rattle.op_types.specs.declared.ballot.Ballot.{Ballot}
+use Rattle.op_types.specs.declared.changes.Change.{Change}
+use Rattle.op_types.specs.declared.changes.Change.TheVariants as change
+use Rattle.op_types.specs.declared.durable.Part.{Part}
+use Rattle.op_types.specs.declared.log.Entry.{Entry}
+use Rattle.op_types.specs.declared.log.Entry.TheVariants as entry
+use Rattle.op_spec.specs.Service.{Service, service_after, service_with, answer_of, all_after}
+use Rattle.op_protocol.specs.Parts.{part_after}
+use Rattle.op_kv.specs.Over.{service_over, answers_of}
+use Rattle.op_chain.specs.Answering.{Continues}
+use Rattle.op_chain.specs.declared.service_plan.ServicePlan.{ServicePlan}
+use Rattle.op_instance.proofs.Batches.{after_both}
+
+-- ---- one more change
+
+pub one_more : (p : Part) (batch : List Change) (i : ℕ) (c : Change) → i < length batch → c ≡ get_or batch i c → part_after p (take (i + 1) batch) ≡ part_with (part_after p (take i batch)) c
+one_more p batch i c inside at =
+    ap (λ (b : List Change). part_after p b) (take_more batch i c inside)
+    ∙ after_both p (take i batch) (get_or batch i c ∷ [])
+    ∙ ap (λ (d : Change). part_with (part_after p (take i batch)) d) (sym at)
+
+pub none_decided : (p : Part) (c : Change) → ((x : ℕ) → c ≡ change.Decided x → ⊥) → (part_with p c).decided ≡ p.decided
+none_decided p (change.Promise n) none = refl
+none_decided p (change.Accept n) none = refl
+none_decided p (change.CutTo n) none = refl
+none_decided p (change.Append es) none = refl
+none_decided p (change.Decided x) none = absurd (none x refl)
+
+trimmed_with : (p : Part) (c : Change) → (part_with p c).trimmed ≡ p.trimmed
+trimmed_with p (change.Promise n) = refl
+trimmed_with p (change.Accept n) = refl
+trimmed_with p (change.CutTo n) = refl
+trimmed_with p (change.Append es) = refl
+trimmed_with p (change.Decided x) = refl
+
+-- nothing is trimmed by a batch
+pub trimmed_after : (p : Part) (batch : List Change) → (part_after p batch).trimmed ≡ p.trimmed
+trimmed_after p [] = refl
+trimmed_after p (c ∷ batch) = trimmed_after (part_with p c) batch ∙ trimmed_with p c
+
+-- ---- the log
+
+-- the log that a batch leaves
+abbrev pub log_after : Part → List Change → List Entry
+log_after p batch = (part_after p batch).tail.items
+
+-- the last change comes upon what those before it made
+pub last_change : (p : Part) (batch : List Change) (c : Change) → 1 ≤ length batch → c ≡ get_or batch (length batch - 1) c → part_after p batch ≡ part_with (part_after p (take (length batch - 1) batch)) c
+last_change p batch c some at =
+    let i = length batch - 1 in
+    let inside : i < length batch = omega arith in
+    let past : length batch ≤ i + 1 = omega arith in
+    sym (ap (λ (b : List Change). part_after p b) (take_all (i + 1) batch past)) ∙ one_more p batch i c inside at
+
+pub log_cut : (p : Part) (before : List Change) (n : ℕ) → (part_with (part_after p before) (change.CutTo n)).tail.items ≡ take (n - p.trimmed) (log_after p before)
+log_cut p before n = ap (λ (k : ℕ). take (n - k) (log_after p before)) (trimmed_after p before)
+
+-- the other changes leave the log
+pub log_stays : (q : Part) (c : Change) → ((b : Ballot) × (c ≡ change.Promise b)) ⊎ (((b : Ballot) × (c ≡ change.Accept b)) ⊎ ((x : ℕ) × (c ≡ change.Decided x))) → (part_with q c).tail.items ≡ q.tail.items
+log_stays q c is = elim is [
+  | inl h ↦ ap (λ (d : Change). (part_with q d).tail.items) h.1
+  | inr (inl h) ↦ ap (λ (d : Change). (part_with q d).tail.items) h.1
+  | inr (inr h) ↦ ap (λ (d : Change). (part_with q d).tail.items) h.1
+]
+
+-- ---- serving
+
+answers_of-append : (s : Service) (xs ys : List Entry) → answers_of s (xs ++ ys) ≡ answers_of s xs ++ answers_of (all_after s xs) ys
+answers_of-append s [] ys = refl
+answers_of-append s (entry.Command c ∷ xs) ys = ap (λ (rest : List Answer). answer_of s c ∷ rest) (answers_of-append (service_with s c) xs ys)
+answers_of-append s (entry.Stop stop ∷ xs) ys = answers_of-append s xs ys
+
+-- entries served after others
+pub continued : (s : Service) (a b c : ServicePlan) (xs ys : List Entry) → Continues s a b xs → Continues s b c ys → Continues s a c (xs ++ ys)
+continued s a b c xs ys f g =
+    record {
+      answers =
+          g.answers ∙ ap (λ (t : Service). b.answers ++ answers_of t ys) f.change ∙ ap (λ (first : List Answer). first ++ answers_of (all_after (service_over s a.change) xs) ys) f.answers
+          ∙ append_assoc a.answers (answers_of (service_over s a.change) xs) (answers_of (all_after (service_over s a.change) xs) ys)
+          ∙ ap (λ (rest : List Answer). a.answers ++ rest) (sym (answers_of-append (service_over s a.change) xs ys));
+      change = g.change ∙ ap (λ (t : Service). all_after t ys) f.change ∙ sym (fold-append service_after (service_over s a.change) xs ys);
+    }
+
+-- the same, where it succeeds
+pub continued_ok : {X E : Type 0} (r : Result X E) (s : Service) (a b c : ServicePlan) (xs ys zs : List Entry) → xs ++ ys ≡ zs → Continues s a b xs → OnOk r (Continues s b c ys) → OnOk r (Continues s a c zs)
+continued_ok (Ok x) s a b c xs ys zs whole f g = subst (λ (es : List Entry). Continues s a c es) whole (continued s a b c xs ys f g)
+continued_ok (Err e) s a b c xs ys zs whole f g = tt
+
+pub served_ok : {X E : Type 0} (r : Result X E) (s : Service) (a b : ServicePlan) (xs ys : List Entry) → xs ≡ ys → OnOk r (Continues s a b xs) → OnOk r (Continues s a b ys)
+served_ok r s a b xs ys same f = subst (λ (es : List Entry). OnOk r (Continues s a b es)) same f
+
+pub counted_ok : {E : Type 0} (r : Result ℕ E) (n k : ℕ) → n ≡ k → IfOk r (λ x. x ≡ n) → IfOk r (λ x. x ≡ k)
+counted_ok r n k same f = subst (λ (i : ℕ). IfOk r (λ x. x ≡ i)) same f

@@ -1,0 +1,61 @@
+//! What a node has stored at first, and what it sends when it is opened again.
+ghost use Rattle.std.specs.Prelude.{◌≡◌, IfOk, None};
+ghost use Rattle.op_types.specs.Ranges.{MembersInRange};
+ghost use Rattle.op_record.specs.Ranges.{DurableInRange};
+ghost use Rattle.op_protocol.specs.Starting as starts;
+ghost use Rattle.op_runs.specs.World as runs;
+
+use op_plans::{others, send_each};
+use op_types::{Ballot, Blob, Body, Durable, Members, NoMemory, Part, Pid, Reserved, Sends};
+use std::alloc::Global;
+
+/// What a member of the first configuration has stored at first: nothing is promised, and its log is empty.
+pub fn first_durable(alloc: Global, members: &Members) -> Result<Durable, NoMemory>
+    ensures first { IfOk result (λ d. d ≡ runs.first_durable members.now) }
+    ensures in_range { MembersInRange members.now → IfOk result DurableInRange }
+{
+    let members = Vec::from_slice(alloc, members.as_slice())?;
+    let part = Part {
+        conf: 1,
+        members: Members::from_vec(members),
+        promised: Ballot::NONE,
+        accepted: Ballot::NONE,
+        base: Blob::from_slice(alloc, [0u8; 16].as_slice())?,
+        trimmed: 0,
+        tail: Reserved::new(alloc),
+        decided: 0,
+    };
+    Ok(Durable {
+        part: Some(part),
+        closed: None,
+    })
+}
+
+/// What a server has stored at first that no configuration names yet.
+pub fn spare_durable() -> Durable
+    ensures spare { result ≡ record { part = None; closed = None } }
+    ensures in_range { DurableInRange result }
+{
+    Durable {
+        part: None,
+        closed: None,
+    }
+}
+
+/// A member that is opened again asks whoever leads to prepare it.
+pub fn sends_after_restart(alloc: Global, me: Pid, durable: &Durable) -> Result<Sends, NoMemory>
+    ensures { IfOk result (λ sends. sends ≡ starts.sends_after_restart me durable.now.part) }
+{
+    let mut sends = Sends::new(alloc);
+    if let Some(part) = &durable.part {
+        let others = others(alloc, me, part)?;
+        send_each(
+            alloc,
+            &mut sends,
+            part,
+            others.as_slice(),
+            &Body::PrepareReq,
+        )?;
+    }
+    Ok(sends)
+}
