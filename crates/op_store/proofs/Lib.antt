@@ -4,3 +4,4 @@ pub mod CommitCrashes
 pub mod BeginningCalls
 pub mod OpeningOutcomes
 pub mod RefusalCauses
+pub mod MadeInRange

@@ -40,6 +40,7 @@ pub fn open_area<D: Disk>(
     requires { DurableInRange fresh }
     ensures opens { (D.state disk.old).obeys → OpensArea fresh (D.state disk.old) (D.state disk.new) result }
     ensures room { IfOk result (λ a. a.end < disk_end) }
+    ensures range { IfOk result (λ a. DurableInRange a.durable) }
     ensures told { TellsFaults (D.state disk.old).faults (D.state disk.new).faults result }
     ensures called { Called (D.state disk.old) (D.state disk.new) }
 {
@@ -69,7 +70,7 @@ fn resume<D: Disk>(
         Resumes durable (D.state disk.old) (D.state disk.new) result }
     ensures calls { end + 1 < len → Costs synced_calls (D.state disk.old) (D.state disk.new) result }
     ensures uncalled { len ≤ end + 1 → disk.new ≡ disk.old }
-    ensures end { IfOk result (λ a. a.end ≡ end) }
+    ensures area { IfOk result (λ a. (a.end ≡ end) × (a.durable ≡ durable)) }
     ensures fault { IfErr result IsFault }
     ensures told { TellsFaults (D.state disk.old).faults (D.state disk.new).faults result }
     ensures kept { Kept (D.state disk.old) (D.state disk.new) }
@@ -94,6 +95,7 @@ fn begin<D: Disk>(
     ensures begins { IsNew (D.state disk.old).content closed → IsAtRest (D.state disk.old) →
         Begins fresh closed (D.state disk.old) (D.state disk.new) result }
     ensures room { IfOk result (λ a. a.end < disk_end) }
+    ensures fresh { IfOk result (λ a. a.durable ≡ fresh) }
     ensures undamaged { IfDamaged result (λ _. ⊥) }
     ensures told { TellsFaults (D.state disk.old).faults (D.state disk.new).faults result }
     ensures kept { Kept (D.state disk.old) (D.state disk.new) }

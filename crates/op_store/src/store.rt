@@ -72,7 +72,8 @@ impl<D: Disk> Store<D> {
             Opened D.state fresh old o.0 o.1 o.2) }
         ensures refused { let old : Disks = record { first = D.state first; second = D.state second } in
             IfErr result (Refused D.state fresh old) }
-
+        // What is found is in range, whatever a disk gives that doesn't obey the model.
+        ensures range { IfOk result (λ o. DurableInRange o.1) }
         // The second disk isn't called.
         ensures uncalled { IfOk result (λ o. o.0.second ≡ second) }
         ensures returned { IfErr result (λ e. e.second ≡ second) }

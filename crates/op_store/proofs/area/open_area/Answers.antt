@@ -1,13 +1,16 @@
 use Rattle.std.proofs.Common.{◌≡◌, List, ℕ, length, sym, ap, arith, subst, ◌∙◌, rules}
 use Rattle.std.specs.Prelude.{IsErr}
+use Rattle.std.proofs.lemmas.Result.{IfOk-weaker}
 use Rattle.op_journal.specs.Readings.{IsNew}
 use Rattle.op_journal.specs.Failing.{IfDamaged}
 use Rattle.op_journal.specs.Openings.{IsReadFrom}
 use Rattle.op_store.specs.Readings.{IsAreaFor, IsDamagedFrom}
+use Rattle.op_record.specs.Ranges.{DurableInRange}
 use Rattle.op_store.proofs.OpeningOutcomes.{after_read, opens_nothing, opens_damaged, new_still, opens_begun, still, size, opens_resumed}
 use Rattle.op_outside.proofs.Counting.{costs_less}
 use Rattle.op_journal.specs.Calls.{reading_calls}
 use Rattle.op_journal.proofs.OpeningCalls.{failed_reading}
+use Rattle.op_store.proofs.MadeInRange.{found_in_range}
 use Rattle.op_store.proofs.area.open_area.Goals as goal
 
 pub returns-in_err-bytes-clause-opens : goal.returns-in_err-bytes-clause-opens
@@ -47,7 +50,7 @@ returns-in-Area-clause-opens g c f =
     let found : IsAreaFor a.generation a.end a.durable bytes = search rules in
     let len : length mid.content ≡ c.len.result = size c.args.fresh old mid goes_on f bytes read reading a.generation a.end a.durable found ∙ (let n : length bytes ≡ c.len.result = search rules in n) in
     opens_resumed c.args.fresh old mid goes_on f bytes read reading a.generation a.end a.durable found c.len.result (g.D.Disk.state c.resume.new.disk) c.resume.result len
-    (c.resume.ensures.resumes (still c.args.fresh old mid goes_on f bytes read reading a.generation a.end a.durable found) (read.rests f) len) c.resume.ensures.fault c.resume.ensures.end
+    (c.resume.ensures.resumes (still c.args.fresh old mid goes_on f bytes read reading a.generation a.end a.durable found) (read.rests f) len) c.resume.ensures.fault (IfOk-weaker c.resume.result (λ o. (o.end ≡ a.end) × (o.durable ≡ a.durable)) (λ o. o.end ≡ a.end) (λ o same. same.0) c.resume.ensures.area)
     (λ le. ap (λ d. (g.D.Disk.state d).calls) (c.resume.ensures.uncalled le)) c.resume.ensures.calls c.read_all.ensures.called.model.1
 
 pub returns-in-New-clause-opens : goal.returns-in-New-clause-opens
@@ -61,3 +64,10 @@ returns-in-New-clause-opens g c f =
     let closed = c.in-New.closed in
     let none : IsNew bytes closed = search rules in
     opens_begun c.args.fresh old mid goes_on f bytes read reading closed none (g.D.Disk.state c.begin.new.disk) c.begin.result (c.begin.ensures.begins (new_still c.args.fresh old mid goes_on f bytes read reading closed none) (read.rests f)) c.begin.ensures.undamaged
+
+pub returns-in-Area-clause-range : goal.returns-in-Area-clause-range
+returns-in-Area-clause-range g c =
+    let a = c.in-Area in
+    let found : IsAreaFor a.generation a.end a.durable c.deref.result.now = search rules in
+    IfOk-weaker c.resume.result (λ o. (o.end ≡ a.end) × (o.durable ≡ a.durable)) (λ o. DurableInRange o.durable)
+    (λ o same. subst DurableInRange (sym same.1) (found_in_range a.generation a.end a.durable c.deref.result.now found)) c.resume.ensures.area
