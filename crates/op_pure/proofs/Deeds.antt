@@ -1,24 +1,23 @@
--- A possible event is at a member, and the world after it is of a run of one happening more.
-use Rattle.std.proofs.Common.{◌≡◌, ℕ, zero, suc, Bool, true, nat_eq, ◌<◌, List, [], ◌∷◌, ◌++◌, length, get_or, insert, remove, Option, Some, None, All, slice_get, IfSome, refl, sym, ap, subst, ◌∙◌, arith}
-use Rattle.std.proofs.lemmas.Bool.{and_parts}
+-- A possible event is at a member, and can be done at its node; the world after it is of a run of one happening more.
+use Rattle.std.proofs.Common.{◌≡◌, ℕ, zero, suc, Bool, true, eqb, nat_eq, ◌<◌, List, [], ◌∷◌, ◌++◌, length, get_or, insert, remove, Option, Some, None, All, slice_get, IfSome, refl, sym, ap, subst, ◌∙◌, arith}
+use Rattle.std.proofs.lemmas.Bool.{cond_both, and_parts}
 use Rattle.std.proofs.lemmas.List.Elements.{All-head, All-tail, All-push}
 use Rattle.std.specs.Set.{is_member}
-use Rattle.op_types.specs.Ranges.{MembersInRange}
+use Rattle.op_types.specs.Ranges.{IsMember, MembersInRange, WhatInRange}
 use Rattle.op_types.specs.declared.events.What.{What}
 use Rattle.op_types.specs.declared.events.What.TheVariants as what
-use Rattle.op_types.specs.declared.events.Input.TheVariants as input
-use Rattle.op_types.specs.declared.messages.Body.{Body}
 use Rattle.op_types.specs.declared.messages.Msg.{Msg}
 use Rattle.op_types.specs.declared.summary.Line.{Line}
-use Rattle.op_runs.specs.World.{World, Node, Sent, Happening, Fate, Steps, Deed, first_world, run_of, delivery, deed_of, node_at, with_node, sent_by, world_after, world_with, world_at_node}
+use Rattle.op_runs.specs.World.{World, Node, Sent, Happening, Fate, Deed, first_world, run_of, delivery, deed_of, node_at, with_node, sent_by, world_after, world_with, world_at_node}
 use Rattle.op_runs.specs.Possible.{is_possible}
-use Rattle.op_bounds.specs.Laws.{SentInRange, HappeningInRange}
-use Rattle.op_bounds.specs.Messages.{IsMember}
+use Rattle.op_bounds.specs.Laws.{SentInRange, NodeInRange, HappeningInRange}
 use Rattle.op_bounds.proofs.Runs.{runs_stay}
-use Rattle.op_pure.specs.declared.deed.Deed as deed
+use Rattle.op_world.specs.Deeds.{doing_of, deed_shown}
+use Rattle.op_world.specs.Worlds.{DoingInRange}
+use Rattle.op_world.specs.declared.deed.Deed as deed
 use Rattle.op_pure.specs.declared.node.PureNode.{PureNode}
-use Rattle.op_pure.specs.Nodes.{ShowsNode, IsKept, IsDoneAt, doing_of}
-use Rattle.op_pure.specs.Worlds.{Parts, Shows, ShowNodes, IsWorld, Does, place_of, deed_shown}
+use Rattle.op_pure.specs.Nodes.{ShowsNode, IsKept, CanDo, IsDoneAt}
+use Rattle.op_pure.specs.Worlds.{Parts, Shows, ShowNodes, IsWorld, Does, place_of}
 use Rattle.op_pure.proofs.Worlds.{pids, replaced, stands, shown, shown_with, pids-replaced, all_replaced}
 
 -- ---- deeds at members
@@ -49,20 +48,24 @@ possible_deed w i x can d is =
     let each : All (SentInRange w.members) w.messages = subst (λ (ms : List Sent). All (SentInRange w.members) ms) i.shows.messages run.messages in
     subst (λ (o : Option Deed). IfSome o (λ d. IsMember w.members d.pid)) is (deed_at w.members w.messages (length w.messages) x each can)
 
--- ---- a delivery
+-- ---- deeds in range
 
-message_at : (ms : List Sent) (k : ℕ) (m : Sent) → k < length ms → slice_get ms k ≡ Some (get_or ms k m)
-message_at [] k m there = absurd (omega arith)
-message_at (x ∷ ms) zero m there = refl
-message_at (x ∷ ms) (suc k) m there = message_at ms k m (let less : k < length ms = omega arith in less)
+abbrev DeedInRange : List ℕ → Deed → Type 0
+DeedInRange members d = DoingInRange members d.doing
 
--- the message of this number, with a copy of what it says
-pub delivered : (ms : List Sent) (k : ℕ) (m s : Sent) (said : Body) (d : Deed) → k < length ms → m ≡ get_or ms k m → s ≡ m → said ≡ s.message.body
-    → d ≡ record { pid = s.to; doing = Steps (input.Deliver s.from (record { conf = s.message.conf; body = said })) } → delivery (slice_get ms k) ≡ Some d
-delivered ms k m s said d there at same copied is =
-    let deed_saying : Body → Option Deed = λ b. Some (record { pid = s.to; doing = Steps (input.Deliver s.from (record { conf = s.message.conf; body = b })) }) in
-    let found : slice_get ms k ≡ Some s = message_at ms k m there ∙ ap (λ (x : Sent). Some x) (sym at ∙ sym same) in
-    ap delivery found ∙ ap deed_saying (sym copied) ∙ ap (λ (x : Deed). Some x) (sym is)
+delivery_in : (members : List ℕ) (o : Option Sent) → IfSome o (SentInRange members) → IfSome (delivery o) (DeedInRange members)
+delivery_in members None k = tt
+delivery_in members (Some m) k = (k.from, k.message)
+
+deed_in : (members : List ℕ) (ms : List Sent) (w : What) → All (SentInRange members) ms → WhatInRange w → IfSome (deed_of ms w) (DeedInRange members)
+deed_in members ms (what.Tick p) each fit = tt
+deed_in members ms (what.Command p c) each fit = fit.1
+deed_in members ms (what.Deliver i) each fit = delivery_in members (slice_get ms i) (message_found members ms i each)
+deed_in members ms (what.Up p q) each fit = fit.1
+deed_in members ms (what.Down p q) each fit = fit.1
+deed_in members ms (what.Crash p) each fit = tt
+deed_in members ms (what.Start p) each fit = tt
+deed_in members ms (what.Ballots p) each fit = tt
 
 -- ---- the node of a deed
 
@@ -98,8 +101,31 @@ pub place_there : (w : Parts) → IsWorld w → (pid k : ℕ) → is_member nat_
 place_there w i pid k member place =
     subst (λ (j : ℕ). j < length w.nodes) (sym place) (stands w.nodes pid (ap (λ (ms : List ℕ). is_member nat_eq ms pid) i.pids ∙ member)).place
 
-pub node_kept : (w : Parts) → IsWorld w → (pid k : ℕ) (n : PureNode) → IsPlaced w pid k n → IsKept n
+node_kept : (w : Parts) → IsWorld w → (pid k : ℕ) (n : PureNode) → IsPlaced w pid k n → IsKept n
 node_kept w i pid k n p = subst (λ (v : PureNode). IsKept v) (sym p.node) (i.kept k n (place_there w i pid k p.member p.place))
+
+node_found : (members : List ℕ) (xs : List Node) (pid : ℕ) → All (NodeInRange members) xs → IfSome (node_at xs pid) (NodeInRange members)
+node_found members [] pid each = tt
+node_found members (x ∷ xs) pid each =
+    cond_both (eqb x.pid pid) (Some x) (node_at xs pid) (λ (o : Option Node). IfSome o (NodeInRange members))
+    (λ _. All-head (NodeInRange members) x xs each) (λ _. node_found members xs pid (All-tail (NodeInRange members) x xs each))
+
+-- a deed can be done at its node: the world is of a run, and in range
+pub can_do : (w : Parts) → IsWorld w → (d : deed.Deed) (fate : Fate) (finds_after : Bool) (line k : ℕ) (n : PureNode) → IsPlaced w d.pid k n → (h : Happening) → HappeningInRange h → Does w.messages h d fate finds_after line → CanDo n (doing_of d.doing)
+can_do w i d fate finds_after line k n p h fit does =
+    let x : World = run_of (first_world w.members) i.happenings in
+    let run = runs_stay w.members i.range i.happenings i.happened in
+    let s = shown_node w i d.pid k n p x.nodes i.shows.nodes in
+    let each : All (SentInRange w.members) w.messages = subst (λ (ms : List Sent). All (SentInRange w.members) ms) i.shows.messages run.messages in
+    record {
+      members = w.members;
+      members_are = i.range;
+      kept = node_kept w i d.pid k n p;
+      node = s.node;
+      shown = s.shows;
+      range = subst (λ (o : Option Node). IfSome o (NodeInRange w.members)) s.found (node_found w.members x.nodes d.pid run.nodes);
+      doing = subst (λ (o : Option Deed). IfSome o (DeedInRange w.members)) does.deed_is (deed_in w.members w.messages h.event.what each fit);
+    }
 
 -- ---- the world after a deed
 

@@ -1,25 +1,29 @@
 -- What is done at a node but a step, as the world has it.
-use Rattle.std.proofs.Common.{◌≡◌, ℕ, Bool, true, false, cond, eqb, List, [], ◌∷◌, ◌++◌, Some, Result, Ok, Err, refl, sym, ap, subst, ◌∙◌}
-use Rattle.std.specs.Prelude.{IfOk}
+use Rattle.std.proofs.Common.{◌≡◌, ℕ, Bool, true, false, cond, eqb, List, [], ◌∷◌, ◌++◌, Option, Some, None, Result, Ok, Err, refl, sym, ap, subst, ◌∙◌, lit≤}
+use Rattle.std.specs.Prelude.{IfOk, IfSome}
 use Rattle.std.proofs.lemmas.List.{append-nil}
-use Rattle.op_types.specs.Changes.{durable_after}
+use Rattle.op_types.specs.Changes.{Applies, durable_after}
+use Rattle.op_types.specs.Ranges.{IsMember}
+use Rattle.op_types.specs.Rooms.{room_of}
 use Rattle.op_types.specs.declared.changes.Change.{Change}
 use Rattle.op_types.specs.declared.durable.Durable.{Durable}
+use Rattle.op_types.specs.declared.durable.Part.{Part}
 use Rattle.op_types.specs.declared.messages.Msg.{Msg}
 use Rattle.op_types.specs.declared.summary.Line.{Line}
+use Rattle.op_record.specs.Ranges.{PartInRange}
 use Rattle.op_protocol.specs.State.{State}
 use Rattle.op_protocol.specs.Starting.{state_after_restart, sends_after_restart}
-use Rattle.op_instance.specs.Memory.{volatile_of}
-use Rattle.op_instance.specs.Sound.{IsNode}
-use Rattle.op_runs.specs.World.{World, Sent, Node, NodeStatus, Up, Down, Fate, Done, Stopped, Doing, Steps, Stops, Opens, Tells, Happening, node_at, with_node, sent_by, ballot_lines, world_by_status, world_if_down, world_opening}
-use Rattle.op_member.specs.Members.{CanOpen}
-use Rattle.op_pure.specs.declared.deed.Doing as deed
-use Rattle.op_pure.specs.declared.deed.Doing.TheVariants as variant
-use Rattle.op_pure.specs.declared.memory.Memory.{Memory}
+use Rattle.op_chain.specs.Chains.{state_of, IsSoundChain, IfPartFor, CanOpen}
+use Rattle.op_chain.specs.declared.chain.Chain.{Chain}
+use Rattle.op_runs.specs.World.{World, Sent, Node, NodeStatus, Up, Down, Fate, Done, Stopped, Doing, Steps, Stops, Opens, Tells, Happening, first_durable, node_at, with_node, sent_by, ballot_lines, world_by_status, world_if_down, world_opening}
+use Rattle.op_bounds.specs.Laws.{NodeInRange, StatusInRange, FoundInRange}
+use Rattle.op_world.specs.Deeds.{doing_of}
+use Rattle.op_world.specs.declared.deed.Doing as deed
+use Rattle.op_world.specs.declared.deed.Doing.TheVariants as variant
 use Rattle.op_pure.specs.declared.node.NodeDone as done
 use Rattle.op_pure.specs.declared.node.PureNode.{PureNode}
 use Rattle.op_pure.specs.declared.node.Status.TheVariants as status
-use Rattle.op_pure.specs.Nodes.{IsMemoryOf, IsKept, IsNodeDone, IsDoneAt, doing_of, node_of}
+use Rattle.op_pure.specs.Nodes.{IsKept, CanDo, IsNodeDone, IsDoneAt, node_of}
 use Rattle.op_pure.proofs.NodeSteps.{quiet}
 
 -- ---- a node that stays as it is
@@ -51,23 +55,22 @@ nothing_done x d fate finds_after line st is idle = record {
 -- ---- a node that is up
 
 -- it is open already
-pub open_already : (pid : ℕ) (d : Durable) (m : Memory) (fate : Fate) (finds_after : Bool) (line : ℕ) → IsKept (node_of pid d (status.Up m)) → IsDoneAt (node_of pid d (status.Up m)) Opens fate finds_after line (node_of pid d (status.Up m)) [] []
-open_already pid d m fate finds_after line kept =
-    record { after = λ x shown. (x, shown, nothing_done x Opens fate finds_after line Up shown.state.status.1 (λ w h f. refl)); pid = refl; kept = kept }
+pub open_already : (pid : ℕ) (c : Chain) (fate : Fate) (finds_after : Bool) (line : ℕ) → IsKept (node_of pid (status.Up c)) → IsDoneAt (node_of pid (status.Up c)) Opens fate finds_after line (node_of pid (status.Up c)) [] []
+open_already pid c fate finds_after line kept =
+    record { after = λ x shown. (x, shown, nothing_done x Opens fate finds_after line Up shown.status.1 (λ w h f. refl)); pid = refl; kept = kept }
 
 -- its ballots are told
-pub ballots_told : (pid : ℕ) (d : Durable) (m : Memory) (fate : Fate) (finds_after : Bool) (line : ℕ) (told : List Line) → IsKept (node_of pid d (status.Up m))
-    → ((s : State) → s.durable ≡ d → s.volatile ≡ volatile_of m.volatile → told ≡ ballot_lines pid s s.durable.part)
-    → IsDoneAt (node_of pid d (status.Up m)) Tells fate finds_after line (node_of pid d (status.Up m)) [] told
-ballots_told pid d m fate finds_after line told kept are = record {
+pub ballots_told : (pid : ℕ) (c : Chain) (fate : Fate) (finds_after : Bool) (line : ℕ) (told : List Line) → IsKept (node_of pid (status.Up c)) → told ≡ ballot_lines pid (state_of c) (state_of c).durable.part
+    → IsDoneAt (node_of pid (status.Up c)) Tells fate finds_after line (node_of pid (status.Up c)) [] told
+ballots_told pid c fate finds_after line told kept are = record {
   after = λ x shown. (
     x,
     shown,
     record {
       pid = refl;
-      world = λ w h f finds at here. ap (λ (st : NodeStatus). world_by_status st Tells h w x) shown.state.status.1
+      world = λ w h f finds at here. ap (λ (st : NodeStatus). world_by_status st Tells h w x) shown.status.1
           ∙ ap (λ (ls : List Line). let y : World = record { nodes = w.nodes; messages = w.messages; lines = w.lines ++ ls } in y)
-          (ap (λ (k : ℕ). ballot_lines k x.state x.state.durable.part) shown.pid ∙ sym (are x.state shown.state.durable shown.state.status.0.volatile))
+          (ap (λ (k : ℕ). ballot_lines k x.state x.state.durable.part) shown.pid ∙ ap (λ (s : State). ballot_lines pid s s.durable.part) shown.status.0 ∙ sym are)
           ∙ world_same w x told here;
     },
   );
@@ -76,72 +79,109 @@ ballots_told pid d m fate finds_after line told kept are = record {
 }
 
 -- it stops between two steps, with nothing to store
-pub stopped : (pid : ℕ) (d : Durable) (m : Memory) (batch : List Change) (fate : Fate) (finds_after : Bool) (line : ℕ) → IsKept (node_of pid d (status.Up m)) → batch ≡ []
-    → IsDoneAt (node_of pid d (status.Up m)) Stops fate finds_after line (node_of pid d (status.Down batch)) [] []
-stopped pid d m batch fate finds_after line kept none =
-    subst (λ (b : List Change). IsDoneAt (node_of pid d (status.Up m)) Stops fate finds_after line (node_of pid d (status.Down b)) [] []) (sym none)
+pub stopped : (pid : ℕ) (c : Chain) (d : Durable) (batch : List Change) (fate : Fate) (finds_after : Bool) (line : ℕ) → d ≡ (state_of c).durable → batch ≡ []
+    → IsDoneAt (node_of pid (status.Up c)) Stops fate finds_after line (node_of pid (status.Down d batch)) [] []
+stopped pid c d batch fate finds_after line is none =
+    subst (λ (b : List Change). IsDoneAt (node_of pid (status.Up c)) Stops fate finds_after line (node_of pid (status.Down d b)) [] []) (sym none)
     (record {
       after = λ x shown.
-          let y : Node = record x { status = Down x.state.durable } in (
+          let y : Node = record x { status = Down x.state.durable } in
+          let here : x.state.durable ≡ d = ap (λ (s : State). s.durable) shown.status.0 ∙ sym is in (
             y,
-            record { pid = shown.pid; state = record { durable = shown.state.durable; status = ap (λ (k : Durable). Down k) shown.state.durable } },
-            record { pid = refl; world = λ w h f finds at here. ap (λ (st : NodeStatus). world_by_status st Stops h w x) shown.state.status.1 ∙ quiet w x y },
+            record { pid = shown.pid; status = (here, ap (λ (k : Durable). Down k) here) },
+            record { pid = refl; world = λ w h f finds at there. ap (λ (st : NodeStatus). world_by_status st Stops h w x) shown.status.1 ∙ quiet w x y },
           );
       pid = refl;
-      kept = record { opens = kept.opens; status = (tt, kept.opens) };
+      kept = tt;
     })
 
 -- ---- a node that is down
 
 -- nothing happens there but an opening
-pub idle_down : (pid : ℕ) (d : Durable) (batch : List Change) (x : deed.Doing) (fate : Fate) (finds_after : Bool) (line : ℕ) → IsKept (node_of pid d (status.Down batch)) → (x ≡ variant.Opens → ⊥)
-    → IsDoneAt (node_of pid d (status.Down batch)) (doing_of x) fate finds_after line (node_of pid d (status.Down batch)) [] []
+pub idle_down : (pid : ℕ) (d : Durable) (batch : List Change) (x : deed.Doing) (fate : Fate) (finds_after : Bool) (line : ℕ) → IsKept (node_of pid (status.Down d batch)) → (x ≡ variant.Opens → ⊥)
+    → IsDoneAt (node_of pid (status.Down d batch)) (doing_of x) fate finds_after line (node_of pid (status.Down d batch)) [] []
 idle_down pid d batch (variant.Steps i) fate finds_after line kept closed =
-    record { after = λ x shown. (x, shown, nothing_done x (Steps i) fate finds_after line (Down (durable_after d batch)) shown.state.status (λ w h f. refl)); pid = refl; kept = kept }
+    record { after = λ x shown. (x, shown, nothing_done x (Steps i) fate finds_after line (Down (durable_after d batch)) shown.status.1 (λ w h f. refl)); pid = refl; kept = kept }
 idle_down pid d batch variant.Stops fate finds_after line kept closed =
-    record { after = λ x shown. (x, shown, nothing_done x Stops fate finds_after line (Down (durable_after d batch)) shown.state.status (λ w h f. refl)); pid = refl; kept = kept }
+    record { after = λ x shown. (x, shown, nothing_done x Stops fate finds_after line (Down (durable_after d batch)) shown.status.1 (λ w h f. refl)); pid = refl; kept = kept }
 idle_down pid d batch variant.Opens fate finds_after line kept closed = absurd (closed refl)
 idle_down pid d batch variant.Tells fate finds_after line kept closed =
-    record { after = λ x shown. (x, shown, nothing_done x Tells fate finds_after line (Down (durable_after d batch)) shown.state.status (λ w h f. refl)); pid = refl; kept = kept }
+    record { after = λ x shown. (x, shown, nothing_done x Tells fate finds_after line (Down (durable_after d batch)) shown.status.1 (λ w h f. refl)); pid = refl; kept = kept }
 
 -- an opening that stops changes nothing
-pub stopped_opening : (pid : ℕ) (d : Durable) (batch : List Change) (finds_after : Bool) (line : ℕ) → IsKept (node_of pid d (status.Down batch))
-    → IsDoneAt (node_of pid d (status.Down batch)) Opens Stopped finds_after line (node_of pid d (status.Down batch)) [] []
+pub stopped_opening : (pid : ℕ) (d : Durable) (batch : List Change) (finds_after : Bool) (line : ℕ) → IsKept (node_of pid (status.Down d batch))
+    → IsDoneAt (node_of pid (status.Down d batch)) Opens Stopped finds_after line (node_of pid (status.Down d batch)) [] []
 stopped_opening pid d batch finds_after line kept = record {
   after = λ x shown. (
     x,
     shown,
-    nothing_done x Opens Stopped finds_after line (Down (durable_after d batch)) shown.state.status
+    nothing_done x Opens Stopped finds_after line (Down (durable_after d batch)) shown.status.1
         (λ w h f. ap (λ (k : Fate). world_if_down Opens k h.finds_after (durable_after d batch) w x) f),
   );
   pid = refl;
   kept = kept;
 }
 
+-- ---- what an opening finds
+
+-- what it may find is in range: what is stored, and what was to be stored
+found_in_range : (pid : ℕ) (d : Durable) (batch : List Change) (x : Doing) (can : CanDo (node_of pid (status.Down d batch)) x) → FoundInRange can.members d × FoundInRange can.members (durable_after d batch)
+found_in_range pid d batch x can = (
+  subst (FoundInRange can.members) can.shown.status.0 (can.range.state.durable, can.range.of),
+  subst (StatusInRange can.members) can.shown.status.1 can.range.status,
+)
+
+no_room : (o : Option Part) → IfSome o PartInRange → room_of o ≡ 0
+no_room None range = refl
+no_room (Some p) range = range.room
+
+-- no room is left in it
+pub at_rest : (pid : ℕ) (d : Durable) (batch : List Change) (x : Doing) → CanDo (node_of pid (status.Down d batch)) x → room_of d.part ≡ 0
+at_rest pid d batch x can = no_room d.part (found_in_range pid d batch x can).0.0.range.part
+
+part_for : (members : List ℕ) (me : ℕ) (o : Option Part) → IsMember members me → IfSome o PartInRange → IfSome o (λ p. p.members ≡ members) → IfPartFor me o
+part_for members me None member range of = tt
+part_for members me (Some p) member range of = record {
+  member = subst (λ (ms : List ℕ). IsMember ms me) (sym of) member;
+  positions = record { trimmed = range.decided.0; decided = range.decided.1; small = range.len };
+  rest = range.room;
+}
+
+opens_with : (members : List ℕ) (me : ℕ) (d : Durable) → IsMember members me → FoundInRange members d → CanOpen me d
+opens_with members me d member found = part_for members me d.part member found.0.range.part found.1
+
 found_by : (pid : ℕ) (b : Bool) (d e : Durable) → CanOpen pid d → CanOpen pid e → CanOpen pid (cond b e d)
 found_by pid true d e before after = after
 found_by pid false d e before after = before
 
--- what an opening finds can be opened
-pub can_open_found : (pid : ℕ) (d e : Durable) (batch : List Change) (finds_after : Bool) → IsKept (node_of pid d (status.Down batch)) → e ≡ cond finds_after (durable_after d batch) d → CanOpen pid e
-can_open_found pid d e batch finds_after kept is = subst (CanOpen pid) (sym is) (found_by pid finds_after d (durable_after d batch) kept.opens kept.status.1)
+-- it can be opened with that
+pub can_open_found : (pid : ℕ) (d e : Durable) (batch : List Change) (finds_after : Bool) (x : Doing) → CanDo (node_of pid (status.Down d batch)) x → e ≡ cond finds_after (durable_after d batch) d → CanOpen pid e
+can_open_found pid d e batch finds_after x can is =
+    let member : IsMember can.members pid = subst (IsMember can.members) can.shown.pid can.range.pid in
+    let found = found_in_range pid d batch x can in
+    subst (CanOpen pid) (sym is) (found_by pid finds_after d (durable_after d batch) (opens_with can.members pid d member found.0) (opens_with can.members pid (durable_after d batch) member found.1))
 
-pub opened_again : (pid : ℕ) (d e : Durable) (batch : List Change) (finds_after : Bool) (m : Memory) (sends : List (ℕ × Msg)) (told : List Line) → IsKept (node_of pid d (status.Down batch)) → e ≡ cond finds_after (durable_after d batch) d
-    → sends ≡ sends_after_restart pid e.part → IsMemoryOf m (state_after_restart pid e) → IsNode pid e.part m.volatile → told ≡ []
-    → (line : ℕ) → IsDoneAt (node_of pid d (status.Down batch)) Opens Done finds_after line (node_of pid e (status.Up m)) sends told
-opened_again pid d e batch finds_after m sends told kept is sends_are memory node none line = record {
+-- so it can with what a member has stored at first
+pub can_open_first : (members : List ℕ) (me : ℕ) (d : Durable) → IsMember members me → d ≡ first_durable members → CanOpen me d
+can_open_first members me d member is =
+    subst (CanOpen me) (sym is) (record { member = member; positions = record { trimmed = lit≤ tt; decided = lit≤ tt; small = lit≤ tt }; rest = refl })
+
+pub opened_again : (pid : ℕ) (d e : Durable) (batch : List Change) (finds_after : Bool) (c : Chain) (sends : List (ℕ × Msg)) (told : List Line) → e ≡ cond finds_after (durable_after d batch) d
+    → sends ≡ sends_after_restart pid e.part → c.me ≡ pid → state_of c ≡ state_after_restart pid e → IsSoundChain c → told ≡ []
+    → (line : ℕ) → IsDoneAt (node_of pid (status.Down d batch)) Opens Done finds_after line (node_of pid (status.Up c)) sends told
+opened_again pid d e batch finds_after c sends told is sends_are me state sound none line = record {
   after = λ x shown.
       let y : Node = record x { state = state_after_restart x.pid e; status = Up } in
       let found : cond finds_after (durable_after d batch) x.state.durable ≡ e =
-      ap (λ (k : Durable). cond finds_after (durable_after d batch) k) shown.state.durable ∙ sym is in
+      ap (λ (k : Durable). cond finds_after (durable_after d batch) k) shown.status.0 ∙ sym is in
       let sends_be : sends_after_restart x.pid e.part ≡ sends = ap (λ (k : ℕ). sends_after_restart k e.part) shown.pid ∙ sym sends_are in (
         y,
-        record { pid = shown.pid; state = record { durable = refl; status = (subst (λ (k : ℕ). IsMemoryOf m (state_after_restart k e)) (sym shown.pid) memory, refl) } },
+        record { pid = shown.pid; status = (ap (λ (k : ℕ). state_after_restart k e) shown.pid ∙ sym state, refl) },
         record {
           pid = refl;
           world = λ w h fate finds at here.
               let world : List (ℕ × Msg) → List Line → World = λ ss ls. record { nodes = with_node w.nodes y; messages = w.messages ++ sent_by x.pid ss; lines = ls } in
-              ap (λ (st : NodeStatus). world_by_status st Opens h w x) shown.state.status
+              ap (λ (st : NodeStatus). world_by_status st Opens h w x) shown.status.1
               ∙ ap (λ (f : Fate). world_if_down Opens f h.finds_after (durable_after d batch) w x) fate
               ∙ ap (λ (b : Bool). world_if_down Opens Done b (durable_after d batch) w x) finds
               ∙ ap (λ (k : Durable). world_opening Done w x k) found
@@ -150,7 +190,7 @@ opened_again pid d e batch finds_after m sends told kept is sends_are memory nod
         },
       );
   pid = refl;
-  kept = record { opens = can_open_found pid d e batch finds_after kept is; status = node };
+  kept = (me, sound);
 }
 
 -- ---- what is handed on

@@ -4,10 +4,9 @@ use Rattle.std.proofs.lemmas.Bool.{or_left, or_right, eq-eqb}
 use Rattle.std.proofs.lemmas.List.{map-append, take_more, take_all}
 use Rattle.std.proofs.lemmas.List.Elements.{All-nil, All-push}
 use Rattle.std.specs.Set.{is_member}
-use Rattle.op_types.specs.Ranges.{MembersInRange}
+use Rattle.op_types.specs.Ranges.{IsMember, MembersInRange}
 use Rattle.op_runs.specs.World.{Node, first_world, first_node}
 use Rattle.op_bounds.specs.Laws.{HappeningInRange}
-use Rattle.op_bounds.specs.Messages.{IsMember}
 use Rattle.op_pure.specs.declared.node.PureNode.{PureNode}
 use Rattle.op_pure.specs.Nodes.{ShowsNode, IsKept}
 use Rattle.op_pure.specs.Worlds.{Parts, Shows, ShowNodes, IsWorld}

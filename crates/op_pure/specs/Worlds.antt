@@ -2,11 +2,12 @@
 use Rattle.std.specs.Prelude.{◌≡◌, ◌==◌, ℕ, ◌+◌, Bool, List, [], ◌∷◌, map, All, Some, if◌then◌else◌}
 use Rattle.op_types.specs.Ranges.{MembersInRange}
 use Rattle.op_types.specs.declared.summary.Line.{Line}
-use Rattle.op_runs.specs.World.{World, Node, Sent, Happening, Fate, Deed, first_world, run_of, deed_of}
+use Rattle.op_runs.specs.World.{World, Node, Sent, Happening, Fate, first_world, run_of, deed_of}
 use Rattle.op_bounds.specs.Laws.{HappeningInRange}
-use Rattle.op_pure.specs.declared.deed.Deed as deed
+use Rattle.op_world.specs.Deeds.{deed_shown}
+use Rattle.op_world.specs.declared.deed.Deed as deed
 use Rattle.op_pure.specs.declared.node.PureNode.{PureNode}
-use Rattle.op_pure.specs.Nodes.{ShowsNode, IsKept, doing_of}
+use Rattle.op_pure.specs.Nodes.{ShowsNode, IsKept}
 
 -- the members, their nodes, all messages that were sent, and what the happenings gave to be reported
 pub record Parts : Type 0 where
@@ -46,12 +47,9 @@ abbrev pub place_of : List PureNode → ℕ → ℕ
 place_of [] pid = 0
 place_of (n ∷ nodes) pid = if n.pid == pid then 0 else 1 + place_of nodes pid
 
--- what the code does, as the world has it, with its node
-abbrev pub deed_shown : deed.Deed → Deed
-deed_shown d = record { pid = d.pid; doing = doing_of d.doing }
-
 -- the happening is of this line, fate and opening, and does this where these messages were sent
-pub record Does (messages : List Sent) (h : Happening) (d : deed.Deed) (fate : Fate) (finds_after : Bool) (line : ℕ) : Type 0 where
+pub record Does (messages : List Sent) (h : Happening) (d : deed.Deed) (fate : Fate) (finds_after : Bool) (line : ℕ)
+    : Type 0 where
   pub line_is : h.event.line ≡ line
   pub fate_is : h.fate ≡ fate
   pub finds : h.finds_after ≡ finds_after

@@ -9,8 +9,8 @@ pub enum Fate {
     Stopped,
 }
 
-/// An event, what becomes of its step, and which state an opening finds: the one after the step in which the node stopped, or
-/// the one before.
+/// An event, what becomes of its step, and which state an opening finds: the one after the step in which the node stopped,
+/// or the one before.
 #[derive(Drop)]
 pub struct Happening {
     pub event: Event,

@@ -1,37 +1,35 @@
-//! A node of the plain program: what it stores, how it runs, and what is done at it.
+//! A node of the plain program: how it runs, and what is done at it.
 ghost use Rattle.std.specs.Prelude.{◌≡◌, ℕ, Bool, [], if◌then◌else◌, IfOk};
 ghost use Rattle.op_types.specs.Changes.{Applies, durable_after};
+ghost use Rattle.op_types.specs.Ranges.{IsMember};
 ghost use Rattle.op_types.specs.Rooms.{room_of};
-ghost use Rattle.op_bounds.specs.Messages as bounds;
 ghost use Rattle.op_runs.specs.World as runs;
 ghost use Rattle.op_pure.specs.declared.node.Status.TheVariants as status;
 ghost use Rattle.op_pure.specs.Happenings.{fate_of};
-ghost use Rattle.op_pure.specs.Nodes.{ShowsNode, IsKept, IsDoneAt, doing_of, node_of};
+ghost use Rattle.op_pure.specs.Nodes.{ShowsNode, IsKept, CanDo, IsDoneAt, node_of};
+ghost use Rattle.op_world.specs.Deeds.{doing_of};
 
-use crate::deed::Doing;
 use crate::happening::Fate;
-use crate::memory::{Memory, decided_from, decided_of};
-use crate::telling::{ballot_lines, step_lines};
-use op_instance::step;
-use op_member::{Given, first_durable, sends_after_restart};
-use op_types::{Batch, Durable, Input, Lines, Members, NoMemory, Pid, Plan, Sends};
+use op_chain::{Chain, Given, first_durable, sends_after_restart};
+use op_types::{Batch, Durable, Input, Lines, Members, NoMemory, Pid, Sends};
+use op_world::{Doing, ballot_lines, step_lines};
 use std::alloc::Global;
 
 /// A node.
 #[derive(Drop)]
 pub struct PureNode {
     pub pid: Pid,
-    pub durable: Durable,
     pub status: Status,
 }
 
 /// How a node runs.
 #[derive(Drop)]
 pub enum Status {
-    /// It is up, with what it keeps in memory.
-    Up(Memory),
-    /// It is down. The step in which it stopped was to store this batch, which is empty where it stopped between two steps.
-    Down(Batch),
+    /// It is up.
+    Up(Chain),
+    /// It is down, and has stored this. The step in which it stopped was to store this batch, which is empty where it
+    /// stopped between two steps.
+    Down(Durable, Batch),
 }
 
 /// What was done at a node: how it is then, and what it gave.
@@ -46,15 +44,11 @@ pub struct NodeDone {
 
 impl NodeDone {
     /// Nothing but this node.
-    fn only(alloc: Global, pid: Pid, durable: Durable, status: Status) -> NodeDone
-        ensures { result ≡ record { node = node_of pid durable status; sends = []; told = [] } }
+    fn only(alloc: Global, pid: Pid, status: Status) -> NodeDone
+        ensures { result ≡ record { node = node_of pid status; sends = []; told = [] } }
     {
         NodeDone {
-            node: PureNode {
-                pid,
-                durable,
-                status,
-            },
+            node: PureNode { pid, status },
             sends: Sends::new(alloc),
             told: Lines::new(alloc),
         }
@@ -64,22 +58,21 @@ impl NodeDone {
 impl PureNode {
     /// A member at its start.
     pub fn first(alloc: Global, pid: Pid, members: &Members) -> Result<PureNode, NoMemory>
-        requires { bounds.IsMember members.now pid }
+        requires { IsMember members.now pid }
         ensures pid { IfOk result (λ n. n.pid ≡ pid) }
         ensures shows { IfOk result (λ n. ShowsNode n (runs.first_node members.now pid)) }
         ensures kept { IfOk result IsKept }
     {
         let durable = first_durable(alloc, members)?;
-        let memory = Memory::first(alloc, pid, &durable)?;
+        let chain = Chain::first(alloc, pid, durable)?;
         Ok(PureNode {
             pid,
-            durable,
-            status: Status::Up(memory),
+            status: Status::Up(chain),
         })
     }
 
-    /// Does this here, with this fate, said in this line of the schedule: an opening finds what a stopped step was to store, or what
-    /// was stored before it. Without memory no node is handed back.
+    /// Does this here, with this fate, said in this line of the schedule: an opening finds what a stopped step was to
+    /// store, or what was stored before it. Without memory no node is handed back.
     pub fn happens(
         self,
         alloc: Global,
@@ -88,18 +81,14 @@ impl PureNode {
         finds_after: bool,
         line: u64,
     ) -> Result<NodeDone, NoMemory>
-        requires { IsKept self }
+        requires { CanDo self (doing_of doing) }
         ensures { IfOk result (λ r.
             IsDoneAt self (doing_of doing) (fate_of fate) finds_after line r.node r.sends r.told) }
     {
-        let PureNode {
-            pid,
-            durable,
-            status,
-        } = self;
+        let PureNode { pid, status } = self;
         match status {
-            Status::Up(memory) => happens_up(alloc, pid, durable, memory, doing, fate, line),
-            Status::Down(batch) => {
+            Status::Up(chain) => happens_up(alloc, pid, chain, doing, fate, line),
+            Status::Down(durable, batch) => {
                 happens_down(alloc, pid, durable, batch, doing, fate, finds_after)
             }
         }
@@ -110,29 +99,28 @@ impl PureNode {
 fn happens_up(
     alloc: Global,
     pid: Pid,
-    durable: Durable,
-    memory: Memory,
+    chain: Chain,
     doing: Doing,
     fate: Fate,
     line: u64,
 ) -> Result<NodeDone, NoMemory>
-    requires { IsKept (node_of pid durable (status.Up memory)) }
-    ensures { IfOk result (λ r. (finds_after : Bool) → IsDoneAt (node_of pid durable (status.Up memory))
+    requires { CanDo (node_of pid (status.Up chain)) (doing_of doing) }
+    ensures { IfOk result (λ r. (finds_after : Bool) → IsDoneAt (node_of pid (status.Up chain))
         (doing_of doing) (fate_of fate) finds_after line r.node r.sends r.told) }
 {
     match doing {
         Doing::Steps(input) => match fate {
-            Fate::Done => done_step(alloc, pid, durable, memory, input, line),
-            Fate::Stopped => stopped_step(alloc, pid, durable, memory, input),
+            Fate::Done => done_step(alloc, pid, chain, input, line),
+            Fate::Stopped => stopped_step(alloc, pid, chain, input),
         },
         Doing::Stops => {
-            let nothing = Status::Down(Batch::new(alloc));
-            Ok(NodeDone::only(alloc, pid, durable, nothing))
+            let stopped = Status::Down(chain.into_durable(), Batch::new(alloc));
+            Ok(NodeDone::only(alloc, pid, stopped))
         }
-        Doing::Opens => Ok(NodeDone::only(alloc, pid, durable, Status::Up(memory))),
+        Doing::Opens => Ok(NodeDone::only(alloc, pid, Status::Up(chain))),
         Doing::Tells => {
-            let told = ballot_lines(alloc, pid, &durable, &memory.volatile)?;
-            let mut done = NodeDone::only(alloc, pid, durable, Status::Up(memory));
+            let told = ballot_lines(alloc, pid, chain.ballots())?;
+            let mut done = NodeDone::only(alloc, pid, Status::Up(chain));
             done.told = told;
             Ok(done)
         }
@@ -149,67 +137,59 @@ fn happens_down(
     fate: Fate,
     finds_after: bool,
 ) -> Result<NodeDone, NoMemory>
-    requires { IsKept (node_of pid durable (status.Down batch)) }
-    ensures { IfOk result (λ r. (line : ℕ) → IsDoneAt (node_of pid durable (status.Down batch))
+    requires { CanDo (node_of pid (status.Down durable batch)) (doing_of doing) }
+    ensures { IfOk result (λ r. (line : ℕ) → IsDoneAt (node_of pid (status.Down durable batch))
         (doing_of doing) (fate_of fate) finds_after line r.node r.sends r.told) }
 {
     if let Doing::Opens = doing {
         return opens(alloc, pid, durable, batch, fate, finds_after);
     }
-    Ok(NodeDone::only(alloc, pid, durable, Status::Down(batch)))
+    let stopped = Status::Down(durable, batch);
+    Ok(NodeDone::only(alloc, pid, stopped))
 }
 
 /// A step in which a node that is up stops: what it was to store is kept, and all memory is lost.
 fn stopped_step(
     alloc: Global,
     pid: Pid,
-    durable: Durable,
-    mut memory: Memory,
+    mut chain: Chain,
     input: Input,
 ) -> Result<NodeDone, NoMemory>
-    requires { IsKept (node_of pid durable (status.Up memory)) }
+    requires { CanDo (node_of pid (status.Up chain)) (runs.Steps input) }
     ensures { IfOk result (λ r. (finds_after : Bool) → (line : ℕ) → IsDoneAt
-        (node_of pid durable (status.Up memory)) (runs.Steps input) runs.Stopped finds_after line
+        (node_of pid (status.Up chain)) (runs.Steps input) runs.Stopped finds_after line
         r.node r.sends r.told) }
 {
-    let plan = step(alloc, pid, &durable, &mut memory.volatile, input)?;
-    let stopped = Status::Down(plan.batch);
-    Ok(NodeDone::only(alloc, pid, durable, stopped))
+    let plan = chain.plan(input)?;
+    let stopped = Status::Down(chain.into_durable(), plan.into_batch());
+    Ok(NodeDone::only(alloc, pid, stopped))
 }
 
-/// A step of a node that is up: its batch is adopted, then those that wait are answered, and only then the rest is given out.
+/// A step of a node that is up.
 fn done_step(
     alloc: Global,
     pid: Pid,
-    durable: Durable,
-    mut memory: Memory,
+    mut chain: Chain,
     input: Input,
     line: u64,
 ) -> Result<NodeDone, NoMemory>
-    requires { IsKept (node_of pid durable (status.Up memory)) }
-    ensures { IfOk result (λ r. (finds_after : Bool) → IsDoneAt (node_of pid durable (status.Up memory))
+    requires { CanDo (node_of pid (status.Up chain)) (runs.Steps input) }
+    ensures { IfOk result (λ r. (finds_after : Bool) → IsDoneAt (node_of pid (status.Up chain))
         (runs.Steps input) runs.Done finds_after line r.node r.sends r.told) }
 {
-    let waiter = memory.waiter(pid, &durable, &input);
-    let plan = step(alloc, pid, &durable, &mut memory.volatile, input)?;
-    let decided = decided_of(&durable);
-    let durable = adopted(durable, plan.batch)?;
-    memory.volatile.adopt(plan.turn);
-    let newly = decided_from(&durable, decided);
-    let replies = memory.answer(alloc, waiter, newly, plan.replies.as_slice())?;
-    let given = Given {
-        sends: plan.sends,
+    let plan = chain.plan(input)?;
+    let Given {
+        sends,
         replies,
-        outcome: plan.outcome,
-    };
-    let told = step_lines(alloc, line, pid, &given)?;
+        outcome,
+    } = chain.adopt(plan);
+    let told = step_lines(alloc, line, pid, outcome, replies)?;
     Ok(NodeDone {
         node: PureNode {
             pid,
-            durable,
-            status: Status::Up(memory),
+            status: Status::Up(chain),
         },
-        sends: given.sends,
+        sends,
         told,
     })
 }
@@ -223,13 +203,16 @@ fn opens(
     fate: Fate,
     finds_after: bool,
 ) -> Result<NodeDone, NoMemory>
-    requires { IsKept (node_of pid durable (status.Down batch)) }
-    ensures { IfOk result (λ r. (line : ℕ) → IsDoneAt (node_of pid durable (status.Down batch))
+    requires { CanDo (node_of pid (status.Down durable batch)) runs.Opens }
+    ensures { IfOk result (λ r. (line : ℕ) → IsDoneAt (node_of pid (status.Down durable batch))
         runs.Opens (fate_of fate) finds_after line r.node r.sends r.told) }
 {
     match fate {
         Fate::Done => done_opening(alloc, pid, durable, batch, finds_after),
-        Fate::Stopped => Ok(NodeDone::only(alloc, pid, durable, Status::Down(batch))),
+        Fate::Stopped => {
+            let stopped = Status::Down(durable, batch);
+            Ok(NodeDone::only(alloc, pid, stopped))
+        }
     }
 }
 
@@ -241,18 +224,17 @@ fn done_opening(
     batch: Batch,
     finds_after: bool,
 ) -> Result<NodeDone, NoMemory>
-    requires { IsKept (node_of pid durable (status.Down batch)) }
-    ensures { IfOk result (λ r. (line : ℕ) → IsDoneAt (node_of pid durable (status.Down batch))
+    requires { CanDo (node_of pid (status.Down durable batch)) runs.Opens }
+    ensures { IfOk result (λ r. (line : ℕ) → IsDoneAt (node_of pid (status.Down durable batch))
         runs.Opens runs.Done finds_after line r.node r.sends r.told) }
 {
     let durable = found(durable, batch, finds_after)?;
     let sends = sends_after_restart(alloc, pid, &durable)?;
-    let memory = Memory::again(alloc, pid, &durable)?;
+    let chain = Chain::again(alloc, pid, durable)?;
     Ok(NodeDone {
         node: PureNode {
             pid,
-            durable,
-            status: Status::Up(memory),
+            status: Status::Up(chain),
         },
         sends,
         told: Lines::new(alloc),

@@ -1,23 +1,18 @@
-ghost use Rattle.std.specs.Prelude.{◌≡◌, ◌++◌, ◌<◌, ◌≤◌, true, false, map, length, Some, IfOk, OnOk};
-ghost use Rattle.std.specs.Prelude.{All, nat_eq, slice_get};
-ghost use Rattle.std.specs.Set.{is_member};
-ghost use Rattle.op_types.specs.Ranges.{MembersInRange, WhatInRange};
+ghost use Rattle.std.specs.Prelude.{◌≡◌, ◌≤◌, true, false, map, length, All, IfOk, OnOk};
+ghost use Rattle.op_types.specs.Ranges.{IsMember, MembersInRange, WhatInRange};
 ghost use Rattle.op_bounds.specs.Laws.{HappeningInRange};
-ghost use Rattle.op_bounds.specs.Messages.{IsMember};
 ghost use Rattle.op_runs.specs.Possible.{is_possible};
 ghost use Rattle.op_runs.specs.World as runs;
 ghost use Rattle.op_world.specs.Failing.{IfBadEvent};
 ghost use Rattle.op_pure.specs.Happenings.{happening_of, happenings_of, fate_of, IsFirstBad};
 ghost use Rattle.op_pure.specs.Nodes.{IsKept};
 ghost use Rattle.op_pure.specs.Runs.{KeepsTheLaws};
-ghost use Rattle.op_pure.specs.Worlds.{ShowNodes, Shows, Does, place_of, deed_shown};
+ghost use Rattle.op_pure.specs.Worlds.{ShowNodes, Shows, Does, place_of};
 
-use crate::deed::{Deed, Doing};
 use crate::happening::{Fate, Happening, Happenings};
 use crate::node::{NodeDone, PureNode};
-use crate::sent::Sent;
-use op_types::{Event, Input, Line, Lines, Members, Msg, NoMemory, Pid, Sends, What, is_among};
-use op_world::RunFail;
+use op_types::{Event, Line, Lines, Members, NoMemory, Pid};
+use op_world::{Deed, RunFail, Sent, deed_of, is_possible, send_all, tell_all};
 use std::alloc::Global;
 use std::marker::Model;
 
@@ -52,8 +47,8 @@ impl Model for PureWorld {
 }
 
 impl PureWorld {
-    /// Runs these happenings at these members, from their start on. It is refused exactly where an event names a server that is no
-    /// member or a message that wasn't sent: the first such event is told.
+    /// Runs these happenings at these members, from their start on. It is refused exactly where an event names a server
+    /// that is no member or a message that wasn't sent: the first such event is told.
     pub fn run(
         alloc: Global,
         members: Members,
@@ -102,8 +97,8 @@ impl PureWorld {
         })
     }
 
-    /// One event, with what becomes of it. It is refused, as the event of number 0, exactly where it names a node that is absent or
-    /// a message that wasn't sent. With a refusal no world is handed back.
+    /// One event, with what becomes of it. It is refused, as the event of number 0, exactly where it names a node that is
+    /// absent or a message that wasn't sent. With a refusal no world is handed back.
     pub fn happening(self, happening: Happening) -> Result<PureWorld, RunFail>
         requires { WhatInRange happening.event.what }
         ensures after { IfOk result (λ w. (x : runs.World) → Shows self x →
@@ -119,77 +114,12 @@ impl PureWorld {
             fate,
             finds_after,
         } = happening;
-        if !self.is_possible(&event.what) {
+        if !is_possible(&self.members, self.messages.len() as u64, &event.what) {
             return Err(RunFail::BadEvent { index: 0 });
         }
         let Event { line, what } = event;
-        let deed = self.deed(what)?;
+        let deed = deed_of(self.alloc, &self.messages, what)?;
         Ok(self.done(line, fate, finds_after, deed)?)
-    }
-
-    fn is_member(&self, pid: Pid) -> bool
-        ensures { result ≡ is_member nat_eq self.now.members pid }
-    {
-        is_among(self.members.as_slice(), pid)
-    }
-
-    /// Whether the nodes that an event names are members, and the message that it names was sent.
-    fn is_possible(&self, what: &What) -> bool
-        ensures { result ≡ is_possible self.now.members (length self.now.messages) what.now }
-    {
-        match what {
-            What::Tick(pid) | What::Crash(pid) | What::Start(pid) | What::Ballots(pid) => {
-                self.is_member(*pid)
-            }
-            What::Command(pid, _) => self.is_member(*pid),
-            What::Deliver(number) => *number < self.messages.len() as u64,
-            What::Up(pid, peer) | What::Down(pid, peer) => {
-                self.is_member(*pid) && self.is_member(*peer)
-            }
-        }
-    }
-
-    /// What an event does that is possible. A message that is delivered is copied.
-    fn deed(&self, what: What) -> Result<Deed, NoMemory>
-        requires possible { is_possible self.now.members (length self.now.messages) what ≡ true }
-        requires range { WhatInRange what }
-        ensures deed { IfOk result (λ deed. runs.deed_of self.now.messages what ≡ Some (deed_shown deed)) }
-        ensures member { IfOk result (λ deed. IsMember self.now.members deed.pid) }
-    {
-        Ok(match what {
-            What::Tick(pid) => stepping(pid, Input::Tick),
-            What::Command(pid, command) => stepping(pid, Input::Command(command)),
-            What::Deliver(number) => self.delivery(number as usize)?,
-            What::Up(pid, peer) => stepping(pid, Input::Up(peer)),
-            What::Down(pid, peer) => stepping(pid, Input::Down(peer)),
-            What::Crash(pid) => Deed {
-                pid,
-                doing: Doing::Stops,
-            },
-            What::Start(pid) => Deed {
-                pid,
-                doing: Doing::Opens,
-            },
-            What::Ballots(pid) => Deed {
-                pid,
-                doing: Doing::Tells,
-            },
-        })
-    }
-
-    /// The message of this number reaches its addressee.
-    fn delivery(&self, number: usize) -> Result<Deed, NoMemory>
-        requires { number < length self.now.messages }
-        ensures deed { IfOk result (λ deed.
-            runs.delivery (slice_get self.now.messages number) ≡ Some (deed_shown deed)) }
-        ensures member { IfOk result (λ deed. IsMember self.now.members deed.pid) }
-    {
-        let sent = &self.messages[number];
-        let message = Msg {
-            conf: sent.message.conf,
-            body: sent.message.body.copy(self.alloc)?,
-        };
-        Ok(stepping(sent.to, Input::Deliver(sent.from, message)))
     }
 
     /// The world after what is done at a member, or what the member stopped in, said in this line of the schedule.
@@ -237,16 +167,6 @@ impl PureWorld {
     }
 }
 
-/// A step of a node.
-fn stepping(pid: Pid, input: Input) -> Deed
-    ensures { deed_shown result ≡ record { pid = pid; doing = runs.Steps input } }
-{
-    Deed {
-        pid,
-        doing: Doing::Steps(input),
-    }
-}
-
 /// The nodes' place of an id: how many nodes stand before it, or how many there are where none has it.
 fn place_of(nodes: &[PureNode], pid: Pid) -> usize
     ensures place { result ≡ place_of nodes.now pid }
@@ -277,24 +197,4 @@ fn first_nodes(alloc: Global, members: &Members) -> Result<Vec<PureNode>, NoMemo
         nodes.push(PureNode::first(alloc, *pid, members)?)?;
     }
     Ok(nodes)
-}
-
-/// Adds what a node sends.
-fn send_all(messages: &mut Vec<Sent>, from: Pid, sends: Sends) -> Result<(), NoMemory>
-    ensures { OnOk result (messages.new.items ≡ messages.old.items ++ runs.sent_by from sends) }
-{
-    'sends: for (to, message) in sends.into_vec() {
-        messages.push(Sent { from, to, message })?;
-    }
-    Ok(())
-}
-
-/// Adds lines.
-fn tell_all(lines: &mut Lines, told: Lines) -> Result<(), NoMemory>
-    ensures { OnOk result (lines.new ≡ lines.old ++ told) }
-{
-    'told: for line in told.into_vec() {
-        lines.push(line)?;
-    }
-    Ok(())
 }

@@ -18,7 +18,8 @@ use Rattle.op_bounds.proofs.Runs.{runs_stay}
 use Rattle.op_world.specs.declared.deed.Deed as deed
 use Rattle.op_world.specs.declared.node_state.NodeState.{NodeState}
 use Rattle.op_world.specs.declared.node_state.WorldNode.{WorldNode}
-use Rattle.op_world.specs.Worlds.{Parts, Shows, ShowsNode, ShowNodes, IsKept, IsWorld, IsDoneAt, IsInRange, DoingInRange, IsPossibleDeed, place_of, doing_of, deed_shown}
+use Rattle.op_world.specs.Deeds.{doing_of, deed_shown}
+use Rattle.op_world.specs.Worlds.{Parts, Shows, ShowsNode, ShowNodes, IsKept, IsWorld, IsDoneAt, IsInRange, DoingInRange, IsPossibleDeed, place_of}
 use Rattle.op_world.proofs.Worlds.{pids, replaced, stands, shown, shown_with, pids-replaced, all_replaced}
 
 -- ---- deeds in range

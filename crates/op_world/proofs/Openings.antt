@@ -1,26 +1,32 @@
--- What an opening finds on the disks of a node that is down, and what it makes of the node.
-use Rattle.std.proofs.Common.{◌≡◌, ℕ, Bool, true, false, List, [], ◌++◌, Option, refl, sym, ap, subst, ◌∙◌}
-use Rattle.std.specs.Prelude.{IfSome}
+-- What an opening finds on disks, and what it makes of the node.
+use Rattle.std.proofs.Common.{◌≡◌, ℕ, Bool, true, false, nat_eq, List, [], ◌++◌, Option, Some, None, refl, sym, ap, subst, ◌∙◌, arith}
+use Rattle.std.specs.Set.{is_member}
+use Rattle.std.proofs.lemmas.Bool.{cond-true}
 use Rattle.std.proofs.lemmas.List.{append-nil}
+use Rattle.op_types.specs.Ranges.{IsMember}
 use Rattle.op_types.specs.declared.durable.Durable.{Durable}
 use Rattle.op_types.specs.declared.durable.Part.{Part}
 use Rattle.op_types.specs.declared.messages.Msg.{Msg}
 use Rattle.op_types.specs.declared.summary.Line.{Line}
-use Rattle.op_record.specs.Ranges.{PartInRange}
 use Rattle.op_memory.specs.MemDisks.{seen_of, known_disk}
 use Rattle.op_memory.specs.declared.disk.MemDisk.{MemDisk}
+use Rattle.op_protocol.specs.State.{State}
 use Rattle.op_protocol.specs.Starting.{state_after_restart, sends_after_restart}
 use Rattle.op_store.specs.Stored.{StandsFor}
-use Rattle.op_store.specs.Stores.{Represents, IsReady}
+use Rattle.op_store.specs.Stores.{Represents}
 use Rattle.op_store.specs.Openings.{IsFoundIn}
-use Rattle.op_store.specs.declared.store.Store.{Store}
 use Rattle.op_store.proofs.UniqueState.{one_state, nothing_or_state}
-use Rattle.op_runs.specs.World.{World, Node, NodeStatus, Up, Opens, with_node, sent_by, done_event, world_by_status}
-use Rattle.op_bounds.specs.Messages.{IsMember}
-use Rattle.op_bounds.specs.States.{PartOf, DurableOf}
-use Rattle.op_member.specs.Members.{IsStateOf, IsSoundMember, IsPartFor, CanOpen}
-use Rattle.op_member.specs.declared.member.Member.{Member}
-use Rattle.op_world.specs.Worlds.{HasPart, StoreAPart, IsDoneAt, IsInRange}
+use Rattle.op_chain.specs.Chains.{first_state}
+use Rattle.op_node.specs.Nodes.{NodeState as Inner, node_of}
+use Rattle.op_node.specs.Openings.{Opens, part_for, durable_for, fresh_for, opening_state, opening_sends}
+use Rattle.op_node.specs.declared.node.Node as nodes
+use Rattle.op_runs.specs.World.{World, Node, NodeStatus, Up, with_node, sent_by, done_event, world_by_status, first_durable, first_node}
+use Rattle.op_runs.specs.World as runs
+use Rattle.op_bounds.specs.Laws.{IsOfMembers}
+use Rattle.op_world.specs.Deeds.{doing_of}
+use Rattle.op_world.specs.Worlds.{RunsAs, IsDoneAt, IsInRange}
+use Rattle.op_world.specs.declared.deed.Doing as deed
+use Rattle.op_world.specs.declared.deed.Doing.TheVariants as variant
 use Rattle.op_world.specs.declared.node_state.NodeState.TheVariants as node
 
 -- ---- what is found
@@ -30,65 +36,107 @@ pub found_same : (fresh d e : Durable) (first : List ℕ) (is_new : Bool) → Is
 found_same fresh d e first false found stored = one_state first e d found stored
 found_same fresh d e first true found stored = absurd (nothing_or_state first d found.0 stored)
 
--- where they store a part, there is one
-pub found_part : (fresh e : Durable) (first second : List ℕ) (is_new : Bool) → IsFoundIn fresh first e is_new → StoreAPart first second → HasPart e
-found_part fresh e first second is_new found kept = subst HasPart (sym (found_same fresh kept.0 e first is_new found kept.1)) kept.2
+found_old : (fresh d e : Durable) (first : List ℕ) (is_new : Bool) → IsFoundIn fresh first e is_new → StandsFor d first → is_new ≡ false
+found_old fresh d e first false found stored = refl
+found_old fresh d e first true found stored = absurd (nothing_or_state first d found.0 stored)
 
--- ---- what can be opened
+-- an empty disk stores nothing
+found_fresh : (fresh d : Durable) (bytes : List ℕ) (is_new : Bool) → bytes ≡ [] → IsFoundIn fresh bytes d is_new → (is_new ≡ true) × (d ≡ fresh)
+found_fresh fresh d bytes true none found = (refl, found.1)
+found_fresh fresh d bytes false none found = absurd (nothing_or_state [] d (false, omega arith) (subst (λ (bs : List ℕ). StandsFor d bs) none found))
 
-part_for : (members : List ℕ) (me : ℕ) (p : Part) → IsMember members me → PartInRange p → PartOf members p → IsPartFor me p
-part_for members me p member range of = record {
-  member = subst (λ (ms : List ℕ). IsMember ms me) (sym of.members) member;
-  positions = record { trimmed = range.decided.0; decided = range.decided.1; small = range.len };
-  rest = range.room;
-}
+-- ---- what a server takes of it
 
--- a durable state in range that has a part
-pub can_open : (members : List ℕ) (me : ℕ) (d : Durable) → IsMember members me → DurableOf members d → HasPart d → CanOpen me d
-can_open members me d member range part = (
-  part.0,
-  part.1,
-  part_for members me part.0 member
-      (subst (λ (o : Option Part). IfSome o PartInRange) part.1 range.range.part)
-      (subst (λ (o : Option Part). IfSome o (PartOf members)) part.1 range.part),
-)
+part_kept : (members : List ℕ) (me : ℕ) (p : Part) → IsMember members me → p.members ≡ members → part_for me (Some p) ≡ Some p
+part_kept members me p member of = cond-true (is_member nat_eq p.members me) (Some p) None (ap (λ (ms : List ℕ). is_member nat_eq ms me) of ∙ member)
 
--- what is found on the disks of a member's node
-pub can_open_found : (members : List ℕ) (me : ℕ) (first second : MemDisk) (fresh e : Durable) (is_new : Bool) → IsInRange members me (node.Down first second) → IsFoundIn fresh (seen_of first) e is_new → CanOpen me e
-can_open_found members me first second fresh e is_new k found =
-    let same : e ≡ k.node.state.durable = found_same fresh k.node.state.durable e (seen_of first) is_new found k.shown.0 in
-    can_open members me e (subst (IsMember members) k.here k.range.pid) (subst (DurableOf members) (sym same) k.range.state.durable)
-    (found_part fresh e (seen_of first) (seen_of second) is_new found k.kept)
+part_taken : (members : List ℕ) (me : ℕ) (d : Durable) (o : Option Part) → d.part ≡ o → IsMember members me → IsOfMembers members d → part_for me o ≡ o
+part_taken members me d None is member of = refl
+part_taken members me d (Some p) is member of = part_kept members me p member (let same : IsOfMembers members (record { part = Some p; closed = d.closed }) = subst (λ (x : Option Part). IsOfMembers members (record { part = x; closed = d.closed })) is of in same)
 
--- ---- the node that is opened
+-- all of what is of its members
+taken : (members : List ℕ) (me : ℕ) (d : Durable) → IsMember members me → IsOfMembers members d → durable_for me d ≡ d
+taken members me d member of = ap (λ (o : Option Part). let e : Durable = record { part = o; closed = d.closed } in e) (part_taken members me d d.part refl member of)
 
-pub opened_again : (me line : ℕ) (first second : MemDisk) (fresh e : Durable) (is_new : Bool) (m : Member) (store : Store MemDisk) (sends : List (ℕ × Msg)) (told : List Line) → IsFoundIn fresh (seen_of first) e is_new
-    → StoreAPart (seen_of first) (seen_of second) → Represents known_disk e store → IsReady store → sends ≡ sends_after_restart me e.part
-    → m.me ≡ me → IsStateOf m (state_after_restart me e) → IsSoundMember m → told ≡ [] → IsDoneAt me (node.Down first second) Opens line (node.Up m store) sends told
-opened_again me line first second fresh e is_new m store sends told found kept represents ready sends_are id state sound none = record {
-  after = λ x pid shown.
-      let same : e ≡ x.state.durable = found_same fresh x.state.durable e (seen_of first) is_new found shown.0 in
-      let y : Node = record x { state = state_after_restart x.pid x.state.durable; status = Up } in
-      let is : IsStateOf m y.state =
-      subst (λ (d : Durable). IsStateOf m (state_after_restart x.pid d)) same (subst (λ (k : ℕ). IsStateOf m (state_after_restart k e)) (sym pid) state) in
-      let sends_be : sends_after_restart x.pid x.state.durable.part ≡ sends =
-      ap (λ (k : ℕ). sends_after_restart k x.state.durable.part) pid ∙ ap (λ (d : Durable). sends_after_restart me d.part) (sym same) ∙ sym sends_are in (
-        y,
-        (is, refl),
-        record {
-          pid = refl;
-          world = λ w e2 at here.
-              let world : List (ℕ × Msg) → List Line → World = λ ss ls. record { nodes = with_node w.nodes y; messages = w.messages ++ sent_by x.pid ss; lines = ls } in
-              ap (λ (st : NodeStatus). world_by_status st Opens (done_event e2) w x) shown.1
-              ∙ ap (λ (ss : List (ℕ × Msg)). world ss w.lines) sends_be
-              ∙ ap (λ (ls : List Line). world sends ls) (sym (append-nil w.lines) ∙ ap (λ (ls : List Line). w.lines ++ ls) (sym none));
-        },
-      );
-  kept = record {
-    me = id;
-    sound = sound;
-    part = subst HasPart state.durable (found_part fresh e (seen_of first) (seen_of second) is_new found kept);
-    stored = subst (λ (d : Durable). Represents known_disk d store) state.durable represents;
-    ready = ready;
-  };
-}
+abbrev runs_in : ℕ → State → Inner
+runs_in me s = record { me = me; state = s; failed = None }
+
+-- ---- a node that is opened again
+
+module _ (members : List ℕ) (me : ℕ) (first second : MemDisk) (n : nodes.Node MemDisk) (sends : List (ℕ × Msg)) (k : IsInRange members me (node.Down first second))
+    (o : Opens known_disk me members (record { first = known_disk first; second = known_disk second }) n sends) where
+  found : IsFoundIn (fresh_for me members) (seen_of first) o.durable o.is_new
+  found = o.opened.found (tt, tt)
+
+  is_old : o.is_new ≡ false
+  is_old = found_old (fresh_for me members) k.node.state.durable o.durable (seen_of first) o.is_new found k.shown.0
+
+  takes : durable_for me o.durable ≡ o.durable
+  takes =
+      let same : o.durable ≡ k.node.state.durable = found_same (fresh_for me members) k.node.state.durable o.durable (seen_of first) o.is_new found k.shown.0 in
+      taken members me o.durable (subst (IsMember members) k.here k.range.pid) (subst (IsOfMembers members) (sym same) k.range.of)
+
+  state_is : node_of n ≡ runs_in me (state_after_restart me o.durable)
+  state_is = o.node ∙ ap (λ (b : Bool). runs_in me (opening_state me b o.durable)) is_old ∙ ap (λ (d : Durable). runs_in me (state_after_restart me d)) takes
+
+  sends_are : sends ≡ sends_after_restart me o.durable.part
+  sends_are = o.sends_are ∙ ap (λ (b : Bool). opening_sends me b o.durable) is_old ∙ ap (λ (d : Durable). sends_after_restart me d.part) takes
+
+  runs_again : RunsAs me n
+  runs_again = record {
+    me = ap (λ (i : Inner). i.me) state_is;
+    failed = ap (λ (i : Inner). i.failed) state_is;
+    sound = o.sound;
+    stored = subst (λ (d : Durable). Represents known_disk d n.store) (ap (λ (i : Inner). i.state.durable) (sym state_is)) (o.opened.stored (tt, tt));
+  }
+
+  pub opened_again : (line : ℕ) (told : List Line) → told ≡ [] → IsDoneAt me (node.Down first second) runs.Opens line (node.Up n) sends told
+  opened_again line told none = record {
+    after = λ x pid shown.
+        let same : o.durable ≡ x.state.durable = found_same (fresh_for me members) x.state.durable o.durable (seen_of first) o.is_new found shown.0 in
+        let y : Node = record x { state = state_after_restart x.pid x.state.durable; status = Up } in
+        let is : y.state ≡ (node_of n).state =
+        ap (λ (p : ℕ). state_after_restart p x.state.durable) pid ∙ ap (λ (d : Durable). state_after_restart me d) (sym same) ∙ ap (λ (i : Inner). i.state) (sym state_is) in
+        let sends_be : sends_after_restart x.pid x.state.durable.part ≡ sends =
+        ap (λ (p : ℕ). sends_after_restart p x.state.durable.part) pid ∙ ap (λ (d : Durable). sends_after_restart me d.part) (sym same) ∙ sym sends_are in (
+          y,
+          (is, refl),
+          record {
+            pid = refl;
+            world = λ w e at here.
+                let world : List (ℕ × Msg) → List Line → World = λ ss ls. record { nodes = with_node w.nodes y; messages = w.messages ++ sent_by x.pid ss; lines = ls } in
+                ap (λ (st : NodeStatus). world_by_status st runs.Opens (done_event e) w x) shown.1
+                ∙ ap (λ (ss : List (ℕ × Msg)). world ss w.lines) sends_be
+                ∙ ap (λ (ls : List Line). world sends ls) (sym (append-nil w.lines) ∙ ap (λ (ls : List Line). w.lines ++ ls) (sym none));
+          },
+        );
+    kept = runs_again;
+  }
+
+  pub opens_again : (line : ℕ) (told : List Line) (d : deed.Doing) → told ≡ [] → d ≡ variant.Opens → IsDoneAt me (node.Down first second) (doing_of d) line (node.Up n) sends told
+  opens_again line told d none is = subst (λ (y : deed.Doing). IsDoneAt me (node.Down first second) (doing_of y) line (node.Up n) sends told) (sym is) (opened_again line told none)
+
+-- ---- a node at its first start
+
+module _ (members : List ℕ) (me : ℕ) (first second : MemDisk) (n : nodes.Node MemDisk) (sends : List (ℕ × Msg)) (member : IsMember members me) (empty : seen_of first ≡ [])
+    (o : Opens known_disk me members (record { first = known_disk first; second = known_disk second }) n sends) where
+  is_fresh : (o.is_new ≡ true) × (o.durable ≡ fresh_for me members)
+  is_fresh = found_fresh (fresh_for me members) o.durable (seen_of first) o.is_new empty (o.opened.found (tt, tt))
+
+  begins : o.durable ≡ first_durable members
+  begins = is_fresh.1 ∙ cond-true (is_member nat_eq members me) (first_durable members) _ member
+
+  pub first_is : node_of n ≡ runs_in me (first_node members me).state
+  first_is =
+      o.node
+      ∙ ap (λ (b : Bool). runs_in me (opening_state me b o.durable)) is_fresh.0
+      ∙ ap (λ (d : Durable). runs_in me (first_state me (durable_for me d))) begins
+      ∙ ap (λ (d : Durable). runs_in me (first_state me d)) (taken members me (first_durable members) member refl)
+
+  pub first_runs : RunsAs me n
+  first_runs = record {
+    me = ap (λ (i : Inner). i.me) first_is;
+    failed = ap (λ (i : Inner). i.failed) first_is;
+    sound = o.sound;
+    stored = subst (λ (d : Durable). Represents known_disk d n.store) (begins ∙ ap (λ (i : Inner). i.state.durable) (sym first_is)) (o.opened.stored (tt, tt));
+  }

@@ -1,23 +1,39 @@
 -- Where the nodes stand: what has been gathered of some of them, and what is left to gather.
-use Rattle.std.proofs.Common.{◌≡◌, ℕ, List, [], ◌∷◌, ◌++◌, map, Option, Some, None, All, take, ◌-◌, sym, ap, subst, ◌∙◌, append_assoc}
+use Rattle.std.proofs.Common.{◌≡◌, ℕ, List, [], ◌∷◌, ◌++◌, map, None, Result, Ok, Err, All, sym, ap, subst, ◌∙◌, append_assoc}
 use Rattle.std.proofs.lemmas.List.{append-nil}
-use Rattle.std.proofs.lemmas.List.Elements.{All-head, All-tail}
-use Rattle.std.specs.Prelude.{fold}
+use Rattle.std.proofs.lemmas.List.Elements.{All-nil, All-cons, All-head, All-tail}
+use Rattle.std.specs.Prelude.{fold, OnOk}
 use Rattle.op_types.specs.declared.durable.Durable.{Durable}
-use Rattle.op_types.specs.declared.durable.Part.{Part}
 use Rattle.op_types.specs.declared.log.Entry.{Entry}
 use Rattle.op_types.specs.declared.summary.NodeLine.{NodeLine}
 use Rattle.op_types.specs.declared.summary.Running.{Running}
-use Rattle.op_protocol.specs.State.{State}
-use Rattle.op_runs.specs.World.{Node, NodeStatus}
-use Rattle.op_runs.specs.Summary.{longer, decided_log, longest_decided, node_line, running_of, stands_at}
-use Rattle.op_world.specs.Worlds.{IsKept, IsShown, ShowsNode, ShowNodes, running_of_state}
-use Rattle.op_world.specs.declared.node_state.NodeState.{NodeState}
-use Rattle.op_world.specs.declared.node_state.NodeState.TheVariants as node
+use Rattle.op_types.specs.declared.summary.Running.TheVariants as running
+use Rattle.op_runs.specs.World.{World, Node, first_world, run_of}
+use Rattle.op_runs.specs.Summary.{longer, decided_log, longest_decided, node_line, running_of}
+use Rattle.op_bounds.specs.Laws.{NodeInRange}
+use Rattle.op_world.specs.Worlds.{Parts, IsWorld, ShowsNode, ShowNodes, line_of}
 use Rattle.op_world.specs.declared.node_state.WorldNode.{WorldNode}
+use Rattle.op_world.proofs.Deeds.{in_range}
 
-abbrev pub Kept : WorldNode → Type 0
-Kept n = IsKept n.pid n.state
+-- no configuration is closed yet
+abbrev pub IsOpen : Node → Type 0
+IsOpen x = x.state.durable.closed ≡ None
+
+-- the nodes show some in which none is closed
+pub record AreOpen (nodes : List WorldNode) : Type 0 where
+  pub xs : List Node
+  pub shown : ShowNodes nodes xs
+  pub each : All IsOpen xs
+
+all_open : (members : List ℕ) (xs : List Node) → All (NodeInRange members) xs → All IsOpen xs
+all_open members [] each = All-nil IsOpen
+all_open members (x ∷ xs) each = All-cons IsOpen x xs (All-head (NodeInRange members) x xs each).state.durable.range.closed (all_open members xs (All-tail (NodeInRange members) x xs each))
+
+-- so it is in a world
+pub world_open : (w : Parts) → IsWorld w → (xs : List Node) × ShowNodes w.nodes xs × All IsOpen xs
+world_open w i = let x : World = run_of (first_world w.members) i.happenings in (x.nodes, i.shows.nodes, all_open w.members x.nodes (in_range w i).nodes)
+
+-- ---- one after the other
 
 -- the longest list of these and those that some of the nodes have decided
 abbrev pub longest_from : List Entry → List Node → List Entry
@@ -32,12 +48,12 @@ pub record Rest (left : List WorldNode) (longest : List Entry) (lines : List Nod
 
 -- so far this was gathered of the nodes, and these are left
 pub record Gathers (nodes left : List WorldNode) (longest : List Entry) (lines : List NodeLine) : Type 0 where
-  pub kept : All Kept left
+  pub open_ones : AreOpen left
   pub whole : (xs : List Node) → ShowNodes nodes xs → Rest left longest lines xs
 
-pub gathers_first : (nodes left : List WorldNode) (longest : List Entry) (lines : List NodeLine) → nodes ≡ left → longest ≡ [] → lines ≡ [] → All Kept nodes → Gathers nodes left longest lines
-gathers_first nodes left longest lines same none no_lines kept = record {
-  kept = subst (All Kept) same kept;
+pub gathers_first : (nodes left : List WorldNode) (longest : List Entry) (lines : List NodeLine) → nodes ≡ left → longest ≡ [] → lines ≡ [] → (xs : List Node) × ShowNodes nodes xs × All IsOpen xs → Gathers nodes left longest lines
+gathers_first nodes left longest lines same none no_lines o = record {
+  open_ones = subst AreOpen same (record { xs = o.0; shown = o.1; each = o.2 });
   whole = λ xs shown. record {
     rest = xs;
     shown = subst (λ (ns : List WorldNode). ShowNodes ns xs) same shown;
@@ -46,36 +62,44 @@ gathers_first nodes left longest lines same none no_lines kept = record {
   };
 }
 
-abbrev pub Stands : WorldNode → NodeLine → List Entry → Type 0
-Stands n line entries = (x : Node) → ShowsNode n x → (line ≡ node_line x) × (entries ≡ decided_log x.state.durable.part)
+-- the node was added
+pub record Adds (n : WorldNode) (longest longest' : List Entry) (lines lines' : List NodeLine) : Type 0 where
+  pub longest_is : (x : Node) → ShowsNode n x → longest' ≡ longer longest (decided_log x.state.durable.part)
+  pub lines_are : (x : Node) → ShowsNode n x → lines' ≡ lines ++ node_line x ∷ []
 
-rest_next : (n : WorldNode) (more : List WorldNode) (longest longest' entries : List Entry) (lines lines' : List NodeLine) (line : NodeLine) (xs rest : List Node) → ShowNodes (n ∷ more) rest
-    → longest_from longest rest ≡ longest_decided xs → lines ++ map node_line rest ≡ map node_line xs → Stands n line entries → longest' ≡ longer longest entries → lines' ≡ lines ++ line ∷ [] → Rest more longest' lines' xs
-rest_next n more longest longest' entries lines lines' line xs [] shown is are stands longer_is lines_are = absurd shown
-rest_next n more longest longest' entries lines lines' line xs (x ∷ rest) shown is are stands longer_is lines_are =
-    let one = stands x shown.0 in
-    record {
-      rest = rest;
-      shown = shown.1;
-      longest_is = ap (λ (es : List Entry). longest_from es rest) (longer_is ∙ ap (λ (es : List Entry). longer longest es) one.1) ∙ is;
-      lines_are =
-          ap (λ (ls : List NodeLine). ls ++ map node_line rest) (lines_are ∙ ap (λ (l : NodeLine). lines ++ l ∷ []) one.0)
-          ∙ append_assoc lines (node_line x ∷ []) (map node_line rest) ∙ are;
-    }
-
--- one node more
-pub gathers_next : (nodes left more : List WorldNode) (n : WorldNode) (longest longest' entries : List Entry) (lines lines' : List NodeLine) (line : NodeLine) → Gathers nodes left longest lines → left ≡ n ∷ more
-    → Stands n line entries → longest' ≡ longer longest entries → lines' ≡ lines ++ line ∷ [] → Gathers nodes more longest' lines'
-gathers_next nodes left more n longest longest' entries lines lines' line g is stands longer_is lines_are = record {
-  kept = All-tail Kept n more (subst (All Kept) is g.kept);
-  whole = λ xs shown.
-      let r = g.whole xs shown in
-      rest_next n more longest longest' entries lines lines' line xs r.rest (subst (λ (ns : List WorldNode). ShowNodes ns r.rest) is r.shown) r.longest_is r.lines_are stands longer_is lines_are;
+rest_next : (n : WorldNode) (more : List WorldNode) (longest longest' : List Entry) (lines lines' : List NodeLine) (xs rest : List Node) → ShowNodes (n ∷ more) rest
+    → longest_from longest rest ≡ longest_decided xs → lines ++ map node_line rest ≡ map node_line xs → Adds n longest longest' lines lines' → Rest more longest' lines' xs
+rest_next n more longest longest' lines lines' xs [] shown is are adds = absurd shown
+rest_next n more longest longest' lines lines' xs (x ∷ rest) shown is are adds = record {
+  rest = rest;
+  shown = shown.1;
+  longest_is = ap (λ (es : List Entry). longest_from es rest) (adds.longest_is x shown.0) ∙ is;
+  lines_are = ap (λ (ls : List NodeLine). ls ++ map node_line rest) (adds.lines_are x shown.0) ∙ append_assoc lines (node_line x ∷ []) (map node_line rest) ∙ are;
 }
 
--- the one that is taken is kept
-pub next_kept : (nodes left more : List WorldNode) (n : WorldNode) (longest : List Entry) (lines : List NodeLine) → Gathers nodes left longest lines → left ≡ n ∷ more → IsKept n.pid n.state
-next_kept nodes left more n longest lines g is = All-head Kept n more (subst (All Kept) is g.kept)
+open_tail : (n : WorldNode) (more : List WorldNode) (xs : List Node) → ShowNodes (n ∷ more) xs → All IsOpen xs → AreOpen more
+open_tail n more [] shown each = absurd shown
+open_tail n more (x ∷ xs) shown each = record { xs = xs; shown = shown.1; each = All-tail IsOpen x xs each }
+
+open_head : (n : WorldNode) (more : List WorldNode) (xs : List Node) → ShowNodes (n ∷ more) xs → All IsOpen xs → (x : Node) × ShowsNode n x × IsOpen x
+open_head n more [] shown each = absurd shown
+open_head n more (x ∷ xs) shown each = (x, shown.0, All-head IsOpen x xs each)
+
+-- one node more
+pub gathers_next : (nodes left more : List WorldNode) (n : WorldNode) (longest longest' : List Entry) (lines lines' : List NodeLine) → Gathers nodes left longest lines → left ≡ n ∷ more
+    → Adds n longest longest' lines lines' → Gathers nodes more longest' lines'
+gathers_next nodes left more n longest longest' lines lines' g is adds =
+    let o = subst AreOpen is g.open_ones in
+    record {
+      open_ones = open_tail n more o.xs o.shown o.each;
+      whole = λ xs shown.
+          let r = g.whole xs shown in
+          rest_next n more longest longest' lines lines' xs r.rest (subst (λ (ns : List WorldNode). ShowNodes ns r.rest) is r.shown) r.longest_is r.lines_are adds;
+    }
+
+-- the one that is taken
+pub next_open : (nodes left more : List WorldNode) (n : WorldNode) (longest : List Entry) (lines : List NodeLine) → Gathers nodes left longest lines → left ≡ n ∷ more → (x : Node) × ShowsNode n x × IsOpen x
+next_open nodes left more n longest lines g is = let o = subst AreOpen is g.open_ones in open_head n more o.xs o.shown o.each
 
 all_gathered : (rest xs : List Node) (longest : List Entry) (lines : List NodeLine) → ShowNodes [] rest → longest_from longest rest ≡ longest_decided xs → lines ++ map node_line rest ≡ map node_line xs
     → (longest ≡ longest_decided xs) × (lines ≡ map node_line xs)
@@ -90,20 +114,18 @@ gathers_all nodes left longest lines g none xs shown =
 
 -- ---- one node
 
-running_shown : (n : NodeState) (s : State) (status : NodeStatus) → IsShown n s status → running_of_state n ≡ running_of status
-running_shown (node.Up m store) s status shown = ap running_of (sym shown.1)
-running_shown (node.Down first second) s status shown = ap running_of (sym shown.1)
+-- what was added of a node that is down, whose disks store this, was added of whatever it shows
+pub down_decided : {T E : Type 0} (r : Result T E) (n : WorldNode) (d : Durable) (longest longest' : List Entry) → ((x : Node) → ShowsNode n x → d ≡ x.state.durable) → OnOk r (longest' ≡ longer longest (decided_log d.part))
+    → OnOk r ((x : Node) → ShowsNode n x → longest' ≡ longer longest (decided_log x.state.durable.part))
+down_decided (Ok v) n d longest longest' same is = λ x shown. is ∙ ap (λ (e : Durable). longer longest (decided_log e.part)) (same x shown)
+down_decided (Err e) n d longest longest' same is = tt
 
--- where a node stands that has stored this part
-pub line_of : (n : WorldNode) (x : Node) (d : Durable) (p : Part) (runs : Running) → ShowsNode n x → d ≡ x.state.durable → d.part ≡ Some p → runs ≡ running_of_state n.state
-    → (let line : NodeLine = record { pid = n.pid; at = Some (p.conf, p.decided, p.trimmed); joining = None; running = runs } in line) ≡ node_line x
-line_of n x d p runs shown same part runs_so =
-    let line : ℕ → Option (ℕ × ℕ × ℕ) → Running → NodeLine = λ pid at r. record { pid = pid; at = at; joining = None; running = r } in
-    let o : Option Part = Some p in
-    ap (λ (k : ℕ). line k (stands_at o x.state.durable.closed) runs) (sym shown.pid)
-    ∙ ap (λ (q : Option Part). line x.pid (stands_at q x.state.durable.closed) runs) (sym part ∙ ap (λ (y : Durable). y.part) same)
-    ∙ ap (λ (r : Running). line x.pid (stands_at x.state.durable.part x.state.durable.closed) r) (runs_so ∙ running_shown n.state x.state x.status shown.state)
-
--- what it has decided
-pub decided_of_part : (x : Node) (d : Durable) (p : Part) → d ≡ x.state.durable → d.part ≡ Some p → take (p.decided - p.trimmed) p.tail.items ≡ decided_log x.state.durable.part
-decided_of_part x d p same part = ap decided_log (sym part ∙ ap (λ (y : Durable). y.part) same)
+pub down_line : {T E : Type 0} (r : Result T E) (n : WorldNode) (d : Durable) (lines lines' : List NodeLine) → ((x : Node) → ShowsNode n x → (d ≡ x.state.durable) × (running_of x.status ≡ running.Down))
+    → OnOk r (lines' ≡ lines ++ line_of n.pid running.Down d ∷ []) → OnOk r ((x : Node) → ShowsNode n x → lines' ≡ lines ++ node_line x ∷ [])
+down_line (Ok v) n d lines lines' same is = λ x shown.
+    let added : ℕ → Running → Durable → List NodeLine = λ pid r e. lines ++ line_of pid r e ∷ [] in
+    is
+    ∙ ap (λ (pid : ℕ). added pid running.Down d) (sym shown.pid)
+    ∙ ap (λ (e : Durable). added x.pid running.Down e) (same x shown).0
+    ∙ ap (λ (r : Running). added x.pid r x.state.durable) (sym (same x shown).1)
+down_line (Err e) n d lines lines' same is = tt

@@ -1,34 +1,14 @@
 -- A world at its start.
-use Rattle.std.proofs.Common.{◌≡◌, ℕ, zero, suc, ◌+◌, ◌<◌, ◌≤◌, Bool, true, false, nat_eq, eqb, List, [], ◌∷◌, ◌++◌, length, map, take, get_or, All, refl, sym, ap, subst, ◌∙◌, arith}
+use Rattle.std.proofs.Common.{◌≡◌, ℕ, zero, suc, ◌+◌, ◌<◌, ◌≤◌, nat_eq, eqb, List, [], ◌∷◌, ◌++◌, length, map, take, get_or, All, refl, sym, ap, subst, ◌∙◌, arith}
 use Rattle.std.proofs.lemmas.Bool.{or_left, or_right, eq-eqb}
 use Rattle.std.proofs.lemmas.List.{map-append, take_more, take_all}
 use Rattle.std.proofs.lemmas.List.Elements.{All-nil, All-push}
 use Rattle.std.specs.Set.{is_member}
-use Rattle.op_types.specs.Ranges.{MembersInRange}
-use Rattle.op_types.specs.declared.durable.Durable.{Durable}
-use Rattle.op_store.specs.Stored.{StandsFor}
-use Rattle.op_store.specs.Openings.{IsFoundIn}
-use Rattle.op_store.proofs.UniqueState.{nothing_or_state}
-use Rattle.op_runs.specs.World.{Node, first_world, first_durable, first_node}
+use Rattle.op_types.specs.Ranges.{IsMember, MembersInRange}
+use Rattle.op_runs.specs.World.{Node, first_world, first_node}
 use Rattle.op_bounds.specs.Laws.{HappeningInRange}
-use Rattle.op_bounds.specs.Messages.{IsMember}
-use Rattle.op_member.specs.Members.{CanOpen}
 use Rattle.op_world.specs.declared.node_state.WorldNode.{WorldNode}
-use Rattle.op_world.specs.Worlds.{Parts, Shows, ShowsNode, ShowNodes, IsKept, IsWorld, HasPart}
-
--- ---- a member
-
--- an opening of an empty disk begins with the fresh state
-pub found_fresh : (fresh d : Durable) (bytes : List ℕ) (is_new : Bool) → bytes ≡ [] → IsFoundIn fresh bytes d is_new → d ≡ fresh
-found_fresh fresh d bytes true none found = found.1
-found_fresh fresh d bytes false none found = absurd (nothing_or_state [] d (false, omega arith) (subst (λ (bs : List ℕ). StandsFor d bs) none found))
-
-pub first_can_open : (members : List ℕ) (pid : ℕ) (d : Durable) → IsMember members pid → d ≡ first_durable members → CanOpen pid d
-first_can_open members pid d member is =
-    subst (λ (x : Durable). CanOpen pid x) (sym is) (_, refl, record { member = member; positions = record { trimmed = omega arith; decided = omega arith; small = omega arith }; rest = refl })
-
-pub first_has_part : (members : List ℕ) (d : Durable) → d ≡ first_durable members → HasPart d
-first_has_part members d is = subst (λ (x : Durable). HasPart x) (sym is) (_, refl)
+use Rattle.op_world.specs.Worlds.{Parts, Shows, ShowsNode, ShowNodes, IsKept, IsWorld}
 
 -- ---- a world
 

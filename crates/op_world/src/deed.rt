@@ -1,6 +1,12 @@
 //! What an event does, and at which node.
+ghost use Rattle.std.specs.Prelude.{◌≡◌, ◌<◌, ℕ, List, true, length, Some, slice_get, IfOk};
+ghost use Rattle.op_runs.specs.Possible.{is_possible};
+ghost use Rattle.op_runs.specs.World as runs;
+ghost use Rattle.op_world.specs.Deeds.{deed_shown};
 
-use op_types::{Input, Pid};
+use crate::sent::Sent;
+use op_types::{Input, Msg, NoMemory, Pid, What};
+use std::alloc::Global;
 
 /// What is done at a node: a step of it, a stop between two steps, an opening, or its ballots are told.
 #[derive(Drop)]
@@ -16,4 +22,54 @@ pub enum Doing {
 pub struct Deed {
     pub pid: Pid,
     pub doing: Doing,
+}
+
+/// What an event does that is possible where these messages were sent. A message that is delivered is copied.
+pub fn deed_of(alloc: Global, messages: &[Sent], what: What) -> Result<Deed, NoMemory>
+    requires { (members : List ℕ) × (is_possible members (length messages.now) what ≡ true) }
+    ensures { IfOk result (λ deed. runs.deed_of messages.now what ≡ Some (deed_shown deed)) }
+{
+    Ok(match what {
+        What::Tick(pid) => stepping(pid, Input::Tick),
+        What::Command(pid, command) => stepping(pid, Input::Command(command)),
+        What::Deliver(number) => delivery(alloc, messages, number as usize)?,
+        What::Up(pid, peer) => stepping(pid, Input::Up(peer)),
+        What::Down(pid, peer) => stepping(pid, Input::Down(peer)),
+        What::Crash(pid) => Deed {
+            pid,
+            doing: Doing::Stops,
+        },
+        What::Start(pid) => Deed {
+            pid,
+            doing: Doing::Opens,
+        },
+        What::Ballots(pid) => Deed {
+            pid,
+            doing: Doing::Tells,
+        },
+    })
+}
+
+/// The message of this number reaches its addressee.
+fn delivery(alloc: Global, messages: &[Sent], number: usize) -> Result<Deed, NoMemory>
+    requires { number < length messages.now }
+    ensures { IfOk result (λ deed.
+        runs.delivery (slice_get messages.now number) ≡ Some (deed_shown deed)) }
+{
+    let sent = &messages[number];
+    let message = Msg {
+        conf: sent.message.conf,
+        body: sent.message.body.copy(alloc)?,
+    };
+    Ok(stepping(sent.to, Input::Deliver(sent.from, message)))
+}
+
+/// A step of a node.
+fn stepping(pid: Pid, input: Input) -> Deed
+    ensures { deed_shown result ≡ record { pid = pid; doing = runs.Steps input } }
+{
+    Deed {
+        pid,
+        doing: Doing::Steps(input),
+    }
 }

@@ -1,17 +1,16 @@
 //! What is done at a node.
 ghost use Rattle.std.specs.Prelude.{◌≡◌, ℕ, [], IfOk};
+ghost use Rattle.op_node.specs.Nodes.{AdmitsInput};
 ghost use Rattle.op_runs.specs.World as runs;
-ghost use Rattle.op_bounds.specs.Messages.{InputInRange};
-ghost use Rattle.op_member.specs.declared.member.Member as declared;
-ghost use Rattle.op_world.specs.declared.node_state.NodeState.TheVariants as node;
-ghost use Rattle.op_world.specs.Worlds.{IsInRange, IsDoneAt, DoingInRange, RunsAs, doing_of};
+ghost use Rattle.op_world.specs.declared.node_state.NodeState.TheVariants as states;
+ghost use Rattle.op_world.specs.Deeds.{doing_of};
+ghost use Rattle.op_world.specs.Worlds.{IsInRange, IsDoneAt, DoingInRange, AdmitsDoing, RunsAs};
 
 use crate::deed::Doing;
-use crate::node_state::{NodeState, forgetting, left_of_store, opened};
+use crate::node_state::{NodeState, forgetting, left_of_node, opened};
 use crate::telling::{ballot_lines, step_lines};
-use op_member::{Member, first_durable, sends_after_restart};
 use op_memory::MemDisk;
-use op_store::Store;
+use op_node::{Given, Node};
 use op_types::{Input, Lines, Members, NoMemory, Pid, Sends};
 use std::alloc::Global;
 
@@ -52,11 +51,9 @@ pub fn done(
     ensures { IfOk result (λ r. IsDoneAt me state (doing_of doing) line r.state r.sends r.told) }
 {
     match state {
-        NodeState::Up(member, store) => {
-            done_while_up(alloc, me, members, member, store, doing, line)
-        }
+        NodeState::Up(node) => done_while_up(alloc, me, node, doing, line),
         NodeState::Down(first, second) => {
-            done_while_down(alloc, me, members, first, second, doing, line)
+            done_while_down(alloc, me, members, first, second, doing)
         }
     }
 }
@@ -65,25 +62,26 @@ pub fn done(
 fn done_while_up(
     alloc: Global,
     me: Pid,
-    members: &Members,
-    member: Member,
-    store: Store<MemDisk>,
+    node: Node<MemDisk>,
     doing: Doing,
     line: u64,
 ) -> Result<NodeDone, NoMemory>
-    requires node { IsInRange members.now me (node.Up member store) }
-    requires doing { DoingInRange members.now (doing_of doing) }
+    requires runs { RunsAs me node }
+    requires admits { AdmitsDoing node (doing_of doing) }
     ensures { IfOk result (λ r.
-        IsDoneAt me (node.Up member store) (doing_of doing) line r.state r.sends r.told) }
+        IsDoneAt me (states.Up node) (doing_of doing) line r.state r.sends r.told) }
 {
     match doing {
-        Doing::Steps(input) => step(alloc, me, members, member, store, input, line),
-        Doing::Stops => stop(alloc, store),
-        Doing::Opens => Ok(NodeDone::only(alloc, NodeState::Up(member, store))),
+        Doing::Steps(input) => step(alloc, me, node, input, line),
+        Doing::Stops => {
+            let (first, second) = left_of_node(alloc, node)?;
+            Ok(NodeDone::only(alloc, NodeState::Down(first, second)))
+        }
+        Doing::Opens => Ok(NodeDone::only(alloc, NodeState::Up(node))),
         Doing::Tells => {
-            let told = ballot_lines(alloc, me, &member)?;
+            let told = ballot_lines(alloc, me, node.ballots())?;
             Ok(NodeDone {
-                state: NodeState::Up(member, store),
+                state: NodeState::Up(node),
                 sends: Sends::new(alloc),
                 told,
             })
@@ -91,7 +89,38 @@ fn done_while_up(
     }
 }
 
-/// Does this at a node that is down, where only an opening does something.
+/// A step of a node that is up. No call of a disk in memory is told to fail, so that one that fails found no memory.
+fn step(
+    alloc: Global,
+    me: Pid,
+    mut node: Node<MemDisk>,
+    input: Input,
+    line: u64,
+) -> Result<NodeDone, NoMemory>
+    requires runs { RunsAs me node }
+    requires admits { AdmitsInput node input }
+    ensures { IfOk result (λ r.
+        IsDoneAt me (states.Up node) (runs.Steps input) line r.state r.sends r.told) }
+{
+    let Ok(given) = node.step(input) else {
+        return Err(NoMemory);
+    };
+    let Given {
+        sends,
+        replies,
+        outcome,
+    } = given;
+    let told = step_lines(alloc, line, me, outcome, replies)?;
+    let node = forgetting(node)?;
+    Ok(NodeDone {
+        state: NodeState::Up(node),
+        sends,
+        told,
+    })
+}
+
+/// Does this at a node that is down. Only an opening does something: the node goes on with what its disks store, and
+/// asks to be prepared.
 fn done_while_down(
     alloc: Global,
     me: Pid,
@@ -99,73 +128,18 @@ fn done_while_down(
     first: MemDisk,
     second: MemDisk,
     doing: Doing,
-    line: u64,
 ) -> Result<NodeDone, NoMemory>
-    requires node { IsInRange members.now me (node.Down first second) }
-    ensures { IfOk result (λ r.
-        IsDoneAt me (node.Down first second) (doing_of doing) line r.state r.sends r.told) }
+    requires { IsInRange members.now me (states.Down first second) }
+    ensures { IfOk result (λ r. (line : ℕ) →
+        IsDoneAt me (states.Down first second) (doing_of doing) line r.state r.sends r.told) }
 {
     if let Doing::Opens = doing {
-        return open(alloc, me, members, first, second);
+        let (node, sends) = opened(alloc, me, members, first, second)?;
+        return Ok(NodeDone {
+            state: NodeState::Up(node),
+            sends,
+            told: Lines::new(alloc),
+        });
     }
     Ok(NodeDone::only(alloc, NodeState::Down(first, second)))
-}
-
-/// A step of a member that is up. No call of a disk in memory is told to fail, so that one that fails found no memory.
-fn step(
-    alloc: Global,
-    me: Pid,
-    members: &Members,
-    mut member: Member,
-    mut store: Store<MemDisk>,
-    input: Input,
-    line: u64,
-) -> Result<NodeDone, NoMemory>
-    requires node { IsInRange members.now me (node.Up member store) }
-    requires input { InputInRange members.now input }
-    ensures { IfOk result (λ r.
-        IsDoneAt me (node.Up member store) (runs.Steps input) line r.state r.sends r.told) }
-{
-    let Ok(given) = member.step(&mut store, input) else {
-        return Err(NoMemory);
-    };
-    let told = step_lines(alloc, line, me, &given)?;
-    let store = forgetting(store)?;
-    Ok(NodeDone {
-        state: NodeState::Up(member, store),
-        sends: given.sends,
-        told,
-    })
-}
-
-/// A member that is up stops between two steps: what a crash leaves of its disks is all that is left of it.
-fn stop(alloc: Global, store: Store<MemDisk>) -> Result<NodeDone, NoMemory>
-    ensures { IfOk result (λ r. (m : declared.Member) (me line : ℕ) → RunsAs me m store →
-        IsDoneAt me (node.Up m store) runs.Stops line r.state r.sends r.told) }
-{
-    let (first, second) = left_of_store(alloc, store)?;
-    Ok(NodeDone::only(alloc, NodeState::Down(first, second)))
-}
-
-/// A member that is down is opened again, with what its disks store, and asks to be prepared.
-fn open(
-    alloc: Global,
-    me: Pid,
-    members: &Members,
-    first: MemDisk,
-    second: MemDisk,
-) -> Result<NodeDone, NoMemory>
-    requires node { IsInRange members.now me (node.Down first second) }
-    ensures { IfOk result (λ r. (line : ℕ) →
-        IsDoneAt me (node.Down first second) runs.Opens line r.state r.sends r.told) }
-{
-    let fresh = first_durable(alloc, members)?;
-    let (store, durable, _) = opened(alloc, fresh, first, second)?;
-    let sends = sends_after_restart(alloc, me, &durable)?;
-    let member = Member::again(alloc, me, durable)?;
-    Ok(NodeDone {
-        state: NodeState::Up(member, store),
-        sends,
-        told: Lines::new(alloc),
-    })
 }

@@ -1,18 +1,19 @@
 //! A node, which has its disks in memory: up or down.
-ghost use Rattle.std.specs.Prelude.{◌≡◌, ◌≤◌, [], length, IfOk};
-ghost use Rattle.op_types.specs.declared.durable.Durable.{Durable as SomeDurable};
+ghost use Rattle.std.specs.Prelude.{◌≡◌, ◌≤◌, [], ℕ, length, IfOk};
+ghost use Rattle.op_types.specs.Ranges.{MembersInRange};
+ghost use Rattle.op_types.specs.declared.durable.Durable as durables;
 ghost use Rattle.op_outside.specs.Disks.{MayLeave};
 ghost use Rattle.op_memory.specs.MemDisks.{seen_of, known_disk};
 ghost use Rattle.op_store.specs.Stored.{IsStored};
-ghost use Rattle.op_store.specs.Stores.{Represents, IsReady};
-ghost use Rattle.op_store.specs.Openings.{Opened};
-ghost use Rattle.op_record.specs.Ranges.{DurableInRange};
-ghost use Rattle.op_world.specs.Worlds.{running_of_state, place_of};
+ghost use Rattle.op_store.specs.Stores.{Represents};
+ghost use Rattle.op_node.specs.Nodes.{node_of};
+ghost use Rattle.op_node.specs.Openings.{Opens};
+ghost use Rattle.op_world.specs.Worlds.{RunsAs, place_of};
 
-use op_member::Member;
 use op_memory::MemDisk;
+use op_node::Node;
 use op_store::Store;
-use op_types::{Durable, NoMemory, Pid, Running};
+use op_types::{Durable, Members, NoMemory, Pid, Sends};
 use std::alloc::Global;
 
 /// A node of a world.
@@ -26,21 +27,9 @@ pub struct WorldNode {
 #[derive(Drop)]
 pub enum NodeState {
     /// It is up, and has its disks open.
-    Up(Member, Store<MemDisk>),
+    Up(Node<MemDisk>),
     /// It is down: its first disk and its second one are all that is left of it.
     Down(MemDisk, MemDisk),
-}
-
-impl NodeState {
-    /// How it runs.
-    pub fn running(&self) -> Running
-        ensures { result ≡ running_of_state self.now }
-    {
-        match self {
-            NodeState::Up(_, _) => Running::Up,
-            NodeState::Down(_, _) => Running::Down,
-        }
-    }
 }
 
 /// An empty disk.
@@ -50,19 +39,35 @@ pub fn empty_disk(alloc: Global) -> Result<MemDisk, NoMemory>
     MemDisk::new(alloc, Vec::new(alloc))
 }
 
-/// Opens disks in memory. No call of them is told to fail, so that one that fails found no memory.
+/// Opens the node of a server on disks in memory. No call of them is told to fail, so that one that fails found no memory.
 pub fn opened(
     alloc: Global,
-    fresh: Durable,
+    me: Pid,
+    members: &Members,
     first: MemDisk,
     second: MemDisk,
-) -> Result<(Store<MemDisk>, Durable, bool), NoMemory>
-    requires { DurableInRange fresh }
-    ensures { IfOk result (λ o. Opened known_disk fresh
-        (record { first = known_disk first; second = known_disk second }) o.0 o.1 o.2) }
+) -> Result<(Node<MemDisk>, Sends), NoMemory>
+    requires { MembersInRange members.now }
+    ensures { IfOk result (λ o. Opens known_disk me members.now
+        (record { first = known_disk first; second = known_disk second }) o.0 o.1) }
 {
-    match Store::open(alloc, fresh, first, second) {
+    match Node::open(alloc, me, members, first, second) {
         Ok(opened) => Ok(opened),
+        Err(_) => Err(NoMemory),
+    }
+}
+
+/// What two disks store.
+pub fn stored(alloc: Global, first: MemDisk, second: MemDisk) -> Result<Durable, NoMemory>
+    ensures { IfOk result (λ d. (e : durables.Durable) →
+        IsStored e (seen_of first) (seen_of second) → d ≡ e) }
+{
+    let fresh = Durable {
+        part: None,
+        closed: None,
+    };
+    match Store::open(alloc, fresh, first, second) {
+        Ok((_store, durable, _)) => Ok(durable),
         Err(_) => Err(NoMemory),
     }
 }
@@ -75,26 +80,25 @@ fn left_of_disk(alloc: Global, disk: MemDisk) -> Result<MemDisk, NoMemory>
     MemDisk::new(alloc, image)
 }
 
-/// The disks that a crash leaves of an open store.
-pub fn left_of_store(alloc: Global, store: Store<MemDisk>) -> Result<(MemDisk, MemDisk), NoMemory>
-    ensures { IfOk result (λ x. (d : SomeDurable) → Represents known_disk d store →
+/// The disks that a crash leaves of an open node.
+pub fn left_of_node(alloc: Global, node: Node<MemDisk>) -> Result<(MemDisk, MemDisk), NoMemory>
+    ensures { IfOk result (λ x. (d : durables.Durable) → Represents known_disk d node.store →
         IsStored d (seen_of x.0) (seen_of x.1)) }
 {
-    let (first, second) = store.into_disks();
+    let (_rest, first, second) = node.park();
     let first = left_of_disk(alloc, first)?;
     let second = left_of_disk(alloc, second)?;
     Ok((first, second))
 }
 
-/// The same store, over a first disk that no longer keeps its old calls. The second one isn't called in a step.
-pub fn forgetting(store: Store<MemDisk>) -> Result<Store<MemDisk>, NoMemory>
-    ensures ready { IfOk result (λ s. IsReady store → IsReady s) }
-    ensures same { IfOk result (λ s. (d : SomeDurable) → Represents known_disk d store →
-        Represents known_disk d s) }
+/// The same node, over a first disk that no longer keeps its old calls. The second one isn't called in a step.
+pub fn forgetting(node: Node<MemDisk>) -> Result<Node<MemDisk>, NoMemory>
+    ensures same { IfOk result (λ n. node_of n ≡ node_of node) }
+    ensures runs { IfOk result (λ n. (pid : ℕ) → RunsAs pid node → RunsAs pid n) }
 {
-    let (detached, first, second) = store.into_parts();
+    let (rest, first, second) = node.park();
     let first = first.forget()?;
-    Ok(Store::from_parts(detached, first, second))
+    Ok(Node::resume(rest, first, second))
 }
 
 /// The nodes' place of an id: how many nodes stand before it, or how many there are where none has it.

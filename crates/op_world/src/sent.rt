@@ -1,4 +1,8 @@
-use op_types::{Msg, Pid};
+//! The messages that were sent.
+ghost use Rattle.std.specs.Prelude.{◌≡◌, ◌++◌, OnOk};
+ghost use Rattle.op_runs.specs.World.{sent_by};
+
+use op_types::{Msg, NoMemory, Pid, Sends};
 use std::marker::Model;
 
 /// A message, from one node to another.
@@ -15,4 +19,14 @@ impl Model for Sent {
     ghost Value = { runs.Sent };
 
     ghost view = { λ s. record { from = s.from; to = s.to; message = s.message } };
+}
+
+/// Adds what a node sends.
+pub fn send_all(messages: &mut Vec<Sent>, from: Pid, sends: Sends) -> Result<(), NoMemory>
+    ensures { OnOk result (messages.new.items ≡ messages.old.items ++ sent_by from sends) }
+{
+    'sends: for (to, message) in sends.into_vec() {
+        messages.push(Sent { from, to, message })?;
+    }
+    Ok(())
 }

@@ -1,58 +1,80 @@
-//! The lines that a step gives to be reported.
+//! The lines that are reported of what is done at a node.
 ghost use Rattle.std.specs.Prelude.{◌≡◌, ◌++◌, map, IfOk, OnOk};
+ghost use Rattle.op_chain.specs.Chains.{ballots_in};
 ghost use Rattle.op_protocol.specs.State.{State};
 ghost use Rattle.op_runs.specs.World.{answer_line, outcome_lines, ballot_lines};
-ghost use Rattle.op_member.specs.Members.{IsStateOf};
 
-use op_member::{Given, Member};
-use op_types::{Answer, Line, Lines, NoMemory, Pid, Reply};
+use op_types::{Answer, Ballot, Line, Lines, NoMemory, Outcome, Pid, Replies, Reply};
 use std::alloc::Global;
 
 /// The line of what a client is answered at a node.
-fn answer_line(pid: Pid, reply: &Reply) -> Line
-    ensures { result ≡ answer_line pid reply.now.client reply.now.seq reply.now.answer }
+fn answer_line(pid: Pid, reply: Reply) -> Line
+    ensures { result ≡ answer_line pid reply.client reply.seq reply.answer }
 {
-    match reply.answer {
-        Answer::Done => Line::Reply(pid, reply.client, reply.seq, Answer::Done),
-        Answer::Stale => Line::Reply(pid, reply.client, reply.seq, Answer::Stale),
-        Answer::Dropped(cause) => Line::Dropped(pid, reply.client, reply.seq, cause),
+    let Reply {
+        client,
+        seq,
+        answer,
+    } = reply;
+    match answer {
+        Answer::Dropped(cause) => Line::Dropped(pid, client, seq, cause),
+        answer => Line::Reply(pid, client, seq, answer),
     }
 }
 
-/// The lines of a step at a node, said in this line of the schedule: what a proposal is answered at once, and then what clients are
-/// answered.
-pub fn step_lines(alloc: Global, line: u64, pid: Pid, given: &Given) -> Result<Lines, NoMemory>
-    ensures { IfOk result (λ lines. lines ≡ outcome_lines line given.now.outcome
-        ++ map (λ r. answer_line pid r.client r.seq r.answer) given.now.replies) }
+/// The lines of a step at a node, said in this line of the schedule: what a proposal is answered at once, and then what
+/// clients are answered.
+pub fn step_lines(
+    alloc: Global,
+    line: u64,
+    pid: Pid,
+    outcome: Option<Outcome>,
+    replies: Replies,
+) -> Result<Lines, NoMemory>
+    ensures { IfOk result (λ lines. lines ≡ outcome_lines line outcome
+        ++ map (λ r. answer_line pid r.client r.seq r.answer) replies) }
 {
     let mut lines = Lines::new(alloc);
-    if let Some(outcome) = given.outcome {
+    if let Some(outcome) = outcome {
         lines.push(Line::Answer(line, outcome))?;
     }
-    push_answers(&mut lines, pid, given.replies.as_slice())?;
+    push_answers(&mut lines, pid, replies)?;
     Ok(lines)
 }
 
 /// Adds the lines of what clients are answered.
-fn push_answers(lines: &mut Lines, pid: Pid, replies: &[Reply]) -> Result<(), NoMemory>
+fn push_answers(lines: &mut Lines, pid: Pid, replies: Replies) -> Result<(), NoMemory>
     ensures { OnOk result (lines.new ≡ lines.old
-        ++ map (λ r. answer_line pid r.client r.seq r.answer) replies.now) }
+        ++ map (λ r. answer_line pid r.client r.seq r.answer) replies) }
 {
-    'replies: for reply in replies {
+    'replies: for reply in replies.into_vec() {
         lines.push(answer_line(pid, reply))?;
     }
     Ok(())
 }
 
-/// The line of a member's ballots, if it has a part.
-pub fn ballot_lines(alloc: Global, pid: Pid, member: &Member) -> Result<Lines, NoMemory>
-    ensures { IfOk result (λ lines. (s : State) → IsStateOf member.now s →
+/// The line of a node's ballots, if it has a part: its own, the leader's, and the promised one.
+pub fn ballot_lines(
+    alloc: Global,
+    pid: Pid,
+    ballots: Option<(Ballot, Ballot, Ballot)>,
+) -> Result<Lines, NoMemory>
+    ensures { IfOk result (λ lines. (s : State) → ballots ≡ ballots_in s.volatile s.durable.part →
         lines ≡ ballot_lines pid s s.durable.part) }
 {
     let mut lines = Lines::new(alloc);
-    if let Some(part) = &member.durable.part {
-        let election = &member.volatile.election;
-        lines.push(Line::Ballots(pid, election.own(), election.leader(), part.promised))?;
+    if let Some((own, leader, promised)) = ballots {
+        lines.push(Line::Ballots(pid, own, leader, promised))?;
     }
     Ok(lines)
+}
+
+/// Adds lines.
+pub fn tell_all(lines: &mut Lines, told: Lines) -> Result<(), NoMemory>
+    ensures { OnOk result (lines.new ≡ lines.old ++ told) }
+{
+    'told: for line in told.into_vec() {
+        lines.push(line)?;
+    }
+    Ok(())
 }

@@ -1,9 +1,9 @@
 use Rattle.std.proofs.Common.{◌<◌, List, length, insert, refl, sym, ap, subst, ◌∙◌, arith}
-use Rattle.op_bounds.specs.Messages.{IsMember}
+use Rattle.op_types.specs.Ranges.{IsMember}
 use Rattle.op_pure.specs.Happenings.{fate_of}
 use Rattle.op_pure.specs.declared.node.PureNode.{PureNode}
 use Rattle.op_pure.specs.Worlds.{Parts, Shows, Does, place_of}
-use Rattle.op_pure.proofs.Deeds.{IsDeedDone, place_there, node_kept, deed_shows, deed_kept}
+use Rattle.op_pure.proofs.Deeds.{IsDeedDone, place_there, can_do, deed_shows, deed_kept}
 use Rattle.op_pure.proofs.world.PureWorld.done.Goals as goal
 
 pub remove-node-requires : goal.remove-node-requires
@@ -19,9 +19,12 @@ pub happens-requires : goal.happens-requires
 happens-requires c =
     let i = c.self.inside in
     let w : Parts = record { members = i.members; nodes = i.nodes.items; messages = i.messages.items; lines = i.lines } in
+    let f = fate_of c.args.fate in
     let member : IsMember w.members c.args.deed.pid = subst (λ (v : Parts). IsMember v.members c.args.deed.pid) (sym c.self.view_is) c.requires.member in
     let place = c.place_of-place.ensures.place ∙ ap (λ (ns : List PureNode). place_of ns c.args.deed.pid) c.deref.ensures.value in
-    node_kept w c.self.invariant c.args.deed.pid c.place_of-place.result c.remove-node.result (record { member = member; place = place; node = c.remove-node.ensures.value })
+    let h = c.requires.happens in
+    let does : Does w.messages h.0 c.args.deed f c.args.finds_after c.args.line = subst (λ (x : Parts). Does x.messages h.0 c.args.deed f c.args.finds_after c.args.line) (sym c.self.view_is) h.2 in
+    can_do w c.self.invariant c.args.deed f c.args.finds_after c.args.line c.place_of-place.result c.remove-node.result (record { member = member; place = place; node = c.remove-node.ensures.value }) h.0 h.1 does
 
 pub invariant_of-result : goal.invariant_of-result
 invariant_of-result c =

@@ -1,7 +1,8 @@
 use Rattle.std.proofs.Common.{◌≡◌, ◌<◌, List, length, insert, Some, refl, sym, ap, subst, ◌∙◌, arith}
 use Rattle.op_runs.specs.World.{deed_of}
 use Rattle.op_world.specs.declared.node_state.WorldNode.{WorldNode}
-use Rattle.op_world.specs.Worlds.{Parts, Shows, IsPossibleDeed, place_of, deed_shown}
+use Rattle.op_world.specs.Deeds.{deed_shown}
+use Rattle.op_world.specs.Worlds.{Parts, Shows, IsPossibleDeed, place_of}
 use Rattle.op_world.proofs.Deeds.{IsDeedDone, place_there, node_in_range, deed_shows, deed_kept}
 use Rattle.op_world.proofs.world.World.done.Goals as goal
 

@@ -1,6 +1,0 @@
-use Rattle.std.specs.Vec.Iter.{into_iter_items}
-use Rattle.op_world.proofs.StandingNodes.{Gathers}
-use Rattle.op_world.proofs.standing.standing.Given as goal
-
-abbrev pub invariant-nodes : goal.invariant-nodes
-invariant-nodes l = Gathers l.fn.nodes.items (into_iter_items l.node-iterator) l.longest l.lines

@@ -1,0 +1,16 @@
+-- What an event does, as the code has it and as the world has it.
+use Rattle.op_runs.specs.World.{Doing, Steps, Stops, Opens, Tells, Deed}
+use Rattle.op_world.specs.declared.deed.Deed as deed
+use Rattle.op_world.specs.declared.deed.Doing as doing
+use Rattle.op_world.specs.declared.deed.Doing.TheVariants as variant
+
+-- what is done
+abbrev pub doing_of : doing.Doing → Doing
+doing_of (variant.Steps x) = Steps x
+doing_of variant.Stops = Stops
+doing_of variant.Opens = Opens
+doing_of variant.Tells = Tells
+
+-- the same, with its node
+abbrev pub deed_shown : deed.Deed → Deed
+deed_shown d = record { pid = d.pid; doing = doing_of d.doing }
