@@ -5,8 +5,8 @@ use Rattle.std.proofs.lemmas.List.{flat_map_more}
 use Rattle.std.proofs.lemmas.List.Elements.{All-head, All-nil, All-push, All-same, All-tail}
 use Rattle.std.specs.List.{flat_map}
 use Rattle.std.specs.Option.{IfNone}
-use Rattle.op_sched.specs.Percent.{AreBytes, AreEncoded, BeginsEncoded, BeginsEscaped, IsEncoded, escaped, is_plain, encoded, encoded_byte, percent}
-use Rattle.op_sched.proofs.UnambiguousEncoding.{IsByte, encoded_as, first_same, percent_is_escaped}
+use Rattle.op_sched.specs.Percent.{AreBytes, AreEncoded, BeginsEncoded, BeginsEscaped, CountsEncoded, EncodesCount, IsEncoded, IsEncodedWithin, escaped, is_plain, encoded, encoded_byte, percent}
+use Rattle.op_sched.proofs.UnambiguousEncoding.{IsByte, encoded_as, first_same, one_encoding_of, percent_is_escaped}
 
 -- no bytes are encoded as the word, one after the other
 abbrev pub EncodesNone : List ℕ → Type 0
@@ -109,3 +109,22 @@ read_more bytes more b rest after word before some first one =
 pub read_all : (bytes rest word : List ℕ) → IsReadTo bytes rest word → length rest ≡ 0 → AreEncoded word bytes
 read_all bytes [] word before end = (before.small, sym (append-nil (flat_map encoded_byte bytes)) ∙ before.read)
 read_all bytes (b ∷ rest) word before end = absurd (omega arith)
+
+-- ---- how many bytes a word encodes
+
+pub count_whole : (word : List ℕ) (count : ℕ) → 0 < length word → CountsEncoded word count → EncodesCount word count
+count_whole word count some h = (h.0, encoded_whole word h.0 some h.1, h.2)
+
+pub count_each : (word : List ℕ) (count : ℕ) → (word ≡ percent ∷ [] → ⊥) → EncodesCount word count → CountsEncoded word count
+count_each word count other h = (h.0, encoded_each word h.0 other h.1, h.2)
+
+-- a word that encodes so many bytes
+pub within_by_count : (word : List ℕ) (least most count : ℕ) → EncodesCount word count → least ≤ count → count ≤ most → (bytes : List ℕ) × IsEncodedWithin least most word bytes
+within_by_count word least most count h low high = (h.0, (omega (arith, h.2), omega (arith, h.2), h.1))
+
+-- encodes no other number of them
+pub count_within : (word : List ℕ) (least most count : ℕ) → EncodesCount word count → (bytes : List ℕ) × IsEncodedWithin least most word bytes → (least ≤ count) × (count ≤ most)
+count_within word least most count h found =
+    let same : h.0 ≡ found.0 = one_encoding_of h.0 found.0 h.1.0 found.1.2.0 (h.1.1 ∙ sym found.1.2.1) in
+    let equal : count ≡ length found.0 = sym h.2 ∙ ap length same in
+    (omega (arith, equal, found.1.0), omega (arith, equal, found.1.1))

@@ -4,7 +4,7 @@ use Rattle.std.specs.Result.{IfOk}
 use Rattle.std.proofs.lemmas.Result.{IfOk-weaker}
 use Rattle.op_sched.specs.Found.{IsFound}
 
-found_as : {T : Type 0} (P Q : T → Type 0) → ((x : T) → P x → Q x) → ((x : T) → Q x → P x) → (o : Option T) → IsFound P o → IsFound Q o
+pub found_as : {T : Type 0} (P Q : T → Type 0) → ((x : T) → P x → Q x) → ((x : T) → Q x → P x) → (o : Option T) → IsFound P o → IsFound Q o
 found_as P Q to from (Some x) h = to x h
 found_as P Q to from None h = λ x q. h x (from x q)
 

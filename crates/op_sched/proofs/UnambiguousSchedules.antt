@@ -6,14 +6,14 @@ use Rattle.std.proofs.lemmas.Fmt.{decimal_injective}
 use Rattle.std.proofs.lemmas.Slice.Eq.{bytes_eq-Decides}
 use Rattle.std.proofs.lemmas.List.Elements.{All-cons}
 use Rattle.op_types.specs.declared.log.Op.{Op}
-use Rattle.op_types.specs.declared.log.Op.TheVariants.{Put}
+use Rattle.op_types.specs.declared.log.Op.TheVariants.{Put, Del, Get, Cas}
 use Rattle.op_types.specs.declared.log.Command.{Command}
 use Rattle.op_types.specs.declared.events.What.{What}
 use Rattle.op_types.specs.declared.events.What.TheVariants as what
 use Rattle.op_types.specs.declared.events.Event.{Event}
 use Rattle.op_sched.specs.declared.schedule.Schedule.{Schedule}
 use Rattle.op_sched.proofs.UnambiguousEncoding.{one_encoding_of}
-use Rattle.op_types.specs.Ranges.{IsPid, IsNumber, AreRising, MembersInRange, CommandInRange, WhatInRange}
+use Rattle.op_types.specs.Ranges.{IsPid, IsNumber, IsPut, AreRising, MembersInRange, CommandInRange, WhatInRange}
 use Rattle.op_sched.specs.Grammar.{IsHeader, IsOfBytes, IsBetweenTwo, OpIsOfBytes, AreInRange, AreOfBytes, AreBetweenTwo, AreEvents, AreLines, IsSchedule, IsFirstBadEvent, IsFirstBadOf, IsFirstBadLine, AreWordsOf, op_words, what_words, words_of, lines_of, numbered_lines}
 use Rattle.op_sched.proofs.EventWords.{first, after_first, name_of, named}
 
@@ -38,21 +38,27 @@ one_pid : (p q : ℕ) → IsPid p → IsPid q → decimal p ≡ decimal q → p 
 one_pid p q ip iq e = decimal_injective p q (omega arith) (omega arith) e
 
 -- two lines with different names differ
-one_name : (w v : What) → what_words w ≡ what_words v → name_of w ≡ name_of v
-one_name w v e = sym (named w) ∙ ap first e ∙ named v
+one_name : (w v : What) → WhatInRange w → WhatInRange v → what_words w ≡ what_words v → name_of w ≡ name_of v
+one_name w v iw iv e = sym (named w iw) ∙ ap first e ∙ named v iv
 
 abbrev command : ℕ → ℕ → Op → Command
 command client seq op = record { client = client; seq = seq; op = op }
 
-one_op : (p q a b m n : ℕ) (o r : Op) → IsPid p → IsPid q → IsNumber a → IsNumber b → IsNumber m → IsNumber n → OpIsOfBytes o → OpIsOfBytes r → op_words p a m o ≡ op_words q b n r → (p ≡ q) × (a ≡ b) × (m ≡ n) × (o ≡ r)
-one_op p q a b m n (Put k v) (Put l w) hp hq ha hb hm hn io ir e =
+one_op : (p q a b m n : ℕ) (o r : Op) → IsPid p → IsPid q → IsNumber a → IsNumber b → IsNumber m → IsNumber n → IsPut o → IsPut r → OpIsOfBytes o → OpIsOfBytes r → op_words p a m o ≡ op_words q b n r → (p ≡ q) × (a ≡ b) × (m ≡ n) × (o ≡ r)
+one_op p q a b m n (Put k v) (Put l w) hp hq ha hb hm hn po pr io ir e =
     let keys = one_encoding_of k l io.0 ir.0 cc in
     let values = one_encoding_of v w io.1 ir.1 cc in
     (one_pid p q hp hq cc, decimal_injective a b (omega arith) (omega arith) cc, decimal_injective m n (omega arith) (omega arith) cc, cc (keys, values))
+one_op p q a b m n o (Del l) hp hq ha hb hm hn po pr io ir e = absurd pr
+one_op p q a b m n o (Get l) hp hq ha hb hm hn po pr io ir e = absurd pr
+one_op p q a b m n o (Cas l w x) hp hq ha hb hm hn po pr io ir e = absurd pr
+one_op p q a b m n (Del k) r hp hq ha hb hm hn po pr io ir e = absurd po
+one_op p q a b m n (Get k) r hp hq ha hb hm hn po pr io ir e = absurd po
+one_op p q a b m n (Cas k v u) r hp hq ha hb hm hn po pr io ir e = absurd po
 
-one_command : (p q : ℕ) (c d : Command) → IsPid p → IsPid q → CommandInRange c → CommandInRange d → OpIsOfBytes c.op → OpIsOfBytes d.op → op_words p c.client c.seq c.op ≡ op_words q d.client d.seq d.op → what.Command p c ≡ what.Command q d
-one_command p q c d hp hq ic id bc bd e =
-    let same = one_op p q c.client d.client c.seq d.seq c.op d.op hp hq ic.client id.client ic.seq id.seq bc bd e in
+one_command : (p q : ℕ) (c d : Command) → IsPid p → IsPid q → CommandInRange c → CommandInRange d → IsPut c.op → IsPut d.op → OpIsOfBytes c.op → OpIsOfBytes d.op → op_words p c.client c.seq c.op ≡ op_words q d.client d.seq d.op → what.Command p c ≡ what.Command q d
+one_command p q c d hp hq ic id pc pd bc bd e =
+    let same = one_op p q c.client d.client c.seq d.seq c.op d.op hp hq ic.client id.client ic.seq id.seq pc pd bc bd e in
     let here : c ≡ d = cc (ap (λ (x : ℕ). command x c.seq c.op) same.1, ap (λ (x : ℕ). command d.client x c.op) same.2, ap (λ (x : Op). command d.client d.seq x) same.3) in
     ap (λ (x : ℕ). what.Command x c) same.0 ∙ ap (what.Command q) here
 
@@ -64,8 +70,8 @@ one_what (what.Ballots p) (what.Ballots q) iw iv bw bv e = ap what.Ballots (one_
 one_what (what.Deliver i) (what.Deliver j) iw iv bw bv e = ap what.Deliver (decimal_injective i j iw iv cc)
 one_what (what.Up p q) (what.Up r s) iw iv bw bv e = cc (one_pid p r iw.0 iv.0 cc, one_pid q s iw.1 iv.1 cc)
 one_what (what.Down p q) (what.Down r s) iw iv bw bv e = cc (one_pid p r iw.0 iv.0 cc, one_pid q s iw.1 iv.1 cc)
-one_what (what.Command p c) (what.Command q d) iw iv bw bv e = one_command p q c d iw.0 iv.0 iw.1 iv.1 bw bv e
-one_what w v iw iv bw bv e = absurd (false≢true ((bytes_eq-Decides (name_of w) (name_of v)).1 (one_name w v e)))
+one_what (what.Command p c) (what.Command q d) iw iv bw bv e = one_command p q c d iw.0 iv.0 iw.1 iv.1 iw.2 iv.2 bw bv e
+one_what w v iw iv bw bv e = absurd (false≢true ((bytes_eq-Decides (name_of w) (name_of v)).1 (one_name w v iw iv e)))
 
 abbrev event : ℕ → What → Event
 event line w = record { line = line; what = w }

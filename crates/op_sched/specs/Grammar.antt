@@ -4,7 +4,7 @@ use Rattle.std.specs.Prelude.{List, [], ◌∷◌, length, map, All, codes, deci
 use Rattle.std.specs.List.{slice_split}
 use Rattle.op_types.specs.Ranges.{MembersInRange, WhatInRange}
 use Rattle.op_types.specs.declared.log.Op.{Op}
-use Rattle.op_types.specs.declared.log.Op.TheVariants.{Put}
+use Rattle.op_types.specs.declared.log.Op.TheVariants.{Put, Del, Get, Cas}
 use Rattle.op_types.specs.declared.events.What.{What}
 use Rattle.op_types.specs.declared.events.What.TheVariants as what
 use Rattle.op_types.specs.declared.events.Event.{Event}
@@ -67,10 +67,13 @@ IsHeader line members = AreHeaderWords (words_of line) members
 
 -- ---- events
 
--- the words of a client's operation at a server
+-- the words of a client's operation at a server; one that is no put has none yet
 abbrev pub op_words : ℕ → ℕ → ℕ → Op → List (List ℕ)
 op_words p client seq (Put key value) =
     codes "put" ∷ decimal p ∷ decimal client ∷ decimal seq ∷ encoded key ∷ encoded value ∷ []
+op_words p client seq (Del key) = []
+op_words p client seq (Get key) = []
+op_words p client seq (Cas key old new) = []
 
 -- the words of what happens: its name, and what it needs
 abbrev pub what_words : What → List (List ℕ)
@@ -83,9 +86,12 @@ what_words (what.Crash p) = codes "crash" ∷ decimal p ∷ []
 what_words (what.Start p) = codes "start" ∷ decimal p ∷ []
 what_words (what.Ballots p) = codes "ballots" ∷ decimal p ∷ []
 
--- the operation's key and value are bytes
+-- the operation's key and values are bytes
 abbrev pub OpIsOfBytes : Op → Type 0
 OpIsOfBytes (Put key value) = AreBytes key × AreBytes value
+OpIsOfBytes (Del key) = AreBytes key
+OpIsOfBytes (Get key) = AreBytes key
+OpIsOfBytes (Cas key old new) = AreBytes key × AreBytes old × AreBytes new
 
 -- the keys and values of what happens are bytes
 abbrev pub IsOfBytes : What → Type 0

@@ -1,6 +1,6 @@
 -- The percent encoding of keys and values.
-use Rattle.std.specs.Prelude.{◌≡◌, ◌==◌, ℕ, ◌/◌, ◌%◌, ◌<◌, Bool, true, false, ◌||◌, IsTrue, if◌then◌else◌}
-use Rattle.std.specs.Prelude.{List, [], ◌∷◌, ◌++◌, All}
+use Rattle.std.specs.Prelude.{◌≡◌, ◌==◌, ℕ, ◌/◌, ◌%◌, ◌<◌, ◌≤◌, Bool, true, false, ◌||◌, IsTrue, if◌then◌else◌}
+use Rattle.std.specs.Prelude.{List, [], ◌∷◌, ◌++◌, length, All}
 use Rattle.std.specs.Char.{is_ascii_alphanumeric}
 use Rattle.std.specs.Fmt.{digit_glyph}
 use Rattle.std.specs.List.{flat_map, list_all}
@@ -57,3 +57,15 @@ AreEncoded word bytes = AreBytes bytes × (flat_map encoded_byte bytes ≡ word)
 -- the word encodes these bytes
 abbrev pub IsEncoded : List ℕ → List ℕ → Type 0
 IsEncoded word bytes = AreBytes bytes × (encoded bytes ≡ word)
+
+-- the word is so many bytes' encodings, one after the other
+abbrev pub CountsEncoded : List ℕ → ℕ → Type 0
+CountsEncoded word count = (bytes : List ℕ) × AreEncoded word bytes × (length bytes ≡ count)
+
+-- the word encodes so many bytes
+abbrev pub EncodesCount : List ℕ → ℕ → Type 0
+EncodesCount word count = (bytes : List ℕ) × IsEncoded word bytes × (length bytes ≡ count)
+
+-- the word encodes these bytes, which are from `least` to `most`
+abbrev pub IsEncodedWithin : ℕ → ℕ → List ℕ → List ℕ → Type 0
+IsEncodedWithin least most word bytes = (least ≤ length bytes) × (length bytes ≤ most) × IsEncoded word bytes

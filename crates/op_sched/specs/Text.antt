@@ -3,7 +3,7 @@ use Rattle.std.specs.Prelude.{◌+◌, ℕ, List, [], ◌∷◌, ◌++◌, codes
 use Rattle.std.specs.List.{flat_map}
 use Rattle.op_types.specs.declared.ballot.Ballot.{Ballot}
 use Rattle.op_types.specs.declared.log.Op.{Op}
-use Rattle.op_types.specs.declared.log.Op.TheVariants.{Put}
+use Rattle.op_types.specs.declared.log.Op.TheVariants.{Put, Del, Get, Cas}
 use Rattle.op_types.specs.declared.log.Entry.{Entry}
 use Rattle.op_types.specs.declared.log.Entry.TheVariants as entry
 use Rattle.op_types.specs.declared.answers.Outcome.{Outcome}
@@ -27,6 +27,7 @@ use Rattle.op_sched.specs.Percent.{encoded}
 
 -- why a proposal is refused
 abbrev pub refusal_text : Refusal → List ℕ
+refusal_text (refusal.StorageFailed count) = codes "storage " ++ decimal count
 refusal_text (refusal.PendingStop pos) = codes "pending " ++ decimal pos
 refusal_text refusal.NoLeader = codes "noleader"
 refusal_text refusal.PositionsEnd = codes "end"
@@ -51,6 +52,8 @@ cause_text cause.End = codes "end"
 -- what a command is answered
 abbrev pub answer_text : Answer → List ℕ
 answer_text answer.Done = codes "done"
+answer_text (answer.Value value) = codes "value " ++ encoded value
+answer_text answer.Absent = codes "absent"
 answer_text answer.Stale = codes "stale"
 answer_text (answer.Dropped cause) = codes "dropped " ++ cause_text cause
 
@@ -74,11 +77,17 @@ line_text (line.Ballots pid own leader promised) =
 abbrev pub pid_text : ℕ → List ℕ
 pid_text p = codes " " ++ decimal p
 
+-- a client, the number of its command, and a key, each after a space
+abbrev pub keyed_text : ℕ → ℕ → List ℕ → List ℕ
+keyed_text client seq key = codes " " ++ decimal client ++ codes " " ++ decimal seq ++ codes " " ++ encoded key
+
 -- a client's operation
 abbrev pub op_text : ℕ → ℕ → Op → List ℕ
-op_text client seq (Put key value) =
-    codes "put " ++ decimal client ++ codes " " ++ decimal seq ++ codes " " ++ encoded key ++ codes " "
-    ++ encoded value
+op_text client seq (Put key value) = codes "put" ++ keyed_text client seq key ++ codes " " ++ encoded value
+op_text client seq (Del key) = codes "del" ++ keyed_text client seq key
+op_text client seq (Get key) = codes "get" ++ keyed_text client seq key
+op_text client seq (Cas key old new) =
+    codes "cas" ++ keyed_text client seq key ++ codes " " ++ encoded old ++ codes " " ++ encoded new
 
 -- what a log holds at a position
 abbrev pub entry_text : Entry → List ℕ

@@ -1,10 +1,12 @@
 pub mod AddressTexts
-pub mod FoundAlike
 pub mod KeyValues
 pub mod OnePeers
 pub mod PeerIds
 pub mod PeerRows
 pub mod Readings
 pub mod RisingIds
+pub mod Flags
+pub mod PutWords
 pub mod Taken
+pub mod TaskWords
 pub mod Words

@@ -1,5 +1,5 @@
 -- The text of an address.
-use Rattle.std.specs.Prelude.{◌≡◌, ◌≤◌, ◌<◌, ◌^◌, ℕ, List, ◌++◌, codes, decimal}
+use Rattle.std.specs.Prelude.{◌≡◌, ◌≤◌, ◌<◌, ◌^◌, ℕ, List, ◌++◌, All, codes, decimal}
 use Rattle.std.specs.Int.{w32, to_be_bytes}
 use Rattle.std.specs.Net.Text.{ipv4_text}
 use Rattle.std.specs.Net.Socket.{IsSocketAddrV4}
@@ -24,3 +24,11 @@ IsAddr text a = AddrInRange a × (text ≡ addr_text a)
 -- the text is this address of std, whose port has no leading zeros. Only what is inside the crate speaks of this
 abbrev pub IsSocketText : List ℕ → SocketAddrV4 → Type 0
 IsSocketText text s = IsSocketAddrV4 s × (text ≡ socket_v4_text s)
+
+-- the byte `:`, before the port
+abbrev pub colon : ℕ
+colon = 58
+
+-- no byte is `:`
+abbrev pub HasNoColon : List ℕ → Type 0
+HasNoColon text = All (λ b. b ≡ colon → ⊥) text

@@ -1,6 +1,5 @@
 pub mod Tasks
 pub mod Commands
-pub mod Found
 pub mod Addresses
 pub mod Settings
 pub mod Causes

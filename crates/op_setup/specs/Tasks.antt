@@ -1,16 +1,68 @@
 -- What the words of the command line ask.
-use Rattle.std.specs.Prelude.{◌≡◌, ℕ, List, [], ◌∷◌, codes, nat_eq, Bool}
+use Rattle.std.specs.Prelude.{◌≡◌, ℕ, List, [], ◌∷◌, codes, decimal, nat_eq, Bool}
 use Rattle.std.specs.List.{starts_with, list_any}
+use Rattle.op_types.specs.Ranges.{CommandInRange, IsPid, IsPut}
+use Rattle.op_types.specs.declared.log.Op.{Op}
+use Rattle.op_types.specs.declared.log.Op.TheVariants.{Put, Del, Get, Cas}
+use Rattle.op_types.specs.declared.events.Request.{Request}
+use Rattle.op_types.specs.declared.events.Request.TheVariants as request
+use Rattle.op_sched.specs.Grammar.{OpIsOfBytes}
+use Rattle.op_sched.specs.Percent.{encoded}
+use Rattle.op_setup.specs.Addresses.{AddrInRange, addr_text}
 use Rattle.op_setup.specs.declared.tasks.Task.{Task}
-use Rattle.op_setup.specs.declared.tasks.Task.TheVariants.{Replay}
+use Rattle.op_setup.specs.declared.tasks.Task.TheVariants.{Node, Replay, Call, Cluster}
+
+-- the words of a client's operation
+abbrev pub op_words : ℕ → ℕ → Op → List (List ℕ)
+op_words client seq (Put key value) = codes "put" ∷ decimal client ∷ decimal seq ∷ encoded key ∷ encoded value ∷ []
+op_words client seq (Del key) = codes "del" ∷ decimal client ∷ decimal seq ∷ encoded key ∷ []
+op_words client seq (Get key) = codes "get" ∷ decimal client ∷ decimal seq ∷ encoded key ∷ []
+op_words client seq (Cas key old new) =
+    codes "cas" ∷ decimal client ∷ decimal seq ∷ encoded key ∷ encoded old ∷ encoded new ∷ []
+
+-- the words of a request
+abbrev pub request_words : Request → List (List ℕ)
+request_words (request.Command c) = op_words c.client c.seq c.op
+request_words request.Status = codes "status" ∷ []
+request_words request.End = codes "end" ∷ []
 
 -- the words that ask for a task
 abbrev pub task_words : Task → List (List ℕ)
+task_words (Node id) = codes "node" ∷ decimal id ∷ []
 task_words Replay = codes "replay" ∷ []
+task_words (Call addr request) = codes "call" ∷ addr_text addr ∷ request_words request
+task_words Cluster = codes "cluster" ∷ []
+
+-- the request's parts are in range; so far its operation is a put
+abbrev pub RequestInRange : Request → Type 0
+RequestInRange (request.Command c) = CommandInRange c × OpIsOfBytes c.op × IsPut c.op
+RequestInRange request.Status = Unit {0}
+RequestInRange request.End = Unit {0}
+
+-- the task's parts are in range
+abbrev pub TaskInRange : Task → Type 0
+TaskInRange (Node id) = IsPid id
+TaskInRange Replay = Unit {0}
+TaskInRange (Call addr request) = AddrInRange addr × RequestInRange request
+TaskInRange Cluster = Unit {0}
+
+-- the words are this request's
+pub record IsRequestOf (words : List (List ℕ)) (r : Request) : Type 0 where
+  pub in_range : RequestInRange r
+  pub written : words ≡ request_words r
+
+-- the words are some request's
+abbrev pub IsRequest : List (List ℕ) → Type 0
+IsRequest words = (r : Request) × IsRequestOf words r
+
+-- the words ask for this task
+pub record IsTaskOf (words : List (List ℕ)) (t : Task) : Type 0 where
+  pub in_range : TaskInRange t
+  pub written : words ≡ task_words t
 
 -- the words ask for some task
 abbrev pub IsTask : List (List ℕ) → Type 0
-IsTask words = (t : Task) × (words ≡ task_words t)
+IsTask words = (t : Task) × IsTaskOf words t
 
 -- the word begins with `-`
 abbrev pub is_flag : List ℕ → Bool

@@ -5,11 +5,11 @@ ghost use Rattle.op_setup.specs.declared.config.Settings.{Settings};
 ghost use Rattle.op_setup.specs.declared.config_cause.ConfigCause.{ConfigCause};
 ghost use Rattle.op_setup.specs.Settings.{IsSettings};
 ghost use Rattle.op_setup.specs.Causes.{IsFirstCause};
-ghost use Rattle.op_setup.specs.Tasks.{task_words, IsTask, has_flag};
+ghost use Rattle.op_setup.specs.Tasks.{IsTask, IsTaskOf, has_flag};
 
 /// No two tasks have the same words, and words are no task's where one of them begins with `-`.
 pub fn words_are_unambiguous()
-    ensures one { (s t : Task) → task_words s ≡ task_words t → s ≡ t }
+    ensures one { (words : List (List ℕ)) (s t : Task) → IsTaskOf words s → IsTaskOf words t → s ≡ t }
     ensures flag { (words : List (List ℕ)) → IsTrue (has_flag words) → IsTask words → ⊥ }
 {}
 

@@ -1,12 +1,14 @@
 //! What the words of the command line ask, and what a text of settings sets.
 #![tactic(auto)]
 
+mod addresses;
 mod commands;
 mod config;
 mod config_cause;
 mod fail;
 mod laws;
 mod reading;
+mod requests;
 mod settings_fail;
 mod tasks;
 mod toml_keys;

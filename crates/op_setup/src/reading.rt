@@ -1,48 +1,60 @@
 //! The task that words ask for.
-ghost use Rattle.std.specs.Prelude.{◌≡◌, ◌↔◌, map, string_bytes, IfOk, IfSome, IfNone, IsTrue, Err};
-ghost use Rattle.op_setup.specs.declared.tasks.Task.TheVariants.{Replay};
+ghost use Rattle.std.specs.Prelude.{◌≡◌, ◌∷◌, ◌↔◌, map, codes, string_bytes, slice_get, Some, IfOk, IfErr, IsTrue, Err};
+ghost use Rattle.op_sched.specs.Found.{IsFound};
 ghost use Rattle.op_setup.specs.Commands.{NamesFirst};
-ghost use Rattle.op_setup.specs.Tasks.{task_words, IsTask};
+ghost use Rattle.op_setup.specs.Tasks.{task_words, IsTask, IsTaskOf, TaskInRange};
 
+use crate::addresses::addr;
 use crate::commands::omni;
 use crate::fail::TaskFail;
+use crate::requests::{bytes, request};
 use crate::tasks::Task;
 use clap::ArgMatches;
+use op_sched::pid;
+use op_types::NoMemory;
 use std::alloc::Global;
 
-/// Whether a word is this text.
-fn is_text(word: &String, text: &str) -> bool
-    ensures { IsTrue result ↔ (string_bytes word.now ≡ text.now) }
-{
-    word.as_str() == text
-}
-
-/// Whether the words are those of `replay`.
-fn is_replay(words: &[String]) -> bool
-    ensures { IsTrue result ↔ (map string_bytes words.now ≡ task_words Replay) }
+/// `node`: an id.
+fn node(words: &[String]) -> Option<Task>
+    ensures { IsFound (IsTaskOf (codes "node" ∷ map string_bytes words.now)) result }
 {
     match words {
-        [word] => is_text(word, "replay"),
-        _ => false,
+        [id] => Some(Task::Node(pid(bytes(id))?)),
+        _ => None,
     }
 }
 
-/// Whether the words are those of some task.
-fn are_asked(words: &[String]) -> bool
-    ensures { IsTrue result ↔ IsTask (map string_bytes words.now) }
+/// `call`: an address, and a request's words.
+fn call(alloc: Global, words: &[String]) -> Result<Option<Task>, NoMemory>
+    ensures found { IfOk result (IsFound (IsTaskOf (codes "call" ∷ map string_bytes words.now))) }
+    ensures memory { IfErr result (λ _. IsTask (codes "call" ∷ map string_bytes words.now)) }
 {
-    is_replay(words)
+    let Some((addr_word, words)) = words.split_first() else {
+        return Ok(None);
+    };
+    let Some(addr) = addr(addr_word.as_str()) else {
+        return Ok(None);
+    };
+    match request(alloc, words)? {
+        Some(request) => Ok(Some(Task::Call(addr, request))),
+        None => Ok(None),
+    }
 }
 
-/// The task of the command that clap found, if these are its words.
-fn found_task(matches: &ArgMatches<'_>, words: &[String]) -> Option<Task>
-    ensures found { IfSome result (λ t. map string_bytes words.now ≡ task_words t) }
-    ensures none { IfNone result
-        (NamesFirst matches.now (map string_bytes words.now) → IsTask (map string_bytes words.now) → ⊥) }
+/// The task that words ask for. Memory is taken only for words that are a task's.
+fn asked(alloc: Global, words: &[String]) -> Result<Option<Task>, NoMemory>
+    ensures found { IfOk result (IsFound (IsTaskOf (map string_bytes words.now))) }
+    ensures memory { IfErr result (λ _. IsTask (map string_bytes words.now)) }
 {
-    match matches.subcommand_name()? {
-        "replay" if is_replay(words) => Some(Task::Replay),
-        _ => None,
+    let Some((name, words)) = words.split_first() else {
+        return Ok(None);
+    };
+    match name.as_str() {
+        "node" => Ok(node(words)),
+        "replay" if words.is_empty() => Ok(Some(Task::Replay)),
+        "call" => call(alloc, words),
+        "cluster" if words.is_empty() => Ok(Some(Task::Cluster)),
+        _ => Ok(None),
     }
 }
 
@@ -58,18 +70,16 @@ fn matched<'a>(alloc: Global, words: &'a [String]) -> Result<ArgMatches<'a>, Tas
 
 /// The task that the words of the command line ask for; the program's name isn't one of them. `Usage` comes
 /// exactly where they are no task's, before clap reads any of them and with no memory taken. `NoMemory` comes
-/// only where clap gets none.
+/// only where the allocator has none.
 pub fn task(alloc: Global, words: &[String]) -> Result<Task, TaskFail>
     ensures found { IfOk result (λ t. map string_bytes words.now ≡ task_words t) }
+    ensures in_range { IfOk result TaskInRange }
     ensures usage { result ≡ Err TaskFail.Usage → IsTask (map string_bytes words.now) → ⊥ }
     ensures usage_always { (IsTask (map string_bytes words.now) → ⊥) → result ≡ Err TaskFail.Usage }
 {
-    if !are_asked(words) {
+    let Some(task) = asked(alloc, words)? else {
         return Err(TaskFail::Usage);
-    }
-    let matches = matched(alloc, words)?;
-    match found_task(&matches, words) {
-        Some(task) => Ok(task),
-        None => unreachable!(),
-    }
+    };
+    matched(alloc, words)?;
+    Ok(task)
 }

@@ -32,10 +32,12 @@ pub record LeavesInput (answer : Status) (old new : Option (List ℕ)) : Type 0 
   -- one byte more than the limit tells that it is too long, and no more is read
   pub most : TakesAtMost (input_limit + 1) old new
 
--- words are refused exactly where they are no command's
+-- Words are refused exactly where they ask for no replay, which is the one task that is done yet. Words of another task may find no
+-- memory to be read with.
 pub record RefusesWords (answer : Status) (words : List (List ℕ)) : Type 0 where
-  pub only_if : answer ≡ status.Usage → IsTask words → ⊥
+  pub only_if : answer ≡ status.Usage → IsReplay words → ⊥
   pub always : (IsTask words → ⊥) → answer ≡ status.Usage
+  pub not_yet : (IsReplay words → ⊥) → IsOrNoMemory status.Usage answer
 
 -- Input is refused exactly where it is bad or too long, unless a read fails, which raises the count of faults, or there is no
 -- memory.

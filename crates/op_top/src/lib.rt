@@ -1,6 +1,7 @@
 //! The top call: words, input, its reading, the run, and the report.
 #![tactic(auto)]
 
+mod asking;
 mod replay;
 mod sessions;
 mod status;

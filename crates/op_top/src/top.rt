@@ -2,6 +2,7 @@ ghost use Rattle.std.specs.Prelude.{◌≡◌, map, string_bytes};
 ghost use Rattle.op_outside.specs.Causes.{NoFault};
 ghost use Rattle.op_outside.specs.Streams.{Tells};
 ghost use Rattle.op_setup.specs.Tasks.{task_words};
+ghost use Rattle.op_setup.specs.declared.tasks.Task.TheVariants.{Replay};
 ghost use Rattle.op_top.specs.Answers.{
   EndsIfValid,
   IsFault,
@@ -13,11 +14,12 @@ ghost use Rattle.op_top.specs.Answers.{
 };
 ghost use Rattle.op_top.specs.Statuses.{status_line};
 
+use crate::asking::{Command, asked};
 use crate::replay::replayed;
 use crate::status::Status;
 use op_outside::{InputFail, Sink, Source, read_all, write_all};
 use op_sched::SchedFail;
-use op_setup::{Task, TaskFail, task};
+use op_setup::TaskFail;
 use std::alloc::Global;
 
 /// How much input is read, in bytes.
@@ -26,7 +28,7 @@ const INPUT_LIMIT: usize = 67_108_864;
 fn replay<S: Source, K: Sink>(alloc: Global, input: &mut S, out: &mut K) -> Status
     ensures output { LeavesOutput result (S.left input.old) (K.held out.old) (K.held out.new) }
     ensures input { LeavesInput result (S.left input.old) (S.left input.new) }
-    ensures refused { RefusesInput result (task_words Task.Replay) (S.left input.old)
+    ensures refused { RefusesInput result (task_words Replay) (S.left input.old)
         (S.fault_count input.old) (S.fault_count input.new) }
     ensures read_fault { IsFault Status.ReadFault result (S.fault_count input.old) (S.fault_count input.new) }
     ensures write_fault { IsFault Status.WriteFault result (K.fault_count out.old) (K.fault_count out.new) }
@@ -64,7 +66,7 @@ pub fn omni<S: Source, K: Sink>(
     ensures output { LeavesOutput result (S.left input.old) (K.held out.old) (K.held out.new) }
     ensures input { LeavesInput result (S.left input.old) (S.left input.new) }
 
-    // Words are refused exactly where they are no command's, and input exactly where it is bad or too long.
+    // Words are refused exactly where they are no replay's, and input exactly where it is bad or too long.
     ensures usage { RefusesWords result (map string_bytes words.now) }
     ensures refused { RefusesInput result (map string_bytes words.now) (S.left input.old)
         (S.fault_count input.old) (S.fault_count input.new) }
@@ -81,8 +83,8 @@ pub fn omni<S: Source, K: Sink>(
 
     ensures told { Tells K.held K.fault_count err.old err.new (status_line result) }
 {
-    let status = match task(alloc, words) {
-        Ok(Task::Replay) => replay(alloc, input, out),
+    let status = match asked(alloc, words) {
+        Ok(Command::Replay) => replay(alloc, input, out),
         Err(TaskFail::Usage) => Status::Usage,
         Err(TaskFail::NoMemory) => Status::NoMemory,
     };

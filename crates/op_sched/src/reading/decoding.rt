@@ -1,9 +1,9 @@
 //! Keys and values, read from their percent encoding.
-ghost use Rattle.std.specs.Prelude.{◌≡◌, ◌≤◌, ◌<◌, ℕ, List, true, length, IfOk, IfSome, IfNone};
+ghost use Rattle.std.specs.Prelude.{◌≡◌, ◌≤◌, ◌<◌, ◌↔◌, ℕ, List, true, length, IfOk, IfSome, IfNone, IsTrue};
 ghost use Rattle.std.specs.Fmt.{digit_glyph};
 ghost use Rattle.op_types.specs.Ranges.{IsKey, IsValue};
 ghost use Rattle.op_sched.specs.Found.{IsFound};
-ghost use Rattle.op_sched.specs.Percent.{AreEncoded, BeginsEncoded, BeginsEscaped, IsEncoded};
+ghost use Rattle.op_sched.specs.Percent.{AreEncoded, BeginsEncoded, BeginsEscaped, CountsEncoded, EncodesCount, IsEncoded, IsEncodedWithin};
 
 use crate::percent::is_plain;
 use op_types::{Blob, MOST_KEY_BYTES, MOST_VALUE_BYTES, NoMemory};
@@ -96,7 +96,7 @@ fn bytes_within(
     most: usize,
 ) -> Result<Option<Blob>, NoMemory>
     requires { 1 ≤ most }
-    ensures { IfOk result (IsFound (λ b. (least ≤ length b) × (length b ≤ most) × IsEncoded word.now b)) }
+    ensures { IfOk result (IsFound (IsEncodedWithin least most word.now)) }
 {
     // No bytes are encoded with one letter.
     if most < word.len() / ESCAPE_LETTERS {
@@ -111,6 +111,59 @@ fn bytes_within(
     } else {
         Ok(None)
     }
+}
+
+/// How many bytes' encodings a word is, one after the other. No memory is taken.
+fn count_of(word: &[u8]) -> Option<usize>
+    ensures { IsFound (CountsEncoded word.now) result }
+{
+    let mut count = 0;
+    let mut rest = word;
+    while !rest.is_empty() {
+        let Some((_, after)) = first_byte(rest) else {
+            return None;
+        };
+        count += 1;
+        rest = after;
+    }
+    Some(count)
+}
+
+/// How many bytes a word encodes. No memory is taken.
+fn decoded_len(word: &[u8]) -> Option<usize>
+    ensures { IsFound (EncodesCount word.now) result }
+{
+    if word == b"%".as_slice() {
+        return Some(0);
+    }
+    if word.is_empty() {
+        return None;
+    }
+    count_of(word)
+}
+
+/// Whether a word encodes from `least` to `most` bytes. No memory is taken.
+fn is_within(word: &[u8], least: usize, most: usize) -> bool
+    ensures { IsTrue result ↔ ((bytes : List ℕ) × IsEncodedWithin least most word.now bytes) }
+{
+    match decoded_len(word) {
+        Some(count) => least <= count && count <= most,
+        None => false,
+    }
+}
+
+/// Whether a word encodes a key. No memory is taken.
+pub fn is_key(word: &[u8]) -> bool
+    ensures { IsTrue result ↔ ((key : List ℕ) × IsKey key × IsEncoded word.now key) }
+{
+    is_within(word, 1, MOST_KEY_BYTES)
+}
+
+/// Whether a word encodes a value. No memory is taken.
+pub fn is_value(word: &[u8]) -> bool
+    ensures { IsTrue result ↔ ((value : List ℕ) × IsValue value × IsEncoded word.now value) }
+{
+    is_within(word, 0, MOST_VALUE_BYTES)
 }
 
 /// The key that a word encodes.

@@ -12,8 +12,9 @@ mod numbers;
 mod words;
 
 use crate::schedule::{SchedFail, Schedule};
-pub use decoding::bytes_of;
+pub use decoding::{bytes_of, is_key, is_value, key, value};
 use lines::next_numbered;
+pub use numbers::{client_number, number, pid};
 use op_types::{Event, Events, Members, NoMemory, What};
 use std::alloc::Global;
 use words::words;

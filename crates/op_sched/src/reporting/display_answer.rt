@@ -2,6 +2,7 @@
 ghost use Rattle.std.specs.Prelude.{Some};
 ghost use Rattle.op_sched.specs.Text.{answer_text, cause_text, outcome_text, refusal_text};
 
+use crate::percent::Encoded;
 use crate::reporting::display_line::BallotText;
 use op_types::{Answer, Cause, Outcome, Refusal};
 use std::fmt;
@@ -32,6 +33,7 @@ impl fmt::Display for RefusalText {
 
     fn fmt<W: fmt::Write>(&self, f: &mut fmt::Formatter<W>) -> fmt::Result {
         match self.0 {
+            Refusal::StorageFailed { count } => write!(f, "storage {count}"),
             Refusal::PendingStop { pos } => write!(f, "pending {pos}"),
             Refusal::NoLeader => f.write_str("noleader"),
             Refusal::PositionsEnd => f.write_str("end"),
@@ -41,16 +43,18 @@ impl fmt::Display for RefusalText {
 
 /// What a command was answered.
 #[derive(Clone, Copy)]
-pub struct AnswerText(pub Answer);
+pub struct AnswerText<'a>(pub &'a Answer);
 
-impl fmt::Display for AnswerText {
-    ghost output = { λ a. Some (answer_text a.0) };
+impl fmt::Display for AnswerText<'_> {
+    ghost output = { λ a. Some (answer_text a.0.now) };
 
     fn fmt<W: fmt::Write>(&self, f: &mut fmt::Formatter<W>) -> fmt::Result {
         match self.0 {
             Answer::Done => f.write_str("done"),
+            Answer::Value(value) => write!(f, "value {}", Encoded(value.as_slice())),
+            Answer::Absent => f.write_str("absent"),
             Answer::Stale => f.write_str("stale"),
-            Answer::Dropped(cause) => write!(f, "dropped {}", CauseText(cause)),
+            Answer::Dropped(cause) => write!(f, "dropped {}", CauseText(*cause)),
         }
     }
 }

@@ -1,10 +1,10 @@
 //! Entries and ids, as text.
 ghost use Rattle.std.specs.Prelude.{Some};
 ghost use Rattle.std.specs.List.{flat_map};
-ghost use Rattle.op_sched.specs.Text.{entry_line, entry_text, op_text, pid_text};
+ghost use Rattle.op_sched.specs.Text.{entry_line, entry_text, keyed_text, op_text, pid_text};
 
 use crate::percent::Encoded;
-use op_types::{Command, ConfNo, Entry, Op, Pid};
+use op_types::{Blob, Command, ConfNo, Entry, Op, Pid};
 use std::fmt;
 
 /// An entry's line of the report, which prints with its end.
@@ -50,10 +50,39 @@ impl fmt::Display for CommandText<'_> {
     ghost output = { λ c. Some (op_text c.0.now.client c.0.now.seq c.0.now.op) };
 
     fn fmt<W: fmt::Write>(&self, f: &mut fmt::Formatter<W>) -> fmt::Result {
-        let Op::Put(key, value) = &self.0.op;
-        let key = Encoded(key.as_slice());
-        let value = Encoded(value.as_slice());
-        write!(f, "put {} {} {key} {value}", self.0.client, self.0.seq)
+        let command = self.0;
+        match &command.op {
+            Op::Put(key, value) => {
+                let value = Encoded(value.as_slice());
+                write!(f, "put{} {value}", KeyedText { command, key })
+            }
+            Op::Del(key) => write!(f, "del{}", KeyedText { command, key }),
+            Op::Get(key) => write!(f, "get{}", KeyedText { command, key }),
+            Op::Cas(key, old, new) => {
+                let old = Encoded(old.as_slice());
+                let new = Encoded(new.as_slice());
+                write!(f, "cas{} {old} {new}", KeyedText { command, key })
+            }
+        }
+    }
+}
+
+/// A command's client and number, and a key, each of which prints after a space.
+#[derive(Clone, Copy)]
+struct KeyedText<'a> {
+    /// The command.
+    command: &'a Command,
+    /// The key.
+    key: &'a Blob,
+}
+
+impl fmt::Display for KeyedText<'_> {
+    ghost output = { λ k. Some (keyed_text k.command.now.client k.command.now.seq k.key.now) };
+
+    fn fmt<W: fmt::Write>(&self, f: &mut fmt::Formatter<W>) -> fmt::Result {
+        let Command { client, seq, .. } = self.command;
+        let key = Encoded(self.key.as_slice());
+        write!(f, " {client} {seq} {key}")
     }
 }
 

@@ -19,7 +19,7 @@ impl fmt::Display for LineText<'_> {
                 writeln!(f, "answer {line} {}", OutcomeText(*outcome))
             }
             Line::Reply(pid, client, seq, answer) => {
-                writeln!(f, "reply {pid} {client} {seq} {}", AnswerText(*answer))
+                writeln!(f, "reply {pid} {client} {seq} {}", AnswerText(answer))
             }
             Line::Dropped(pid, client, seq, cause) => {
                 writeln!(f, "dropped {pid} {client} {seq} {}", CauseText(*cause))

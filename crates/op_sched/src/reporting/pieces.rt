@@ -19,7 +19,7 @@ pub fn node_line(alloc: Global, line: &NodeLine) -> Result<Vec<u8>, NoMemory>
 pub fn answer_text(alloc: Global, answer: &Answer) -> Result<Vec<u8>, NoMemory>
     ensures { IfOk result (λ text. text.items ≡ answer_text answer.now) }
 {
-    Ok(format!(in alloc; "{}", AnswerText(*answer))?.into_bytes())
+    Ok(format!(in alloc; "{}", AnswerText(answer))?.into_bytes())
 }
 
 /// What a proposal is answered at once, as the report's `answer` lines have it. `NoMemory` comes only where the

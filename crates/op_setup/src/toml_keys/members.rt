@@ -4,7 +4,7 @@ ghost use Rattle.toml.specs.Data.{integer};
 ghost use Rattle.toml.specs.View.{table_view, view};
 ghost use Rattle.op_types.specs.Limits.{greatest_pid};
 ghost use Rattle.op_types.specs.Ranges.{MembersInRange};
-ghost use Rattle.op_setup.specs.Found.{IsFound};
+ghost use Rattle.op_sched.specs.Found.{IsFound};
 ghost use Rattle.op_setup.specs.Settings.{SetsMembers, id_data};
 
 use crate::toml_keys::values::array_at;

@@ -6,7 +6,6 @@ ghost use Rattle.op_setup.specs.declared.config_cause.ConfigCause.{ConfigCause};
 ghost use Rattle.op_setup.specs.Settings.{AreSettings, IsSettings, IsToml};
 ghost use Rattle.op_setup.specs.Causes.{IfBadConfig, IsFirstCause, IsFirstLack};
 
-mod addresses;
 mod members;
 mod numbers;
 mod peers;

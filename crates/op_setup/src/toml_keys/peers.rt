@@ -4,16 +4,16 @@ ghost use Rattle.std.specs.List.{list_all, list_any};
 ghost use Rattle.std.specs.Map.{keys_of};
 ghost use Rattle.toml.specs.Data.{string};
 ghost use Rattle.toml.specs.View.{table_view, view};
-ghost use Rattle.op_types.specs.Ranges.{IsPid};
-ghost use Rattle.op_setup.specs.Found.{IsFound};
+ghost use Rattle.op_sched.specs.Found.{IsFound};
 ghost use Rattle.op_setup.specs.Addresses.{AddrInRange, addr_text};
 ghost use Rattle.op_setup.specs.Settings.{AreRows, IsAmong, IsRow, Peer, SetsPeers, most_peers};
 
+use crate::addresses::addr;
 use crate::config::{MOST_PEERS, Peers};
-use crate::toml_keys::addresses::addr;
 use crate::toml_keys::values::table_at;
 use op_outside::Addr;
-use op_types::{GREATEST_PID, NoMemory, Pid};
+use op_sched::pid;
+use op_types::{NoMemory, Pid};
 use std::alloc::Global;
 use std::collections::BTreeMap;
 use toml::{Table, Value};
@@ -100,7 +100,7 @@ fn by_id(alloc: Global, rows: &Table) -> Result<Option<BTreeMap<Pid, Addr>>, NoM
 {
     let mut by_id = BTreeMap::new(alloc);
     for (key, value) in rows {
-        let Some((id, addr)) = peer(alloc, key, value)? else {
+        let Some((id, addr)) = peer(key, value) else {
             return Ok(None);
         };
         by_id.insert(id, addr)?;
@@ -109,50 +109,24 @@ fn by_id(alloc: Global, rows: &Table) -> Result<Option<BTreeMap<Pid, Addr>>, NoM
 }
 
 /// The peer of a row.
-fn peer(alloc: Global, key: &String, value: &Value) -> Result<Option<(Pid, Addr)>, NoMemory>
-    ensures { IfOk result (IsFound (IsRow (string_bytes key.now) (view value.now))) }
+fn peer(key: &String, value: &Value) -> Option<(Pid, Addr)>
+    ensures { IsFound (IsRow (string_bytes key.now) (view value.now)) result }
 {
-    let Some(id) = key_id(alloc, key.as_str())? else {
-        return Ok(None);
+    let Some(id) = pid(key.as_str().as_bytes()) else {
+        return None;
     };
-    let Some(addr) = value_addr(alloc, value)? else {
-        return Ok(None);
+    let Some(addr) = value_addr(value) else {
+        return None;
     };
-    Ok(Some((id, addr)))
-}
-
-/// The id of a row's key.
-#[tactic(auto, using(std::proofs::lemmas::Fmt::decimal_injective))]
-fn key_id(alloc: Global, key: &str) -> Result<Option<Pid>, NoMemory>
-    ensures { IfOk result (IsFound (λ id. IsPid id × (key.now ≡ decimal id))) }
-{
-    match number(alloc, key)? {
-        Some(id) if 1 <= id && id <= GREATEST_PID => Ok(Some(id)),
-        _ => Ok(None),
-    }
-}
-
-/// The number that a text writes with no sign and no leading zero.
-fn number(alloc: Global, text: &str) -> Result<Option<u32>, NoMemory>
-    ensures { IfOk result (IsFound (λ n. (n < 2 ^ 32) × (text.now ≡ decimal n))) }
-{
-    let Ok(n) = text.parse::<u32>() else {
-        return Ok(None);
-    };
-    // A sign or a leading zero isn't printed again.
-    let printed = format!(in alloc; "{n}")?;
-    if printed.as_str() != text {
-        return Ok(None);
-    }
-    Ok(Some(n))
+    Some((id, addr))
 }
 
 /// The address of a row's value.
-fn value_addr(alloc: Global, value: &Value) -> Result<Option<Addr>, NoMemory>
-    ensures { IfOk result (IsFound (λ a. AddrInRange a × (view value.now ≡ string (addr_text a)))) }
+fn value_addr(value: &Value) -> Option<Addr>
+    ensures { IsFound (λ a. AddrInRange a × (view value.now ≡ string (addr_text a))) result }
 {
     match value.as_str() {
-        Some(text) => addr(alloc, text),
-        None => Ok(None),
+        Some(text) => addr(text),
+        None => None,
     }
 }

@@ -18,7 +18,7 @@ returns c =
     let client = rw c.in-Some-Some-Some.is-1 at c.client_number.ensures in
     let seq = rw c.in-Some-Some-Some.is-2 at c.client_number-2.ensures in
     record {
-      in_range = (id.0, record { client = client.0; seq = seq.0; op = (key.0, value.0) });
+      in_range = (id.0, record { client = client.0; seq = seq.0; op = (key.0, value.0) }, tt);
       of_bytes = (key.1.0, value.1.0);
       between = tt;
       written = ap (λ words. codes "put" ∷ words) (five_words _ _ _ _ _ _ _ _ _ _ _ _ c.in-len5.len_at_least c.in-len5.len_below

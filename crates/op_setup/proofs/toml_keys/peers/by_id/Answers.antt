@@ -27,7 +27,7 @@ returns-in_default-clause-none c = λ peers h.
     let P : List Row → Type 0 = λ rest. All (λ (row : Row). get string_cmp c.args.rows.now row.0 ≡ Some row.1) rest in
     let F : Row → Type 0 = λ row. get string_cmp c.args.rows.now row.0 ≡ Some row.1 in
     let found = All-head F row c.next.new.self (subst P step c.loop-key.invariant.there) in
-    let none = rw c.in_default.is at c.in_ok-id.ensures in
+    let none = rw c.in_default.is at c.peer.ensures in
     no_peers _ (string_bytes row.0) (view row.1) (row_there c.args.rows.now row found) none peers h
 
 pub loop-key-preserved : goal.loop-key-preserved
@@ -38,15 +38,15 @@ loop-key-preserved c =
     let later = subst P step c.loop-key.invariant.there in
     let F : Row → Type 0 = λ row. get string_cmp c.args.rows.now row.0 ≡ Some row.1 in
     let found = row_there c.args.rows.now row (All-head F row c.next.new.self later) in
-    let is = rw c.in-Some-2.is at c.in_ok-id.ensures in
+    let is = rw c.in-Some-peer.is at c.peer.ensures in
     let Q : List Row → Type 0 = λ rest. AreRead (members_view c.args.rows.now.entries) c.loop-key.by_id (members_view rest) in
     let old = subst Q step c.loop-key.invariant.read in
     let updates = c.in_ok-insert.ensures.updates in
     record {
       ordered = c.insert.ensures.ordered;
       there = All-tail F row c.next.new.self later;
-      have = next_have _ c.loop-key.by_id c.insert.new.self c.in-Some-2.id c.in-Some-2.addr (string_bytes row.0) (view row.1) updates.0 found is c.loop-key.invariant.have;
-      read = next_read _ c.loop-key.by_id c.insert.new.self c.in-Some-2.id c.in-Some-2.addr (string_bytes row.0) (view row.1) _ updates.0 updates.1 found is old;
+      have = next_have _ c.loop-key.by_id c.insert.new.self c.in-Some-peer.id c.in-Some-peer.addr (string_bytes row.0) (view row.1) updates.0 found is c.loop-key.invariant.have;
+      read = next_read _ c.loop-key.by_id c.insert.new.self c.in-Some-peer.id c.in-Some-peer.addr (string_bytes row.0) (view row.1) _ updates.0 updates.1 found is old;
     }
 
 pub returns-clause-found : goal.returns-clause-found
