@@ -12,6 +12,15 @@ def built_program():
     return os.environ.get('OMNI', os.path.join(TOP, 'crates', 'omni', 'out', 'omni'))
 
 
+def built_bench():
+    """The program that runs single libraries."""
+    crate = os.path.join(TOP, 'crates', 'op_bench')
+    program = os.path.join(crate, 'out', 'op_bench')
+    if not os.path.exists(program):
+        subprocess.run(['rt', 'run', '--', 'frames', '1', '1'], cwd=crate, stdout=subprocess.DEVNULL, stderr=subprocess.DEVNULL)
+    return program
+
+
 def run(program, path):
     """Seconds that the processor worked, and greatest memory (in MB), of one run."""
     with open(path) as text, open(os.devnull, 'w') as out:

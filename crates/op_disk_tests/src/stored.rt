@@ -118,6 +118,8 @@ fn seq_of(entry: &Entry) -> u64 {
 }
 
 fn is_of_step(command: &Command) -> bool {
-    let Op::Put(key, value) = &command.op;
+    let Op::Put(key, value) = &command.op else {
+        return false;
+    };
     command.client == 7 && key.as_slice() == b"a".as_slice() && value.as_slice() == b"x".as_slice()
 }

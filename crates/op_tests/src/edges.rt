@@ -1,8 +1,11 @@
+use libc::net::listen as listen_for;
 use op_edge::{FileDisk, MioNet, MonotonicClock, Programs};
 use op_memory::FakeClock;
 use op_outside::{Addr, Clock, Conn, Disk, DiskFail, Got, Happening, Net, NetFail, Spawner, Took};
 use std::collections::VecDeque;
 use std::fs;
+use std::net::{Ipv4Addr, SocketAddr, TcpListener};
+use std::os::fd::AsRawFd;
 use std::path::PathBuf;
 use std::test::Fail;
 
@@ -166,6 +169,77 @@ fn a_connection_that_is_stuck_ends(rt: HostRuntime) -> Result<(), Fail> {
         assert_eq!(rt; client.read(conn, &mut [0u8; 8]), Ok(Got::Ended));
     }
     assert_eq!(rt; client.faults(), 0);
+    Ok(())
+}
+
+/// How long a dial goes without an answer, in milliseconds. Two clocks may differ by one.
+const UNANSWERED_MILLIS: u64 = 1000;
+
+/// How long written bytes go unmoved, in milliseconds.
+const UNMOVED_MILLIS: u64 = 2000;
+
+/// The first connection that has ended. Each is read whenever it can be read, and filled whenever it has room.
+fn first_end<N: Net>(net: &mut N) -> Result<Conn, NetFail> {
+    for _ in 0..50u32 {
+        match next(net)? {
+            Happening::Ended(conn) => return Ok(conn),
+            Happening::Readable(conn) => {
+                net.read(conn, &mut [0u8; 8])?;
+            }
+            Happening::Writable(conn) | Happening::Accepted(conn) => {
+                fill(net, conn)?;
+            }
+        }
+    }
+    Err(NetFail)
+}
+
+/// By the real clock a dial that nobody answers has ended after a second. The listener has room for one that waits, and
+/// accepts none: others have no answer.
+#[test]
+fn a_dial_without_an_answer_ends(rt: HostRuntime) -> Result<(), Fail> {
+    let listener = TcpListener::bind(&rt, SocketAddr::from((Ipv4Addr::LOCALHOST, 0)))?;
+    assert_eq!(rt; listen_for(listener.as_raw_fd(), 0), 0);
+    let addr = Addr {
+        host: LOOPBACK,
+        port: listener.local_addr()?.port(),
+    };
+    let mut clock = MonotonicClock::new(&rt);
+    let mut net = MioNet::new(&rt, rt.alloc(), MonotonicClock::new(&rt));
+    let Ok(Some(waiting)) = net.dial(&addr) else {
+        panic!(rt; "no dial");
+    };
+    assert_eq!(rt; next(&mut net), Ok(Happening::Writable(waiting)));
+    let begin = clock.millis();
+    for _ in 0..3u32 {
+        assert!(rt; net.dial(&addr).is_ok());
+    }
+    let ended = first_end(&mut net)?;
+    let millis = clock.millis().saturating_sub(begin);
+    assert!(rt; ended != waiting);
+    assert!(rt; UNANSWERED_MILLIS - 1 <= millis && millis < 2 * UNANSWERED_MILLIS);
+    assert_eq!(rt; net.faults(), 0);
+    Ok(())
+}
+
+/// By the real clock a connection whose bytes don't move has ended after 2 seconds. The other end isn't read.
+#[test]
+fn bytes_that_do_not_move_end_a_connection(rt: HostRuntime) -> Result<(), Fail> {
+    let listener = TcpListener::bind(&rt, SocketAddr::from((Ipv4Addr::LOCALHOST, 0)))?;
+    let addr = Addr {
+        host: LOOPBACK,
+        port: listener.local_addr()?.port(),
+    };
+    let mut clock = MonotonicClock::new(&rt);
+    let mut net = MioNet::new(&rt, rt.alloc(), MonotonicClock::new(&rt));
+    let begin = clock.millis();
+    let Ok(Some(conn)) = net.dial(&addr) else {
+        panic!(rt; "no dial");
+    };
+    assert_eq!(rt; first_end(&mut net), Ok(conn));
+    let millis = clock.millis().saturating_sub(begin);
+    assert!(rt; UNMOVED_MILLIS - 1 <= millis && millis < 2 * UNMOVED_MILLIS);
+    assert_eq!(rt; net.faults(), 0);
     Ok(())
 }
 

@@ -1,10 +1,6 @@
-//! Examples of what the crates below answer: rows and bytes from outside, and what is only tested.
+//! Examples of what the crates below answer: rows from outside, real things of the system, and what is only tested.
 #![tactic(auto)]
 
-#[cfg(test)]
-mod clients;
-#[cfg(test)]
-mod clusters;
 #[cfg(test)]
 mod connections;
 #[cfg(test)]
@@ -12,27 +8,11 @@ mod edges;
 #[cfg(test)]
 mod elections;
 #[cfg(test)]
-mod entries;
-#[cfg(test)]
-mod fates;
-#[cfg(test)]
-mod frames;
-#[cfg(test)]
 mod heartbeats;
-#[cfg(test)]
-mod letters;
 #[cfg(test)]
 mod majorities;
 #[cfg(test)]
-mod messages;
-#[cfg(test)]
-mod puts;
-#[cfg(test)]
-mod records;
-#[cfg(test)]
 mod refusals;
-#[cfg(test)]
-mod replays;
 #[cfg(test)]
 mod settings;
 #[cfg(test)]

@@ -41,6 +41,36 @@ fn requests_are_written_as_their_bytes(rt: HostRuntime) -> Result<(), Fail> {
     Ok(())
 }
 
+/// Requests of client 7: to delete `a`, to get it, and to replace its value `x` by an empty one.
+const REQUESTS: [&[u8]; 3] = [
+    &[
+        1, 0, 0, 0, 0, 0, 0, 0, 7, 0, 0, 0, 0, 0, 0, 0, 2, 2, 1, b'a',
+    ],
+    &[
+        1, 0, 0, 0, 0, 0, 0, 0, 7, 0, 0, 0, 0, 0, 0, 0, 3, 3, 1, b'a',
+    ],
+    &[
+        1, 0, 0, 0, 0, 0, 0, 0, 7, 0, 0, 0, 0, 0, 0, 0, 4, 4, 1, b'a', 0, 1, b'x', 0, 0,
+    ],
+];
+
+/// Whether these bytes are a request's, which is written in them too.
+fn is_request(alloc: Global, bytes: &[u8]) -> bool {
+    let Ok(request) = take_request(alloc, bytes) else {
+        return false;
+    };
+    let mut out = Vec::new(alloc);
+    put_request(&mut out, &request).is_ok() && out.as_slice() == bytes
+}
+
+#[test]
+fn each_operation_is_asked(rt: HostRuntime) -> Result<(), Fail> {
+    for bytes in REQUESTS {
+        assert!(rt; is_request(rt.alloc(), bytes), "{bytes:?}");
+    }
+    Ok(())
+}
+
 /// What is said in these bytes of client 7's command 1, if it is written in them too.
 fn said_in(alloc: Global, bytes: &[u8]) -> Option<Said> {
     let mut body = Vec::from_slice(alloc, &[0, 0, 0, 0, 0, 0, 0, 7, 0, 0, 0, 0, 0, 0, 0, 1]).ok()?;
@@ -55,23 +85,22 @@ fn said_in(alloc: Global, bytes: &[u8]) -> Option<Said> {
     }
 }
 
-/// Answers, and their bytes after the client and the number.
-const ANSWERS: [(&[u8], Answer); 5] = [
-    (&[1], Answer::Done),
-    (&[4], Answer::Stale),
+/// Causes for which a command is given up, and the answers' bytes after the client and the number.
+const CAUSES: [(&[u8], Cause); 3] = [
     (
         &[5, 1, 0, 0, 0, 0, 0, 0, 0, 3, 0, 0, 0, 2],
-        Answer::Dropped(Cause::Ballot(Ballot { number: 3, pid: 2 })),
+        Cause::Ballot(Ballot { number: 3, pid: 2 }),
     ),
-    (
-        &[5, 2, 0, 0, 0, 0, 0, 0, 0, 9],
-        Answer::Dropped(Cause::Stop(9)),
-    ),
-    (&[5, 3], Answer::Dropped(Cause::End)),
+    (&[5, 2, 0, 0, 0, 0, 0, 0, 0, 9], Cause::Stop(9)),
+    (&[5, 3], Cause::End),
 ];
 
 /// Outcomes, and their bytes after the client and the number.
-const OUTCOMES: [(&[u8], Outcome); 6] = [
+const OUTCOMES: [(&[u8], Outcome); 7] = [
+    (
+        &[6, 1, 0, 0, 0, 0, 0, 0, 1, 2],
+        Outcome::Refused(Refusal::StorageFailed { count: 258 }),
+    ),
     (
         &[6, 2, 0, 0, 0, 0, 0, 0, 0, 9],
         Outcome::Refused(Refusal::PendingStop { pos: 9 }),
@@ -86,9 +115,23 @@ const OUTCOMES: [(&[u8], Outcome); 6] = [
     (&[9, 0, 0, 3, 231], Outcome::Forwarded(999)),
 ];
 
-fn is_answer(alloc: Global, bytes: &[u8], answer: Answer) -> bool {
+fn is_answer(alloc: Global, bytes: &[u8], answer: &Answer) -> bool {
     match said_in(alloc, bytes) {
-        Some(Said::Answer(said)) => said == answer,
+        Some(Said::Answer(said)) => said == *answer,
+        _ => false,
+    }
+}
+
+fn is_value(alloc: Global, bytes: &[u8], value: &[u8]) -> bool {
+    match said_in(alloc, bytes) {
+        Some(Said::Answer(Answer::Value(said))) => said.as_slice() == value,
+        _ => false,
+    }
+}
+
+fn is_dropped(alloc: Global, bytes: &[u8], cause: Cause) -> bool {
+    match said_in(alloc, bytes) {
+        Some(Said::Answer(Answer::Dropped(said))) => said == cause,
         _ => false,
     }
 }
@@ -124,8 +167,12 @@ fn is_ended(alloc: Global, bytes: &[u8]) -> bool {
 
 #[test]
 fn replies_are_read_from_their_bytes(rt: HostRuntime) -> Result<(), Fail> {
-    for (bytes, answer) in ANSWERS {
-        assert!(rt; is_answer(rt.alloc(), bytes, answer), "{bytes:?}");
+    assert!(rt; is_answer(rt.alloc(), &[1], &Answer::Done));
+    assert!(rt; is_value(rt.alloc(), &[2, 0, 1, b'x'], b"x"));
+    assert!(rt; is_answer(rt.alloc(), &[3], &Answer::Absent));
+    assert!(rt; is_answer(rt.alloc(), &[4], &Answer::Stale));
+    for (bytes, cause) in CAUSES {
+        assert!(rt; is_dropped(rt.alloc(), bytes, cause), "{bytes:?}");
     }
     for (bytes, outcome) in OUTCOMES {
         assert!(rt; is_outcome(rt.alloc(), bytes, outcome), "{bytes:?}");
@@ -152,11 +199,19 @@ const NO_REQUESTS: [(&[u8], usize); 7] = [
 ];
 
 /// Bytes that are no reply, and the place at which they are bad.
-const NO_REPLIES: [(&[u8], usize); 6] = [
+const NO_REPLIES: [(&[u8], usize); 8] = [
     (&[0, 0, 0, 0, 0, 0, 0, 7, 0, 0, 0, 0, 0, 0, 0, 0, 1], 8),
     (&[0, 0, 0, 0, 0, 0, 0, 0, 0, 0, 0, 0, 0, 0, 0, 1, 1], 8),
-    (&[0, 0, 0, 0, 0, 0, 0, 0, 0, 0, 0, 0, 0, 0, 0, 0, 2], 16),
-    (&[0, 0, 0, 0, 0, 0, 0, 0, 0, 0, 0, 0, 0, 0, 0, 0, 6, 1], 17),
+    (&[0, 0, 0, 0, 0, 0, 0, 0, 0, 0, 0, 0, 0, 0, 0, 0, 10], 16),
+    (
+        &[0, 0, 0, 0, 0, 0, 0, 0, 0, 0, 0, 0, 0, 0, 0, 0, 2, 16, 1],
+        17,
+    ),
+    (&[0, 0, 0, 0, 0, 0, 0, 0, 0, 0, 0, 0, 0, 0, 0, 0, 6, 0], 17),
+    (
+        &[0, 0, 0, 0, 0, 0, 0, 0, 0, 0, 0, 0, 0, 0, 0, 0, 6, 1, 0],
+        18,
+    ),
     (
         &[0, 0, 0, 0, 0, 0, 0, 0, 0, 0, 0, 0, 0, 0, 0, 0, 12, 0, 2, 97],
         17,

@@ -21,7 +21,9 @@ pub fn is_one_put(entry: &Entry) -> bool {
     let Entry::Command(command) = entry else {
         return false;
     };
-    let Op::Put(key, value) = &command.op;
+    let Op::Put(key, value) = &command.op else {
+        return false;
+    };
     command.client == 7
         && command.seq == 1
         && key.as_slice() == b"a".as_slice()

@@ -1,0 +1,129 @@
+use crate::puts::{is_one_put, one_put};
+use op_entry::{put, take};
+use op_fields::TakeFail;
+use op_types::{Entry, Op};
+use std::alloc::Global;
+use std::test::Fail;
+
+/// The entry `put 7 1 a x`.
+const ONE_PUT: &[u8] = &[
+    1, 0, 0, 0, 0, 0, 0, 0, 7, 0, 0, 0, 0, 0, 0, 0, 1, 1, 1, b'a', 0, 1, b'x',
+];
+
+#[test]
+fn a_put_is_written_as_its_23_bytes(rt: HostRuntime) -> Result<(), Fail> {
+    let mut out = Vec::new(rt.alloc());
+    let entry = one_put(rt.alloc());
+    assert!(rt; entry.is_ok());
+    if let Ok(entry) = &entry {
+        assert!(rt; put(&mut out, entry).is_ok());
+    }
+    assert_eq!(rt; out.as_slice(), ONE_PUT);
+    Ok(())
+}
+
+#[test]
+fn an_entry_is_taken_from_the_prefix(rt: HostRuntime) -> Result<(), Fail> {
+    let mut bytes = Vec::from_slice(rt.alloc(), ONE_PUT)?;
+    bytes.extend_from_slice(b"more")?;
+    let taken = take(rt.alloc(), bytes.as_slice());
+    assert!(rt; taken.is_ok());
+    if let Ok((entry, len)) = &taken {
+        assert!(rt; is_one_put(entry));
+        assert_eq!(rt; *len, 23);
+    }
+    Ok(())
+}
+
+/// Client 7's command 1: it deletes `a`.
+const DEL: &[u8] = &[
+    1, 0, 0, 0, 0, 0, 0, 0, 7, 0, 0, 0, 0, 0, 0, 0, 1, 2, 1, b'a',
+];
+
+/// It gets `a`.
+const GET: &[u8] = &[
+    1, 0, 0, 0, 0, 0, 0, 0, 7, 0, 0, 0, 0, 0, 0, 0, 1, 3, 1, b'a',
+];
+
+/// It replaces the value `x` of `a` by `yz`.
+const CAS: &[u8] = &[
+    1, 0, 0, 0, 0, 0, 0, 0, 7, 0, 0, 0, 0, 0, 0, 0, 1, 4, 1, b'a', 0, 1, b'x', 0, 2, b'y', b'z',
+];
+
+/// The operation of client 7's command 1 in these bytes, if its entry is written in them too.
+fn op_in(alloc: Global, bytes: &[u8]) -> Option<Op> {
+    let (entry, len) = take(alloc, bytes).ok()?;
+    let mut out = Vec::new(alloc);
+    put(&mut out, &entry).ok()?;
+    let Entry::Command(command) = entry else {
+        return None;
+    };
+    if len == bytes.len() && out.as_slice() == bytes && command.client == 7 && command.seq == 1 {
+        Some(command.op)
+    } else {
+        None
+    }
+}
+
+#[test]
+fn a_del_is_read_from_its_bytes(rt: HostRuntime) -> Result<(), Fail> {
+    let op = op_in(rt.alloc(), DEL);
+    assert!(rt; matches!(&op, Some(Op::Del(key)) if key.as_slice() == b"a".as_slice()));
+    Ok(())
+}
+
+#[test]
+fn a_get_is_read_from_its_bytes(rt: HostRuntime) -> Result<(), Fail> {
+    let op = op_in(rt.alloc(), GET);
+    assert!(rt; matches!(&op, Some(Op::Get(key)) if key.as_slice() == b"a".as_slice()));
+    Ok(())
+}
+
+#[test]
+fn a_cas_is_read_from_its_bytes(rt: HostRuntime) -> Result<(), Fail> {
+    let op = op_in(rt.alloc(), CAS);
+    let Some(Op::Cas(key, old, new)) = &op else {
+        assert!(rt; false);
+        return Ok(());
+    };
+    assert_eq!(rt; key.as_slice(), b"a".as_slice());
+    assert_eq!(rt; old.as_slice(), b"x".as_slice());
+    assert_eq!(rt; new.as_slice(), b"yz".as_slice());
+    Ok(())
+}
+
+/// Bytes, and the place at which they are bad.
+const BAD: [(&[u8], usize); 6] = [
+    (b"", 0),
+    (&[2, 0, 0, 0, 2, 1, 0, 0, 0, 1], 0),
+    (&[1, 0, 0, 0, 0, 0, 0, 0, 0, 0], 1),
+    (
+        &[
+            1, 0, 0, 0, 0, 0, 0, 0, 7, 0, 0, 0, 0, 0, 0, 0, 1, 5, 1, b'a',
+        ],
+        17,
+    ),
+    (
+        &[
+            1, 0, 0, 0, 0, 0, 0, 0, 7, 0, 0, 0, 0, 0, 0, 0, 1, 4, 1, b'a', 0, 0, 0, 1,
+        ],
+        22,
+    ),
+    (
+        &[
+            1, 0, 0, 0, 0, 0, 0, 0, 7, 0, 0, 0, 0, 0, 0, 0, 1, 1, 2, b'a',
+        ],
+        18,
+    ),
+];
+
+#[test]
+fn the_first_bad_field_is_named(rt: HostRuntime) -> Result<(), Fail> {
+    for (bytes, place) in BAD {
+        match take(rt.alloc(), bytes) {
+            Ok(_) => assert!(rt; false, "{place}"),
+            Err(e) => assert!(rt; e == TakeFail::Bad { at: place }, "{place}"),
+        }
+    }
+    Ok(())
+}
