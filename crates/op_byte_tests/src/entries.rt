@@ -50,39 +50,50 @@ const CAS: &[u8] = &[
     1, 0, 0, 0, 0, 0, 0, 0, 7, 0, 0, 0, 0, 0, 0, 0, 1, 4, 1, b'a', 0, 1, b'x', 0, 2, b'y', b'z',
 ];
 
-/// The operation of client 7's command 1 in these bytes, if its entry is written in them too.
-fn op_in(alloc: Global, bytes: &[u8]) -> Option<Op> {
-    let (entry, len) = take(alloc, bytes).ok()?;
-    let mut out = Vec::new(alloc);
-    put(&mut out, &entry).ok()?;
-    let Entry::Command(command) = entry else {
+/// The entry in these bytes, if it is written in them too.
+fn entry_in(alloc: Global, bytes: &[u8]) -> Option<Entry> {
+    let Ok((entry, len)) = take(alloc, bytes) else {
         return None;
     };
-    if len == bytes.len() && out.as_slice() == bytes && command.client == 7 && command.seq == 1 {
-        Some(command.op)
+    let mut out = Vec::new(alloc);
+    let Ok(()) = put(&mut out, &entry) else {
+        return None;
+    };
+    if len == bytes.len() && out.as_slice() == bytes {
+        Some(entry)
     } else {
         None
     }
 }
 
+/// The operation, where the entry is client 7's command 1.
+fn op_of(entry: &Option<Entry>) -> Option<&Op> {
+    match entry {
+        Some(Entry::Command(command)) if command.client == 7 && command.seq == 1 => {
+            Some(&command.op)
+        }
+        _ => None,
+    }
+}
+
 #[test]
 fn a_del_is_read_from_its_bytes(rt: HostRuntime) -> Result<(), Fail> {
-    let op = op_in(rt.alloc(), DEL);
-    assert!(rt; matches!(&op, Some(Op::Del(key)) if key.as_slice() == b"a".as_slice()));
+    let entry = entry_in(rt.alloc(), DEL);
+    assert!(rt; matches!(op_of(&entry), Some(Op::Del(key)) if key.as_slice() == b"a".as_slice()));
     Ok(())
 }
 
 #[test]
 fn a_get_is_read_from_its_bytes(rt: HostRuntime) -> Result<(), Fail> {
-    let op = op_in(rt.alloc(), GET);
-    assert!(rt; matches!(&op, Some(Op::Get(key)) if key.as_slice() == b"a".as_slice()));
+    let entry = entry_in(rt.alloc(), GET);
+    assert!(rt; matches!(op_of(&entry), Some(Op::Get(key)) if key.as_slice() == b"a".as_slice()));
     Ok(())
 }
 
 #[test]
 fn a_cas_is_read_from_its_bytes(rt: HostRuntime) -> Result<(), Fail> {
-    let op = op_in(rt.alloc(), CAS);
-    let Some(Op::Cas(key, old, new)) = &op else {
+    let entry = entry_in(rt.alloc(), CAS);
+    let Some(Op::Cas(key, old, new)) = op_of(&entry) else {
         assert!(rt; false);
         return Ok(());
     };
