@@ -60,12 +60,12 @@ row_answered Known p most o e told row = record { batch = row.batch; few = row.f
 -- ---- messages
 
 pub send_one : (Known : ℕ → Type 0) (conf q : ℕ) (b : Body) → IsConf conf → Known q → BodyInRange Known b → All (SendInRange Known) (message conf q b ∷ [])
-send_one Known conf q b in_conf to fit = All-cons (SendInRange Known) (message conf q b) [] (record { to = to; message = record { conf = in_conf; body = fit } }) (All-nil (SendInRange Known))
+send_one Known conf q b in_conf to fit = All-cons (SendInRange Known) (message conf q b) [] (record { to = to; conf = in_conf; message = record { conf = in_conf.1; body = fit } }) (All-nil (SendInRange Known))
 
 pub send_each : (Known : ℕ → Type 0) (conf : ℕ) (qs : List ℕ) (b : Body) → IsConf conf → All Known qs → BodyInRange Known b → All (SendInRange Known) (to_each conf qs b)
 send_each Known conf qs b in_conf to fit =
     All-map (SendInRange Known) (λ q. message conf q b) qs
-    (All-weaker Known (λ q. SendInRange Known (message conf q b)) (λ q one. record { to = one; message = record { conf = in_conf; body = fit } }) qs to)
+    (All-weaker Known (λ q. SendInRange Known (message conf q b)) (λ q one. record { to = one; conf = in_conf; message = record { conf = in_conf.1; body = fit } }) qs to)
 
 pub others_all : (Known : ℕ → Type 0) (me : ℕ) (p : Part) → PartIn Known p → All Known (others me p.members)
 others_all Known me p k = All-filter (λ q. not (eqb q me)) Known p.members k.of.members

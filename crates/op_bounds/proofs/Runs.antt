@@ -47,7 +47,7 @@ message_found members (m ∷ ms) (suc i) each = message_found members ms i (All-
 sent_in : (members : List ℕ) (me : ℕ) (sends : List (ℕ × Msg)) → IsMember members me → All (SendInRange (IsMember members)) sends → All (SentInRange members) (sent_by me sends)
 sent_in members me sends one each =
     All-map (SentInRange members) (λ s. record { from = me; to = s.0; message = s.1 }) sends
-    (All-weaker (SendInRange (IsMember members)) (λ s. SentInRange members (record { from = me; to = s.0; message = s.1 })) (λ s k. record { from = one; to = k.to; message = k.message }) sends each)
+    (All-weaker (SendInRange (IsMember members)) (λ s. SentInRange members (record { from = me; to = s.0; message = s.1 })) (λ s k. record { from = one; to = k.to; conf = k.conf; message = k.message }) sends each)
 
 -- ---- deeds
 
@@ -55,7 +55,7 @@ abbrev DoingInRange : List ℕ → Doing → Type 0
 DoingInRange members (Steps x) = InputInRange (IsMember members) x
 DoingInRange members Stops = Unit {0}
 DoingInRange members Opens = Unit {0}
-DoingInRange members Tells = Unit {0}
+DoingInRange members (Tells told) = Unit {0}
 
 abbrev DeedInRange : List ℕ → Deed → Type 0
 DeedInRange members d = DoingInRange members d.doing
@@ -72,6 +72,7 @@ deed_in members ms (what.Up p q) each fit = fit.1
 deed_in members ms (what.Down p q) each fit = fit.1
 deed_in members ms (what.Crash p) each fit = tt
 deed_in members ms (what.Start p) each fit = tt
+deed_in members ms (what.Show p) each fit = tt
 deed_in members ms (what.Ballots p) each fit = tt
 
 -- ---- what is stored is of the members
@@ -111,7 +112,7 @@ module _ (members : List ℕ) (range : MembersInRange members) where
   if_up (Steps x) f at w n k one fit = by_fate f at w n (step_plan n.pid n.state x) k one (steps_stay (IsMember members) (member_ids members range) n.pid one.pid n.state one.state x fit)
   if_up Stops f at w n k one fit = record { nodes = node_now w (record n { status = Down n.state.durable }) k (record { pid = one.pid; state = one.state; of = one.of; status = (one.state.durable, one.of) }); messages = k.messages }
   if_up Opens f at w n k one fit = k
-  if_up Tells f at w n k one fit = record { nodes = k.nodes; messages = k.messages }
+  if_up (Tells told) f at w n k one fit = record { nodes = k.nodes; messages = k.messages }
 
   opened : (n : Node) (found : Durable) → NodeInRange members n → DurableOf (IsMember members) found → OpeningInRange (IsMember members) n.pid found
   opened n found one d = openings_stay (IsMember members) (member_ids members range) n.pid one.pid found d
@@ -130,7 +131,7 @@ module _ (members : List ℕ) (range : MembersInRange members) where
   if_down Stops f finds_after after w n k one fit = k
   if_down Opens f finds_after after w n k one fit =
       opening f w n (cond finds_after after n.state.durable) k one (cond_both finds_after after n.state.durable (FoundInRange members) (λ _. fit) (λ _. (one.state.durable, one.of)))
-  if_down Tells f finds_after after w n k one fit = k
+  if_down (Tells told) f finds_after after w n k one fit = k
 
   by_status : (s : NodeStatus) (d : Doing) (h : Happening) (w : World) (n : Node) → WorldInRange members w → NodeInRange members n → StatusInRange members s → DoingInRange members d → WorldInRange members (world_by_status s d h w n)
   by_status Up d h w n k one found fit = if_up d h.fate h.event.line w n k one fit

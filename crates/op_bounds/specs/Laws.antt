@@ -1,6 +1,6 @@
 -- What stays in range over a step, and over a run.
 use Rattle.std.specs.Prelude.{◌≡◌, ℕ, List, All, IfSome}
-use Rattle.op_types.specs.Ranges.{IsMember, MembersInRange, WhatInRange}
+use Rattle.op_types.specs.Ranges.{IsConf, IsMember, MembersInRange, WhatInRange}
 use Rattle.op_types.specs.Changes.{Applies}
 use Rattle.op_types.specs.declared.durable.Durable.{Durable}
 use Rattle.op_types.specs.declared.events.Input.{Input}
@@ -43,10 +43,11 @@ OpeningsStayInRange Known =
 
 -- ---- a run
 
--- a message of the world: from a member to a member
+-- a message of the world: from a member to a member, in a configuration
 pub record SentInRange (members : List ℕ) (m : Sent) : Type 0 where
   pub from : IsMember members m.from
   pub to : IsMember members m.to
+  pub conf : IsConf m.message.conf
   pub message : MsgInRange (IsMember members) m.message
 
 -- what is stored is of these members

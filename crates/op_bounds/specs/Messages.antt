@@ -1,6 +1,6 @@
 -- Which ballots, messages, answers and inputs are in range, where Known says which ids may be named.
 use Rattle.std.specs.Prelude.{◌≡◌, ◌<◌, ◌≤◌, ℕ, Bool, true}
-use Rattle.op_types.specs.Limits.{greatest_number, positions_end}
+use Rattle.op_types.specs.Limits.{greatest_number, positions_end, last_conf}
 use Rattle.op_types.specs.Ranges.{IsConf, IsPlace, IsPid, IsNumber, IsValue, BallotInRange, CommandInRange, EntryInRange, EntriesInRange}
 use Rattle.op_types.specs.declared.ballot.Ballot.{Ballot}
 use Rattle.op_types.specs.declared.messages.Body.{Body}
@@ -45,14 +45,15 @@ BodyInRange Known body.PrepareReq = Unit {0}
 BodyInRange Known (body.Refuse n b) = BallotOf Known n × BallotOf Known b
 BodyInRange Known (body.Forward e) = EntryInRange e
 
--- a message in range
+-- a message in range; one that names no configuration says nothing to a node
 pub record MsgInRange (Known : ℕ → Type 0) (m : Msg) : Type 0 where
-  pub conf : IsConf m.conf
+  pub conf : m.conf ≤ last_conf
   pub body : BodyInRange Known m.body
 
--- a message in range, to a known id
+-- a message in range that names a configuration, to a known id
 pub record SendInRange (Known : ℕ → Type 0) (s : ℕ × Msg) : Type 0 where
   pub to : Known s.0
+  pub conf : IsConf s.1.conf
   pub message : MsgInRange Known s.1
 
 -- why a proposal is given up

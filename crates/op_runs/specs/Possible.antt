@@ -15,6 +15,7 @@ is_possible members sent (what.Up p q) = is_member nat_eq members p && is_member
 is_possible members sent (what.Down p q) = is_member nat_eq members p && is_member nat_eq members q
 is_possible members sent (what.Crash p) = is_member nat_eq members p
 is_possible members sent (what.Start p) = is_member nat_eq members p
+is_possible members sent (what.Show p) = is_member nat_eq members p
 is_possible members sent (what.Ballots p) = is_member nat_eq members p
 
 -- whether an event can come in this world

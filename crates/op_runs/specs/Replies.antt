@@ -25,11 +25,12 @@ pub record IsServed (history : List Entry) (client seq : ℕ) (answer : Answer) 
   pub seq_is : command.seq ≡ seq
   pub answer_is : answer ≡ answer_of (service_of before) command
 
--- a reply line is so served; the other lines say what became of a proposal, or a node's ballots
+-- a reply line is so served; the other lines say what became of a proposal, what a node's service holds, or its ballots
 abbrev pub IfReplyServed : List Entry → Line → Type 0
 IfReplyServed history (line.Answer at outcome) = Unit {0}
 IfReplyServed history (line.Reply pid client seq answer) = IsServed history client seq answer
 IfReplyServed history (line.Dropped pid client seq cause) = Unit {0}
+IfReplyServed history (line.Pair pid key value) = Unit {0}
 IfReplyServed history (line.Ballots pid own leader promised) = Unit {0}
 
 -- each reply line of a report is served by the report's lists

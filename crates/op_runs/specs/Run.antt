@@ -44,7 +44,7 @@ abbrev pub machine_proposing_doing : Machine → ℕ → State → Doing → Mac
 machine_proposing_doing m me s (Steps x) = machine_proposing_input m me s x
 machine_proposing_doing m me s Stops = m
 machine_proposing_doing m me s Opens = m
-machine_proposing_doing m me s Tells = m
+machine_proposing_doing m me s (Tells t) = m
 
 -- at a node that is up
 abbrev pub machine_proposing_if : NodeStatus → Machine → ℕ → State → Doing → Machine

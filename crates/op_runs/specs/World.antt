@@ -14,7 +14,7 @@ use Rattle.op_types.specs.declared.answers.Answer.TheVariants as answer
 use Rattle.op_types.specs.declared.answers.Outcome.{Outcome}
 use Rattle.op_types.specs.declared.summary.Line.{Line}
 use Rattle.op_types.specs.declared.summary.Line.TheVariants as line
-use Rattle.op_spec.specs.Service.{new_service, base_bytes}
+use Rattle.op_spec.specs.Service.{Pairs, new_service, base_bytes}
 use Rattle.op_types.specs.declared.messages.Msg.{Msg}
 use Rattle.op_protocol.specs.State.{State, Planned, state_after}
 use Rattle.op_protocol.specs.Rows.{step_plan}
@@ -75,12 +75,17 @@ first_world members = record { nodes = map (first_node members) members; message
 
 -- ---- events
 
--- what an event does at a node: a step of it, a stop between two steps, an opening, or it tells the node's ballots
+-- what a node tells: the pairs of its service, or its ballots
+pub data Told : Type 0 where
+  ThePairs : Told
+  TheBallots : Told
+
+-- what an event does at a node: a step of it, a stop between two steps, an opening, or it tells something
 pub data Doing : Type 0 where
   Steps : (x : Input) → Doing
   Stops : Doing
   Opens : Doing
-  Tells : Doing
+  Tells : (told : Told) → Doing
 
 -- what is done, and at which node
 pub record Deed : Type 0 where
@@ -101,7 +106,8 @@ deed_of messages (what.Up p q) = Some (record { pid = p; doing = Steps (input.Up
 deed_of messages (what.Down p q) = Some (record { pid = p; doing = Steps (input.Down q) })
 deed_of messages (what.Crash p) = Some (record { pid = p; doing = Stops })
 deed_of messages (what.Start p) = Some (record { pid = p; doing = Opens })
-deed_of messages (what.Ballots p) = Some (record { pid = p; doing = Tells })
+deed_of messages (what.Show p) = Some (record { pid = p; doing = Tells ThePairs })
+deed_of messages (what.Ballots p) = Some (record { pid = p; doing = Tells TheBallots })
 
 -- the node of this id, if there is one
 abbrev pub node_at : List Node → ℕ → Option Node
@@ -134,10 +140,19 @@ answer_line pid client seq (answer.Dropped cause) = line.Dropped pid client seq 
 abbrev pub lines_of : ℕ → ℕ → Planned → List Line
 lines_of at pid p = outcome_lines at p.outcome ++ map (λ r. answer_line pid r.client r.seq r.answer) p.replies
 
--- a node's ballots
-abbrev pub ballot_lines : ℕ → State → Option Part → List Line
-ballot_lines pid s None = []
-ballot_lines pid s (Some p) = line.Ballots pid s.volatile.own s.volatile.leader p.promised ∷ []
+-- the pairs of a node's service, rising by key
+abbrev pub pair_lines : ℕ → Pairs → List Line
+pair_lines pid pairs = map (λ x. line.Pair pid x.0 x.1) pairs
+
+-- what a node with this part tells
+abbrev pub part_lines : Told → ℕ → State → Part → List Line
+part_lines ThePairs pid s p = pair_lines pid s.service.pairs
+part_lines TheBallots pid s p = line.Ballots pid s.volatile.own s.volatile.leader p.promised ∷ []
+
+-- what a node tells; one without a part has nothing to tell
+abbrev pub told_lines : Told → ℕ → State → Option Part → List Line
+told_lines t pid s None = []
+told_lines t pid s (Some p) = part_lines t pid s p
 
 -- the world with this node in the place of the one of its id
 abbrev pub world_with_node : World → Node → World
@@ -158,7 +173,7 @@ abbrev pub world_if_up : Doing → Fate → ℕ → World → Node → World
 world_if_up (Steps x) f at w n = world_by_fate f at w n (step_plan n.pid n.state x)
 world_if_up Stops f at w n = world_with_node w (record n { status = Down n.state.durable })
 world_if_up Opens f at w n = w
-world_if_up Tells f at w n = record w { lines = w.lines ++ ballot_lines n.pid n.state n.state.durable.part }
+world_if_up (Tells t) f at w n = record w { lines = w.lines ++ told_lines t n.pid n.state n.state.durable.part }
 
 -- the node opened again, unless it stops in its opening; waiting clients are lost
 abbrev pub world_opening : Fate → World → Node → Durable → World
@@ -171,7 +186,7 @@ abbrev pub world_if_down : Doing → Fate → Bool → Durable → World → Nod
 world_if_down (Steps x) f finds_after after w n = w
 world_if_down Stops f finds_after after w n = w
 world_if_down Opens f finds_after after w n = world_opening f w n (if finds_after then after else n.state.durable)
-world_if_down Tells f finds_after after w n = w
+world_if_down (Tells t) f finds_after after w n = w
 
 -- what happens at a node, by how it runs
 abbrev pub world_by_status : NodeStatus → Doing → Happening → World → Node → World

@@ -63,13 +63,6 @@ OpInRange (Del key) = IsKey key
 OpInRange (Get key) = IsKey key
 OpInRange (Cas key old new) = IsKey key × IsValue old × IsValue new
 
--- the operation is a put
-abbrev pub IsPut : Op → Type 0
-IsPut (Put key value) = Unit {0}
-IsPut (Del key) = ⊥
-IsPut (Get key) = ⊥
-IsPut (Cas key old new) = ⊥
-
 -- a command whose parts are in range
 pub record CommandInRange (c : Command) : Type 0 where
   pub client : IsNumber c.client
@@ -86,13 +79,14 @@ pub record EntriesInRange (most : ℕ) (es : List Entry) : Type 0 where
   pub few : length es ≤ most
   pub each : All EntryInRange es
 
--- what happens, at a server in range, with its parts in range; a schedule's commands are puts yet
+-- what happens, at a server in range, with its parts in range
 abbrev pub WhatInRange : What → Type 0
 WhatInRange (what.Tick p) = IsPid p
-WhatInRange (what.Command p c) = IsPid p × CommandInRange c × IsPut c.op
+WhatInRange (what.Command p c) = IsPid p × CommandInRange c
 WhatInRange (what.Deliver i) = i < 2 ^ 64
 WhatInRange (what.Up p q) = IsPid p × IsPid q
 WhatInRange (what.Down p q) = IsPid p × IsPid q
 WhatInRange (what.Crash p) = IsPid p
 WhatInRange (what.Start p) = IsPid p
+WhatInRange (what.Show p) = IsPid p
 WhatInRange (what.Ballots p) = IsPid p

@@ -1,4 +1,4 @@
-use crate::{Answer, Ballot, Cause, ConfNo, Entries, Members, Outcome, Pid, Seq};
+use crate::{Answer, Ballot, Blob, Cause, ConfNo, Entries, Members, Outcome, Pid, Seq};
 
 /// A line of a report that an event gave.
 #[derive(Drop)]
@@ -9,6 +9,8 @@ pub enum Line {
     Reply(Pid, u64, u64, Answer),
     /// A proposal (its client, and its number) that was buffered at a node and is given up.
     Dropped(Pid, u64, u64, Cause),
+    /// A key of a node's service, and its value.
+    Pair(Pid, Blob, Blob),
     /// A node's own ballot, the leader's as far as it knows, and what it has promised.
     Ballots(Pid, Ballot, Ballot, Ballot),
 }
