@@ -13,9 +13,9 @@ use Rattle.op_types.specs.declared.events.What.TheVariants as what
 use Rattle.op_types.specs.declared.events.Event.{Event}
 use Rattle.op_sched.specs.declared.schedule.Schedule.{Schedule}
 use Rattle.op_sched.proofs.UnambiguousEncoding.{one_encoding_of}
-use Rattle.op_types.specs.Ranges.{IsPid, IsNumber, IsPut, AreRising, MembersInRange, CommandInRange, WhatInRange}
-use Rattle.op_sched.specs.Grammar.{IsHeader, IsOfBytes, IsBetweenTwo, OpIsOfBytes, AreInRange, AreOfBytes, AreBetweenTwo, AreEvents, AreLines, IsSchedule, IsFirstBadEvent, IsFirstBadOf, IsFirstBadLine, AreWordsOf, op_words, what_words, words_of, lines_of, numbered_lines}
-use Rattle.op_sched.proofs.EventWords.{first, after_first, name_of, named}
+use Rattle.op_types.specs.Ranges.{IsPid, AreRising, MembersInRange, CommandInRange, WhatInRange}
+use Rattle.op_sched.specs.Grammar.{IsHeader, IsOfBytes, IsBetweenTwo, OpIsOfBytes, AreInRange, AreOfBytes, AreBetweenTwo, AreEvents, AreLines, IsSchedule, IsFirstBadEvent, IsFirstBadOf, IsFirstBadLine, AreWordsOf, op_name, operands, what_words, words_of, lines_of, numbered_lines}
+use Rattle.op_sched.proofs.EventWords.{first, after_first, name_of, no_op}
 
 no_bad_event : (n : ℕ) (lines : List (ℕ × List ℕ)) (events : List Event) → AreEvents lines events → IsFirstBadEvent lines n → ⊥
 no_bad_event n [] events good bad = absurd bad
@@ -37,30 +37,31 @@ no_bad_line text s n good bad = no_bad_of (length (lines_of text) + 1) (numbered
 one_pid : (p q : ℕ) → IsPid p → IsPid q → decimal p ≡ decimal q → p ≡ q
 one_pid p q ip iq e = decimal_injective p q (omega arith) (omega arith) e
 
--- two lines with different names differ
-one_name : (w v : What) → WhatInRange w → WhatInRange v → what_words w ≡ what_words v → name_of w ≡ name_of v
-one_name w v iw iv e = sym (named w iw) ∙ ap first e ∙ named v iv
-
 abbrev command : ℕ → ℕ → Op → Command
 command client seq op = record { client = client; seq = seq; op = op }
 
-one_op : (p q a b m n : ℕ) (o r : Op) → IsPid p → IsPid q → IsNumber a → IsNumber b → IsNumber m → IsNumber n → IsPut o → IsPut r → OpIsOfBytes o → OpIsOfBytes r → op_words p a m o ≡ op_words q b n r → (p ≡ q) × (a ≡ b) × (m ≡ n) × (o ≡ r)
-one_op p q a b m n (Put k v) (Put l w) hp hq ha hb hm hn po pr io ir e =
+-- an operation is told by its name and its operands
+pub one_op : (o r : Op) → OpIsOfBytes o → OpIsOfBytes r → op_name o ≡ op_name r → operands o ≡ operands r → o ≡ r
+one_op (Put k v) (Put l w) io ir n e =
     let keys = one_encoding_of k l io.0 ir.0 cc in
     let values = one_encoding_of v w io.1 ir.1 cc in
-    (one_pid p q hp hq cc, decimal_injective a b (omega arith) (omega arith) cc, decimal_injective m n (omega arith) (omega arith) cc, cc (keys, values))
-one_op p q a b m n o (Del l) hp hq ha hb hm hn po pr io ir e = absurd pr
-one_op p q a b m n o (Get l) hp hq ha hb hm hn po pr io ir e = absurd pr
-one_op p q a b m n o (Cas l w x) hp hq ha hb hm hn po pr io ir e = absurd pr
-one_op p q a b m n (Del k) r hp hq ha hb hm hn po pr io ir e = absurd po
-one_op p q a b m n (Get k) r hp hq ha hb hm hn po pr io ir e = absurd po
-one_op p q a b m n (Cas k v u) r hp hq ha hb hm hn po pr io ir e = absurd po
+    cc (keys, values)
+one_op (Del k) (Del l) io ir n e = ap Del (one_encoding_of k l io ir cc)
+one_op (Get k) (Get l) io ir n e = ap Get (one_encoding_of k l io ir cc)
+one_op (Cas k v u) (Cas l w x) io ir n e =
+    let keys = one_encoding_of k l io.0 ir.0 cc in
+    let olds = one_encoding_of v w io.1 ir.1 cc in
+    let news = one_encoding_of u x io.2 ir.2 cc in
+    cc (keys, olds, news)
+one_op o r io ir n e = absurd (false≢true ((bytes_eq-Decides (op_name o) (op_name r)).1 n))
 
-one_command : (p q : ℕ) (c d : Command) → IsPid p → IsPid q → CommandInRange c → CommandInRange d → IsPut c.op → IsPut d.op → OpIsOfBytes c.op → OpIsOfBytes d.op → op_words p c.client c.seq c.op ≡ op_words q d.client d.seq d.op → what.Command p c ≡ what.Command q d
-one_command p q c d hp hq ic id pc pd bc bd e =
-    let same = one_op p q c.client d.client c.seq d.seq c.op d.op hp hq ic.client id.client ic.seq id.seq pc pd bc bd e in
-    let here : c ≡ d = cc (ap (λ (x : ℕ). command x c.seq c.op) same.1, ap (λ (x : ℕ). command d.client x c.op) same.2, ap (λ (x : Op). command d.client d.seq x) same.3) in
-    ap (λ (x : ℕ). what.Command x c) same.0 ∙ ap (what.Command q) here
+-- a client, the number of its command, and the operation's words are one command's
+pub one_command : (c d : Command) → CommandInRange c → CommandInRange d → OpIsOfBytes c.op → OpIsOfBytes d.op → op_name c.op ≡ op_name d.op → decimal c.client ≡ decimal d.client → decimal c.seq ≡ decimal d.seq → operands c.op ≡ operands d.op → c ≡ d
+one_command c d ic id bc bd name client seq words =
+    let here : c.client ≡ d.client = decimal_injective c.client d.client (omega (arith, ic.client)) (omega (arith, id.client)) client in
+    let there : c.seq ≡ d.seq = decimal_injective c.seq d.seq (omega (arith, ic.seq)) (omega (arith, id.seq)) seq in
+    let op = one_op c.op d.op bc bd name words in
+    ap (λ (x : ℕ). command x c.seq c.op) here ∙ ap (λ (x : ℕ). command d.client x c.op) there ∙ ap (command d.client d.seq) op
 
 one_what : (w v : What) → WhatInRange w → WhatInRange v → IsOfBytes w → IsOfBytes v → what_words w ≡ what_words v → w ≡ v
 one_what (what.Tick p) (what.Tick q) iw iv bw bv e = ap what.Tick (one_pid p q iw iv cc)
@@ -70,8 +71,18 @@ one_what (what.Ballots p) (what.Ballots q) iw iv bw bv e = ap what.Ballots (one_
 one_what (what.Deliver i) (what.Deliver j) iw iv bw bv e = ap what.Deliver (decimal_injective i j iw iv cc)
 one_what (what.Up p q) (what.Up r s) iw iv bw bv e = cc (one_pid p r iw.0 iv.0 cc, one_pid q s iw.1 iv.1 cc)
 one_what (what.Down p q) (what.Down r s) iw iv bw bv e = cc (one_pid p r iw.0 iv.0 cc, one_pid q s iw.1 iv.1 cc)
-one_what (what.Command p c) (what.Command q d) iw iv bw bv e = one_command p q c d iw.0 iv.0 iw.1 iv.1 iw.2 iv.2 bw bv e
-one_what w v iw iv bw bv e = absurd (false≢true ((bytes_eq-Decides (name_of w) (name_of v)).1 (one_name w v iw iv e)))
+one_what (what.Show p) (what.Show q) iw iv bw bv e = ap what.Show (one_pid p q iw iv cc)
+one_what (what.Command p c) (what.Command q d) iw iv bw bv e =
+    let same : p ≡ q = one_pid p q iw.0 iv.0 cc in
+    let name : op_name c.op ≡ op_name d.op = cc in
+    let client : decimal c.client ≡ decimal d.client = cc in
+    let seq : decimal c.seq ≡ decimal d.seq = cc in
+    let words : operands c.op ≡ operands d.op = cc in
+    let here = one_command c d iw.1 iv.1 bw bv name client seq words in
+    ap (λ (x : ℕ). what.Command x c) same ∙ ap (what.Command q) here
+one_what (what.Command p c) v iw iv bw bv e = absurd (no_op c.op (name_of v) refl (ap first e))
+one_what w (what.Command q d) iw iv bw bv e = absurd (no_op d.op (name_of w) refl (sym (ap first e)))
+one_what w v iw iv bw bv e = absurd (false≢true ((bytes_eq-Decides (name_of w) (name_of v)).1 (ap first e)))
 
 abbrev event : ℕ → What → Event
 event line w = record { line = line; what = w }

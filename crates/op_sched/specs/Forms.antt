@@ -3,16 +3,26 @@ use Rattle.std.specs.Prelude.{◌≡◌, ℕ, List, codes, map, decimal}
 use Rattle.op_types.specs.Ranges.{IsPid, MembersInRange}
 use Rattle.op_sched.specs.declared.reading.forms.Form.{Form}
 use Rattle.op_sched.specs.declared.reading.forms.Form.TheVariants as form
+use Rattle.op_sched.specs.declared.reading.operations.OpForm.{OpForm}
+use Rattle.op_sched.specs.declared.reading.operations.OpForm.TheVariants as op_form
+
+-- the name of an operation's form
+abbrev pub op_form_name : OpForm → List ℕ
+op_form_name op_form.Put = codes "put"
+op_form_name op_form.Del = codes "del"
+op_form_name op_form.Get = codes "get"
+op_form_name op_form.Cas = codes "cas"
 
 -- the name of a form
 abbrev pub form_name : Form → List ℕ
 form_name form.Tick = codes "tick"
-form_name form.Put = codes "put"
+form_name (form.Command op) = op_form_name op
 form_name form.Deliver = codes "deliver"
 form_name form.Up = codes "up"
 form_name form.Drop = codes "drop"
 form_name form.Crash = codes "crash"
 form_name form.Start = codes "start"
+form_name form.Show = codes "show"
 form_name form.Ballots = codes "ballots"
 
 -- two servers that differ

@@ -67,13 +67,23 @@ IsHeader line members = AreHeaderWords (words_of line) members
 
 -- ---- events
 
--- the words of a client's operation at a server; one that is no put has none yet
+-- the name of a client's operation
+abbrev pub op_name : Op → List ℕ
+op_name (Put key value) = codes "put"
+op_name (Del key) = codes "del"
+op_name (Get key) = codes "get"
+op_name (Cas key old new) = codes "cas"
+
+-- what it is done with: its key, and its values
+abbrev pub operands : Op → List (List ℕ)
+operands (Put key value) = encoded key ∷ encoded value ∷ []
+operands (Del key) = encoded key ∷ []
+operands (Get key) = encoded key ∷ []
+operands (Cas key old new) = encoded key ∷ encoded old ∷ encoded new ∷ []
+
+-- the words of a client's operation at a server
 abbrev pub op_words : ℕ → ℕ → ℕ → Op → List (List ℕ)
-op_words p client seq (Put key value) =
-    codes "put" ∷ decimal p ∷ decimal client ∷ decimal seq ∷ encoded key ∷ encoded value ∷ []
-op_words p client seq (Del key) = []
-op_words p client seq (Get key) = []
-op_words p client seq (Cas key old new) = []
+op_words p client seq op = op_name op ∷ decimal p ∷ decimal client ∷ decimal seq ∷ operands op
 
 -- the words of what happens: its name, and what it needs
 abbrev pub what_words : What → List (List ℕ)
@@ -84,6 +94,7 @@ what_words (what.Up p q) = codes "up" ∷ decimal p ∷ decimal q ∷ []
 what_words (what.Down p q) = codes "drop" ∷ decimal p ∷ decimal q ∷ []
 what_words (what.Crash p) = codes "crash" ∷ decimal p ∷ []
 what_words (what.Start p) = codes "start" ∷ decimal p ∷ []
+what_words (what.Show p) = codes "show" ∷ decimal p ∷ []
 what_words (what.Ballots p) = codes "ballots" ∷ decimal p ∷ []
 
 -- the operation's key and values are bytes

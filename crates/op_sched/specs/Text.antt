@@ -67,6 +67,8 @@ line_text (line.Reply pid client seq answer) =
 line_text (line.Dropped pid client seq cause) =
     codes "dropped " ++ decimal pid ++ codes " " ++ decimal client ++ codes " " ++ decimal seq ++ codes " "
     ++ cause_text cause ++ codes "\n"
+line_text (line.Pair pid key value) =
+    codes "pair " ++ decimal pid ++ codes " " ++ encoded key ++ codes " " ++ encoded value ++ codes "\n"
 line_text (line.Ballots pid own leader promised) =
     codes "ballots " ++ decimal pid ++ codes " own " ++ ballot_text own ++ codes " leader " ++ ballot_text leader
     ++ codes " promised " ++ ballot_text promised ++ codes "\n"

@@ -6,7 +6,7 @@ pub mod PeerRows
 pub mod Readings
 pub mod RisingIds
 pub mod Flags
-pub mod PutWords
+pub mod CommandWords
 pub mod Taken
 pub mod TaskWords
 pub mod Words

@@ -7,7 +7,6 @@ use Rattle.clap.specs.declared.parser.matches.ArgMatches.TheViews.{out-ArgMatche
 use Rattle.clap.proofs.OnLiterals.{clap_on_literals}
 use Rattle.op_setup.specs.declared.tasks.Task.{Task}
 use Rattle.op_setup.specs.declared.tasks.Task.TheVariants.{Node, Replay, Call, Cluster}
-use Rattle.op_types.specs.Ranges.{IsPut}
 use Rattle.op_types.specs.declared.log.Op.{Op}
 use Rattle.op_types.specs.declared.log.Op.TheVariants.{Put, Del, Get, Cas}
 use Rattle.op_types.specs.declared.events.Request.TheVariants as request
@@ -37,20 +36,28 @@ end_taken : (addr : List ℕ) → IsPlainWord addr → takes omni_app (codes "ca
 unfolding clap_on_literals
 end_taken addr h = rw (h.long, h.short, h.bare) refl
 
-put_taken : (addr client seq key value : List ℕ) → IsPlainWord addr → takes omni_app (codes "call" ∷ addr ∷ codes "put" ∷ client ∷ seq ∷ key ∷ value ∷ []) ≡ true
+key_taken : (addr name client seq key : List ℕ) → IsPlainWord addr → IsPlainWord name → takes omni_app (codes "call" ∷ addr ∷ name ∷ client ∷ seq ∷ key ∷ []) ≡ true
 unfolding clap_on_literals
-put_taken addr client seq key value h = rw (h.long, h.short, h.bare) refl
+key_taken addr name client seq key h n = rw (h.long, h.short, h.bare, n.long, n.short, n.bare) refl
 
-op_taken : (addr : List ℕ) (client seq : ℕ) (op : Op) → IsPlainWord addr → IsPut op → takes omni_app (codes "call" ∷ addr ∷ op_words client seq op) ≡ true
-op_taken addr client seq (Put key value) h put = put_taken addr (decimal client) (decimal seq) (encoded key) (encoded value) h
-op_taken addr client seq (Del key) h put = absurd put
-op_taken addr client seq (Get key) h put = absurd put
-op_taken addr client seq (Cas key old new) h put = absurd put
+value_taken : (addr name client seq key value : List ℕ) → IsPlainWord addr → IsPlainWord name → takes omni_app (codes "call" ∷ addr ∷ name ∷ client ∷ seq ∷ key ∷ value ∷ []) ≡ true
+unfolding clap_on_literals
+value_taken addr name client seq key value h n = rw (h.long, h.short, h.bare, n.long, n.short, n.bare) refl
+
+values_taken : (addr name client seq key old new : List ℕ) → IsPlainWord addr → IsPlainWord name → takes omni_app (codes "call" ∷ addr ∷ name ∷ client ∷ seq ∷ key ∷ old ∷ new ∷ []) ≡ true
+unfolding clap_on_literals
+values_taken addr name client seq key old new h n = rw (h.long, h.short, h.bare, n.long, n.short, n.bare) refl
+
+op_taken : (addr : List ℕ) (client seq : ℕ) (op : Op) → IsPlainWord addr → takes omni_app (codes "call" ∷ addr ∷ op_words client seq op) ≡ true
+op_taken addr client seq (Put key value) h = value_taken addr (codes "put") (decimal client) (decimal seq) (encoded key) (encoded value) h (record { flag = refl; long = refl; short = refl; bare = refl })
+op_taken addr client seq (Del key) h = key_taken addr (codes "del") (decimal client) (decimal seq) (encoded key) h (record { flag = refl; long = refl; short = refl; bare = refl })
+op_taken addr client seq (Get key) h = key_taken addr (codes "get") (decimal client) (decimal seq) (encoded key) h (record { flag = refl; long = refl; short = refl; bare = refl })
+op_taken addr client seq (Cas key old new) h = values_taken addr (codes "cas") (decimal client) (decimal seq) (encoded key) (encoded old) (encoded new) h (record { flag = refl; long = refl; short = refl; bare = refl })
 
 taken : (t : Task) → TaskInRange t → takes omni_app (task_words t) ≡ true
 taken (Node id) h = node_taken (decimal id) (plain_decimal id (omega (arith, h.1)))
 taken Replay h = replay_taken
-taken (Call addr (request.Command c)) h = op_taken (addr_text addr) c.client c.seq c.op (plain_addr addr) h.1.2
+taken (Call addr (request.Command c)) h = op_taken (addr_text addr) c.client c.seq c.op (plain_addr addr)
 taken (Call addr request.Status) h = status_taken (addr_text addr) (plain_addr addr)
 taken (Call addr request.End) h = end_taken (addr_text addr) (plain_addr addr)
 taken Cluster h = cluster_taken
@@ -79,20 +86,28 @@ call_found : (addr word : List ℕ) → name_found (codes "call" ∷ addr ∷ wo
 unfolding clap_on_literals
 call_found addr word = refl
 
-put_found : (addr name client seq key value : List ℕ) → name_found (codes "call" ∷ addr ∷ name ∷ client ∷ seq ∷ key ∷ value ∷ []) ≡ Some (codes "call")
+key_found : (addr name client seq key : List ℕ) → name_found (codes "call" ∷ addr ∷ name ∷ client ∷ seq ∷ key ∷ []) ≡ Some (codes "call")
 unfolding clap_on_literals
-put_found addr name client seq key value = refl
+key_found addr name client seq key = refl
 
-op_found : (addr : List ℕ) (client seq : ℕ) (op : Op) → IsPut op → name_found (codes "call" ∷ addr ∷ op_words client seq op) ≡ Some (codes "call")
-op_found addr client seq (Put key value) put = put_found addr (codes "put") (decimal client) (decimal seq) (encoded key) (encoded value)
-op_found addr client seq (Del key) put = absurd put
-op_found addr client seq (Get key) put = absurd put
-op_found addr client seq (Cas key old new) put = absurd put
+value_found : (addr name client seq key value : List ℕ) → name_found (codes "call" ∷ addr ∷ name ∷ client ∷ seq ∷ key ∷ value ∷ []) ≡ Some (codes "call")
+unfolding clap_on_literals
+value_found addr name client seq key value = refl
+
+values_found : (addr name client seq key old new : List ℕ) → name_found (codes "call" ∷ addr ∷ name ∷ client ∷ seq ∷ key ∷ old ∷ new ∷ []) ≡ Some (codes "call")
+unfolding clap_on_literals
+values_found addr name client seq key old new = refl
+
+op_found : (addr : List ℕ) (client seq : ℕ) (op : Op) → name_found (codes "call" ∷ addr ∷ op_words client seq op) ≡ Some (codes "call")
+op_found addr client seq (Put key value) = value_found addr (codes "put") (decimal client) (decimal seq) (encoded key) (encoded value)
+op_found addr client seq (Del key) = key_found addr (codes "del") (decimal client) (decimal seq) (encoded key)
+op_found addr client seq (Get key) = key_found addr (codes "get") (decimal client) (decimal seq) (encoded key)
+op_found addr client seq (Cas key old new) = values_found addr (codes "cas") (decimal client) (decimal seq) (encoded key) (encoded old) (encoded new)
 
 found : (t : Task) → TaskInRange t → name_found (task_words t) ≡ slice_get (task_words t) 0
 found (Node id) h = node_found (decimal id)
 found Replay h = replay_found
-found (Call addr (request.Command c)) h = op_found (addr_text addr) c.client c.seq c.op h.1.2
+found (Call addr (request.Command c)) h = op_found (addr_text addr) c.client c.seq c.op
 found (Call addr request.Status) h = call_found (addr_text addr) (codes "status")
 found (Call addr request.End) h = call_found (addr_text addr) (codes "end")
 found Cluster h = cluster_found

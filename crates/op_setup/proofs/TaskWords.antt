@@ -4,14 +4,14 @@ use Rattle.std.proofs.lemmas.Bool.{false≢true}
 use Rattle.std.proofs.lemmas.Fmt.{decimal_injective}
 use Rattle.std.proofs.lemmas.Slice.Eq.{bytes_eq-Decides}
 use Rattle.op_outside.specs.declared.net.Addr.{Addr}
-use Rattle.op_types.specs.Ranges.{IsNumber, IsPut}
+use Rattle.op_types.specs.Ranges.{IsNumber}
 use Rattle.op_types.specs.declared.events.Request.{Request}
 use Rattle.op_types.specs.declared.events.Request.TheVariants as request
-use Rattle.op_types.specs.declared.log.Command.{Command}
 use Rattle.op_types.specs.declared.log.Op.{Op}
 use Rattle.op_types.specs.declared.log.Op.TheVariants.{Put, Del, Get, Cas}
-use Rattle.op_sched.proofs.UnambiguousEncoding.{one_encoding_of}
-use Rattle.op_sched.specs.Grammar.{OpIsOfBytes}
+use Rattle.op_sched.proofs.EventWords.{no_op}
+use Rattle.op_sched.proofs.UnambiguousSchedules.{one_command}
+use Rattle.op_sched.specs.Grammar.{op_name, operands}
 use Rattle.op_sched.specs.Percent.{encoded}
 use Rattle.op_setup.specs.Addresses.{addr_text}
 use Rattle.op_setup.specs.Tasks.{has_flag, is_flag, op_words, request_words, task_words, IsRequest, IsTask, IsTaskOf, RequestInRange, TaskInRange}
@@ -29,23 +29,32 @@ one_flag name word hn hw = rw (hn, hw) refl
 call_flag : (addr word : List ℕ) → is_flag addr ≡ false → is_flag word ≡ false → has_flag (codes "call" ∷ addr ∷ word ∷ []) ≡ false
 call_flag addr word ha hw = rw (ha, hw) refl
 
-put_flag : (addr client seq key value : List ℕ) → is_flag addr ≡ false → is_flag client ≡ false → is_flag seq ≡ false → is_flag key ≡ false → is_flag value ≡ false
-    → has_flag (codes "call" ∷ addr ∷ codes "put" ∷ client ∷ seq ∷ key ∷ value ∷ []) ≡ false
-put_flag addr client seq key value ha hc hs hk hv = rw (ha, hc, hs, hk, hv) refl
+name_flag : (op : Op) → is_flag (op_name op) ≡ false
+name_flag (Put key value) = refl
+name_flag (Del key) = refl
+name_flag (Get key) = refl
+name_flag (Cas key old new) = refl
 
-op_flag : (addr : List ℕ) (client seq : ℕ) (op : Op) → is_flag addr ≡ false → IsNumber client → IsNumber seq → IsPut op → has_flag (codes "call" ∷ addr ∷ op_words client seq op) ≡ false
-op_flag addr client seq (Put key value) ha hc hs put =
+operands_flag : (op : Op) → has_flag (operands op) ≡ false
+operands_flag (Put key value) = one_flag (encoded key) (encoded value) (plain_encoded key).flag (plain_encoded value).flag
+operands_flag (Del key) = rw (plain_encoded key).flag refl
+operands_flag (Get key) = rw (plain_encoded key).flag refl
+operands_flag (Cas key old new) = rw ((plain_encoded key).flag, (plain_encoded old).flag, (plain_encoded new).flag) refl
+
+words_flag : (addr name client seq : List ℕ) (words : List (List ℕ)) → is_flag addr ≡ false → is_flag name ≡ false → is_flag client ≡ false → is_flag seq ≡ false → has_flag words ≡ false
+    → has_flag (codes "call" ∷ addr ∷ name ∷ client ∷ seq ∷ words) ≡ false
+words_flag addr name client seq words ha hn hc hs hw = rw (ha, hn, hc, hs, hw) refl
+
+op_flag : (addr : List ℕ) (client seq : ℕ) (op : Op) → is_flag addr ≡ false → IsNumber client → IsNumber seq → has_flag (codes "call" ∷ addr ∷ op_words client seq op) ≡ false
+op_flag addr client seq op ha hc hs =
     let c = plain_decimal client (omega (arith, hc.1)) in
     let s = plain_decimal seq (omega (arith, hs.1)) in
-    put_flag addr (decimal client) (decimal seq) (encoded key) (encoded value) ha c.flag s.flag (plain_encoded key).flag (plain_encoded value).flag
-op_flag addr client seq (Del key) ha hc hs put = absurd put
-op_flag addr client seq (Get key) ha hc hs put = absurd put
-op_flag addr client seq (Cas key old new) ha hc hs put = absurd put
+    words_flag addr (op_name op) (decimal client) (decimal seq) (operands op) ha (name_flag op) c.flag s.flag (operands_flag op)
 
 no_flag : (t : Task) → TaskInRange t → has_flag (task_words t) ≡ false
 no_flag (Node id) h = one_flag (codes "node") (decimal id) refl (plain_decimal id (omega (arith, h.1))).flag
 no_flag Replay h = refl
-no_flag (Call addr (request.Command c)) h = op_flag (addr_text addr) c.client c.seq c.op (plain_addr addr).flag h.1.0.client h.1.0.seq h.1.2
+no_flag (Call addr (request.Command c)) h = op_flag (addr_text addr) c.client c.seq c.op (plain_addr addr).flag h.1.0.client h.1.0.seq
 no_flag (Call addr request.Status) h = call_flag (addr_text addr) (codes "status") (plain_addr addr).flag refl
 no_flag (Call addr request.End) h = call_flag (addr_text addr) (codes "end") (plain_addr addr).flag refl
 no_flag Cluster h = refl
@@ -65,49 +74,18 @@ abbrev after_first : List (List ℕ) → List (List ℕ)
 after_first [] = []
 after_first (a ∷ more) = more
 
-abbrev command : ℕ → ℕ → Op → Command
-command client seq op = record { client = client; seq = seq; op = op }
-
-one_op : (a b m n : ℕ) (o r : Op) → IsNumber a → IsNumber b → IsNumber m → IsNumber n → IsPut o → IsPut r → OpIsOfBytes o → OpIsOfBytes r
-    → op_words a m o ≡ op_words b n r → (a ≡ b) × (m ≡ n) × (o ≡ r)
-one_op a b m n (Put k v) (Put l w) ha hb hm hn po pr io ir e =
-    let keys = one_encoding_of k l io.0 ir.0 cc in
-    let values = one_encoding_of v w io.1 ir.1 cc in
-    (decimal_injective a b (omega arith) (omega arith) cc, decimal_injective m n (omega arith) (omega arith) cc, cc (keys, values))
-one_op a b m n o (Del l) ha hb hm hn po pr io ir e = absurd pr
-one_op a b m n o (Get l) ha hb hm hn po pr io ir e = absurd pr
-one_op a b m n o (Cas l w x) ha hb hm hn po pr io ir e = absurd pr
-one_op a b m n (Del k) r ha hb hm hn po pr io ir e = absurd po
-one_op a b m n (Get k) r ha hb hm hn po pr io ir e = absurd po
-one_op a b m n (Cas k v u) r ha hb hm hn po pr io ir e = absurd po
-
-one_command : (c d : Command) → RequestInRange (request.Command c) → RequestInRange (request.Command d) → op_words c.client c.seq c.op ≡ op_words d.client d.seq d.op → c ≡ d
-one_command c d hc hd e =
-    let same = one_op c.client d.client c.seq d.seq c.op d.op hc.0.client hd.0.client hc.0.seq hd.0.seq hc.2 hd.2 hc.1 hd.1 e in
-    cc (ap (λ (x : ℕ). command x c.seq c.op) same.0, ap (λ (x : ℕ). command d.client x c.op) same.1, ap (λ (x : Op). command d.client d.seq x) same.2)
-
--- the name of a request
-abbrev request_name : Request → List ℕ
-request_name (request.Command c) = codes "put"
-request_name request.Status = codes "status"
-request_name request.End = codes "end"
-
-named_op : (client seq : ℕ) (op : Op) → IsPut op → first (op_words client seq op) ≡ codes "put"
-named_op client seq (Put k v) put = refl
-named_op client seq (Del k) put = absurd put
-named_op client seq (Get k) put = absurd put
-named_op client seq (Cas k v u) put = absurd put
-
-named_request : (r : Request) → RequestInRange r → first (request_words r) ≡ request_name r
-named_request (request.Command c) h = named_op c.client c.seq c.op h.2
-named_request request.Status h = refl
-named_request request.End h = refl
-
 one_request : (r s : Request) → RequestInRange r → RequestInRange s → request_words r ≡ request_words s → r ≡ s
-one_request (request.Command c) (request.Command d) hr hs e = ap request.Command (one_command c d hr hs e)
+one_request (request.Command c) (request.Command d) hr hs e =
+    let name : op_name c.op ≡ op_name d.op = cc in
+    let client : decimal c.client ≡ decimal d.client = cc in
+    let seq : decimal c.seq ≡ decimal d.seq = cc in
+    let words : operands c.op ≡ operands d.op = cc in
+    ap request.Command (one_command c d hr.0 hs.0 hr.1 hs.1 name client seq words)
 one_request request.Status request.Status hr hs e = refl
 one_request request.End request.End hr hs e = refl
-one_request r s hr hs e = absurd (false≢true ((bytes_eq-Decides (request_name r) (request_name s)).1 (sym (named_request r hr) ∙ ap first e ∙ named_request s hs)))
+one_request (request.Command c) s hr hs e = absurd (no_op c.op (first (request_words s)) refl (ap first e))
+one_request r (request.Command d) hr hs e = absurd (no_op d.op (first (request_words r)) refl (sym (ap first e)))
+one_request r s hr hs e = absurd (false≢true ((bytes_eq-Decides (first (request_words r)) (first (request_words s))).1 (ap first e)))
 
 -- ---- one task
 

@@ -2,7 +2,8 @@
 use Rattle.std.specs.Prelude.{bytes_eq}
 use Rattle.std.proofs.lemmas.Bool.{false≢true}
 use Rattle.std.proofs.lemmas.Slice.Eq.{bytes_eq-Decides}
-use Rattle.std.proofs.Common.{Bool, true, false, not, sym, ◌∙◌, ◌≡◌, ℕ, ◌≤◌, ◌<◌, List, [], ◌∷◌, length, get_or, map, refl, arith}
+use Rattle.std.proofs.Common.{Bool, true, false, not, sym, ◌∙◌, ◌≡◌, ℕ, ◌≤◌, ◌<◌, List, [], ◌∷◌, length, get_or, map, refl, arith, Result, Ok, Err}
+use Rattle.std.specs.Result.{IfErr}
 
 pub one_word : {A : Type 0} (f : A → List ℕ) (ws : List A) (d : A) (x : List ℕ) → 1 ≤ length ws → length ws < 2 → f (get_or ws 0 d) ≡ x → map f ws ≡ x ∷ []
 one_word f [] d x low high h = absurd (omega arith)
@@ -24,3 +25,8 @@ differ a b test e = false≢true (sym (not_twice (bytes_eq a b) true test) ∙ (
 -- a test told that they don't
 pub agree : (a b : List ℕ) → false ≡ not (bytes_eq a b) → a ≡ b
 agree a b test = (bytes_eq-Decides a b).0 (not_twice (bytes_eq a b) false test)
+
+-- what holds anyway holds of an error
+pub at_error : {T E : Type 0} (r : Result T E) (P : Type 0) → P → IfErr r (λ e. P)
+at_error (Ok x) P h = tt
+at_error (Err e) P h = h

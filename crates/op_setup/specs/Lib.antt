@@ -1,4 +1,5 @@
 pub mod Tasks
+pub mod Requests
 pub mod Commands
 pub mod Addresses
 pub mod Settings

@@ -1,24 +1,18 @@
 -- What the words of the command line ask.
 use Rattle.std.specs.Prelude.{◌≡◌, ℕ, List, [], ◌∷◌, codes, decimal, nat_eq, Bool}
 use Rattle.std.specs.List.{starts_with, list_any}
-use Rattle.op_types.specs.Ranges.{CommandInRange, IsPid, IsPut}
+use Rattle.op_types.specs.Ranges.{CommandInRange, IsPid}
 use Rattle.op_types.specs.declared.log.Op.{Op}
-use Rattle.op_types.specs.declared.log.Op.TheVariants.{Put, Del, Get, Cas}
 use Rattle.op_types.specs.declared.events.Request.{Request}
 use Rattle.op_types.specs.declared.events.Request.TheVariants as request
-use Rattle.op_sched.specs.Grammar.{OpIsOfBytes}
-use Rattle.op_sched.specs.Percent.{encoded}
+use Rattle.op_sched.specs.Grammar.{OpIsOfBytes, op_name, operands}
 use Rattle.op_setup.specs.Addresses.{AddrInRange, addr_text}
 use Rattle.op_setup.specs.declared.tasks.Task.{Task}
 use Rattle.op_setup.specs.declared.tasks.Task.TheVariants.{Node, Replay, Call, Cluster}
 
--- the words of a client's operation
+-- the words of a client's operation, as in a schedule but for the server
 abbrev pub op_words : ℕ → ℕ → Op → List (List ℕ)
-op_words client seq (Put key value) = codes "put" ∷ decimal client ∷ decimal seq ∷ encoded key ∷ encoded value ∷ []
-op_words client seq (Del key) = codes "del" ∷ decimal client ∷ decimal seq ∷ encoded key ∷ []
-op_words client seq (Get key) = codes "get" ∷ decimal client ∷ decimal seq ∷ encoded key ∷ []
-op_words client seq (Cas key old new) =
-    codes "cas" ∷ decimal client ∷ decimal seq ∷ encoded key ∷ encoded old ∷ encoded new ∷ []
+op_words client seq op = op_name op ∷ decimal client ∷ decimal seq ∷ operands op
 
 -- the words of a request
 abbrev pub request_words : Request → List (List ℕ)
@@ -33,9 +27,9 @@ task_words Replay = codes "replay" ∷ []
 task_words (Call addr request) = codes "call" ∷ addr_text addr ∷ request_words request
 task_words Cluster = codes "cluster" ∷ []
 
--- the request's parts are in range; so far its operation is a put
+-- the request's parts are in range
 abbrev pub RequestInRange : Request → Type 0
-RequestInRange (request.Command c) = CommandInRange c × OpIsOfBytes c.op × IsPut c.op
+RequestInRange (request.Command c) = CommandInRange c × OpIsOfBytes c.op
 RequestInRange request.Status = Unit {0}
 RequestInRange request.End = Unit {0}
 

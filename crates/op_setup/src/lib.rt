@@ -2,11 +2,13 @@
 #![tactic(auto)]
 
 mod addresses;
+mod arguments;
 mod commands;
 mod config;
 mod config_cause;
 mod fail;
 mod laws;
+mod operations;
 mod reading;
 mod requests;
 mod settings_fail;

@@ -5,9 +5,10 @@ ghost use Rattle.op_setup.specs.Commands.{NamesFirst};
 ghost use Rattle.op_setup.specs.Tasks.{task_words, IsTask, IsTaskOf, TaskInRange};
 
 use crate::addresses::addr;
+use crate::arguments::bytes;
 use crate::commands::omni;
 use crate::fail::TaskFail;
-use crate::requests::{bytes, request};
+use crate::requests::request;
 use crate::tasks::Task;
 use clap::ArgMatches;
 use op_sched::pid;

@@ -1,17 +1,33 @@
 //! The request that words ask for.
-ghost use Rattle.std.specs.Prelude.{◌≡◌, ◌∷◌, map, codes, string_bytes, IfOk, IfErr};
+ghost use Rattle.std.specs.Prelude.{◌∷◌, map, string_bytes, IfOk, IfErr};
 ghost use Rattle.op_sched.specs.Found.{IsFound};
+ghost use Rattle.op_setup.specs.Requests.{IsCommand, IsCommandOf};
 ghost use Rattle.op_setup.specs.Tasks.{IsRequest, IsRequestOf};
 
-use op_sched::{client_number, is_key, is_value, key, value};
-use op_types::{Command, NoMemory, Op, Request};
+use crate::arguments::bytes;
+use crate::operations::operation;
+use op_sched::client_number;
+use op_types::{Command, NoMemory, Request};
 use std::alloc::Global;
 
-/// The bytes of a word.
-pub fn bytes(word: &String) -> &[u8]
-    ensures { result.now ≡ string_bytes word.now }
+/// The command of an operation of this name: a client, the number of its command, and the operation's own words.
+fn command(alloc: Global, name: &str, words: &[String]) -> Result<Option<Command>, NoMemory>
+    ensures found { IfOk result (IsFound (IsCommandOf (name.now ∷ map string_bytes words.now))) }
+    ensures memory { IfErr result (λ _. IsCommand (name.now ∷ map string_bytes words.now)) }
 {
-    word.as_str().as_bytes()
+    let [client, seq, words @ ..] = words else {
+        return Ok(None);
+    };
+    let Some(client) = client_number(bytes(client)) else {
+        return Ok(None);
+    };
+    let Some(seq) = client_number(bytes(seq)) else {
+        return Ok(None);
+    };
+    let Some(op) = operation(alloc, name, words)? else {
+        return Ok(None);
+    };
+    Ok(Some(Command { client, seq, op }))
 }
 
 /// The request that words ask for. Memory is taken only for words that are a request's.
@@ -23,37 +39,11 @@ pub fn request(alloc: Global, words: &[String]) -> Result<Option<Request>, NoMem
         return Ok(None);
     };
     match name.as_str() {
-        "put" => put(alloc, words),
         "status" if words.is_empty() => Ok(Some(Request::Status)),
         "end" if words.is_empty() => Ok(Some(Request::End)),
-        _ => Ok(None),
+        name => match command(alloc, name, words)? {
+            Some(command) => Ok(Some(Request::Command(command))),
+            None => Ok(None),
+        },
     }
-}
-
-/// `put`: a client, the number of its command, a key and a value.
-fn put(alloc: Global, words: &[String]) -> Result<Option<Request>, NoMemory>
-    ensures found { IfOk result (IsFound (IsRequestOf (codes "put" ∷ map string_bytes words.now))) }
-    ensures memory { IfErr result (λ _. IsRequest (codes "put" ∷ map string_bytes words.now)) }
-{
-    let [client, seq, key_word, value_word] = words else {
-        return Ok(None);
-    };
-    let Some(client) = client_number(bytes(client)) else {
-        return Ok(None);
-    };
-    let Some(seq) = client_number(bytes(seq)) else {
-        return Ok(None);
-    };
-    let (key_word, value_word) = (bytes(key_word), bytes(value_word));
-    if !is_key(key_word) || !is_value(value_word) {
-        return Ok(None);
-    }
-    let Some(key) = key(alloc, key_word)? else {
-        return Ok(None);
-    };
-    let Some(value) = value(alloc, value_word)? else {
-        return Ok(None);
-    };
-    let op = Op::Put(key, value);
-    Ok(Some(Request::Command(Command { client, seq, op })))
 }

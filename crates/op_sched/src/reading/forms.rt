@@ -1,21 +1,15 @@
 //! The forms of lines. Each reads the words after a line's name.
-ghost use Rattle.std.specs.Prelude.{◌≡◌, ◌∷◌, [], ◌↔◌, map, codes, decimal, IfOk, IsTrue};
+ghost use Rattle.std.specs.Prelude.{◌≡◌, ◌∷◌, [], map, codes, decimal, IfOk};
 ghost use Rattle.op_types.specs.Ranges.{IsPid};
 ghost use Rattle.op_sched.specs.Found.{IsFound};
 ghost use Rattle.op_sched.specs.Grammar.{AreHeaderWords, AreWordsOf};
-ghost use Rattle.op_sched.specs.Forms.{form_name, ArePeers, AreMembersOf};
+ghost use Rattle.op_sched.specs.Forms.{op_form_name, form_name, ArePeers, AreMembersOf};
 
-use crate::reading::decoding;
 use crate::reading::numbers::{client_number, number, pid};
-use op_types::{Command, MOST_MEMBERS, Members, NoMemory, Op, Pid, What};
+use crate::reading::operations::{OpForm, op_form_of, operation};
+use crate::reading::words::is_name;
+use op_types::{Command, MOST_MEMBERS, Members, NoMemory, Pid, What};
 use std::alloc::Global;
-
-/// Whether a word is this name.
-fn is_name(word: &[u8], name: &[u8]) -> bool
-    ensures { IsTrue result ↔ (word.now ≡ name.now) }
-{
-    word == name
-}
 
 /// The one server that words name.
 fn one_server(words: &[&[u8]]) -> Option<Pid>
@@ -133,24 +127,27 @@ fn ballots(words: &[&[u8]]) -> Option<What>
     Some(What::Ballots(one_server(words)?))
 }
 
-/// `put`: a server, a client, the number of its command, a key and a value.
-fn put(alloc: Global, words: &[&[u8]]) -> Result<Option<What>, NoMemory>
-    ensures { IfOk result (IsFound (AreWordsOf (codes "put" ∷ map (λ x. x.now) words.now))) }
+/// `show`: a server.
+fn show(words: &[&[u8]]) -> Option<What>
+    ensures { IsFound (AreWordsOf (codes "show" ∷ map (λ x. x.now) words.now)) result }
 {
-    let [id, client, seq, key, value] = words else {
+    Some(What::Show(one_server(words)?))
+}
+
+/// A client's operation: a server, a client, the number of its command, and the operation's own words.
+fn command(alloc: Global, form: OpForm, words: &[&[u8]]) -> Result<Option<What>, NoMemory>
+    ensures { IfOk result (IsFound (AreWordsOf (op_form_name form ∷ map (λ x. x.now) words.now))) }
+{
+    let [id, client, seq, words @ ..] = words else {
         return Ok(None);
     };
     let (Some(id), Some(client), Some(seq)) = (pid(id), client_number(client), client_number(seq))
     else {
         return Ok(None);
     };
-    let Some(key) = decoding::key(alloc, key)? else {
+    let Some(op) = operation(alloc, form, words)? else {
         return Ok(None);
     };
-    let Some(value) = decoding::value(alloc, value)? else {
-        return Ok(None);
-    };
-    let op = Op::Put(key, value);
     Ok(Some(What::Command(id, Command { client, seq, op })))
 }
 
@@ -159,8 +156,8 @@ fn put(alloc: Global, words: &[&[u8]]) -> Result<Option<What>, NoMemory>
 pub enum Form {
     /// `tick`
     Tick,
-    /// `put`
-    Put,
+    /// `put`, `del`, `get` or `cas`
+    Command(OpForm),
     /// `deliver`
     Deliver,
     /// `up`
@@ -171,6 +168,8 @@ pub enum Form {
     Crash,
     /// `start`
     Start,
+    /// `show`
+    Show,
     /// `ballots`
     Ballots,
 }
@@ -179,10 +178,10 @@ pub enum Form {
 fn form_of(word: &[u8]) -> Option<Form>
     ensures { IsFound (λ form. word.now ≡ form_name form) result }
 {
-    if is_name(word, b"tick") {
+    if let Some(op) = op_form_of(word) {
+        Some(Form::Command(op))
+    } else if is_name(word, b"tick") {
         Some(Form::Tick)
-    } else if is_name(word, b"put") {
-        Some(Form::Put)
     } else if is_name(word, b"deliver") {
         Some(Form::Deliver)
     } else if is_name(word, b"up") {
@@ -193,6 +192,8 @@ fn form_of(word: &[u8]) -> Option<Form>
         Some(Form::Crash)
     } else if is_name(word, b"start") {
         Some(Form::Start)
+    } else if is_name(word, b"show") {
+        Some(Form::Show)
     } else if is_name(word, b"ballots") {
         Some(Form::Ballots)
     } else {
@@ -212,12 +213,13 @@ pub fn event(alloc: Global, words: &[&[u8]]) -> Result<Option<What>, NoMemory>
     };
     match form {
         Form::Tick => Ok(tick(words)),
-        Form::Put => put(alloc, words),
+        Form::Command(op) => command(alloc, op, words),
         Form::Deliver => Ok(deliver(words)),
         Form::Up => Ok(up(words)),
         Form::Drop => Ok(down(words)),
         Form::Crash => Ok(crash(words)),
         Form::Start => Ok(start(words)),
+        Form::Show => Ok(show(words)),
         Form::Ballots => Ok(ballots(words)),
     }
 }

@@ -9,6 +9,7 @@ mod decoding;
 mod forms;
 mod lines;
 mod numbers;
+mod operations;
 mod words;
 
 use crate::schedule::{SchedFail, Schedule};

@@ -1,5 +1,5 @@
 //! The words of a line.
-ghost use Rattle.std.specs.Prelude.{◌≡◌, map, take, IfOk};
+ghost use Rattle.std.specs.Prelude.{◌≡◌, ◌↔◌, map, take, IfOk, IsTrue};
 ghost use Rattle.op_sched.specs.Grammar.{words_of};
 
 use op_types::{MOST_MEMBERS, NoMemory};
@@ -14,4 +14,11 @@ pub fn words(alloc: Global, line: &[u8]) -> Result<Vec<&[u8]>, NoMemory>
     ensures { IfOk result (λ words. map (λ x. x.now) words.items ≡ take MOST_WORDS (words_of line.now)) }
 {
     Ok(line.split(|b| *b == b' ').take(MOST_WORDS).collect(alloc)?)
+}
+
+/// Whether a word is this name.
+pub fn is_name(word: &[u8], name: &[u8]) -> bool
+    ensures { IsTrue result ↔ (word.now ≡ name.now) }
+{
+    word == name
 }

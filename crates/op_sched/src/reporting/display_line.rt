@@ -2,6 +2,7 @@
 ghost use Rattle.std.specs.Prelude.{Some};
 ghost use Rattle.op_sched.specs.Text.{ballot_text, line_text};
 
+use crate::percent::Encoded;
 use crate::reporting::display_answer::{AnswerText, CauseText, OutcomeText};
 use op_types::{Ballot, Line};
 use std::fmt;
@@ -23,6 +24,11 @@ impl fmt::Display for LineText<'_> {
             }
             Line::Dropped(pid, client, seq, cause) => {
                 writeln!(f, "dropped {pid} {client} {seq} {}", CauseText(*cause))
+            }
+            Line::Pair(pid, key, value) => {
+                let key = Encoded(key.as_slice());
+                let value = Encoded(value.as_slice());
+                writeln!(f, "pair {pid} {key} {value}")
             }
             Line::Ballots(pid, own, leader, promised) => {
                 let own = BallotText(*own);

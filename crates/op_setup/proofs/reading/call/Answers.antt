@@ -1,7 +1,7 @@
 use Rattle.std.proofs.Common.{◌≡◌, ◌∷◌, codes, map, string_bytes, rules}
 use Rattle.op_setup.specs.Addresses.{IsAddr}
 use Rattle.op_setup.specs.Tasks.{IsRequest, IsTask}
-use Rattle.op_setup.proofs.PutWords.{at_error}
+use Rattle.op_setup.proofs.Words.{at_error}
 use Rattle.op_setup.proofs.TaskWords.{call_is_task}
 use Rattle.op_setup.proofs.reading.call.Goals as goal
 

@@ -1,0 +1,117 @@
+//! A client's operations. Each reads the words after its command's number.
+ghost use Rattle.std.specs.Prelude.{◌≡◌, map, codes, IfOk};
+ghost use Rattle.op_sched.specs.Found.{IsFound};
+ghost use Rattle.op_sched.specs.Forms.{op_form_name};
+ghost use Rattle.op_sched.specs.Operands.{AreKeyOnly, AreOperandsOf};
+
+use crate::reading::decoding;
+use crate::reading::words::is_name;
+use op_types::{Blob, NoMemory, Op};
+use std::alloc::Global;
+
+/// The forms of a client's operation, each with a name of its own.
+#[derive(Clone, Copy)]
+pub enum OpForm {
+    /// `put`
+    Put,
+    /// `del`
+    Del,
+    /// `get`
+    Get,
+    /// `cas`
+    Cas,
+}
+
+/// The form of operation that a word names.
+pub fn op_form_of(word: &[u8]) -> Option<OpForm>
+    ensures { IsFound (λ form. word.now ≡ op_form_name form) result }
+{
+    if is_name(word, b"put") {
+        Some(OpForm::Put)
+    } else if is_name(word, b"del") {
+        Some(OpForm::Del)
+    } else if is_name(word, b"get") {
+        Some(OpForm::Get)
+    } else if is_name(word, b"cas") {
+        Some(OpForm::Cas)
+    } else {
+        None
+    }
+}
+
+/// The one key that words encode.
+fn one_key(alloc: Global, words: &[&[u8]]) -> Result<Option<Blob>, NoMemory>
+    ensures { IfOk result (IsFound (AreKeyOnly (map (λ x. x.now) words.now))) }
+{
+    match words {
+        [key] => decoding::key(alloc, key),
+        _ => Ok(None),
+    }
+}
+
+/// `put`: a key and a value.
+fn put(alloc: Global, words: &[&[u8]]) -> Result<Option<Op>, NoMemory>
+    ensures { IfOk result (IsFound (AreOperandsOf (codes "put") (map (λ x. x.now) words.now))) }
+{
+    let [key, value] = words else {
+        return Ok(None);
+    };
+    let Some(key) = decoding::key(alloc, key)? else {
+        return Ok(None);
+    };
+    let Some(value) = decoding::value(alloc, value)? else {
+        return Ok(None);
+    };
+    Ok(Some(Op::Put(key, value)))
+}
+
+/// `del`: a key.
+fn del(alloc: Global, words: &[&[u8]]) -> Result<Option<Op>, NoMemory>
+    ensures { IfOk result (IsFound (AreOperandsOf (codes "del") (map (λ x. x.now) words.now))) }
+{
+    match one_key(alloc, words)? {
+        Some(key) => Ok(Some(Op::Del(key))),
+        None => Ok(None),
+    }
+}
+
+/// `get`: a key.
+fn get(alloc: Global, words: &[&[u8]]) -> Result<Option<Op>, NoMemory>
+    ensures { IfOk result (IsFound (AreOperandsOf (codes "get") (map (λ x. x.now) words.now))) }
+{
+    match one_key(alloc, words)? {
+        Some(key) => Ok(Some(Op::Get(key))),
+        None => Ok(None),
+    }
+}
+
+/// `cas`: a key, the value that it is to have, and the one that it gets then.
+fn cas(alloc: Global, words: &[&[u8]]) -> Result<Option<Op>, NoMemory>
+    ensures { IfOk result (IsFound (AreOperandsOf (codes "cas") (map (λ x. x.now) words.now))) }
+{
+    let [key, old, new] = words else {
+        return Ok(None);
+    };
+    let Some(key) = decoding::key(alloc, key)? else {
+        return Ok(None);
+    };
+    let Some(old) = decoding::value(alloc, old)? else {
+        return Ok(None);
+    };
+    let Some(new) = decoding::value(alloc, new)? else {
+        return Ok(None);
+    };
+    Ok(Some(Op::Cas(key, old, new)))
+}
+
+/// The operation of this form that words say.
+pub fn operation(alloc: Global, form: OpForm, words: &[&[u8]]) -> Result<Option<Op>, NoMemory>
+    ensures { IfOk result (IsFound (AreOperandsOf (op_form_name form) (map (λ x. x.now) words.now))) }
+{
+    match form {
+        OpForm::Put => put(alloc, words),
+        OpForm::Del => del(alloc, words),
+        OpForm::Get => get(alloc, words),
+        OpForm::Cas => cas(alloc, words),
+    }
+}
