@@ -7,7 +7,7 @@ use Rattle.op_types.specs.declared.durable.Durable.{Durable}
 use Rattle.op_types.specs.declared.durable.Part.{Part}
 use Rattle.op_types.specs.declared.events.Input.{Input}
 use Rattle.op_record.specs.Ranges.{BatchInRange}
-use Rattle.op_spec.specs.Service.{new_service}
+use Rattle.op_spec.specs.Service.{Pairs, Service, new_service}
 use Rattle.op_protocol.specs.State.{State, Volatile}
 use Rattle.op_protocol.specs.Rows.{step_plan}
 use Rattle.op_protocol.specs.Starting.{first_volatile}
@@ -45,6 +45,11 @@ pub record Admits (c : Chain) (x : Input) : Type 0 where
 abbrev pub ballots_in : Volatile → Option Part → Option (Ballot × Ballot × Ballot)
 ballots_in v None = None
 ballots_in v (Some p) = Some (v.own, v.leader, p.promised)
+
+-- the pairs of the service of a node with a part
+abbrev pub pairs_in : Service → Option Part → Option Pairs
+pairs_in s None = None
+pairs_in s (Some p) = Some s.pairs
 
 -- ---- openings
 

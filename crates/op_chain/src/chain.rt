@@ -7,7 +7,16 @@ ghost use Rattle.op_protocol.specs.Starting as starts;
 ghost use Rattle.op_instance.specs.Memory.{volatile_of, part_step_of, HasRoomIn};
 ghost use Rattle.op_waiting.specs.Waiting.{with_waiter};
 ghost use Rattle.op_chain.specs.Answering.{IsServicePlan};
-ghost use Rattle.op_chain.specs.Chains.{state_of, first_state, ballots_in, IsSoundChain, IsSame, Admits, CanOpen};
+ghost use Rattle.op_chain.specs.Chains.{
+  state_of,
+  first_state,
+  ballots_in,
+  pairs_in,
+  IsSoundChain,
+  IsSame,
+  Admits,
+  CanOpen,
+};
 ghost use Rattle.op_chain.specs.Plans.{Plans, Adopts};
 
 use crate::answering::answer;
@@ -19,7 +28,7 @@ use crate::service_plan::ServicePlan;
 use op_instance::{
     Volatile, first_volatile, refusal, spare_volatile, step, volatile_after_restart,
 };
-use op_kv::Map;
+use op_kv::{Map, Pairs};
 use op_types::{Ballot, Batch, Durable, Input, NoMemory, Pid, Plan};
 use op_waiting::{Waiter, WaitingSet};
 use std::alloc::Global;
@@ -243,5 +252,16 @@ impl Chain {
         let part = self.durable.part.as_ref()?;
         let election = &self.volatile.election;
         Some((election.own(), election.leader(), part.promised))
+    }
+
+    /// A copy of the pairs of the service, rising by key; none without a part.
+    pub fn pairs(&self) -> Result<Option<Pairs>, NoMemory>
+        ensures { IfOk result (λ pairs. pairs
+            ≡ pairs_in (state_of self.now).service (state_of self.now).durable.part) }
+    {
+        match self.durable.part {
+            Some(_) => Ok(Some(self.service.pairs(self.alloc)?)),
+            None => Ok(None),
+        }
     }
 }

@@ -17,3 +17,6 @@ pub use map::Map;
 
 /// What commands are answered, in order.
 pub type Answers = op_types::Seq<op_types::Answer>;
+
+/// Keys and their values, rising by key.
+pub type Pairs = op_types::Seq<(op_types::Blob, op_types::Blob)>;

@@ -1,16 +1,22 @@
-ghost use Rattle.std.specs.Prelude.{◌≡◌, ◌++◌, ◌↔◌, OnOk, IfOk, IsTrue, option_copied};
+ghost use Rattle.std.specs.Prelude.{◌≡◌, ◌++◌, ◌↔◌, OnOk, IfOk, IsTrue, map, option_copied};
+ghost use Rattle.std.specs.Ordering.{nat_cmp};
+ghost use Rattle.std.specs.Cmp.Lexicographic.{slice_cmp};
+ghost use Rattle.std.specs.List.Sorted.{IsStrictlySortedBy};
+ghost use Rattle.std.specs.Map.{keys_of};
+ghost use Rattle.std.specs.Map.Iter.{deref_pair};
 ghost use Rattle.op_spec.specs.Service.{new_service, value_at, all_after, base_bytes};
 ghost use Rattle.op_spec.specs.ServiceRanges.{ServiceInRange, ServiceIsOrdered};
 ghost use Rattle.op_kv.specs.Bases.{IsBase};
 ghost use Rattle.op_kv.specs.Over.{service_over, answers_of};
 
-use crate::Answers;
 use crate::base::{base_end, tables_of};
 use crate::change::KvChange;
 use crate::tables::Tables;
 use crate::writing::{put_clients, put_pairs};
+use crate::{Answers, Pairs};
 use op_types::{Blob, Entry, NoMemory};
 use std::alloc::Global;
+use std::collections::BTreeMap;
 use std::marker::Model;
 
 /// The service's state. The change that was adopted last stands over the rest until the next plan.
@@ -77,8 +83,8 @@ impl Map {
         Ok((answers, change))
     }
 
-    /// Goes on with a plan: the answers to these commands too, and the change that they make too. Without memory the plan
-    /// is to be given up, since a part of it is done.
+    /// Goes on with a plan: the answers to these commands too, and the change that they make too. Without memory the
+    /// plan is to be given up, since a part of it is done.
     pub fn plan_more(
         &self,
         alloc: Global,
@@ -101,6 +107,15 @@ impl Map {
         ensures { self.new.service ≡ service_over self.old.service change }
     {
         self.newer = change;
+    }
+
+    /// A copy of the pairs, as they stand, also before what was adopted last is at its place.
+    pub fn pairs(&self, alloc: Global) -> Result<Pairs, NoMemory>
+        ensures pairs { IfOk result (λ pairs. pairs ≡ self.now.service.pairs) }
+        ensures order { OnOk result
+            (IsStrictlySortedBy (slice_cmp nat_cmp) (keys_of self.now.service.pairs)) }
+    {
+        copy_pairs(alloc, &self.kept.pairs_with(alloc, &self.newer)?)
     }
 
     /// The bytes of the service's state, as they stand, also before what was adopted last is at its place.
@@ -140,4 +155,15 @@ impl Map {
             newer: KvChange::new(alloc),
         })
     }
+}
+
+/// Copies of these pairs, in their order.
+fn copy_pairs(alloc: Global, pairs: &BTreeMap<&Blob, &Blob>) -> Result<Pairs, NoMemory>
+    ensures { IfOk result (λ copy. copy ≡ map deref_pair pairs.now.entries) }
+{
+    let mut copy = Pairs::new(alloc);
+    'pairs: for (key, value) in pairs {
+        copy.push((key.copy(alloc)?, value.copy(alloc)?))?;
+    }
+    Ok(copy)
 }

@@ -20,7 +20,8 @@ impl Tables {
         alloc: Global,
         newer: &'a KvChange,
     ) -> Result<BTreeMap<&'a Blob, &'a Blob>, NoMemory>
-        ensures pairs { IfOk result (λ m. map deref_pair m.entries ≡ pairs_over self.now.pairs newer.now) }
+        ensures pairs { IfOk result (λ m. map deref_pair m.entries
+            ≡ pairs_over self.now.pairs newer.now) }
         ensures order { OnOk result
             (IsStrictlySortedBy (slice_cmp nat_cmp) (keys_of (pairs_over self.now.pairs newer.now))) }
     {
@@ -37,7 +38,8 @@ impl Tables {
         alloc: Global,
         newer: &'a KvChange,
     ) -> Result<BTreeMap<&'a u64, &'a Applied>, NoMemory>
-        ensures clients { IfOk result (λ m. map deref_pair m.entries ≡ clients_over self.now.clients newer.now) }
+        ensures clients { IfOk result (λ m. map deref_pair m.entries
+            ≡ clients_over self.now.clients newer.now) }
         ensures order { OnOk result
             (IsStrictlySortedBy nat_cmp (keys_of (clients_over self.now.clients newer.now))) }
     {

@@ -4,6 +4,7 @@ use Rattle.std.specs.Set.{is_member}
 use Rattle.op_types.specs.declared.durable.Durable.{Durable}
 use Rattle.op_types.specs.declared.durable.Part.{Part}
 use Rattle.op_types.specs.declared.messages.Msg.{Msg}
+use Rattle.op_record.specs.Ranges.{DurableInRange}
 use Rattle.op_protocol.specs.State.{State}
 use Rattle.op_protocol.specs.Starting.{sends_after_restart, state_after_restart}
 use Rattle.op_runs.specs.World.{first_durable}
@@ -47,6 +48,7 @@ pub record Opens {D : Type 0} (state : D → DiskState) (me : ℕ) (members : Li
   pub durable : Durable
   pub is_new : Bool
   pub opened : Opened state (fresh_for me members) old n.store durable is_new
+  pub range : DurableInRange durable
   pub node : node_of n ≡ record { me = me; state = opening_state me is_new durable; failed = None }
   pub sends_are : sends ≡ opening_sends me is_new durable
   pub sound : IsSoundNode n

@@ -1,5 +1,5 @@
 -- A possible event is at a member, and can be done at its node; the world after it is of a run of one happening more.
-use Rattle.std.proofs.Common.{◌≡◌, ℕ, zero, suc, Bool, true, eqb, nat_eq, ◌<◌, List, [], ◌∷◌, ◌++◌, length, get_or, insert, remove, Option, Some, None, All, slice_get, IfSome, refl, sym, ap, subst, ◌∙◌, arith}
+use Rattle.std.proofs.Common.{◌≡◌, ℕ, zero, suc, Bool, true, eqb, nat_eq, ◌<◌, List, [], ◌∷◌, ◌++◌, length, get_or, insert, remove, Option, Some, None, All, slice_get, IfSome, refl, sym, ap, subst, ◌∙◌}
 use Rattle.std.proofs.lemmas.Bool.{cond_both, and_parts}
 use Rattle.std.proofs.lemmas.List.Elements.{All-head, All-tail, All-push}
 use Rattle.std.specs.Set.{is_member}
@@ -39,6 +39,7 @@ deed_at members ms sent (what.Up p q) each can = (and_parts (is_member nat_eq me
 deed_at members ms sent (what.Down p q) each can = (and_parts (is_member nat_eq members p) (is_member nat_eq members q) can).0
 deed_at members ms sent (what.Crash p) each can = can
 deed_at members ms sent (what.Start p) each can = can
+deed_at members ms sent (what.Show p) each can = can
 deed_at members ms sent (what.Ballots p) each can = can
 
 -- what a possible event does is done at a member: the messages are in range, as those of the run that the world shows
@@ -65,6 +66,7 @@ deed_in members ms (what.Up p q) each fit = fit.1
 deed_in members ms (what.Down p q) each fit = fit.1
 deed_in members ms (what.Crash p) each fit = tt
 deed_in members ms (what.Start p) each fit = tt
+deed_in members ms (what.Show p) each fit = tt
 deed_in members ms (what.Ballots p) each fit = tt
 
 -- ---- the node of a deed

@@ -11,7 +11,7 @@ use Rattle.op_types.specs.declared.events.Input.{Input}
 use Rattle.op_types.specs.declared.messages.Msg.{Msg}
 use Rattle.op_types.specs.declared.summary.Line.{Line}
 use Rattle.op_protocol.specs.State.{State, PartStep, Planned, state_after}
-use Rattle.op_protocol.specs.Rows.{step_at, step_plan}
+use Rattle.op_protocol.specs.Rows.{step_plan}
 use Rattle.op_chain.specs.Chains.{state_of, IsSame, Admits}
 use Rattle.op_chain.specs.Plans.{Plans, Adopts}
 use Rattle.op_chain.specs.declared.chain.Chain.{Chain}

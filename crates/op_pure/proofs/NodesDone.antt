@@ -2,7 +2,7 @@
 use Rattle.std.proofs.Common.{◌≡◌, ℕ, Bool, true, false, cond, eqb, List, [], ◌∷◌, ◌++◌, Option, Some, None, Result, Ok, Err, refl, sym, ap, subst, ◌∙◌, lit≤}
 use Rattle.std.specs.Prelude.{IfOk, IfSome}
 use Rattle.std.proofs.lemmas.List.{append-nil}
-use Rattle.op_types.specs.Changes.{Applies, durable_after}
+use Rattle.op_types.specs.Changes.{durable_after}
 use Rattle.op_types.specs.Ranges.{IsMember}
 use Rattle.op_types.specs.Rooms.{room_of}
 use Rattle.op_types.specs.declared.changes.Change.{Change}
@@ -15,9 +15,9 @@ use Rattle.op_protocol.specs.State.{State}
 use Rattle.op_protocol.specs.Starting.{state_after_restart, sends_after_restart}
 use Rattle.op_chain.specs.Chains.{state_of, IsSoundChain, IfPartFor, CanOpen}
 use Rattle.op_chain.specs.declared.chain.Chain.{Chain}
-use Rattle.op_runs.specs.World.{World, Sent, Node, NodeStatus, Up, Down, Fate, Done, Stopped, Doing, Steps, Stops, Opens, Tells, Happening, first_durable, node_at, with_node, sent_by, ballot_lines, world_by_status, world_if_down, world_opening}
-use Rattle.op_bounds.specs.Laws.{NodeInRange, StatusInRange, FoundInRange}
-use Rattle.op_world.specs.Deeds.{doing_of}
+use Rattle.op_runs.specs.World.{World, Sent, Node, NodeStatus, Up, Down, Fate, Done, Stopped, Told, Doing, Steps, Stops, Opens, Tells, Happening, first_durable, node_at, with_node, sent_by, told_lines, world_by_status, world_if_down, world_opening}
+use Rattle.op_bounds.specs.Laws.{StatusInRange, FoundInRange}
+use Rattle.op_world.specs.Deeds.{told_of, doing_of}
 use Rattle.op_world.specs.declared.deed.Doing as deed
 use Rattle.op_world.specs.declared.deed.Doing.TheVariants as variant
 use Rattle.op_pure.specs.declared.node.NodeDone as done
@@ -59,18 +59,18 @@ pub open_already : (pid : ℕ) (c : Chain) (fate : Fate) (finds_after : Bool) (l
 open_already pid c fate finds_after line kept =
     record { after = λ x shown. (x, shown, nothing_done x Opens fate finds_after line Up shown.status.1 (λ w h f. refl)); pid = refl; kept = kept }
 
--- its ballots are told
-pub ballots_told : (pid : ℕ) (c : Chain) (fate : Fate) (finds_after : Bool) (line : ℕ) (told : List Line) → IsKept (node_of pid (status.Up c)) → told ≡ ballot_lines pid (state_of c) (state_of c).durable.part
-    → IsDoneAt (node_of pid (status.Up c)) Tells fate finds_after line (node_of pid (status.Up c)) [] told
-ballots_told pid c fate finds_after line told kept are = record {
+-- it tells something
+pub tells : (pid : ℕ) (c : Chain) (t : Told) (fate : Fate) (finds_after : Bool) (line : ℕ) (told : List Line) → IsKept (node_of pid (status.Up c)) → told ≡ told_lines t pid (state_of c) (state_of c).durable.part
+    → IsDoneAt (node_of pid (status.Up c)) (Tells t) fate finds_after line (node_of pid (status.Up c)) [] told
+tells pid c t fate finds_after line told kept are = record {
   after = λ x shown. (
     x,
     shown,
     record {
       pid = refl;
-      world = λ w h f finds at here. ap (λ (st : NodeStatus). world_by_status st Tells h w x) shown.status.1
+      world = λ w h f finds at here. ap (λ (st : NodeStatus). world_by_status st (Tells t) h w x) shown.status.1
           ∙ ap (λ (ls : List Line). let y : World = record { nodes = w.nodes; messages = w.messages; lines = w.lines ++ ls } in y)
-          (ap (λ (k : ℕ). ballot_lines k x.state x.state.durable.part) shown.pid ∙ ap (λ (s : State). ballot_lines pid s s.durable.part) shown.status.0 ∙ sym are)
+          (ap (λ (k : ℕ). told_lines t k x.state x.state.durable.part) shown.pid ∙ ap (λ (s : State). told_lines t pid s s.durable.part) shown.status.0 ∙ sym are)
           ∙ world_same w x told here;
     },
   );
@@ -105,8 +105,8 @@ idle_down pid d batch (variant.Steps i) fate finds_after line kept closed =
 idle_down pid d batch variant.Stops fate finds_after line kept closed =
     record { after = λ x shown. (x, shown, nothing_done x Stops fate finds_after line (Down (durable_after d batch)) shown.status.1 (λ w h f. refl)); pid = refl; kept = kept }
 idle_down pid d batch variant.Opens fate finds_after line kept closed = absurd (closed refl)
-idle_down pid d batch variant.Tells fate finds_after line kept closed =
-    record { after = λ x shown. (x, shown, nothing_done x Tells fate finds_after line (Down (durable_after d batch)) shown.status.1 (λ w h f. refl)); pid = refl; kept = kept }
+idle_down pid d batch (variant.Tells t) fate finds_after line kept closed =
+    record { after = λ x shown. (x, shown, nothing_done x (Tells (told_of t)) fate finds_after line (Down (durable_after d batch)) shown.status.1 (λ w h f. refl)); pid = refl; kept = kept }
 
 -- an opening that stops changes nothing
 pub stopped_opening : (pid : ℕ) (d : Durable) (batch : List Change) (finds_after : Bool) (line : ℕ) → IsKept (node_of pid (status.Down d batch))

@@ -3,16 +3,17 @@ ghost use Rattle.std.specs.Prelude.{◌≡◌, ℕ, Bool, [], if◌then◌else�
 ghost use Rattle.op_types.specs.Changes.{Applies, durable_after};
 ghost use Rattle.op_types.specs.Ranges.{IsMember};
 ghost use Rattle.op_types.specs.Rooms.{room_of};
+ghost use Rattle.op_chain.specs.Chains.{state_of};
 ghost use Rattle.op_runs.specs.World as runs;
 ghost use Rattle.op_pure.specs.declared.node.Status.TheVariants as status;
 ghost use Rattle.op_pure.specs.Happenings.{fate_of};
 ghost use Rattle.op_pure.specs.Nodes.{ShowsNode, IsKept, CanDo, IsDoneAt, node_of};
-ghost use Rattle.op_world.specs.Deeds.{doing_of};
+ghost use Rattle.op_world.specs.Deeds.{told_of, doing_of};
 
 use crate::happening::Fate;
 use op_chain::{Chain, Given, first_durable, sends_after_restart};
 use op_types::{Batch, Durable, Input, Lines, Members, NoMemory, Pid, Sends};
-use op_world::{Doing, ballot_lines, step_lines};
+use op_world::{Doing, Told, ballot_lines, pair_lines, step_lines};
 use std::alloc::Global;
 
 /// A node.
@@ -118,12 +119,23 @@ fn happens_up(
             Ok(NodeDone::only(alloc, pid, stopped))
         }
         Doing::Opens => Ok(NodeDone::only(alloc, pid, Status::Up(chain))),
-        Doing::Tells => {
-            let told = ballot_lines(alloc, pid, chain.ballots())?;
+        Doing::Tells(told) => {
+            let told = told_lines(alloc, pid, &chain, told)?;
             let mut done = NodeDone::only(alloc, pid, Status::Up(chain));
             done.told = told;
             Ok(done)
         }
+    }
+}
+
+/// The lines of what a node tells.
+fn told_lines(alloc: Global, pid: Pid, chain: &Chain, told: Told) -> Result<Lines, NoMemory>
+    ensures { IfOk result (λ lines. let s = state_of chain.now in
+        lines ≡ runs.told_lines (told_of told) pid s s.durable.part) }
+{
+    match told {
+        Told::Pairs => pair_lines(alloc, pid, chain.pairs()?),
+        Told::Ballots => ballot_lines(alloc, pid, chain.ballots()),
     }
 }
 

@@ -46,6 +46,7 @@ deed_possible members ms sent (what.Up p q) each can fit = record { pid = (and_p
 deed_possible members ms sent (what.Down p q) each can fit = record { pid = (and_parts (is_member nat_eq members p) (is_member nat_eq members q) can).0; doing = fit.1 }
 deed_possible members ms sent (what.Crash p) each can fit = record { pid = can; doing = tt }
 deed_possible members ms sent (what.Start p) each can fit = record { pid = can; doing = tt }
+deed_possible members ms sent (what.Show p) each can fit = record { pid = can; doing = tt }
 deed_possible members ms sent (what.Ballots p) each can fit = record { pid = can; doing = tt }
 
 -- ---- a delivery

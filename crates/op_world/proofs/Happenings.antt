@@ -21,15 +21,16 @@ use Rattle.op_store.specs.Stores.{Represents}
 use Rattle.op_chain.specs.declared.given.Given.{Given}
 use Rattle.op_node.specs.Nodes.{NodeState as Inner, node_of, given_of, gives, stores, after_input, IsSoundNode, AdmitsInput}
 use Rattle.op_node.specs.declared.node.Node as nodes
-use Rattle.op_runs.specs.World.{World, Sent, Node, NodeStatus, Up, Down, Doing, Steps, Stops, Opens, Tells, node_at, with_node, sent_by, outcome_lines, answer_line, ballot_lines, lines_of, done_event, world_by_status}
+use Rattle.op_runs.specs.World.{World, Sent, Node, NodeStatus, Up, Down, Told, Doing, Steps, Stops, Opens, Tells, node_at, with_node, sent_by, outcome_lines, answer_line, told_lines, lines_of, done_event, world_by_status}
 use Rattle.op_bounds.proofs.Ballots.{member_ids}
 use Rattle.op_bounds.proofs.Steps.{steps_stay}
 use Rattle.op_types.specs.Ranges.{IsMember}
 use Rattle.op_bounds.specs.Messages.{InputInRange}
-use Rattle.op_world.specs.Deeds.{doing_of}
+use Rattle.op_world.specs.Deeds.{told_of, doing_of}
 use Rattle.op_world.specs.Worlds.{RunsAs, NodeDone, IsDoneAt, IsInRange, DoingInRange, AdmitsDoing}
 use Rattle.op_world.specs.declared.deed.Doing as deed
 use Rattle.op_world.specs.declared.deed.Doing.TheVariants as variant
+use Rattle.op_world.specs.declared.deed.Told as said
 use Rattle.op_world.specs.declared.happening.NodeDone as done
 use Rattle.op_world.specs.declared.node_state.NodeState.{NodeState}
 use Rattle.op_world.specs.declared.node_state.NodeState.TheVariants as node
@@ -74,32 +75,32 @@ idle_down me line first second (variant.Steps i) closed =
 idle_down me line first second variant.Stops closed =
     record { after = λ x pid shown. (x, shown, nothing_done x Stops line (Down x.state.durable) shown.1 (λ w e. refl)); kept = tt }
 idle_down me line first second variant.Opens closed = absurd (closed refl)
-idle_down me line first second variant.Tells closed =
-    record { after = λ x pid shown. (x, shown, nothing_done x Tells line (Down x.state.durable) shown.1 (λ w e. refl)); kept = tt }
+idle_down me line first second (variant.Tells t) closed =
+    record { after = λ x pid shown. (x, shown, nothing_done x (Tells (told_of t)) line (Down x.state.durable) shown.1 (λ w e. refl)); kept = tt }
 
--- the ballots of one that is up are told
-ballots_told : (me line : ℕ) (n : nodes.Node MemDisk) (told : List Line) → RunsAs me n → (let s : State = (node_of n).state in told ≡ ballot_lines me s s.durable.part)
-    → IsDoneAt me (node.Up n) Tells line (node.Up n) [] told
-ballots_told me line n told kept are = record {
+-- one that is up tells something
+tells_something : (me line : ℕ) (n : nodes.Node MemDisk) (t : Told) (told : List Line) → RunsAs me n → (let s : State = (node_of n).state in told ≡ told_lines t me s s.durable.part)
+    → IsDoneAt me (node.Up n) (Tells t) line (node.Up n) [] told
+tells_something me line n t told kept are = record {
   after = λ x pid shown. (
     x,
     shown,
     record {
       pid = refl;
-      world = λ w e at here. ap (λ (st : NodeStatus). world_by_status st Tells (done_event e) w x) shown.1
+      world = λ w e at here. ap (λ (st : NodeStatus). world_by_status st (Tells t) (done_event e) w x) shown.1
           ∙ ap (λ (ls : List Line). let y : World = record { nodes = w.nodes; messages = w.messages; lines = w.lines ++ ls } in y)
-          (ap (λ (k : ℕ). ballot_lines k x.state x.state.durable.part) pid ∙ ap (λ (s : State). ballot_lines me s s.durable.part) shown.0 ∙ sym are)
+          (ap (λ (k : ℕ). told_lines t k x.state x.state.durable.part) pid ∙ ap (λ (s : State). told_lines t me s s.durable.part) shown.0 ∙ sym are)
           ∙ world_same w x told here;
     },
   );
   kept = kept;
 }
 
-pub tells_ballots : (me line : ℕ) (n : nodes.Node MemDisk) (d : deed.Doing) (sends : List (ℕ × Msg)) (told : List Line) → d ≡ variant.Tells → RunsAs me n → sends ≡ []
-    → (let s : State = (node_of n).state in told ≡ ballot_lines me s s.durable.part) → IsDoneAt me (node.Up n) (doing_of d) line (node.Up n) sends told
-tells_ballots me line n d sends told is kept none are =
+pub tells : (me line : ℕ) (n : nodes.Node MemDisk) (d : deed.Doing) (t : said.Told) (sends : List (ℕ × Msg)) (told : List Line) → d ≡ variant.Tells t → RunsAs me n → sends ≡ []
+    → (let s : State = (node_of n).state in told ≡ told_lines (told_of t) me s s.durable.part) → IsDoneAt me (node.Up n) (doing_of d) line (node.Up n) sends told
+tells me line n d t sends told is kept none are =
     subst (λ (y : deed.Doing). IsDoneAt me (node.Up n) (doing_of y) line (node.Up n) sends told) (sym is)
-    (subst (λ (ss : List (ℕ × Msg)). IsDoneAt me (node.Up n) Tells line (node.Up n) ss told) (sym none) (ballots_told me line n told kept are))
+    (subst (λ (ss : List (ℕ × Msg)). IsDoneAt me (node.Up n) (Tells (told_of t)) line (node.Up n) ss told) (sym none) (tells_something me line n (told_of t) told kept are))
 
 -- ---- a stop
 
@@ -150,7 +151,7 @@ pub admits : (members : List ℕ) (me : ℕ) (n : nodes.Node MemDisk) (d : Doing
 admits members me n (Steps x) k fit = admits_input members me n x k fit
 admits members me n Stops k fit = tt
 admits members me n Opens k fit = tt
-admits members me n Tells k fit = tt
+admits members me n (Tells t) k fit = tt
 
 -- a node that did a step runs on
 pub runs_on : (me : ℕ) (n m : nodes.Node MemDisk) (x : Input) → RunsAs me n → node_of m ≡ after_input (node_of n) x → IsSoundNode m

@@ -119,14 +119,14 @@ abbrev pub DoingInRange : List ℕ → Doing → Type 0
 DoingInRange members (Steps x) = InputInRange (IsMember members) x
 DoingInRange members Stops = Unit {0}
 DoingInRange members Opens = Unit {0}
-DoingInRange members Tells = Unit {0}
+DoingInRange members (Tells t) = Unit {0}
 
 -- an open node can do this: what a step stores is in range
 abbrev pub AdmitsDoing : nodes.Node MemDisk → Doing → Type 0
 AdmitsDoing n (Steps x) = AdmitsInput n x
 AdmitsDoing n Stops = Unit {0}
 AdmitsDoing n Opens = Unit {0}
-AdmitsDoing n Tells = Unit {0}
+AdmitsDoing n (Tells t) = Unit {0}
 
 -- its node is a member's, and what it does begins with something in range
 pub record IsPossibleDeed (w : Parts) (d : deed.Deed) : Type 0 where

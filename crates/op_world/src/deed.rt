@@ -2,19 +2,28 @@
 ghost use Rattle.std.specs.Prelude.{◌≡◌, ◌<◌, ℕ, List, true, length, Some, slice_get, IfOk};
 ghost use Rattle.op_runs.specs.Possible.{is_possible};
 ghost use Rattle.op_runs.specs.World as runs;
-ghost use Rattle.op_world.specs.Deeds.{deed_shown};
+ghost use Rattle.op_world.specs.Deeds.{told_of, deed_shown};
 
 use crate::sent::Sent;
 use op_types::{Input, Msg, NoMemory, Pid, What};
 use std::alloc::Global;
 
-/// What is done at a node: a step of it, a stop between two steps, an opening, or its ballots are told.
+/// What a node tells.
+#[derive(Clone, Copy, Debug, PartialEq, Eq)]
+pub enum Told {
+    /// The pairs of its service.
+    Pairs,
+    /// Its ballots.
+    Ballots,
+}
+
+/// What is done at a node: a step of it, a stop between two steps, an opening, or something is told.
 #[derive(Drop)]
 pub enum Doing {
     Steps(Input),
     Stops,
     Opens,
-    Tells,
+    Tells(Told),
 }
 
 /// What is done, and at which node.
@@ -43,10 +52,8 @@ pub fn deed_of(alloc: Global, messages: &[Sent], what: What) -> Result<Deed, NoM
             pid,
             doing: Doing::Opens,
         },
-        What::Ballots(pid) => Deed {
-            pid,
-            doing: Doing::Tells,
-        },
+        What::Show(pid) => telling(pid, Told::Pairs),
+        What::Ballots(pid) => telling(pid, Told::Ballots),
     })
 }
 
@@ -62,6 +69,16 @@ fn delivery(alloc: Global, messages: &[Sent], number: usize) -> Result<Deed, NoM
         body: sent.message.body.copy(alloc)?,
     };
     Ok(stepping(sent.to, Input::Deliver(sent.from, message)))
+}
+
+/// A node tells this.
+fn telling(pid: Pid, told: Told) -> Deed
+    ensures { deed_shown result ≡ record { pid = pid; doing = runs.Tells (told_of told) } }
+{
+    Deed {
+        pid,
+        doing: Doing::Tells(told),
+    }
 }
 
 /// A step of a node.

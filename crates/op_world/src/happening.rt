@@ -1,14 +1,14 @@
 //! What is done at a node.
 ghost use Rattle.std.specs.Prelude.{◌≡◌, ℕ, [], IfOk};
-ghost use Rattle.op_node.specs.Nodes.{AdmitsInput};
+ghost use Rattle.op_node.specs.Nodes.{node_of, AdmitsInput};
 ghost use Rattle.op_runs.specs.World as runs;
 ghost use Rattle.op_world.specs.declared.node_state.NodeState.TheVariants as states;
-ghost use Rattle.op_world.specs.Deeds.{doing_of};
+ghost use Rattle.op_world.specs.Deeds.{told_of, doing_of};
 ghost use Rattle.op_world.specs.Worlds.{IsInRange, IsDoneAt, DoingInRange, AdmitsDoing, RunsAs};
 
-use crate::deed::Doing;
+use crate::deed::{Doing, Told};
 use crate::node_state::{NodeState, forgetting, left_of_node, opened};
-use crate::telling::{ballot_lines, step_lines};
+use crate::telling::{ballot_lines, pair_lines, step_lines};
 use op_memory::MemDisk;
 use op_node::{Given, Node};
 use op_types::{Input, Lines, Members, NoMemory, Pid, Sends};
@@ -78,14 +78,25 @@ fn done_while_up(
             Ok(NodeDone::only(alloc, NodeState::Down(first, second)))
         }
         Doing::Opens => Ok(NodeDone::only(alloc, NodeState::Up(node))),
-        Doing::Tells => {
-            let told = ballot_lines(alloc, me, node.ballots())?;
+        Doing::Tells(told) => {
+            let told = told_lines(alloc, me, &node, told)?;
             Ok(NodeDone {
                 state: NodeState::Up(node),
                 sends: Sends::new(alloc),
                 told,
             })
         }
+    }
+}
+
+/// The lines of what a node tells.
+fn told_lines(alloc: Global, me: Pid, node: &Node<MemDisk>, told: Told) -> Result<Lines, NoMemory>
+    ensures { IfOk result (λ lines. let s = (node_of node.now).state in
+        lines ≡ runs.told_lines (told_of told) me s s.durable.part) }
+{
+    match told {
+        Told::Pairs => pair_lines(alloc, me, node.pairs()?),
+        Told::Ballots => ballot_lines(alloc, me, node.ballots()),
     }
 }
 

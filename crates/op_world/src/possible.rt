@@ -10,9 +10,11 @@ pub fn is_possible(members: &Members, sent: u64, what: &What) -> bool
 {
     let members = members.as_slice();
     match what {
-        What::Tick(pid) | What::Crash(pid) | What::Start(pid) | What::Ballots(pid) => {
-            is_among(members, *pid)
-        }
+        What::Tick(pid)
+        | What::Crash(pid)
+        | What::Start(pid)
+        | What::Show(pid)
+        | What::Ballots(pid) => is_among(members, *pid),
         What::Command(pid, _) => is_among(members, *pid),
         What::Deliver(number) => *number < sent,
         What::Up(pid, peer) | What::Down(pid, peer) => {

@@ -1,9 +1,10 @@
 //! The lines that are reported of what is done at a node.
 ghost use Rattle.std.specs.Prelude.{◌≡◌, ◌++◌, map, IfOk, OnOk};
-ghost use Rattle.op_chain.specs.Chains.{ballots_in};
+ghost use Rattle.op_chain.specs.Chains.{ballots_in, pairs_in};
 ghost use Rattle.op_protocol.specs.State.{State};
-ghost use Rattle.op_runs.specs.World.{answer_line, outcome_lines, ballot_lines};
+ghost use Rattle.op_runs.specs.World.{ThePairs, TheBallots, answer_line, outcome_lines, pair_lines, told_lines};
 
+use op_node::Pairs;
 use op_types::{Answer, Ballot, Line, Lines, NoMemory, Outcome, Pid, Replies, Reply};
 use std::alloc::Global;
 
@@ -53,6 +54,28 @@ fn push_answers(lines: &mut Lines, pid: Pid, replies: Replies) -> Result<(), NoM
     Ok(())
 }
 
+/// The lines of the pairs of a node's service, if it has a part.
+pub fn pair_lines(alloc: Global, pid: Pid, pairs: Option<Pairs>) -> Result<Lines, NoMemory>
+    ensures { IfOk result (λ lines. (s : State) → pairs ≡ pairs_in s.service s.durable.part →
+        lines ≡ told_lines ThePairs pid s s.durable.part) }
+{
+    let mut lines = Lines::new(alloc);
+    if let Some(pairs) = pairs {
+        push_pairs(&mut lines, pid, pairs)?;
+    }
+    Ok(lines)
+}
+
+/// Adds the lines of these pairs.
+fn push_pairs(lines: &mut Lines, pid: Pid, pairs: Pairs) -> Result<(), NoMemory>
+    ensures { OnOk result (lines.new ≡ lines.old ++ pair_lines pid pairs) }
+{
+    'pairs: for (key, value) in pairs.into_vec() {
+        lines.push(Line::Pair(pid, key, value))?;
+    }
+    Ok(())
+}
+
 /// The line of a node's ballots, if it has a part: its own, the leader's, and the promised one.
 pub fn ballot_lines(
     alloc: Global,
@@ -60,7 +83,7 @@ pub fn ballot_lines(
     ballots: Option<(Ballot, Ballot, Ballot)>,
 ) -> Result<Lines, NoMemory>
     ensures { IfOk result (λ lines. (s : State) → ballots ≡ ballots_in s.volatile s.durable.part →
-        lines ≡ ballot_lines pid s s.durable.part) }
+        lines ≡ told_lines TheBallots pid s s.durable.part) }
 {
     let mut lines = Lines::new(alloc);
     if let Some((own, leader, promised)) = ballots {

@@ -1,15 +1,14 @@
 use Rattle.std.proofs.Common.{Bool, [], sym, subst}
 use Rattle.std.specs.Prelude.{IfOk}
-use Rattle.op_chain.specs.Chains.{state_of}
 use Rattle.op_runs.specs.World.{Steps}
 use Rattle.op_world.specs.declared.deed.Doing as deed
 use Rattle.op_pure.specs.declared.happening.Fate.{Fate}
 use Rattle.op_pure.specs.declared.happening.Fate.TheVariants as fate
 use Rattle.op_pure.specs.declared.node.Status.TheVariants as status
-use Rattle.op_world.specs.Deeds.{doing_of}
+use Rattle.op_world.specs.Deeds.{told_of, doing_of}
 use Rattle.op_pure.specs.Happenings.{fate_of}
 use Rattle.op_pure.specs.Nodes.{IsDoneAt, node_of}
-use Rattle.op_pure.proofs.NodesDone.{open_already, ballots_told, stopped, only_done, only_told, any_stop}
+use Rattle.op_pure.proofs.NodesDone.{open_already, tells, stopped, only_done, only_told, any_stop}
 use Rattle.op_pure.proofs.node.happens_up.Goals as goal
 
 pub returns-in-Done : goal.returns-in-Done
@@ -44,6 +43,6 @@ pub returns-in_ok-told-in-Tells : goal.returns-in_ok-told-in-Tells
 returns-in_ok-told-in-Tells c finds_after =
     let up = node_of c.args.pid (status.Up c.args.chain) in
     let told = c.in_ok-told-in-Tells.told in
-    let did = ballots_told c.args.pid c.args.chain (fate_of c.args.fate) finds_after c.args.line told c.requires.kept (c.in_ok-told-in-Tells.ensures (state_of c.args.chain) c.ballots.ensures) in
+    let did = tells c.args.pid c.args.chain (told_of c.in-Tells.told) (fate_of c.args.fate) finds_after c.args.line told c.requires.kept c.in_ok-told-in-Tells.ensures in
     only_told c.only-done.result up up (doing_of c.args.doing) (fate_of c.args.fate) finds_after c.args.line told c.only-done.ensures
     (subst (λ (x : deed.Doing). IsDoneAt up (doing_of x) (fate_of c.args.fate) finds_after c.args.line up [] told) (sym c.in-Tells.is) did)

@@ -4,7 +4,7 @@ use Rattle.op_world.specs.Deeds.{doing_of}
 use Rattle.op_world.specs.Worlds.{AdmitsDoing}
 use Rattle.op_world.specs.declared.deed.Doing as deed
 use Rattle.op_world.specs.declared.node_state.NodeState.TheVariants as node
-use Rattle.op_world.proofs.Happenings.{step_handed, only_done, stops, opens_already, tells_ballots}
+use Rattle.op_world.proofs.Happenings.{step_handed, only_done, stops, opens_already, tells}
 use Rattle.op_world.proofs.happening.done_while_up.Goals as goal
 
 pub step-requires-clause-admits : goal.step-requires-clause-admits
@@ -28,5 +28,4 @@ returns-in-Opens c =
 
 pub returns-in_ok-told-in-Tells : goal.returns-in_ok-told-in-Tells
 returns-in_ok-told-in-Tells c =
-    let n = c.args.node in
-    tells_ballots c.args.me c.args.line n c.args.doing c.new.result c.in_ok-told-in-Tells.told c.in-Tells.is c.requires.runs c.new.ensures (c.in_ok-told-in-Tells.ensures (node_of n).state c.ballots.ensures)
+    tells c.args.me c.args.line c.args.node c.args.doing c.in-Tells.told c.new.result c.in_ok-told-in-Tells.told c.in-Tells.is c.requires.runs c.new.ensures c.in_ok-told-in-Tells.ensures
