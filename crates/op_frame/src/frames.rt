@@ -79,6 +79,7 @@ impl Frames {
         ensures same { OnOk result (self.new ≡ left self.old self.new.held) }
         ensures err { IfErr result (λ e. Stops self.old e) }
         ensures kept { OnErr result (self.new ≡ self.old) }
+        ensures head { IsHead self.old.head }
     {
         let len = self.body_len()?;
         let head = self.head as usize;
@@ -88,8 +89,19 @@ impl Frames {
         Ok(body)
     }
 
+    /// Goes on after so many bytes, as a stream whose heads have 4 or 8 bytes, and whose bodies have up to `limit` bytes.
+    pub fn begin(&mut self, head: u8, limit: u64, count: usize)
+        requires head { IsHead head }
+        requires count { count ≤ length self.old.held }
+        ensures { self.new ≡ stream_of head limit (drop count self.old.held) }
+    {
+        self.head = head;
+        self.limit = limit;
+        self.skip(count);
+    }
+
     /// The bytes that were fed and not given yet.
-    fn held(&self) -> &[u8]
+    pub fn held(&self) -> &[u8]
         ensures { result.now ≡ self.now.held }
     {
         &self.bytes.as_slice()[self.start..]

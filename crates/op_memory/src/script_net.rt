@@ -1,4 +1,4 @@
-ghost use Rattle.std.specs.Prelude.{◌≡◌, ◌≤◌, ◌<◌, ◌∷◌, [], Some, None, true, false, IfOk, length, slice_index_or};
+ghost use Rattle.std.specs.Prelude.{◌≡◌, ◌≤◌, ◌<◌, ◌∷◌, [], Some, None, true, false, IfOk, List, length, map, slice_index_or};
 ghost use Rattle.std.specs.Result.{result_ok};
 ghost use Rattle.op_outside.specs.Causes.{FaultsRose, FailsOnlyOnFault};
 ghost use Rattle.op_outside.specs.Telling.{Grows};
@@ -128,6 +128,13 @@ impl ScriptNet {
             kept: Vec::new(alloc),
             forgot: false,
         }
+    }
+
+    /// The calls that it keeps: all of them, where it has forgotten none.
+    pub fn calls(&self) -> &[KeptCall]
+        ensures { (calls : List Call) → self.now.told ≡ Some calls → calls ≡ map net_call result.now }
+    {
+        self.kept.as_slice()
     }
 
     /// Counts a call, and says whether it is one that fails, which it counts too.
