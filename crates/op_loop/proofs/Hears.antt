@@ -1,0 +1,61 @@
+-- What the bodies of frames say.
+use Rattle.std.proofs.Common.{◌≡◌, ℕ, List, [], ◌∷◌, ◌==◌, true, false, None, refl, sym, ◌∙◌, ap, subst, Result, Ok, Err}
+use Rattle.std.proofs.lemmas.Bool.{eq-eqb, ne_eqb}
+use Rattle.op_types.specs.declared.events.Input.TheVariants.{Deliver}
+use Rattle.op_types.specs.declared.messages.Msg.{Msg}
+use Rattle.op_fields.specs.Form.{whole}
+use Rattle.op_fields.specs.Taken.{IfBad}
+use Rattle.op_fields.specs.declared.fail.TakeFail.{TakeFail}
+use Rattle.op_fields.specs.declared.fail.TakeFail.TheVariants.{Bad}
+use Rattle.op_fields.proofs.Takes.{whole-reads}
+use Rattle.op_msg.specs.Forms.{addressed}
+use Rattle.op_msg.proofs.Encodings.{addressed_reads}
+use Rattle.op_command.specs.Requests.{request_form}
+use Rattle.op_types.specs.declared.events.Request.{Request}
+use Rattle.op_command.proofs.Encodings.{request_reads}
+use Rattle.op_sessions.specs.Wire.{message_in, request_in}
+use Rattle.op_loop.specs.Rules.{give, close, of_message}
+
+-- a body that is a message's encoding says the message
+pub message_is : (body : List ℕ) (x : ℕ × ℕ × Msg) → addressed.fits x → body ≡ addressed.text x → message_in body ≡ Ok x
+unfolding message_in
+message_is body x fits is = ap (λ (b : List ℕ). whole addressed b) is ∙ (whole-reads addressed addressed_reads).again x fits
+
+pub message_is_none : (body : List ℕ) (at : ℕ) → whole addressed body ≡ Err at → message_in body ≡ Err at
+unfolding message_in
+message_is_none body at is = is
+
+pub request_is : (body : List ℕ) (x : Request) → request_form.fits x → body ≡ request_form.text x → request_in body ≡ Ok x
+unfolding request_in
+request_is body x fits is = ap (λ (b : List ℕ). whole request_form b) is ∙ (whole-reads request_form request_reads).again x fits
+
+pub request_is_none : (body : List ℕ) (at : ℕ) → whole request_form body ≡ Err at → request_in body ≡ Err at
+unfolding request_in
+request_is_none body at is = is
+
+-- a message from the peer to this node, and any other
+same_eq : (a b : ℕ) → a ≡ b → (a == b) ≡ true
+same_eq a b e = eq-eqb a b e
+
+other_eq : (a b : ℕ) → (a ≡ b → ⊥) → (a == b) ≡ false
+other_eq a b h = ne_eqb a b h
+
+pub ours : (me q c : ℕ) (m : ℕ × ℕ × Msg) (r : Result (ℕ × ℕ × Msg) ℕ) → r ≡ Ok m → m.0 ≡ q → m.1 ≡ me → of_message me q c r ≡ give None (Deliver m.0 m.2) ∷ []
+ours me q c m r e f t =
+    let first : of_message me q c (Ok m) ≡ give None (Deliver q m.2) ∷ [] = rw (same_eq m.0 q f, same_eq m.1 me t) refl in
+    ap (of_message me q c) e ∙ first ∙ ap (λ p. give None (Deliver p m.2) ∷ []) (sym f)
+
+pub from_another : (me q c : ℕ) (m : ℕ × ℕ × Msg) (r : Result (ℕ × ℕ × Msg) ℕ) → r ≡ Ok m → (m.0 ≡ q → ⊥) → of_message me q c r ≡ []
+from_another me q c m r e f =
+    let first : of_message me q c (Ok m) ≡ [] = rw (other_eq m.0 q f) refl in ap (of_message me q c) e ∙ first
+
+pub to_another : (me q c : ℕ) (m : ℕ × ℕ × Msg) (r : Result (ℕ × ℕ × Msg) ℕ) → r ≡ Ok m → m.0 ≡ q → (m.1 ≡ me → ⊥) → of_message me q c r ≡ []
+to_another me q c m r e f t =
+    let first : of_message me q c (Ok m) ≡ [] = rw (same_eq m.0 q f, other_eq m.1 me t) refl in ap (of_message me q c) e ∙ first
+
+pub is_noise : (me q c at : ℕ) (r : Result (ℕ × ℕ × Msg) ℕ) → r ≡ Err at → of_message me q c r ≡ close c ∷ []
+is_noise me q c at r e = rw e refl
+
+-- why nothing was taken
+pub if_bad : (Y : Type 0) (P : ℕ → Type 0) (e : TakeFail) (at : ℕ) → e ≡ Bad at → IfBad {Y = Y} (Err e) P → P at
+if_bad Y P e at is h = subst (λ x. IfBad {Y = Y} (Err x) P) is h

@@ -1,0 +1,16 @@
+pub mod Runs
+pub mod Folds
+pub mod Giving
+pub mod Ends
+pub mod Writes
+pub mod Turned
+pub mod Heard
+pub mod Hears
+pub mod Stopping
+pub mod Framed
+pub mod Follows
+pub mod FaultCounts
+pub mod TakingTables
+pub mod TakingTasks
+pub mod Taking
+pub mod NodeCores

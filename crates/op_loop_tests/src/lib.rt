@@ -1,0 +1,17 @@
+//! The loop over a net and a clock in memory: tests.
+#![tactic(auto)]
+
+mod failed_node;
+
+pub use failed_node::FailedNode;
+
+#[cfg(test)]
+mod alone;
+#[cfg(test)]
+mod clients;
+#[cfg(test)]
+mod ends;
+#[cfg(test)]
+mod scripts;
+#[cfg(test)]
+mod strangers;

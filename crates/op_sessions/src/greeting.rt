@@ -1,0 +1,55 @@
+ghost use Rattle.std.specs.Prelude.{◌≡◌, ◌≤◌, ℕ, length, IfOk};
+ghost use Rattle.op_sessions.specs.State.{greeting, hello, hello_len};
+ghost use Rattle.op_sessions.specs.Greetings.{Greets};
+ghost use Rattle.op_sessions.specs.declared.greeting.Greeting.TheVariants.{Client, Peer};
+
+use op_fields::{put_u8, put_u32, take_u32};
+use op_types::{NoMemory, Pid};
+use std::alloc::Global;
+
+/// How many bytes a peer's hello has.
+pub const HELLO_LEN: usize = 5;
+
+/// The first byte of a client's connection, and of a peer's.
+const CLIENT_BYTE: u8 = b'C';
+
+const PEER_BYTE: u8 = b'P';
+
+/// What the first bytes of a connection say.
+#[derive(Clone, Copy, Debug, PartialEq, Eq)]
+pub enum Greeting {
+    /// Not enough have come.
+    Silent,
+    Client,
+    Peer(Pid),
+    Strange,
+}
+
+/// What the bytes say that a connection begins with.
+#[tactic(auto, unfolding(crate::specs::State::greeting))]
+pub fn read_greeting(held: &[u8]) -> Greeting
+    ensures is { Greets result (greeting held.now) }
+    ensures client { result ≡ Client → 1 ≤ length held.now }
+    ensures peer { (q : ℕ) → result ≡ Peer q → hello_len ≤ length held.now }
+{
+    match held.first() {
+        None => Greeting::Silent,
+        Some(&CLIENT_BYTE) => Greeting::Client,
+        Some(&PEER_BYTE) => match take_u32(held, 1) {
+            Ok(peer) => Greeting::Peer(peer),
+            Err(_) => Greeting::Silent,
+        },
+        Some(_) => Greeting::Strange,
+    }
+}
+
+/// The bytes with which this node says who it is.
+#[tactic(auto, unfolding(crate::specs::State::hello))]
+pub fn hello(alloc: Global, me: Pid) -> Result<Vec<u8>, NoMemory>
+    ensures { IfOk result (λ bytes. bytes.items ≡ hello me) }
+{
+    let mut bytes = Vec::new(alloc);
+    put_u8(&mut bytes, PEER_BYTE)?;
+    put_u32(&mut bytes, me)?;
+    Ok(bytes)
+}
