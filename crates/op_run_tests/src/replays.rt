@@ -16,7 +16,7 @@ const ONE_PUT_REPORT: &str =
 /// A schedule, how its replay ends, what it writes and what it tells.
 pub type Row = (&'static str, Status, &'static str, &'static str);
 
-const ROWS: [Row; 18] = [
+const ROWS: [Row; 21] = [
     (ONE_PUT, Status::Ended, ONE_PUT_REPORT, ""),
     (
         "",
@@ -120,9 +120,27 @@ const ROWS: [Row; 18] = [
         "",
         "bad schedule line 2\n",
     ),
+    (
+        "members 1\ntick 1\ndel 1 7 1 a\nput 1 7 2 %C3%A9 %\nget 1 7 3 %C3%A9\nshow 1\n",
+        Status::Ended,
+        "answer 3 appended 1 0\nreply 1 7 1 done\nanswer 4 appended 1 1\nreply 1 7 2 done\nanswer 5 appended 1 2\nreply 1 7 3 value %\npair 1 %C3%A9 %\nconfig 1 members 1\nentry 1 0 del 7 1 a\nentry 1 1 put 7 2 %C3%A9 %\nentry 1 2 get 7 3 %C3%A9\nnode 1 config 1 decided 3 trimmed 0\n",
+        "",
+    ),
+    (
+        "members 1\ntick 1\ncas 1 7 1 a % x\nput 1 7 2 a x\ncas 1 7 3 a x y\nget 1 7 4 a\nget 1 7 3 a\n",
+        Status::Ended,
+        "answer 3 appended 1 0\nreply 1 7 1 absent\nanswer 4 appended 1 1\nreply 1 7 2 done\nanswer 5 appended 1 2\nreply 1 7 3 done\nanswer 6 appended 1 3\nreply 1 7 4 value y\nanswer 7 appended 1 4\nreply 1 7 3 stale\nconfig 1 members 1\nentry 1 0 cas 7 1 a % x\nentry 1 1 put 7 2 a x\nentry 1 2 cas 7 3 a x y\nentry 1 3 get 7 4 a\nentry 1 4 get 7 3 a\nnode 1 config 1 decided 5 trimmed 0\n",
+        "",
+    ),
+    (
+        "members 1\nshow 1\ncrash 1\nshow 1\n",
+        Status::Ended,
+        "config 1 members 1\nnode 1 config 1 decided 0 trimmed 0 down\n",
+        "",
+    ),
 ];
 
-/// Words, and what each encodes, if it is a encoding.
+/// Words, and what each encodes, if it is an encoding.
 const WORDS: [(&str, Option<&str>); 14] = [
     ("%", Some("")),
     ("Az.09_", Some("Az.09_")),
