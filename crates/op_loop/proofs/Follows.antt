@@ -16,8 +16,8 @@ use Rattle.op_sessions.specs.declared.kind.Kind.{Kind}
 use Rattle.op_sessions.specs.declared.kind.Kind.TheVariants.{Unknown, Peer, Client}
 use Rattle.op_loop.specs.Cores.{Standing, gives, after_input, faulted, status_text}
 use Rattle.op_sessions.specs.Wire.{peer_head, client_head, peer_frame, client_frame}
-use Rattle.op_sessions.specs.State.{Loop, is_open, session_of, kind_at, hello, hello_len, marked, counted, frame_counted, turn_begun, at_happening, timed, timed_due, admitted, noted_at, forgotten, holding, held_by, no_stream, of_this_kind, hungry, waits_for, has_taken, with_session, left_by, told, asker_of, goes_to, goes_down, goes_up, hello_left, has_poured_out, first_hungry}
-use Rattle.op_loop.specs.Looks.{piece_len, peer_limit, client_limit, writes_place, Look, Looks, LooksAt, IsFront, nothing, refused, a_client, a_peer, whole, begun}
+use Rattle.op_sessions.specs.State.{peer_limit, Loop, is_open, session_of, kind_at, hello, hello_len, marked, counted, frame_counted, turn_begun, at_happening, timed, timed_due, admitted, noted_at, forgotten, holding, held_by, no_stream, of_this_kind, hungry, waits_for, has_taken, with_session, left_by, told, asker_of, goes_to, goes_down, goes_up, hello_left, has_poured_out, first_hungry}
+use Rattle.op_loop.specs.Looks.{piece_len, client_limit, writes_place, Look, Looks, LooksAt, IsFront, nothing, refused, a_client, a_peer, whole, begun}
 use Rattle.op_loop.specs.Rules.{Task, Moment, at, Step, Event, net, clock, node, joins, queues, memory, quiet, done, faults, lost, turns, turn, time, dial, ask, admit, join, read, feed, frames, meet, count, give, send, reply, answer, status, finish, settle, close, drop, write, greet, pour, starved, broken, unless_full, of_happening, of_tick, of_peer, of_frame, of_given, of_fault, of_loss, of_asker, answered, waits_for_answer, no_command, of_end, of_hello, met, goes_on, waits, waits_failing, is_early, is_due, is_above, is_met, dials, dials_in_vain, dials_failing, is_there, is_noted, is_turned_away, is_admitted, is_turned_out, drops, asks, has_asked, reads, reads_nothing, reads_end, reads_failing, feeds, feeds_not, has_no_frame, is_refused, is_client, is_peer_of, has_frame, has_no_room, meets, counts, gives_done, gives_faulted, gives_lost, sends, sends_hungry, sends_to_none, replies, answers, answers_hungry, tells_status, tells_no_status, finishes, has_settled, settles, closes, has_written, writes_next, has_greeted, has_no_hello, greets, greets_no_more, greets_end, greets_failing, has_poured, pours, pours_no_more, pours_end, pours_failing}
 use Rattle.op_sessions.specs.State.{hello_rest}
 use Rattle.op_loop.specs.Run.{Run, none, more}

@@ -11,8 +11,8 @@ use Rattle.op_sessions.specs.declared.kind.Kind.TheVariants.{Unknown, Peer, Clie
 use Rattle.op_command.specs.declared.said.Said.TheVariants as said
 use Rattle.op_loop.specs.Cores.{Standing, status_text}
 use Rattle.op_sessions.specs.Wire.{peer_head, client_head}
-use Rattle.op_sessions.specs.State.{Loop, most_marks, hello_len, kind_at, is_peer, session_of, greeting, silent, client, peer, strange, holding, with_session, of_this_kind, linked, marked, frame_counted, hungry}
-use Rattle.op_loop.specs.Looks.{peer_limit, client_limit, Look, Looks, LooksAt, IsFront, IsFramed, nothing, refused, a_client, a_peer, whole, of_greeting, known, begun}
+use Rattle.op_sessions.specs.State.{peer_limit, Loop, most_marks, hello_len, kind_at, is_peer, session_of, greeting, silent, client, peer, strange, holding, with_session, of_this_kind, linked, marked, frame_counted, hungry}
+use Rattle.op_loop.specs.Looks.{client_limit, Look, Looks, LooksAt, IsFront, IsFramed, nothing, refused, a_client, a_peer, whole, of_greeting, known, begun}
 use Rattle.op_loop.specs.Rules.{Task, Moment, at, frames, close, meet, settle, count, give, starved, answer, finish, status, no_command, finishes, tells_status, tells_no_status, unless_full, replaced, of_peer, of_body, of_frame, has_no_frame, is_refused, is_client, is_peer_of, has_frame, has_no_room, meets, counts}
 use Rattle.op_loop.specs.Hearing.{of_heard}
 use Rattle.op_loop.specs.Run.{NetSeen, RanStill, RanOnNet, frames_left, StopsAt}

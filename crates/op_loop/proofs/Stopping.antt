@@ -20,8 +20,8 @@ use Rattle.op_sessions.specs.declared.kind.Kind.{Kind}
 use Rattle.op_sessions.specs.declared.kind.Kind.TheVariants.{Unknown, Peer, Client}
 use Rattle.op_sessions.specs.declared.session.Session.{Session}
 use Rattle.op_loop.specs.Cores.{Standing, gives}
-use Rattle.op_sessions.specs.State.{Loop, most_marks, marked, unlinked, find, admitted, asked, is_open, at_happening, forgotten, session_of, hello_len, counted, goes_to, asker_of, goes_down, goes_up, kind_at, left_by}
-use Rattle.op_loop.specs.Looks.{begun, peer_limit}
+use Rattle.op_sessions.specs.State.{peer_limit, Loop, most_marks, marked, unlinked, find, admitted, asked, is_open, at_happening, forgotten, session_of, hello_len, counted, goes_to, asker_of, goes_down, goes_up, kind_at, left_by}
+use Rattle.op_loop.specs.Looks.{begun}
 use Rattle.op_sessions.specs.Wire.{peer_head, message_in, request_in}
 use Rattle.op_loop.specs.Rules.{Task, Moment, at, Step, Event, starved, broken, send, reply, dial, turns, admit, read, close, drop, meet, settle, count, frames, give, ask, answered, of_given, of_peer, of_frame, unless_full, of_happening, of_outcome, of_refusal, refusal_of, of_fault, of_loss, of_asker, of_end, of_hello, of_body, of_message, of_request, replaced, waits_for_answer, waits_unless, goes_on, waits, waits_failing, is_early, is_due, is_above, is_met, dials, dials_in_vain, dials_failing, is_there, is_noted, is_turned_away, is_admitted, is_turned_out, drops, asks, has_asked, reads, reads_nothing, reads_end, reads_failing, feeds, feeds_not, has_no_frame, is_refused, is_client, is_peer_of, has_frame, has_no_room, meets, counts, gives_done, gives_faulted, gives_lost, sends, sends_hungry, sends_to_none, replies, answers, answers_hungry, tells_status, tells_no_status, finishes, has_settled, settles, closes, has_written, writes_next, has_greeted, has_no_hello, greets, greets_no_more, greets_end, greets_failing, has_poured, pours, pours_no_more, pours_end, pours_failing}
 use Rattle.op_loop.specs.Run.{Run, none, more, fails, has_failed, Counts}

@@ -21,9 +21,9 @@ use Rattle.op_sessions.specs.declared.kind.Kind.{Kind}
 use Rattle.op_sessions.specs.declared.kind.Kind.TheVariants.{Unknown, Peer, Client}
 use Rattle.op_sessions.specs.declared.session.Session.{Session}
 use Rattle.op_sessions.specs.Wire.{peer_head, peer_frame, client_frame}
-use Rattle.op_sessions.specs.State.{Loop, Table, fresh, put, most_marks, marked, unlinked, find, entry_changed, with_session, admitted, joined, asked, is_open, at_happening, forgotten, noted_at, hello, hello_len, hello_left, hello_rest, hello_less, counted, frame_counted, told, goes_to, asker_of, goes_down, goes_up, kind_at, left_by, waits_for, has_taken, hungry, holding, no_stream, of_this_kind}
+use Rattle.op_sessions.specs.State.{peer_limit, Loop, Table, fresh, put, most_marks, marked, unlinked, find, entry_changed, with_session, admitted, joined, asked, is_open, at_happening, forgotten, noted_at, hello, hello_len, hello_left, hello_rest, hello_less, counted, frame_counted, told, goes_to, asker_of, goes_down, goes_up, kind_at, left_by, waits_for, has_taken, hungry, holding, no_stream, stream_for, of_this_kind}
 use Rattle.op_loop.specs.Cores.{Standing, gives}
-use Rattle.op_loop.specs.Looks.{begun, peer_limit}
+use Rattle.op_loop.specs.Looks.{begun}
 use Rattle.op_loop.specs.Rules.{Task, Moment, at, Step, Event, net, turns, dial, ask, admit, join, read, frames, settle, close, drop as drop_conn, answered, of_given, of_peer, of_frame, unless_full, of_happening, if_open, refusal_of, of_fault, of_loss, of_asker, of_end, of_hello, waits_for_answer, waits_unless, goes_on, waits, waits_failing, is_early, is_due, is_above, is_met, dials, dials_in_vain, dials_failing, is_there, is_noted, is_turned_away, is_admitted, is_turned_out, drops, asks, has_asked, reads, reads_nothing, reads_end, reads_failing, feeds, feeds_not, has_no_frame, is_refused, is_client, is_peer_of, has_frame, has_no_room, meets, counts, gives_done, gives_faulted, gives_lost, sends, sends_hungry, sends_to_none, replies, answers, answers_hungry, tells_status, tells_no_status, finishes, has_settled, settles, closes, has_written, writes_next, has_greeted, has_no_hello, greets, greets_no_more, greets_end, greets_failing, has_poured, pours, pours_no_more, pours_end, pours_failing}
 use Rattle.op_loop.specs.Run.{Run, none, more}
 use Rattle.op_loop.specs.Serving.{knowing, started}
@@ -389,7 +389,7 @@ module _ (me c : ℕ) where
       let k = kept_marked (Some d) s g.1 in
       unless_stops t (marked (Some d) s) (marked (Some d) s) (drop_conn d ∷ r) (g.0, k, (λ e. (shut s g.1 (subst (λ x. is_open x s ≡ false) e out)).joined)) k
   step t (is_admitted {r = r} {s = s} {n = n} {c = d} {kind = kind} {bytes = bytes}) g =
-      calmly (if d == c then at_joining t else t) (admitted d kind bytes s) r g.0 (kept_admitted s d kind bytes (kept_joined d (record { kind = kind; starved = false; number = s.made; frames = no_stream }) bytes g.1 g.2))
+      calmly (if d == c then at_joining t else t) (admitted d kind bytes s) r g.0 (kept_admitted s d kind bytes (kept_joined d (record { kind = kind; starved = false; number = s.made; frames = stream_for kind }) bytes g.1 g.2))
   step t (is_turned_out {r = r} {s = s} {n = n} {c = d} {kind = kind} {bytes = bytes}) g =
       let k = kept_marked (Some d) (forgotten d s) (kept_forgotten s d (λ e. (g.1 e).1) g.2) in
       unless_stops t (marked (Some d) (forgotten d s)) (marked (Some d) (forgotten d s)) (drop_conn d ∷ r) (g.0, k, (λ e. (g.1 e).1.joined)) k

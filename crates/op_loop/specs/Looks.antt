@@ -1,7 +1,7 @@
 -- What the bytes at the front of a session's stream lead to.
 use Rattle.std.specs.Prelude.{◌≡◌, ℕ, List, drop, Bool, true, false, Option, Some, None}
 use Rattle.op_frame.specs.Framing.{Stream, stream_of, IsHead, BeginsWith, IsPartial, TellsTooLong}
-use Rattle.op_sessions.specs.State.{Loop, last_u64, Greeting, silent, client, peer, strange, greeting, kind_at, is_peer}
+use Rattle.op_sessions.specs.State.{Loop, Greeting, silent, client, peer, strange, greeting, kind_at, is_peer}
 use Rattle.op_sessions.specs.declared.kind.Kind.{Kind}
 use Rattle.op_sessions.specs.declared.kind.Kind.TheVariants.{Unknown, Peer, Client}
 
@@ -11,10 +11,7 @@ use Rattle.op_sessions.specs.declared.kind.Kind.TheVariants.{Unknown, Peer, Clie
 abbrev pub piece_len : ℕ
 piece_len = 65536
 
--- how many bytes the body of a peer's frame has at most, and of a client's
-abbrev pub peer_limit : ℕ
-peer_limit = last_u64
-
+-- how many bytes the body of a client's frame has at most
 abbrev pub client_limit : ℕ
 client_limit = 65536
 

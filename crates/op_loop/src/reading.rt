@@ -24,19 +24,16 @@ use op_command::{ClientReply, Said};
 use op_frame::{Frames, NextFail};
 use op_outside::{Conn, Got, Net};
 use op_sched::node_line;
-use op_sessions::{CLIENT_HEAD, Greeting, HELLO_LEN, Kind, Server, Stop, read_greeting};
+use op_sessions::{
+    CLIENT_HEAD, Greeting, HELLO_LEN, Kind, PEER_HEAD, PEER_LIMIT, Server, Stop, read_greeting,
+};
 use op_types::{Blob, Input, NoMemory, Pid, Request};
 use std::alloc::Global;
 
 /// How many bytes one read asks for.
 const PIECE_LEN: usize = 65_536;
 
-/// How many bytes the head of a peer's frame has.
-const PEER_HEAD: u8 = 8;
-
-/// The longest body of a peer's frame, and of a client's.
-const PEER_LIMIT: u64 = u64::MAX;
-
+/// The longest body of a client's frame.
 const CLIENT_LIMIT: u64 = 65_536;
 
 /// The longest line of a node that a reply has room for.

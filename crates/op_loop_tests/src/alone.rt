@@ -11,8 +11,10 @@ const MOST: usize = 65_536;
 
 /// A reply that is of no command: its head, the client and number 0, and what is said.
 fn told(alloc: Global, said: &[u8]) -> Result<Vec<u8>, Fail> {
-    let mut bytes = Vec::from_slice(alloc, &[0, 0, 0])?;
-    bytes.push((16 + said.len()) as u8)?;
+    let Ok(length) = u8::try_from(said.len().saturating_add(16)) else {
+        return Err("it is too long".into());
+    };
+    let mut bytes = Vec::from_slice(alloc, &[0, 0, 0, length])?;
     for _ in 0..16 {
         bytes.push(0)?;
     }

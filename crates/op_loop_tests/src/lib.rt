@@ -12,6 +12,8 @@ mod clients;
 #[cfg(test)]
 mod ends;
 #[cfg(test)]
+mod peers;
+#[cfg(test)]
 mod scripts;
 #[cfg(test)]
 mod strangers;

@@ -1,6 +1,6 @@
 //! What the tests share.
 ghost use Rattle.std.specs.Prelude.{IfOk};
-ghost use Rattle.op_types.specs.Ranges.{MembersInRange};
+ghost use Rattle.op_types.specs.Ranges.{IsPid, MembersInRange};
 ghost use Rattle.op_loop.specs.NodeCores.{IsServable};
 ghost use Rattle.op_loop.specs.Serving.{PeersInRange};
 
@@ -10,7 +10,7 @@ use op_memory::{FakeClock, Incoming, KeptCall, MemDisk, NetScript, ScriptNet};
 use op_node::Node;
 use op_outside::{Addr, Conn, Happening};
 use op_setup::{Peers, Settings};
-use op_types::{Members, NoMemory};
+use op_types::{Members, NoMemory, Pid};
 use std::alloc::Global;
 use std::collections::VecDeque;
 use std::test::Fail;
@@ -66,11 +66,23 @@ pub fn served(
     script: NetScript,
     turns: u64,
 ) -> Result<(ServeEnd, Vec<Mark>, ScriptNet), NoMemory> {
+    served_by(alloc, 1, script, turns)
+}
+
+/// The same with the node of this id, which dials the peers of smaller ids at each tick.
+pub fn served_by(
+    alloc: Global,
+    me: Pid,
+    script: NetScript,
+    turns: u64,
+) -> Result<(ServeEnd, Vec<Mark>, ScriptNet), NoMemory>
+    requires { IsPid me }
+{
     let settings = settings(alloc, turns)?;
     let mut net = ScriptNet::new(alloc, script);
     let mut clock = FakeClock::new(alloc, VecDeque::new(alloc), 1);
     let mut node = FailedNode {
-        me: 1,
+        me,
         count: FAULTS,
         alloc,
     };

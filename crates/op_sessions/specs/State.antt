@@ -9,7 +9,7 @@ use Rattle.op_types.specs.Ranges.{IsPid}
 use Rattle.op_fields.specs.Form.{encoded}
 use Rattle.op_frame.specs.Framing.{Stream, stream_of}
 use Rattle.op_conns.specs.Tables.{Queues, added, removed, appended, taken, queue_of}
-use Rattle.op_sessions.specs.Wire.{client_head}
+use Rattle.op_sessions.specs.Wire.{peer_head, client_head}
 use Rattle.op_sessions.specs.declared.kind.Kind.{Kind}
 use Rattle.op_sessions.specs.declared.kind.Kind.TheVariants.{Unknown, Peer, Client}
 use Rattle.op_sessions.specs.declared.session.Session.{Session}
@@ -127,6 +127,15 @@ is_peer q s = is_some (find q s.links) && not (q == s.me)
 abbrev pub no_stream : Stream
 no_stream = stream_of client_head 0 []
 
+-- how many bytes the body of a peer's frame has at most
+abbrev pub peer_limit : ℕ
+peer_limit = last_u64
+
+-- what a new connection of this kind has read: a peer that is dialled sends no hello, and frames at once
+abbrev pub stream_for : Kind → Stream
+stream_for (Peer q h) = stream_of peer_head peer_limit []
+stream_for _ = no_stream
+
 -- the first byte of a client's connection, `C`, and of a peer's, `P`
 abbrev pub client_byte : ℕ
 client_byte = 67
@@ -222,7 +231,7 @@ forgotten c s = record s { queues = removed c s.queues }
 -- it has a session, for which these bytes wait
 abbrev pub joined : ℕ → Kind → List ℕ → Loop → Loop
 joined c kind bytes s = record s {
-  sessions = put c (record { kind = kind; starved = false; number = s.made; frames = no_stream }) s.sessions;
+  sessions = put c (record { kind = kind; starved = false; number = s.made; frames = stream_for kind }) s.sessions;
   queues = appended c bytes s.queues;
   made = next s.made;
 }

@@ -12,6 +12,6 @@ mod stop;
 pub use greeting::{Greeting, HELLO_LEN, hello, read_greeting};
 pub use kind::{Kind, goes_down, goes_up};
 pub use mark::{Mark, Place};
-pub use server::{CLIENT_HEAD, Server};
+pub use server::{CLIENT_HEAD, PEER_HEAD, PEER_LIMIT, Server};
 pub use session::{Asker, Session};
 pub use stop::Stop;

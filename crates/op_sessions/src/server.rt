@@ -4,7 +4,7 @@ ghost use Rattle.op_msg.specs.Ranges.{MsgInRange};
 ghost use Rattle.op_command.specs.Ranges.{ReplyInRange};
 ghost use Rattle.op_conns.specs.Tables.{queue_of, next_waiting};
 ghost use Rattle.op_sessions.specs.State.{hello_rest};
-ghost use Rattle.op_sessions.specs.State.{Loop, most_marks, find, put, fresh, is_open, session_of, is_peer, KindInRange, hello_less, held_by, no_stream, marked, counted, frame_counted, turn_begun, at_happening, timed, timed_due, admitted, noted_at, forgotten, linked, holding, of_this_kind, hungry, waits_for, has_taken, with_session, left_by, asked, restored, told, asker_of, goes_to, kind_at, hello_left, has_poured_out, first_hungry};
+ghost use Rattle.op_sessions.specs.State.{Loop, most_marks, find, put, fresh, is_open, session_of, is_peer, KindInRange, hello_less, held_by, no_stream, stream_for, marked, counted, frame_counted, turn_begun, at_happening, timed, timed_due, admitted, noted_at, forgotten, linked, holding, of_this_kind, hungry, waits_for, has_taken, with_session, left_by, asked, restored, told, asker_of, goes_to, kind_at, hello_left, has_poured_out, first_hungry};
 ghost use Rattle.op_sessions.specs.Wire.{peer_frame, client_frame};
 ghost use Rattle.op_sessions.specs.declared.stop.Stop.TheVariants.{Starved};
 
@@ -26,8 +26,13 @@ use std::mem;
 /// How many marks there are at most.
 const MOST_MARKS: usize = 64;
 
-/// How many bytes the head of a client's frame has.
+/// How many bytes the head of a client's frame has, and that of a peer's.
 pub const CLIENT_HEAD: u8 = 4;
+
+pub const PEER_HEAD: u8 = 8;
+
+/// The longest body of a peer's frame.
+pub const PEER_LIMIT: u64 = u64::MAX;
 
 /// The loop's own state.
 #[derive(Drop)]
@@ -316,7 +321,7 @@ impl Server {
             kind,
             starved: false,
             number: self.made,
-            frames: Frames::new(self.alloc, CLIENT_HEAD, 0),
+            frames: stream_for(self.alloc, kind),
         };
         self.sessions.insert(conn, session)?;
         if self.queues.queue(conn, bytes).is_err() {
@@ -550,5 +555,15 @@ impl Server {
         } else {
             None
         }
+    }
+}
+
+/// What a new connection of this kind has read: a peer that is dialled sends no hello, and frames at once.
+fn stream_for(alloc: Global, kind: Kind) -> Frames
+    ensures { result ≡ stream_for kind }
+{
+    match kind {
+        Kind::Peer(..) => Frames::new(alloc, PEER_HEAD, PEER_LIMIT),
+        Kind::Unknown | Kind::Client => Frames::new(alloc, CLIENT_HEAD, 0),
     }
 }
