@@ -1,0 +1,4 @@
+pub mod Rules
+pub mod Run
+pub mod Called
+pub mod Following

@@ -1,0 +1,5 @@
+//! A cluster over a spawner and a sink in memory: tests.
+#![tactic(auto)]
+
+#[cfg(test)]
+mod clusters;
