@@ -1,0 +1,29 @@
+use Rattle.std.proofs.Common.{◌≡◌, ◌∙◌}
+use Rattle.std.specs.Fmt.{decimal}
+use Rattle.op_status.proofs.status.Status.tell.Goals as goal
+
+pub returns-in-BadConfig : goal.returns-in-BadConfig
+returns-in-BadConfig g c = rw (c.in-BadConfig.is, ← c.name_of.ensures) c.tell_parts.ensures
+
+pub returns-in-BadSchedule : goal.returns-in-BadSchedule
+returns-in-BadSchedule g c =
+    let digits : c.as_bytes-digits.result.now ≡ decimal c.in-BadSchedule.line = c.as_bytes-digits.ensures.value ∙ c.format.ensures.text in
+    rw (c.in-BadSchedule.is, ← digits) c.tell_parts-in-BadSchedule.ensures
+
+pub returns-in-ReadFault : goal.returns-in-ReadFault
+returns-in-ReadFault g c = rw c.in-ReadFault.is c.tell_text-in-ReadFault.ensures
+
+pub returns-in-WriteFault : goal.returns-in-WriteFault
+returns-in-WriteFault g c = rw c.in-WriteFault.is c.tell_text-in-WriteFault.ensures
+
+pub returns-in-DiskFault : goal.returns-in-DiskFault
+returns-in-DiskFault g c = rw c.in-DiskFault.is c.tell_text-in-DiskFault.ensures
+
+pub returns-in-TurnsOver : goal.returns-in-TurnsOver
+returns-in-TurnsOver g c = rw c.in-TurnsOver.is c.tell_text-in-TurnsOver.ensures
+
+pub returns-in-ChildFault : goal.returns-in-ChildFault
+returns-in-ChildFault g c = rw c.in-ChildFault.is c.tell_text-in-ChildFault.ensures
+
+pub returns-in-InputLimit : goal.returns-in-InputLimit
+returns-in-InputLimit g c = rw c.in-InputLimit.is c.tell_text-in-InputLimit.ensures
