@@ -27,7 +27,7 @@ pub fn given(alloc: Global, count: u64, piece: u64) -> Option<u64> {
 }
 
 /// How many bodies are given now: not more than bytes were fed.
-fn taken(frames: &mut Frames, fed: usize) -> u64 {
+pub fn taken(frames: &mut Frames, fed: usize) -> u64 {
     let mut taken = 0u64;
     for _ in 0..fed {
         if frames.next().is_err() {

@@ -4,8 +4,12 @@
 #[cfg(test)]
 mod clusters;
 #[cfg(test)]
+mod commands;
+#[cfg(test)]
 mod fates;
 #[cfg(test)]
 mod letters;
 #[cfg(test)]
 mod replays;
+#[cfg(test)]
+mod runs;

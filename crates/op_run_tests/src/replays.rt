@@ -1,9 +1,7 @@
-ghost use Rattle.std.specs.Prelude.{◌<◌};
-
 use crate::letters::Letters;
-use op_memory::{MemSink, MemSource};
+use crate::runs::{ended_over, sink, source, words_of};
 use op_sched::bytes_of;
-use op_top::{Status, omni};
+use op_top::Status;
 use std::alloc::{AllocError, Global};
 use std::process::Abort;
 use std::test::Fail;
@@ -159,22 +157,7 @@ const WORDS: [(&str, Option<&str>); 14] = [
 ];
 
 fn replay_word(alloc: Global) -> Result<Vec<String>, AllocError> {
-    let mut words = Vec::new(alloc);
-    words.push(String::from_str(alloc, "replay")?)?;
-    Ok(words)
-}
-
-fn source(alloc: Global, text: &str, most: usize, fails: &[u64]) -> Result<MemSource, AllocError>
-    requires { 0 < most }
-{
-    let bytes = Vec::from_slice(alloc, text.as_bytes())?;
-    Ok(MemSource::new(bytes, most, Vec::from_slice(alloc, fails)?))
-}
-
-fn sink(alloc: Global, most: usize, fails: &[u64]) -> Result<MemSink, AllocError>
-    requires { 0 < most }
-{
-    Ok(MemSink::new(Vec::new(alloc), most, Vec::from_slice(alloc, fails)?))
+    words_of(alloc, &["replay"])
 }
 
 pub fn check_row(rt: &(impl Abort + Alloc<A = Global>), row: &Row) -> Result<(), Fail> {
@@ -183,7 +166,8 @@ pub fn check_row(rt: &(impl Abort + Alloc<A = Global>), row: &Row) -> Result<(),
     let mut input = source(alloc, row.0, 7, &[])?;
     let mut out = sink(alloc, 11, &[])?;
     let mut err = sink(alloc, 3, &[])?;
-    assert!(rt; omni(alloc, &words, &mut input, &mut out, &mut err) == row.1);
+    let status = ended_over(alloc, &words, &mut input, &mut out, &mut err)?;
+    assert!(rt; status == row.1);
     assert_eq!(rt; out.bytes.as_slice(), row.2.as_bytes());
     assert_eq!(rt; err.bytes.as_slice(), row.3.as_bytes());
     Ok(())
@@ -225,9 +209,11 @@ fn other_words_are_refused(rt: HostRuntime) -> Result<(), Fail> {
     let mut input = source(alloc, ONE_PUT, 7, &[])?;
     let mut out = sink(alloc, 100, &[])?;
     let mut err = sink(alloc, 100, &[])?;
-    assert!(rt; omni(alloc, &words, &mut input, &mut out, &mut err) == Status::Usage);
+    let status = ended_over(alloc, &words, &mut input, &mut out, &mut err)?;
+    assert!(rt; status == Status::Usage);
     words.push(String::from_str(alloc, "--help")?)?;
-    assert!(rt; omni(alloc, &words, &mut input, &mut out, &mut err) == Status::Usage);
+    let status = ended_over(alloc, &words, &mut input, &mut out, &mut err)?;
+    assert!(rt; status == Status::Usage);
     assert_eq!(rt; out.bytes.len(), 0);
     assert_eq!(rt; err.bytes.as_slice(), b"usage\nusage\n".as_slice());
     Ok(())
@@ -241,7 +227,8 @@ fn a_source_that_fails_in_mid_stream_is_a_read_fault(rt: HostRuntime) -> Result<
         let mut input = source(alloc, ONE_PUT, 8, &[fail_at])?;
         let mut out = sink(alloc, 100, &[])?;
         let mut err = sink(alloc, 100, &[])?;
-        assert!(rt; omni(alloc, &words, &mut input, &mut out, &mut err) == Status::ReadFault);
+        let status = ended_over(alloc, &words, &mut input, &mut out, &mut err)?;
+        assert!(rt; status == Status::ReadFault);
         assert_eq!(rt; out.bytes.len(), 0);
         assert_eq!(rt; err.bytes.as_slice(), b"read fault\n".as_slice());
     }
@@ -258,7 +245,8 @@ fn a_sink_that_fails_in_mid_stream_keeps_a_prefix(rt: HostRuntime) -> Result<(),
         let mut input = source(alloc, ONE_PUT, 100, &[])?;
         let mut out = sink(alloc, 20, &[fail_at])?;
         let mut err = sink(alloc, 100, &[])?;
-        assert!(rt; omni(alloc, &words, &mut input, &mut out, &mut err) == Status::WriteFault);
+        let status = ended_over(alloc, &words, &mut input, &mut out, &mut err)?;
+        assert!(rt; status == Status::WriteFault);
         let whole = (fail_at as usize - 1) * 20;
         assert_eq!(rt; out.bytes.as_slice(), &report[..whole]);
         assert_eq!(rt; err.bytes.as_slice(), b"write fault\n".as_slice());
@@ -273,7 +261,8 @@ fn a_failed_write_of_the_line_changes_no_status(rt: HostRuntime) -> Result<(), F
     let mut input = source(alloc, "", 1, &[])?;
     let mut out = sink(alloc, 1, &[])?;
     let mut err = sink(alloc, 2, &[2])?;
-    assert!(rt; omni(alloc, &words, &mut input, &mut out, &mut err) == Status::Usage);
+    let status = ended_over(alloc, &words, &mut input, &mut out, &mut err)?;
+    assert!(rt; status == Status::Usage);
     assert_eq!(rt; err.bytes.as_slice(), b"us".as_slice());
     Ok(())
 }
@@ -285,10 +274,10 @@ fn one_byte_more_than_the_limit_is_refused(rt: HostRuntime) -> Result<(), Fail> 
     let mut out = sink(alloc, 100, &[])?;
     let mut err = sink(alloc, 100, &[])?;
     let mut input = Letters { left: 67_108_864 };
-    let status = omni(alloc, &words, &mut input, &mut out, &mut err);
+    let status = ended_over(alloc, &words, &mut input, &mut out, &mut err)?;
     assert!(rt; status == Status::BadSchedule { line: 1 });
     let mut input = Letters { left: 67_108_865 };
-    let status = omni(alloc, &words, &mut input, &mut out, &mut err);
+    let status = ended_over(alloc, &words, &mut input, &mut out, &mut err)?;
     assert!(rt; status == Status::InputLimit);
     assert_eq!(rt;
         err.bytes.as_slice(),

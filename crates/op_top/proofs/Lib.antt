@@ -1,3 +1,2 @@
-pub mod FirstBad
-pub mod ValidOrBad
-pub mod OtherTasks
+pub mod ClusterEnds
+pub mod Tasks

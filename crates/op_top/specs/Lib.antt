@@ -1,5 +1,3 @@
-pub mod Replay
-pub mod Called
-pub mod Statuses
-pub mod Answers
+pub mod Clusters
+pub mod Tasks
 pub mod Sessions

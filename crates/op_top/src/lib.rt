@@ -1,12 +1,11 @@
-//! The top call: words, input, its reading, the run, and the report.
+//! The top call: what the words ask is done, and its status is told.
 #![tactic(auto)]
 
-mod asking;
-mod replay;
+mod clusters;
 mod sessions;
-mod status;
 mod top;
 
+pub use op_serve::Ending;
+pub use op_status::Status;
 pub use sessions::session;
-pub use status::Status;
 pub use top::omni;

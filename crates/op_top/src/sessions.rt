@@ -1,34 +1,53 @@
-//! A run of the program, over any streams.
+//! A run of the program, over anything outside.
 ghost use Rattle.std.specs.Prelude.{map, string_bytes, IfOk, IfErr};
-ghost use Rattle.op_top.specs.Sessions.{Ends, EndsWithoutWords, streams_of};
+ghost use Rattle.op_top.specs.Sessions.{Ends, EndsWithoutWords};
+ghost use Rattle.op_top.specs.Tasks.{outside};
 
-use crate::status::Status;
 use crate::top::omni;
-use op_outside::{Sink, Source};
+use op_outside::{Clock, Disk, Net, Sink, Source, Spawner};
+use op_serve::Ending;
+use op_status::Status;
 use std::alloc::{AllocError, Global};
 
-/// Does what the words ask, and answers the code that the process ends with. `AllocError` in place of the words is want of
-/// memory for them. The report goes to `out`, and the status's line to `err`.
-pub fn session<S: Source, K: Sink>(
+/// Does what the words ask, as `omni` does. `AllocError` in place of the words is want of memory for them.
+pub fn session<D: Disk, N: Net, C: Clock, S: Source, K: Sink, P: Spawner>(
     alloc: Global,
     words: Result<Vec<String>, AllocError>,
+    first: D,
+    second: D,
+    net: &mut N,
+    clock: &mut C,
     input: &mut S,
     out: &mut K,
     err: &mut K,
-) -> u8
-    ensures ends { IfOk words (λ words. Ends result (map string_bytes words.items)
-        (streams_of S.left S.fault_count K.held K.fault_count input.old out.old err.old)
-        (streams_of S.left S.fault_count K.held K.fault_count input.new out.new err.new)) }
-    ensures without_words { IfErr words (λ _. EndsWithoutWords result
-        (streams_of S.left S.fault_count K.held K.fault_count input.old out.old err.old)
-        (streams_of S.left S.fault_count K.held K.fault_count input.new out.new err.new)) }
+    children: &mut P,
+) -> Ending<D>
+    ensures ends { IfOk words (λ words. Ends D.state (map string_bytes words.items)
+        (outside first second (N.told net.old, N.fault_count net.old) (C.answers clock.old)
+        (S.left input.old, S.fault_count input.old) (K.held out.old, K.fault_count out.old)
+        (P.told children.old, P.fault_count children.old))
+        (outside result.first result.second (N.told net.new, N.fault_count net.new) (C.answers clock.new)
+        (S.left input.new, S.fault_count input.new) (K.held out.new, K.fault_count out.new)
+        (P.told children.new, P.fault_count children.new))
+        (K.held err.old, K.fault_count err.old) (K.held err.new, K.fault_count err.new)
+        result.status result.lost.items) }
+    ensures without_words { IfErr words (λ _. EndsWithoutWords
+        (outside first second (N.told net.old, N.fault_count net.old) (C.answers clock.old)
+        (S.left input.old, S.fault_count input.old) (K.held out.old, K.fault_count out.old)
+        (P.told children.old, P.fault_count children.old))
+        (outside result.first result.second (N.told net.new, N.fault_count net.new) (C.answers clock.new)
+        (S.left input.new, S.fault_count input.new) (K.held out.new, K.fault_count out.new)
+        (P.told children.new, P.fault_count children.new))
+        (K.held err.old, K.fault_count err.old) (K.held err.new, K.fault_count err.new)
+        result.status result.lost.items) }
 {
-    let words = match words {
-        Ok(words) => words,
+    match words {
+        Ok(words) => omni(
+            alloc, &words, first, second, net, clock, input, out, err, children,
+        ),
         Err(AllocError) => {
             Status::NoMemory.tell(err);
-            return Status::NoMemory.code();
+            Ending::early(alloc, Status::NoMemory, first, second)
         }
-    };
-    omni(alloc, &words, input, out, err).code()
+    }
 }

@@ -1,93 +1,81 @@
 ghost use Rattle.std.specs.Prelude.{◌≡◌, map, string_bytes};
-ghost use Rattle.op_outside.specs.Causes.{NoFault};
 ghost use Rattle.op_outside.specs.Streams.{Tells};
-ghost use Rattle.op_setup.specs.Tasks.{task_words};
-ghost use Rattle.op_setup.specs.declared.tasks.Task.TheVariants.{Replay};
-ghost use Rattle.op_top.specs.Answers.{
-  EndsIfValid,
-  IsFault,
-  IsReplay,
-  LeavesInput,
-  LeavesOutput,
-  RefusesInput,
-  RefusesWords,
-};
-ghost use Rattle.op_top.specs.Statuses.{status_line};
+ghost use Rattle.op_status.specs.Statuses.{status_line};
+ghost use Rattle.op_top.specs.Tasks.{Does, outside};
 
-use crate::asking::{Command, asked};
-use crate::replay::replayed;
-use crate::status::Status;
-use op_outside::{InputFail, Sink, Source, read_all, write_all};
-use op_sched::SchedFail;
-use op_setup::TaskFail;
+use crate::clusters::run_cluster;
+use op_call::call_node;
+use op_outside::{Clock, Disk, Net, Sink, Source, Spawner};
+use op_replay::replay;
+use op_serve::{Ending, serve_as};
+use op_setup::{Task, TaskFail, task};
+use op_status::Status;
 use std::alloc::Global;
 
-/// How much input is read, in bytes.
-const INPUT_LIMIT: usize = 67_108_864;
-
-fn replay<S: Source, K: Sink>(alloc: Global, input: &mut S, out: &mut K) -> Status
-    ensures output { LeavesOutput result (S.left input.old) (K.held out.old) (K.held out.new) }
-    ensures input { LeavesInput result (S.left input.old) (S.left input.new) }
-    ensures refused { RefusesInput result (task_words Replay) (S.left input.old)
-        (S.fault_count input.old) (S.fault_count input.new) }
-    ensures read_fault { IsFault Status.ReadFault result (S.fault_count input.old) (S.fault_count input.new) }
-    ensures write_fault { IsFault Status.WriteFault result (K.fault_count out.old) (K.fault_count out.new) }
-    ensures no_usage { result ≡ Status.Usage → ⊥ }
-    ensures complete { NoFault (S.fault_count input.old) (S.fault_count input.new)
-        → NoFault (K.fault_count out.old) (K.fault_count out.new)
-        → EndsIfValid result (S.left input.old) }
-{
-    let bytes = match read_all(alloc, input, INPUT_LIMIT) {
-        Ok(bytes) => bytes,
-        Err(InputFail::Fault) => return Status::ReadFault,
-        Err(InputFail::TooLong) => return Status::InputLimit,
-        Err(InputFail::NoMemory) => return Status::NoMemory,
-    };
-    match replayed(alloc, bytes) {
-        Ok(text) => match write_all(out, &text) {
-            Ok(()) => Status::Ended,
-            Err(_) => Status::WriteFault,
-        },
-        Err(SchedFail::BadLine { line }) => Status::BadSchedule { line },
-        Err(SchedFail::NoMemory) => Status::NoMemory,
-    }
-}
-
 /// Does what the words ask, and answers how it ended. The status's line is told to `err` with no memory taken; a write to
-/// it that fails changes no status.
-pub fn omni<S: Source, K: Sink>(
+/// it that fails changes no status. The disks are a node's, and are handed back; the child programs are a cluster's.
+pub fn omni<D: Disk, N: Net, C: Clock, S: Source, K: Sink, P: Spawner>(
     alloc: Global,
     words: &[String],
+    first: D,
+    second: D,
+    net: &mut N,
+    clock: &mut C,
     input: &mut S,
     out: &mut K,
     err: &mut K,
-) -> Status
-    // What is written is the report of the schedule's run, which meets the list machine, and whose lists answer each client.
-    ensures output { LeavesOutput result (S.left input.old) (K.held out.old) (K.held out.new) }
-    ensures input { LeavesInput result (S.left input.old) (S.left input.new) }
-
-    // Words are refused exactly where they are no replay's, and input exactly where it is bad or too long.
-    ensures usage { RefusesWords result (map string_bytes words.now) }
-    ensures refused { RefusesInput result (map string_bytes words.now) (S.left input.old)
-        (S.fault_count input.old) (S.fault_count input.new) }
-
-    // A fault is answered where the stream failed in this call, and nowhere else.
-    ensures read_fault { IsFault Status.ReadFault result (S.fault_count input.old) (S.fault_count input.new) }
-    ensures write_fault { IsFault Status.WriteFault result (K.fault_count out.old) (K.fault_count out.new) }
-
-    // A valid schedule is reported, unless a stream fails or there is no memory.
-    ensures complete { IsReplay (map string_bytes words.now)
-        → NoFault (S.fault_count input.old) (S.fault_count input.new)
-        → NoFault (K.fault_count out.old) (K.fault_count out.new)
-        → EndsIfValid result (S.left input.old) }
-
-    ensures told { Tells K.held K.fault_count err.old err.new (status_line result) }
+    children: &mut P,
+) -> Ending<D>
+    ensures does { Does D.state (map string_bytes words.now)
+        (outside first second (N.told net.old, N.fault_count net.old) (C.answers clock.old)
+        (S.left input.old, S.fault_count input.old) (K.held out.old, K.fault_count out.old)
+        (P.told children.old, P.fault_count children.old))
+        (outside result.first result.second (N.told net.new, N.fault_count net.new) (C.answers clock.new)
+        (S.left input.new, S.fault_count input.new) (K.held out.new, K.fault_count out.new)
+        (P.told children.new, P.fault_count children.new))
+        result.status result.lost.items }
+    ensures told { Tells K.held K.fault_count err.old err.new (status_line result.status) }
 {
-    let status = match asked(alloc, words) {
-        Ok(Command::Replay) => replay(alloc, input, out),
-        Err(TaskFail::Usage) => Status::Usage,
-        Err(TaskFail::NoMemory) => Status::NoMemory,
-    };
-    status.tell(err);
-    status
+    let ending = done(
+        alloc, words, first, second, net, clock, input, out, children,
+    );
+    ending.status.tell(err);
+    ending
+}
+
+/// Does what the words ask.
+fn done<D: Disk, N: Net, C: Clock, S: Source, K: Sink, P: Spawner>(
+    alloc: Global,
+    words: &[String],
+    first: D,
+    second: D,
+    net: &mut N,
+    clock: &mut C,
+    input: &mut S,
+    out: &mut K,
+    children: &mut P,
+) -> Ending<D>
+    ensures { Does D.state (map string_bytes words.now)
+        (outside first second (N.told net.old, N.fault_count net.old) (C.answers clock.old)
+        (S.left input.old, S.fault_count input.old) (K.held out.old, K.fault_count out.old)
+        (P.told children.old, P.fault_count children.old))
+        (outside result.first result.second (N.told net.new, N.fault_count net.new) (C.answers clock.new)
+        (S.left input.new, S.fault_count input.new) (K.held out.new, K.fault_count out.new)
+        (P.told children.new, P.fault_count children.new))
+        result.status result.lost.items }
+{
+    match task(alloc, words) {
+        Ok(Task::Replay) => Ending::early(alloc, replay(alloc, input, out), first, second),
+        Ok(Task::Node(id)) => serve_as(alloc, id, first, second, net, clock, input, out),
+        Ok(Task::Call(addr, request)) => {
+            let status = call_node(alloc, &addr, &request, net, out);
+            Ending::early(alloc, status, first, second)
+        }
+        Ok(Task::Cluster) => {
+            let status = run_cluster(alloc, input, out, children);
+            Ending::early(alloc, status, first, second)
+        }
+        Err(TaskFail::Usage) => Ending::early(alloc, Status::Usage, first, second),
+        Err(TaskFail::NoMemory) => Ending::early(alloc, Status::NoMemory, first, second),
+    }
 }

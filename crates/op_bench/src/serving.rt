@@ -1,0 +1,143 @@
+//! Puts to the node of a sole member, which is served over a net in memory.
+ghost use Rattle.std.specs.Prelude.{IfSome};
+ghost use Rattle.op_types.specs.Ranges.{MembersInRange};
+ghost use Rattle.op_loop.specs.Serving.{PeersInRange};
+
+use crate::frames::taken;
+use op_command::put_request;
+use op_frame::Frames;
+use op_loop::{opened_nodes_can_be_served, serve};
+use op_memory::{FakeClock, Incoming, KeptCall, NetScript, ScriptNet};
+use op_node::Node;
+use op_outside::{Addr, Conn, Disk, Happening};
+use op_setup::{Peers, Settings};
+use op_types::{Blob, Command, Members, Op, Pid, Request};
+use std::alloc::Global;
+use std::collections::VecDeque;
+
+/// The node's id.
+const ID: Pid = 1;
+
+/// The client's connection.
+const CONN: Conn = 5;
+
+/// How many milliseconds a tick has; a turn takes one.
+const TICK_MS: u64 = 10;
+
+/// So many turns pass before the client comes: the node leads then.
+const TURNS_BEFORE: u64 = 100;
+
+/// How many bytes the head of a client's frame has, and the longest body of a reply.
+const HEAD: u8 = 4;
+
+const LONGEST_BODY: u64 = 65_536;
+
+/// How many keys there are.
+const KEYS: u64 = 100_000;
+
+/// So many puts come in frames, some in each read: how many answers were written. None where the node is not opened, or without memory.
+pub fn answered<D: Disk>(
+    alloc: Global,
+    first: D,
+    second: D,
+    puts: u64,
+    in_read: u64,
+) -> Option<u64> {
+    opened_nodes_can_be_served::<D>();
+    let members = sole(alloc)?;
+    let Ok((mut node, _)) = Node::open(alloc, ID, &members, first, second) else {
+        return None;
+    };
+    let reads = puts.checked_div(in_read)?;
+    let settings = settings(alloc, reads.saturating_add(TURNS_BEFORE))?;
+    let mut net = ScriptNet::new(alloc, script(alloc, reads, in_read)?);
+    let mut clock = FakeClock::new(alloc, VecDeque::new(alloc), 1);
+    serve(alloc, &mut node, &mut net, &mut clock, &settings).ok()?;
+    answers(alloc, &net)
+}
+
+/// The node is the only peer.
+fn settings(alloc: Global, turns: u64) -> Option<Settings>
+    ensures { IfSome result PeersInRange }
+{
+    let addr = Addr {
+        host: 0,
+        port: 7000,
+    };
+    let peers = Vec::from_slice(alloc, &[(ID, addr)]).ok()?;
+    Some(Settings {
+        tick_ms: TICK_MS,
+        turns,
+        members: sole(alloc)?,
+        peers: Peers::from_vec(peers),
+    })
+}
+
+/// The only member.
+fn sole(alloc: Global) -> Option<Members>
+    ensures { IfSome result MembersInRange }
+{
+    Some(Members::from_vec(Vec::from_slice(alloc, &[ID]).ok()?))
+}
+
+/// A client comes, and each turn reads some puts.
+fn script(alloc: Global, reads: u64, in_read: u64) -> Option<NetScript> {
+    let mut script = NetScript::new(alloc);
+    for _ in 1..TURNS_BEFORE {
+        script.waits.push_back(Vec::new(alloc)).ok()?;
+    }
+    let comes = Vec::from_slice(alloc, &[Happening::Accepted(CONN)]).ok()?;
+    script.waits.push_back(comes).ok()?;
+    for read in 0..reads {
+        let happens = Vec::from_slice(alloc, &[Happening::Readable(CONN)]).ok()?;
+        script.waits.push_back(happens).ok()?;
+        let bytes = frames(alloc, read.saturating_mul(in_read), in_read, read == 0)?;
+        script.reads.push_back(Incoming::Bytes(bytes)).ok()?;
+    }
+    Some(script)
+}
+
+/// The frames of some puts, behind the client's hello where they are the first.
+fn frames(alloc: Global, first: u64, count: u64, is_first: bool) -> Option<Vec<u8>> {
+    let mut bytes = Vec::new(alloc);
+    if is_first {
+        bytes.push(b'C').ok()?;
+    }
+    for at in 0..count {
+        let mut body = Vec::new(alloc);
+        put_request(&mut body, &put(alloc, first.saturating_add(at))?).ok()?;
+        bytes
+            .extend_from_slice(&u32::try_from(body.len()).ok()?.to_be_bytes())
+            .ok()?;
+        bytes.extend_from_slice(body.as_slice()).ok()?;
+    }
+    Some(bytes)
+}
+
+/// A put by its number.
+fn put(alloc: Global, number: u64) -> Option<Request> {
+    let key = number.checked_rem(KEYS)?;
+    let op = Op::Put(
+        Blob::from_slice(alloc, &key.to_be_bytes()).ok()?,
+        Blob::from_slice(alloc, b"value").ok()?,
+    );
+    Some(Request::Command(Command {
+        client: 7,
+        seq: number.wrapping_add(1),
+        op,
+    }))
+}
+
+/// How many answers were written.
+fn answers(alloc: Global, net: &ScriptNet) -> Option<u64> {
+    let mut frames = Frames::new(alloc, HEAD, LONGEST_BODY);
+    let mut answers = 0u64;
+    for call in net.calls() {
+        let KeptCall::Wrote(_, bytes, _) = call else {
+            continue;
+        };
+        frames.feed(bytes.as_slice()).ok()?;
+        answers = answers.saturating_add(taken(&mut frames, bytes.len()));
+    }
+    Some(answers)
+}

@@ -1,0 +1,54 @@
+//! From a schedule's bytes to the report of its run.
+ghost use Rattle.std.specs.Prelude.{◌≡◌, map, IfOk};
+ghost use Rattle.op_types.specs.Ranges.{MembersInRange};
+ghost use Rattle.op_sched.specs.Failing.{IfBadLine};
+ghost use Rattle.op_sched.specs.Grammar.{AreInRange};
+ghost use Rattle.op_world.specs.Runs.{IsReportOfRun};
+ghost use Rattle.op_replay.specs.Replay.{IsLineOfFirstBad};
+ghost use Rattle.op_replay.specs.Called.{Reports, IsBadAt};
+
+use op_sched::{SchedFail, Summary, read, report};
+use op_types::{Event, Events, Members};
+use op_world::{RunFail, World};
+use std::alloc::{AllocError, Global};
+
+/// The line of each event, in order.
+fn lines_of(alloc: Global, events: &[Event]) -> Result<Vec<u64>, AllocError>
+    ensures { IfOk result (λ lines. lines.items ≡ map (λ e. e.line) events.now) }
+{
+    let mut lines = Vec::new(alloc);
+    for event in events {
+        lines.push(event.line)?;
+    }
+    Ok(lines)
+}
+
+/// Runs the events at these members. A refusal tells the line of the first event that can't come.
+fn run(alloc: Global, members: Members, events: Events) -> Result<Summary, SchedFail>
+    requires members { MembersInRange members }
+    requires range { AreInRange events }
+    ensures report { IfOk result (IsReportOfRun members events) }
+    ensures bad { IfBadLine result (IsLineOfFirstBad members events) }
+{
+    let Ok(lines) = lines_of(alloc, events.as_slice()) else {
+        return Err(SchedFail::NoMemory);
+    };
+    match World::run(alloc, members, events) {
+        Ok(summary) => Ok(summary),
+        Err(RunFail::BadEvent { index }) => Err(SchedFail::BadLine {
+            line: lines[index as usize],
+        }),
+        Err(RunFail::NoMemory) => Err(SchedFail::NoMemory),
+    }
+}
+
+/// The report of the run that a schedule's bytes say. The bytes are let go before the run.
+pub fn replayed(alloc: Global, bytes: Vec<u8>) -> Result<Vec<u8>, SchedFail>
+    ensures reports { IfOk result (λ text. Reports bytes.items text.items) }
+    ensures bad { IfBadLine result (IsBadAt bytes.items) }
+{
+    let schedule = read(alloc, &bytes)?;
+    drop(bytes);
+    let summary = run(alloc, schedule.members, schedule.events)?;
+    Ok(report(alloc, &summary)?)
+}

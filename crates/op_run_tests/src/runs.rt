@@ -1,0 +1,103 @@
+//! The top call over what is in memory: streams, and disks, a net, a clock and child programs that play a script.
+ghost use Rattle.std.specs.Prelude.{◌<◌};
+
+use op_memory::{FakeClock, FakeSpawner, MemDisk, MemSink, MemSource, NetScript, ScriptNet};
+use op_outside::{Sink, Source};
+use op_top::{Status, omni};
+use std::alloc::{AllocError, Global};
+use std::collections::VecDeque;
+
+/// What is outside beside the streams.
+#[derive(Drop)]
+pub struct Things {
+    pub first: MemDisk,
+    pub second: MemDisk,
+    pub net: ScriptNet,
+    pub clock: FakeClock,
+    pub children: FakeSpawner,
+}
+
+impl Things {
+    /// Disks with these bytes on the first one, a net that plays this script, and a clock that goes on by 100 ms.
+    pub fn new(alloc: Global, bytes: Vec<u8>, script: NetScript) -> Result<Things, AllocError> {
+        Ok(Things {
+            first: MemDisk::new(alloc, bytes)?,
+            second: MemDisk::new(alloc, Vec::new(alloc))?,
+            net: ScriptNet::new(alloc, script),
+            clock: FakeClock::new(alloc, VecDeque::new(alloc), 100),
+            children: FakeSpawner::new(alloc, VecDeque::new(alloc), Vec::new(alloc)),
+        })
+    }
+}
+
+/// The words of a line.
+pub fn words_of(alloc: Global, line: &[&str]) -> Result<Vec<String>, AllocError> {
+    let mut words = Vec::new(alloc);
+    for word in line {
+        words.push(String::from_str(alloc, word)?)?;
+    }
+    Ok(words)
+}
+
+/// Bytes as a source, in pieces of at most `most`; these reads fail, from 1.
+pub fn source(
+    alloc: Global,
+    text: &str,
+    most: usize,
+    fails: &[u64],
+) -> Result<MemSource, AllocError>
+    requires { 0 < most }
+{
+    let bytes = Vec::from_slice(alloc, text.as_bytes())?;
+    Ok(MemSource::new(bytes, most, Vec::from_slice(alloc, fails)?))
+}
+
+/// An empty sink, which takes at most `most` bytes a write; these writes fail, from 1.
+pub fn sink(alloc: Global, most: usize, fails: &[u64]) -> Result<MemSink, AllocError>
+    requires { 0 < most }
+{
+    Ok(MemSink::new(Vec::new(alloc), most, Vec::from_slice(alloc, fails)?))
+}
+
+/// How these words end over these things and streams.
+pub fn ended<S: Source>(
+    alloc: Global,
+    words: &[String],
+    things: Things,
+    input: &mut S,
+    out: &mut MemSink,
+    err: &mut MemSink,
+) -> Status {
+    let Things {
+        first,
+        second,
+        mut net,
+        mut clock,
+        mut children,
+    } = things;
+    omni(
+        alloc,
+        words,
+        first,
+        second,
+        &mut net,
+        &mut clock,
+        input,
+        out,
+        err,
+        &mut children,
+    )
+    .status
+}
+
+/// How these words end where nothing but the streams is asked.
+pub fn ended_over<S: Source>(
+    alloc: Global,
+    words: &[String],
+    input: &mut S,
+    out: &mut MemSink,
+    err: &mut MemSink,
+) -> Result<Status, AllocError> {
+    let things = Things::new(alloc, Vec::new(alloc), NetScript::new(alloc))?;
+    Ok(ended(alloc, words, things, input, out, err))
+}

@@ -1,0 +1,132 @@
+-- How a node ends, from what its opening and its serving tell.
+use Rattle.std.proofs.Common.{◌≡◌, ℕ, List, ◌∷◌, [], Option, Some, None, Err, refl, inl, inr}
+use Rattle.std.proofs.lemmas.List.Elements.{All-weaker}
+use Rattle.op_types.specs.declared.durable.Durable.{Durable}
+use Rattle.op_types.specs.declared.messages.Msg.{Msg}
+use Rattle.op_outside.specs.Disks.{DiskState}
+use Rattle.op_outside.specs.Telling.{Grows}
+use Rattle.op_types.specs.Ranges.{IsPid}
+use Rattle.op_setup.specs.Settings.{HasPeer, IsSettings}
+use Rattle.op_setup.specs.declared.config.Settings.{Settings}
+use Rattle.op_store.specs.Failing.{faults, IsFaultOf}
+use Rattle.op_store.specs.Openings.{IsRefusal}
+use Rattle.op_store.specs.Stored.{Obey}
+use Rattle.op_store.specs.Stores.{Represents}
+use Rattle.op_store.specs.declared.fail.Returned.{Returned}
+use Rattle.op_store.specs.declared.fail.StoreFail.{StoreFail}
+use Rattle.op_store.specs.declared.fail.StoreFail.TheVariants as refusals
+use Rattle.op_node.specs.Nodes.{NodeState, node_of, IsRepresented}
+use Rattle.op_node.specs.Openings.{Opens, RefusesNode, disks_with, fresh_for}
+use Rattle.op_node.specs.declared.node.Node.{Node}
+use Rattle.op_node.proofs.Refusals.{refusal_tells}
+use Rattle.op_node.proofs.Represented.{opened_represented}
+use Rattle.op_loop.specs.NodeCores.{standing_of, IsStoredWhileUp}
+use Rattle.op_loop.specs.Serving as loop
+use Rattle.op_loop.specs.declared.serve_end.ServeEnd.{ServeEnd}
+use Rattle.op_sessions.specs.declared.mark.Mark.{Mark}
+use Rattle.op_status.specs.declared.status.Status.{Status}
+use Rattle.op_status.specs.declared.status.Status.TheVariants as status
+use Rattle.op_input.specs.Inputs.{IsMisconfigured}
+use Rattle.op_serve.specs.Nodes.{Around, Serves, is_misconfigured, NetSeen, Stream, Goes, is_unheard, cannot_begin, has_served, Ends, cannot_open, is_damaged, has_no_memory, is_opened, IsHeard, IsNodeOf, IsOwn, IsReady, Holds, around, status_of, status_of_refusal}
+
+module _ {D : Type 0} (state : D → DiskState) where
+  -- what stood for what was stored may be known by less
+  goes_by : (id : ℕ) (o : Settings) (n : NodeState) (P Q : Type 0) (old new : Around D) (s : Status) (lost : List Mark) → (Q → P)
+      → Goes state id o n P old new s lost → Goes state id o n Q old new s lost
+  goes_by id o n P Q old new s lost f (is_unheard h same) = is_unheard h same
+  goes_by id o n P Q old new s lost f (cannot_begin t r c same) = cannot_begin t r c same
+  goes_by id o n P Q old new s lost f (has_served net r serves stored) = has_served net r serves (λ q. stored (f q))
+
+  -- an opened node goes on
+  pub ends_opened : (id : ℕ) (o : Settings) (first second : D) (n : Node D) (sends : List (ℕ × Msg)) (net : NetSeen) (clock : Option (List ℕ)) (out : Stream) (new : Around D) (s : Status) (lost : List Mark)
+      → Opens state id o.members (disks_with state first second) n sends
+      → Goes state id o (node_of n) (IsRepresented state n) (around n.store.first n.store.second net clock out) new s lost
+      → Ends state id o (around first second net clock out) new s lost
+  ends_opened id o first second n sends net clock out new s lost opens goes =
+      is_opened (around n.store.first n.store.second net clock out)
+      (record { durable = opens.durable; is_new = opens.is_new; found = opens.opened.found; node = opens.node; no_fault = opens.opened.no_fault })
+      refl
+      (goes_by id o (node_of n) (IsRepresented state n) (IsOwn state id (around first second net clock out) opens.durable) _ new s lost
+      (λ own. opened_represented state id o.members (disks_with state first second) n sends opens own.0 own.1) goes)
+
+  -- a node that was not opened ends
+  refused_by : (id : ℕ) (o : Settings) (first second : D) (cause : StoreFail) (a b : D) (net : NetSeen) (clock : Option (List ℕ)) (out : Stream)
+      → IsFaultOf (faults (disks_with state first second)) (faults (disks_with state a b)) cause
+      → (Obey (disks_with state first second) → IsRefusal (disks_with state first second) (disks_with state a b) cause)
+      → Ends state id o (around first second net clock out) (around a b net clock out) (status_of_refusal cause) []
+  refused_by id o first second (refusals.DiskFault count) a b net clock out fault refusal = cannot_open refl fault.1
+  refused_by id o first second (refusals.Damaged area at) a b net clock out fault refusal = is_damaged refl fault (λ obey. (refusal obey).0)
+  refused_by id o first second refusals.NoMemory a b net clock out fault refusal = has_no_memory refl fault
+
+  refusal_of : (id : ℕ) (o : Settings) (first second : D) (e : Returned D) → RefusesNode state (fresh_for id o.members) first second e
+      → Obey (disks_with state first second) → IsRefusal (disks_with state first second) (disks_with state e.first e.second) e.cause
+  refusal_of id o first second e (inl r) obey = r.refusal obey
+  refusal_of id o first second e (inr r) obey = rw r.cause tt
+
+  refused : (id : ℕ) (o : Settings) (first second : D) (e : Returned D) (net : NetSeen) (clock : Option (List ℕ)) (out : Stream)
+      → RefusesNode state (fresh_for id o.members) first second e
+      → Ends state id o (around first second net clock out) (around e.first e.second net clock out) (status_of_refusal e.cause) []
+  refused id o first second e net clock out r =
+      refused_by id o first second e.cause e.first e.second net clock out
+      (refusal_tells state (fresh_for id o.members) first second e r) (refusal_of id o first second e r)
+
+  pub ends_refused : (id : ℕ) (o : Settings) (first second : D) (e : Returned D) (net : NetSeen) (clock : Option (List ℕ)) (out : Stream)
+      (a b : D) (s : Status) (lost : List Mark)
+      → RefusesNode state (fresh_for id o.members) first second e → a ≡ e.first → b ≡ e.second → s ≡ status_of_refusal e.cause → lost ≡ []
+      → Ends state id o (around first second net clock out) (around a b net clock out) s lost
+  ends_refused id o first second e net clock out a b s lost r at_first at_second is no_loss =
+      rw (at_first, at_second, is, no_loss) (refused id o first second e net clock out r)
+
+  -- ---- how an open node ends
+
+  -- it is not heard
+  pub goes_unheard : (id : ℕ) (o : Settings) (n : NodeState) (stood : Type 0) (first second : D) (net0 net1 : NetSeen) (clock : Option (List ℕ)) (out0 out1 : Stream)
+      (a b : D) (told s : Status) (lost : List Mark)
+      → IsHeard {T = Unit {0}} id o (Err told) net0 net1 out0 out1 → a ≡ first → b ≡ second → s ≡ told → lost ≡ []
+      → Goes state id o n stood (around first second net0 clock out0) (around a b net1 clock out1) s lost
+  goes_unheard id o n stood first second net0 net1 clock out0 out1 a b told s lost heard at_first at_second is no_loss =
+      rw (at_first, at_second, is, no_loss) (is_unheard heard refl)
+
+  -- it finds no memory to begin
+  pub goes_unserved : (id : ℕ) (o : Settings) (n : NodeState) (stood : Type 0) (first second : D) (net0 mid net1 : NetSeen) (clock0 clock1 : Option (List ℕ)) (out0 out1 : Stream)
+      (a b : D) (t : ℕ) (s : Status) (lost : List Mark)
+      → IsReady id o net0 mid out0 out1 → net1 ≡ mid → Grows clock0 (t ∷ []) clock1 → a ≡ first → b ≡ second → s ≡ status.NoMemory → lost ≡ []
+      → Goes state id o n stood (around first second net0 clock0 out0) (around a b net1 clock1 out1) s lost
+  goes_unserved id o n stood first second net0 mid net1 clock0 clock1 out0 out1 a b t s lost ready same grows at_first at_second is no_loss =
+      rw (same, at_first, at_second, is, no_loss) (cannot_begin t ready grows refl)
+
+  -- what a node's store represents is on its disks
+  holds : (k : Node D) (d : Durable) (net : NetSeen) (clock : Option (List ℕ)) (out : Stream) → Represents state d k.store → Holds state (around k.store.first k.store.second net clock out) d
+  holds k d net clock out r = (k.store.generation, k.store.end, r.settles)
+
+  -- it has served
+  pub goes_served : (id : ℕ) (o : Settings) (n : NodeState) (stood : Type 0) (first second : D) (k : Node D) (end : ServeEnd) (net0 mid net1 : NetSeen) (clock0 clock1 : Option (List ℕ)) (out0 out1 : Stream)
+      (a b : D) (s : Status) (lost : List Mark)
+      → IsReady id o net0 mid out0 out1
+      → loop.Serves o end lost (record { node = n; faults = faults (disks_with state first second) }) (standing_of state k) mid net1 clock0 clock1
+      → (stood → IsStoredWhileUp state k) → a ≡ k.store.first → b ≡ k.store.second → s ≡ status_of end
+      → Goes state id o n stood (around first second net0 clock0 out0) (around a b net1 clock1 out1) s lost
+  goes_served id o n stood first second k end net0 mid net1 clock0 clock1 out0 out1 a b s lost ready serves stored at_first at_second is =
+      rw (at_first, at_second, is)
+      (has_served mid ready serves (λ (yes : stood) (up : (node_of k).failed ≡ None). holds k (node_of k).state.durable net1 clock1 out1 (stored yes up)))
+
+-- ---- its settings
+
+-- settings that are read for a node of this id are its own
+pub node_of_settings : (id : ℕ) (text : List ℕ) (o : Settings) → IsPid id → IsSettings text (Some id) o → IsNodeOf id o
+node_of_settings id text o one s =
+    let rows = s.2.peers.there in
+    record {
+      server = one;
+      members = s.2.members.in_range;
+      peers = All-weaker (HasPeer rows.0) (λ p. IsPid p.0) (λ p row. row.3.id) o.peers rows.2.each;
+      own = s.2.own;
+    }
+
+-- there are none, and nothing else is done
+pub serves_misconfigured : {D : Type 0} (state : D → DiskState) (id : ℕ) (in0 in1 : Stream) (first second a b : D) (net : NetSeen) (clock : Option (List ℕ)) (out : Stream)
+    (told s : Status) (lost : List Mark)
+    → IsMisconfigured in0.0 (Some id) in0.1 in1.1 told → a ≡ first → b ≡ second → s ≡ told → lost ≡ []
+    → Serves state id in0 in1 (around first second net clock out) (around a b net clock out) s lost
+serves_misconfigured state id in0 in1 first second a b net clock out told s lost why at_first at_second is no_loss =
+    rw (at_first, at_second, is, no_loss) (is_misconfigured why refl)

@@ -1,0 +1,14 @@
+use Rattle.op_serve.specs.Nodes.{is_configured}
+use Rattle.op_serve.proofs.Endings.{node_of_settings, serves_misconfigured}
+use Rattle.op_serve.proofs.command.serve_as.Goals as goal
+
+pub serve_node-requires : goal.serve_node-requires
+serve_node-requires g c = node_of_settings _ _ _ c.requires c.in-Ok.ensures.configured.settings
+
+pub returns-in-Ok : goal.returns-in-Ok
+returns-in-Ok g c = is_configured c.in-Ok.found.settings c.in-Ok.ensures.configured c.in-Ok.ensures.count c.serve_node.ensures
+
+pub returns-in-Err : goal.returns-in-Err
+returns-in-Err g c =
+    let early = c.early.ensures in
+    serves_misconfigured _ _ _ _ _ _ _ _ _ _ _ _ _ _ c.in-Err.ensures.refused early.first early.second early.status early.lost

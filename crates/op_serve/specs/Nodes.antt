@@ -1,0 +1,157 @@
+-- How a node that serves ends, and what it leaves on its disks, its net and its output.
+use Rattle.std.specs.Prelude.{◌≡◌, ◌++◌, ◌∷◌, [], ℕ, Bool, List, codes, decimal, Option, Some, None, Result, Ok, Err, Contains}
+use Rattle.std.specs.Io.KnownBytes.{Appends}
+use Rattle.op_types.specs.Ranges.{IsPid, MembersInRange}
+use Rattle.op_types.specs.declared.durable.Durable.{Durable}
+use Rattle.op_outside.specs.Causes.{FaultsRose}
+use Rattle.op_outside.specs.Disks.{DiskState}
+use Rattle.op_outside.specs.Nets.{Call, Listened}
+use Rattle.op_outside.specs.Streams.{AppendsPrefix}
+use Rattle.op_outside.specs.Telling.{Grows}
+use Rattle.op_outside.specs.declared.net.Addr.{Addr}
+use Rattle.op_setup.specs.declared.config.Settings.{Settings}
+use Rattle.op_setup.specs.Settings.{IsAmong}
+use Rattle.op_store.specs.Failing.{faults}
+use Rattle.op_store.specs.Openings.{IsOpenedAs}
+use Rattle.op_store.specs.Readings.{IsDamageOf}
+use Rattle.op_store.specs.Stored.{Obey, Settles}
+use Rattle.op_store.specs.declared.fail.StoreFail.{StoreFail}
+use Rattle.op_store.specs.declared.fail.StoreFail.TheVariants as refusals
+use Rattle.op_node.specs.Nodes.{NodeState}
+use Rattle.op_node.specs.Openings.{disks_with, durable_for, fresh_for, opening_state}
+use Rattle.op_loop.specs.Serving as loop
+use Rattle.op_loop.specs.Serving.{PeersInRange}
+use Rattle.op_loop.specs.declared.serve_end.ServeEnd.{ServeEnd}
+use Rattle.op_loop.specs.declared.serve_end.ServeEnd.TheVariants as ends
+use Rattle.op_sessions.specs.declared.mark.Mark.{Mark}
+use Rattle.op_input.specs.Inputs.{IsConfigured, IsMisconfigured}
+use Rattle.op_status.specs.declared.status.Status.{Status}
+use Rattle.op_status.specs.declared.status.Status.TheVariants as status
+
+-- the settings of the node of this id
+pub record IsNodeOf (id : ℕ) (o : Settings) : Type 0 where
+  pub server : IsPid id
+  pub members : MembersInRange o.members
+  pub peers : PeersInRange o
+  pub own : IsAmong o.peers (Some id)
+
+-- what a net tells, and its count of faults
+abbrev pub NetSeen : Type 0
+NetSeen = Option (List Call) × ℕ
+
+-- what a stream tells, and its count of faults
+abbrev pub Stream : Type 0
+Stream = Option (List ℕ) × ℕ
+
+-- ---- a node is heard
+
+-- it was to listen at its own address, which was answered so
+pub record AsksToListen (id : ℕ) (o : Settings) (net0 net1 : Option (List Call)) (answer : Option (Unit {0})) : Type 0 where
+  pub addr : Addr
+  pub own : Contains o.peers (id, addr)
+  pub net : Grows net0 (Listened addr answer ∷ []) net1
+
+-- the line that tells that a node listens
+abbrev pub ready_line : ℕ → List ℕ
+ready_line id = codes "ready " ++ decimal id ++ codes "\n"
+
+-- it listens, and its line is told; nothing failed
+pub record IsReady (id : ℕ) (o : Settings) (net0 net1 : NetSeen) (out0 out1 : Stream) : Type 0 where
+  pub listens : AsksToListen id o net0.0 net1.0 (Some tt)
+  pub no_net_fault : net1.1 ≡ net0.1
+  pub told : Appends out0.0 out1.0 (ready_line id)
+  pub no_write_fault : out1.1 ≡ out0.1
+
+-- it is ready; or it could not listen; or its line could not be told
+abbrev pub IsHeard : {T : Type 0} → ℕ → Settings → Result T Status → NetSeen → NetSeen → Stream → Stream → Type 0
+IsHeard id o (Ok x) net0 net1 out0 out1 = IsReady id o net0 net1 out0 out1
+IsHeard id o (Err status.NetFault) net0 net1 out0 out1 =
+    AsksToListen id o net0.0 net1.0 None × FaultsRose net0.1 net1.1 × (out1 ≡ out0)
+IsHeard id o (Err status.WriteFault) net0 net1 out0 out1 =
+    AsksToListen id o net0.0 net1.0 (Some tt) × (net1.1 ≡ net0.1) × AppendsPrefix out0.0 out1.0 (ready_line id) × FaultsRose out0.1 out1.1
+IsHeard id o (Err _) net0 net1 out0 out1 = ⊥
+
+-- the status by which serving ended
+abbrev pub status_of : ServeEnd → Status
+status_of ends.Ended = status.Ended
+status_of ends.TurnsOver = status.TurnsOver
+status_of ends.NetFault = status.NetFault
+status_of ends.Starved = status.NoMemory
+
+-- the status that tells why a node was not opened
+abbrev pub status_of_refusal : StoreFail → Status
+status_of_refusal (refusals.DiskFault count) = status.DiskFault
+status_of_refusal (refusals.Damaged area at) = status.Damaged area at
+status_of_refusal refusals.NoMemory = status.NoMemory
+
+-- ---- all around a node
+
+-- its disks, what its net, its clock and its output tell, and the counts of faults of net and output
+pub record Around (D : Type 0) : Type 0 where
+  pub first : D
+  pub second : D
+  pub net : NetSeen
+  pub clock : Option (List ℕ)
+  pub output : Stream
+
+abbrev pub around : {D : Type 0} → D → D → NetSeen → Option (List ℕ) → Stream → Around D
+around first second net clock output = record { first = first; second = second; net = net; clock = clock; output = output }
+
+-- nothing but the disks changed
+abbrev pub OnlyDisks : {D : Type 0} → Around D → Around D → Type 0
+OnlyDisks old new = new ≡ record old { first = new.first; second = new.second }
+
+module _ {D : Type 0} (state : D → DiskState) where
+  -- how often the disks have failed in all
+  abbrev pub faults_of : Around D → ℕ
+  faults_of a = faults (disks_with state a.first a.second)
+
+  -- both disks obey the model of a disk
+  abbrev pub ObeyIn : Around D → Type 0
+  ObeyIn a = Obey (disks_with state a.first a.second)
+
+  -- the first disk holds an area that makes this durable state, and a crash leaves nothing else
+  abbrev pub Holds : Around D → Durable → Type 0
+  Holds a d = (generation : ℕ) × (end : ℕ) × Settles d generation end (state a.first)
+
+  -- A node was opened: it takes what the disks store, or begins with its first state, and no disk failed.
+  pub record IsOpened (id : ℕ) (members : List ℕ) (old new : Around D) (n : NodeState) : Type 0 where
+    pub durable : Durable
+    pub is_new : Bool
+    pub found : ObeyIn old → IsOpenedAs (fresh_for id members) (state old.first).content (state old.second).content durable is_new
+    pub node : n ≡ record { me = id; state = opening_state id is_new durable; failed = None }
+    pub no_fault : faults_of new ≡ faults_of old
+
+  -- the disks obey the model, and what they store is of this node
+  abbrev pub IsOwn : ℕ → Around D → Durable → Type 0
+  IsOwn id old durable = ObeyIn old × (durable_for id durable ≡ durable)
+
+  -- How an open node ends: it could not listen, or could not tell that it does; there was no memory to begin; or it has served. If the disks
+  -- stood for what it had stored, and it has not failed, they do so at the end.
+  pub data Goes (id : ℕ) (o : Settings) (n : NodeState) (stood : Type 0) (old new : Around D) : Status → List Mark → Type 0 where
+    is_unheard : {s : Status} → IsHeard {T = Unit {0}} id o (Err s) old.net new.net old.output new.output
+        → new ≡ record old { net = new.net; output = new.output } → Goes id o n stood old new s []
+    cannot_begin : (t : ℕ) → IsReady id o old.net new.net old.output new.output → Grows old.clock (t ∷ []) new.clock
+        → new ≡ record old { net = new.net; output = new.output; clock = new.clock } → Goes id o n stood old new status.NoMemory []
+    has_served : {m : NodeState} {end : ServeEnd} {lost : List Mark} (net : NetSeen) → IsReady id o old.net net old.output new.output
+        → loop.Serves o end lost (record { node = n; faults = faults_of old }) (record { node = m; faults = faults_of new })
+        net new.net old.clock new.clock
+        → (stood → m.failed ≡ None → Holds new m.state.durable)
+        → Goes id o n stood old new (status_of end) lost
+
+  -- How a node ends, and what it leaves. Each end has its cause, and nothing is asked of the outside after it.
+  pub data Ends (id : ℕ) (o : Settings) (old new : Around D) : Status → List Mark → Type 0 where
+    cannot_open : OnlyDisks old new → FaultsRose (faults_of old) (faults_of new) → Ends id o old new status.DiskFault []
+    is_damaged : {area at : ℕ} → OnlyDisks old new → faults_of new ≡ faults_of old
+        → (ObeyIn old → IsDamageOf (state old.first).content (state old.second).content area at)
+        → Ends id o old new (status.Damaged area at) []
+    has_no_memory : OnlyDisks old new → faults_of new ≡ faults_of old → Ends id o old new status.NoMemory []
+    is_opened : {n : NodeState} {s : Status} {lost : List Mark} (mid : Around D) (opened : IsOpened id o.members old mid n) → OnlyDisks old mid
+        → Goes id o n (IsOwn id old opened.durable) mid new s lost → Ends id o old new s lost
+
+  -- How the command ends, where this was left of the input before and after it: there are no settings of the node, and nothing else was
+  -- done; or there are, and the node ends as above.
+  pub data Serves (id : ℕ) (in0 in1 : Stream) (old new : Around D) : Status → List Mark → Type 0 where
+    is_misconfigured : {s : Status} → IsMisconfigured in0.0 (Some id) in0.1 in1.1 s → new ≡ old → Serves id in0 in1 old new s []
+    is_configured : {s : Status} {lost : List Mark} {text : List ℕ} (o : Settings) → IsConfigured in0.0 in1.0 (Some id) text o → in1.1 ≡ in0.1
+        → Ends id o old new s lost → Serves id in0 in1 old new s lost

@@ -1,0 +1,36 @@
+ghost use Rattle.op_types.specs.Ranges.{IsPid};
+ghost use Rattle.op_serve.specs.Nodes.{Serves, around};
+
+use crate::ending::Ending;
+use crate::serving::serve_node;
+use op_input::read_settings;
+use op_outside::{Clock, Disk, Net, Sink, Source};
+use op_types::Pid;
+use std::alloc::Global;
+
+/// Serves as the node of this id: reads its settings, opens it on its disks, listens at its own address, tells that it is ready,
+/// and serves until an end request or the last turn. The disks are handed back, and what was lost for want of memory is told.
+pub fn serve_as<D: Disk, N: Net, C: Clock, S: Source, K: Sink>(
+    alloc: Global,
+    id: Pid,
+    first: D,
+    second: D,
+    net: &mut N,
+    clock: &mut C,
+    input: &mut S,
+    out: &mut K,
+) -> Ending<D>
+    requires { IsPid id }
+    ensures { Serves D.state id
+        (S.left input.old, S.fault_count input.old) (S.left input.new, S.fault_count input.new)
+        (around first second (N.told net.old, N.fault_count net.old) (C.answers clock.old)
+        (K.held out.old, K.fault_count out.old))
+        (around result.first result.second (N.told net.new, N.fault_count net.new) (C.answers clock.new)
+        (K.held out.new, K.fault_count out.new))
+        result.status result.lost.items }
+{
+    match read_settings(alloc, input, Some(id)) {
+        Ok(found) => serve_node(alloc, id, &found.settings, first, second, net, clock, out),
+        Err(status) => Ending::early(alloc, status, first, second),
+    }
+}

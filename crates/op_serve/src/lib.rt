@@ -1,0 +1,9 @@
+//! The command `node`: a node is opened on its disks, listens, tells that it is ready, and serves.
+#![tactic(auto)]
+
+mod command;
+mod ending;
+mod serving;
+
+pub use command::serve_as;
+pub use ending::Ending;

@@ -1,0 +1,167 @@
+ghost use Rattle.std.specs.Prelude.{◌≡◌, [], None, IfSome, OnOk, Some, Contains};
+ghost use Rattle.std.specs.Io.KnownBytes.{Appends};
+ghost use Rattle.op_outside.specs.Causes.{FailsOnlyOnFault};
+ghost use Rattle.op_outside.specs.Streams.{AppendsPrefix};
+ghost use Rattle.op_setup.specs.Settings.{IsAmong};
+ghost use Rattle.op_node.specs.Nodes.{node_of, IsRepresented};
+ghost use Rattle.op_loop.specs.NodeCores.{IsServable};
+ghost use Rattle.op_serve.specs.Nodes.{Ends, Goes, IsHeard, IsNodeOf, around, ready_line, status_of, status_of_refusal};
+
+use crate::ending::Ending;
+use itoa::Buffer;
+use op_loop::{ServeEnd, serve};
+use op_node::Node;
+use op_outside::{Addr, Clock, Disk, Net, Sink, WriteFail};
+use op_parts::write_parts;
+use op_setup::Settings;
+use op_status::Status;
+use op_store::StoreFail;
+use op_types::Pid;
+use std::alloc::Global;
+
+/// Opens the node of this id on its disks, listens, tells that it is ready, and serves.
+pub(crate) fn serve_node<D: Disk, N: Net, C: Clock, K: Sink>(
+    alloc: Global,
+    id: Pid,
+    settings: &Settings,
+    first: D,
+    second: D,
+    net: &mut N,
+    clock: &mut C,
+    out: &mut K,
+) -> Ending<D>
+    requires { IsNodeOf id settings.now }
+    ensures { Ends D.state id settings.now
+        (around first second (N.told net.old, N.fault_count net.old) (C.answers clock.old)
+        (K.held out.old, K.fault_count out.old))
+        (around result.first result.second (N.told net.new, N.fault_count net.new) (C.answers clock.new)
+        (K.held out.new, K.fault_count out.new))
+        result.status result.lost.items }
+{
+    match Node::open(alloc, id, &settings.members, first, second) {
+        Ok((node, _)) => serve_opened(alloc, id, settings, node, net, clock, out),
+        Err(refused) => {
+            let status = status_of_refusal(refused.cause);
+            Ending::early(alloc, status, refused.first, refused.second)
+        }
+    }
+}
+
+/// A node that is open listens, tells that it is ready, and serves. Its disks are handed back.
+fn serve_opened<D: Disk, N: Net, C: Clock, K: Sink>(
+    alloc: Global,
+    id: Pid,
+    settings: &Settings,
+    node: Node<D>,
+    net: &mut N,
+    clock: &mut C,
+    out: &mut K,
+) -> Ending<D>
+    requires settings { IsNodeOf id settings.now }
+    requires ready { IsServable node }
+    ensures { Goes D.state id settings.now (node_of node) (IsRepresented D.state node)
+        (around node.store.first node.store.second (N.told net.old, N.fault_count net.old)
+        (C.answers clock.old) (K.held out.old, K.fault_count out.old))
+        (around result.first result.second (N.told net.new, N.fault_count net.new) (C.answers clock.new)
+        (K.held out.new, K.fault_count out.new))
+        result.status result.lost.items }
+{
+    let mut node = node;
+    if let Err(status) = listen(id, settings, net, out) {
+        return handed_back(alloc, status, node);
+    }
+    match serve(alloc, &mut node, net, clock, settings) {
+        Ok((end, lost)) => {
+            let (_, first, second) = node.park();
+            Ending {
+                status: status_of(end),
+                first,
+                second,
+                lost,
+            }
+        }
+        Err(_) => handed_back(alloc, Status::NoMemory, node),
+    }
+}
+
+/// A node ended before it served: its disks.
+fn handed_back<D: Disk>(alloc: Global, status: Status, node: Node<D>) -> Ending<D>
+    ensures status { result.status ≡ status }
+    ensures first { result.first ≡ node.store.first }
+    ensures second { result.second ≡ node.store.second }
+    ensures lost { result.lost.items ≡ [] }
+{
+    let (_, first, second) = node.park();
+    Ending::early(alloc, status, first, second)
+}
+
+/// Listens at the node's own address, and tells that it is ready. The status tells which of the two failed.
+fn listen<N: Net, K: Sink>(
+    id: Pid,
+    settings: &Settings,
+    net: &mut N,
+    out: &mut K,
+) -> Result<(), Status>
+    requires { IsNodeOf id settings.now }
+    ensures { IsHeard id settings.now result (N.told net.old, N.fault_count net.old)
+        (N.told net.new, N.fault_count net.new) (K.held out.old, K.fault_count out.old)
+        (K.held out.new, K.fault_count out.new) }
+{
+    let Some(addr) = own_addr(id, settings) else {
+        unreachable!()
+    };
+    if net.listen(&addr).is_err() {
+        return Err(Status::NetFault);
+    }
+    if tell_ready(id, out).is_err() {
+        return Err(Status::WriteFault);
+    }
+    Ok(())
+}
+
+/// Writes the line that tells that the node listens.
+fn tell_ready<K: Sink>(id: Pid, out: &mut K) -> Result<(), WriteFail>
+    ensures all { OnOk result (Appends (K.held out.old) (K.held out.new) (ready_line id)) }
+    ensures prefix { AppendsPrefix (K.held out.old) (K.held out.new) (ready_line id) }
+    ensures cause { FailsOnlyOnFault (K.fault_count out.old) (K.fault_count out.new) result }
+{
+    let mut buffer = Buffer::new();
+    let digits = buffer.format(id).as_bytes();
+    write_parts(out, &[b"ready ", digits, b"\n"])
+}
+
+/// The address of the node of this id, if it is among the peers.
+fn own_addr(id: Pid, settings: &Settings) -> Option<Addr>
+    ensures there { IfSome result (λ addr. Contains settings.now.peers (id, addr)) }
+    ensures absent { result ≡ None → IsAmong settings.now.peers (Some id) → ⊥ }
+{
+    for peer in settings.peers.as_slice() {
+        if peer.0 == id {
+            return Some(peer.1);
+        }
+    }
+    None
+}
+
+/// The status that tells why a node was not opened.
+fn status_of_refusal(cause: StoreFail) -> Status
+    ensures { result ≡ status_of_refusal cause }
+{
+    match cause {
+        StoreFail::DiskFault { .. } => Status::DiskFault,
+        StoreFail::Damaged { area, at } => Status::Damaged { area, at },
+        StoreFail::NoMemory => Status::NoMemory,
+    }
+}
+
+/// The status by which serving ended.
+fn status_of(end: ServeEnd) -> Status
+    ensures { result ≡ status_of end }
+{
+    match end {
+        ServeEnd::Ended => Status::Ended,
+        ServeEnd::TurnsOver => Status::TurnsOver,
+        ServeEnd::NetFault => Status::NetFault,
+        ServeEnd::Starved => Status::NoMemory,
+    }
+}

@@ -1,0 +1,210 @@
+-- What is done, by what the words ask.
+use Rattle.std.proofs.Common.{◌≡◌, ℕ, List, [], Option, Some, None, Err, refl, sym, subst, inl, inr}
+use Rattle.op_outside.specs.Disks.{DiskState}
+use Rattle.op_setup.specs.Tasks.{IsTask, IsTaskOf, TaskInRange, task_words}
+use Rattle.op_setup.specs.declared.tasks.Task.{Task}
+use Rattle.op_setup.specs.declared.tasks.Task.TheVariants.{Node, Replay, Call, Cluster}
+use Rattle.op_setup.proofs.TaskWords.{one_task}
+use Rattle.op_setup.specs.declared.config.Settings.{Settings}
+use Rattle.op_sessions.specs.declared.mark.Mark.{Mark}
+use Rattle.op_client.specs.declared.call_fail.CallFail.{CallFail}
+use Rattle.op_client.specs.declared.call_fail.CallFail.TheVariants as fail
+use Rattle.op_node.specs.Nodes.{NodeState}
+use Rattle.op_loop.specs.declared.serve_end.ServeEnd.{ServeEnd}
+use Rattle.op_loop.specs.declared.serve_end.ServeEnd.TheVariants as ends
+use Rattle.op_status.specs.declared.status.Status.{Status}
+use Rattle.op_status.specs.declared.status.Status.TheVariants as status
+use Rattle.op_input.specs.Inputs.{IsMisconfigured}
+use Rattle.op_replay.specs.Answers.{AnswersReplay, Replays}
+use Rattle.op_serve.specs.Nodes as node
+use Rattle.op_types.specs.declared.events.Request.{Request}
+use Rattle.op_outside.specs.declared.net.Addr.{Addr}
+use Rattle.op_client.specs.Run as client
+use Rattle.op_call.specs.Calls as call
+use Rattle.op_top.specs.Clusters as cluster
+use Rattle.op_serve.specs.Nodes.{NetSeen, Stream}
+use Rattle.op_top.specs.Clusters.{Children}
+use Rattle.op_top.specs.Tasks.{Outside, Does, DoesTask, around_node, outside}
+
+-- the status is not that of words which are refused
+abbrev pub IsNoUsage : Status → Type 0
+IsNoUsage status.Usage = ⊥
+IsNoUsage _ = Unit {0}
+
+pub is_none : (s : Status) → IsNoUsage s → s ≡ status.Usage → ⊥
+is_none s other is = subst IsNoUsage is other
+
+-- ---- no task ends so
+
+misconfigured : (left : Option (List ℕ)) (id : Option ℕ) (before now : ℕ) (s : Status) → IsMisconfigured left id before now s → IsNoUsage s
+misconfigured left id before now (status.BadConfig c) h = tt
+misconfigured left id before now status.Usage h = absurd h
+misconfigured left id before now status.ReadFault h = tt
+misconfigured left id before now status.InputLimit h = tt
+misconfigured left id before now status.NoMemory h = tt
+misconfigured left id before now status.Ended h = tt
+misconfigured left id before now (status.BadSchedule n) h = tt
+misconfigured left id before now status.WriteFault h = tt
+misconfigured left id before now status.DiskFault h = tt
+misconfigured left id before now status.NetFault h = tt
+misconfigured left id before now status.TurnsOver h = tt
+misconfigured left id before now (status.Damaged area place) h = tt
+misconfigured left id before now status.ChildFault h = tt
+misconfigured left id before now status.NoReply h = tt
+
+served : (end : ServeEnd) → IsNoUsage (node.status_of end)
+served ends.Ended = tt
+served ends.TurnsOver = tt
+served ends.NetFault = tt
+served ends.Starved = tt
+
+heard : (id : ℕ) (o : Settings) (s : Status) (net0 net1 : node.NetSeen) (out0 out1 : node.Stream) → node.IsHeard {T = Unit {0}} id o (Err s) net0 net1 out0 out1 → IsNoUsage s
+heard id o status.Usage net0 net1 out0 out1 h = absurd h
+heard id o status.Ended net0 net1 out0 out1 h = tt
+heard id o (status.BadConfig c) net0 net1 out0 out1 h = tt
+heard id o (status.BadSchedule n) net0 net1 out0 out1 h = tt
+heard id o status.ReadFault net0 net1 out0 out1 h = tt
+heard id o status.WriteFault net0 net1 out0 out1 h = tt
+heard id o status.DiskFault net0 net1 out0 out1 h = tt
+heard id o status.NetFault net0 net1 out0 out1 h = tt
+heard id o status.NoMemory net0 net1 out0 out1 h = tt
+heard id o status.TurnsOver net0 net1 out0 out1 h = tt
+heard id o (status.Damaged area place) net0 net1 out0 out1 h = tt
+heard id o status.ChildFault net0 net1 out0 out1 h = tt
+heard id o status.InputLimit net0 net1 out0 out1 h = tt
+heard id o status.NoReply net0 net1 out0 out1 h = tt
+
+node_goes : {D : Type 0} (state : D → DiskState) (id : ℕ) (o : Settings) (n : NodeState) (stood : Type 0) (old new : node.Around D) (s : Status) (lost : List Mark) → node.Goes state id o n stood old new s lost → IsNoUsage s
+node_goes state id o n stood old new s lost (node.is_unheard h same) = heard id o s old.net new.net old.output new.output h
+node_goes state id o n stood old new s lost (node.cannot_begin t r c same) = tt
+node_goes state id o n stood old new s lost (node.has_served {end} net r serves stored) = served end
+
+node_ends : {D : Type 0} (state : D → DiskState) (id : ℕ) (o : Settings) (old new : node.Around D) (s : Status) (lost : List Mark) → node.Ends state id o old new s lost → IsNoUsage s
+node_ends state id o old new s lost (node.cannot_open a b) = tt
+node_ends state id o old new s lost (node.is_damaged a b c) = tt
+node_ends state id o old new s lost (node.has_no_memory a b) = tt
+node_ends state id o old new s lost (node.is_opened {n} mid opened only goes) =
+    node_goes state id o n (node.IsOwn state id old opened.durable) mid new s lost goes
+
+pub node_serves : {D : Type 0} (state : D → DiskState) (id : ℕ) (in0 in1 : node.Stream) (old new : node.Around D) (s : Status) (lost : List Mark) → node.Serves state id in0 in1 old new s lost → IsNoUsage s
+node_serves state id in0 in1 old new s lost (node.is_misconfigured h same) = misconfigured in0.0 (Some id) in0.1 in1.1 s h
+node_serves state id in0 in1 old new s lost (node.is_configured o c same e) = node_ends state id o old new s lost e
+
+failed : (why : CallFail) → IsNoUsage (call.status_of why)
+failed fail.NoReply = tt
+failed fail.TurnsOver = tt
+failed fail.NetFault = tt
+failed fail.NoMemory = tt
+
+call_ends : {addr : Addr} {request : Request} (net0 net1 : client.NetSeen) (out0 out1 : Option (List ℕ) × ℕ) (s : Status) → call.CallEnds addr request net0 net1 out0 out1 s → IsNoUsage s
+call_ends net0 net1 out0 out1 s (call.is_told a b c) = tt
+call_ends net0 net1 out0 out1 s (call.is_cut a b c) = tt
+call_ends net0 net1 out0 out1 s (call.is_untold a b) = tt
+call_ends net0 net1 out0 out1 s (call.has_no_reply {why} a b) = failed why
+
+cluster_ends : (text : List ℕ) (o : Settings) (out0 out1 : cluster.Stream) (children0 children1 : cluster.Children) (s : Status) → cluster.Ends text o out0 out1 children0 children1 s → IsNoUsage s
+cluster_ends text o out0 out1 children0 children1 s (cluster.have_ended a b c) = tt
+cluster_ends text o out0 out1 children0 children1 s (cluster.child_fails a b c) = tt
+cluster_ends text o out0 out1 children0 children1 s (cluster.write_fails a b c) = tt
+cluster_ends text o out0 out1 children0 children1 s (cluster.has_no_memory a b) = tt
+
+cluster_runs : (in0 in1 out0 out1 : cluster.Stream) (children0 children1 : cluster.Children) (s : Status) → cluster.RunsCluster in0 in1 out0 out1 children0 children1 s → IsNoUsage s
+cluster_runs in0 in1 out0 out1 children0 children1 s (cluster.is_misconfigured a b c) = misconfigured in0.0 None in0.1 in1.1 s a
+cluster_runs in0 in1 out0 out1 children0 children1 s (cluster.is_configured {text} o a b c) = cluster_ends text o out0 out1 children0 children1 s c
+
+replayed : (s : Status) → AnswersReplay s → IsNoUsage s
+replayed status.Usage h = absurd h
+replayed status.Ended h = tt
+replayed (status.BadConfig c) h = tt
+replayed (status.BadSchedule n) h = tt
+replayed status.ReadFault h = tt
+replayed status.WriteFault h = tt
+replayed status.DiskFault h = tt
+replayed status.NetFault h = tt
+replayed status.NoMemory h = tt
+replayed status.TurnsOver h = tt
+replayed (status.Damaged area place) h = tt
+replayed status.ChildFault h = tt
+replayed status.InputLimit h = tt
+replayed status.NoReply h = tt
+
+-- ---- what is done
+
+-- what the words ask
+pub task_of : (words : List (List ℕ)) (t u : Task) → t ≡ u → words ≡ task_words t → TaskInRange t → IsTaskOf words u
+task_of words t u is written in_range = rw (← is) (record { in_range = in_range; written = written })
+
+module _ {D : Type 0} (state : D → DiskState) (words : List (List ℕ)) (old new : Outside D) (s : Status) (lost : List Mark) where
+  task_ends : (t : Task) → DoesTask state t old new s lost → IsNoUsage s
+  task_ends Replay h = replayed s h.0.no_other
+  task_ends (Node id) h = node_serves state id old.input new.input (around_node old) (around_node new) s lost h.0
+  task_ends (Call addr request) h = call_ends old.net new.net old.output new.output s h.0
+  task_ends Cluster h = cluster_runs old.input new.input old.output new.output old.children new.children s h.0
+
+  -- these words ask for this task, and it was done
+  does_task : (t : Task) → IsTaskOf words t → DoesTask state t old new s lost → Does state words old new s lost
+  does_task t of did =
+      record {
+        usage_only_if = λ is. absurd (is_none s (task_ends t did) is);
+        usage_always = λ none. absurd (none (t, of));
+        task = λ other is. inl (subst (λ (x : Task). DoesTask state x old new s lost) (one_task words t other of is) did);
+      }
+
+  -- they ask for none
+  does_nothing : (IsTask words → ⊥) → s ≡ status.Usage → new ≡ old → lost ≡ [] → Does state words old new s lost
+  does_nothing none is same no_loss =
+      record { usage_only_if = λ _. none; usage_always = λ _. (is, (same, no_loss)); task = λ t of. absurd (none (t, of)) }
+
+  -- there is no memory for them
+  lacks_memory : ((IsTask words → ⊥) → ⊥) → s ≡ status.NoMemory → new ≡ old → lost ≡ [] → Does state words old new s lost
+  lacks_memory some is same no_loss =
+      record {
+        usage_only_if = λ usage. absurd (is_none s (subst IsNoUsage (sym is) tt) usage);
+        usage_always = λ none. absurd (some none);
+        task = λ t of. inr (is, (same, no_loss));
+      }
+
+-- the same where the disks are handed back as they were, and nothing was lost
+module _ {D : Type 0} (state : D → DiskState) (words : List (List ℕ)) (first second a b : D) (r s : Status) (lost : List Mark)
+    (at_first : a ≡ first) (at_second : b ≡ second) (is : s ≡ r) (no_loss : lost ≡ []) where
+  pub does_replay : (net : NetSeen) (clock : Option (List ℕ)) (in0 in1 out0 out1 : Stream) (children : Children)
+      → IsTaskOf words Replay → Replays r in0 in1 out0 out1
+      → Does state words (outside first second net clock in0 out0 children) (outside a b net clock in1 out1 children) s lost
+  does_replay net clock in0 in1 out0 out1 children of did =
+      rw (at_first, at_second, is, no_loss)
+      (does_task state words (outside first second net clock in0 out0 children) (outside first second net clock in1 out1 children) r [] Replay of (did, refl, refl))
+
+  pub does_call : (addr : Addr) (request : Request) (net0 net1 : NetSeen) (clock : Option (List ℕ)) (input out0 out1 : Stream) (children : Children)
+      → IsTaskOf words (Call addr request) → call.CallEnds addr request net0 net1 out0 out1 r
+      → Does state words (outside first second net0 clock input out0 children) (outside a b net1 clock input out1 children) s lost
+  does_call addr request net0 net1 clock input out0 out1 children of did =
+      rw (at_first, at_second, is, no_loss)
+      (does_task state words (outside first second net0 clock input out0 children) (outside first second net1 clock input out1 children) r [] (Call addr request) of (did, refl, refl))
+
+  pub does_cluster : (net : NetSeen) (clock : Option (List ℕ)) (in0 in1 out0 out1 : Stream) (children0 children1 : Children)
+      → IsTaskOf words Cluster → cluster.RunsCluster in0 in1 out0 out1 children0 children1 r
+      → Does state words (outside first second net clock in0 out0 children0) (outside a b net clock in1 out1 children1) s lost
+  does_cluster net clock in0 in1 out0 out1 children0 children1 of did =
+      rw (at_first, at_second, is, no_loss)
+      (does_task state words (outside first second net clock in0 out0 children0) (outside first second net clock in1 out1 children1) r [] Cluster of (did, refl, refl))
+
+  -- they ask for none
+  pub is_usage : (net : NetSeen) (clock : Option (List ℕ)) (input out : Stream) (children : Children) → (IsTask words → ⊥) → r ≡ status.Usage
+      → Does state words (outside first second net clock input out children) (outside a b net clock input out children) s lost
+  is_usage net clock input out children none usage =
+      rw (at_first, at_second, is, no_loss)
+      (let same = outside first second net clock input out children in does_nothing state words same same r [] none usage refl refl)
+
+  -- there is no memory for them
+  pub has_no_memory : (net : NetSeen) (clock : Option (List ℕ)) (input out : Stream) (children : Children) → ((IsTask words → ⊥) → ⊥) → r ≡ status.NoMemory
+      → Does state words (outside first second net clock input out children) (outside a b net clock input out children) s lost
+  has_no_memory net clock input out children some lacks =
+      rw (at_first, at_second, is, no_loss)
+      (let same = outside first second net clock input out children in lacks_memory state words same same r [] some lacks refl refl)
+
+pub does_node : {D : Type 0} (state : D → DiskState) (words : List (List ℕ)) (id : ℕ) (first second a b : D) (s : Status) (lost : List Mark)
+    (net0 net1 : NetSeen) (clock0 clock1 : Option (List ℕ)) (in0 in1 out0 out1 : Stream) (children : Children)
+    → IsTaskOf words (Node id) → node.Serves state id in0 in1 (node.around first second net0 clock0 out0) (node.around a b net1 clock1 out1) s lost
+    → Does state words (outside first second net0 clock0 in0 out0 children) (outside a b net1 clock1 in1 out1 children) s lost
+does_node state words id first second a b s lost net0 net1 clock0 clock1 in0 in1 out0 out1 children of did =
+    does_task state words (outside first second net0 clock0 in0 out0 children) (outside a b net1 clock1 in1 out1 children) s lost (Node id) of (did, refl)

@@ -1,0 +1,30 @@
+use Rattle.op_top.proofs.Tasks.{task_of, does_replay, does_node, does_call}
+use Rattle.op_top.proofs.top.done.Goals as goal
+
+pub returns-in-Ok-Replay : goal.returns-in-Ok-Replay
+returns-in-Ok-Replay g c =
+    let asked = c.in-Ok-Replay.ensures in
+    let did = c.replay.ensures in
+    does_replay _ _ _ _ _ _ _ _ _ c.early.ensures.first c.early.ensures.second c.early.ensures.status c.early.ensures.lost _ _ _ _ _ _ _
+    (task_of _ _ _ c.in-Ok-Replay.field-0-is asked.found asked.in_range)
+    (record {
+      output = did.output;
+      input = did.input;
+      refused = did.refused;
+      read_fault = did.read_fault;
+      write_fault = did.write_fault;
+      no_other = did.no_other;
+      complete = did.complete;
+    })
+
+pub returns-in-Ok-Node : goal.returns-in-Ok-Node
+returns-in-Ok-Node g c =
+    let asked = c.in-Ok-Node.ensures in
+    does_node _ _ _ _ _ _ _ _ _ _ _ _ _ _ _ _ _ _ (task_of _ _ _ c.in-Ok-Node.field-0-is asked.found asked.in_range) c.serve_as.ensures
+
+pub returns-in-Ok-Call : goal.returns-in-Ok-Call
+returns-in-Ok-Call g c =
+    let asked = c.in-Ok-Call.ensures in
+    let early = c.early-in-Ok-Call.ensures in
+    does_call _ _ _ _ _ _ _ _ _ early.first early.second early.status early.lost _ _ _ _ _ _ _ _ _
+    (task_of _ _ _ c.in-Ok-Call.field-0-is asked.found asked.in_range) c.call_node-status.ensures
