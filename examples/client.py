@@ -1,0 +1,80 @@
+#!/usr/bin/env python3
+"""A client of a cluster's key-value service.
+
+    client.py HOST:PORT[,HOST:PORT..] put KEY VALUE | del KEY | get KEY | cas KEY OLD NEW
+
+It asks one node after the other until a node answers, each time under the same number, so that the command takes effect
+once at most, however often it is sent. Written from docs/FORMATS.md alone.
+"""
+import random
+import socket
+import struct
+import sys
+import time
+
+TAGS = {"put": 1, "del": 2, "get": 3, "cas": 4}
+DONE, VALUE, ABSENT, STALE = 1, 2, 3, 4  # a reply's tag
+SILENCE, PAUSE = 3.0, 0.1  # seconds: that an answer is waited for, and between two tries
+
+
+def entry(client, number, operation, key, *values):
+    texts = b"".join(struct.pack(">H", len(value)) + value for value in values)
+    return struct.pack(">BQQBB", 1, client, number, TAGS[operation], len(key)) + key + texts
+
+
+def exactly(connection, count):
+    parts = b""
+    while len(parts) < count:
+        part = connection.recv(count - len(parts))
+        if not part:
+            raise ConnectionError("the node has closed the connection")
+        parts += part
+    return parts
+
+
+class Client:
+    def __init__(self, addresses, number=None):
+        self.addresses = addresses
+        self.client = number or random.randrange(1, 2**62)
+        self.number = 0
+        self.connection = None
+
+    def connect(self):
+        self.connection = socket.create_connection(self.addresses[0], SILENCE)
+        self.connection.setsockopt(socket.IPPROTO_TCP, socket.TCP_NODELAY, 1)
+        self.connection.sendall(b"C")
+
+    def once(self, body):
+        """One try: the reply's tag and what follows it, if it answers this command."""
+        if self.connection is None:
+            self.connect()
+        self.connection.sendall(struct.pack(">I", len(body)) + body)
+        while True:
+            length, client, number, tag = struct.unpack(">IQQB", exactly(self.connection, 21))
+            rest = exactly(self.connection, length - 17)
+            if (client, number) == (self.client, self.number):
+                return tag, rest
+
+    def ask(self, operation, *texts):
+        """The value, True for done, or None for absent; it tries until a node answers."""
+        self.number += 1
+        body = entry(self.client, self.number, operation, *texts)
+        while True:
+            try:
+                tag, rest = self.once(body)
+                if tag <= STALE:
+                    return {DONE: True, VALUE: rest[2:], ABSENT: None, STALE: False}[tag]
+            except OSError:
+                pass
+            # Refused, given up or not reached: the next node.
+            self.addresses = self.addresses[1:] + self.addresses[:1]
+            if self.connection:
+                self.connection.close()
+            self.connection = None
+            time.sleep(PAUSE)
+
+
+if __name__ == "__main__":
+    nodes = [tuple(address.split(":")) for address in sys.argv[1].split(",")]
+    answer = Client(nodes).ask(sys.argv[2], *(word.encode() for word in sys.argv[3:]))
+    print(answer.decode() if isinstance(answer, bytes) else {True: "done", None: "absent", False: "stale"}[answer])
