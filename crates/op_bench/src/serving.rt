@@ -4,14 +4,13 @@ ghost use Rattle.op_types.specs.Ranges.{MembersInRange};
 ghost use Rattle.op_loop.specs.Serving.{PeersInRange};
 
 use crate::frames::taken;
-use op_command::put_request;
 use op_frame::Frames;
 use op_loop::{opened_nodes_can_be_served, serve};
 use op_memory::{FakeClock, Incoming, KeptCall, NetScript, ScriptNet};
 use op_node::Node;
 use op_outside::{Addr, Conn, Disk, Happening};
 use op_setup::{Peers, Settings};
-use op_types::{Blob, Command, Members, Op, Pid, Request};
+use op_types::{Members, Pid};
 use std::alloc::Global;
 use std::collections::VecDeque;
 
@@ -31,6 +30,9 @@ const TURNS_BEFORE: u64 = 100;
 const HEAD: u8 = 4;
 
 const LONGEST_BODY: u64 = 65_536;
+
+/// The client's number.
+const CLIENT: u64 = 7;
 
 /// How many keys there are.
 const KEYS: u64 = 100_000;
@@ -104,8 +106,7 @@ fn frames(alloc: Global, first: u64, count: u64, is_first: bool) -> Option<Vec<u
         bytes.push(b'C').ok()?;
     }
     for at in 0..count {
-        let mut body = Vec::new(alloc);
-        put_request(&mut body, &put(alloc, first.saturating_add(at))?).ok()?;
+        let body = put(alloc, first.saturating_add(at))?;
         bytes
             .extend_from_slice(&u32::try_from(body.len()).ok()?.to_be_bytes())
             .ok()?;
@@ -114,18 +115,17 @@ fn frames(alloc: Global, first: u64, count: u64, is_first: bool) -> Option<Vec<u
     Some(bytes)
 }
 
-/// A put by its number.
-fn put(alloc: Global, number: u64) -> Option<Request> {
+/// A put by its number, as a request: the tags of a command and of a put, each before its fields.
+fn put(alloc: Global, number: u64) -> Option<Vec<u8>> {
+    let mut body = Vec::from_slice(alloc, &[1]).ok()?;
+    body.extend_from_slice(&CLIENT.to_be_bytes()).ok()?;
+    body.extend_from_slice(&number.saturating_add(1).to_be_bytes())
+        .ok()?;
+    body.extend_from_slice(&[1, 8]).ok()?;
     let key = number.checked_rem(KEYS)?;
-    let op = Op::Put(
-        Blob::from_slice(alloc, &key.to_be_bytes()).ok()?,
-        Blob::from_slice(alloc, b"value").ok()?,
-    );
-    Some(Request::Command(Command {
-        client: 7,
-        seq: number.wrapping_add(1),
-        op,
-    }))
+    body.extend_from_slice(&key.to_be_bytes()).ok()?;
+    body.extend_from_slice(b"\x00\x05value").ok()?;
+    Some(body)
 }
 
 /// How many answers were written.
