@@ -87,7 +87,7 @@ node_ends state id o old new s lost (node.is_opened {n} mid opened only goes) =
     node_goes state id o n (node.IsOwn state id old opened.durable) mid new s lost goes
 
 pub node_serves : {D : Type 0} (state : D → DiskState) (id : ℕ) (in0 in1 : node.Stream) (old new : node.Around D) (s : Status) (lost : List Mark) → node.Serves state id in0 in1 old new s lost → IsNoUsage s
-node_serves state id in0 in1 old new s lost (node.is_misconfigured h same) = misconfigured in0.0 (Some id) in0.1 in1.1 s h
+node_serves state id in0 in1 old new s lost (node.is_misconfigured h rises most same) = misconfigured in0.0 (Some id) in0.1 in1.1 s h
 node_serves state id in0 in1 old new s lost (node.is_configured o c same e) = node_ends state id o old new s lost e
 
 failed : (why : CallFail) → IsNoUsage (call.status_of why)
@@ -109,7 +109,7 @@ cluster_ends text o out0 out1 children0 children1 s (cluster.write_fails a b c) 
 cluster_ends text o out0 out1 children0 children1 s (cluster.has_no_memory a b) = tt
 
 cluster_runs : (in0 in1 out0 out1 : cluster.Stream) (children0 children1 : cluster.Children) (s : Status) → cluster.RunsCluster in0 in1 out0 out1 children0 children1 s → IsNoUsage s
-cluster_runs in0 in1 out0 out1 children0 children1 s (cluster.is_misconfigured a b c) = misconfigured in0.0 None in0.1 in1.1 s a
+cluster_runs in0 in1 out0 out1 children0 children1 s (cluster.is_misconfigured a rises most b c) = misconfigured in0.0 None in0.1 in1.1 s a
 cluster_runs in0 in1 out0 out1 children0 children1 s (cluster.is_configured {text} o a b c) = cluster_ends text o out0 out1 children0 children1 s c
 
 replayed : (s : Status) → AnswersReplay s → IsNoUsage s

@@ -1,10 +1,11 @@
 -- How the command `cluster` ends, and what it leaves.
-use Rattle.std.specs.Prelude.{◌≡◌, ℕ, List, Option, None}
+use Rattle.std.specs.Prelude.{◌≡◌, ◌+◌, ℕ, List, Option, None, Err}
 use Rattle.std.specs.Map.{keys_of}
 use Rattle.op_outside.specs.Causes.{FaultsRose}
 use Rattle.op_outside.specs.Spawners.{ChildCall}
+use Rattle.op_outside.specs.Streams.{TakesAtMost}
 use Rattle.op_setup.specs.declared.config.Settings.{Settings}
-use Rattle.op_input.specs.Inputs.{IsConfigured, IsMisconfigured}
+use Rattle.op_input.specs.Inputs.{IsConfigured, IsMisconfigured, RisesOnlyAt, input_limit}
 use Rattle.op_cluster.specs.Clusters.{AllEnd, StartOrEndFails, WriteFails, starts_of, tells}
 use Rattle.op_status.specs.declared.status.Status.{Status}
 use Rattle.op_status.specs.declared.status.Status.TheVariants as status
@@ -28,10 +29,12 @@ pub data Ends (text : List ℕ) (o : Settings) (out0 out1 : Stream) (children0 c
       → FaultsRose out0.1 out1.1 → children1.1 ≡ children0.1 → Ends text o out0 out1 children0 children1 status.WriteFault
   has_no_memory : out1 ≡ out0 → children1 ≡ children0 → Ends text o out0 out1 children0 children1 status.NoMemory
 
--- How the command ends, where this was left of the input before and after it: there are no settings, and nothing else was done; or there
--- are, and the cluster ends as above.
+-- How the command ends, where this was left of the input before and after it: there are no settings, and nothing else was done, where the
+-- input failed only with a read fault, and not more was read than tells that it is too long; or there are settings, and the cluster ends
+-- as above.
 pub data RunsCluster (in0 in1 out0 out1 : Stream) (children0 children1 : Children) : Status → Type 0 where
-  is_misconfigured : {s : Status} → IsMisconfigured in0.0 None in0.1 in1.1 s → out1 ≡ out0 → children1 ≡ children0
+  is_misconfigured : {s : Status} → IsMisconfigured in0.0 None in0.1 in1.1 s
+      → RisesOnlyAt {T = Unit {0}} status.ReadFault (Err s) in0.1 in1.1 → TakesAtMost (input_limit + 1) in0.0 in1.0 → out1 ≡ out0 → children1 ≡ children0
       → RunsCluster in0 in1 out0 out1 children0 children1 s
   is_configured : {s : Status} {text : List ℕ} (o : Settings) → IsConfigured in0.0 in1.0 None text o → in1.1 ≡ in0.1
       → Ends text o out0 out1 children0 children1 s → RunsCluster in0 in1 out0 out1 children0 children1 s

@@ -11,4 +11,4 @@ returns-in-Ok g c = is_configured c.in-Ok.found.settings c.in-Ok.ensures.configu
 pub returns-in-Err : goal.returns-in-Err
 returns-in-Err g c =
     let early = c.early.ensures in
-    serves_misconfigured _ _ _ _ _ _ _ _ _ _ _ _ _ _ c.in-Err.ensures.refused early.first early.second early.status early.lost
+    serves_misconfigured _ _ _ _ _ _ _ _ _ _ _ _ _ _ c.in-Err.ensures.refused c.in-Err.ensures.count c.in-Err.ensures.most early.first early.second early.status early.lost

@@ -4,7 +4,7 @@ use Rattle.op_top.proofs.ClusterEnds.{all_ended, child_failed, write_failed}
 use Rattle.op_top.proofs.clusters.run_cluster.Goals as goal
 
 pub returns-in-Err : goal.returns-in-Err
-returns-in-Err g c = is_misconfigured c.in-Err.ensures.refused refl refl
+returns-in-Err g c = is_misconfigured c.in-Err.ensures.refused c.in-Err.ensures.count c.in-Err.ensures.most refl refl
 
 pub returns-in_default : goal.returns-in_default
 returns-in_default g c = is_configured c.in-Ok.found.settings c.in-Ok.ensures.configured c.in-Ok.ensures.count (has_no_memory refl refl)
