@@ -17,6 +17,7 @@ pub fn one_put(alloc: Global) -> Result<Entry, NoMemory>
     }))
 }
 
+/// Whether it is the entry of `one_put`.
 pub fn is_one_put(entry: &Entry) -> bool {
     let Entry::Command(command) = entry else {
         return false;

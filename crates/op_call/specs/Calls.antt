@@ -3,13 +3,13 @@ use Rattle.std.specs.Prelude.{◌≡◌, ◌++◌, ℕ, List, codes, decimal, Op
 use Rattle.std.specs.Io.KnownBytes.{Appends}
 use Rattle.op_types.specs.declared.events.Request.{Request}
 use Rattle.op_outside.specs.Causes.{FaultsRose}
+use Rattle.op_outside.specs.Seen.{NetSeen, StreamSeen}
 use Rattle.op_outside.specs.Streams.{AppendsPrefix}
 use Rattle.op_outside.specs.declared.net.Addr.{Addr}
 use Rattle.op_command.specs.declared.reply.ClientReply.{ClientReply}
 use Rattle.op_command.specs.declared.said.Said.{Said}
 use Rattle.op_command.specs.declared.said.Said.TheVariants as said
 use Rattle.op_sched.specs.Text.{answer_text, outcome_text}
-use Rattle.op_client.specs.Run.{NetSeen}
 use Rattle.op_client.specs.Called.{Calls}
 use Rattle.op_client.specs.declared.call_fail.CallFail.{CallFail}
 use Rattle.op_client.specs.declared.call_fail.CallFail.TheVariants as fail
@@ -38,7 +38,7 @@ status_of fail.NoMemory = status.NoMemory
 
 -- How a call ends: its reply is written as a line, whole unless a write failed; or there was no memory for the line; or there is no reply,
 -- and nothing is written. An output is the bytes that it tells, and its count of faults.
-pub data CallEnds (addr : Addr) (request : Request) (net0 net1 : NetSeen) (out0 out1 : Option (List ℕ) × ℕ) : Status → Type 0 where
+pub data CallEnds (addr : Addr) (request : Request) (net0 net1 : NetSeen) (out0 out1 : StreamSeen) : Status → Type 0 where
   is_told : {x : ClientReply} → Calls addr request (Ok x) net0 net1 → Appends out0.0 out1.0 (said_line x.said) → out1.1 ≡ out0.1
       → CallEnds addr request net0 net1 out0 out1 status.Ended
   is_cut : {x : ClientReply} → Calls addr request (Ok x) net0 net1 → AppendsPrefix out0.0 out1.0 (said_line x.said) → FaultsRose out0.1 out1.1

@@ -1,11 +1,12 @@
 -- What was read is looked at.
 use Rattle.std.proofs.Common.{◌≡◌, ℕ, List, Ok, Err, sym, ◌∙◌, ap, subst}
+use Rattle.op_outside.specs.Seen.{NetSeen}
 use Rattle.op_frame.specs.Framing.{Stream, fed, BeginsWith, IsPartial, TellsTooLong, Stops}
 use Rattle.op_frame.specs.declared.frames.NextFail.{NextFail}
 use Rattle.op_frame.specs.declared.frames.NextFail.TheVariants.{NotYet, TooLong}
 use Rattle.op_client.specs.declared.call_fail.CallFail.TheVariants as fail
 use Rattle.op_client.specs.Rules.{Client, Ending, has_read, at, ask, look, has_none, is_too_long, is_reply, is_no_reply, has_no_memory}
-use Rattle.op_client.specs.Run.{NetSeen, Ran, RanOut, EndsWith}
+use Rattle.op_client.specs.Run.{Ran, RanOut, EndsWith}
 use Rattle.op_client.proofs.Runs.{quietly, in_want}
 
 -- a client with these bytes read too

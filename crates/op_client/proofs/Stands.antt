@@ -4,7 +4,7 @@ use Rattle.std.specs.List.{list_any}
 use Rattle.std.proofs.lemmas.Bool.{eq-eqb}
 use Rattle.std.proofs.lemmas.List.{take-append-drop}
 use Rattle.std.proofs.lemmas.List.Folds.{list_any-append}
-use Rattle.op_outside.specs.Nets.{Call, Readied}
+use Rattle.op_outside.specs.Nets.{Call, Readied, call_fails, has_failed}
 use Rattle.op_outside.specs.declared.net.Happening.{Happening}
 use Rattle.op_outside.specs.declared.net.Happening.TheVariants.{Accepted, Readable, Writable, Ended}
 use Rattle.op_command.specs.Ranges.{ReplyInRange}
@@ -12,7 +12,7 @@ use Rattle.op_command.specs.Replies.{reply_form}
 use Rattle.op_frame.specs.Framing.{Stream, stream_of, fed, BeginsWith, TellsTooLong}
 use Rattle.op_client.specs.declared.call_fail.CallFail.TheVariants as fail
 use Rattle.op_client.specs.Rules.{Client, Ending, IsNoReply, Place, Moment, at, turn, write, wait, ask, read, look, close, over, most_waits, of_happening, Event, Step, goes_on, turns_over, writes, writes_no_more, writes_end, writes_failing, all_written, waits, waits_failing, asks, has_asked, reads, reads_nothing, reads_end, reads_failing, has_none, is_too_long, is_reply, is_no_reply, has_no_memory, closes}
-use Rattle.op_client.specs.Run.{Run, none, more, calls, call_of, is_failed}
+use Rattle.op_client.specs.Run.{Run, none, more, calls, call_of}
 use Rattle.op_client.specs.Called.{taken, taken_in, seen, seen_in, waited, is_held_back, tells_end}
 
 -- ---- what is left, what was read, and the waits that are left
@@ -167,16 +167,16 @@ is_fault_at _ = false
 pub record Stands (c : ℕ) (xs : List Call) (m : Moment) : Type 0 where
   pub calm : Calm xs m.place m.waits_left m.client.left
   pub why : ReasonAt c xs m.place m.waits_left m.client
-  pub fails : list_any is_failed xs ≡ is_fault_at m.place
+  pub fails : has_failed xs ≡ is_fault_at m.place
 
 -- nothing new: the same reasons
-later : (c : ℕ) (xs ys : List Call) (k : ℕ) (s t : Client) (p q : Place) → list_any is_failed ys ≡ false → is_fault_at p ≡ false → is_fault_at q ≡ false → Calm (xs ++ ys) q k t.left
+later : (c : ℕ) (xs ys : List Call) (k : ℕ) (s t : Client) (p q : Place) → has_failed ys ≡ false → is_fault_at p ≡ false → is_fault_at q ≡ false → Calm (xs ++ ys) q k t.left
     → ReasonAt c (xs ++ ys) q k t → Stands c xs (at p k s) → Stands c (xs ++ ys) (at q k t)
-later c xs ys k s t p q f e g calm why st = record { calm = calm; why = why; fails = none_now is_failed xs ys f ∙ st.fails ∙ e ∙ sym g }
+later c xs ys k s t p q f e g calm why st = record { calm = calm; why = why; fails = none_now call_fails xs ys f ∙ st.fails ∙ e ∙ sym g }
 
 -- a call that failed
-faults : (c : ℕ) (xs ys : List Call) (k : ℕ) (s : Client) → list_any is_failed ys ≡ true → Done (xs ++ ys) s.left → Stands c (xs ++ ys) (at (close (Err fail.NetFault)) k s)
-faults c xs ys k s f done = record { calm = done; why = tt; fails = some_now is_failed xs ys f }
+faults : (c : ℕ) (xs ys : List Call) (k : ℕ) (s : Client) → has_failed ys ≡ true → Done (xs ++ ys) s.left → Stands c (xs ++ ys) (at (close (Err fail.NetFault)) k s)
+faults c xs ys k s f done = record { calm = done; why = tt; fails = some_now call_fails xs ys f }
 
 -- a happening
 module _ (c : ℕ) (xs : List Call) (k i n : ℕ) (s : Client) (lead : Stands c xs (at (ask i n) k s)) where
@@ -215,7 +215,7 @@ step_stands {c = c} {e = e} (writes_end {k = k} {s = s} lt) xs st =
     later c xs (call_of e) k s s write (close (Err fail.NoReply)) refl refl refl (held_back xs (call_of e) s.left refl) (ended (some_now (tells_end c) xs (call_of e) (own c))) st
 step_stands {c = c} {e = e} (writes_failing {k = k} {s = s} lt) xs st = faults c xs (call_of e) k s refl (held_back xs (call_of e) s.left refl)
 step_stands {c = c} (all_written {k = k} {s = s} is) xs st = later c xs [] k s s write wait refl refl refl (λ h. is) tt st
-step_stands {c = c} {e = e} (waits {n = n} {s = s} k) xs st = record { calm = done_later xs (call_of e) s.left st.calm; why = tt; fails = none_now is_failed xs (call_of e) refl ∙ st.fails }
+step_stands {c = c} {e = e} (waits {n = n} {s = s} k) xs st = record { calm = done_later xs (call_of e) s.left st.calm; why = tt; fails = none_now call_fails xs (call_of e) refl ∙ st.fails }
 step_stands {c = c} {e = e} (waits_failing {s = s} k) xs st = faults c xs (call_of e) k s refl (done_later xs (call_of e) s.left st.calm)
 step_stands {c = c} (asks {k = k} {i = i} {n = n} {h = h} {s = s} lt) xs st = happened c xs k i n s st h
 step_stands {c = c} (has_asked {k = k} {n = n} {s = s}) xs st = later c xs [] k s s (ask n n) turn refl refl refl (inr (done_later xs [] s.left st.calm)) tt st
@@ -233,7 +233,7 @@ step_stands {c = c} (has_no_memory {k = k} {i = i} {n = n} {s = s}) xs st = late
 step_stands {c = c} {e = f} (closes {k = k} {s = s} {e = e}) xs st = record {
   calm = done_later xs (call_of f) s.left st.calm;
   why = reason_later c xs (call_of f) k s e st.why;
-  fails = none_now is_failed xs (call_of f) refl ∙ st.fails;
+  fails = none_now call_fails xs (call_of f) refl ∙ st.fails;
 }
 
 pub run_stands : {c : ℕ} {a b : Moment} {es : List Event} → Run c a es b → (xs : List Call) → Stands c xs a → Stands c (xs ++ calls es) b

@@ -1,7 +1,9 @@
 -- The steps of a turn, as the code takes them.
 use Rattle.std.proofs.Common.{◌≡◌, ℕ, List, [], ◌∷◌, ◌+◌, ◌<◌, Option, Some, None, refl, sym, ◌∙◌, subst, length, Err}
 use Rattle.std.proofs.lemmas.Bool.{eq-eqb, ne_eqb}
+use Rattle.op_outside.specs.Causes.{Rises}
 use Rattle.op_outside.specs.Nets.{Waited, Readied, WasRead, Wrote, SawBytes, SawNotYet, SawEnd, SawFault}
+use Rattle.op_outside.specs.Seen.{NetSeen}
 use Rattle.op_outside.specs.Telling.{Grows}
 use Rattle.op_outside.specs.declared.net.Happening.{Happening}
 use Rattle.op_outside.specs.declared.net.Happening.TheVariants.{Accepted, Readable, Writable, Ended}
@@ -9,7 +11,7 @@ use Rattle.op_outside.specs.declared.net.Took.{Took}
 use Rattle.op_outside.specs.declared.net.Took.TheVariants as took
 use Rattle.op_client.specs.declared.call_fail.CallFail.TheVariants as fail
 use Rattle.op_client.specs.Rules.{Client, has_written, has_read, piece_len, wait_millis, Place, at, write, wait, ask, read, look, close, of_happening, writes, writes_no_more, writes_end, writes_failing, all_written, waits, waits_failing, asks, reads, reads_nothing, reads_end, reads_failing}
-use Rattle.op_client.specs.Run.{NetSeen, Rises, Ran, RanOut}
+use Rattle.op_client.specs.Run.{Ran, RanOut}
 use Rattle.op_client.proofs.Runs.{asked, quietly}
 
 nil_of : {A : Type 0} (xs : List A) → length xs ≡ 0 → xs ≡ []

@@ -2,8 +2,10 @@
 use Rattle.std.specs.Prelude.{◌≡◌, ◌≤◌, ◌+◌, ◌==◌, ◌++◌, ◌∷◌, [], ℕ, List, take, Bool, true, false, Some, None, Ok, Err}
 use Rattle.std.specs.List.{list_any}
 use Rattle.op_types.specs.declared.events.Request.{Request}
+use Rattle.op_outside.specs.Causes.{Rises}
 use Rattle.op_outside.specs.Telling.{Grows}
-use Rattle.op_outside.specs.Nets.{Call, Dialled, Waited, Readied, WasRead, Wrote, SawBytes, SawEnd}
+use Rattle.op_outside.specs.Nets.{Call, Dialled, Waited, Readied, WasRead, Wrote, SawBytes, SawEnd, has_failed}
+use Rattle.op_outside.specs.Seen.{NetSeen}
 use Rattle.op_outside.specs.declared.net.Addr.{Addr}
 use Rattle.op_outside.specs.declared.net.Happening.TheVariants.{Ended}
 use Rattle.op_outside.specs.declared.net.Took.TheVariants as took
@@ -12,7 +14,7 @@ use Rattle.op_command.specs.Replies.{reply_form}
 use Rattle.op_frame.specs.Framing.{BeginsWith, TellsTooLong}
 use Rattle.op_client.specs.declared.call_fail.CallFail.TheVariants as fail
 use Rattle.op_client.specs.Rules.{Client, Ending, Event, net, starved, at, turn, over, most_waits, request_bytes, fresh, stream, IsNoReply}
-use Rattle.op_client.specs.Run.{Run, NetSeen, Rises, calls, is_failed}
+use Rattle.op_client.specs.Run.{Run, calls}
 
 -- ---- a whole call
 
@@ -97,7 +99,7 @@ abbrev pub Why : Ending → List Call → Type 0
 Why (Ok r) xs = ReplyInRange r × IsFirst xs (reply_form.text r)
 Why (Err fail.NoReply) xs = WhyNone xs
 Why (Err fail.TurnsOver) xs = waited xs ≡ most_waits
-Why (Err fail.NetFault) xs = list_any is_failed xs ≡ true
+Why (Err fail.NetFault) xs = has_failed xs ≡ true
 Why (Err fail.NoMemory) xs = Unit {0}
 
 -- the writes took a prefix of these bytes, and all of them where there was a connection and it took some of each write

@@ -1,9 +1,7 @@
 -- Runs of the rules, and what the net tells of them.
-use Rattle.std.specs.Prelude.{◌≡◌, ◌≤◌, ◌++◌, ◌∷◌, [], ℕ, List, Bool, true, false, Option, Some, None, Result, Ok, Err}
-use Rattle.std.specs.List.{list_any}
-use Rattle.op_outside.specs.Causes.{FaultsRose}
-use Rattle.op_outside.specs.Telling.{Grows}
-use Rattle.op_outside.specs.Nets.{Call, Listened, Dialled, Waited, WasRead, Wrote, SawFault}
+use Rattle.std.specs.Prelude.{◌≡◌, ◌++◌, ◌∷◌, [], ℕ, List, Option, Some, None, Result, Ok, Err}
+use Rattle.op_outside.specs.Nets.{Call}
+use Rattle.op_outside.specs.Seen.{NetSeen, Told}
 use Rattle.op_command.specs.Ranges.{ReplyInRange}
 use Rattle.op_command.specs.Replies.{reply_form}
 use Rattle.op_command.specs.declared.reply.ClientReply.{ClientReply}
@@ -25,42 +23,11 @@ abbrev pub calls : List Event → List Call
 calls [] = []
 calls (e ∷ es) = call_of e ++ calls es
 
--- whether a call failed
-abbrev pub is_failed : Call → Bool
-is_failed (Listened addr None) = true
-is_failed (Dialled addr None) = true
-is_failed (Waited ms None) = true
-is_failed (WasRead c room SawFault) = true
-is_failed (Wrote c piece None) = true
-is_failed _ = false
-
-abbrev pub has_failed : List Event → Bool
-has_failed es = list_any is_failed (calls es)
-
--- what a net tells, and its count of faults
-abbrev pub NetSeen : Type 0
-NetSeen = Option (List Call) × ℕ
-
--- a count of faults rose
-pub record Rises (before now : ℕ) : Type 0 where
-  pub later : before ≤ now
-  pub rose : FaultsRose before now
-
--- it rose where a call failed, and stayed where none did
-abbrev pub Counts : Bool → ℕ → ℕ → Type 0
-Counts false before now = now ≡ before
-Counts true before now = Rises before now
-
--- what a net tells grew by the calls, and its count rose only where one failed
-pub record Told (es : List Event) (before now : NetSeen) : Type 0 where
-  pub grows : Grows before.0 (calls es) now.0
-  pub counts : Counts (has_failed es) before.1 now.1
-
 -- ---- what the code does
 
 -- it went from one moment to the other by the rules
 abbrev pub Ran : ℕ → Moment → Moment → NetSeen → NetSeen → Type 0
-Ran c a b net0 net1 = (es : List Event) × Run c a es b × Told es net0 net1
+Ran c a b net0 net1 = (es : List Event) × Run c a es b × Told (calls es) net0 net1
 
 -- it came to this ending, before the connection is closed
 abbrev pub RanOut : ℕ → Moment → Ending → NetSeen → NetSeen → Type 0

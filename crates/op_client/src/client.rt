@@ -1,7 +1,8 @@
 ghost use Rattle.std.specs.Prelude.{◌≡◌, ◌≤◌, ◌<◌, ◌+◌, ◌-◌, [], ℕ, length, IfOk};
+ghost use Rattle.op_outside.specs.Seen.{NetSeen};
 ghost use Rattle.op_command.specs.Ranges.{RequestInRange};
 ghost use Rattle.op_client.specs.Rules.{Client as State, most_waits, fresh, has_written, has_read, at, turn, write, wait, ask, read, look};
-ghost use Rattle.op_client.specs.Run.{NetSeen, RanOut, Goes, Hears};
+ghost use Rattle.op_client.specs.Run.{RanOut, Goes, Hears};
 
 use crate::call_fail::CallFail;
 use crate::encoding::{read_reply, request_bytes};

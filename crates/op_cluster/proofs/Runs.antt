@@ -7,8 +7,8 @@ use Rattle.std.proofs.lemmas.List.Concat.{flat_map-append}
 use Rattle.op_outside.specs.Spawners.{ChildCall, Started, EndedWith}
 use Rattle.op_outside.specs.Streams.{AppendsPrefix}
 use Rattle.op_outside.specs.Telling.{Grows}
-use Rattle.op_cluster.proofs.Growing.{grows_both}
 use Rattle.op_outside.proofs.Pieces.{Appends-more}
+use Rattle.op_outside.proofs.Seen.{grows_both}
 use Rattle.op_cluster.specs.Clusters.{Ended, Told, starts_of, ends_of, child_line, lines_of, AllEnd, StartFails, EndFails, WriteFails}
 
 -- an id, those before it, and those after it

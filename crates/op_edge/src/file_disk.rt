@@ -18,6 +18,7 @@ pub struct FileDisk<R: Files<File = File> + Drop> {
 }
 
 impl<R: Files<File = File> + Drop> FileDisk<R> {
+    /// The file at this path. Nothing is opened yet.
     pub fn new(rt: R, path: PathBuf) -> Self
         ensures { (⟦<FileDisk<R> as Disk>⟧.state result).faults ≡ 0 }
     {

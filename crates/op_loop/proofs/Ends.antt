@@ -2,13 +2,14 @@
 use Rattle.std.proofs.Common.{◌≡◌, ℕ, List, [], ◌∷◌, ◌++◌, ◌<◌, ◌≤◌, Some, None, sym, subst, length, Result}
 use Rattle.op_types.specs.declared.events.Input.TheVariants as input
 use Rattle.op_outside.specs.Nets.{Closed}
+use Rattle.op_outside.specs.Seen.{NetSeen}
 use Rattle.op_outside.specs.Telling.{Grows}
 use Rattle.op_setup.specs.declared.config.Settings.{Settings}
 use Rattle.op_sessions.specs.declared.stop.Stop.{Stop}
 use Rattle.op_loop.specs.Cores.{Standing}
 use Rattle.op_sessions.specs.State.{Loop, most_marks, marked, left_by, first_hungry, goes_down, kind_at}
 use Rattle.op_loop.specs.Rules.{Task, at, close, closes, of_end, give, settle, settles, has_settled, unless_full, starved}
-use Rattle.op_loop.specs.Run.{RanStill, RanOnNet, NetSeen, left}
+use Rattle.op_loop.specs.Run.{RanStill, RanOnNet, left}
 use Rattle.op_loop.proofs.Runs.{net_call, net_on, quietly, goes_on_below, stops_at}
 
 module _ (o : Settings) (s : Loop) (n : Standing) (c : ℕ) (r : List Task) (n0 n1 : NetSeen) where

@@ -1,8 +1,8 @@
 -- Steps that meet a fault of the disks are at most as many as their count rose.
 use Rattle.std.proofs.Common.{ℕ, List, ◌+◌, ◌≤◌, ◌⊎◌, inl, inr, arith}
-use Rattle.op_outside.specs.Causes.{last_count}
+use Rattle.op_outside.specs.Causes.{last_count, Rises}
 use Rattle.op_setup.specs.declared.config.Settings.{Settings}
-use Rattle.op_loop.specs.Cores.{Rises, after_input, faulted}
+use Rattle.op_loop.specs.Cores.{after_input, faulted}
 use Rattle.op_loop.specs.Rules.{Moment, Step, Event, goes_on, waits, waits_failing, is_early, is_due, is_above, is_met, dials, dials_in_vain, dials_failing, is_there, is_noted, is_turned_away, is_admitted, is_turned_out, drops, asks, has_asked, reads, reads_nothing, reads_end, reads_failing, feeds, feeds_not, has_no_frame, is_refused, is_client, is_peer_of, has_frame, has_no_room, meets, counts, gives_done, gives_faulted, gives_lost, sends, sends_hungry, sends_to_none, replies, answers, answers_hungry, tells_status, tells_no_status, finishes, has_settled, settles, closes, has_written, writes_next, has_greeted, has_no_hello, greets, greets_no_more, greets_end, greets_failing, has_poured, pours, pours_no_more, pours_end, pours_failing}
 use Rattle.op_loop.specs.Run.{Run, none, more}
 use Rattle.op_loop.specs.Faulted.{faulted_in, faulted_steps, FaultsWithin}

@@ -1,6 +1,7 @@
 -- The frames of a connection are dealt with.
 use Rattle.std.proofs.Common.{◌≡◌, ℕ, List, [], ◌∷◌, ◌++◌, ◌<◌, ◌≤◌, inl, inr, true, false, Some, None, refl, sym, ◌∙◌, ap, subst, length, append_assoc, drop, arith, lit≤, length-drop, length-append, Result, Ok, Err, OnOk}
 use Rattle.op_types.specs.declared.events.Input.TheVariants as input
+use Rattle.op_outside.specs.Seen.{NetSeen}
 use Rattle.op_frame.specs.Framing.{Stream, IsHead, left, BeginsWith, Stops}
 use Rattle.op_frame.specs.declared.frames.NextFail.{NextFail}
 use Rattle.op_frame.proofs.Wholes.{frame_tells, frame_after}
@@ -15,7 +16,7 @@ use Rattle.op_sessions.specs.State.{peer_limit, Loop, most_marks, hello_len, kin
 use Rattle.op_loop.specs.Looks.{client_limit, Look, Looks, LooksAt, IsFront, IsFramed, nothing, refused, a_client, a_peer, whole, of_greeting, known, begun}
 use Rattle.op_loop.specs.Rules.{Task, Moment, at, frames, close, meet, settle, count, give, starved, answer, finish, status, no_command, finishes, tells_status, tells_no_status, unless_full, replaced, of_peer, of_body, of_frame, has_no_frame, is_refused, is_client, is_peer_of, has_frame, has_no_room, meets, counts}
 use Rattle.op_loop.specs.Hearing.{of_heard}
-use Rattle.op_loop.specs.Run.{NetSeen, RanStill, RanOnNet, frames_left, StopsAt}
+use Rattle.op_loop.specs.Run.{RanStill, RanOnNet, frames_left, StopsAt}
 use Rattle.op_loop.specs.Run.{left as out}
 use Rattle.op_loop.specs.declared.more.More.{More}
 use Rattle.op_loop.specs.declared.more.More.TheVariants.{Yes, No, Over}
@@ -75,14 +76,14 @@ module _ (o : Settings) (s : Loop) (n : Standing) (r : List Task) (c : ℕ) (x :
   pub frame_heard : (k : Kind) (body rest : List ℕ) (y : Stream) (h : Heard) → Looks c x s (whole k body rest) → y ≡ left x rest → of_body s.me c k body ≡ of_heard c h
       → RanStill o (at (frames c x ∷ r) s n) (at (of_heard c h ++ (settle ∷ count ∷ frames c y ∷ r)) s n)
   frame_heard k body rest y h l f e =
-      let first : RanStill o (at (frames c x ∷ r) s n) (at (of_frame c k body s ++ frames c y ∷ r) s n) = rw f (given_to (has_frame k body rest l) refl refl refl) in
+      let first : RanStill o (at (frames c x ∷ r) s n) (at (of_frame c k body s ++ frames c y ∷ r) s n) = rw f (given_to (has_frame k body rest l) refl refl) in
       let second : RanStill o (at (frames c x ∷ r) s n) (at (of_body s.me c k body ++ (settle ∷ count ∷ frames c y ∷ r)) s n) =
       subst (λ w. RanStill o (at (frames c x ∷ r) s n) (at w s n)) (append_assoc (of_body s.me c k body) (settle ∷ count ∷ []) (frames c y ∷ r)) first in
       subst (λ w. RanStill o (at (frames c x ∷ r) s n) (at (w ++ (settle ∷ count ∷ frames c y ∷ r)) s n)) e second
 
   no_room_at : (t : Loop) (k : Kind) (body rest : List ℕ) → Looks c x s (whole k body rest) → t ≡ marked (Some c) s
       → RanStill o (at (frames c x ∷ r) s n) (at (unless_full t (close c ∷ r)) t n)
-  no_room_at t k body rest l e = rw e (given_to (has_no_room k body rest l) refl refl refl)
+  no_room_at t k body rest l e = rw e (given_to (has_no_room k body rest l) refl refl)
 
   pub no_room : (t : Loop) (k : Kind) (body rest : List ℕ) → Looks c x s (whole k body rest) → t ≡ marked (Some c) s → length t.lost < most_marks
       → RanStill o (at (frames c x ∷ r) s n) (at (close c ∷ r) t n)
@@ -144,11 +145,11 @@ finished o s t n r c e = rw e (quietly finishes)
 
 pub status_told : (o : Settings) (s : Loop) (n : Standing) (r : List Task) (c : ℕ) (line : List ℕ) → line ≡ status_text n.node
     → RanStill o (at (status c ∷ r) s n) (at (answer c (no_command (said.Status line)) ∷ r) s n)
-status_told o s n r c line e = rw e (given_to tells_status refl refl refl)
+status_told o s n r c line e = rw e (given_to tells_status refl refl)
 
 pub status_hungry : (o : Settings) (s t : Loop) (n : Standing) (r : List Task) (c : ℕ) → t ≡ with_session hungry c s
     → RanStill o (at (status c ∷ r) s n) (at r t n)
-status_hungry o s t n r c e = rw e (given_to tells_no_status refl refl refl)
+status_hungry o s t n r c e = rw e (given_to tells_no_status refl refl)
 
 pub over_of : (m : More) → (m ≡ Yes → ⊥) → (m ≡ No → ⊥) → m ≡ Over
 over_of Yes y n = absurd (y refl)

@@ -6,12 +6,13 @@ use Rattle.op_types.specs.declared.answers.Refusal.TheVariants.{StorageFailed}
 use Rattle.op_types.specs.declared.events.Input.{Input}
 use Rattle.op_types.specs.declared.events.Input.TheVariants as input
 use Rattle.op_types.specs.declared.log.Command.{Command}
+use Rattle.op_outside.specs.Causes.{Rises}
 use Rattle.op_command.specs.declared.reply.ClientReply.{ClientReply}
 use Rattle.op_command.specs.declared.said.Said.TheVariants as said
 use Rattle.op_setup.specs.declared.config.Settings.{Settings}
 use Rattle.op_chain.specs.declared.given.Given.{Given}
 use Rattle.op_sessions.specs.declared.stop.Stop.{Stop}
-use Rattle.op_loop.specs.Cores.{Standing, Rises, after_input, gives, faulted}
+use Rattle.op_loop.specs.Cores.{Standing, after_input, gives, faulted}
 use Rattle.op_sessions.specs.State.{Loop, most_marks, find, marked, counted, asked}
 use Rattle.op_loop.specs.Rules.{Task, at, give, send, reply, starved, gives_done, gives_faulted, gives_lost, answer, of_command, refusal_of, of_refusal, waits_unless, unless_full}
 use Rattle.op_loop.specs.Run.{RanStill, left}
@@ -25,15 +26,15 @@ module _ (o : Settings) (s : Loop) (n : Standing) (i : Input) (r : List Task) wh
   pub gave : (t u : Loop) (m : Standing) (g : Given) → g ≡ gives n i → m ≡ after_input n i → t ≡ counted s
       → RanStill o (at ((map send g.sends ++ map reply g.replies) ++ r) t m) (at r u m) → RanStill o (at (give None i ∷ r) s n) (at r u m)
   gave t u m g e f h q =
-      let first : RanStill o (at (give None i ∷ r) s n) (at ((map send g.sends ++ map reply g.replies) ++ r) t m) = rw (e, f, h) (given_to gives_done refl refl refl) in
+      let first : RanStill o (at (give None i ∷ r) s n) (at ((map send g.sends ++ map reply g.replies) ++ r) t m) = rw (e, f, h) (given_to gives_done refl refl) in
       still_then first q
 
   pub gave_fault : (t : Loop) (m : Standing) (k : ℕ) → m ≡ faulted k n → Rises n.faults k → t ≡ counted s → RanStill o (at (give None i ∷ r) s n) (at r t m)
-  gave_fault t m k f ris h = rw (f, h) (given_to (gives_faulted ris) refl refl refl)
+  gave_fault t m k f ris h = rw (f, h) (given_to (gives_faulted ris) refl refl)
 
   pub gave_lost : {A : Type 0} (result : Result A Stop) (u : Loop) (m : Standing) → m ≡ n → u ≡ counted (marked None s) → left result r ≡ unless_full (marked None s) r
       → RanStill o (at (give None i ∷ r) s n) (at (left result r) u m)
-  gave_lost result u m f h e = rw (h, f, e) (given_to gives_lost refl refl refl)
+  gave_lost result u m f h e = rw (h, f, e) (given_to gives_lost refl refl)
 
 module _ (o : Settings) (s : Loop) (n : Standing) (c : ℕ) (x : Command) (r : List Task) where
   -- a command that is not refused
@@ -43,7 +44,7 @@ module _ (o : Settings) (s : Loop) (n : Standing) (c : ℕ) (x : Command) (r : L
       → RanStill o (at (give (Some c) (input.Command x) ∷ r) s n) (at r v m)
   taken t u v m given is_none e f h k q =
       let why : refusal_of (gives n (input.Command x)).outcome ≡ None = rw (← e) (sym is_none) in
-      let all : RanStill o (at (give (Some c) (input.Command x) ∷ r) s n) (at ((of_refusal c x (refusal_of (gives n (input.Command x)).outcome) ++ (map send (gives n (input.Command x)).sends ++ map reply (gives n (input.Command x)).replies)) ++ r) (counted (waits_unless (refusal_of (gives n (input.Command x)).outcome) c x s)) (after_input n (input.Command x))) = given_to gives_done refl refl refl in
+      let all : RanStill o (at (give (Some c) (input.Command x) ∷ r) s n) (at ((of_refusal c x (refusal_of (gives n (input.Command x)).outcome) ++ (map send (gives n (input.Command x)).sends ++ map reply (gives n (input.Command x)).replies)) ++ r) (counted (waits_unless (refusal_of (gives n (input.Command x)).outcome) c x s)) (after_input n (input.Command x))) = given_to gives_done refl refl in
       let first : RanStill o (at (give (Some c) (input.Command x) ∷ r) s n) (at ((map send (gives n (input.Command x)).sends ++ map reply (gives n (input.Command x)).replies) ++ r) (counted (asked (x.client, x.seq) (find c s.sessions) c s)) (after_input n (input.Command x))) =
       subst (λ w. RanStill o (at (give (Some c) (input.Command x) ∷ r) s n) (at ((of_refusal c x w ++ (map send (gives n (input.Command x)).sends ++ map reply (gives n (input.Command x)).replies)) ++ r) (counted (waits_unless w c x s)) (after_input n (input.Command x)))) why all in
       let second : RanStill o (at (give (Some c) (input.Command x) ∷ r) s n) (at ((map send given.sends ++ map reply given.replies) ++ r) u m) = rw (e, f, k, h) first in
@@ -57,7 +58,7 @@ module _ (o : Settings) (s : Loop) (n : Standing) (c : ℕ) (x : Command) (r : L
       → RanStill o (at (give (Some c) (input.Command x) ∷ r) s n) (at r w m)
   refused_at u v w m given why is_some e f k p q =
       let is : refusal_of (gives n (input.Command x)).outcome ≡ Some why = rw (← e) (sym is_some) in
-      let all : RanStill o (at (give (Some c) (input.Command x) ∷ r) s n) (at ((of_refusal c x (refusal_of (gives n (input.Command x)).outcome) ++ (map send (gives n (input.Command x)).sends ++ map reply (gives n (input.Command x)).replies)) ++ r) (counted (waits_unless (refusal_of (gives n (input.Command x)).outcome) c x s)) (after_input n (input.Command x))) = given_to gives_done refl refl refl in
+      let all : RanStill o (at (give (Some c) (input.Command x) ∷ r) s n) (at ((of_refusal c x (refusal_of (gives n (input.Command x)).outcome) ++ (map send (gives n (input.Command x)).sends ++ map reply (gives n (input.Command x)).replies)) ++ r) (counted (waits_unless (refusal_of (gives n (input.Command x)).outcome) c x s)) (after_input n (input.Command x))) = given_to gives_done refl refl in
       let first : RanStill o (at (give (Some c) (input.Command x) ∷ r) s n) (at (answer c (of_command x (said.Outcome (Refused why))) ∷ ((map send (gives n (input.Command x)).sends ++ map reply (gives n (input.Command x)).replies) ++ r)) (counted s) (after_input n (input.Command x))) =
       subst (λ y. RanStill o (at (give (Some c) (input.Command x) ∷ r) s n) (at ((of_refusal c x y ++ (map send (gives n (input.Command x)).sends ++ map reply (gives n (input.Command x)).replies)) ++ r) (counted (waits_unless y c x s)) (after_input n (input.Command x)))) is all in
       let second : RanStill o (at (give (Some c) (input.Command x) ∷ r) s n) (at (answer c (of_command x (said.Outcome (Refused why))) ∷ ((map send given.sends ++ map reply given.replies) ++ r)) u m) = rw (e, f, k) first in
@@ -67,13 +68,13 @@ module _ (o : Settings) (s : Loop) (n : Standing) (c : ℕ) (x : Command) (r : L
       → RanStill o (at (answer c (of_command x (said.Outcome (Refused (StorageFailed k)))) ∷ r) u m) (at r v m)
       → RanStill o (at (give (Some c) (input.Command x) ∷ r) s n) (at r v m)
   faulted_at u v m k f ris h q =
-      let first : RanStill o (at (give (Some c) (input.Command x) ∷ r) s n) (at (answer c (of_command x (said.Outcome (Refused (StorageFailed k)))) ∷ r) u m) = rw (f, h) (given_to (gives_faulted ris) refl refl refl) in
+      let first : RanStill o (at (give (Some c) (input.Command x) ∷ r) s n) (at (answer c (of_command x (said.Outcome (Refused (StorageFailed k)))) ∷ r) u m) = rw (f, h) (given_to (gives_faulted ris) refl refl) in
       still_then first q
 
   pub lost_at : {A : Type 0} (result : Result A Stop) (v : Loop) (m : Standing) → m ≡ n
       → RanStill o (at (unless_full (marked None s) (answer c (of_command x said.RefusedMemory) ∷ r)) (counted (marked None s)) m) (at (left result r) v m)
       → RanStill o (at (give (Some c) (input.Command x) ∷ r) s n) (at (left result r) v m)
-  lost_at result v m f q = still_then (rw f (given_to gives_lost refl refl refl)) q
+  lost_at result v m f q = still_then (rw f (given_to gives_lost refl refl)) q
 
 module _ (o : Settings) (s : Loop) (n : Standing) (c : ℕ) (r : List Task) where
   -- a proposal that finds no memory

@@ -1,12 +1,15 @@
 -- How a run stops: at the most marks, or at a call that fails.
 use Rattle.std.proofs.Common.{◌≡◌, ℕ, List, [], ◌∷◌, ◌++◌, ◌+◌, ◌<◌, ◌≤◌, ◌||◌, Bool, true, false, if◌then◌else◌, nat_lt, ◌&&◌, ◌==◌, Result, Ok, Err, Option, Some, None, refl, sym, ◌∙◌, ap, subst, length, map, arith, inl, inr}
 use Rattle.std.proofs.lemmas.Bool.{cases_Bool, ltb-true, ltb-false}
+use Rattle.std.proofs.lemmas.List.Folds.{list_any-append}
 use Rattle.op_types.specs.declared.answers.Outcome.{Outcome}
 use Rattle.op_types.specs.declared.answers.Refusal.{Refusal}
 use Rattle.op_types.specs.declared.answers.Reply.{Reply}
 use Rattle.op_types.specs.declared.events.Input.{Input}
 use Rattle.op_types.specs.declared.events.Input.TheVariants as input
 use Rattle.op_types.specs.declared.messages.Msg.{Msg}
+use Rattle.op_outside.specs.Causes.{RisesIf}
+use Rattle.op_outside.specs.Nets.{call_fails, has_failed}
 use Rattle.op_outside.specs.declared.net.Addr.{Addr}
 use Rattle.op_outside.specs.declared.net.Happening.{Happening}
 use Rattle.op_outside.specs.declared.net.Happening.TheVariants.{Accepted, Readable, Writable, Ended}
@@ -24,7 +27,7 @@ use Rattle.op_sessions.specs.State.{peer_limit, Loop, most_marks, marked, unlink
 use Rattle.op_loop.specs.Looks.{begun}
 use Rattle.op_sessions.specs.Wire.{peer_head, message_in, request_in}
 use Rattle.op_loop.specs.Rules.{Task, Moment, at, Step, Event, starved, broken, send, reply, dial, turns, admit, read, close, drop, meet, settle, count, frames, give, ask, answered, of_given, of_peer, of_frame, unless_full, of_happening, of_outcome, of_refusal, refusal_of, of_fault, of_loss, of_asker, of_end, of_hello, of_body, of_message, of_request, replaced, waits_for_answer, waits_unless, goes_on, waits, waits_failing, is_early, is_due, is_above, is_met, dials, dials_in_vain, dials_failing, is_there, is_noted, is_turned_away, is_admitted, is_turned_out, drops, asks, has_asked, reads, reads_nothing, reads_end, reads_failing, feeds, feeds_not, has_no_frame, is_refused, is_client, is_peer_of, has_frame, has_no_room, meets, counts, gives_done, gives_faulted, gives_lost, sends, sends_hungry, sends_to_none, replies, answers, answers_hungry, tells_status, tells_no_status, finishes, has_settled, settles, closes, has_written, writes_next, has_greeted, has_no_hello, greets, greets_no_more, greets_end, greets_failing, has_poured, pours, pours_no_more, pours_end, pours_failing}
-use Rattle.op_loop.specs.Run.{Run, none, more, fails, has_failed, Counts}
+use Rattle.op_loop.specs.Run.{Run, none, more, calls, call_of}
 use Rattle.op_loop.specs.Serving.{EndsAt, Faults, Marks}
 use Rattle.op_loop.specs.declared.serve_end.ServeEnd.{ServeEnd}
 use Rattle.op_loop.specs.declared.serve_end.ServeEnd.TheVariants as ends
@@ -217,7 +220,7 @@ after_counted todo t f = elim (cases_Bool (nat_lt (length t.lost) most_marks)) [
   | inr h ↦ full (rw h refl) (rw h refl) refl
 ]
 
-step_after : {o : Settings} {a b : Moment} {e : Event} → Step o a e b → Free a.todo → stops a.loop ≡ false → After (fails e) b.todo b.loop
+step_after : {o : Settings} {a b : Moment} {e : Event} → Step o a e b → Free a.todo → stops a.loop ≡ false → After (has_failed (call_of e)) b.todo b.loop
 unfolding Free has_stop is_stop stops
 step_after (goes_on _ _) f g = on f g refl
 step_after waits f g = on f g refl
@@ -358,13 +361,13 @@ run_stops : {o : Settings} {a b : Moment} {es : List Event} → Run o a es b →
 run_stops none h = (refl, refl)
 run_stops (more st r) h = absurd (let bad : true ≡ false = sym h ∙ no_stop st in cc)
 
-same_after : (e : Bool) (es : List Event) (a b : Moment) → es ≡ [] → b ≡ a → After (e || false) a.todo a.loop → After (e || has_failed es) b.todo b.loop
+same_after : (e : Bool) (es : List Event) (a b : Moment) → es ≡ [] → b ≡ a → After (e || false) a.todo a.loop → After (e || has_failed (calls es)) b.todo b.loop
 same_after e es a b f g p =
-    subst (λ l. After (e || has_failed l) b.todo b.loop) (sym f) (subst (λ m. After (e || false) m.todo m.loop) (sym g) p)
+    subst (λ l. After (e || has_failed (calls l)) b.todo b.loop) (sym f) (subst (λ m. After (e || false) m.todo m.loop) (sym g) p)
 
 after_then : {o : Settings} {a b : Moment} {es : List Event} (e : Bool) → After e a.todo a.loop → Run o a es b
-    → ((f : Free a.todo) → stops a.loop ≡ false → After (has_failed es) b.todo b.loop) → After (e || has_failed es) b.todo b.loop
-after_then {b = b} {es = es} e (on f g h) r go = subst (λ p. After (p || has_failed es) b.todo b.loop) (sym h) (go f g)
+    → ((f : Free a.todo) → stops a.loop ≡ false → After (has_failed (calls es)) b.todo b.loop) → After (e || has_failed (calls es)) b.todo b.loop
+after_then {b = b} {es = es} e (on f g h) r go = subst (λ p. After (p || has_failed (calls es)) b.todo b.loop) (sym h) (go f g)
 after_then {a = a} {b = b} {es = es} e (full i g h) r go =
     let s = run_stops r (starved_stops a.todo i) in
     same_after e es a b s.0 s.1 (subst (λ p. After (p || false) a.todo a.loop) (sym h) (full i g refl))
@@ -372,9 +375,10 @@ after_then {a = a} {b = b} {es = es} e (cut i g h) r go =
     let s = run_stops r (broken_stops a.todo i) in
     same_after e es a b s.0 s.1 (subst (λ p. After (p || false) a.todo a.loop) (sym h) (cut i g refl))
 
-run_after : {o : Settings} {a b : Moment} {es : List Event} → Run o a es b → Free a.todo → stops a.loop ≡ false → After (has_failed es) b.todo b.loop
+run_after : {o : Settings} {a b : Moment} {es : List Event} → Run o a es b → Free a.todo → stops a.loop ≡ false → After (has_failed (calls es)) b.todo b.loop
 run_after none f g = on f g refl
-run_after (more {e = e} st r) f g = after_then (fails e) (step_after st f g) r (λ i j. run_after r i j)
+run_after (more {e = e} {es = es} st r) f g =
+    rw (list_any-append call_fails (call_of e) (calls es)) (after_then (has_failed (call_of e)) (step_after st f g) r (λ i j. run_after r i j))
 
 -- ---- how serving ends
 
@@ -421,18 +425,18 @@ differ todo e f = (let bad : is_starved (starved ∷ []) ≡ is_starved (broken 
 clash : (todo : List Task) → first_stops todo ≡ true → first_stops todo ≡ false → ⊥
 clash todo e f = (let bad : true ≡ false = sym e ∙ f in cc)
 
-faults_at : (end : ServeEnd) (e : Bool) (todo : List Task) (s : Loop) (f g : ℕ) → After e todo s → EndsAt end todo s → Counts e f g → Faults end f g
-faults_at ends.Ended e todo s f g (on i j h) at k = subst (λ p. Counts p f g) h k
-faults_at ends.Ended e todo s f g (full i j h) at k = subst (λ p. Counts p f g) h k
+faults_at : (end : ServeEnd) (e : Bool) (todo : List Task) (s : Loop) (f g : ℕ) → After e todo s → EndsAt end todo s → RisesIf e f g → Faults end f g
+faults_at ends.Ended e todo s f g (on i j h) at k = subst (λ p. RisesIf p f g) h k
+faults_at ends.Ended e todo s f g (full i j h) at k = subst (λ p. RisesIf p f g) h k
 faults_at ends.Ended e todo s f g (cut i j h) at k = absurd (clash todo (broken_stops todo i) (turns_free todo at.0.0 at.0.1))
-faults_at ends.TurnsOver e todo s f g (on i j h) at k = subst (λ p. Counts p f g) h k
-faults_at ends.TurnsOver e todo s f g (full i j h) at k = subst (λ p. Counts p f g) h k
+faults_at ends.TurnsOver e todo s f g (on i j h) at k = subst (λ p. RisesIf p f g) h k
+faults_at ends.TurnsOver e todo s f g (full i j h) at k = subst (λ p. RisesIf p f g) h k
 faults_at ends.TurnsOver e todo s f g (cut i j h) at k = absurd (clash todo (broken_stops todo i) (turns_free todo 0 at.0))
 faults_at ends.NetFault e todo s f g (on i j h) at k = absurd (clash todo (broken_stops todo at) (free_first todo i))
 faults_at ends.NetFault e todo s f g (full i j h) at k = absurd (differ todo i at)
-faults_at ends.NetFault e todo s f g (cut i j h) at k = subst (λ p. Counts p f g) h k
-faults_at ends.Starved e todo s f g (on i j h) at k = subst (λ p. Counts p f g) h k
-faults_at ends.Starved e todo s f g (full i j h) at k = subst (λ p. Counts p f g) h k
+faults_at ends.NetFault e todo s f g (cut i j h) at k = subst (λ p. RisesIf p f g) h k
+faults_at ends.Starved e todo s f g (on i j h) at k = subst (λ p. RisesIf p f g) h k
+faults_at ends.Starved e todo s f g (full i j h) at k = subst (λ p. RisesIf p f g) h k
 faults_at ends.Starved e todo s f g (cut i j h) at k = absurd (differ todo at i)
 
 marks_at : (end : ServeEnd) (e : Bool) (todo : List Task) (s : Loop) → After e todo s → EndsAt end todo s → length s.lost ≤ most_marks → Marks end (length s.lost)
@@ -451,13 +455,13 @@ marks_at ends.Starved e todo s (cut i j h) at le = absurd (differ todo at i)
 
 module _ {o : Settings} {k : ℕ} {s t : Loop} {n m : Standing} {es : List Event} {todo : List Task} (run : Run o (at (turns k ∷ []) s n) es (at todo t m)) (fresh : s.lost ≡ []) where
   -- how a run of turns ends
-  ended : After (has_failed es) todo t
+  ended : After (has_failed (calls es)) todo t
   ended = run_after run (starts_free k) (starts_unmarked s fresh)
 
   -- the net's count rose only where it ended so
-  pub faults_told : (end : ServeEnd) (f g : ℕ) → EndsAt end todo t → Counts (has_failed es) f g → Faults end f g
-  faults_told end f g at c = faults_at end (has_failed es) todo t f g ended at c
+  pub faults_told : (end : ServeEnd) (f g : ℕ) → EndsAt end todo t → RisesIf (has_failed (calls es)) f g → Faults end f g
+  faults_told end f g at c = faults_at end (has_failed (calls es)) todo t f g ended at c
 
   -- there are the most marks only where it ended so
   pub marks_told : (end : ServeEnd) → EndsAt end todo t → length t.lost ≤ most_marks → Marks end (length t.lost)
-  marks_told end at le = marks_at end (has_failed es) todo t ended at le
+  marks_told end at le = marks_at end (has_failed (calls es)) todo t ended at le

@@ -1,35 +1,38 @@
 -- The steps of a turn.
 use Rattle.std.proofs.Common.{◌≡◌, ℕ, List, [], ◌∷◌, ◌++◌, ◌+◌, ◌<◌, ◌≤◌, Option, Some, None, refl, sym, subst, length, map, Result, true, false, ◌-◌, arith, Ok, Err, OnErr}
 use Rattle.op_types.specs.declared.events.Input.TheVariants as input
+use Rattle.op_outside.specs.Causes.{Rises}
 use Rattle.op_outside.specs.Nets.{Closed, Dialled, Readied, Waited}
+use Rattle.op_outside.specs.Seen.{NetSeen}
 use Rattle.op_outside.specs.Telling.{Grows}
 use Rattle.op_outside.specs.declared.net.Addr.{Addr}
 use Rattle.op_outside.specs.declared.net.Happening.{Happening}
+use Rattle.op_outside.proofs.Seen.{told_none}
 use Rattle.op_setup.specs.declared.config.Settings.{Settings}
 use Rattle.op_sessions.specs.declared.kind.Kind.{Kind}
 use Rattle.op_sessions.specs.declared.kind.Kind.TheVariants.{Peer}
-use Rattle.op_loop.specs.Cores.{Standing, Rises}
+use Rattle.op_loop.specs.Cores.{Standing}
 use Rattle.op_sessions.specs.State.{Loop, most_marks, put, marked, is_open, session_of, noted_at, forgotten, admitted, hello, hello_len, at_happening, timed, timed_due, turn_begun}
 use Rattle.op_loop.specs.Looks.{writes_place}
 use Rattle.op_loop.specs.Rules.{Task, Moment, at, clock, give, admit, join, drop, dial, ask, write, settle, time, turn, turns, starved, broken, of_happening, unless_full, is_noted, is_admitted, is_turned_away, is_turned_out, is_there, drops, is_above, is_met, dials, dials_in_vain, dials_failing, asks, has_asked, is_early, is_due, waits, waits_failing, goes_on}
-use Rattle.op_loop.specs.Run.{NetSeen, RanStill, RanOnNet, RanFromClock, Ran, more, none}
+use Rattle.op_loop.specs.Run.{RanStill, RanOnNet, RanFromClock, Ran, more, none}
 use Rattle.op_loop.specs.Serving.{knowing}
-use Rattle.op_loop.proofs.Runs.{net_call, still_net, quietly, given_to, goes_on_below, stops_at, still_then, told_none}
+use Rattle.op_loop.proofs.Runs.{net_call, still_net, quietly, given_to, goes_on_below, stops_at, still_then}
 
 module _ (o : Settings) (s : Loop) (n : Standing) (r : List Task) (c : ℕ) (kind : Kind) (bytes : List ℕ) where
   pub there : is_open c s ≡ true → RanStill o (at (admit c kind bytes ∷ r) s n) (at r s n)
   there e = quietly (is_there e)
 
   pub came_in : (u t : Loop) → is_open c s ≡ false → u ≡ noted_at c s → t ≡ admitted c kind bytes u → RanStill o (at (admit c kind bytes ∷ r) s n) (at r t n)
-  came_in u t e f g = still_then {b = at (join c kind bytes ∷ r) u n} (rw f (given_to (is_noted e) refl refl refl)) (rw g (given_to is_admitted refl refl refl))
+  came_in u t e f g = still_then {b = at (join c kind bytes ∷ r) u n} (rw f (given_to (is_noted e) refl refl)) (rw g (given_to is_admitted refl refl))
 
   -- it finds no memory, for its queue or for its session
   pub turned_away : (t : Loop) → is_open c s ≡ false → t ≡ s → RanStill o (at (admit c kind bytes ∷ r) s n) (at (unless_full (marked (Some c) t) (drop c ∷ r)) (marked (Some c) t) n)
-  turned_away t e f = rw f (given_to (is_turned_away e) refl refl refl)
+  turned_away t e f = rw f (given_to (is_turned_away e) refl refl)
 
   pub turned_out : (u v t : Loop) → is_open c s ≡ false → u ≡ noted_at c s → v ≡ u → t ≡ forgotten c v
       → RanStill o (at (admit c kind bytes ∷ r) s n) (at (unless_full (marked (Some c) t) (drop c ∷ r)) (marked (Some c) t) n)
-  turned_out u v t e f g h = still_then {b = at (join c kind bytes ∷ r) u n} (rw f (given_to (is_noted e) refl refl refl)) (rw (h, g) (given_to is_turned_out refl refl refl))
+  turned_out u v t e f g h = still_then {b = at (join c kind bytes ∷ r) u n} (rw f (given_to (is_noted e) refl refl)) (rw (h, g) (given_to is_turned_out refl refl))
 
 -- what was turned away is closed, unless the loop stops
 pub dropped : (o : Settings) (n : Standing) (r : List Task) (c : ℕ) {a : Moment} (u t : Loop) (n0 n1 : NetSeen) → t ≡ marked (Some c) u → length t.lost < most_marks → Grows n0.0 (Closed c ∷ []) n1.0 → n1.1 ≡ n0.1

@@ -1,17 +1,19 @@
 -- Queues are written.
 use Rattle.std.proofs.Common.{◌≤◌, ◌≡◌, ℕ, List, [], ◌∷◌, ◌++◌, ◌+◌, ◌<◌, Option, Some, None, refl, sym, ◌∙◌, subst, length}
 use Rattle.op_types.specs.declared.events.Input.TheVariants as input
+use Rattle.op_outside.specs.Causes.{Rises}
 use Rattle.op_outside.specs.Nets.{Wrote}
+use Rattle.op_outside.specs.Seen.{NetSeen}
 use Rattle.op_outside.specs.Telling.{Grows}
 use Rattle.op_outside.specs.declared.net.Took.{Took}
 use Rattle.op_outside.specs.declared.net.Took.TheVariants as took
 use Rattle.op_conns.specs.Tables.{queue_of, next_waiting}
 use Rattle.op_setup.specs.declared.config.Settings.{Settings}
-use Rattle.op_loop.specs.Cores.{Standing, Rises}
+use Rattle.op_loop.specs.Cores.{Standing}
 use Rattle.op_sessions.specs.State.{Loop, kind_at, hello_left, goes_up, has_taken, has_poured_out}
 use Rattle.op_loop.specs.Rules.{Task, at, pour, greet, write, give, settle, close, broken, of_hello, pours, pours_no_more, pours_end, pours_failing, has_poured, has_greeted, has_no_hello, greets, greets_no_more, greets_end, greets_failing, has_written, writes_next}
 use Rattle.op_sessions.specs.State.{hello_rest}
-use Rattle.op_loop.specs.Run.{NetSeen, RanStill, RanOnNet}
+use Rattle.op_loop.specs.Run.{RanStill, RanOnNet}
 use Rattle.op_loop.proofs.Runs.{net_call, quietly}
 
 nil_of : {A : Type 0} (xs : List A) → length xs ≡ 0 → xs ≡ []

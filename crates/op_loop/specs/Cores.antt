@@ -1,5 +1,5 @@
 -- A node as the loop sees it: its state, how often its disks have failed, and what is in range.
-use Rattle.std.specs.Prelude.{◌≡◌, ◌≤◌, ◌-◌, ℕ, List, length, take, Option, Some, None, Result, Ok, Err, All, IfSome}
+use Rattle.std.specs.Prelude.{◌≡◌, ◌-◌, ℕ, List, length, take, Option, Some, None, Result, Ok, Err, All, IfSome}
 use Rattle.op_types.specs.Ranges.{IsPid, IsNumber, CommandInRange}
 use Rattle.op_types.specs.declared.answers.Reply.{Reply}
 use Rattle.op_types.specs.declared.events.Input.{Input}
@@ -8,7 +8,7 @@ use Rattle.op_types.specs.declared.messages.Msg.{Msg}
 use Rattle.op_types.specs.declared.summary.NodeLine.{NodeLine}
 use Rattle.op_types.specs.declared.summary.Running.{Running}
 use Rattle.op_types.specs.declared.summary.Running.TheVariants as running
-use Rattle.op_outside.specs.Causes.{FaultsRose}
+use Rattle.op_outside.specs.Causes.{Rises}
 use Rattle.op_msg.specs.Ranges.{MsgInRange}
 use Rattle.op_command.specs.Ranges.{AnswerInRange, OutcomeInRange}
 use Rattle.op_runs.specs.Summary.{stands_at}
@@ -35,11 +35,6 @@ after_input n x = record n { node = node.after_input n.node x }
 -- its disks failed, and this is the count since
 unfoldable pub faulted : ℕ → Standing → Standing
 faulted k n = record { node = record n.node { failed = Some k }; faults = k }
-
--- a count rose, and is this since
-pub record Rises (before now : ℕ) : Type 0 where
-  pub later : before ≤ now
-  pub rose : FaultsRose before now
 
 -- what a step did: it gave out what the table gives; or a disk failed, and the node has failed with the count, which
 -- rose; or it found no memory, and the node is as before

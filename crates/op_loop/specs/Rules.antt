@@ -9,6 +9,7 @@ use Rattle.op_types.specs.declared.events.Input.{Input}
 use Rattle.op_types.specs.declared.events.Input.TheVariants as input
 use Rattle.op_types.specs.declared.log.Command.{Command}
 use Rattle.op_types.specs.declared.messages.Msg.{Msg}
+use Rattle.op_outside.specs.Causes.{Rises}
 use Rattle.op_outside.specs.Nets.{Call, Dialled, Waited, Readied, WasRead, Wrote, Closed, SawBytes, SawNotYet, SawEnd, SawFault}
 use Rattle.op_outside.specs.declared.net.Addr.{Addr}
 use Rattle.op_outside.specs.declared.net.Happening.{Happening}
@@ -25,7 +26,7 @@ use Rattle.op_setup.specs.declared.config.Settings.{Settings}
 use Rattle.op_chain.specs.declared.given.Given.{Given}
 use Rattle.op_sessions.specs.declared.kind.Kind.{Kind}
 use Rattle.op_sessions.specs.declared.kind.Kind.TheVariants.{Unknown, Peer, Client}
-use Rattle.op_loop.specs.Cores.{Standing, Rises, gives, after_input, faulted, status_text}
+use Rattle.op_loop.specs.Cores.{Standing, gives, after_input, faulted, status_text}
 use Rattle.op_sessions.specs.Wire.{peer_head, client_head, message_in, peer_frame, request_in, client_frame}
 use Rattle.op_sessions.specs.State.{peer_limit, Loop, most_marks, find, is_open, session_of, kind_at, hello, hello_len, marked, counted, frame_counted, turn_begun, at_happening, timed, timed_due, admitted, noted_at, forgotten, linked, holding, held_by, no_stream, of_this_kind, hungry, waits_for, has_taken, with_session, left_by, asked, told, asker_of, goes_to, goes_down, goes_up, hello_left, hello_rest, has_poured_out, first_hungry}
 use Rattle.op_loop.specs.Looks.{piece_len, client_limit, writes_place, Looks, nothing, refused, a_client, a_peer, whole, begun}

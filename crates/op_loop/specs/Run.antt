@@ -1,15 +1,16 @@
 -- Runs of the loop: what is asked of the outside, what it answers, and what the node is given.
-use Rattle.std.specs.Prelude.{◌≡◌, ◌++◌, ◌∷◌, ◌||◌, [], ℕ, List, Bool, true, false, Option, None, Result, Ok, Err}
+use Rattle.std.specs.Prelude.{◌≡◌, ◌++◌, ◌∷◌, [], ℕ, List, Option, Result, Ok, Err}
 use Rattle.op_types.specs.declared.events.Input.{Input}
+use Rattle.op_outside.specs.Nets.{Call}
+use Rattle.op_outside.specs.Seen.{NetSeen, Told}
 use Rattle.op_outside.specs.Telling.{Grows}
-use Rattle.op_outside.specs.Nets.{Call, Listened, Dialled, Waited, WasRead, Wrote, SawFault}
 use Rattle.op_frame.specs.Framing.{Stream}
 use Rattle.op_setup.specs.declared.config.Settings.{Settings}
 use Rattle.op_sessions.specs.declared.stop.Stop.{Stop}
 use Rattle.op_sessions.specs.declared.stop.Stop.TheVariants as stops
 use Rattle.op_loop.specs.declared.more.More.{More}
 use Rattle.op_loop.specs.declared.more.More.TheVariants.{Yes, No, Over}
-use Rattle.op_loop.specs.Cores.{Standing, Rises, after_input, faulted}
+use Rattle.op_loop.specs.Cores.{Standing, after_input, faulted}
 use Rattle.op_sessions.specs.State.{Loop}
 use Rattle.op_loop.specs.Looks.{Looks, nothing}
 use Rattle.op_loop.specs.Rules.{Task, frames, starved, broken, Moment, at, Step, Event, net, clock, node, Fate, done, faults, lost}
@@ -29,23 +30,6 @@ call_of _ = []
 abbrev pub calls : List Event → List Call
 calls [] = []
 calls (e ∷ es) = call_of e ++ calls es
-
--- whether one of them failed
-abbrev pub call_fails : Call → Bool
-call_fails (Listened a None) = true
-call_fails (Dialled a None) = true
-call_fails (Waited ms None) = true
-call_fails (WasRead c room SawFault) = true
-call_fails (Wrote c piece None) = true
-call_fails _ = false
-
-abbrev pub fails : Event → Bool
-fails (net c) = call_fails c
-fails _ = false
-
-abbrev pub has_failed : List Event → Bool
-has_failed [] = false
-has_failed (e ∷ es) = fails e || has_failed es
 
 -- the clock's answers
 abbrev pub time_of : Event → List ℕ
@@ -78,38 +62,24 @@ folded n (x ∷ xs) = folded (after_fate n x.0 x.1) xs
 
 -- ---- what the code does
 
--- what a net tells, and its count of faults
-abbrev pub NetSeen : Type 0
-NetSeen = Option (List Call) × ℕ
-
--- a count, where a call failed or none did
-abbrev pub Counts : Bool → ℕ → ℕ → Type 0
-Counts false before now = now ≡ before
-Counts true before now = Rises before now
-
--- what a net tells grew by the calls, and its count rose only where one failed
-pub record Told (es : List Event) (before now : NetSeen) : Type 0 where
-  pub grows : Grows before.0 (calls es) now.0
-  pub counts : Counts (has_failed es) before.1 now.1
-
 -- it went from one moment to the other by the rules, and what a net and a clock tell grew by the calls and answers
 abbrev pub Ran : Settings → Moment → Moment → NetSeen → NetSeen → Option (List ℕ) → Option (List ℕ) → Type 0
 Ran o a b net0 net1 clock0 clock1 =
-    (es : List Event) × Run o a es b × Told es net0 net1 × Grows clock0 (times es) clock1
+    (es : List Event) × Run o a es b × Told (calls es) net0 net1 × Grows clock0 (times es) clock1
 
 -- the same, where the clock was not asked
 abbrev pub RanOnNet : Settings → Moment → Moment → NetSeen → NetSeen → Type 0
-RanOnNet o a b net0 net1 = (es : List Event) × Run o a es b × (times es ≡ []) × Told es net0 net1
+RanOnNet o a b net0 net1 =
+    (es : List Event) × Run o a es b × (times es ≡ []) × Told (calls es) net0 net1
 
 -- the same, where nothing was asked of the outside
 abbrev pub RanStill : Settings → Moment → Moment → Type 0
-RanStill o a b =
-    (es : List Event) × Run o a es b × (times es ≡ []) × (calls es ≡ []) × (has_failed es ≡ false)
+RanStill o a b = (es : List Event) × Run o a es b × (times es ≡ []) × (calls es ≡ [])
 
 -- the clock gave this answer, and then what is asked is asked of the net alone
 abbrev pub RanFromClock : Settings → ℕ → Moment → Moment → NetSeen → NetSeen → Type 0
 RanFromClock o now a b net0 net1 =
-    (es : List Event) × Run o a (clock now ∷ es) b × (times es ≡ []) × Told es net0 net1
+    (es : List Event) × Run o a (clock now ∷ es) b × (times es ≡ []) × Told (calls es) net0 net1
 
 -- what is left to do where a call was answered so
 abbrev pub left : {A : Type 0} → Result A Stop → List Task → List Task

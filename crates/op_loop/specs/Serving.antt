@@ -1,18 +1,20 @@
 -- What serving promises: its run is by the rules, and the node's state is the fold of its step over the inputs.
 use Rattle.std.specs.Prelude.{◌≡◌, ◌<◌, ◌∷◌, [], ℕ, List, length, Option, None, true, false, All}
 use Rattle.op_types.specs.Ranges.{IsPid}
+use Rattle.op_outside.specs.Causes.{Rises}
+use Rattle.op_outside.specs.Seen.{NetSeen}
 use Rattle.op_outside.specs.Telling.{Grows}
 use Rattle.op_outside.specs.declared.net.Addr.{Addr}
 use Rattle.op_setup.specs.declared.config.Settings.{Settings}
 use Rattle.op_loop.specs.declared.serve_end.ServeEnd.{ServeEnd}
 use Rattle.op_loop.specs.declared.serve_end.ServeEnd.TheVariants as ends
 use Rattle.op_sessions.specs.declared.mark.Mark.{Mark}
-use Rattle.op_loop.specs.Cores.{Standing, Rises}
+use Rattle.op_loop.specs.Cores.{Standing}
 use Rattle.op_loop.specs.Faulted.{faulted_steps, FaultsWithin}
 use Rattle.op_sessions.specs.State.{Loop, most_marks, fresh, put}
 use Rattle.op_loop.specs.Taking.{traffic, TakesInOrder}
 use Rattle.op_loop.specs.Rules.{Task, Event, at, turns, starved, broken}
-use Rattle.op_loop.specs.Run.{NetSeen, Run, Ran, calls, times, inputs, folded}
+use Rattle.op_loop.specs.Run.{Run, Ran, calls, times, inputs, folded}
 
 -- every peer is known, and none has a session
 abbrev pub knowing : List (ℕ × Addr) → Loop → Loop

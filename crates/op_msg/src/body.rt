@@ -35,6 +35,7 @@ const PREPARE_REQ: u8 = 9;
 
 const REFUSE: u8 = 10;
 
+/// The greatest tag of a message.
 pub const FORWARD: u8 = 11;
 
 /// The tag of what a message says.

@@ -1,5 +1,6 @@
 -- What a net is asked, and what it answers.
-use Rattle.std.specs.Prelude.{◌≤◌, ℕ, List, take, Option, Result, Ok, Err}
+use Rattle.std.specs.Prelude.{◌≤◌, ℕ, Bool, true, false, List, take, Option, None, Result, Ok, Err}
+use Rattle.std.specs.List.{list_any}
 use Rattle.op_outside.specs.declared.net.Addr.{Addr}
 use Rattle.op_outside.specs.declared.net.Happening.{Happening}
 use Rattle.op_outside.specs.declared.net.Got.{Got}
@@ -28,6 +29,19 @@ pub data Call : Type 0 where
   WasRead : ℕ → ℕ → Seen → Call
   Wrote : ℕ → List ℕ → Option Took → Call
   Closed : ℕ → Call
+
+-- whether a call failed
+abbrev pub call_fails : Call → Bool
+call_fails (Listened addr None) = true
+call_fails (Dialled addr None) = true
+call_fails (Waited ms None) = true
+call_fails (WasRead conn room SawFault) = true
+call_fails (Wrote conn piece None) = true
+call_fails _ = false
+
+-- whether one of them failed
+abbrev pub has_failed : List Call → Bool
+has_failed calls = list_any call_fails calls
 
 -- what a read gave, by its answer and what the buffer holds after it
 abbrev pub seen_in : List ℕ → Result Got NetFail → Seen

@@ -2,6 +2,7 @@
 use Rattle.std.specs.Prelude.{◌≡◌, ◌⊎◌, ℕ, ◌<◌, ◌+◌, List, length, Option, IfSome}
 use Rattle.std.specs.Io.KnownBytes.{IsAtEnd}
 use Rattle.op_outside.specs.Causes.{NoFault}
+use Rattle.op_outside.specs.Seen.{StreamSeen}
 use Rattle.op_outside.specs.Streams.{HasAtLeast, TakesAtMost}
 use Rattle.op_input.specs.Inputs.{input_limit}
 use Rattle.op_status.specs.Faults.{IsFault}
@@ -63,7 +64,7 @@ EndsIfValid answer input = IfSome input (λ bytes. IsWithinLimit bytes → IsVal
 
 -- What a replay does with its input and its output, each the bytes that it tells and its count of faults. What is written is the
 -- report of the schedule's run, which meets the list machine, and whose lists answer each client.
-pub record Replays (answer : Status) (input_before input_after output_before output_after : Option (List ℕ) × ℕ) : Type 0 where
+pub record Replays (answer : Status) (input_before input_after output_before output_after : StreamSeen) : Type 0 where
   pub output : LeavesOutput answer input_before.0 output_before.0 output_after.0
   pub input : LeavesInput answer input_before.0 input_after.0
   pub refused : RefusesInput answer input_before.0 input_before.1 input_after.1

@@ -160,6 +160,7 @@ fn replay_word(alloc: Global) -> Result<Vec<String>, AllocError> {
     words_of(alloc, &["replay"])
 }
 
+/// A replay of the row's input ends with its status, and writes its output and its error text.
 pub fn check_row(rt: &(impl Abort + Alloc<A = Global>), row: &Row) -> Result<(), Fail> {
     let alloc = rt.alloc();
     let words = replay_word(alloc)?;

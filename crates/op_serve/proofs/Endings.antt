@@ -4,6 +4,7 @@ use Rattle.std.proofs.lemmas.List.Elements.{All-weaker}
 use Rattle.op_types.specs.declared.durable.Durable.{Durable}
 use Rattle.op_types.specs.declared.messages.Msg.{Msg}
 use Rattle.op_outside.specs.Disks.{DiskState}
+use Rattle.op_outside.specs.Seen.{NetSeen, StreamSeen}
 use Rattle.op_outside.specs.Streams.{TakesAtMost}
 use Rattle.op_outside.specs.Telling.{Grows}
 use Rattle.op_types.specs.Ranges.{IsPid}
@@ -28,7 +29,7 @@ use Rattle.op_sessions.specs.declared.mark.Mark.{Mark}
 use Rattle.op_status.specs.declared.status.Status.{Status}
 use Rattle.op_status.specs.declared.status.Status.TheVariants as status
 use Rattle.op_input.specs.Inputs.{IsMisconfigured, RisesOnlyAt, input_limit}
-use Rattle.op_serve.specs.Nodes.{Around, Serves, is_misconfigured, NetSeen, Stream, Goes, is_unheard, cannot_begin, has_served, Ends, cannot_open, is_damaged, has_no_memory, is_opened, IsHeard, IsNodeOf, IsOwn, IsReady, Holds, around, status_of, status_of_refusal}
+use Rattle.op_serve.specs.Nodes.{Around, Serves, is_misconfigured, Goes, is_unheard, cannot_begin, has_served, Ends, cannot_open, is_damaged, has_no_memory, is_opened, IsHeard, IsNodeOf, IsOwn, IsReady, Holds, around, status_of, status_of_refusal}
 
 module _ {D : Type 0} (state : D → DiskState) where
   -- what stood for what was stored may be known by less
@@ -39,7 +40,7 @@ module _ {D : Type 0} (state : D → DiskState) where
   goes_by id o n P Q old new s lost f (has_served net r serves stored) = has_served net r serves (λ q. stored (f q))
 
   -- an opened node goes on
-  pub ends_opened : (id : ℕ) (o : Settings) (first second : D) (n : Node D) (sends : List (ℕ × Msg)) (net : NetSeen) (clock : Option (List ℕ)) (out : Stream) (new : Around D) (s : Status) (lost : List Mark)
+  pub ends_opened : (id : ℕ) (o : Settings) (first second : D) (n : Node D) (sends : List (ℕ × Msg)) (net : NetSeen) (clock : Option (List ℕ)) (out : StreamSeen) (new : Around D) (s : Status) (lost : List Mark)
       → Opens state id o.members (disks_with state first second) n sends
       → Goes state id o (node_of n) (IsRepresented state n) (around n.store.first n.store.second net clock out) new s lost
       → Ends state id o (around first second net clock out) new s lost
@@ -51,7 +52,7 @@ module _ {D : Type 0} (state : D → DiskState) where
       (λ own. opened_represented state id o.members (disks_with state first second) n sends opens own.0 own.1) goes)
 
   -- a node that was not opened ends
-  refused_by : (id : ℕ) (o : Settings) (first second : D) (cause : StoreFail) (a b : D) (net : NetSeen) (clock : Option (List ℕ)) (out : Stream)
+  refused_by : (id : ℕ) (o : Settings) (first second : D) (cause : StoreFail) (a b : D) (net : NetSeen) (clock : Option (List ℕ)) (out : StreamSeen)
       → IsFaultOf (faults (disks_with state first second)) (faults (disks_with state a b)) cause
       → (Obey (disks_with state first second) → IsRefusal (disks_with state first second) (disks_with state a b) cause)
       → Ends state id o (around first second net clock out) (around a b net clock out) (status_of_refusal cause) []
@@ -64,14 +65,14 @@ module _ {D : Type 0} (state : D → DiskState) where
   refusal_of id o first second e (inl r) obey = r.refusal obey
   refusal_of id o first second e (inr r) obey = rw r.cause tt
 
-  refused : (id : ℕ) (o : Settings) (first second : D) (e : Returned D) (net : NetSeen) (clock : Option (List ℕ)) (out : Stream)
+  refused : (id : ℕ) (o : Settings) (first second : D) (e : Returned D) (net : NetSeen) (clock : Option (List ℕ)) (out : StreamSeen)
       → RefusesNode state (fresh_for id o.members) first second e
       → Ends state id o (around first second net clock out) (around e.first e.second net clock out) (status_of_refusal e.cause) []
   refused id o first second e net clock out r =
       refused_by id o first second e.cause e.first e.second net clock out
       (refusal_tells state (fresh_for id o.members) first second e r) (refusal_of id o first second e r)
 
-  pub ends_refused : (id : ℕ) (o : Settings) (first second : D) (e : Returned D) (net : NetSeen) (clock : Option (List ℕ)) (out : Stream)
+  pub ends_refused : (id : ℕ) (o : Settings) (first second : D) (e : Returned D) (net : NetSeen) (clock : Option (List ℕ)) (out : StreamSeen)
       (a b : D) (s : Status) (lost : List Mark)
       → RefusesNode state (fresh_for id o.members) first second e → a ≡ e.first → b ≡ e.second → s ≡ status_of_refusal e.cause → lost ≡ []
       → Ends state id o (around first second net clock out) (around a b net clock out) s lost
@@ -81,7 +82,7 @@ module _ {D : Type 0} (state : D → DiskState) where
   -- ---- how an open node ends
 
   -- it is not heard
-  pub goes_unheard : (id : ℕ) (o : Settings) (n : NodeState) (stood : Type 0) (first second : D) (net0 net1 : NetSeen) (clock : Option (List ℕ)) (out0 out1 : Stream)
+  pub goes_unheard : (id : ℕ) (o : Settings) (n : NodeState) (stood : Type 0) (first second : D) (net0 net1 : NetSeen) (clock : Option (List ℕ)) (out0 out1 : StreamSeen)
       (a b : D) (told s : Status) (lost : List Mark)
       → IsHeard {T = Unit {0}} id o (Err told) net0 net1 out0 out1 → a ≡ first → b ≡ second → s ≡ told → lost ≡ []
       → Goes state id o n stood (around first second net0 clock out0) (around a b net1 clock out1) s lost
@@ -89,7 +90,7 @@ module _ {D : Type 0} (state : D → DiskState) where
       rw (at_first, at_second, is, no_loss) (is_unheard heard refl)
 
   -- it finds no memory to begin
-  pub goes_unserved : (id : ℕ) (o : Settings) (n : NodeState) (stood : Type 0) (first second : D) (net0 mid net1 : NetSeen) (clock0 clock1 : Option (List ℕ)) (out0 out1 : Stream)
+  pub goes_unserved : (id : ℕ) (o : Settings) (n : NodeState) (stood : Type 0) (first second : D) (net0 mid net1 : NetSeen) (clock0 clock1 : Option (List ℕ)) (out0 out1 : StreamSeen)
       (a b : D) (t : ℕ) (s : Status) (lost : List Mark)
       → IsReady id o net0 mid out0 out1 → net1 ≡ mid → Grows clock0 (t ∷ []) clock1 → a ≡ first → b ≡ second → s ≡ status.NoMemory → lost ≡ []
       → Goes state id o n stood (around first second net0 clock0 out0) (around a b net1 clock1 out1) s lost
@@ -97,11 +98,11 @@ module _ {D : Type 0} (state : D → DiskState) where
       rw (same, at_first, at_second, is, no_loss) (cannot_begin t ready grows refl)
 
   -- what a node's store represents is on its disks
-  holds : (k : Node D) (d : Durable) (net : NetSeen) (clock : Option (List ℕ)) (out : Stream) → Represents state d k.store → Holds state (around k.store.first k.store.second net clock out) d
+  holds : (k : Node D) (d : Durable) (net : NetSeen) (clock : Option (List ℕ)) (out : StreamSeen) → Represents state d k.store → Holds state (around k.store.first k.store.second net clock out) d
   holds k d net clock out r = (k.store.generation, k.store.end, r.settles)
 
   -- it has served
-  pub goes_served : (id : ℕ) (o : Settings) (n : NodeState) (stood : Type 0) (first second : D) (k : Node D) (end : ServeEnd) (net0 mid net1 : NetSeen) (clock0 clock1 : Option (List ℕ)) (out0 out1 : Stream)
+  pub goes_served : (id : ℕ) (o : Settings) (n : NodeState) (stood : Type 0) (first second : D) (k : Node D) (end : ServeEnd) (net0 mid net1 : NetSeen) (clock0 clock1 : Option (List ℕ)) (out0 out1 : StreamSeen)
       (a b : D) (s : Status) (lost : List Mark)
       → IsReady id o net0 mid out0 out1
       → loop.Serves o end lost (record { node = n; faults = faults (disks_with state first second) }) (standing_of state k) mid net1 clock0 clock1
@@ -125,7 +126,7 @@ node_of_settings id text o one s =
     }
 
 -- there are none, and nothing else is done
-pub serves_misconfigured : {D : Type 0} (state : D → DiskState) (id : ℕ) (in0 in1 : Stream) (first second a b : D) (net : NetSeen) (clock : Option (List ℕ)) (out : Stream)
+pub serves_misconfigured : {D : Type 0} (state : D → DiskState) (id : ℕ) (in0 in1 : StreamSeen) (first second a b : D) (net : NetSeen) (clock : Option (List ℕ)) (out : StreamSeen)
     (told s : Status) (lost : List Mark)
     → IsMisconfigured in0.0 (Some id) in0.1 in1.1 told
     → RisesOnlyAt {T = Unit {0}} status.ReadFault (Err told) in0.1 in1.1 → TakesAtMost (input_limit + 1) in0.0 in1.0 → a ≡ first → b ≡ second → s ≡ told → lost ≡ []

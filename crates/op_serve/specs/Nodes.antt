@@ -6,6 +6,7 @@ use Rattle.op_types.specs.declared.durable.Durable.{Durable}
 use Rattle.op_outside.specs.Causes.{FaultsRose}
 use Rattle.op_outside.specs.Disks.{DiskState}
 use Rattle.op_outside.specs.Nets.{Call, Listened}
+use Rattle.op_outside.specs.Seen.{NetSeen, StreamSeen}
 use Rattle.op_outside.specs.Streams.{AppendsPrefix, TakesAtMost}
 use Rattle.op_outside.specs.Telling.{Grows}
 use Rattle.op_outside.specs.declared.net.Addr.{Addr}
@@ -35,14 +36,6 @@ pub record IsNodeOf (id : ℕ) (o : Settings) : Type 0 where
   pub peers : PeersInRange o
   pub own : IsAmong o.peers (Some id)
 
--- what a net tells, and its count of faults
-abbrev pub NetSeen : Type 0
-NetSeen = Option (List Call) × ℕ
-
--- what a stream tells, and its count of faults
-abbrev pub Stream : Type 0
-Stream = Option (List ℕ) × ℕ
-
 -- ---- a node is heard
 
 -- it was to listen at its own address, which was answered so
@@ -56,14 +49,14 @@ abbrev pub ready_line : ℕ → List ℕ
 ready_line id = codes "ready " ++ decimal id ++ codes "\n"
 
 -- it listens, and its line is told; nothing failed
-pub record IsReady (id : ℕ) (o : Settings) (net0 net1 : NetSeen) (out0 out1 : Stream) : Type 0 where
+pub record IsReady (id : ℕ) (o : Settings) (net0 net1 : NetSeen) (out0 out1 : StreamSeen) : Type 0 where
   pub listens : AsksToListen id o net0.0 net1.0 (Some tt)
   pub no_net_fault : net1.1 ≡ net0.1
   pub told : Appends out0.0 out1.0 (ready_line id)
   pub no_write_fault : out1.1 ≡ out0.1
 
 -- it is ready; or it could not listen; or its line could not be told
-abbrev pub IsHeard : {T : Type 0} → ℕ → Settings → Result T Status → NetSeen → NetSeen → Stream → Stream → Type 0
+abbrev pub IsHeard : {T : Type 0} → ℕ → Settings → Result T Status → NetSeen → NetSeen → StreamSeen → StreamSeen → Type 0
 IsHeard id o (Ok x) net0 net1 out0 out1 = IsReady id o net0 net1 out0 out1
 IsHeard id o (Err status.NetFault) net0 net1 out0 out1 =
     AsksToListen id o net0.0 net1.0 None × FaultsRose net0.1 net1.1 × (out1 ≡ out0)
@@ -92,9 +85,9 @@ pub record Around (D : Type 0) : Type 0 where
   pub second : D
   pub net : NetSeen
   pub clock : Option (List ℕ)
-  pub output : Stream
+  pub output : StreamSeen
 
-abbrev pub around : {D : Type 0} → D → D → NetSeen → Option (List ℕ) → Stream → Around D
+abbrev pub around : {D : Type 0} → D → D → NetSeen → Option (List ℕ) → StreamSeen → Around D
 around first second net clock output = record { first = first; second = second; net = net; clock = clock; output = output }
 
 -- nothing but the disks changed
@@ -152,7 +145,7 @@ module _ {D : Type 0} (state : D → DiskState) where
   -- How the command ends, where this was left of the input before and after it: there are no settings of the node, and nothing else was
   -- done, where the input failed only with a read fault, and not more was read than tells that it is too long; or there are settings, and
   -- the node ends as above.
-  pub data Serves (id : ℕ) (in0 in1 : Stream) (old new : Around D) : Status → List Mark → Type 0 where
+  pub data Serves (id : ℕ) (in0 in1 : StreamSeen) (old new : Around D) : Status → List Mark → Type 0 where
     is_misconfigured : {s : Status} → IsMisconfigured in0.0 (Some id) in0.1 in1.1 s
         → RisesOnlyAt {T = Unit {0}} status.ReadFault (Err s) in0.1 in1.1 → TakesAtMost (input_limit + 1) in0.0 in1.0
         → new ≡ old → Serves id in0 in1 old new s []

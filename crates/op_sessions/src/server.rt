@@ -26,9 +26,10 @@ use std::mem;
 /// How many marks there are at most.
 const MOST_MARKS: usize = 64;
 
-/// How many bytes the head of a client's frame has, and that of a peer's.
+/// How many bytes the head of a client's frame has.
 pub const CLIENT_HEAD: u8 = 4;
 
+/// How many bytes the head of a peer's frame has.
 pub const PEER_HEAD: u8 = 8;
 
 /// The longest body of a peer's frame.

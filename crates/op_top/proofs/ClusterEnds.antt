@@ -2,14 +2,15 @@
 use Rattle.std.proofs.Common.{◌≡◌, ℕ, List, Ok, Err, ap}
 use Rattle.std.specs.Prelude.{IsErrOf}
 use Rattle.std.specs.Map.{keys_of}
+use Rattle.op_outside.specs.Seen.{StreamSeen, SpawnerSeen}
 use Rattle.op_setup.specs.declared.config.Settings.{Settings}
 use Rattle.op_cluster.specs.Clusters.{AllEnd, StartOrEndFails, WriteFails, IsFault, starts_of, tells}
 use Rattle.op_cluster.specs.declared.cluster_fail.ClusterFail.{ClusterFail}
 use Rattle.op_cluster.specs.declared.cluster_fail.ClusterFail.TheVariants as fail
 use Rattle.op_status.specs.declared.status.Status.TheVariants as status
-use Rattle.op_top.specs.Clusters.{Stream, Children, Ends, have_ended, child_fails, write_fails}
+use Rattle.op_top.specs.Clusters.{Ends, have_ended, child_fails, write_fails}
 
-module _ (text input ids : List ℕ) (o : Settings) (out0 out1 : Stream) (children0 children1 : Children) (at_ids : ids ≡ keys_of o.peers) (at_text : input ≡ text) where
+module _ (text input ids : List ℕ) (o : Settings) (out0 out1 : StreamSeen) (children0 children1 : SpawnerSeen) (at_ids : ids ≡ keys_of o.peers) (at_text : input ≡ text) where
   pub all_ended : (x : Unit {0}) → AllEnd (starts_of input ids) ids (tells children0.0 out0.0) (tells children1.0 out1.0)
       → IsFault fail.ChildFault (Ok x) children0.1 children1.1 → IsFault fail.WriteFault (Ok x) out0.1 out1.1
       → Ends text o out0 out1 children0 children1 status.Ended

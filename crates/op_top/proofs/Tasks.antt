@@ -18,12 +18,11 @@ use Rattle.op_input.specs.Inputs.{IsMisconfigured}
 use Rattle.op_replay.specs.Answers.{AnswersReplay, Replays}
 use Rattle.op_serve.specs.Nodes as node
 use Rattle.op_types.specs.declared.events.Request.{Request}
+use Rattle.op_outside.specs.Seen.{SpawnerSeen, NetSeen, StreamSeen}
 use Rattle.op_outside.specs.declared.net.Addr.{Addr}
 use Rattle.op_client.specs.Run as client
 use Rattle.op_call.specs.Calls as call
 use Rattle.op_top.specs.Clusters as cluster
-use Rattle.op_serve.specs.Nodes.{NetSeen, Stream}
-use Rattle.op_top.specs.Clusters.{Children}
 use Rattle.op_top.specs.Tasks.{Outside, Does, DoesTask, around_node, outside}
 
 -- the status is not that of words which are refused
@@ -58,7 +57,7 @@ served ends.TurnsOver = tt
 served ends.NetFault = tt
 served ends.Starved = tt
 
-heard : (id : ℕ) (o : Settings) (s : Status) (net0 net1 : node.NetSeen) (out0 out1 : node.Stream) → node.IsHeard {T = Unit {0}} id o (Err s) net0 net1 out0 out1 → IsNoUsage s
+heard : (id : ℕ) (o : Settings) (s : Status) (net0 net1 : NetSeen) (out0 out1 : StreamSeen) → node.IsHeard {T = Unit {0}} id o (Err s) net0 net1 out0 out1 → IsNoUsage s
 heard id o status.Usage net0 net1 out0 out1 h = absurd h
 heard id o status.Ended net0 net1 out0 out1 h = tt
 heard id o (status.BadConfig c) net0 net1 out0 out1 h = tt
@@ -86,7 +85,7 @@ node_ends state id o old new s lost (node.has_no_memory a b) = tt
 node_ends state id o old new s lost (node.is_opened {n} mid opened only goes) =
     node_goes state id o n (node.IsOwn state id old opened.durable) mid new s lost goes
 
-pub node_serves : {D : Type 0} (state : D → DiskState) (id : ℕ) (in0 in1 : node.Stream) (old new : node.Around D) (s : Status) (lost : List Mark) → node.Serves state id in0 in1 old new s lost → IsNoUsage s
+pub node_serves : {D : Type 0} (state : D → DiskState) (id : ℕ) (in0 in1 : StreamSeen) (old new : node.Around D) (s : Status) (lost : List Mark) → node.Serves state id in0 in1 old new s lost → IsNoUsage s
 node_serves state id in0 in1 old new s lost (node.is_misconfigured h rises most same) = misconfigured in0.0 (Some id) in0.1 in1.1 s h
 node_serves state id in0 in1 old new s lost (node.is_configured o c same e) = node_ends state id o old new s lost e
 
@@ -96,19 +95,19 @@ failed fail.TurnsOver = tt
 failed fail.NetFault = tt
 failed fail.NoMemory = tt
 
-call_ends : {addr : Addr} {request : Request} (net0 net1 : client.NetSeen) (out0 out1 : Option (List ℕ) × ℕ) (s : Status) → call.CallEnds addr request net0 net1 out0 out1 s → IsNoUsage s
+call_ends : {addr : Addr} {request : Request} (net0 net1 : NetSeen) (out0 out1 : StreamSeen) (s : Status) → call.CallEnds addr request net0 net1 out0 out1 s → IsNoUsage s
 call_ends net0 net1 out0 out1 s (call.is_told a b c) = tt
 call_ends net0 net1 out0 out1 s (call.is_cut a b c) = tt
 call_ends net0 net1 out0 out1 s (call.is_untold a b) = tt
 call_ends net0 net1 out0 out1 s (call.has_no_reply {why} a b) = failed why
 
-cluster_ends : (text : List ℕ) (o : Settings) (out0 out1 : cluster.Stream) (children0 children1 : cluster.Children) (s : Status) → cluster.Ends text o out0 out1 children0 children1 s → IsNoUsage s
+cluster_ends : (text : List ℕ) (o : Settings) (out0 out1 : StreamSeen) (children0 children1 : SpawnerSeen) (s : Status) → cluster.Ends text o out0 out1 children0 children1 s → IsNoUsage s
 cluster_ends text o out0 out1 children0 children1 s (cluster.have_ended a b c) = tt
 cluster_ends text o out0 out1 children0 children1 s (cluster.child_fails a b c) = tt
 cluster_ends text o out0 out1 children0 children1 s (cluster.write_fails a b c) = tt
 cluster_ends text o out0 out1 children0 children1 s (cluster.has_no_memory a b) = tt
 
-cluster_runs : (in0 in1 out0 out1 : cluster.Stream) (children0 children1 : cluster.Children) (s : Status) → cluster.RunsCluster in0 in1 out0 out1 children0 children1 s → IsNoUsage s
+cluster_runs : (in0 in1 out0 out1 : StreamSeen) (children0 children1 : SpawnerSeen) (s : Status) → cluster.RunsCluster in0 in1 out0 out1 children0 children1 s → IsNoUsage s
 cluster_runs in0 in1 out0 out1 children0 children1 s (cluster.is_misconfigured a rises most b c) = misconfigured in0.0 None in0.1 in1.1 s a
 cluster_runs in0 in1 out0 out1 children0 children1 s (cluster.is_configured {text} o a b c) = cluster_ends text o out0 out1 children0 children1 s c
 
@@ -167,21 +166,21 @@ module _ {D : Type 0} (state : D → DiskState) (words : List (List ℕ)) (old n
 -- the same where the disks are handed back as they were, and nothing was lost
 module _ {D : Type 0} (state : D → DiskState) (words : List (List ℕ)) (first second a b : D) (r s : Status) (lost : List Mark)
     (at_first : a ≡ first) (at_second : b ≡ second) (is : s ≡ r) (no_loss : lost ≡ []) where
-  pub does_replay : (net : NetSeen) (clock : Option (List ℕ)) (in0 in1 out0 out1 : Stream) (children : Children)
+  pub does_replay : (net : NetSeen) (clock : Option (List ℕ)) (in0 in1 out0 out1 : StreamSeen) (children : SpawnerSeen)
       → IsTaskOf words Replay → Replays r in0 in1 out0 out1
       → Does state words (outside first second net clock in0 out0 children) (outside a b net clock in1 out1 children) s lost
   does_replay net clock in0 in1 out0 out1 children of did =
       rw (at_first, at_second, is, no_loss)
       (does_task state words (outside first second net clock in0 out0 children) (outside first second net clock in1 out1 children) r [] Replay of (did, refl, refl))
 
-  pub does_call : (addr : Addr) (request : Request) (net0 net1 : NetSeen) (clock : Option (List ℕ)) (input out0 out1 : Stream) (children : Children)
+  pub does_call : (addr : Addr) (request : Request) (net0 net1 : NetSeen) (clock : Option (List ℕ)) (input out0 out1 : StreamSeen) (children : SpawnerSeen)
       → IsTaskOf words (Call addr request) → call.CallEnds addr request net0 net1 out0 out1 r
       → Does state words (outside first second net0 clock input out0 children) (outside a b net1 clock input out1 children) s lost
   does_call addr request net0 net1 clock input out0 out1 children of did =
       rw (at_first, at_second, is, no_loss)
       (does_task state words (outside first second net0 clock input out0 children) (outside first second net1 clock input out1 children) r [] (Call addr request) of (did, refl, refl))
 
-  pub does_cluster : (net : NetSeen) (clock : Option (List ℕ)) (in0 in1 out0 out1 : Stream) (children0 children1 : Children)
+  pub does_cluster : (net : NetSeen) (clock : Option (List ℕ)) (in0 in1 out0 out1 : StreamSeen) (children0 children1 : SpawnerSeen)
       → IsTaskOf words Cluster → cluster.RunsCluster in0 in1 out0 out1 children0 children1 r
       → Does state words (outside first second net clock in0 out0 children0) (outside a b net clock in1 out1 children1) s lost
   does_cluster net clock in0 in1 out0 out1 children0 children1 of did =
@@ -189,21 +188,21 @@ module _ {D : Type 0} (state : D → DiskState) (words : List (List ℕ)) (first
       (does_task state words (outside first second net clock in0 out0 children0) (outside first second net clock in1 out1 children1) r [] Cluster of (did, refl, refl))
 
   -- they ask for none
-  pub is_usage : (net : NetSeen) (clock : Option (List ℕ)) (input out : Stream) (children : Children) → (IsTask words → ⊥) → r ≡ status.Usage
+  pub is_usage : (net : NetSeen) (clock : Option (List ℕ)) (input out : StreamSeen) (children : SpawnerSeen) → (IsTask words → ⊥) → r ≡ status.Usage
       → Does state words (outside first second net clock input out children) (outside a b net clock input out children) s lost
   is_usage net clock input out children none usage =
       rw (at_first, at_second, is, no_loss)
       (let same = outside first second net clock input out children in does_nothing state words same same r [] none usage refl refl)
 
   -- there is no memory for them
-  pub has_no_memory : (net : NetSeen) (clock : Option (List ℕ)) (input out : Stream) (children : Children) → ((IsTask words → ⊥) → ⊥) → r ≡ status.NoMemory
+  pub has_no_memory : (net : NetSeen) (clock : Option (List ℕ)) (input out : StreamSeen) (children : SpawnerSeen) → ((IsTask words → ⊥) → ⊥) → r ≡ status.NoMemory
       → Does state words (outside first second net clock input out children) (outside a b net clock input out children) s lost
   has_no_memory net clock input out children some lacks =
       rw (at_first, at_second, is, no_loss)
       (let same = outside first second net clock input out children in lacks_memory state words same same r [] some lacks refl refl)
 
 pub does_node : {D : Type 0} (state : D → DiskState) (words : List (List ℕ)) (id : ℕ) (first second a b : D) (s : Status) (lost : List Mark)
-    (net0 net1 : NetSeen) (clock0 clock1 : Option (List ℕ)) (in0 in1 out0 out1 : Stream) (children : Children)
+    (net0 net1 : NetSeen) (clock0 clock1 : Option (List ℕ)) (in0 in1 out0 out1 : StreamSeen) (children : SpawnerSeen)
     → IsTaskOf words (Node id) → node.Serves state id in0 in1 (node.around first second net0 clock0 out0) (node.around a b net1 clock1 out1) s lost
     → Does state words (outside first second net0 clock0 in0 out0 children) (outside a b net1 clock1 in1 out1 children) s lost
 does_node state words id first second a b s lost net0 net1 clock0 clock1 in0 in1 out0 out1 children of did =

@@ -1,6 +1,7 @@
 -- What the program does, by what the words ask.
 use Rattle.std.specs.Prelude.{◌≡◌, ◌⊎◌, [], ℕ, List, Option}
 use Rattle.op_outside.specs.Disks.{DiskState}
+use Rattle.op_outside.specs.Seen.{SpawnerSeen, StreamSeen, NetSeen}
 use Rattle.op_setup.specs.Tasks.{IsTask, IsTaskOf}
 use Rattle.op_setup.specs.declared.tasks.Task.{Task}
 use Rattle.op_setup.specs.declared.tasks.Task.TheVariants.{Node, Replay, Call, Cluster}
@@ -8,10 +9,10 @@ use Rattle.op_sessions.specs.declared.mark.Mark.{Mark}
 use Rattle.op_status.specs.declared.status.Status.{Status}
 use Rattle.op_status.specs.declared.status.Status.TheVariants as status
 use Rattle.op_replay.specs.Answers.{Replays}
-use Rattle.op_serve.specs.Nodes.{Around, Stream, NetSeen, around}
+use Rattle.op_serve.specs.Nodes.{Around, around}
 use Rattle.op_serve.specs.Nodes as node
 use Rattle.op_call.specs.Calls.{CallEnds}
-use Rattle.op_top.specs.Clusters.{Children, RunsCluster}
+use Rattle.op_top.specs.Clusters.{RunsCluster}
 
 -- all that is outside the program but its standard error: its disks, and what net, clock, input, output and child programs tell, with the
 -- counts of faults
@@ -20,11 +21,11 @@ pub record Outside (D : Type 0) : Type 0 where
   pub second : D
   pub net : NetSeen
   pub clock : Option (List ℕ)
-  pub input : Stream
-  pub output : Stream
-  pub children : Children
+  pub input : StreamSeen
+  pub output : StreamSeen
+  pub children : SpawnerSeen
 
-abbrev pub outside : {D : Type 0} → D → D → NetSeen → Option (List ℕ) → Stream → Stream → Children → Outside D
+abbrev pub outside : {D : Type 0} → D → D → NetSeen → Option (List ℕ) → StreamSeen → StreamSeen → SpawnerSeen → Outside D
 outside first second net clock input output children =
     record { first = first; second = second; net = net; clock = clock; input = input; output = output; children = children }
 

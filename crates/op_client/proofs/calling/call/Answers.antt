@@ -1,9 +1,10 @@
 use Rattle.std.proofs.Common.{rules, sym, subst, ◌≡◌, Err}
+use Rattle.op_outside.specs.Seen.{NetSeen}
+use Rattle.op_outside.proofs.Seen.{went_wrong}
 use Rattle.op_client.specs.declared.call_fail.CallFail.TheVariants as fail
 use Rattle.op_client.specs.Rules.{Client, Ending, at, turn, most_waits, fresh}
-use Rattle.op_client.specs.Run.{NetSeen, RanOut}
+use Rattle.op_client.specs.Run.{RanOut}
 use Rattle.op_client.specs.Called.{Calls}
-use Rattle.op_client.proofs.Runs.{went_wrong}
 use Rattle.op_client.proofs.Ends.{called_starved, called_failing, called_in_vain, called_over}
 use Rattle.op_client.proofs.calling.call.Goals as goal
 

@@ -1,6 +1,7 @@
 use Rattle.std.proofs.Common.{rules}
-use Rattle.op_loop.specs.Run.{NetSeen}
-use Rattle.op_loop.proofs.Runs.{ran_net, ran_then, stopped_in_time, went_wrong}
+use Rattle.op_outside.specs.Seen.{NetSeen}
+use Rattle.op_outside.proofs.Seen.{went_wrong}
+use Rattle.op_loop.proofs.Runs.{ran_net, ran_then, stopped_in_time}
 use Rattle.op_loop.proofs.Turned.{waited_for, waited_failing, from_clock}
 use Rattle.op_loop.proofs.turn.take_turn.Goals as goal
 

@@ -1,7 +1,8 @@
 use Rattle.std.proofs.Common.{rules}
+use Rattle.op_outside.specs.Seen.{NetSeen}
+use Rattle.op_outside.proofs.Seen.{went_wrong}
 use Rattle.op_client.specs.Rules.{at, ask}
-use Rattle.op_client.specs.Run.{NetSeen}
-use Rattle.op_client.proofs.Runs.{hears_then, went_wrong}
+use Rattle.op_client.proofs.Runs.{hears_then}
 use Rattle.op_client.proofs.Turns.{was_read, was_read_nothing, was_read_end, was_read_failing}
 use Rattle.op_client.proofs.client.Client.read.Goals as goal
 

@@ -1,7 +1,7 @@
 use Rattle.std.proofs.Common.{◌+◌, Err}
+use Rattle.op_outside.specs.Seen.{NetSeen}
 use Rattle.op_client.specs.declared.call_fail.CallFail.TheVariants as fail
 use Rattle.op_client.specs.Rules.{at, ask, read, close}
-use Rattle.op_client.specs.Run.{NetSeen}
 use Rattle.op_client.proofs.Runs.{hears_then}
 use Rattle.op_client.proofs.Turns.{readied, of_own_bytes, of_own_end, of_other_bytes, of_other_end, of_neither}
 use Rattle.op_client.proofs.client.Client.take_happening.Goals as goal

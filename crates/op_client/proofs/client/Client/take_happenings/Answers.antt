@@ -1,6 +1,7 @@
 use Rattle.std.proofs.Common.{rules, subst, ◌≡◌, ◌+◌, Ok, Err}
+use Rattle.op_outside.specs.Seen.{NetSeen}
 use Rattle.op_client.specs.Rules.{at, ask, turn, has_asked}
-use Rattle.op_client.specs.Run.{NetSeen, Ran}
+use Rattle.op_client.specs.Run.{Ran}
 use Rattle.op_client.proofs.Runs.{stays, quietly, ran_then, out_then, hears_fail, hears_one, hears_none}
 use Rattle.op_client.proofs.client.Client.take_happenings.Goals as goal
 

@@ -1,8 +1,9 @@
 use Rattle.std.proofs.Common.{rules, ◌+◌, Err}
+use Rattle.op_outside.specs.Seen.{NetSeen}
+use Rattle.op_outside.proofs.Seen.{went_wrong}
 use Rattle.op_client.specs.declared.call_fail.CallFail.TheVariants as fail
 use Rattle.op_client.specs.Rules.{at, turn, goes_on}
-use Rattle.op_client.specs.Run.{NetSeen}
-use Rattle.op_client.proofs.Runs.{quietly, ran_then, out_then, hears_then, hears_fail, went_wrong}
+use Rattle.op_client.proofs.Runs.{quietly, ran_then, out_then, hears_then, hears_fail}
 use Rattle.op_client.proofs.Turns.{waited, waited_failing}
 use Rattle.op_client.proofs.client.Client.take_turn.Goals as goal
 

@@ -1,6 +1,7 @@
 use Rattle.std.proofs.Common.{rules, subst, ◌≡◌, ◌+◌, ◌-◌, ℕ, Ok, Err, arith}
+use Rattle.op_outside.specs.Seen.{NetSeen}
 use Rattle.op_client.specs.Rules.{most_waits, at, turn, turns_over}
-use Rattle.op_client.specs.Run.{NetSeen, Ran}
+use Rattle.op_client.specs.Run.{Ran}
 use Rattle.op_client.proofs.Runs.{stays, quietly, ran_then, out_then, out_fail, hears_one, hears_none}
 use Rattle.op_client.proofs.client.Client.talk.Goals as goal
 

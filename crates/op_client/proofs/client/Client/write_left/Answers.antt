@@ -1,6 +1,7 @@
 use Rattle.std.proofs.Common.{rules, Err}
-use Rattle.op_client.specs.Run.{NetSeen}
-use Rattle.op_client.proofs.Runs.{stays, ran_then, out_then, went_wrong}
+use Rattle.op_outside.specs.Seen.{NetSeen}
+use Rattle.op_outside.proofs.Seen.{went_wrong}
+use Rattle.op_client.proofs.Runs.{stays, ran_then, out_then}
 use Rattle.op_client.proofs.Turns.{wrote, wrote_no_more, wrote_end, wrote_failing, wrote_all}
 use Rattle.op_client.specs.declared.call_fail.CallFail.TheVariants as fail
 use Rattle.op_client.proofs.client.Client.write_left.Goals as goal
