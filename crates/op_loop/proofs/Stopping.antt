@@ -377,8 +377,9 @@ after_then {a = a} {b = b} {es = es} e (cut i g h) r go =
 
 run_after : {o : Settings} {a b : Moment} {es : List Event} → Run o a es b → Free a.todo → stops a.loop ≡ false → After (has_failed (calls es)) b.todo b.loop
 run_after none f g = on f g refl
-run_after (more {e = e} {es = es} st r) f g =
-    rw (list_any-append call_fails (call_of e) (calls es)) (after_then (has_failed (call_of e)) (step_after st f g) r (λ i j. run_after r i j))
+run_after {b = b} (more {e = e} {es = es} st r) f g =
+    let now : After (has_failed (call_of e) || has_failed (calls es)) b.todo b.loop = after_then (has_failed (call_of e)) (step_after st f g) r (λ i j. run_after r i j) in
+    subst (λ p. After p b.todo b.loop) (sym (list_any-append call_fails (call_of e) (calls es))) now
 
 -- ---- how serving ends
 

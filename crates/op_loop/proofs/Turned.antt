@@ -77,7 +77,7 @@ module _ (o : Settings) (s : Loop) (n : Standing) (r : List Task) where
 
 -- the clock gave its answer
 pub from_clock : {o : Settings} {a b : Moment} (t : ℕ) (n0 n1 : NetSeen) (c0 c1 : Option (List ℕ)) → RanFromClock o t a b n0 n1 → Grows c0 (t ∷ []) c1 → Ran o a b n0 n1 c0 c1
-from_clock t n0 n1 c0 c1 (es, r, q, g) h = (clock t ∷ es, r, record { grows = g.grows; counts = g.counts }, rw q h)
+from_clock t n0 n1 c0 c1 (es, r, q, g) h = (clock t ∷ es, r, g, rw q h)
 
 pub early : (o : Settings) (s t : Loop) (n : Standing) (k now : ℕ) (r : List Task) (n0 : NetSeen) → now < s.due → t ≡ timed now s → RanFromClock o now (at (time k ∷ r) s n) (at (ask 0 k ∷ r) t n) n0 n0
 early o s t n k now r n0 lt e = ([], rw e (more (is_early lt) none), refl, told_none n0)

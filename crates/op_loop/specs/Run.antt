@@ -69,8 +69,7 @@ Ran o a b net0 net1 clock0 clock1 =
 
 -- the same, where the clock was not asked
 abbrev pub RanOnNet : Settings → Moment → Moment → NetSeen → NetSeen → Type 0
-RanOnNet o a b net0 net1 =
-    (es : List Event) × Run o a es b × (times es ≡ []) × Told (calls es) net0 net1
+RanOnNet o a b net0 net1 = (es : List Event) × Run o a es b × (times es ≡ []) × Told (calls es) net0 net1
 
 -- the same, where nothing was asked of the outside
 abbrev pub RanStill : Settings → Moment → Moment → Type 0

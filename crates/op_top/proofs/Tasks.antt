@@ -18,9 +18,8 @@ use Rattle.op_input.specs.Inputs.{IsMisconfigured}
 use Rattle.op_replay.specs.Answers.{AnswersReplay, Replays}
 use Rattle.op_serve.specs.Nodes as node
 use Rattle.op_types.specs.declared.events.Request.{Request}
-use Rattle.op_outside.specs.Seen.{SpawnerSeen, NetSeen, StreamSeen}
+use Rattle.op_outside.specs.Seen.{NetSeen, StreamSeen, SpawnerSeen}
 use Rattle.op_outside.specs.declared.net.Addr.{Addr}
-use Rattle.op_client.specs.Run as client
 use Rattle.op_call.specs.Calls as call
 use Rattle.op_top.specs.Clusters as cluster
 use Rattle.op_top.specs.Tasks.{Outside, Does, DoesTask, around_node, outside}

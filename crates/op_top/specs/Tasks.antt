@@ -1,7 +1,7 @@
 -- What the program does, by what the words ask.
 use Rattle.std.specs.Prelude.{◌≡◌, ◌⊎◌, [], ℕ, List, Option}
 use Rattle.op_outside.specs.Disks.{DiskState}
-use Rattle.op_outside.specs.Seen.{SpawnerSeen, StreamSeen, NetSeen}
+use Rattle.op_outside.specs.Seen.{NetSeen, StreamSeen, SpawnerSeen}
 use Rattle.op_setup.specs.Tasks.{IsTask, IsTaskOf}
 use Rattle.op_setup.specs.declared.tasks.Task.{Task}
 use Rattle.op_setup.specs.declared.tasks.Task.TheVariants.{Node, Replay, Call, Cluster}
