@@ -3,7 +3,7 @@ use Rattle.std.proofs.Common.{ℕ, List, ◌+◌, ◌≤◌, ◌⊎◌, inl, inr
 use Rattle.op_outside.specs.Causes.{last_count, Rises}
 use Rattle.op_setup.specs.declared.config.Settings.{Settings}
 use Rattle.op_loop.specs.Cores.{after_input, faulted}
-use Rattle.op_loop.specs.Rules.{Moment, Step, Event, goes_on, waits, waits_failing, is_early, is_due, is_above, is_met, dials, dials_in_vain, dials_failing, is_there, is_noted, is_turned_away, is_admitted, is_turned_out, drops, asks, has_asked, reads, reads_nothing, reads_end, reads_failing, feeds, feeds_not, has_no_frame, is_refused, is_client, is_peer_of, has_frame, has_no_room, meets, counts, gives_done, gives_faulted, gives_lost, sends, sends_hungry, sends_to_none, replies, answers, answers_hungry, tells_status, tells_no_status, finishes, has_settled, settles, closes, has_written, writes_next, has_greeted, has_no_hello, greets, greets_no_more, greets_end, greets_failing, has_poured, pours, pours_no_more, pours_end, pours_failing}
+use Rattle.op_loop.specs.Rules.{Moment, Step, Event, goes_on, waits, waits_failing, is_early, is_due, is_above, is_met, dials, dials_in_vain, dials_failing, is_there, is_noted, is_turned_away, is_admitted, is_turned_out, drops, asks, has_asked, reads, reads_nothing, reads_end, reads_failing, feeds, feeds_not, has_no_frame, is_refused, is_client, is_peer_of, has_frame, has_no_room, meets, counts, gives_done, gives_faulted, gives_lost, sends, sends_hungry, sends_to_none, replies, answers, answers_hungry, tells_status, tells_no_status, finishes, finishes_not, has_settled, settles, closes, has_written, writes_next, has_greeted, has_no_hello, greets, greets_no_more, greets_end, greets_failing, has_poured, pours, pours_no_more, pours_end, pours_failing}
 use Rattle.op_loop.specs.Run.{Run, none, more}
 use Rattle.op_loop.specs.Faulted.{faulted_in, faulted_steps, FaultsWithin}
 
@@ -30,7 +30,7 @@ goes_then f j g k h a b = record {
 step_goes : {o : Settings} {a b : Moment} {e : Event} → Step o a e b → Goes a.node_at.faults (faulted_in e) b.node_at.faults
 unfolding after_input faulted
 step_goes (goes_on {n = n} _ _) = same n.faults
-step_goes (waits {n = n}) = same n.faults
+step_goes (waits {n = n} _) = same n.faults
 step_goes (waits_failing {n = n}) = same n.faults
 step_goes (is_early {n = n} _) = same n.faults
 step_goes (is_due {n = n} _) = same n.faults
@@ -73,6 +73,7 @@ step_goes (answers_hungry {n = n}) = same n.faults
 step_goes (tells_status {n = n}) = same n.faults
 step_goes (tells_no_status {n = n}) = same n.faults
 step_goes (finishes {n = n}) = same n.faults
+step_goes (finishes_not {n = n}) = same n.faults
 step_goes (has_settled {n = n} _) = same n.faults
 step_goes (settles {n = n} _) = same n.faults
 step_goes (closes {n = n}) = same n.faults

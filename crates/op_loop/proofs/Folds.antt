@@ -3,7 +3,7 @@ use Rattle.std.proofs.Common.{◌≡◌, List, [], ◌∷◌, ◌++◌, refl, sy
 use Rattle.op_types.specs.declared.events.Input.{Input}
 use Rattle.op_setup.specs.declared.config.Settings.{Settings}
 use Rattle.op_loop.specs.Cores.{Standing}
-use Rattle.op_loop.specs.Rules.{Moment, Step, Event, Fate, goes_on, waits, waits_failing, is_early, is_due, is_above, is_met, dials, dials_in_vain, dials_failing, is_there, is_noted, is_turned_away, is_admitted, is_turned_out, drops, asks, has_asked, reads, reads_nothing, reads_end, reads_failing, feeds, feeds_not, has_no_frame, is_refused, is_client, is_peer_of, has_frame, has_no_room, meets, counts, gives_done, gives_faulted, gives_lost, sends, sends_hungry, sends_to_none, replies, answers, answers_hungry, tells_status, tells_no_status, finishes, has_settled, settles, closes, has_written, writes_next, has_greeted, has_no_hello, greets, greets_no_more, greets_end, greets_failing, has_poured, pours, pours_no_more, pours_end, pours_failing}
+use Rattle.op_loop.specs.Rules.{Moment, Step, Event, Fate, goes_on, waits, waits_failing, is_early, is_due, is_above, is_met, dials, dials_in_vain, dials_failing, is_there, is_noted, is_turned_away, is_admitted, is_turned_out, drops, asks, has_asked, reads, reads_nothing, reads_end, reads_failing, feeds, feeds_not, has_no_frame, is_refused, is_client, is_peer_of, has_frame, has_no_room, meets, counts, gives_done, gives_faulted, gives_lost, sends, sends_hungry, sends_to_none, replies, answers, answers_hungry, tells_status, tells_no_status, finishes, finishes_not, has_settled, settles, closes, has_written, writes_next, has_greeted, has_no_hello, greets, greets_no_more, greets_end, greets_failing, has_poured, pours, pours_no_more, pours_end, pours_failing}
 use Rattle.op_loop.specs.Run.{Run, none, more, input_of, inputs, after_fate, folded}
 
 folded_more : (n : Standing) (xs ys : List (Input × Fate)) → folded n (xs ++ ys) ≡ folded (folded n xs) ys
@@ -12,7 +12,7 @@ folded_more n (x ∷ xs) ys = folded_more (after_fate n x.0 x.1) xs ys
 
 step_is_fold : {o : Settings} {a b : Moment} {e : Event} → Step o a e b → b.node_at ≡ folded a.node_at (input_of e)
 step_is_fold (goes_on _ _) = refl
-step_is_fold waits = refl
+step_is_fold (waits _) = refl
 step_is_fold waits_failing = refl
 step_is_fold (is_early _) = refl
 step_is_fold (is_due _) = refl
@@ -55,6 +55,7 @@ step_is_fold answers_hungry = refl
 step_is_fold tells_status = refl
 step_is_fold tells_no_status = refl
 step_is_fold finishes = refl
+step_is_fold finishes_not = refl
 step_is_fold (has_settled _) = refl
 step_is_fold (settles _) = refl
 step_is_fold closes = refl

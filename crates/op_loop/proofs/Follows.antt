@@ -7,7 +7,6 @@ use Rattle.op_types.specs.declared.messages.Msg.{Msg}
 use Rattle.op_outside.specs.Nets.{Dialled, Waited, Readied, WasRead, Wrote, Closed, SawBytes, SawNotYet, SawEnd, SawFault}
 use Rattle.op_outside.specs.declared.net.Addr.{Addr}
 use Rattle.op_outside.specs.declared.net.Took.TheVariants as took
-use Rattle.op_command.specs.declared.said.Said.TheVariants as said
 use Rattle.op_frame.specs.Framing.{Stream, IsHead, fed, left}
 use Rattle.op_frame.proofs.Wholes.{one_frame, partial_is_none, too_long_is_none, too_long_apart}
 use Rattle.op_conns.specs.Tables.{queue_of, next_waiting}
@@ -18,7 +17,7 @@ use Rattle.op_loop.specs.Cores.{Standing, gives, after_input, faulted, status_te
 use Rattle.op_sessions.specs.Wire.{peer_head, client_head, peer_frame, client_frame}
 use Rattle.op_sessions.specs.State.{peer_limit, Loop, is_open, session_of, kind_at, hello, hello_len, marked, counted, frame_counted, turn_begun, at_happening, timed, timed_due, admitted, noted_at, forgotten, holding, held_by, no_stream, of_this_kind, hungry, waits_for, has_taken, with_session, left_by, told, asker_of, goes_to, goes_down, goes_up, hello_left, has_poured_out, first_hungry}
 use Rattle.op_loop.specs.Looks.{piece_len, client_limit, writes_place, Look, Looks, LooksAt, IsFront, nothing, refused, a_client, a_peer, whole, begun}
-use Rattle.op_loop.specs.Rules.{Task, Moment, at, Step, Event, net, clock, node, joins, queues, memory, quiet, done, faults, lost, turns, turn, time, dial, ask, admit, join, read, feed, frames, meet, count, give, send, reply, answer, status, finish, settle, close, drop, write, greet, pour, starved, broken, unless_full, of_happening, of_tick, of_peer, of_frame, of_given, of_fault, of_loss, of_asker, answered, waits_for_answer, no_command, of_end, of_hello, met, goes_on, waits, waits_failing, is_early, is_due, is_above, is_met, dials, dials_in_vain, dials_failing, is_there, is_noted, is_turned_away, is_admitted, is_turned_out, drops, asks, has_asked, reads, reads_nothing, reads_end, reads_failing, feeds, feeds_not, has_no_frame, is_refused, is_client, is_peer_of, has_frame, has_no_room, meets, counts, gives_done, gives_faulted, gives_lost, sends, sends_hungry, sends_to_none, replies, answers, answers_hungry, tells_status, tells_no_status, finishes, has_settled, settles, closes, has_written, writes_next, has_greeted, has_no_hello, greets, greets_no_more, greets_end, greets_failing, has_poured, pours, pours_no_more, pours_end, pours_failing}
+use Rattle.op_loop.specs.Rules.{Task, Moment, at, Step, Event, net, clock, node, joins, queues, memory, quiet, done, faults, lost, turns, turn, time, dial, ask, admit, join, read, feed, frames, meet, count, give, send, reply, answer, status, finish, settle, close, drop, write, greet, pour, starved, broken, unless_full, of_happening, of_tick, of_peer, of_frame, of_given, of_fault, of_loss, of_asker, answered, waits_for_answer, status_of, ended, of_end, of_hello, met, goes_on, waits, waits_failing, is_early, is_due, is_above, is_met, dials, dials_in_vain, dials_failing, is_there, is_noted, is_turned_away, is_admitted, is_turned_out, drops, asks, has_asked, reads, reads_nothing, reads_end, reads_failing, feeds, feeds_not, has_no_frame, is_refused, is_client, is_peer_of, has_frame, has_no_room, meets, counts, gives_done, gives_faulted, gives_lost, sends, sends_hungry, sends_to_none, replies, answers, answers_hungry, tells_status, tells_no_status, finishes, finishes_not, has_settled, settles, closes, has_written, writes_next, has_greeted, has_no_hello, greets, greets_no_more, greets_end, greets_failing, has_poured, pours, pours_no_more, pours_end, pours_failing}
 use Rattle.op_sessions.specs.State.{hello_rest}
 use Rattle.op_loop.specs.Run.{Run, none, more}
 use Rattle.op_loop.specs.Following.{Answer, was_dialled, was_waited, was_readied, was_seen, was_written, was_told, became, found, answer_of}
@@ -93,14 +92,14 @@ of_queued c bytes r s n (found true) = Some (queues c bytes, at r (waits_for c b
 of_queued c bytes r s n (found false) = Some (memory false, at r (with_session hungry c s) n)
 of_queued c bytes r s n _ = None
 
+of_finished : ℕ → List ℕ → List Task → Loop → Standing → Answer → Option (Event × Moment)
+of_finished c bytes r s n (found true) = Some (queues c bytes, at r (record (waits_for c bytes s) { ending = true }) n)
+of_finished c bytes r s n (found false) = Some (memory false, at r (with_session hungry c s) n)
+of_finished c bytes r s n _ = None
+
 of_sent : Option ℕ → ℕ × Msg → List Task → Loop → Standing → Answer → Option (Event × Moment)
 of_sent None m r s n x = Some (quiet, at r s n)
 of_sent (Some c) m r s n x = of_queued c (peer_frame s.me m.0 m.1) r s n x
-
-of_status : ℕ → List Task → Loop → Standing → Answer → Option (Event × Moment)
-of_status c r s n (found true) = Some (memory true, at (answer c (no_command (said.Status (status_text n.node))) ∷ r) s n)
-of_status c r s n (found false) = Some (memory false, at r (with_session hungry c s) n)
-of_status c r s n _ = None
 
 of_settled : Option ℕ → List Task → Loop → Standing → Option (Event × Moment)
 of_settled None r s n = Some (quiet, at r s n)
@@ -143,8 +142,8 @@ next_of o (give who i ∷ r) s n l x = of_fate who i r s n x
 next_of o (send m ∷ r) s n l x = of_sent (session_of m.0 s) m r s n x
 next_of o (reply y ∷ r) s n l x = Some (quiet, at (of_asker (goes_to (asker_of (y.client, y.seq) s.askers) s) (answered y) ++ r) (told (y.client, y.seq) s) n)
 next_of o (answer c y ∷ r) s n l x = of_queued c (client_frame y) r s n x
-next_of o (status c ∷ r) s n l x = of_status c r s n x
-next_of o (finish c ∷ r) s n l x = Some (quiet, at (answer c (no_command said.Ended) ∷ r) (record s { ending = true }) n)
+next_of o (status c ∷ r) s n l x = of_queued c (client_frame (status_of n)) r s n x
+next_of o (finish c ∷ r) s n l x = of_finished c (client_frame ended) r s n x
 next_of o (settle ∷ r) s n l x = of_settled (first_hungry s.sessions) r s n
 next_of o (close c ∷ r) s n l x = Some (net (Closed c), at (of_end (goes_down (kind_at c s)) ++ r) (left_by c s) n)
 next_of o (drop c ∷ r) s n l x = Some (net (Closed c), at r s n)
@@ -194,9 +193,9 @@ Sees _ s l = Unit {0}
 -- ---- the next event is a function of its answer
 
 step_next : {o : Settings} {a b : Moment} {e : Event} → Step o a e b → (l : Look) → Sees a.todo a.loop l → next_of o a.todo a.loop a.node_at l (answer_of e) ≡ Some (e, b)
-unfolding Sees next_of of_waited of_told of_dialled unless_met of_admitted of_joined of_readied of_seen of_fed of_whole of_look of_fate of_queued of_sent of_status of_settled of_waiting of_greeted of_poured
+unfolding Sees next_of of_waited of_told of_dialled unless_met of_admitted of_joined of_readied of_seen of_fed of_whole of_look of_fate of_queued of_finished of_sent of_settled of_waiting of_greeted of_poured
 step_next (goes_on {r = r} {s = s} {n = n} k _) l see = (let back : (k + 1) - 1 ≡ k = omega arith in ap (λ j. Some (quiet, at (turn ∷ turns j ∷ r) s n)) back)
-step_next waits l see = refl
+step_next (waits _) l see = refl
 step_next waits_failing l see = refl
 step_next (is_early {s = s} {t = t} lt) l see = rw (lt-ltb t s.due lt) refl
 step_next (is_due {s = s} {t = t} le) l see = rw (le-ltb t s.due le) refl
@@ -239,6 +238,7 @@ step_next answers_hungry l see = refl
 step_next tells_status l see = refl
 step_next tells_no_status l see = refl
 step_next finishes l see = refl
+step_next finishes_not l see = refl
 step_next (has_settled e) l see = rw e refl
 step_next (settles e) l see = rw e refl
 step_next closes l see = refl
@@ -259,7 +259,7 @@ step_next (pours_failing {s = s} {c = c} lt) l see = rw (lt-ltb 0 (length (queue
 seen_in_step : {o : Settings} {a b : Moment} {e : Event} → Step o a e b → (l : Look) × Sees a.todo a.loop l
 unfolding Sees
 seen_in_step (goes_on _ _) = (nothing, tt)
-seen_in_step waits = (nothing, tt)
+seen_in_step (waits _) = (nothing, tt)
 seen_in_step waits_failing = (nothing, tt)
 seen_in_step (is_early _) = (nothing, tt)
 seen_in_step (is_due _) = (nothing, tt)
@@ -302,6 +302,7 @@ seen_in_step answers_hungry = (nothing, tt)
 seen_in_step tells_status = (nothing, tt)
 seen_in_step tells_no_status = (nothing, tt)
 seen_in_step finishes = (nothing, tt)
+seen_in_step finishes_not = (nothing, tt)
 seen_in_step (has_settled _) = (nothing, tt)
 seen_in_step (settles _) = (nothing, tt)
 seen_in_step closes = (nothing, tt)

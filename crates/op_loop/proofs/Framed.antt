@@ -9,12 +9,12 @@ use Rattle.op_setup.specs.declared.config.Settings.{Settings}
 use Rattle.op_loop.specs.declared.hearing.Heard.{Heard}
 use Rattle.op_sessions.specs.declared.kind.Kind.{Kind}
 use Rattle.op_sessions.specs.declared.kind.Kind.TheVariants.{Unknown, Peer, Client}
-use Rattle.op_command.specs.declared.said.Said.TheVariants as said
-use Rattle.op_loop.specs.Cores.{Standing, status_text}
-use Rattle.op_sessions.specs.Wire.{peer_head, client_head}
-use Rattle.op_sessions.specs.State.{peer_limit, Loop, most_marks, hello_len, kind_at, is_peer, session_of, greeting, silent, client, peer, strange, holding, with_session, of_this_kind, linked, marked, frame_counted, hungry}
+use Rattle.op_command.specs.declared.reply.ClientReply.{ClientReply}
+use Rattle.op_loop.specs.Cores.{Standing}
+use Rattle.op_sessions.specs.Wire.{peer_head, client_head, client_frame}
+use Rattle.op_sessions.specs.State.{peer_limit, Loop, most_marks, hello_len, kind_at, is_peer, session_of, greeting, silent, client, peer, strange, holding, with_session, of_this_kind, linked, marked, frame_counted, hungry, waits_for}
 use Rattle.op_loop.specs.Looks.{client_limit, Look, Looks, LooksAt, IsFront, IsFramed, nothing, refused, a_client, a_peer, whole, of_greeting, known, begun}
-use Rattle.op_loop.specs.Rules.{Task, Moment, at, frames, close, meet, settle, count, give, starved, answer, finish, status, no_command, finishes, tells_status, tells_no_status, unless_full, replaced, of_peer, of_body, of_frame, has_no_frame, is_refused, is_client, is_peer_of, has_frame, has_no_room, meets, counts}
+use Rattle.op_loop.specs.Rules.{Task, Moment, at, frames, close, meet, settle, count, give, starved, finish, status, status_of, ended, finishes, finishes_not, tells_status, tells_no_status, unless_full, replaced, of_peer, of_body, of_frame, has_no_frame, is_refused, is_client, is_peer_of, has_frame, has_no_room, meets, counts}
 use Rattle.op_loop.specs.Hearing.{of_heard}
 use Rattle.op_loop.specs.Run.{RanStill, RanOnNet, frames_left, StopsAt}
 use Rattle.op_loop.specs.Run.{left as out}
@@ -139,17 +139,21 @@ peer_tasks c q s r b o n n0 n1 p = subst (λ w. RanOnNet o (at w s n) b n0 n1) (
 
 -- ---- what a client asks
 
-pub finished : (o : Settings) (s t : Loop) (n : Standing) (r : List Task) (c : ℕ) → t ≡ record s { ending = true }
-    → RanStill o (at (finish c ∷ r) s n) (at (answer c (no_command said.Ended) ∷ r) t n)
-finished o s t n r c e = rw e (quietly finishes)
+pub finished : (o : Settings) (s t u : Loop) (n : Standing) (r : List Task) (c : ℕ) (told : ClientReply) → told ≡ ended
+    → t ≡ waits_for c (client_frame told) s → u ≡ record t { ending = true } → RanStill o (at (finish c ∷ r) s n) (at r u n)
+finished o s t u n r c told is e f = rw (f, e, is) (given_to finishes refl refl)
 
-pub status_told : (o : Settings) (s : Loop) (n : Standing) (r : List Task) (c : ℕ) (line : List ℕ) → line ≡ status_text n.node
-    → RanStill o (at (status c ∷ r) s n) (at (answer c (no_command (said.Status line)) ∷ r) s n)
-status_told o s n r c line e = rw e (given_to tells_status refl refl)
+pub finished_not : (o : Settings) (s t u : Loop) (n : Standing) (r : List Task) (c : ℕ) → t ≡ s → u ≡ with_session hungry c t
+    → RanStill o (at (finish c ∷ r) s n) (at r u n)
+finished_not o s t u n r c e f = rw (f, e) (given_to finishes_not refl refl)
 
-pub status_hungry : (o : Settings) (s t : Loop) (n : Standing) (r : List Task) (c : ℕ) → t ≡ with_session hungry c s
+pub status_told : (o : Settings) (s t : Loop) (n : Standing) (r : List Task) (c : ℕ) → t ≡ waits_for c (client_frame (status_of n)) s
     → RanStill o (at (status c ∷ r) s n) (at r t n)
-status_hungry o s t n r c e = rw e (given_to tells_no_status refl refl)
+status_told o s t n r c e = rw e (given_to tells_status refl refl)
+
+pub status_hungry : (o : Settings) (s t u : Loop) (n : Standing) (r : List Task) (c : ℕ) → t ≡ s → u ≡ with_session hungry c t
+    → RanStill o (at (status c ∷ r) s n) (at r u n)
+status_hungry o s t u n r c e f = rw (f, e) (given_to tells_no_status refl refl)
 
 pub over_of : (m : More) → (m ≡ Yes → ⊥) → (m ≡ No → ⊥) → m ≡ Over
 over_of Yes y n = absurd (y refl)

@@ -26,7 +26,7 @@ use Rattle.op_loop.specs.Cores.{Standing, gives}
 use Rattle.op_sessions.specs.State.{peer_limit, Loop, most_marks, marked, unlinked, find, admitted, asked, is_open, at_happening, forgotten, session_of, hello_len, counted, goes_to, asker_of, goes_down, goes_up, kind_at, left_by}
 use Rattle.op_loop.specs.Looks.{begun}
 use Rattle.op_sessions.specs.Wire.{peer_head, message_in, request_in}
-use Rattle.op_loop.specs.Rules.{Task, Moment, at, Step, Event, starved, broken, send, reply, dial, turns, admit, read, close, drop, meet, settle, count, frames, give, ask, answered, of_given, of_peer, of_frame, unless_full, of_happening, of_outcome, of_refusal, refusal_of, of_fault, of_loss, of_asker, of_end, of_hello, of_body, of_message, of_request, replaced, waits_for_answer, waits_unless, goes_on, waits, waits_failing, is_early, is_due, is_above, is_met, dials, dials_in_vain, dials_failing, is_there, is_noted, is_turned_away, is_admitted, is_turned_out, drops, asks, has_asked, reads, reads_nothing, reads_end, reads_failing, feeds, feeds_not, has_no_frame, is_refused, is_client, is_peer_of, has_frame, has_no_room, meets, counts, gives_done, gives_faulted, gives_lost, sends, sends_hungry, sends_to_none, replies, answers, answers_hungry, tells_status, tells_no_status, finishes, has_settled, settles, closes, has_written, writes_next, has_greeted, has_no_hello, greets, greets_no_more, greets_end, greets_failing, has_poured, pours, pours_no_more, pours_end, pours_failing}
+use Rattle.op_loop.specs.Rules.{Task, Moment, at, Step, Event, starved, broken, send, reply, dial, turns, admit, read, close, drop, meet, settle, count, frames, give, ask, answered, of_given, of_peer, of_frame, unless_full, of_happening, of_outcome, of_refusal, refusal_of, of_fault, of_loss, of_asker, of_end, of_hello, of_body, of_message, of_request, replaced, waits_for_answer, waits_unless, goes_on, waits, waits_failing, is_early, is_due, is_above, is_met, dials, dials_in_vain, dials_failing, is_there, is_noted, is_turned_away, is_admitted, is_turned_out, drops, asks, has_asked, reads, reads_nothing, reads_end, reads_failing, feeds, feeds_not, has_no_frame, is_refused, is_client, is_peer_of, has_frame, has_no_room, meets, counts, gives_done, gives_faulted, gives_lost, sends, sends_hungry, sends_to_none, replies, answers, answers_hungry, tells_status, tells_no_status, finishes, finishes_not, has_settled, settles, closes, has_written, writes_next, has_greeted, has_no_hello, greets, greets_no_more, greets_end, greets_failing, has_poured, pours, pours_no_more, pours_end, pours_failing}
 use Rattle.op_loop.specs.Run.{Run, none, more, calls, call_of}
 use Rattle.op_loop.specs.Serving.{EndsAt, Faults, Marks}
 use Rattle.op_loop.specs.declared.serve_end.ServeEnd.{ServeEnd}
@@ -223,7 +223,7 @@ after_counted todo t f = elim (cases_Bool (nat_lt (length t.lost) most_marks)) [
 step_after : {o : Settings} {a b : Moment} {e : Event} → Step o a e b → Free a.todo → stops a.loop ≡ false → After (has_failed (call_of e)) b.todo b.loop
 unfolding Free has_stop is_stop stops
 step_after (goes_on _ _) f g = on f g refl
-step_after waits f g = on f g refl
+step_after (waits _) f g = on f g refl
 step_after waits_failing f g = cut refl g refl
 step_after (is_early _) f g = on f g refl
 step_after {o = o} (is_due {r = r} {s = s} {n = n} {k = k} {t = t} _) f g = on (free_both (map dial o.peers) (ask 0 k ∷ r) (free_dials o.peers) f) g refl
@@ -268,6 +268,7 @@ step_after answers_hungry f g = on f g refl
 step_after tells_status f g = on f g refl
 step_after tells_no_status f g = on f g refl
 step_after finishes f g = on f g refl
+step_after finishes_not f g = on f g refl
 step_after (has_settled _) f g = on f g refl
 step_after (settles {r = r} {s = s} {n = n} {c = c} _) f g = after_mark (close c ∷ settle ∷ r) (marked (Some c) s) f
 step_after (closes {r = r} {s = s} {n = n} {c = c}) f g = on (free_both (of_end (goes_down (kind_at c s))) r (free_end (goes_down (kind_at c s))) f) (stops_same s (left_by c s) (unlinked_lost (find c s.sessions) s) g) refl
@@ -289,7 +290,7 @@ step_after (pours_failing _) f g = cut refl g refl
 no_stop : {o : Settings} {a b : Moment} {e : Event} → Step o a e b → first_stops a.todo ≡ false
 unfolding first_stops is_stop
 no_stop (goes_on _ _) = refl
-no_stop waits = refl
+no_stop (waits _) = refl
 no_stop waits_failing = refl
 no_stop (is_early _) = refl
 no_stop (is_due _) = refl
@@ -332,6 +333,7 @@ no_stop answers_hungry = refl
 no_stop tells_status = refl
 no_stop tells_no_status = refl
 no_stop finishes = refl
+no_stop finishes_not = refl
 no_stop (has_settled _) = refl
 no_stop (settles _) = refl
 no_stop closes = refl

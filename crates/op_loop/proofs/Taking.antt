@@ -24,7 +24,7 @@ use Rattle.op_sessions.specs.Wire.{peer_head, peer_frame, client_frame}
 use Rattle.op_sessions.specs.State.{peer_limit, Loop, Table, fresh, put, most_marks, marked, unlinked, find, entry_changed, with_session, admitted, joined, asked, is_open, at_happening, forgotten, noted_at, hello, hello_len, hello_left, hello_rest, hello_less, counted, frame_counted, told, goes_to, asker_of, goes_down, goes_up, kind_at, left_by, waits_for, has_taken, hungry, holding, no_stream, stream_for, of_this_kind}
 use Rattle.op_loop.specs.Cores.{Standing, gives}
 use Rattle.op_loop.specs.Looks.{begun}
-use Rattle.op_loop.specs.Rules.{Task, Moment, at, Step, Event, net, turns, dial, ask, admit, join, read, frames, settle, close, drop as drop_conn, answered, of_given, of_peer, of_frame, unless_full, of_happening, if_open, refusal_of, of_fault, of_loss, of_asker, of_end, of_hello, waits_for_answer, waits_unless, goes_on, waits, waits_failing, is_early, is_due, is_above, is_met, dials, dials_in_vain, dials_failing, is_there, is_noted, is_turned_away, is_admitted, is_turned_out, drops, asks, has_asked, reads, reads_nothing, reads_end, reads_failing, feeds, feeds_not, has_no_frame, is_refused, is_client, is_peer_of, has_frame, has_no_room, meets, counts, gives_done, gives_faulted, gives_lost, sends, sends_hungry, sends_to_none, replies, answers, answers_hungry, tells_status, tells_no_status, finishes, has_settled, settles, closes, has_written, writes_next, has_greeted, has_no_hello, greets, greets_no_more, greets_end, greets_failing, has_poured, pours, pours_no_more, pours_end, pours_failing}
+use Rattle.op_loop.specs.Rules.{Task, Moment, at, Step, Event, status_of, ended, net, turns, dial, ask, admit, join, read, frames, settle, close, drop as drop_conn, answered, of_given, of_peer, of_frame, unless_full, of_happening, if_open, refusal_of, of_fault, of_loss, of_asker, of_end, of_hello, waits_for_answer, waits_unless, goes_on, waits, waits_failing, is_early, is_due, is_above, is_met, dials, dials_in_vain, dials_failing, is_there, is_noted, is_turned_away, is_admitted, is_turned_out, drops, asks, has_asked, reads, reads_nothing, reads_end, reads_failing, feeds, feeds_not, has_no_frame, is_refused, is_client, is_peer_of, has_frame, has_no_room, meets, counts, gives_done, gives_faulted, gives_lost, sends, sends_hungry, sends_to_none, replies, answers, answers_hungry, tells_status, tells_no_status, finishes, finishes_not, has_settled, settles, closes, has_written, writes_next, has_greeted, has_no_hello, greets, greets_no_more, greets_end, greets_failing, has_poured, pours, pours_no_more, pours_end, pours_failing}
 use Rattle.op_loop.specs.Run.{Run, none, more}
 use Rattle.op_loop.specs.Serving.{knowing, started}
 use Rattle.op_loop.specs.Taking.{Traffic, at_joining, and_then, traffic_from, no_traffic, traffic, TakesInOrder}
@@ -366,7 +366,7 @@ module _ (me c : ℕ) where
   step : {o : Settings} (t : Traffic) {a b : Moment} {e : Event} → Step o a e b → Stage me c t a.todo a.loop → Stage me c (and_then me c t e) b.todo b.loop
   unfolding Plain has_new is_new
   step t (goes_on _ _) g = g
-  step t waits g = g
+  step t (waits _) g = g
   step t waits_failing g = (refl, g.1)
   step t (is_early _) g = g
   step {o = o} t (is_due {r = r} {s = s} {n = n} {k = k} {t = now} _) g = (plain_both (map dial o.peers) (ask 0 k ∷ r) (plain_dials o.peers) g.0, g.1)
@@ -429,9 +429,14 @@ module _ (me c : ℕ) where
       calmly t (told (x.client, x.seq) s) (of_asker who (answered x) ++ r) (plain_both (of_asker who (answered x)) r (plain_asker who (answered x)) g.0) g.1
   step t (answers {r = r} {s = s} {n = n} {c = d} {x = x}) g = calmly (if d == c then record t { queued = t.queued ++ client_frame x } else t) (waits_for d (client_frame x) s) r g.0 (kept_queued s d (client_frame x) g.1)
   step t (answers_hungry {r = r} {s = s} {n = n} {c = d}) g = calmly t (with_session hungry d s) r g.0 (kept_changed s hungry d g.1)
-  step t tells_status g = g
+  step t (tells_status {r = r} {s = s} {n = n} {c = d}) g =
+      let frame = client_frame (status_of n) in
+      calmly (if d == c then record t { queued = t.queued ++ frame } else t) (waits_for d frame s) r g.0 (kept_queued s d frame g.1)
   step t (tells_no_status {r = r} {s = s} {n = n} {c = d}) g = calmly t (with_session hungry d s) r g.0 (kept_changed s hungry d g.1)
-  step t finishes g = g
+  step t (finishes {r = r} {s = s} {n = n} {c = d}) g =
+      let frame = client_frame ended in
+      calmly (if d == c then record t { queued = t.queued ++ frame } else t) (record (waits_for d frame s) { ending = true }) r g.0 (kept_queued s d frame g.1)
+  step t (finishes_not {r = r} {s = s} {n = n} {c = d}) g = calmly t (with_session hungry d s) r g.0 (kept_changed s hungry d g.1)
   step t (has_settled {r = r} {s = s} _) g = calmly t s r g.0 g.1
   step t (settles {r = r} {s = s} {n = n} {c = d} _) g =
       let k = kept_marked (Some d) s g.1 in unless_stops t (marked (Some d) s) (marked (Some d) s) (close d ∷ settle ∷ r) (g.0, k) k

@@ -2,7 +2,7 @@
 use Rattle.std.proofs.Common.{◌≡◌, ℕ, List, [], ◌∷◌, ◌++◌, ◌+◌, ◌<◌, ◌≤◌, Option, Some, None, refl, sym, subst, length, map, Result, true, false, ◌-◌, arith, Ok, Err, OnErr}
 use Rattle.op_types.specs.declared.events.Input.TheVariants as input
 use Rattle.op_outside.specs.Causes.{Rises}
-use Rattle.op_outside.specs.Nets.{Closed, Dialled, Readied, Waited}
+use Rattle.op_outside.specs.Nets.{most_happenings, Closed, Dialled, Readied, Waited}
 use Rattle.op_outside.specs.Seen.{NetSeen}
 use Rattle.op_outside.specs.Telling.{Grows}
 use Rattle.op_outside.specs.declared.net.Addr.{Addr}
@@ -87,9 +87,9 @@ pub due_then : (o : Settings) (s t : Loop) (n : Standing) (k now : ℕ) (r : Lis
 due_then o s t n k now r n0 n1 le e (es, q, z, g) = (es, more (is_due le) (rw (← e) q), z, g)
 
 -- a turn begins
-pub waited_for : (o : Settings) (s t : Loop) (n : Standing) (k ms : ℕ) (r : List Task) (n0 n1 : NetSeen) → ms ≡ s.due - s.last → t ≡ turn_begun s → Grows n0.0 (Waited ms (Some k) ∷ []) n1.0 → n1.1 ≡ n0.1
+pub waited_for : (o : Settings) (s t : Loop) (n : Standing) (k ms : ℕ) (r : List Task) (n0 n1 : NetSeen) → k ≤ most_happenings → ms ≡ s.due - s.last → t ≡ turn_begun s → Grows n0.0 (Waited ms (Some k) ∷ []) n1.0 → n1.1 ≡ n0.1
     → RanOnNet o (at (turn ∷ r) s n) (at (time k ∷ r) t n) n0 n1
-waited_for o s t n k ms r n0 n1 e f g same = rw f (net_call n0 n1 waits (subst (λ m. Grows n0.0 (Waited m (Some k) ∷ []) n1.0) e g) same)
+waited_for o s t n k ms r n0 n1 most e f g same = rw f (net_call n0 n1 (waits most) (subst (λ m. Grows n0.0 (Waited m (Some k) ∷ []) n1.0) e g) same)
 
 pub waited_failing : (o : Settings) (s t : Loop) (n : Standing) (ms : ℕ) (r : List Task) (n0 n1 : NetSeen) → ms ≡ s.due - s.last → t ≡ turn_begun s → Grows n0.0 (Waited ms None ∷ []) n1.0 → Rises n0.1 n1.1
     → RanOnNet o (at (turn ∷ r) s n) (at (broken ∷ []) t n) n0 n1

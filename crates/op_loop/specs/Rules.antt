@@ -10,7 +10,7 @@ use Rattle.op_types.specs.declared.events.Input.TheVariants as input
 use Rattle.op_types.specs.declared.log.Command.{Command}
 use Rattle.op_types.specs.declared.messages.Msg.{Msg}
 use Rattle.op_outside.specs.Causes.{Rises}
-use Rattle.op_outside.specs.Nets.{Call, Dialled, Waited, Readied, WasRead, Wrote, Closed, SawBytes, SawNotYet, SawEnd, SawFault}
+use Rattle.op_outside.specs.Nets.{most_happenings, Call, Dialled, Waited, Readied, WasRead, Wrote, Closed, SawBytes, SawNotYet, SawEnd, SawFault}
 use Rattle.op_outside.specs.declared.net.Addr.{Addr}
 use Rattle.op_outside.specs.declared.net.Happening.{Happening}
 use Rattle.op_outside.specs.declared.net.Happening.TheVariants.{Accepted, Readable, Writable, Ended}
@@ -110,6 +110,14 @@ of_message me q c (Ok m) = if (m.0 == q) && (m.1 == me) then give None (input.De
 -- what is said of no command
 abbrev pub no_command : Said → ClientReply
 no_command x = record { client = 0; seq = 0; said = x }
+
+-- where a node stands, as a client is told
+abbrev pub status_of : Standing → ClientReply
+status_of n = no_command (said.Status (status_text n.node))
+
+-- what whoever asks for the end is told
+abbrev pub ended : ClientReply
+ended = no_command said.Ended
 
 -- what a client asks
 abbrev pub of_request : ℕ → Result Request ℕ → List Task
@@ -222,7 +230,7 @@ at todo s n = record { todo = todo; loop = s; node_at = n }
 pub data Step (o : Settings) : Moment → Event → Moment → Type 0 where
   goes_on : {r : List Task} {s : Loop} {n : Standing} (k : ℕ) → s.ending ≡ false
       → Step o (at (turns (k + 1) ∷ r) s n) quiet (at (turn ∷ turns k ∷ r) s n)
-  waits : {r : List Task} {s : Loop} {n : Standing} {k : ℕ}
+  waits : {r : List Task} {s : Loop} {n : Standing} {k : ℕ} → k ≤ most_happenings
       → Step o (at (turn ∷ r) s n) (net (Waited (s.due - s.last) (Some k))) (at (time k ∷ r) (turn_begun s) n)
   waits_failing : {r : List Task} {s : Loop} {n : Standing}
       → Step o (at (turn ∷ r) s n) (net (Waited (s.due - s.last) None)) (at (broken ∷ []) (turn_begun s) n)
@@ -336,13 +344,16 @@ pub data Step (o : Settings) : Moment → Event → Moment → Type 0 where
   answers_hungry : {r : List Task} {s : Loop} {n : Standing} {c : ℕ} {x : ClientReply}
       → Step o (at (answer c x ∷ r) s n) (memory false) (at r (with_session hungry c s) n)
   tells_status : {r : List Task} {s : Loop} {n : Standing} {c : ℕ}
-      → Step o (at (status c ∷ r) s n) (memory true)
-      (at (answer c (no_command (said.Status (status_text n.node))) ∷ r) s n)
+      → Step o (at (status c ∷ r) s n) (queues c (client_frame (status_of n)))
+      (at r (waits_for c (client_frame (status_of n)) s) n)
   tells_no_status : {r : List Task} {s : Loop} {n : Standing} {c : ℕ}
       → Step o (at (status c ∷ r) s n) (memory false) (at r (with_session hungry c s) n)
+  -- an end request counts as read once its answer waits
   finishes : {r : List Task} {s : Loop} {n : Standing} {c : ℕ}
-      → Step o (at (finish c ∷ r) s n) quiet
-      (at (answer c (no_command said.Ended) ∷ r) (record s { ending = true }) n)
+      → Step o (at (finish c ∷ r) s n) (queues c (client_frame ended))
+      (at r (record (waits_for c (client_frame ended) s) { ending = true }) n)
+  finishes_not : {r : List Task} {s : Loop} {n : Standing} {c : ℕ}
+      → Step o (at (finish c ∷ r) s n) (memory false) (at r (with_session hungry c s) n)
   -- sessions end
   has_settled : {r : List Task} {s : Loop} {n : Standing} → first_hungry s.sessions ≡ None
       → Step o (at (settle ∷ r) s n) quiet (at r s n)

@@ -1,12 +1,13 @@
-ghost use Rattle.std.specs.Prelude.{◌≡◌, ◌≤◌, ◌<◌, [], ◌∷◌, ℕ, List, length, Some, None, Ok, Err, OnOk, IfOk, IfErr};
+ghost use Rattle.std.specs.Prelude.{◌≡◌, ◌≤◌, ◌<◌, [], ◌∷◌, ℕ, List, length, Some, None, Ok, Err, OnOk, OnErr, IfOk, IfErr};
 ghost use Rattle.op_types.specs.Ranges.{IsPid};
 ghost use Rattle.op_frame.specs.Framing.{Stream, IsHead, Stops};
 ghost use Rattle.op_frame.specs.declared.frames.NextFail.TheVariants.{NotYet};
 ghost use Rattle.op_setup.specs.declared.config.Settings.{Settings};
 ghost use Rattle.op_command.specs.Ranges.{RequestInRange, most_line_bytes};
 ghost use Rattle.op_loop.specs.Cores.{status_text};
-ghost use Rattle.op_loop.specs.Rules.{Task, read, feed, frames, meet, close, settle, status, of_peer, replaced, of_request, no_command};
-ghost use Rattle.op_sessions.specs.State.{kind_at, session_of};
+ghost use Rattle.op_loop.specs.Rules.{Task, read, feed, frames, meet, close, settle, status, status_of, finish, of_peer, replaced, of_request, no_command};
+ghost use Rattle.op_sessions.specs.State.{kind_at, session_of, waits_for};
+ghost use Rattle.op_sessions.specs.Wire.{client_frame};
 ghost use Rattle.op_loop.specs.Looks.{Look, Looks, refused, whole, IsFramed};
 ghost use Rattle.op_loop.specs.Hearing.{of_heard, HeardInRange, TakesFrame};
 ghost use Rattle.op_loop.specs.Run.{Does, DoesFrames, StopsAt, Still, StillDoes};
@@ -352,10 +353,20 @@ fn take_request<K: Core>(
             Ok(())
         }
         Request::End => {
-            server.end();
-            answer_at(server, conn, &of_no_command(Said::Ended));
+            finish(server, conn);
             Ok(())
         }
+    }
+}
+
+/// An end request counts as read once its answer waits. Where that finds no memory, its session is closed for it.
+fn finish(server: &mut Server, conn: Conn)
+    ensures does { (o : Settings) (n : Standing) →
+        Still o (finish conn ∷ []) server.old n server.new n }
+{
+    match server.queue_reply(conn, &of_no_command(Said::Ended)) {
+        Ok(()) => server.end(),
+        Err(_) => server.starve(conn),
     }
 }
 
@@ -376,10 +387,21 @@ fn tell_status<K: Core>(server: &mut Server, core: &K, conn: Conn)
     ensures does { (o : Settings) → Still o (status conn ∷ [])
         server.old (K.standing core.now) server.new (K.standing core.now) }
 {
-    match short_line(core, server.alloc()) {
-        Ok(line) => answer_at(server, conn, &of_no_command(Said::Status(line))),
+    match queue_status(server, core, conn) {
+        Ok(()) => {}
         Err(_) => server.starve(conn),
     }
+}
+
+/// Where the node stands waits for a client. Without memory nothing changes.
+fn queue_status<K: Core>(server: &mut Server, core: &K, conn: Conn) -> Result<(), NoMemory>
+    requires { K.ready core.now }
+    ensures ok { OnOk result (server.new ≡
+        waits_for conn (client_frame (status_of (K.standing core.now))) server.old) }
+    ensures err { OnErr result (server.new ≡ server.old) }
+{
+    let line = short_line(core, server.alloc())?;
+    server.queue_reply(conn, &of_no_command(Said::Status(line)))
 }
 
 /// Where the node stands, as a reply has room for it.
