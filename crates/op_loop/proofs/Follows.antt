@@ -13,7 +13,7 @@ use Rattle.op_conns.specs.Tables.{queue_of, next_waiting}
 use Rattle.op_setup.specs.declared.config.Settings.{Settings}
 use Rattle.op_sessions.specs.declared.kind.Kind.{Kind}
 use Rattle.op_sessions.specs.declared.kind.Kind.TheVariants.{Unknown, Peer, Client}
-use Rattle.op_loop.specs.Cores.{Standing, gives, after_input, faulted, status_text}
+use Rattle.op_loop.specs.Cores.{Standing, gives, after_input, faulted}
 use Rattle.op_sessions.specs.Wire.{peer_head, client_head, peer_frame, client_frame}
 use Rattle.op_sessions.specs.State.{peer_limit, Loop, is_open, session_of, kind_at, hello, hello_len, marked, counted, frame_counted, turn_begun, at_happening, timed, timed_due, admitted, noted_at, forgotten, holding, held_by, no_stream, of_this_kind, hungry, waits_for, has_taken, with_session, left_by, told, asker_of, goes_to, goes_down, goes_up, hello_left, has_poured_out, first_hungry}
 use Rattle.op_loop.specs.Looks.{piece_len, client_limit, writes_place, Look, Looks, LooksAt, IsFront, nothing, refused, a_client, a_peer, whole, begun}
@@ -22,101 +22,101 @@ use Rattle.op_sessions.specs.State.{hello_rest}
 use Rattle.op_loop.specs.Run.{Run, none, more}
 use Rattle.op_loop.specs.Following.{Answer, was_dialled, was_waited, was_readied, was_seen, was_written, was_told, became, found, answer_of}
 
-of_waited : List Task → Loop → Standing → Answer → Option (Event × Moment)
+unfoldable pub of_waited : List Task → Loop → Standing → Answer → Option (Event × Moment)
 of_waited r s n (was_waited (Some k)) = Some (net (Waited (s.due - s.last) (Some k)), at (time k ∷ r) (turn_begun s) n)
 of_waited r s n (was_waited None) = Some (net (Waited (s.due - s.last) None), at (broken ∷ []) (turn_begun s) n)
 of_waited r s n _ = None
 
-of_told : Settings → ℕ → List Task → Loop → Standing → Answer → Option (Event × Moment)
+unfoldable pub of_told : Settings → ℕ → List Task → Loop → Standing → Answer → Option (Event × Moment)
 of_told o k r s n (was_told t) =
     if nat_lt t s.due then Some (clock t, at (ask 0 k ∷ r) (timed t s) n)
     else Some (clock t, at (of_tick o ++ ask 0 k ∷ r) (timed_due o.tick_ms t s) n)
 of_told o k r s n _ = None
 
-of_dialled : ℕ × Addr → List Task → Loop → Standing → Answer → Option (Event × Moment)
+unfoldable pub of_dialled : ℕ × Addr → List Task → Loop → Standing → Answer → Option (Event × Moment)
 of_dialled p r s n (was_dialled (Some (Some c))) = Some (net (Dialled p.1 (Some (Some c))), at (admit c (Peer p.0 hello_len) (hello s.me) ∷ r) s n)
 of_dialled p r s n (was_dialled (Some None)) = Some (net (Dialled p.1 (Some None)), at r s n)
 of_dialled p r s n (was_dialled None) = Some (net (Dialled p.1 None), at (broken ∷ []) s n)
 of_dialled p r s n _ = None
 
-unless_met : Option ℕ → ℕ × Addr → List Task → Loop → Standing → Answer → Option (Event × Moment)
+unfoldable pub unless_met : Option ℕ → ℕ × Addr → List Task → Loop → Standing → Answer → Option (Event × Moment)
 unless_met (Some c) p r s n x = Some (quiet, at r s n)
 unless_met None p r s n x = of_dialled p r s n x
 
-of_admitted : ℕ → Kind → List ℕ → List Task → Loop → Standing → Answer → Option (Event × Moment)
+unfoldable pub of_admitted : ℕ → Kind → List ℕ → List Task → Loop → Standing → Answer → Option (Event × Moment)
 of_admitted c k bytes r s n (found true) = Some (memory true, at (join c k bytes ∷ r) (noted_at c s) n)
 of_admitted c k bytes r s n (found false) = Some (memory false, at (unless_full (marked (Some c) s) (drop c ∷ r)) (marked (Some c) s) n)
 of_admitted c k bytes r s n _ = None
 
-of_joined : ℕ → Kind → List ℕ → List Task → Loop → Standing → Answer → Option (Event × Moment)
+unfoldable pub of_joined : ℕ → Kind → List ℕ → List Task → Loop → Standing → Answer → Option (Event × Moment)
 of_joined c k bytes r s n (found true) = Some (joins c bytes, at r (admitted c k bytes s) n)
 of_joined c k bytes r s n (found false) = Some (memory false, at (unless_full (marked (Some c) (forgotten c s)) (drop c ∷ r)) (marked (Some c) (forgotten c s)) n)
 of_joined c k bytes r s n _ = None
 
-of_readied : ℕ → ℕ → List Task → Loop → Standing → Answer → Option (Event × Moment)
+unfoldable pub of_readied : ℕ → ℕ → List Task → Loop → Standing → Answer → Option (Event × Moment)
 of_readied i k r s n (was_readied h) = Some (net (Readied i h), at (of_happening h (at_happening (i + 1) s) ++ settle ∷ ask (i + 1) k ∷ r) (at_happening (i + 1) s) n)
 of_readied i k r s n _ = None
 
-of_seen : ℕ → List Task → Loop → Standing → Answer → Option (Event × Moment)
+unfoldable pub of_seen : ℕ → List Task → Loop → Standing → Answer → Option (Event × Moment)
 of_seen c r s n (was_seen (SawBytes bs)) = Some (net (WasRead c piece_len (SawBytes bs)), at (feed c bs ∷ r) s n)
 of_seen c r s n (was_seen SawNotYet) = Some (net (WasRead c piece_len SawNotYet), at r s n)
 of_seen c r s n (was_seen SawEnd) = Some (net (WasRead c piece_len SawEnd), at (close c ∷ r) s n)
 of_seen c r s n (was_seen SawFault) = Some (net (WasRead c piece_len SawFault), at (broken ∷ []) s n)
 of_seen c r s n _ = None
 
-of_fed : ℕ → List ℕ → List Task → Loop → Standing → Answer → Option (Event × Moment)
+unfoldable pub of_fed : ℕ → List ℕ → List Task → Loop → Standing → Answer → Option (Event × Moment)
 of_fed c bs r s n (found true) = Some (memory true, at (frames c (fed (held_by c s) bs) ∷ r) (with_session (holding no_stream) c s) n)
 of_fed c bs r s n (found false) = Some (memory false, at (unless_full (marked (Some c) (with_session (holding no_stream) c s)) (close c ∷ r)) (marked (Some c) (with_session (holding no_stream) c s)) n)
 of_fed c bs r s n _ = None
 
-of_whole : ℕ → Stream → Kind → List ℕ → List ℕ → List Task → Loop → Standing → Answer → Option (Event × Moment)
+unfoldable pub of_whole : ℕ → Stream → Kind → List ℕ → List ℕ → List Task → Loop → Standing → Answer → Option (Event × Moment)
 of_whole c x k body rest r s n (found true) = Some (memory true, at (of_frame c k body s ++ frames c (left x rest) ∷ r) s n)
 of_whole c x k body rest r s n (found false) = Some (memory false, at (unless_full (marked (Some c) s) (close c ∷ r)) (marked (Some c) s) n)
 of_whole c x k body rest r s n _ = None
 
-of_look : ℕ → Stream → List Task → Loop → Standing → Look → Answer → Option (Event × Moment)
+unfoldable pub of_look : ℕ → Stream → List Task → Loop → Standing → Look → Answer → Option (Event × Moment)
 of_look c x r s n nothing a = Some (quiet, at r (with_session (holding x) c s) n)
 of_look c x r s n refused a = Some (quiet, at (close c ∷ r) s n)
 of_look c x r s n a_client a = Some (quiet, at (frames c (begun client_head client_limit 1 x) ∷ r) (with_session (of_this_kind Client) c s) n)
 of_look c x r s n (a_peer q) a = Some (quiet, at (of_peer c q s ++ frames c (begun peer_head peer_limit hello_len x) ∷ r) s n)
 of_look c x r s n (whole k body rest) a = of_whole c x k body rest r s n a
 
-of_fate : Option ℕ → Input → List Task → Loop → Standing → Answer → Option (Event × Moment)
+unfoldable pub of_fate : Option ℕ → Input → List Task → Loop → Standing → Answer → Option (Event × Moment)
 of_fate who i r s n (became done) = Some (node i done, at (of_given who i (gives n i) ++ r) (counted (waits_for_answer who i (gives n i).outcome s)) (after_input n i))
 of_fate who i r s n (became (faults k)) = Some (node i (faults k), at (of_fault who i k ++ r) (counted s) (faulted k n))
 of_fate who i r s n (became lost) = Some (node i lost, at (unless_full (marked None s) (of_loss who i ++ r)) (counted (marked None s)) n)
 of_fate who i r s n _ = None
 
-of_queued : ℕ → List ℕ → List Task → Loop → Standing → Answer → Option (Event × Moment)
+unfoldable pub of_queued : ℕ → List ℕ → List Task → Loop → Standing → Answer → Option (Event × Moment)
 of_queued c bytes r s n (found true) = Some (queues c bytes, at r (waits_for c bytes s) n)
 of_queued c bytes r s n (found false) = Some (memory false, at r (with_session hungry c s) n)
 of_queued c bytes r s n _ = None
 
-of_finished : ℕ → List ℕ → List Task → Loop → Standing → Answer → Option (Event × Moment)
+unfoldable pub of_finished : ℕ → List ℕ → List Task → Loop → Standing → Answer → Option (Event × Moment)
 of_finished c bytes r s n (found true) = Some (queues c bytes, at r (record (waits_for c bytes s) { ending = true }) n)
 of_finished c bytes r s n (found false) = Some (memory false, at r (with_session hungry c s) n)
 of_finished c bytes r s n _ = None
 
-of_sent : Option ℕ → ℕ × Msg → List Task → Loop → Standing → Answer → Option (Event × Moment)
+unfoldable pub of_sent : Option ℕ → ℕ × Msg → List Task → Loop → Standing → Answer → Option (Event × Moment)
 of_sent None m r s n x = Some (quiet, at r s n)
 of_sent (Some c) m r s n x = of_queued c (peer_frame s.me m.0 m.1) r s n x
 
-of_settled : Option ℕ → List Task → Loop → Standing → Option (Event × Moment)
+unfoldable pub of_settled : Option ℕ → List Task → Loop → Standing → Option (Event × Moment)
 of_settled None r s n = Some (quiet, at r s n)
 of_settled (Some c) r s n = Some (quiet, at (unless_full (marked (Some c) s) (close c ∷ settle ∷ r)) (marked (Some c) s) n)
 
-of_waiting : Option ℕ → List Task → Loop → Standing → Option (Event × Moment)
+unfoldable pub of_waiting : Option ℕ → List Task → Loop → Standing → Option (Event × Moment)
 of_waiting None r s n = Some (quiet, at r s n)
 of_waiting (Some c) r s n = Some (quiet, at (greet c ∷ write (c + 1) ∷ r) s n)
 
-of_greeted : ℕ → List Task → Loop → Standing → Answer → Option (Event × Moment)
+unfoldable pub of_greeted : ℕ → List Task → Loop → Standing → Answer → Option (Event × Moment)
 of_greeted c r s n (was_written (Some (took.Bytes k))) = Some (net (Wrote c (hello_rest c s) (Some (took.Bytes k))), at (of_hello c (goes_up k (kind_at c s)) ++ r) (has_taken c k s) n)
 of_greeted c r s n (was_written (Some took.NotYet)) = Some (net (Wrote c (hello_rest c s) (Some took.NotYet)), at r s n)
 of_greeted c r s n (was_written (Some took.Ended)) = Some (net (Wrote c (hello_rest c s) (Some took.Ended)), at (close c ∷ settle ∷ r) s n)
 of_greeted c r s n (was_written None) = Some (net (Wrote c (hello_rest c s) None), at (broken ∷ []) s n)
 of_greeted c r s n _ = None
 
-of_poured : ℕ → List Task → Loop → Standing → Answer → Option (Event × Moment)
+unfoldable pub of_poured : ℕ → List Task → Loop → Standing → Answer → Option (Event × Moment)
 of_poured c r s n (was_written (Some (took.Bytes k))) = Some (net (Wrote c (queue_of c s.queues) (Some (took.Bytes k))), at (pour c ∷ r) (has_poured_out c k s) n)
 of_poured c r s n (was_written (Some took.NotYet)) = Some (net (Wrote c (queue_of c s.queues) (Some took.NotYet)), at r s n)
 of_poured c r s n (was_written (Some took.Ended)) = Some (net (Wrote c (queue_of c s.queues) (Some took.Ended)), at (close c ∷ settle ∷ r) s n)
@@ -124,7 +124,7 @@ of_poured c r s n (was_written None) = Some (net (Wrote c (queue_of c s.queues) 
 of_poured c r s n _ = None
 
 -- what happens, and the moment after it, where this is to do at the front of a stream
-next_of : Settings → List Task → Loop → Standing → Look → Answer → Option (Event × Moment)
+unfoldable pub next_of : Settings → List Task → Loop → Standing → Look → Answer → Option (Event × Moment)
 next_of o [] s n l x = None
 next_of o (turns k ∷ r) s n l x = Some (quiet, at (turn ∷ turns (k - 1) ∷ r) s n)
 next_of o (turn ∷ r) s n l x = of_waited r s n x
@@ -183,16 +183,16 @@ looks_at_one (Some Unknown) x s l m a b = a ∙ sym b
 looks_at_one (Some (Peer q d)) x s l m a b = front_one (Peer q d) x l m a.0 a.1 b.1
 looks_at_one (Some Client) x s l m a b = front_one Client x l m a.0 a.1 b.1
 
-looks_one : (c : ℕ) (x : Stream) (s : Loop) (l m : Look) → Looks c x s l → Looks c x s m → l ≡ m
+pub looks_one : (c : ℕ) (x : Stream) (s : Loop) (l m : Look) → Looks c x s l → Looks c x s m → l ≡ m
 looks_one c x s l m a b = looks_at_one (kind_at c s) x s l m a b
 
-Sees : List Task → Loop → Look → Type 0
+unfoldable pub Sees : List Task → Loop → Look → Type 0
 Sees (frames c x ∷ r) s l = Looks c x s l
 Sees _ s l = Unit {0}
 
 -- ---- the next event is a function of its answer
 
-step_next : {o : Settings} {a b : Moment} {e : Event} → Step o a e b → (l : Look) → Sees a.todo a.loop l → next_of o a.todo a.loop a.node_at l (answer_of e) ≡ Some (e, b)
+pub step_next : {o : Settings} {a b : Moment} {e : Event} → Step o a e b → (l : Look) → Sees a.todo a.loop l → next_of o a.todo a.loop a.node_at l (answer_of e) ≡ Some (e, b)
 unfolding Sees next_of of_waited of_told of_dialled unless_met of_admitted of_joined of_readied of_seen of_fed of_whole of_look of_fate of_queued of_finished of_sent of_settled of_waiting of_greeted of_poured
 step_next (goes_on {r = r} {s = s} {n = n} k _) l see = (let back : (k + 1) - 1 ≡ k = omega arith in ap (λ j. Some (quiet, at (turn ∷ turns j ∷ r) s n)) back)
 step_next (waits _) l see = refl
@@ -256,7 +256,7 @@ step_next (pours_no_more {s = s} {c = c} lt) l see = rw (lt-ltb 0 (length (queue
 step_next (pours_end {s = s} {c = c} lt) l see = rw (lt-ltb 0 (length (queue_of c s.queues)) lt) refl
 step_next (pours_failing {s = s} {c = c} lt) l see = rw (lt-ltb 0 (length (queue_of c s.queues)) lt) refl
 
-seen_in_step : {o : Settings} {a b : Moment} {e : Event} → Step o a e b → (l : Look) × Sees a.todo a.loop l
+pub seen_in_step : {o : Settings} {a b : Moment} {e : Event} → Step o a e b → (l : Look) × Sees a.todo a.loop l
 unfolding Sees
 seen_in_step (goes_on _ _) = (nothing, tt)
 seen_in_step (waits _) = (nothing, tt)
@@ -323,7 +323,7 @@ seen_in_step (pours_failing _) = (nothing, tt)
 some_is : {X : Type 0} {a b : X} → Some a ≡ Some b → a ≡ b
 some_is e = cc
 
-one_next : {o : Settings} {a b d : Moment} {e f : Event} → Step o a e b → Step o a f d → answer_of e ≡ answer_of f → (e ≡ f) × (b ≡ d)
+pub one_next : {o : Settings} {a b d : Moment} {e f : Event} → Step o a e b → Step o a f d → answer_of e ≡ answer_of f → (e ≡ f) × (b ≡ d)
 one_next {o = o} {a = a} {b = b} {d = d} {e = e} {f = f} st other same =
     let see = seen_in_step st in
     let first : next_of o a.todo a.loop a.node_at see.0 (answer_of e) ≡ Some (e, b) = step_next st see.0 see.1 in
@@ -332,10 +332,10 @@ one_next {o = o} {a = a} {b = b} {d = d} {e = e} {f = f} st other same =
     let pair : (e, b) ≡ (f, d) = some_is both in
     (ap (λ (p : Event × Moment). p.0) pair, ap (λ (p : Event × Moment). p.1) pair)
 
-firsts : {X : Type 0} {x y : X} {xs ys : List X} → (x ∷ xs) ≡ (y ∷ ys) → x ≡ y
+pub firsts : {X : Type 0} {x y : X} {xs ys : List X} → (x ∷ xs) ≡ (y ∷ ys) → x ≡ y
 firsts e = cc
 
-rests : {X : Type 0} {x y : X} {xs ys : List X} → (x ∷ xs) ≡ (y ∷ ys) → xs ≡ ys
+pub rests : {X : Type 0} {x y : X} {xs ys : List X} → (x ∷ xs) ≡ (y ∷ ys) → xs ≡ ys
 rests e = cc
 
 -- two runs with the same answers are one

@@ -168,11 +168,11 @@ kind_lost x Unknown e s = rw e refl
 kind_lost x (Peer q h) e s = rw e refl
 kind_lost x Client e s = rw e refl
 
-unlinked_lost : (o : Option Session) (s : Loop) → (unlinked o s).lost ≡ s.lost
+pub unlinked_lost : (o : Option Session) (s : Loop) → (unlinked o s).lost ≡ s.lost
 unlinked_lost None s = refl
 unlinked_lost (Some x) s = kind_lost x x.kind refl s
 
-admitted_lost : (c : ℕ) (k : Kind) (bytes : List ℕ) (s : Loop) → (admitted c k bytes s).lost ≡ s.lost
+pub admitted_lost : (c : ℕ) (k : Kind) (bytes : List ℕ) (s : Loop) → (admitted c k bytes s).lost ≡ s.lost
 admitted_lost c Unknown bytes s = refl
 admitted_lost c (Peer q h) bytes s = refl
 admitted_lost c Client bytes s = refl
@@ -185,7 +185,7 @@ unless_lost : (w : Option Refusal) (c : ℕ) (x : Command) (s : Loop) → (waits
 unless_lost None c x s = asked_lost (x.client, x.seq) (find c s.sessions) c s
 unless_lost (Some w) c x s = refl
 
-waits_lost : (who : Option ℕ) (i : Input) (o : Option Outcome) (s : Loop) → (waits_for_answer who i o s).lost ≡ s.lost
+pub waits_lost : (who : Option ℕ) (i : Input) (o : Option Outcome) (s : Loop) → (waits_for_answer who i o s).lost ≡ s.lost
 waits_lost None i o s = refl
 waits_lost (Some c) (input.Command x) o s = unless_lost (refusal_of o) c x s
 waits_lost (Some c) input.Tick o s = refl

@@ -34,40 +34,40 @@ use Rattle.op_loop.proofs.TakingTasks.{is_new, has_new, Plain, plain_both, plain
 -- ---- what is kept of a connection
 
 -- it has no session, and no queue
-record Away (c : ℕ) (t : Traffic) (xs : Table Session) (qs : Queues) : Type 0 where
-  sessions : length (hits c xs) ≡ 0
-  queues : hits c qs ≡ []
-  joined : t.joined ≡ false
-  before : (tail : List ℕ) × (t.taken ++ tail ≡ t.queued)
+pub record Away (c : ℕ) (t : Traffic) (xs : Table Session) (qs : Queues) : Type 0 where
+  pub sessions : length (hits c xs) ≡ 0
+  pub queues : hits c qs ≡ []
+  pub joined : t.joined ≡ false
+  pub before : (tail : List ℕ) × (t.taken ++ tail ≡ t.queued)
 
 -- it has one of each
-record Here (c : ℕ) (t : Traffic) (xs : Table Session) (qs : Queues) : Type 0 where
-  queue : List ℕ
-  sessions : length (hits c xs) ≡ 1
-  queues : hits c qs ≡ queue ∷ []
-  joined : t.joined ≡ true
-  whole : t.taken ++ queue ≡ t.queued
+pub record Here (c : ℕ) (t : Traffic) (xs : Table Session) (qs : Queues) : Type 0 where
+  pub queue : List ℕ
+  pub sessions : length (hits c xs) ≡ 1
+  pub queues : hits c qs ≡ queue ∷ []
+  pub joined : t.joined ≡ true
+  pub whole : t.taken ++ queue ≡ t.queued
 
-record Kept (me c : ℕ) (t : Traffic) (id : ℕ) (xs : Table Session) (qs : Queues) : Type 0 where
-  is_me : id ≡ me
-  either : Away c t xs qs ⊎ Here c t xs qs
+pub record Kept (me c : ℕ) (t : Traffic) (id : ℕ) (xs : Table Session) (qs : Queues) : Type 0 where
+  pub is_me : id ≡ me
+  pub either : Away c t xs qs ⊎ Here c t xs qs
 
 -- it has a queue, and is to have a session
-record Noted (me c : ℕ) (t : Traffic) (id : ℕ) (xs : Table Session) (qs : Queues) : Type 0 where
-  is_me : id ≡ me
-  sessions : length (hits c xs) ≡ 0
-  queues : hits c qs ≡ [] ∷ []
-  joined : t.joined ≡ false
-  before : (tail : List ℕ) × (t.taken ++ tail ≡ t.queued)
+pub record Noted (me c : ℕ) (t : Traffic) (id : ℕ) (xs : Table Session) (qs : Queues) : Type 0 where
+  pub is_me : id ≡ me
+  pub sessions : length (hits c xs) ≡ 0
+  pub queues : hits c qs ≡ [] ∷ []
+  pub joined : t.joined ≡ false
+  pub before : (tail : List ℕ) × (t.taken ++ tail ≡ t.queued)
 
-abbrev Keeps : ℕ → ℕ → Traffic → Loop → Type 0
+abbrev pub Keeps : ℕ → ℕ → Traffic → Loop → Type 0
 Keeps me c t s = Kept me c t s.me s.sessions s.queues
 
-abbrev Notes : ℕ → ℕ → Traffic → Loop → Type 0
+abbrev pub Notes : ℕ → ℕ → Traffic → Loop → Type 0
 Notes me c t s = Noted me c t s.me s.sessions s.queues
 
 -- what holds of a connection where this is to do: one that comes is at the front
-abbrev Stage : ℕ → ℕ → Traffic → List Task → Loop → Type 0
+abbrev pub Stage : ℕ → ℕ → Traffic → List Task → Loop → Type 0
 Stage me c t (admit d kind bytes ∷ r) s = Plain r × Keeps me c t s × (d ≡ c → bytes ≡ t.greeting)
 Stage me c t (join d kind bytes ∷ r) s = Plain r × (d ≡ c → (bytes ≡ t.greeting) × Notes me c t s) × ((d ≡ c → ⊥) → Keeps me c t s)
 Stage me c t (drop_conn d ∷ r) s = Plain r × Keeps me c t s × (d ≡ c → t.joined ≡ false)
@@ -271,7 +271,7 @@ module _ (me c : ℕ) where
 
   -- ---- connections that come
 
-  shut : {t : Traffic} (s : Loop) → Keeps me c t s → is_open c s ≡ false → Away c t s.sessions s.queues
+  pub shut : {t : Traffic} (s : Loop) → Keeps me c t s → is_open c s ≡ false → Away c t s.sessions s.queues
   shut s k out = elim k.either [ inl a ↦ a | inr h ↦ absurd (let bad : true ≡ false = sym (is_in c s.sessions h.sessions) ∙ out in cc) ]
 
   noted_own : {t : Traffic} (s : Loop) → Keeps me c t s → is_open c s ≡ false → Notes me c t (noted_at c s)
@@ -286,7 +286,7 @@ module _ (me c : ℕ) where
   kept_noted : {t : Traffic} (s : Loop) (d : ℕ) → (d ≡ c → ⊥) → Keeps me c t s → Keeps me c t (noted_at d s)
   kept_noted s d differ k = kept_like s.sessions (noted_at d s).queues refl (insert_other c d [] s.queues differ) k
 
-  forgotten_own : {t : Traffic} (s : Loop) → Notes me c t s → Keeps me c t (forgotten c s)
+  pub forgotten_own : {t : Traffic} (s : Loop) → Notes me c t s → Keeps me c t (forgotten c s)
   forgotten_own s k = record {
     is_me = k.is_me;
     either = inl (record {
@@ -363,7 +363,7 @@ module _ (me c : ℕ) where
       subst (λ id. Kept me c (if d == c then record t { joined = false } else t) id (remove_entry (is_at (nat_cmp d)) s.sessions) (remove_entry (is_at (nat_cmp d)) s.queues))
       (sym (unlinked_me (find d s.sessions) s)) (kept_closed d k)
 
-  step : {o : Settings} (t : Traffic) {a b : Moment} {e : Event} → Step o a e b → Stage me c t a.todo a.loop → Stage me c (and_then me c t e) b.todo b.loop
+  pub step : {o : Settings} (t : Traffic) {a b : Moment} {e : Event} → Step o a e b → Stage me c t a.todo a.loop → Stage me c (and_then me c t e) b.todo b.loop
   unfolding Plain has_new is_new
   step t (goes_on _ _) g = g
   step t (waits _) g = g
@@ -493,7 +493,7 @@ module _ (me c : ℕ) where
   of_stage t s (drop_conn d ∷ r) g = of_kept t s g.1
   of_stage t s (x ∷ r) g = of_kept t s g.1
 
-begins : (c : ℕ) (s : Loop) → s.sessions ≡ [] → s.queues ≡ [] → Keeps s.me c no_traffic s
+pub begins : (c : ℕ) (s : Loop) → s.sessions ≡ [] → s.queues ≡ [] → Keeps s.me c no_traffic s
 unfolding hits
 begins c s e f = record {
   is_me = refl;
@@ -512,15 +512,15 @@ in_order {s = s} {es = es} {b = b} c e f run = of_stage s.me c (traffic s.me c e
 
 -- ---- of serving
 
-knowing_me : (ps : List (ℕ × Addr)) (s : Loop) → (knowing ps s).me ≡ s.me
+pub knowing_me : (ps : List (ℕ × Addr)) (s : Loop) → (knowing ps s).me ≡ s.me
 knowing_me [] s = refl
 knowing_me (p ∷ ps) s = knowing_me ps (record s { links = put p.0 None s.links })
 
-knowing_sessions : (ps : List (ℕ × Addr)) (s : Loop) → (knowing ps s).sessions ≡ s.sessions
+pub knowing_sessions : (ps : List (ℕ × Addr)) (s : Loop) → (knowing ps s).sessions ≡ s.sessions
 knowing_sessions [] s = refl
 knowing_sessions (p ∷ ps) s = knowing_sessions ps (record s { links = put p.0 None s.links })
 
-knowing_queues : (ps : List (ℕ × Addr)) (s : Loop) → (knowing ps s).queues ≡ s.queues
+pub knowing_queues : (ps : List (ℕ × Addr)) (s : Loop) → (knowing ps s).queues ≡ s.queues
 knowing_queues [] s = refl
 knowing_queues (p ∷ ps) s = knowing_queues ps (record s { links = put p.0 None s.links })
 
