@@ -320,7 +320,7 @@ seen_in_step (pours_no_more _) = (nothing, tt)
 seen_in_step (pours_end _) = (nothing, tt)
 seen_in_step (pours_failing _) = (nothing, tt)
 
-some_is : {X : Type 0} {a b : X} → Some a ≡ Some b → a ≡ b
+pub some_is : {X : Type 0} {a b : X} → Some a ≡ Some b → a ≡ b
 some_is e = cc
 
 pub one_next : {o : Settings} {a b d : Moment} {e f : Event} → Step o a e b → Step o a f d → answer_of e ≡ answer_of f → (e ≡ f) × (b ≡ d)

@@ -1,36 +1,26 @@
 -- How a run stops: at the most marks, or at a call that fails.
-use Rattle.std.proofs.Common.{◌≡◌, ℕ, List, [], ◌∷◌, ◌++◌, ◌+◌, ◌<◌, ◌≤◌, ◌||◌, Bool, true, false, if◌then◌else◌, nat_lt, ◌&&◌, ◌==◌, Result, Ok, Err, Option, Some, None, refl, sym, ◌∙◌, ap, subst, length, map, arith, inl, inr}
+use Rattle.std.proofs.Common.{◌≡◌, ℕ, List, [], ◌∷◌, ◌++◌, ◌+◌, ◌<◌, ◌≤◌, ◌||◌, Bool, true, false, if◌then◌else◌, nat_lt, Option, Some, None, refl, sym, ◌∙◌, ap, subst, length, map, arith, inl, inr}
 use Rattle.std.proofs.lemmas.Bool.{cases_Bool, ltb-true, ltb-false}
 use Rattle.std.proofs.lemmas.List.Folds.{list_any-append}
-use Rattle.op_types.specs.declared.answers.Outcome.{Outcome}
-use Rattle.op_types.specs.declared.answers.Refusal.{Refusal}
-use Rattle.op_types.specs.declared.answers.Reply.{Reply}
-use Rattle.op_types.specs.declared.events.Input.{Input}
-use Rattle.op_types.specs.declared.events.Input.TheVariants as input
-use Rattle.op_types.specs.declared.messages.Msg.{Msg}
 use Rattle.op_outside.specs.Causes.{RisesIf}
 use Rattle.op_outside.specs.Nets.{call_fails, has_failed}
 use Rattle.op_outside.specs.declared.net.Addr.{Addr}
 use Rattle.op_outside.specs.declared.net.Happening.{Happening}
 use Rattle.op_outside.specs.declared.net.Happening.TheVariants.{Accepted, Readable, Writable, Ended}
-use Rattle.op_types.specs.declared.log.Command.{Command}
 use Rattle.op_frame.specs.Framing.{left}
-use Rattle.op_types.specs.declared.events.Request.{Request}
-use Rattle.op_types.specs.declared.events.Request.TheVariants as request
-use Rattle.op_command.specs.declared.reply.ClientReply.{ClientReply}
 use Rattle.op_setup.specs.declared.config.Settings.{Settings}
-use Rattle.op_sessions.specs.declared.kind.Kind.{Kind}
-use Rattle.op_sessions.specs.declared.kind.Kind.TheVariants.{Unknown, Peer, Client}
-use Rattle.op_sessions.specs.declared.session.Session.{Session}
+use Rattle.op_sessions.specs.declared.kind.Kind.TheVariants.{Unknown}
 use Rattle.op_loop.specs.Cores.{Standing, gives}
-use Rattle.op_sessions.specs.State.{peer_limit, Loop, most_marks, marked, unlinked, find, admitted, asked, is_open, at_happening, forgotten, session_of, hello_len, counted, goes_to, asker_of, goes_down, goes_up, kind_at, left_by}
+use Rattle.op_sessions.specs.State.{peer_limit, Loop, most_marks, marked, find, admitted, is_open, at_happening, forgotten, session_of, hello_len, counted, goes_to, asker_of, goes_down, goes_up, kind_at, left_by}
 use Rattle.op_loop.specs.Looks.{begun}
-use Rattle.op_sessions.specs.Wire.{peer_head, message_in, request_in}
-use Rattle.op_loop.specs.Rules.{Task, Moment, at, Step, Event, starved, broken, send, reply, dial, turns, admit, read, close, drop, meet, settle, count, frames, give, ask, answered, of_given, of_peer, of_frame, unless_full, of_happening, of_outcome, of_refusal, refusal_of, of_fault, of_loss, of_asker, of_end, of_hello, of_body, of_message, of_request, replaced, waits_for_answer, waits_unless, goes_on, waits, waits_failing, is_early, is_due, is_above, is_met, dials, dials_in_vain, dials_failing, is_there, is_noted, is_turned_away, is_admitted, is_turned_out, drops, asks, has_asked, reads, reads_nothing, reads_end, reads_failing, feeds, feeds_not, has_no_frame, is_refused, is_client, is_peer_of, has_frame, has_no_room, meets, counts, gives_done, gives_faulted, gives_lost, sends, sends_hungry, sends_to_none, replies, answers, answers_hungry, tells_status, tells_no_status, finishes, finishes_not, has_settled, settles, closes, has_written, writes_next, has_greeted, has_no_hello, greets, greets_no_more, greets_end, greets_failing, has_poured, pours, pours_no_more, pours_end, pours_failing}
+use Rattle.op_sessions.specs.Wire.{peer_head}
+use Rattle.op_loop.specs.Rules.{Task, Moment, at, Step, Event, starved, broken, dial, turns, admit, read, close, drop, meet, settle, count, frames, ask, answered, of_given, of_peer, of_frame, unless_full, of_happening, of_fault, of_loss, of_asker, of_end, of_hello, of_body, replaced, waits_for_answer, goes_on, waits, waits_failing, is_early, is_due, is_above, is_met, dials, dials_in_vain, dials_failing, is_there, is_noted, is_turned_away, is_admitted, is_turned_out, drops, asks, has_asked, reads, reads_nothing, reads_end, reads_failing, feeds, feeds_not, has_no_frame, is_refused, is_client, is_peer_of, has_frame, has_no_room, meets, counts, gives_done, gives_faulted, gives_lost, sends, sends_hungry, sends_to_none, replies, answers, answers_hungry, tells_status, tells_no_status, finishes, finishes_not, has_settled, settles, closes, has_written, writes_next, has_greeted, has_no_hello, greets, greets_no_more, greets_end, greets_failing, has_poured, pours, pours_no_more, pours_end, pours_failing}
 use Rattle.op_loop.specs.Run.{Run, none, more, calls, call_of}
 use Rattle.op_loop.specs.Serving.{EndsAt, Faults, Marks}
 use Rattle.op_loop.specs.declared.serve_end.ServeEnd.{ServeEnd}
 use Rattle.op_loop.specs.declared.serve_end.ServeEnd.TheVariants as ends
+use Rattle.op_loop.proofs.Keeping.{unlinked_lost, admitted_lost, waits_lost}
+use Rattle.op_loop.proofs.Leading.{leads, Leads, leads_replaced, leads_body, leads_given, leads_fault, leads_loss, leads_asker, leads_end}
 
 -- whether a task stops the loop
 is_stop : Task → Bool
@@ -71,15 +61,17 @@ unfolding Free has_stop
 free_both [] b f g = g
 free_both (x ∷ a) b f g = free_or (is_stop x) (has_stop (a ++ b)) (free_left (is_stop x) (has_stop a) f) (free_both a b (free_right (is_stop x) (has_stop a) f) g)
 
-free_sends : (xs : List (ℕ × Msg)) → Free (map send xs)
-unfolding Free has_stop is_stop
-free_sends [] = refl
-free_sends (x ∷ xs) = free_sends xs
+-- what leads to a settle is free of them
+leads_on : (x : Task) → leads x ≡ true → is_stop x ≡ false
+unfolding leads is_stop
+leads_on starved e = absurd cc
+leads_on broken e = absurd cc
+leads_on _ e = refl
 
-free_replies : (xs : List Reply) → Free (map reply xs)
-unfolding Free has_stop is_stop
-free_replies [] = refl
-free_replies (x ∷ xs) = free_replies xs
+free_leads : (xs : List Task) → Leads xs → Free xs
+unfolding Free Leads has_stop
+free_leads [] l = refl
+free_leads (x ∷ xs) l = free_or (is_stop x) (has_stop xs) (leads_on x l.0) (free_leads xs l.1)
 
 free_dials : (xs : List (ℕ × Addr)) → Free (map dial xs)
 unfolding Free has_stop is_stop
@@ -92,11 +84,6 @@ free_if : (b : Bool) (x y : List Task) → Free x → Free y → Free (if b then
 free_if true x y f g = f
 free_if false x y f g = g
 
-free_replaced : (o : Option ℕ) → Free (replaced o)
-unfolding Free has_stop is_stop
-free_replaced None = refl
-free_replaced (Some d) = refl
-
 free_happening : (h : Happening) (s : Loop) → Free (of_happening h s)
 unfolding Free has_stop is_stop
 free_happening (Accepted c) s = free_if (is_open c s) [] (admit c Unknown [] ∷ []) refl refl
@@ -104,94 +91,12 @@ free_happening (Readable c) s = free_if (is_open c s) (read c ∷ []) [] refl re
 free_happening (Writable c) s = refl
 free_happening (Ended c) s = free_if (is_open c s) (close c ∷ []) [] refl refl
 
-free_message : (me q c : ℕ) (r : Result (ℕ × ℕ × Msg) ℕ) → Free (of_message me q c r)
-unfolding Free has_stop is_stop
-free_message me q c (Err bad) = refl
-free_message me q c (Ok m) = free_if ((m.0 == q) && (m.1 == me)) (give None (input.Deliver q m.2) ∷ []) [] refl refl
-
-free_request : (c : ℕ) (r : Result Request ℕ) → Free (of_request c r)
-unfolding Free has_stop is_stop
-free_request c (Err at) = refl
-free_request c (Ok (request.Command x)) = refl
-free_request c (Ok request.Status) = refl
-free_request c (Ok request.End) = refl
-
-free_body : (me c : ℕ) (k : Kind) (body : List ℕ) → Free (of_body me c k body)
-unfolding Free has_stop is_stop
-free_body me c Unknown body = refl
-free_body me c (Peer q h) body = free_message me q c (message_in body)
-free_body me c Client body = free_request c (request_in body)
-
-free_refusal : (c : ℕ) (x : Command) (w : Option Refusal) → Free (of_refusal c x w)
-unfolding Free has_stop is_stop
-free_refusal c x None = refl
-free_refusal c x (Some w) = refl
-
-free_outcome : (who : Option ℕ) (i : Input) (o : Option Outcome) → Free (of_outcome who i o)
-unfolding Free has_stop is_stop
-free_outcome None i o = refl
-free_outcome (Some c) (input.Command x) o = free_refusal c x (refusal_of o)
-free_outcome (Some c) input.Tick o = refl
-free_outcome (Some c) (input.Deliver q m) o = refl
-free_outcome (Some c) (input.Up q) o = refl
-free_outcome (Some c) (input.Down q) o = refl
-
-free_fault : (who : Option ℕ) (i : Input) (k : ℕ) → Free (of_fault who i k)
-unfolding Free has_stop is_stop
-free_fault None i k = refl
-free_fault (Some c) i k = refl
-
-free_loss : (who : Option ℕ) (i : Input) → Free (of_loss who i)
-unfolding Free has_stop is_stop
-free_loss None i = refl
-free_loss (Some c) i = refl
-
-free_asker : (who : Option ℕ) (r : ClientReply) → Free (of_asker who r)
-unfolding Free has_stop is_stop
-free_asker None r = refl
-free_asker (Some c) r = refl
-
-free_end : (q : Option ℕ) → Free (of_end q)
-unfolding Free has_stop is_stop
-free_end None = refl
-free_end (Some q) = refl
-
 free_hello : (c : ℕ) (q : Option ℕ) → Free (of_hello c q)
 unfolding Free has_stop is_stop
 free_hello c None = refl
 free_hello c (Some q) = refl
 
 -- ---- the marks are kept
-
-kind_lost : (x : Session) (k : Kind) → x.kind ≡ k → (s : Loop) → (unlinked (Some x) s).lost ≡ s.lost
-kind_lost x Unknown e s = rw e refl
-kind_lost x (Peer q h) e s = rw e refl
-kind_lost x Client e s = rw e refl
-
-pub unlinked_lost : (o : Option Session) (s : Loop) → (unlinked o s).lost ≡ s.lost
-unlinked_lost None s = refl
-unlinked_lost (Some x) s = kind_lost x x.kind refl s
-
-pub admitted_lost : (c : ℕ) (k : Kind) (bytes : List ℕ) (s : Loop) → (admitted c k bytes s).lost ≡ s.lost
-admitted_lost c Unknown bytes s = refl
-admitted_lost c (Peer q h) bytes s = refl
-admitted_lost c Client bytes s = refl
-
-asked_lost : (key : ℕ × ℕ) (o : Option Session) (c : ℕ) (s : Loop) → (asked key o c s).lost ≡ s.lost
-asked_lost key None c s = refl
-asked_lost key (Some x) c s = refl
-
-unless_lost : (w : Option Refusal) (c : ℕ) (x : Command) (s : Loop) → (waits_unless w c x s).lost ≡ s.lost
-unless_lost None c x s = asked_lost (x.client, x.seq) (find c s.sessions) c s
-unless_lost (Some w) c x s = refl
-
-pub waits_lost : (who : Option ℕ) (i : Input) (o : Option Outcome) (s : Loop) → (waits_for_answer who i o s).lost ≡ s.lost
-waits_lost None i o s = refl
-waits_lost (Some c) (input.Command x) o s = unless_lost (refusal_of o) c x s
-waits_lost (Some c) input.Tick o s = refl
-waits_lost (Some c) (input.Deliver q m) o s = refl
-waits_lost (Some c) (input.Up q) o s = refl
-waits_lost (Some c) (input.Down q) o s = refl
 
 stops_same : (s t : Loop) → t.lost ≡ s.lost → stops s ≡ false → stops t ≡ false
 unfolding stops
@@ -249,20 +154,19 @@ step_after (feeds_not {r = r} {s = s} {t = t} {n = n} {c = c} {bs = bs} _) f g =
 step_after (has_no_frame _) f g = on f g refl
 step_after (is_refused _) f g = on f g refl
 step_after (is_client _) f g = on f g refl
-step_after (is_peer_of {r = r} {s = s} {n = n} {c = c} {x = x} q _) f g = on (free_both (of_peer c q s) (frames c (begun peer_head peer_limit hello_len x) ∷ r) (free_both (replaced (session_of q s)) (meet c q ∷ settle ∷ []) (free_replaced (session_of q s)) refl) f) g refl
-step_after (has_frame {r = r} {s = s} {n = n} {c = c} {x = x} k body rest _) f g = on (free_both (of_frame c k body s) (frames c (left x rest) ∷ r) (free_both (of_body s.me c k body) (settle ∷ count ∷ []) (free_body s.me c k body) refl) f) g refl
+step_after (is_peer_of {r = r} {s = s} {n = n} {c = c} {x = x} q _) f g = on (free_both (of_peer c q s) (frames c (begun peer_head peer_limit hello_len x) ∷ r) (free_both (replaced (session_of q s)) (meet c q ∷ settle ∷ []) (free_leads (replaced (session_of q s)) (leads_replaced (session_of q s))) refl) f) g refl
+step_after (has_frame {r = r} {s = s} {n = n} {c = c} {x = x} k body rest _) f g = on (free_both (of_frame c k body s) (frames c (left x rest) ∷ r) (free_both (of_body s.me c k body) (settle ∷ count ∷ []) (free_leads (of_body s.me c k body) (leads_body s.me c k body)) refl) f) g refl
 step_after (has_no_room {r = r} {s = s} {n = n} {c = c} {x = x} k body rest _) f g = after_mark (close c ∷ r) (marked (Some c) s) f
 step_after meets f g = on f g refl
 step_after counts f g = on f g refl
-step_after (gives_done {r = r} {s = s} {n = n} {who = who} {i = i}) f g = on (free_both (of_given who i (gives n i)) r (free_both (of_outcome who i (gives n i).outcome) (map send (gives n i).sends ++ map reply (gives n i).replies)
-    (free_outcome who i (gives n i).outcome) (free_both (map send (gives n i).sends) (map reply (gives n i).replies) (free_sends (gives n i).sends) (free_replies (gives n i).replies))) f)
+step_after (gives_done {r = r} {s = s} {n = n} {who = who} {i = i}) f g = on (free_both (of_given who i (gives n i)) r (free_leads (of_given who i (gives n i)) (leads_given who i (gives n i))) f)
     (stops_same s (counted (waits_for_answer who i (gives n i).outcome s)) (waits_lost who i (gives n i).outcome s) g) refl
-step_after (gives_faulted {r = r} {s = s} {n = n} {who = who} {i = i} {k = k} _) f g = on (free_both (of_fault who i k) r (free_fault who i k) f) g refl
-step_after (gives_lost {r = r} {s = s} {n = n} {who = who} {i = i}) f g = after_counted (of_loss who i ++ r) (marked None s) (free_both (of_loss who i) r (free_loss who i) f)
+step_after (gives_faulted {r = r} {s = s} {n = n} {who = who} {i = i} {k = k} _) f g = on (free_both (of_fault who i k) r (free_leads (of_fault who i k) (leads_fault who i k)) f) g refl
+step_after (gives_lost {r = r} {s = s} {n = n} {who = who} {i = i}) f g = after_counted (of_loss who i ++ r) (marked None s) (free_both (of_loss who i) r (free_leads (of_loss who i) (leads_loss who i)) f)
 step_after (sends _) f g = on f g refl
 step_after (sends_hungry _) f g = on f g refl
 step_after (sends_to_none _) f g = on f g refl
-step_after (replies {r = r} {s = s} {n = n} {x = x}) f g = on (free_both (of_asker (goes_to (asker_of (x.client, x.seq) s.askers) s) (answered x)) r (free_asker (goes_to (asker_of (x.client, x.seq) s.askers) s) (answered x)) f) g refl
+step_after (replies {r = r} {s = s} {n = n} {x = x}) f g = on (free_both (of_asker (goes_to (asker_of (x.client, x.seq) s.askers) s) (answered x)) r (free_leads (of_asker (goes_to (asker_of (x.client, x.seq) s.askers) s) (answered x)) (leads_asker (goes_to (asker_of (x.client, x.seq) s.askers) s) (answered x))) f) g refl
 step_after answers f g = on f g refl
 step_after answers_hungry f g = on f g refl
 step_after tells_status f g = on f g refl
@@ -271,7 +175,7 @@ step_after finishes f g = on f g refl
 step_after finishes_not f g = on f g refl
 step_after (has_settled _) f g = on f g refl
 step_after (settles {r = r} {s = s} {n = n} {c = c} _) f g = after_mark (close c ∷ settle ∷ r) (marked (Some c) s) f
-step_after (closes {r = r} {s = s} {n = n} {c = c}) f g = on (free_both (of_end (goes_down (kind_at c s))) r (free_end (goes_down (kind_at c s))) f) (stops_same s (left_by c s) (unlinked_lost (find c s.sessions) s) g) refl
+step_after (closes {r = r} {s = s} {n = n} {c = c}) f g = on (free_both (of_end (goes_down (kind_at c s))) r (free_leads (of_end (goes_down (kind_at c s))) (leads_end (goes_down (kind_at c s)))) f) (stops_same s (left_by c s) (unlinked_lost (find c s.sessions) s) g) refl
 step_after (has_written _) f g = on f g refl
 step_after (writes_next _) f g = on f g refl
 step_after (has_greeted _) f g = on f g refl

@@ -29,7 +29,8 @@ use Rattle.op_loop.specs.Run.{Run, none, more}
 use Rattle.op_loop.specs.Serving.{knowing, started}
 use Rattle.op_loop.specs.Taking.{Traffic, at_joining, and_then, traffic_from, no_traffic, traffic, TakesInOrder}
 use Rattle.op_loop.proofs.TakingTables.{hits, same_or_not, set_other, insert_own, insert_other, remove_other, lookup_none, lookup_one, is_in, is_out, set_one, as_many, added_one, none_left}
-use Rattle.op_loop.proofs.TakingTasks.{is_new, has_new, Plain, plain_both, plain_dials, plain_if_open, plain_given, plain_fault, plain_loss, plain_asker, plain_end, plain_hello, plain_peer, plain_frame}
+use Rattle.op_loop.proofs.TakingTasks.{is_new, has_new, Plain, plain_both, plain_dials, plain_leads, plain_if_open, plain_hello, plain_peer, plain_frame}
+use Rattle.op_loop.proofs.Leading.{leads_given, leads_fault, leads_loss, leads_asker, leads_end}
 
 -- ---- what is kept of a connection
 
@@ -286,7 +287,7 @@ module _ (me c : ℕ) where
   kept_noted : {t : Traffic} (s : Loop) (d : ℕ) → (d ≡ c → ⊥) → Keeps me c t s → Keeps me c t (noted_at d s)
   kept_noted s d differ k = kept_like s.sessions (noted_at d s).queues refl (insert_other c d [] s.queues differ) k
 
-  pub forgotten_own : {t : Traffic} (s : Loop) → Notes me c t s → Keeps me c t (forgotten c s)
+  forgotten_own : {t : Traffic} (s : Loop) → Notes me c t s → Keeps me c t (forgotten c s)
   forgotten_own s k = record {
     is_me = k.is_me;
     either = inl (record {
@@ -416,17 +417,17 @@ module _ (me c : ℕ) where
   step t (meets {r = r} {s = s} {n = n} {c = d} {q = q}) g = (g.0, kept_changed s (of_this_kind (Peer q 0)) d g.1)
   step t (counts {r = r} {s = s}) g = calmly t (frame_counted s) r g.0 g.1
   step t (gives_done {r = r} {s = s} {n = n} {who = who} {i = i}) g =
-      calmly t (counted (waits_for_answer who i (gives n i).outcome s)) (of_given who i (gives n i) ++ r) (plain_both (of_given who i (gives n i)) r (plain_given who i (gives n i)) g.0) (kept_waiting who i (gives n i).outcome s g.1)
-  step t (gives_faulted {r = r} {s = s} {n = n} {who = who} {i = i} {k = k} _) g = calmly t (counted s) (of_fault who i k ++ r) (plain_both (of_fault who i k) r (plain_fault who i k) g.0) g.1
+      calmly t (counted (waits_for_answer who i (gives n i).outcome s)) (of_given who i (gives n i) ++ r) (plain_both (of_given who i (gives n i)) r (plain_leads (of_given who i (gives n i)) (leads_given who i (gives n i))) g.0) (kept_waiting who i (gives n i).outcome s g.1)
+  step t (gives_faulted {r = r} {s = s} {n = n} {who = who} {i = i} {k = k} _) g = calmly t (counted s) (of_fault who i k ++ r) (plain_both (of_fault who i k) r (plain_leads (of_fault who i k) (leads_fault who i k)) g.0) g.1
   step t (gives_lost {r = r} {s = s} {n = n} {who = who} {i = i}) g =
       let k : Keeps me c t (counted (marked None s)) = kept_marked None s g.1 in
-      unless_stops t (counted (marked None s)) (marked None s) (of_loss who i ++ r) (calmly t (counted (marked None s)) (of_loss who i ++ r) (plain_both (of_loss who i) r (plain_loss who i) g.0) k) k
+      unless_stops t (counted (marked None s)) (marked None s) (of_loss who i ++ r) (calmly t (counted (marked None s)) (of_loss who i ++ r) (plain_both (of_loss who i) r (plain_leads (of_loss who i) (leads_loss who i)) g.0) k) k
   step t (sends {r = r} {s = s} {n = n} {m = m} {c = d} _) g = calmly (if d == c then record t { queued = t.queued ++ peer_frame s.me m.0 m.1 } else t) (waits_for d (peer_frame s.me m.0 m.1) s) r g.0 (kept_queued s d (peer_frame s.me m.0 m.1) g.1)
   step t (sends_hungry {r = r} {s = s} {n = n} {m = m} {c = d} _) g = calmly t (with_session hungry d s) r g.0 (kept_changed s hungry d g.1)
   step t (sends_to_none {r = r} {s = s} _) g = calmly t s r g.0 g.1
   step t (replies {r = r} {s = s} {n = n} {x = x}) g =
       let who = goes_to (asker_of (x.client, x.seq) s.askers) s in
-      calmly t (told (x.client, x.seq) s) (of_asker who (answered x) ++ r) (plain_both (of_asker who (answered x)) r (plain_asker who (answered x)) g.0) g.1
+      calmly t (told (x.client, x.seq) s) (of_asker who (answered x) ++ r) (plain_both (of_asker who (answered x)) r (plain_leads (of_asker who (answered x)) (leads_asker who (answered x))) g.0) g.1
   step t (answers {r = r} {s = s} {n = n} {c = d} {x = x}) g = calmly (if d == c then record t { queued = t.queued ++ client_frame x } else t) (waits_for d (client_frame x) s) r g.0 (kept_queued s d (client_frame x) g.1)
   step t (answers_hungry {r = r} {s = s} {n = n} {c = d}) g = calmly t (with_session hungry d s) r g.0 (kept_changed s hungry d g.1)
   step t (tells_status {r = r} {s = s} {n = n} {c = d}) g =
@@ -441,7 +442,7 @@ module _ (me c : ℕ) where
   step t (settles {r = r} {s = s} {n = n} {c = d} _) g =
       let k = kept_marked (Some d) s g.1 in unless_stops t (marked (Some d) s) (marked (Some d) s) (close d ∷ settle ∷ r) (g.0, k) k
   step t (closes {r = r} {s = s} {n = n} {c = d}) g =
-      calmly (if d == c then record t { joined = false } else t) (left_by d s) (of_end (goes_down (kind_at d s)) ++ r) (plain_both (of_end (goes_down (kind_at d s))) r (plain_end (goes_down (kind_at d s))) g.0) (closes_kept s d g.1)
+      calmly (if d == c then record t { joined = false } else t) (left_by d s) (of_end (goes_down (kind_at d s)) ++ r) (plain_both (of_end (goes_down (kind_at d s))) r (plain_leads (of_end (goes_down (kind_at d s))) (leads_end (goes_down (kind_at d s)))) g.0) (closes_kept s d g.1)
   step t (has_written {r = r} {s = s} _) g = calmly t s r g.0 g.1
   step t (writes_next _) g = g
   step t (has_greeted _) g = g
@@ -512,7 +513,7 @@ in_order {s = s} {es = es} {b = b} c e f run = of_stage s.me c (traffic s.me c e
 
 -- ---- of serving
 
-pub knowing_me : (ps : List (ℕ × Addr)) (s : Loop) → (knowing ps s).me ≡ s.me
+knowing_me : (ps : List (ℕ × Addr)) (s : Loop) → (knowing ps s).me ≡ s.me
 knowing_me [] s = refl
 knowing_me (p ∷ ps) s = knowing_me ps (record s { links = put p.0 None s.links })
 

@@ -1,0 +1,17 @@
+pub mod Alike
+pub mod Places
+pub mod Shapes
+pub mod Owing
+pub mod Calm
+pub mod Stretches
+pub mod Classes
+pub mod Leaving
+pub mod Rests
+pub mod Due
+pub mod Shutting
+pub mod Lagging
+pub mod Skipping
+pub mod Unended
+pub mod Beside
+pub mod Apart
+pub mod Scripted
