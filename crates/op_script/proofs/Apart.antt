@@ -1,9 +1,6 @@
 -- Where one of two runs found memory for what connections send, and the other none, they meet again behind the same mark.
 use Rattle.std.proofs.Common.{◌≡◌, ℕ, suc, List, [], ◌∷◌, ◌+◌, ◌<◌, true, false, Option, Some, None, refl, sym, ◌∙◌, ap, subst, length, arith, ◌⊎◌, inl, inr}
-use Rattle.std.specs.BTreeMap.{is_at}
-use Rattle.std.specs.Ordering.{nat_cmp}
-use Rattle.op_conns.specs.Tables.{Queues, added, removed}
-use Rattle.op_conns.proofs.Numbers.{compared, is_at_own}
+use Rattle.op_sessions.proofs.Tabled.{put_undone}
 use Rattle.op_frame.specs.Framing.{Stream, fed}
 use Rattle.op_setup.specs.declared.config.Settings.{Settings}
 use Rattle.op_sessions.specs.declared.kind.Kind.{Kind}
@@ -17,8 +14,7 @@ use Rattle.op_loop.specs.declared.serve_end.ServeEnd.{ServeEnd}
 use Rattle.op_script.proofs.Alike.{Tidy, alike_same}
 use Rattle.op_loop.specs.Following.{answer_of, found}
 use Rattle.op_loop.proofs.Follows.{one_next}
-use Rattle.op_loop.proofs.Keeping.{admitted_lost}
-use Rattle.op_script.proofs.Places.{place_stays}
+use Rattle.op_loop.proofs.Keeping.{admitted_lost, admitted_place}
 use Rattle.op_script.proofs.Shapes.{Heard, AfterAdmit, is_busy}
 use Rattle.op_script.proofs.Calm.{Calm, calm_step, admitted_open}
 use Rattle.op_script.proofs.Owing.{Placed, mark_of, Owes, owes_mark}
@@ -37,7 +33,7 @@ pub due_of_mark : {o : Settings} {end : ServeEnd} {marks : List Mark} {a b : Mom
 due_of_mark {a = a} conn st r p is = subst (λ l. Owes (mark_at a.loop.place conn) l a.loop) (sym r.lost) (owes_mark conn st r.run p is)
 
 -- a run whose first want was met, where its step is known
-pub found_next : {o : Settings} {end : ServeEnd} {marks : List Mark} {a d : Moment} {e f : Event} {es : List Event} → Rest o end marks a (e ∷ es) → answer_of e ≡ found true → Step o a f d → answer_of f ≡ found true
+found_next : {o : Settings} {end : ServeEnd} {marks : List Mark} {a d : Moment} {e f : Event} {es : List Event} → Rest o end marks a (e ∷ es) → answer_of e ≡ found true → Step o a f d → answer_of f ≡ found true
     → (e ≡ f) × Rest o end marks d es
 found_next {o = o} {end = end} {marks = marks} {es = es} r h st k =
     let next = going r in
@@ -52,7 +48,7 @@ joined_none : {o : Settings} {end : ServeEnd} {marks : List Mark} {r : List Task
 joined_none {o = o} {r = r} {u = u} {n = n} c kind bytes rest shape still due =
     let t : Loop = admitted c kind bytes u in
     let st : Step o (at (join c kind bytes ∷ r) u n) (joins c bytes) (at r t n) = is_admitted in
-    let same : t.place ≡ u.place = place_stays st refl in
+    let same : t.place ≡ u.place = admitted_place c kind bytes u in
     let owed = due_like c u t (sym (admitted_lost c kind bytes u)) (sym same) due in
     no_mark_coming c rest.run rest.placed (subst (λ (p : Place). AfterAdmit p.at r) (sym same) shape) (calm_step st refl still) (admitted_open c kind bytes u) refl
     (subst (λ l. Owes (mark_at t.place (Some c)) l t) rest.lost owed)
@@ -62,17 +58,8 @@ join_step : {o : Settings} {r : List Task} {u : Loop} {n : Standing} {c : ℕ} {
 join_step is_admitted = inl refl
 join_step is_turned_out = inr ((refl, refl, refl), refl)
 
-removed_added : (c : ℕ) (bytes : List ℕ) (t : Queues) → find c t ≡ None → removed c (added c bytes t) ≡ t
-removed_added c bytes [] none = rw (is_at_own c) refl
-removed_added c bytes (e ∷ t) none = elim (compared c e.0) [
-  | inl h ↦ rw (h.1, is_at_own c) refl
-  | inr (inl h) ↦ (let there : is_at (nat_cmp c) e.0 ≡ true = rw h.1 refl in absurd (let bad : Some e.1 ≡ None = rw there at none in cc))
-  | inr (inr h) ↦ (let away : is_at (nat_cmp c) e.0 ≡ false = rw h.1 refl in let later : find c t ≡ None = rw away at none in
-      rw (h.1, away) (ap (λ l. e ∷ l) (removed_added c bytes t later)))
-]
-
 forgotten_noted : (c : ℕ) (s : Loop) → find c s.queues ≡ None → forgotten c (noted_at c s) ≡ s
-forgotten_noted c s none = ap (λ q. record s { queues = q }) (removed_added c [] s.queues none)
+forgotten_noted c s none = ap (λ q. record s { queues = q }) (put_undone c [] s.queues none)
 
 module _ {o : Settings} {marks : List Mark} {m : ℕ} (below : Below o marks m) where
   -- a connection that is to come found no queue in one of them

@@ -9,7 +9,7 @@ use Rattle.op_loop.specs.Rules.{Task, at, Event, settle, of_end}
 use Rattle.op_loop.specs.Run.{inputs}
 use Rattle.op_script.specs.Script.{script, fates}
 use Rattle.op_loop.specs.declared.serve_end.ServeEnd.{ServeEnd}
-use Rattle.op_script.proofs.Alike.{Alike, alike_same, alike_sym, alike_kind, alike_lost, alike_marked, alike_left}
+use Rattle.op_script.proofs.Alike.{Alike, alike_same, alike_kind, alike_lost, alike_marked, alike_left}
 use Rattle.op_script.proofs.Shapes.{is_busy}
 use Rattle.op_script.proofs.Calm.{Calm}
 use Rattle.op_script.proofs.Rests.{Rest, TellAs, Gets}
@@ -36,7 +36,7 @@ agree_sym a = record { given = sym a.given; ends = sym a.ends }
 pub agree_as : {es fs gs hs : List Event} {end other : ServeEnd} → TellAs es gs → TellAs fs hs → Agree gs hs end other → Agree es fs end other
 agree_as a b h = record { given = a.given ∙ h.given ∙ sym b.given; ends = h.ends }
 
--- two runs of fewer events than so many
+-- both run from one list of things to do, and tell the same
 pub record Both (o : Settings) (end other : ServeEnd) (marks : List Mark) (todo : List Task) (s t : Loop) (n : Standing) (es fs : List Event) : Type 0 where
   pub one : Rest o end marks (at todo s n) es
   pub two : Rest o other marks (at todo t n) fs
@@ -45,13 +45,10 @@ pub record Both (o : Settings) (end other : ServeEnd) (marks : List Mark) (todo 
   pub said : script es ≡ script fs
   pub came : fates es ≡ fates fs
 
+-- what is to be shown, of fewer events than so many
 abbrev pub Below : Settings → List Mark → ℕ → Type 0
 Below o marks m = (end other : ServeEnd) (todo : List Task) (s t : Loop) (n : Standing) (es fs : List Event) → length es + length fs < m
     → Both o end other marks todo s t n es fs → Agree es fs end other
-
-pub near_sym : {todo : List Task} {s t : Loop} → Near todo s t → Near todo t s
-near_sym (busy f a) = busy f (alike_sym a)
-near_sym (calm f e still) = calm f (sym e) (subst (λ (x : Loop). Calm x) e still)
 
 pub same_near : (todo : List Task) (s : Loop) → (is_busy todo ≡ false → Calm s) → Near todo s s
 same_near todo s still = elim (cases_Bool (is_busy todo)) [ inl h ↦ busy h (alike_same s) | inr h ↦ calm h refl (still h) ]

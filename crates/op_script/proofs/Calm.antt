@@ -14,6 +14,7 @@ use Rattle.op_sessions.proofs.Tabled.{starved_is_open}
 use Rattle.op_loop.specs.Cores.{gives}
 use Rattle.op_loop.specs.Rules.{Task, Moment, Step, Event, memory, send, answer, status, finish, settle, close, answered, of_given, of_fault, of_loss, of_asker, of_end, unless_full, goes_on, waits, waits_failing, is_early, is_due, is_above, is_met, dials, dials_in_vain, dials_failing, is_there, is_noted, is_turned_away, is_admitted, is_turned_out, drops, asks, has_asked, reads, reads_nothing, reads_end, reads_failing, feeds, feeds_not, has_no_frame, is_refused, is_client, is_peer_of, has_frame, has_no_room, meets, counts, gives_done, gives_faulted, gives_lost, sends, sends_hungry, sends_to_none, replies, answers, answers_hungry, tells_status, tells_no_status, finishes, finishes_not, has_settled, settles, closes, has_written, writes_next, has_greeted, has_no_hello, greets, greets_no_more, greets_end, greets_failing, has_poured, pours, pours_no_more, pours_end, pours_failing}
 use Rattle.op_loop.specs.Serving.{started, knowing}
+use Rattle.op_loop.proofs.Follows.{some_is}
 use Rattle.op_loop.proofs.Keeping.{marked_keeps, admitted_keeps, waits_keeps}
 use Rattle.op_script.proofs.Shapes.{Shape, is_busy, busy_is, busy_given, busy_fault, busy_loss, busy_asker, busy_end}
 
@@ -21,9 +22,6 @@ abbrev pub Calm : Loop → Type 0
 Calm s = first_hungry s.sessions ≡ None
 
 -- ---- tables where no session is hungry
-
-some_is : {X : Type 0} {a b : X} → Some a ≡ Some b → a ≡ b
-some_is e = cc
 
 if_none : {X : Type 0} (b : Bool) (x : X) (o : Option X) → (if b then Some x else o) ≡ None → (b ≡ false) × (o ≡ None)
 if_none true x o e = absurd cc
@@ -44,7 +42,7 @@ fed_set c x (e ∷ t) f h = let own = if_none e.1.starved e.0 (first_hungry t) h
   | inr k ↦ rw (k, own.0) (fed_set c x t f own.1)
 ]
 
-fed_without : (c : ℕ) (t : Table Session) → first_hungry t ≡ None → first_hungry (without c t) ≡ None
+pub fed_without : (c : ℕ) (t : Table Session) → first_hungry t ≡ None → first_hungry (without c t) ≡ None
 fed_without c [] h = refl
 fed_without c (e ∷ t) h = let own = if_none e.1.starved e.0 (first_hungry t) h in elim (cases_Bool (is_at (nat_cmp c) e.0)) [
   | inl k ↦ rw k own.1
@@ -228,7 +226,7 @@ busy_step (pours_no_more _) busy shape = absurd cc
 busy_step (pours_end _) busy shape = absurd cc
 busy_step (pours_failing _) busy shape = absurd cc
 
-no_starving : (todo : List Task) (e : Event) → is_busy todo ≡ false → starves todo e ≡ false
+pub no_starving : (todo : List Task) (e : Event) → is_busy todo ≡ false → starves todo e ≡ false
 no_starving (send m ∷ r) e f = absurd cc
 no_starving (answer c x ∷ r) e f = absurd cc
 no_starving (status c ∷ r) e f = absurd cc

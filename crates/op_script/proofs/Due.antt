@@ -12,7 +12,7 @@ use Rattle.op_loop.specs.Rules.{Task, Moment, at, Step, Event, net, quiet, unles
 use Rattle.op_loop.specs.declared.serve_end.ServeEnd.{ServeEnd}
 use Rattle.op_script.proofs.Places.{moves}
 use Rattle.op_script.proofs.Owing.{Placed, mark_of, Owes, owes_one}
-use Rattle.op_script.proofs.Calm.{Calm, calm_step}
+use Rattle.op_script.proofs.Calm.{Calm}
 use Rattle.op_script.proofs.Stretches.{no_mark_moving}
 use Rattle.op_loop.proofs.TakingTables.{hits}
 use Rattle.op_script.proofs.Rests.{Rest, Goes, goes, Still, Staged, is_joining, stage_keeps, Gets, gets_step}
@@ -23,7 +23,7 @@ use Rattle.op_script.proofs.Leaving.{unchanged, away_sees}
 -- ---- steps of one rule
 
 module _ {o : Settings} {r : List Task} {s : Loop} {n : Standing} where
-  pub close_step : {c : ℕ} {e : Event} {b : Moment} → Step o (at (close c ∷ r) s n) e b → (e ≡ net (Closed c)) × (b ≡ at (of_end (goes_down (kind_at c s)) ++ r) (left_by c s) n)
+  close_step : {c : ℕ} {e : Event} {b : Moment} → Step o (at (close c ∷ r) s n) e b → (e ≡ net (Closed c)) × (b ≡ at (of_end (goes_down (kind_at c s)) ++ r) (left_by c s) n)
   close_step closes = (refl, refl)
 
   pub settle_step : {e : Event} {b : Moment} → Step o (at (settle ∷ r) s n) e b → Calm s → (e ≡ quiet) × (b ≡ at r s n)
@@ -37,14 +37,14 @@ module _ {o : Settings} {r : List Task} {s : Loop} {n : Standing} where
       let same : d ≡ c = some_is (sym h ∙ is) in
       (refl, ap (λ x. at (unless_full (marked (Some x) s) (close x ∷ settle ∷ r)) (marked (Some x) s) n) same)
 
-  pub count_step : {e : Event} {b : Moment} → Step o (at (count ∷ r) s n) e b → (e ≡ quiet) × (b ≡ at r (frame_counted s) n)
+  count_step : {e : Event} {b : Moment} → Step o (at (count ∷ r) s n) e b → (e ≡ quiet) × (b ≡ at r (frame_counted s) n)
   count_step counts = (refl, refl)
 
   meet_step : {c q : ℕ} {e : Event} {b : Moment} → Step o (at (meet c q ∷ r) s n) e b → (e ≡ quiet) × (b ≡ at (give None (input.Up q) ∷ r) (met c q s) n)
   meet_step meets = (refl, refl)
 
   -- a connection without a session has no frames
-  pub away_step : {c : ℕ} {y : Stream} {e : Event} {b : Moment} → Step o (at (frames c y ∷ r) s n) e b → is_open c s ≡ false → (e ≡ quiet) × (b ≡ at r s n)
+  away_step : {c : ℕ} {y : Stream} {e : Event} {b : Moment} → Step o (at (frames c y ∷ r) s n) e b → is_open c s ≡ false → (e ≡ quiet) × (b ≡ at r s n)
   away_step {c = c} {y = y} (has_no_frame look) out = (refl, ap (λ t. at r t n) (unchanged (holding y) c s out))
   away_step {c = c} {y = y} (is_refused look) out = absurd (let bad = away_sees c s y refused out look in cc)
   away_step {c = c} {y = y} (is_client look) out = absurd (let bad = away_sees c s y a_client out look in cc)
@@ -57,7 +57,7 @@ module _ {o : Settings} {r : List Task} {s : Loop} {n : Standing} where
 pub still_quiet : (e : Event) → e ≡ quiet → Still e
 still_quiet e is = rw is (refl, refl, refl)
 
-pub still_closed : (e : Event) (c : ℕ) → e ≡ net (Closed c) → Still e
+still_closed : (e : Event) (c : ℕ) → e ≡ net (Closed c) → Still e
 still_closed e c is = rw is (refl, refl, refl)
 
 -- a run with these marks makes its next one at this place, for this connection
@@ -69,11 +69,6 @@ due_like c s t e f due = record {
   others = due.others;
   is = due.is ∙ ap (λ l. l ++ mark_at s.place (Some c) ∷ due.others) e ∙ ap (λ p. t.lost ++ mark_at p (Some c) ∷ due.others) f;
 }
-
-pub calm_left : (o : Settings) (n : Standing) (c : ℕ) (s : Loop) → Calm s → Calm (left_by c s)
-calm_left o n c s calm =
-    let st : Step o (at (close c ∷ []) s n) (net (Closed c)) (at (of_end (goes_down (kind_at c s)) ++ []) (left_by c s) n) = closes in
-    calm_step st refl calm
 
 -- each connection has one session at most
 pub few_here : (todo : List Task) (s : Loop) (n : Standing) (c : ℕ) → is_joining todo ≡ false → Staged (at todo s n) → length (hits c s.sessions) ≤ 1

@@ -20,12 +20,12 @@ use Rattle.op_loop.specs.Rules.{Task, Moment, at, no_command, Step, Event, ask, 
 use Rattle.op_loop.specs.declared.serve_end.ServeEnd.{ServeEnd}
 use Rattle.op_script.proofs.Alike.{hungry_first}
 use Rattle.op_script.proofs.Owing.{mark_of, if_hungry}
-use Rattle.op_script.proofs.Calm.{Calm, calm_step}
+use Rattle.op_script.proofs.Calm.{Calm, calm_step, fed_without}
 use Rattle.op_loop.proofs.TakingTables.{hits}
 use Rattle.op_script.proofs.Rests.{Rest, Goes, goes, going, TellAs, tell_same, tell_still, Still}
 use Rattle.op_loop.proofs.Follows.{some_is}
 use Rattle.op_script.proofs.Leaving.{peer_of, open_of_kind, kind_changed, kind_hungry, whole_kind, client_kind}
-use Rattle.op_script.proofs.Due.{settle_hungry, still_quiet, Due, due_like, due_mark, due_step, calm_left, few_here, moving_none, counting_none, asking_none, close_none, peer_none}
+use Rattle.op_script.proofs.Due.{settle_hungry, still_quiet, Due, due_like, due_mark, due_step, few_here, moving_none, counting_none, asking_none, close_none, peer_none}
 use Rattle.op_script.proofs.Shutting.{Shut, shuts, shut_then, shut_changed, uncount}
 
 -- where a run owed the mark of a connection, it was the one whose frames are dealt with, and it was closed
@@ -88,7 +88,7 @@ module _ {o : Settings} {end : ServeEnd} {marks : List Mark} {n : Standing} wher
 
   module _ (r : List Task) {s : Loop} {es : List Event} (i k : ℕ) (y : Stream) (c d : ℕ) (calm : Calm s) (few : length (hits d s.sessions) ≤ 1) (due : Due marks c s) where
     message_none : (q : ℕ) (m : Result (ℕ × ℕ × Msg) ℕ) → Rest o end marks (at (of_message s.me q d m ++ settle ∷ count ∷ frames d y ∷ settle ∷ ask i k ∷ r) s n) es → ⊥
-    message_none q (Err bad) rest = close_none c d rest due (λ fs p owed. counting_none c p (calm_left o n d s calm) owed)
+    message_none q (Err bad) rest = close_none c d rest due (λ fs p owed. counting_none c p (fed_without d s.sessions calm) owed)
     message_none q (Ok m) rest = go ((m.0 == q) && (m.1 == s.me)) rest
       where
         go : (b : Bool) → Rest o end marks (at ((if b then give None (input.Deliver q m.2) ∷ [] else []) ++ settle ∷ count ∷ frames d y ∷ settle ∷ ask i k ∷ r) s n) es → ⊥
@@ -131,7 +131,7 @@ module _ {o : Settings} {end : ServeEnd} {marks : List Mark} {n : Standing} wher
     lag_step (has_no_frame look) rest still few mark again =
         absurd (asking_none c rest still (due_like c s (with_session (holding x) d s) refl refl due))
     lag_step (is_refused look) rest still few mark again =
-        absurd (close_none c d rest due (λ fs p owed. asking_none c p (calm_left o n d s calm) owed))
+        absurd (close_none c d rest due (λ fs p owed. asking_none c p (fed_without d s.sessions calm) owed))
     lag_step {es = es} (is_client look) rest still few mark again =
         let t : Loop = with_session (of_this_kind Client) d s in
         let l = again (begun client_head client_limit 1 x) t rest still (due_like c s t refl refl due) in

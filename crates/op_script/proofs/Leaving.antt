@@ -50,7 +50,7 @@ leaving_set : (p : Option ℕ) (c : ℕ) (y : Session) (s : Loop) → leaving p 
 leaving_set None c y s = ap (λ xs. record s { sessions = xs; queues = removed c s.queues }) (without_set c y s.sessions)
 leaving_set (Some q) c y s = ap (λ xs. record (linked q None s) { sessions = xs; queues = removed c s.queues }) (without_set c y s.sessions)
 
-pub changed_some : (f : Session → Session) (c : ℕ) (s : Loop) (x : Session) → find c s.sessions ≡ Some x → with_session f c s ≡ record s { sessions = set c (f x) s.sessions }
+changed_some : (f : Session → Session) (c : ℕ) (s : Loop) (x : Session) → find c s.sessions ≡ Some x → with_session f c s ≡ record s { sessions = set c (f x) s.sessions }
 changed_some f c s x e = rw e refl
 
 left_of : (f : Session → Session) (c : ℕ) (s : Loop) (w : Option Session) → find c s.sessions ≡ w → ((x : Session) → find c s.sessions ≡ Some x → peer_of (f x).kind ≡ peer_of x.kind)

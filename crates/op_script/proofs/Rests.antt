@@ -22,7 +22,7 @@ use Rattle.op_script.proofs.Owing.{Placed, placed_step}
 abbrev pub Staged : Moment → Type 0
 Staged a = (c : ℕ) → (me : ℕ) × (t : Traffic) × Stage me c t a.todo a.loop
 
-pub staged_step : {o : Settings} {a b : Moment} {e : Event} → Step o a e b → Staged a → Staged b
+staged_step : {o : Settings} {a b : Moment} {e : Event} → Step o a e b → Staged a → Staged b
 staged_step {e = e} st g c = let h = g c in (h.0, and_then h.0 c h.1 e, step h.0 c h.1 st h.2)
 
 -- no connection comes that has a queue, and no session yet
@@ -104,7 +104,7 @@ may_end (starved ∷ r) = true
 may_end (broken ∷ r) = true
 may_end _ = false
 
-pub not_over : (end : ServeEnd) (todo : List Task) (s : Loop) → EndsAt end todo s → may_end todo ≡ false → ⊥
+not_over : (end : ServeEnd) (todo : List Task) (s : Loop) → EndsAt end todo s → may_end todo ≡ false → ⊥
 not_over ends.Ended todo s h f = (let bad : may_end (turns h.0.0 ∷ []) ≡ false = subst (λ l. may_end l ≡ false) h.0.1 f in absurd cc)
 not_over ends.TurnsOver todo s h f = (let bad : may_end (turns 0 ∷ []) ≡ false = subst (λ l. may_end l ≡ false) h.0 f in absurd cc)
 not_over ends.NetFault todo s h f = (let bad : may_end (broken ∷ []) ≡ false = subst (λ l. may_end l ≡ false) h f in absurd cc)

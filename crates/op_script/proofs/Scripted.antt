@@ -22,7 +22,7 @@ use Rattle.op_loop.specs.Taking.{no_traffic}
 use Rattle.op_loop.specs.Following.{answer_of, found}
 use Rattle.op_loop.proofs.Follows.{one_next, firsts}
 use Rattle.op_script.proofs.Shapes.{Shape, AfterAdmit, AfterSettle, dialling_after_admit, is_busy, busy_is}
-use Rattle.op_script.proofs.Calm.{Calm, calm_step, starves, settled_step, calm_at_start, hungry_open}
+use Rattle.op_script.proofs.Calm.{Calm, calm_step, no_starving, settled_step, calm_at_start, hungry_open}
 use Rattle.op_script.proofs.Owing.{Placed, placed_at_start, if_hungry, if_lost, owes_still, no_mark_behind, Owes}
 use Rattle.op_script.proofs.Stretches.{Pouring, no_mark_coming, no_mark_writing}
 use Rattle.op_script.proofs.Classes.{Class, of_nothing, of_outside, of_memory, of_node, class_of, same_class, answer_of_nothing, answer_of_memory, given_is, unfound_is, said_of_outside, no_step_at_end, no_run_at_end, one_end}
@@ -72,13 +72,6 @@ answers_of : {o : Settings} {a b d : Moment} {e f : Event} (es fs : List Event) 
 answers_of {e = e} {f = f} es fs st other free said = of_class (class_of e) e f es fs refl (sym (same_class st other)) (no_node st free) said
 
 -- ---- an end request
-
-calm_fed : (todo : List Task) (e : Event) → is_busy todo ≡ false → starves todo e ≡ false
-calm_fed (send x ∷ r) e f = absurd cc
-calm_fed (answer c x ∷ r) e f = absurd cc
-calm_fed (status c ∷ r) e f = absurd cc
-calm_fed (finish c ∷ r) e f = absurd cc
-calm_fed _ e f = refl
 
 -- an answer that found no memory is marked, before the next frame
 finish_apart : {o : Settings} {end other : ServeEnd} {marks : List Mark} {r : List Task} {s : Loop} {n : Standing} {es fs : List Event} (c : ℕ)
@@ -178,7 +171,7 @@ module _ {o : Settings} {marks : List Mark} {m : ℕ} (below : Below o marks m) 
     })
     | inr f ↦ (let now = subst (λ l. Rest o end marks (at l b.loop b.node_at) es) f.is one in
         let too = subst (λ l. Rest o other marks (at l b.loop b.node_at) fs) f.is two in
-        both_finish f.conn now too lt f.rest (calm_step st (calm_fed a.todo e free) still) f.here said came)
+        both_finish f.conn now too lt f.rest (calm_step st (no_starving a.todo e free) still) f.here said came)
   ]
 
   tell_unfound : (f : Event) (fs : List Event) → answer_of f ≡ found false → TellAs (f ∷ fs) fs

@@ -14,13 +14,13 @@ use Rattle.op_loop.specs.Serving.{EndsAt}
 use Rattle.op_loop.specs.declared.serve_end.ServeEnd.{ServeEnd}
 use Rattle.op_loop.specs.declared.serve_end.ServeEnd.TheVariants as ends
 use Rattle.op_script.proofs.Places.{room_less}
-use Rattle.op_script.proofs.Calm.{Calm}
+use Rattle.op_script.proofs.Calm.{Calm, fed_without}
 use Rattle.op_script.proofs.Classes.{no_run_at_end, one_end}
 use Rattle.op_loop.proofs.TakingTasks.{Plain, has_new, is_new}
 use Rattle.op_loop.proofs.TakingTables.{hits}
 use Rattle.op_script.proofs.Rests.{Rest, Ended, goes, TellAs, tell_same, tell_then, tell_both, Gets, gets_then}
 use Rattle.op_script.proofs.Leaving.{peer_of, left_changed, marked_after, marked_kind, marked_sessions, few_away}
-use Rattle.op_script.proofs.Due.{settle_step, calm_left, settled, closing, counting, passing}
+use Rattle.op_script.proofs.Due.{settle_step, settled, closing, counting, passing}
 
 -- a run for which this connection is marked stops at the most marks, or gets to where it was closed
 pub data Shut (o : Settings) (end : ServeEnd) (marks : List Mark) (c : ℕ) (s : Loop) (n : Standing) (r : List Task) (es : List Event) : Type 0 where
@@ -74,7 +74,7 @@ module _ {o : Settings} {end : ServeEnd} {marks : List Mark} {n : Standing} wher
       }
 
   -- the frames of a session that was closed leave no trace
-  pub uncounted : {r : List Task} {v : Loop} {es : List Event} {d i k : ℕ} {y : Stream} → Rest o end marks (at (settle ∷ count ∷ frames d y ∷ settle ∷ ask i k ∷ r) v n) es
+  uncounted : {r : List Task} {v : Loop} {es : List Event} {d i k : ℕ} {y : Stream} → Rest o end marks (at (settle ∷ count ∷ frames d y ∷ settle ∷ ask i k ∷ r) v n) es
       → Calm v → is_open d v ≡ false → Gets o end marks es (at (settle ∷ ask i k ∷ r) v n)
   unfolding Plain has_new is_new
   uncounted {r = r} {v = v} {es = es} {d = d} {i = i} {k = k} {y = y} rest calm out =
@@ -127,7 +127,7 @@ module _ {o : Settings} {end : ServeEnd} {marks : List Mark} {n : Standing} wher
       let same : u.sessions ≡ s.sessions = marked_sessions (Some d) s in
       let todo = settle ∷ count ∷ frames d y ∷ settle ∷ ask i k ∷ r in
       let here = subst (λ w. Gets o end marks es (at (of_end (goes_down w) ++ todo) (left_by d u) n)) kind g in
-      let still = calm_left o n d u (ap first_hungry same ∙ calm) in
+      let still = fed_without d u.sessions (ap first_hungry same ∙ calm) in
       let away = few_away d u (subst (λ xs. length (hits d xs) ≤ 1) (sym same) few) in
       let on = gets_then (at todo (left_by d u) n) (at (settle ∷ ask i k ∷ r) (left_by d u) n) here (λ fs q. uncounted q still away) in
       is_shut h (subst (λ w. Gets o end marks es (at (of_end (goes_down w) ++ settle ∷ ask i k ∷ r) (left_by d u) n)) (sym kind) on)

@@ -113,10 +113,10 @@ busy_after (stop is st) h = ap (λ (m : Moment). is_busy m.todo) is
 -- ---- a connection that was closed
 
 -- it has no session, and no session of it begins
-abbrev pub Gone : ℕ → Moment → Type 0
+abbrev Gone : ℕ → Moment → Type 0
 Gone c a = (me : ℕ) × (t : Traffic) × (t.joined ≡ false) × Stage me c t a.todo a.loop
 
-pub gone_now : (c : ℕ) (todo : List Task) (s : Loop) (n : Standing) → is_joining todo ≡ false → Staged (at todo s n) → is_open c s ≡ false → Gone c (at todo s n)
+gone_now : (c : ℕ) (todo : List Task) (s : Loop) (n : Standing) → is_joining todo ≡ false → Staged (at todo s n) → is_open c s ≡ false → Gone c (at todo s n)
 gone_now c todo s n f g out =
     let h = g c in
     let k = stage_keeps s todo f h.2 in (
@@ -129,7 +129,7 @@ gone_now c todo s n f g out =
       h.2,
     )
 
-pub gone_out : (c : ℕ) (todo : List Task) (s : Loop) (n : Standing) → is_joining todo ≡ false → Gone c (at todo s n) → is_open c s ≡ false
+gone_out : (c : ℕ) (todo : List Task) (s : Loop) (n : Standing) → is_joining todo ≡ false → Gone c (at todo s n) → is_open c s ≡ false
 gone_out c todo s n f g = elim (stage_keeps s todo f g.3).either [
   | inl a ↦ is_out c s.sessions a.sessions
   | inr a ↦ absurd (let bad : true ≡ false = sym a.joined ∙ g.2 in cc)
@@ -143,11 +143,11 @@ not_joined me c t (memory b) f h = h
 not_joined me c t quiet f h = h
 not_joined me c t _ f h = absurd cc
 
-pub gone_step : {o : Settings} {a b : Moment} {e : Event} (c : ℕ) → Step o a e b → is_inner e ≡ true → Gone c a → Gone c b
+gone_step : {o : Settings} {a b : Moment} {e : Event} (c : ℕ) → Step o a e b → is_inner e ≡ true → Gone c a → Gone c b
 gone_step {e = e} c st f g = (g.0, and_then g.0 c g.1 e, not_joined g.0 c g.1 e f g.2, step g.0 c g.1 st g.3)
 
 -- the same end, from another moment, telling the same
-abbrev pub Instead : Settings → ServeEnd → List Mark → List Event → Moment → Type 0
+abbrev Instead : Settings → ServeEnd → List Mark → List Event → Moment → Type 0
 Instead o end marks es b = (fs : List Event) × TellAs es fs × Ended o end marks b fs
 
 -- ---- the frames of a connection that was closed
@@ -194,7 +194,7 @@ module _ (o : Settings) (end : ServeEnd) (marks : List Mark) (c : ℕ) (y : Stre
             (quiet ∷ es, tell_same (quiet ∷ es), ended_more (settles h) (subst (λ b. Ended o end marks (at (if b then close d ∷ settle ∷ ask i k ∷ r else starved ∷ []) u n) es) (sym full) (ended stopped))))
       ]
 
-  pub skip : (es : List Event) (xs : List Task) (s : Loop) (n : Standing) → Hands xs
+  skip : (es : List Event) (xs : List Task) (s : Loop) (n : Standing) → Hands xs
       → Rest o end marks (at (xs ++ settle ∷ frames c y ∷ settle ∷ ask i k ∷ r) s n) es
       → Gone c (at (xs ++ settle ∷ frames c y ∷ settle ∷ ask i k ∷ r) s n) → Instead o end marks es (at (xs ++ settle ∷ ask i k ∷ r) s n)
   skip [] xs s n f rest gone = let g = goes (front_first xs (frames c y ∷ settle ∷ ask i k ∷ r) f) rest in absurd (let bad = g.are in cc)

@@ -7,13 +7,11 @@ use Rattle.op_sessions.specs.declared.mark.Place.{Place}
 use Rattle.op_sessions.specs.State.{Loop, mark_at, is_open, kind_at, goes_down, goes_up}
 use Rattle.op_loop.specs.Rules.{Task, Moment, Step, Event, net, clock, node, joins, queues, memory, quiet, done, faults, lost, turns, turn, dial, ask, admit, join, count, give, send, answer, status, finish, settle, close, write, greet, pour, broken, of_end, of_hello, goes_on, waits, waits_failing, is_early, is_due, is_above, is_met, dials, dials_in_vain, dials_failing, is_there, is_noted, is_turned_away, is_admitted, is_turned_out, drops, asks, has_asked, reads, reads_nothing, reads_end, reads_failing, feeds, feeds_not, has_no_frame, is_refused, is_client, is_peer_of, has_frame, has_no_room, meets, counts, gives_done, gives_faulted, gives_lost, sends, sends_hungry, sends_to_none, replies, answers, answers_hungry, tells_status, tells_no_status, finishes, finishes_not, has_settled, settles, closes, has_written, writes_next, has_greeted, has_no_hello, greets, greets_no_more, greets_end, greets_failing, has_poured, pours, pours_no_more, pours_end, pours_failing}
 use Rattle.op_loop.specs.Run.{Run, none, more}
+use Rattle.op_loop.proofs.Follows.{some_is}
 use Rattle.op_script.proofs.Places.{moves, mark_rank, place_stays}
 use Rattle.op_script.proofs.Shapes.{Base, Asking, Dialling, Writing, AfterAdmit, asking_dialling, dialling_after_admit}
 use Rattle.op_script.proofs.Owing.{Placed, placed_step, mark_of, if_lost, Owes, owes_none, owes_one, owes_still, no_mark_behind}
 use Rattle.op_script.proofs.Calm.{Calm, starves, calm_step, still_open}
-
-some_is : {X : Type 0} {a b : X} → Some a ≡ Some b → a ≡ b
-some_is e = cc
 
 -- ---- where the place moves next
 
