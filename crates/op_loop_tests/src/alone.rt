@@ -1,13 +1,10 @@
 //! A node that is the only member, on disks in memory.
-use crate::scripts::{closings, comes, happens, served_alone, written};
+use crate::scripts::{closings, comes, happens, most_of_the_longest, served_alone, written};
 use op_loop::ServeEnd;
 use op_memory::NetScript;
 use op_outside::Happening;
 use std::alloc::Global;
 use std::test::Fail;
-
-/// The longest body of a client's frame.
-const MOST: usize = 65_536;
 
 /// A reply that is of no command: its head, the client and number 0, and what is said.
 fn told(alloc: Global, said: &[u8]) -> Result<Vec<u8>, Fail> {
@@ -45,11 +42,7 @@ fn a_bad_request_and_a_frame_that_is_too_long(rt: HostRuntime) -> Result<(), Fai
         &[Happening::Readable(5), Happening::Readable(6)],
     )?;
     comes(&mut script, alloc, b"C\x00\x00")?;
-    let mut body = Vec::from_slice(alloc, b"C\x00\x01\x00\x00")?;
-    for _ in 0..MOST - 5 {
-        body.push(0)?;
-    }
-    comes(&mut script, alloc, body.as_slice())?;
+    comes(&mut script, alloc, most_of_the_longest(alloc)?.as_slice())?;
     comes(&mut script, alloc, &[0, 0, 0, 0, 0])?;
     comes(&mut script, alloc, b"\x00\x01\x00\x01")?;
     comes(&mut script, alloc, b"\x00\x01\x04")?;

@@ -1,17 +1,14 @@
-use crate::scripts::{closings, comes, happens, served, written};
+use crate::scripts::{closings, comes, happens, most_of_the_longest, served, written};
 use op_loop::ServeEnd;
 use op_memory::NetScript;
 use op_outside::Happening;
+use op_types::NoMemory;
+use std::alloc::Global;
 use std::test::Fail;
 
-/// The longest body of a client's frame.
-const MOST: usize = 65_536;
-
-#[test]
-fn bad_requests_and_a_frame_that_is_too_long(rt: HostRuntime) -> Result<(), Fail> {
-    let alloc = rt.alloc();
+/// Session 5 sends a body of zeros in two reads, and then the head of a longer one; session 6 a request in halves.
+fn zeros_and_halves(alloc: Global) -> Result<NetScript, NoMemory> {
     let mut script = NetScript::new(alloc);
-    // Session 5 sends a body of zeros in two reads, and then the head of a longer one; session 6 a request in halves.
     happens(
         &mut script,
         alloc,
@@ -32,16 +29,18 @@ fn bad_requests_and_a_frame_that_is_too_long(rt: HostRuntime) -> Result<(), Fail
             Happening::Readable(5),
         ],
     )?;
-    let mut first = Vec::from_slice(alloc, b"C\x00\x01\x00\x00")?;
-    for _ in 0..MOST - 5 {
-        first.push(0)?;
-    }
-    comes(&mut script, alloc, first.as_slice())?;
+    comes(&mut script, alloc, most_of_the_longest(alloc)?.as_slice())?;
     comes(&mut script, alloc, b"C\x00\x00\x00\x01")?;
     comes(&mut script, alloc, &[0, 0, 0, 0, 0])?;
     comes(&mut script, alloc, b"\x00\x01\x00\x01abc")?;
     comes(&mut script, alloc, b"\x04")?;
-    let (end, lost, net) = served(alloc, script, 3)?;
+    Ok(script)
+}
+
+#[test]
+fn bad_requests_and_a_frame_that_is_too_long(rt: HostRuntime) -> Result<(), Fail> {
+    let alloc = rt.alloc();
+    let (end, lost, net) = served(alloc, zeros_and_halves(alloc)?, 3)?;
     assert_eq!(rt; end, ServeEnd::TurnsOver);
     assert!(rt; lost.is_empty());
     assert_eq!(rt; closings(&net, 5), 1);

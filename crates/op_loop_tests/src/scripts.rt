@@ -18,6 +18,18 @@ use std::test::Fail;
 /// The fault count of the failed node.
 pub const FAULTS: u64 = 7;
 
+/// The longest body of a client's frame.
+const MOST: usize = 65_536;
+
+/// A client's first byte, the head of the longest body, and that body's zeros but for the last five.
+pub fn most_of_the_longest(alloc: Global) -> Result<Vec<u8>, NoMemory> {
+    let mut bytes = Vec::from_slice(alloc, b"C\x00\x01\x00\x00")?;
+    for _ in 0..MOST - 5 {
+        bytes.push(0)?;
+    }
+    Ok(bytes)
+}
+
 /// Nodes 1 to 3, of which 1 is the only member, and so many turns.
 pub fn settings(alloc: Global, turns: u64) -> Result<Settings, NoMemory>
     ensures { IfOk result PeersInRange }
