@@ -48,8 +48,10 @@ abbrev pub fates : List Event → List Fate
 fates [] = []
 fates (e ∷ es) = fate_in e ++ fates es
 
--- So many turns were served from the start, and ended so, with these marks; no count of a mark's place came to its last value.
-pub record IsServed (o : Settings) (k me start : ℕ) (n : Standing) (events : List Event) (end : ServeEnd) (marks : List Mark) : Type 0 where
+-- So many turns were served from the start, and ended so, with these marks. There were so few events that no count in a
+-- mark came to its last value.
+pub record IsServed (o : Settings) (k me start : ℕ) (n : Standing) (events : List Event) (end : ServeEnd) (marks : List Mark)
+    : Type 0 where
   pub last : Moment
   pub run : Run o (at (turns k ∷ []) (started o me start) n) events last
   pub ends : EndsAt end last.todo last.loop
