@@ -21,9 +21,9 @@ use Rattle.op_sessions.specs.State.{Loop, Table, most_marks, find, without, entr
 use Rattle.op_loop.specs.Cores.{Standing, gives}
 use Rattle.op_loop.specs.Following.{Answer, became, found, answer_of}
 use Rattle.op_loop.specs.Looks.{nothing}
-use Rattle.op_loop.specs.Rules.{Task, Moment, Event, Step, done, faults, lost, at, give, send, reply, answer, status, finish, close, meet, settle, starved, of_asker, answered, of_end, of_loss, status_of, ended, met, refusal_of, waits_unless, waits_for_answer}
+use Rattle.op_loop.specs.Rules.{Task, Moment, Event, Step, done, faults, lost, at, give, send, reply, answer, status, close, meet, starved, of_asker, answered, of_end, of_loss, status_of, met, refusal_of, waits_unless, waits_for_answer}
 use Rattle.op_loop.specs.Run.{input_of}
-use Rattle.op_loop.proofs.Follows.{Sees, next_of, of_queued, of_sent, of_fate, of_finished, of_settled, step_next}
+use Rattle.op_loop.proofs.Follows.{Sees, next_of, of_queued, of_sent, of_fate, step_next}
 
 -- ---- what is the same
 
@@ -342,9 +342,6 @@ alike_ending a = ap (λ l. l.ending) a.rest
 pub alike_askers : {s t : Loop} → Alike s t → s.askers ≡ t.askers
 alike_askers a = ap (λ l. l.askers) a.rest
 
-pub alike_links : {s t : Loop} → Alike s t → s.links ≡ t.links
-alike_links a = ap (λ l. l.links) a.rest
-
 pub alike_session : {s t : Loop} (q : ℕ) → Alike s t → session_of q s ≡ session_of q t
 alike_session q a = ap (session_of q) a.rest
 
@@ -410,9 +407,6 @@ alike_marked {s = s} {t = t} conn a =
 
 pub alike_told : {s t : Loop} (key : ℕ × ℕ) → Alike s t → Alike (told key s) (told key t)
 alike_told key a = record { rest = ap (told key) a.rest; queues = a.queues }
-
-pub alike_ended : {s t : Loop} → Alike s t → Alike (record s { ending = true }) (record t { ending = true })
-alike_ended a = record { rest = ap (λ (l : Loop). record l { ending = true }) a.rest; queues = a.queues }
 
 asked_still : (key : ℕ × ℕ) (o : Option Session) (c : ℕ) (s : Loop) → Still (asked key o c s) s
 asked_still key None c s = record { sessions = refl; queues = refl }
@@ -555,14 +549,6 @@ alike_tidy {s = s} {t = t} a tidy = λ c out. same_find (Hungry s.sessions t.ses
 pub hungry_first : (c : ℕ) (s : Loop) → first_hungry s.sessions ≡ None → is_open c s ≡ true → first_hungry (with_session hungry c s).sessions ≡ Some c
 hungry_first c s calm is = ap first_hungry (entry_is hungry c s.sessions) ∙ first_own c s.sessions calm is
 
-none_of : {X : Type 0} (o : Option X) → is_some o ≡ false → o ≡ None
-none_of None e = refl
-none_of (Some x) e = absurd cc
-
--- where it isn't there, nothing changes
-pub hungry_none : (c : ℕ) (s : Loop) → is_open c s ≡ false → with_session hungry c s ≡ s
-hungry_none c s out = let e = none_of (find c s.sessions) out in rw e refl
-
 -- ---- steps
 
 -- tasks by which alike loops stay alike, whether there is memory or not
@@ -630,22 +616,6 @@ module _ {s t : Loop} (r : List Task) (n : Standing) (a : Alike s t) where
   }
   fate_nexts who i x = tt
 
-  finished_nexts : (c : ℕ) (bytes : List ℕ) (x : Answer) → Nexts (of_finished c bytes r s n x) (of_finished c bytes r t n x)
-  unfolding of_finished Nexts
-  finished_nexts c bytes (found true) = record { todo = refl; node = refl; loops = alike_ended (alike_queued c bytes a); inputs = refl }
-  finished_nexts c bytes (found false) = record { todo = refl; node = refl; loops = alike_hungry c a; inputs = refl }
-  finished_nexts c bytes x = tt
-
-  settled_nexts : (o : Option ℕ) → Nexts (of_settled o r s n) (of_settled o r t n)
-  unfolding of_settled Nexts
-  settled_nexts None = record { todo = refl; node = refl; loops = a; inputs = refl }
-  settled_nexts (Some c) = record {
-    todo = ap (λ marks. if nat_lt (length marks) most_marks then close c ∷ settle ∷ r else starved ∷ []) (alike_lost (alike_marked (Some c) a));
-    node = refl;
-    loops = alike_marked (Some c) a;
-    inputs = refl;
-  }
-
 module _ {o : Settings} {r : List Task} {s t : Loop} {n : Standing} {e f : Event} {b d : Moment} where
   -- two steps of which what comes next is told
   of_nexts : (x : Task) → Sees (x ∷ r) s nothing → Sees (x ∷ r) t nothing → Nexts (next_of o (x ∷ r) s n nothing (answer_of e)) (next_of o (x ∷ r) t n nothing (answer_of f))
@@ -668,15 +638,3 @@ module _ {o : Settings} {r : List Task} {s t : Loop} {n : Standing} {e f : Event
       → Step o (at (give who i ∷ r) s n) e b → Step o (at (give who i ∷ r) t n) f d → Together e f b d
   unfolding Sees next_of
   give_pair who i a same st other = of_nexts (give who i) tt tt (rw (← same) (fate_nexts r n a who i (answer_of e))) st other
-
-  -- an end request, with memory in both or in neither
-  pub finish_pair : (c : ℕ) → Alike s t → answer_of e ≡ answer_of f
-      → Step o (at (finish c ∷ r) s n) e b → Step o (at (finish c ∷ r) t n) f d → Together e f b d
-  unfolding Sees next_of
-  finish_pair c a same st other = of_nexts (finish c) tt tt (rw (← same) (finished_nexts r n a c (client_frame ended) (answer_of e))) st other
-
-  -- the same session is closed in both, or none in either
-  pub settle_pair : Alike s t → first_hungry s.sessions ≡ first_hungry t.sessions
-      → Step o (at (settle ∷ r) s n) e b → Step o (at (settle ∷ r) t n) f d → Together e f b d
-  unfolding Sees next_of
-  settle_pair a same st other = of_nexts settle tt tt (rw same (settled_nexts r n a (first_hungry t.sessions))) st other

@@ -10,8 +10,8 @@ use Rattle.op_loop.specs.Looks.{Look, nothing, refused, a_client, a_peer, whole}
 use Rattle.op_loop.specs.declared.serve_end.ServeEnd.{ServeEnd}
 use Rattle.op_loop.specs.declared.serve_end.ServeEnd.TheVariants as ends
 use Rattle.op_loop.specs.Rules.{Task, Moment, Step, Event, Fate, net, clock, node, joins, queues, memory, quiet, turns, turn, time, dial, ask, admit, join, read, feed, frames, give, send, answer, status, finish, greet, pour, starved, broken, goes_on, waits, waits_failing, is_early, is_due, is_above, is_met, dials, dials_in_vain, dials_failing, is_there, is_noted, is_turned_away, is_admitted, is_turned_out, drops, asks, has_asked, reads, reads_nothing, reads_end, reads_failing, feeds, feeds_not, has_no_frame, is_refused, is_client, is_peer_of, has_frame, has_no_room, meets, counts, gives_done, gives_faulted, gives_lost, sends, sends_hungry, sends_to_none, replies, answers, answers_hungry, tells_status, tells_no_status, finishes, finishes_not, has_settled, settles, closes, has_written, writes_next, has_greeted, has_no_hello, greets, greets_no_more, greets_end, greets_failing, has_poured, pours, pours_no_more, pours_end, pours_failing}
-use Rattle.op_loop.specs.Run.{Run, none, more, input_of}
-use Rattle.op_script.specs.Script.{said_in, fate_in}
+use Rattle.op_loop.specs.Run.{Run, none, more}
+use Rattle.op_script.specs.Script.{said_in}
 use Rattle.op_loop.specs.Serving.{EndsAt}
 use Rattle.op_loop.specs.Following.{found, answer_of}
 use Rattle.op_loop.specs.Following.{nothing as no_answer}
@@ -185,27 +185,6 @@ said_of_outside (net (Wrote conn piece got)) is = refl
 said_of_outside (net (Closed conn)) is = absurd cc
 said_of_outside (clock t) is = refl
 said_of_outside _ is = absurd cc
-
-pub said_of_no_other : (e : Event) → (class_of e ≡ of_outside → ⊥) → said_in e ≡ []
-said_of_no_other (net (Listened addr got)) not = refl
-said_of_no_other (net (Closed conn)) not = refl
-said_of_no_other (net _) not = absurd (not refl)
-said_of_no_other (clock t) not = absurd (not refl)
-said_of_no_other _ not = refl
-
-pub said_of_nothing : (e : Event) → class_of e ≡ of_nothing → said_in e ≡ []
-said_of_nothing e is = said_of_no_other e (λ other. let bad : of_nothing ≡ of_outside = sym is ∙ other in cc)
-
-pub said_of_memory : (e : Event) → class_of e ≡ of_memory → said_in e ≡ []
-said_of_memory e is = said_of_no_other e (λ other. let bad : of_memory ≡ of_outside = sym is ∙ other in cc)
-
-pub said_of_node : (e : Event) → class_of e ≡ of_node → said_in e ≡ []
-said_of_node e is = said_of_no_other e (λ other. let bad : of_node ≡ of_outside = sym is ∙ other in cc)
-
--- only an input has a fate
-pub no_input : (e : Event) → (class_of e ≡ of_node → ⊥) → (input_of e ≡ []) × (fate_in e ≡ [])
-no_input (node i fate) not = absurd (not refl)
-no_input _ not = (refl, refl)
 
 -- ---- ends
 

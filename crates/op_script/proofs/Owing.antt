@@ -14,7 +14,7 @@ use Rattle.op_loop.specs.Rules.{Task, Moment, at, Step, Event, node, memory, los
 use Rattle.op_loop.specs.Run.{Run, none, more}
 use Rattle.op_loop.specs.Serving.{started, knowing}
 use Rattle.op_loop.proofs.Keeping.{unlinked_lost, admitted_lost, waits_lost}
-use Rattle.op_script.proofs.Places.{place_step, moves, next_stays, rank, mark_rank, Room, room_less, room_step, Bounded, rises}
+use Rattle.op_script.proofs.Places.{place_step, moves, next_stays, rank, mark_rank, Room, room_step, Bounded, rises}
 use Rattle.op_script.proofs.Shapes.{Shape, shape_step, started_shape}
 
 -- ---- where a run stands
@@ -105,9 +105,6 @@ pub record Placed (k : ℕ) (m : Moment) : Type 0 where
 
 pub placed_step : {o : Settings} {a b : Moment} {e : Event} (k : ℕ) → Step o a e b → Placed (suc k) a → Placed k b
 placed_step k st p = record { shape = shape_step st p.shape; room = room_step k st p.room; few = few_step st p.few }
-
-pub placed_less : {j k : ℕ} {m : Moment} → j ≤ k → Placed k m → Placed j m
-placed_less le p = record { shape = p.shape; room = room_less le p.room; few = p.few }
 
 knowing_place : (ps : List (ℕ × Addr)) (s : Loop) → (knowing ps s).place ≡ s.place
 knowing_place [] s = refl

@@ -9,7 +9,7 @@ use Rattle.op_loop.specs.Rules.{Task, Moment, Step, Event, net, clock, node, joi
 use Rattle.op_loop.specs.Run.{Run, none, more}
 use Rattle.op_loop.proofs.Follows.{some_is}
 use Rattle.op_script.proofs.Places.{moves, mark_rank, place_stays}
-use Rattle.op_script.proofs.Shapes.{Base, Asking, Dialling, Writing, AfterAdmit, asking_dialling, dialling_after_admit}
+use Rattle.op_script.proofs.Shapes.{Base, Dialling, Writing, AfterAdmit, asking_dialling, dialling_after_admit}
 use Rattle.op_script.proofs.Owing.{Placed, placed_step, mark_of, if_lost, Owes, owes_none, owes_one, owes_still, no_mark_behind}
 use Rattle.op_script.proofs.Calm.{Calm, starves, calm_step, still_open}
 
@@ -47,15 +47,6 @@ pub no_mark_moving : {o : Settings} {a d : Moment} {es : List Event} {m : Mark} 
     → m ≡ mark_at a.loop.place (Some c) → Owes m d.loop.lost a.loop → ⊥
 no_mark_moving c (none {a = a}) p f is owes = owes_none a.loop owes
 no_mark_moving c (more {a = a} {e = e} st run) p f is owes = moving_by c (mark_of a.todo a.loop e) refl st run p f is owes
-
-asking_moves : (a : ℕ) (todo : List Task) → Asking a todo → moves todo ≡ true
-asking_moves a (ask i k ∷ r) f = refl
-asking_moves a _ f = absurd f
-
--- where happenings are asked
-pub no_mark_asking : {o : Settings} {a d : Moment} {es : List Event} {m : Mark} (c : ℕ) → Run o a es d → Placed (length es) a → Asking a.loop.place.at a.todo
-    → m ≡ mark_at a.loop.place (Some c) → Owes m d.loop.lost a.loop → ⊥
-no_mark_asking {a = a} c run p f is owes = no_mark_moving c run p (asking_moves a.loop.place.at a.todo f) is owes
 
 -- ---- where other connections come
 
