@@ -32,10 +32,15 @@ fn is_written(alloc: Global, request: &Request, bytes: &[u8]) -> bool
         && take_request(alloc, bytes).is_ok()
 }
 
+/// Whether the put is written in its bytes.
+fn put_is_written(alloc: Global) -> Result<bool, NoMemory> {
+    let put = one_request(alloc)?;
+    Ok(is_written(alloc, &put, ONE_PUT))
+}
+
 #[test]
 fn requests_are_written_as_their_bytes(rt: HostRuntime) -> Result<(), Fail> {
-    let put = one_request(rt.alloc())?;
-    assert!(rt; is_written(rt.alloc(), &put, ONE_PUT));
+    assert!(rt; put_is_written(rt.alloc())?);
     assert!(rt; is_written(rt.alloc(), &Request::Status, &[4]));
     assert!(rt; is_written(rt.alloc(), &Request::End, &[5]));
     Ok(())
@@ -85,102 +90,120 @@ fn said_in(alloc: Global, bytes: &[u8]) -> Option<Said> {
     }
 }
 
-/// Causes for which a command is given up, and the answers' bytes after the client and the number.
-const CAUSES: [(&[u8], Cause); 3] = [
+/// What is said of a client's command, or to its client.
+#[derive(Clone, Copy)]
+enum Wanted<'a> {
+    Done,
+    Absent,
+    Stale,
+    Value(&'a [u8]),
+    /// The command is given up for this cause.
+    Dropped(Cause),
+    Outcome(Outcome),
+    RefusedMemory,
+    Status(&'a [u8]),
+    Ended,
+    /// The request is bad at this place.
+    BadRequest(u64),
+}
+
+fn is_answer(answer: &Answer, wanted: Wanted) -> bool {
+    match wanted {
+        Wanted::Done => *answer == Answer::Done,
+        Wanted::Absent => *answer == Answer::Absent,
+        Wanted::Stale => *answer == Answer::Stale,
+        Wanted::Value(bytes) => matches!(answer, Answer::Value(value) if value.as_slice() == bytes),
+        Wanted::Dropped(cause) => matches!(answer, Answer::Dropped(said) if *said == cause),
+        _ => false,
+    }
+}
+
+fn is_said(said: &Said, wanted: Wanted) -> bool {
+    match (said, wanted) {
+        (Said::Answer(answer), _) => is_answer(answer, wanted),
+        (Said::Outcome(said), Wanted::Outcome(outcome)) => *said == outcome,
+        (Said::RefusedMemory, Wanted::RefusedMemory) => true,
+        (Said::Status(said), Wanted::Status(line)) => said.as_slice() == line,
+        (Said::Ended, Wanted::Ended) => true,
+        (Said::BadRequest(at), Wanted::BadRequest(place)) => *at == place,
+        _ => false,
+    }
+}
+
+/// Whether these bytes, after the client and the number, say this.
+fn say(alloc: Global, bytes: &[u8], wanted: Wanted) -> bool {
+    match &said_in(alloc, bytes) {
+        Some(said) => is_said(said, wanted),
+        None => false,
+    }
+}
+
+/// The first of these bytes that say something else.
+fn first_other<'a>(alloc: Global, replies: &[(&'a [u8], Wanted)]) -> Option<&'a [u8]> {
+    for (bytes, wanted) in replies {
+        if !say(alloc, bytes, *wanted) {
+            return Some(bytes);
+        }
+    }
+    None
+}
+
+/// Answers, and their bytes after the client and the number.
+const ANSWERS: &[(&[u8], Wanted<'static>)] = &[
+    (&[1], Wanted::Done),
+    (&[2, 0, 1, b'x'], Wanted::Value(b"x")),
+    (&[3], Wanted::Absent),
+    (&[4], Wanted::Stale),
     (
         &[5, 1, 0, 0, 0, 0, 0, 0, 0, 3, 0, 0, 0, 2],
-        Cause::Ballot(Ballot { number: 3, pid: 2 }),
+        Wanted::Dropped(Cause::Ballot(Ballot { number: 3, pid: 2 })),
     ),
-    (&[5, 2, 0, 0, 0, 0, 0, 0, 0, 9], Cause::Stop(9)),
-    (&[5, 3], Cause::End),
+    (
+        &[5, 2, 0, 0, 0, 0, 0, 0, 0, 9],
+        Wanted::Dropped(Cause::Stop(9)),
+    ),
+    (&[5, 3], Wanted::Dropped(Cause::End)),
 ];
 
 /// Outcomes, and their bytes after the client and the number.
-const OUTCOMES: [(&[u8], Outcome); 7] = [
+const OUTCOMES: &[(&[u8], Wanted<'static>)] = &[
     (
         &[6, 1, 0, 0, 0, 0, 0, 0, 1, 2],
-        Outcome::Refused(Refusal::StorageFailed { count: 258 }),
+        Wanted::Outcome(Outcome::Refused(Refusal::StorageFailed { count: 258 })),
     ),
     (
         &[6, 2, 0, 0, 0, 0, 0, 0, 0, 9],
-        Outcome::Refused(Refusal::PendingStop { pos: 9 }),
+        Wanted::Outcome(Outcome::Refused(Refusal::PendingStop { pos: 9 })),
     ),
-    (&[6, 3], Outcome::Refused(Refusal::NoLeader)),
-    (&[6, 4], Outcome::Refused(Refusal::PositionsEnd)),
+    (
+        &[6, 3],
+        Wanted::Outcome(Outcome::Refused(Refusal::NoLeader)),
+    ),
+    (
+        &[6, 4],
+        Wanted::Outcome(Outcome::Refused(Refusal::PositionsEnd)),
+    ),
     (
         &[7, 0, 0, 0, 1, 0, 0, 0, 0, 0, 0, 1, 4],
-        Outcome::Appended(1, 260),
+        Wanted::Outcome(Outcome::Appended(1, 260)),
     ),
-    (&[8], Outcome::Buffered),
-    (&[9, 0, 0, 3, 231], Outcome::Forwarded(999)),
+    (&[8], Wanted::Outcome(Outcome::Buffered)),
+    (&[9, 0, 0, 3, 231], Wanted::Outcome(Outcome::Forwarded(999))),
 ];
 
-fn is_answer(alloc: Global, bytes: &[u8], answer: &Answer) -> bool {
-    match said_in(alloc, bytes) {
-        Some(Said::Answer(said)) => said == *answer,
-        _ => false,
-    }
-}
-
-fn is_value(alloc: Global, bytes: &[u8], value: &[u8]) -> bool {
-    match said_in(alloc, bytes) {
-        Some(Said::Answer(Answer::Value(said))) => said.as_slice() == value,
-        _ => false,
-    }
-}
-
-fn is_dropped(alloc: Global, bytes: &[u8], cause: Cause) -> bool {
-    match said_in(alloc, bytes) {
-        Some(Said::Answer(Answer::Dropped(said))) => said == cause,
-        _ => false,
-    }
-}
-
-fn is_outcome(alloc: Global, bytes: &[u8], outcome: Outcome) -> bool {
-    match said_in(alloc, bytes) {
-        Some(Said::Outcome(said)) => said == outcome,
-        _ => false,
-    }
-}
-
-fn is_status(alloc: Global, bytes: &[u8], line: &[u8]) -> bool {
-    match said_in(alloc, bytes) {
-        Some(Said::Status(said)) => said.as_slice() == line,
-        _ => false,
-    }
-}
-
-fn is_bad_request(alloc: Global, bytes: &[u8], place: u64) -> bool {
-    match said_in(alloc, bytes) {
-        Some(Said::BadRequest(at)) => at == place,
-        _ => false,
-    }
-}
-
-fn is_refused_for_memory(alloc: Global, bytes: &[u8]) -> bool {
-    matches!(said_in(alloc, bytes), Some(Said::RefusedMemory))
-}
-
-fn is_ended(alloc: Global, bytes: &[u8]) -> bool {
-    matches!(said_in(alloc, bytes), Some(Said::Ended))
-}
+/// What else is said, and its bytes after the client and the number.
+const OTHERS: &[(&[u8], Wanted<'static>)] = &[
+    (&[6, 5], Wanted::RefusedMemory),
+    (b"\x0c\x00\x0cnode 1 spare", Wanted::Status(b"node 1 spare")),
+    (&[13], Wanted::Ended),
+    (&[14, 0, 0, 0, 0, 0, 1, 0, 0], Wanted::BadRequest(65536)),
+];
 
 #[test]
 fn replies_are_read_from_their_bytes(rt: HostRuntime) -> Result<(), Fail> {
-    assert!(rt; is_answer(rt.alloc(), &[1], &Answer::Done));
-    assert!(rt; is_value(rt.alloc(), &[2, 0, 1, b'x'], b"x"));
-    assert!(rt; is_answer(rt.alloc(), &[3], &Answer::Absent));
-    assert!(rt; is_answer(rt.alloc(), &[4], &Answer::Stale));
-    for (bytes, cause) in CAUSES {
-        assert!(rt; is_dropped(rt.alloc(), bytes, cause), "{bytes:?}");
-    }
-    for (bytes, outcome) in OUTCOMES {
-        assert!(rt; is_outcome(rt.alloc(), bytes, outcome), "{bytes:?}");
-    }
-    assert!(rt; is_refused_for_memory(rt.alloc(), &[6, 5]));
-    assert!(rt; is_status(rt.alloc(), b"\x0c\x00\x0cnode 1 spare", b"node 1 spare"));
-    assert!(rt; is_ended(rt.alloc(), &[13]));
-    assert!(rt; is_bad_request(rt.alloc(), &[14, 0, 0, 0, 0, 0, 1, 0, 0], 65536));
+    assert_eq!(rt; first_other(rt.alloc(), ANSWERS), None);
+    assert_eq!(rt; first_other(rt.alloc(), OUTCOMES), None);
+    assert_eq!(rt; first_other(rt.alloc(), OTHERS), None);
     Ok(())
 }
 
@@ -219,19 +242,37 @@ const NO_REPLIES: [(&[u8], usize); 8] = [
     (&[0, 0, 0, 0, 0, 0, 0, 0, 0, 0, 0, 0, 0, 0, 0, 0, 13, 0], 17),
 ];
 
+/// Whether reading fails at this place.
+fn is_bad<T: Drop>(taken: Result<T, TakeFail>, at: usize) -> bool {
+    match taken {
+        Ok(_) => false,
+        Err(e) => e == TakeFail::Bad { at },
+    }
+}
+
+/// The place of the first of these bytes that is named otherwise.
+fn first_misnamed_request(alloc: Global) -> Option<usize> {
+    for (bytes, place) in NO_REQUESTS {
+        if !is_bad(take_request(alloc, bytes), place) {
+            return Some(place);
+        }
+    }
+    None
+}
+
+/// The same, of replies.
+fn first_misnamed_reply(alloc: Global) -> Option<usize> {
+    for (bytes, place) in NO_REPLIES {
+        if !is_bad(take_reply(alloc, bytes), place) {
+            return Some(place);
+        }
+    }
+    None
+}
+
 #[test]
 fn the_first_bad_field_is_named(rt: HostRuntime) -> Result<(), Fail> {
-    for (bytes, place) in NO_REQUESTS {
-        match take_request(rt.alloc(), bytes) {
-            Ok(_) => assert!(rt; false, "{place}"),
-            Err(e) => assert!(rt; e == TakeFail::Bad { at: place }, "{place}"),
-        }
-    }
-    for (bytes, place) in NO_REPLIES {
-        match take_reply(rt.alloc(), bytes) {
-            Ok(_) => assert!(rt; false, "{place}"),
-            Err(e) => assert!(rt; e == TakeFail::Bad { at: place }, "{place}"),
-        }
-    }
+    assert_eq!(rt; first_misnamed_request(rt.alloc()), None);
+    assert_eq!(rt; first_misnamed_reply(rt.alloc()), None);
     Ok(())
 }

@@ -16,37 +16,49 @@ const PREPARE_REQ: [u8; 21] = [
     9, 0, 0, 0, 1, // the tag, and the configuration
 ];
 
-#[test]
-fn a_request_for_a_prepare_is_13_bytes_in_its_frame(rt: HostRuntime) -> Result<(), Fail> {
+/// Whether the message of these bytes asks for a prepare, from 2 to 1 in configuration 1.
+fn is_prepare_req(alloc: Global, bytes: &[u8]) -> bool {
+    matches!(
+        &take(alloc, bytes),
+        Ok((
+            2,
+            1,
+            Msg {
+                conf: 1,
+                body: Body::PrepareReq
+            }
+        ))
+    )
+}
+
+/// Whether the request is written as its frame's body.
+fn prepare_req_is_written(alloc: Global) -> bool {
     let message = Msg {
         conf: 1,
         body: Body::PrepareReq,
     };
-    let mut out = Vec::new(rt.alloc());
-    assert!(rt; put(&mut out, 2, 1, &message).is_ok());
-    assert_eq!(rt; out.as_slice(), &PREPARE_REQ[8..]);
-    let mut frames = Frames::new(rt.alloc(), 8, 100);
+    let mut out = Vec::new(alloc);
+    put(&mut out, 2, 1, &message).is_ok() && out.as_slice() == &PREPARE_REQ[8..]
+}
+
+/// Whether the frame is given with its last byte and not before, and its body is the request.
+fn prepare_req_is_framed(alloc: Global) -> Result<bool, NoMemory> {
+    let mut frames = Frames::new(alloc, 8, 100);
     frames.feed(&PREPARE_REQ[..20])?;
-    assert!(rt; matches!(&frames.next(), Err(NextFail::NotYet)));
-    frames.feed(&PREPARE_REQ[20..])?;
-    let body = frames.next();
-    assert!(rt; body.is_ok());
-    if let Ok(body) = &body {
-        let taken = take(rt.alloc(), body.as_slice());
-        assert!(rt;
-            matches!(
-                &taken,
-                Ok((
-                    2,
-                    1,
-                    Msg {
-                        conf: 1,
-                        body: Body::PrepareReq
-                    }
-                ))
-            )
-        );
+    if !matches!(&frames.next(), Err(NextFail::NotYet)) {
+        return Ok(false);
     }
+    frames.feed(&PREPARE_REQ[20..])?;
+    Ok(match frames.next() {
+        Ok(body) => is_prepare_req(alloc, body.as_slice()),
+        Err(_) => false,
+    })
+}
+
+#[test]
+fn a_request_for_a_prepare_is_13_bytes_in_its_frame(rt: HostRuntime) -> Result<(), Fail> {
+    assert!(rt; prepare_req_is_written(rt.alloc()));
+    assert!(rt; prepare_req_is_framed(rt.alloc())?);
     Ok(())
 }
 
@@ -92,45 +104,65 @@ fn is_promise(message: &Msg) -> bool {
     }
 }
 
+/// Whether the promise is written as its bytes.
+fn promise_is_written(alloc: Global) -> Result<bool, NoMemory> {
+    let message = promise(alloc)?;
+    let mut out = Vec::new(alloc);
+    put(&mut out, 2, 3, &message)?;
+    Ok(out.as_slice() == PROMISE.as_slice())
+}
+
+/// Whether the promise is read from its bytes.
+fn promise_is_read(alloc: Global) -> bool {
+    match &take(alloc, &PROMISE) {
+        Ok((2, 3, message)) => is_promise(message),
+        _ => false,
+    }
+}
+
 #[test]
 fn a_promise_is_written_and_read(rt: HostRuntime) -> Result<(), Fail> {
-    let mut out = Vec::new(rt.alloc());
-    let message = promise(rt.alloc());
-    assert!(rt; message.is_ok());
-    if let Ok(message) = &message {
-        assert!(rt; put(&mut out, 2, 3, message).is_ok());
-    }
-    assert_eq!(rt; out.as_slice(), PROMISE.as_slice());
-    let taken = take(rt.alloc(), &PROMISE);
-    assert!(rt; taken.is_ok());
-    if let Ok((from, to, message)) = &taken {
-        assert!(rt; *from == 2 && *to == 3);
-        assert!(rt; is_promise(message));
-    }
+    assert!(rt; promise_is_written(rt.alloc())?);
+    assert!(rt; promise_is_read(rt.alloc()));
     Ok(())
+}
+
+/// Places in the promise and bytes put there, and the place that is then named.
+const CHANGED: [(usize, u8, usize); 8] = [
+    (3, 0, 0),
+    (6, 4, 4),
+    (8, 12, 8),
+    (24, 0, 21),
+    (37, 64, 37),
+    (61, 65, 61),
+    (69, 2, 69),
+    (87, 0, 87),
+];
+
+/// The place of the first change that is named otherwise.
+fn first_misnamed(alloc: Global) -> Option<usize> {
+    for (at, byte, place) in CHANGED {
+        let mut bytes = PROMISE;
+        bytes[at] = byte;
+        if !is_bad(alloc, &bytes, place) {
+            return Some(at);
+        }
+    }
+    None
+}
+
+/// Whether a byte after the promise is named.
+fn end_is_named(alloc: Global) -> Result<bool, NoMemory> {
+    let mut longer = Vec::from_slice(alloc, PROMISE.as_slice())?;
+    longer.push(0)?;
+    Ok(is_bad(alloc, longer.as_slice(), 92))
 }
 
 #[test]
 fn the_first_bad_field_is_named(rt: HostRuntime) -> Result<(), Fail> {
-    // Bytes of the promise that are changed, and the place that is then named.
-    for (at, byte, place) in [
-        (3, 0, 0),
-        (6, 4, 4),
-        (8, 12, 8),
-        (24, 0, 21),
-        (37, 64, 37),
-        (61, 65, 61),
-        (69, 2, 69),
-        (87, 0, 87),
-    ] {
-        let mut bytes = PROMISE;
-        bytes[at] = byte;
-        assert!(rt; is_bad(rt.alloc(), &bytes, place), "{place}");
-    }
+    assert_eq!(rt; first_misnamed(rt.alloc()), None);
     assert!(rt; is_bad(rt.alloc(), &PREPARE_REQ[8..20], 9));
-    let mut longer = Vec::from_slice(rt.alloc(), PROMISE.as_slice())?;
-    longer.push(0)?;
-    assert!(rt; is_bad(rt.alloc(), longer.as_slice(), 92));
+    assert!(rt; end_is_named(rt.alloc())?);
     Ok(())
 }
 

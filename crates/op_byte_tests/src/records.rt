@@ -45,17 +45,18 @@ fn first(alloc: Global) -> Result<Rec, NoMemory>
     }))
 }
 
+/// Whether the first durable state is written as its bytes.
+fn first_is_written(alloc: Global) -> Result<bool, NoMemory> {
+    let record = first(alloc)?;
+    let mut out = Vec::new(alloc);
+    put(&mut out, &record)?;
+    Ok(out.as_slice() == FIRST.as_slice())
+}
+
 #[test]
 fn a_first_durable_state_is_written_as_its_85_bytes(rt: HostRuntime) -> Result<(), Fail> {
-    let mut out = Vec::new(rt.alloc());
-    let record = first(rt.alloc());
-    assert!(rt; record.is_ok());
-    if let Ok(record) = &record {
-        assert!(rt; put(&mut out, record).is_ok());
-    }
-    assert_eq!(rt; out.as_slice(), FIRST.as_slice());
-    let taken = take(rt.alloc(), &FIRST);
-    assert!(rt; taken.is_ok());
+    assert!(rt; first_is_written(rt.alloc())?);
+    assert!(rt; take(rt.alloc(), &FIRST).is_ok());
     Ok(())
 }
 
@@ -85,20 +86,27 @@ fn is_step(record: &Rec) -> bool {
     }
 }
 
+/// The bytes of that step.
+fn step_bytes(alloc: Global) -> Result<Vec<u8>, NoMemory> {
+    let record = step(alloc)?;
+    let mut out = Vec::new(alloc);
+    put(&mut out, &record)?;
+    Ok(out)
+}
+
+/// Whether that step is read from these bytes.
+fn is_step_in(alloc: Global, bytes: &[u8]) -> bool {
+    match &take(alloc, bytes) {
+        Ok(record) => is_step(record),
+        Err(_) => false,
+    }
+}
+
 #[test]
 fn a_batch_is_read_back(rt: HostRuntime) -> Result<(), Fail> {
-    let mut out = Vec::new(rt.alloc());
-    let record = step(rt.alloc());
-    assert!(rt; record.is_ok());
-    if let Ok(record) = &record {
-        assert!(rt; put(&mut out, record).is_ok());
-    }
-    assert_eq!(rt; out.len(), 1 + 1 + 1 + 8 + 23 + 1 + 8);
-    let taken = take(rt.alloc(), out.as_slice());
-    assert!(rt; taken.is_ok());
-    if let Ok(record) = &taken {
-        assert!(rt; is_step(record));
-    }
+    let bytes = step_bytes(rt.alloc())?;
+    assert_eq!(rt; bytes.len(), 1 + 1 + 1 + 8 + 23 + 1 + 8);
+    assert!(rt; is_step_in(rt.alloc(), bytes.as_slice()));
     Ok(())
 }
 

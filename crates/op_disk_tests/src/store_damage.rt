@@ -62,16 +62,22 @@ fn check_damage(
 #[test]
 fn damage_is_told_at_its_place(rt: HostRuntime) -> Result<(), Fail> {
     let (whole, step) = (&WHOLE, &FIRST_STEP);
-    // The first change has no change's tag.
-    check_damage(&rt, &[whole, &step[..11], &[6], &step[12..], &[0]], 111)?;
-    // More is decided than there are entries.
-    check_damage(&rt, &[whole, &step[..51], &[2], &[0]], 111)?;
-    // A second whole durable state.
-    check_damage(&rt, &[whole, &whole[17..], &[0]], 111)?;
-    // The first record is a batch.
-    check_damage(&rt, &[&whole[..17], step, &[0]], 17)?;
-    // Version 9.
-    check_damage(&rt, &[&whole[..8], &[9], &whole[9..], step, &[0]], 0)?;
-    // No gate stands after the record.
-    check_damage(&rt, &[whole], 111)
+    let areas: [(&[&[u8]], u64); 6] = [
+        // The first change has no change's tag.
+        (&[whole, &step[..11], &[6], &step[12..], &[0]], 111),
+        // More is decided than there are entries.
+        (&[whole, &step[..51], &[2], &[0]], 111),
+        // A second whole durable state.
+        (&[whole, &whole[17..], &[0]], 111),
+        // The first record is a batch.
+        (&[&whole[..17], step, &[0]], 17),
+        // Version 9.
+        (&[&whole[..8], &[9], &whole[9..], step, &[0]], 0),
+        // No gate stands after the record.
+        (&[whole], 111),
+    ];
+    for (parts, at) in areas {
+        check_damage(&rt, parts, at)?;
+    }
+    Ok(())
 }

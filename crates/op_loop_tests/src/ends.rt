@@ -1,22 +1,18 @@
-use crate::scripts::{comes, happens, served, written};
+use crate::scripts::{Conduct, Step, Wrote, seen_of, served};
 use op_loop::ServeEnd;
-use op_memory::NetScript;
 use op_outside::Happening;
 use std::test::Fail;
 
 #[test]
 fn an_end_request_is_answered(rt: HostRuntime) -> Result<(), Fail> {
     let alloc = rt.alloc();
-    let mut script = NetScript::new(alloc);
-    happens(
-        &mut script,
-        alloc,
-        &[Happening::Accepted(5), Happening::Readable(5)],
-    )?;
-    comes(&mut script, alloc, b"C\x00\x00\x00\x01\x05")?;
-    let (end, _lost, net) = served(alloc, script, 9)?;
-    assert_eq!(rt; end, ServeEnd::Ended);
-    // Head, client, number and the tag of Ended.
-    assert_eq!(rt; written(alloc, &net, 5)?.len(), 4 + 8 + 8 + 1);
+    let steps: &[Step] = &[
+        Step::Happens(&[Happening::Accepted(5), Happening::Readable(5)]),
+        Step::Comes(b"C\x00\x00\x00\x01\x05"),
+    ];
+    // The tag of Ended.
+    let conns: &[Conduct] = &[(5, Wrote::Reply(&[13]), 0)];
+    let seen = seen_of(alloc, served(alloc, steps, 9)?, conns)?;
+    assert_eq!(rt; (seen.end, seen.wrong), (ServeEnd::Ended, None));
     Ok(())
 }

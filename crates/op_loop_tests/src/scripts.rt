@@ -5,7 +5,7 @@ ghost use Rattle.op_loop.specs.NodeCores.{IsServable};
 ghost use Rattle.op_loop.specs.Serving.{PeersInRange};
 
 use crate::FailedNode;
-use op_loop::{Mark, ServeEnd, opened_nodes_can_be_served, serve, serve_core};
+use op_loop::{ServeEnd, opened_nodes_can_be_served, serve, serve_core};
 use op_memory::{FakeClock, Incoming, KeptCall, MemDisk, NetScript, ScriptNet};
 use op_node::Node;
 use op_outside::{Addr, Conn, Happening};
@@ -16,13 +16,13 @@ use std::collections::VecDeque;
 use std::test::Fail;
 
 /// The fault count of the failed node.
-pub const FAULTS: u64 = 7;
+const FAULTS: u64 = 7;
 
 /// The longest body of a client's frame.
 const MOST: usize = 65_536;
 
 /// A client's first byte, the head of the longest body, and that body's zeros but for the last five.
-pub fn most_of_the_longest(alloc: Global) -> Result<Vec<u8>, NoMemory> {
+fn most_of_the_longest(alloc: Global) -> Result<Vec<u8>, NoMemory> {
     let mut bytes = Vec::from_slice(alloc, b"C\x00\x01\x00\x00")?;
     for _ in 0..MOST - 5 {
         bytes.push(0)?;
@@ -31,7 +31,7 @@ pub fn most_of_the_longest(alloc: Global) -> Result<Vec<u8>, NoMemory> {
 }
 
 /// Nodes 1 to 3, of which 1 is the only member, and so many turns.
-pub fn settings(alloc: Global, turns: u64) -> Result<Settings, NoMemory>
+fn settings(alloc: Global, turns: u64) -> Result<Settings, NoMemory>
     ensures { IfOk result PeersInRange }
 {
     let addr = Addr {
@@ -54,8 +54,43 @@ fn sole(alloc: Global) -> Result<Members, NoMemory>
     Ok(Members::from_vec(Vec::from_slice(alloc, &[1])?))
 }
 
-/// The next wait gives these.
-pub fn happens(
+/// What a script does next.
+#[derive(Clone, Copy)]
+pub enum Step<'a> {
+    /// A wait gives these.
+    Happens(&'a [Happening]),
+    /// So many waits give nothing.
+    Idles(usize),
+    /// A read gives these bytes.
+    Comes(&'a [u8]),
+    /// A read gives `most_of_the_longest`.
+    ComesMostOfTheLongest,
+    /// A dial gives this connection.
+    Dials(Conn),
+    /// This call fails.
+    Fails(u64),
+}
+
+fn script_of(alloc: Global, steps: &[Step]) -> Result<NetScript, NoMemory> {
+    let mut script = NetScript::new(alloc);
+    for step in steps {
+        add(&mut script, alloc, *step)?;
+    }
+    Ok(script)
+}
+
+fn add(script: &mut NetScript, alloc: Global, step: Step) -> Result<(), NoMemory> {
+    match step {
+        Step::Happens(happenings) => happens(script, alloc, happenings),
+        Step::Idles(count) => idles(script, alloc, count),
+        Step::Comes(bytes) => comes(script, Vec::from_slice(alloc, bytes)?),
+        Step::ComesMostOfTheLongest => comes(script, most_of_the_longest(alloc)?),
+        Step::Dials(conn) => Ok(script.dials.push_back(Some(conn))?),
+        Step::Fails(call) => Ok(script.fails.push(call)?),
+    }
+}
+
+fn happens(
     script: &mut NetScript,
     alloc: Global,
     happenings: &[Happening],
@@ -64,34 +99,32 @@ pub fn happens(
     Ok(())
 }
 
-/// The next read gives these bytes.
-pub fn comes(script: &mut NetScript, alloc: Global, bytes: &[u8]) -> Result<(), NoMemory> {
-    script
-        .reads
-        .push_back(Incoming::Bytes(Vec::from_slice(alloc, bytes)?))?;
+fn idles(script: &mut NetScript, alloc: Global, count: usize) -> Result<(), NoMemory> {
+    for _ in 0..count {
+        happens(script, alloc, &[])?;
+    }
     Ok(())
 }
 
-/// Serves with a node 1 that has failed and has no smaller peer to dial, and gives the end, the marks and the net.
-pub fn served(
-    alloc: Global,
-    script: NetScript,
-    turns: u64,
-) -> Result<(ServeEnd, Vec<Mark>, ScriptNet), NoMemory> {
-    served_by(alloc, 1, script, turns)
+fn comes(script: &mut NetScript, bytes: Vec<u8>) -> Result<(), NoMemory> {
+    script.reads.push_back(Incoming::Bytes(bytes))?;
+    Ok(())
+}
+
+/// How serving ended, how many marks there are, and the net.
+type Run = (ServeEnd, usize, ScriptNet);
+
+/// Serves with a node 1 that has failed and has no smaller peer to dial.
+pub fn served(alloc: Global, steps: &[Step], turns: u64) -> Result<Run, NoMemory> {
+    served_by(alloc, 1, steps, turns)
 }
 
 /// The same with the node of this id, which dials the peers of smaller ids at each tick.
-pub fn served_by(
-    alloc: Global,
-    me: Pid,
-    script: NetScript,
-    turns: u64,
-) -> Result<(ServeEnd, Vec<Mark>, ScriptNet), NoMemory>
+pub fn served_by(alloc: Global, me: Pid, steps: &[Step], turns: u64) -> Result<Run, NoMemory>
     requires { IsPid me }
 {
     let settings = settings(alloc, turns)?;
-    let mut net = ScriptNet::new(alloc, script);
+    let mut net = ScriptNet::new(alloc, script_of(alloc, steps)?);
     let mut clock = FakeClock::new(alloc, VecDeque::new(alloc), 1);
     let mut node = FailedNode {
         me,
@@ -99,11 +132,11 @@ pub fn served_by(
         alloc,
     };
     let (end, lost) = serve_core(alloc, &mut node, &mut net, &mut clock, &settings)?;
-    Ok((end, lost, net))
+    Ok((end, lost.len(), net))
 }
 
 /// Opens node 1, the only member, on new disks.
-pub fn opened(alloc: Global) -> Result<Node<MemDisk>, Fail>
+fn opened(alloc: Global) -> Result<Node<MemDisk>, Fail>
     ensures { IfOk result IsServable }
 {
     opened_nodes_can_be_served::<MemDisk>();
@@ -115,22 +148,88 @@ pub fn opened(alloc: Global) -> Result<Node<MemDisk>, Fail>
     }
 }
 
-/// Serves with node 1, the only member, and gives the end, the marks and the net.
-pub fn served_alone(
-    alloc: Global,
-    script: NetScript,
-    turns: u64,
-) -> Result<(ServeEnd, Vec<Mark>, ScriptNet), Fail> {
+/// Serves with node 1, the only member.
+pub fn served_alone(alloc: Global, steps: &[Step], turns: u64) -> Result<Run, Fail> {
     let settings = settings(alloc, turns)?;
-    let mut net = ScriptNet::new(alloc, script);
+    let mut net = ScriptNet::new(alloc, script_of(alloc, steps)?);
     let mut clock = FakeClock::new(alloc, VecDeque::new(alloc), 1);
     let mut node = opened(alloc)?;
     let (end, lost) = serve(alloc, &mut node, &mut net, &mut clock, &settings)?;
-    Ok((end, lost, net))
+    Ok((end, lost.len(), net))
+}
+
+/// What is written to a connection.
+#[derive(Clone, Copy)]
+pub enum Wrote<'a> {
+    Bytes(&'a [u8]),
+    /// A reply that is of no command, and what it says.
+    Reply(&'a [u8]),
+    Something,
+    /// Something or nothing.
+    Any,
+}
+
+/// A connection, what is written to it, and how often it is closed.
+pub type Conduct<'a> = (Conn, Wrote<'a>, usize);
+
+/// What was seen of serving.
+#[derive(Clone, Copy)]
+pub struct Seen {
+    pub end: ServeEnd,
+    /// How many marks there are.
+    pub lost: usize,
+    /// The calls of the net.
+    pub calls: usize,
+    /// The first connection with which it went otherwise.
+    pub wrong: Option<Conn>,
+}
+
+/// What was seen of serving, in which it went so with these connections.
+pub fn seen_of(alloc: Global, served: Run, conns: &[Conduct]) -> Result<Seen, Fail> {
+    let (end, lost, net) = served;
+    Ok(Seen {
+        end,
+        lost,
+        calls: net.calls().len(),
+        wrong: first_wrong(alloc, &net, conns)?,
+    })
+}
+
+fn first_wrong(alloc: Global, net: &ScriptNet, conns: &[Conduct]) -> Result<Option<Conn>, Fail> {
+    for (conn, wrote, count) in conns {
+        if closings(net, *conn) != *count || !is_written(alloc, net, *conn, *wrote)? {
+            return Ok(Some(*conn));
+        }
+    }
+    Ok(None)
+}
+
+/// Whether this is what is written to a connection.
+fn is_written(alloc: Global, net: &ScriptNet, conn: Conn, wrote: Wrote) -> Result<bool, Fail> {
+    let bytes = written(alloc, net, conn)?;
+    Ok(match wrote {
+        Wrote::Bytes(wanted) => bytes.as_slice() == wanted,
+        Wrote::Reply(said) => bytes.as_slice() == reply(alloc, said)?.as_slice(),
+        Wrote::Something => !bytes.is_empty(),
+        Wrote::Any => true,
+    })
+}
+
+/// A reply that is of no command: its head, the client and number 0, and what is said.
+fn reply(alloc: Global, said: &[u8]) -> Result<Vec<u8>, Fail> {
+    let Ok(length) = u8::try_from(said.len().saturating_add(16)) else {
+        return Err("it is too long".into());
+    };
+    let mut bytes = Vec::from_slice(alloc, &[0, 0, 0, length])?;
+    for _ in 0..16 {
+        bytes.push(0)?;
+    }
+    bytes.extend_from_slice(said)?;
+    Ok(bytes)
 }
 
 /// All that was written to a connection, where writes take everything.
-pub fn written(alloc: Global, net: &ScriptNet, conn: Conn) -> Result<Vec<u8>, NoMemory> {
+fn written(alloc: Global, net: &ScriptNet, conn: Conn) -> Result<Vec<u8>, NoMemory> {
     let mut all = Vec::new(alloc);
     for call in net.calls() {
         if let KeptCall::Wrote(to, bytes, _) = call {
@@ -143,7 +242,7 @@ pub fn written(alloc: Global, net: &ScriptNet, conn: Conn) -> Result<Vec<u8>, No
 }
 
 /// How often a connection was closed.
-pub fn closings(net: &ScriptNet, conn: Conn) -> usize {
+fn closings(net: &ScriptNet, conn: Conn) -> usize {
     net.calls()
         .iter()
         .filter(|call| matches!(call, KeptCall::Closed(c) if *c == conn))

@@ -1,27 +1,84 @@
 use op_conns::Table;
 use op_memory::{FakeClock, FakeSpawner, Incoming, NetScript, ScriptNet};
-use op_outside::{Addr, ChildFail, Clock, Got, Happening, Net, NetFail, Spawner, Took};
+use op_outside::{Addr, ChildFail, Clock, Conn, Got, Happening, Net, NetFail, Spawner, Took};
+use op_types::NoMemory;
+use std::alloc::Global;
 use std::collections::VecDeque;
 use std::test::Fail;
 
+/// A call of a table of connections, with its answer.
+#[derive(Clone, Copy)]
+enum Step<'a> {
+    Add(Conn),
+    Queue(Conn, &'a [u8]),
+    Took(Conn, usize),
+    Remove(Conn),
+    Queued(Conn, usize),
+    Front(Conn, &'a [u8]),
+    Next(Conn, Option<Conn>),
+    After(Conn, Option<Conn>),
+}
+
+const STEPS: [Step; 15] = [
+    Step::Add(7),
+    Step::Add(3),
+    Step::Queue(7, b"abc"),
+    Step::Queue(7, b"d"),
+    Step::Queued(7, 4),
+    Step::Queued(3, 0),
+    Step::Next(0, Some(7)),
+    Step::Took(7, 2),
+    Step::Front(7, b"cd"),
+    Step::Queue(3, b"x"),
+    Step::Next(0, Some(3)),
+    Step::After(3, Some(7)),
+    Step::Remove(7),
+    Step::After(3, None),
+    Step::Front(3, b"x"),
+];
+
+/// Whether what a table tells is this.
+fn tells(table: &Table, step: Step) -> bool {
+    match step {
+        Step::Queued(conn, len) => table.queued(conn) == len,
+        Step::Front(conn, bytes) => table.front(conn) == bytes,
+        Step::Next(low, conn) => table.next(low) == conn,
+        Step::After(low, conn) => table.after(low) == conn,
+        _ => false,
+    }
+}
+
+/// Whether a call can be made, and answers so.
+fn goes(table: &mut Table, step: Step) -> Result<bool, NoMemory> {
+    match step {
+        Step::Add(conn) => table.add(conn)?,
+        Step::Queue(conn, bytes) => table.queue(conn, bytes)?,
+        Step::Took(conn, count) => {
+            if table.queued(conn) < count {
+                return Ok(false);
+            }
+            table.took(conn, count);
+        }
+        Step::Remove(conn) => table.remove(conn),
+        told => return Ok(tells(table, told)),
+    }
+    Ok(true)
+}
+
+/// The first step of a new table that goes otherwise.
+fn first_wrong(alloc: Global, steps: &[Step]) -> Result<Option<usize>, NoMemory> {
+    let mut table = Table::new(alloc);
+    for (place, step) in steps.iter().enumerate() {
+        if !goes(&mut table, *step)? {
+            return Ok(Some(place));
+        }
+    }
+    Ok(None)
+}
+
 #[test]
 fn each_connection_has_its_queue(rt: HostRuntime) -> Result<(), Fail> {
-    let mut table = Table::new(rt.alloc());
-    table.add(7)?;
-    table.add(3)?;
-    table.queue(7, b"abc")?;
-    table.queue(7, b"d")?;
-    assert_eq!(rt; table.queued(7), 4);
-    assert_eq!(rt; table.queued(3), 0);
-    assert_eq!(rt; table.next(0), Some(7));
-    table.took(7, 2);
-    assert_eq!(rt; table.front(7), b"cd".as_slice());
-    table.queue(3, b"x")?;
-    assert_eq!(rt; table.next(0), Some(3));
-    assert_eq!(rt; table.after(3), Some(7));
-    table.remove(7);
-    assert_eq!(rt; table.after(3), None);
-    assert_eq!(rt; table.front(3), b"x".as_slice());
+    assert_eq!(rt; first_wrong(rt.alloc(), &STEPS)?, None);
     Ok(())
 }
 
@@ -38,29 +95,43 @@ fn one_turn<N: Net>(net: &mut N, buf: &mut [u8; 4]) -> Result<(Happening, Got, T
     Ok((happening, got, took))
 }
 
-#[test]
-fn a_net_in_memory_plays_its_script(rt: HostRuntime) -> Result<(), Fail> {
-    let mut script = NetScript::new(rt.alloc());
+/// One wait, read and write, a dial, and a fault at the call after the first turn.
+fn script(alloc: Global) -> Result<NetScript, NoMemory> {
+    let mut script = NetScript::new(alloc);
     script
         .waits
-        .push_back(vec![in rt.alloc(); Happening::Readable(1)]?)?;
+        .push_back(vec![in alloc; Happening::Readable(1)]?)?;
     script
         .reads
-        .push_back(Incoming::Bytes(Vec::from_slice(rt.alloc(), b"xy")?))?;
+        .push_back(Incoming::Bytes(Vec::from_slice(alloc, b"xy")?))?;
     script.writes.push_back(Took::Bytes(2))?;
     script.dials.push_back(Some(5))?;
     script.fails.push(5)?;
-    let mut net = ScriptNet::new(rt.alloc(), script);
+    Ok(script)
+}
+
+/// What two dials give, and the faults between them.
+fn two_dials<N: Net>(
+    net: &mut N,
+) -> (
+    Result<Option<Conn>, NetFail>,
+    u64,
+    Result<Option<Conn>, NetFail>,
+) {
+    let addr = Addr { host: 0, port: 1 };
+    (net.dial(&addr), net.faults(), net.dial(&addr))
+}
+
+#[test]
+fn a_net_in_memory_plays_its_script(rt: HostRuntime) -> Result<(), Fail> {
+    let mut net = ScriptNet::new(rt.alloc(), script(rt.alloc())?);
     let mut buf = [0u8; 4];
-    let turn = one_turn(&mut net, &mut buf);
     assert_eq!(rt;
-        turn,
+        one_turn(&mut net, &mut buf),
         Ok((Happening::Readable(1), Got::Bytes(2), Took::Bytes(2)))
     );
     assert_eq!(rt; &buf[..2], b"xy".as_slice());
-    assert!(rt; net.dial(&Addr { host: 0, port: 1 }).is_err());
-    assert_eq!(rt; net.faults(), 1);
-    assert_eq!(rt; net.dial(&Addr { host: 0, port: 1 }), Ok(Some(5)));
+    assert_eq!(rt; two_dials(&mut net), (Err(NetFail), 1, Ok(Some(5))));
     Ok(())
 }
 
@@ -82,14 +153,18 @@ fn start_and_end<S: Spawner>(spawner: &mut S, id: u32) -> Result<u8, ChildFail> 
     spawner.end(id)
 }
 
+/// What two programs end with, whether an end of one that has ended fails, and the faults after it.
+fn ends<S: Spawner>(spawner: &mut S) -> (Result<u8, ChildFail>, Result<u8, ChildFail>, bool, u64) {
+    let first = start_and_end(spawner, 1);
+    let second = start_and_end(spawner, 2);
+    (first, second, spawner.end(1).is_err(), spawner.faults())
+}
+
 #[test]
 fn a_spawner_in_memory_gives_its_statuses(rt: HostRuntime) -> Result<(), Fail> {
     let mut statuses = VecDeque::new(rt.alloc());
     statuses.push_back(9)?;
     let mut spawner = FakeSpawner::new(rt.alloc(), statuses, Vec::new(rt.alloc()));
-    assert_eq!(rt; start_and_end(&mut spawner, 1), Ok(9));
-    assert_eq!(rt; start_and_end(&mut spawner, 2), Ok(0));
-    assert!(rt; spawner.end(1).is_err());
-    assert_eq!(rt; spawner.faults(), 1);
+    assert_eq!(rt; ends(&mut spawner), (Ok(9), Ok(0), true, 1));
     Ok(())
 }

@@ -2,19 +2,24 @@ use libc::net::listen as listen_for;
 use op_edge::{FileDisk, MioNet, MonotonicClock, Programs};
 use op_memory::FakeClock;
 use op_outside::{Addr, Clock, Conn, Disk, DiskFail, Got, Happening, Net, NetFail, Spawner, Took};
+use std::alloc::AllocError;
 use std::collections::VecDeque;
-use std::fs;
 use std::net::{Ipv4Addr, SocketAddr, TcpListener};
 use std::os::fd::AsRawFd;
 use std::path::PathBuf;
 use std::test::Fail;
+use std::{fs, io};
 
-/// Writes, cuts and syncs, and gives the length and the bytes from byte offset 1 on.
-fn use_disk<D: Disk>(disk: &mut D) -> Result<(u64, [u8; 3]), DiskFail> {
+fn write_twice<D: Disk>(disk: &mut D) -> Result<(), DiskFail> {
     disk.write_at(0, b"abcdefgh")?;
     disk.sync()?;
     disk.write_at(2, b"XY")?;
-    disk.sync()?;
+    disk.sync()
+}
+
+/// Writes, cuts and syncs, and gives the length and the bytes from byte offset 1 on.
+fn use_disk<D: Disk>(disk: &mut D) -> Result<(u64, [u8; 3]), DiskFail> {
+    write_twice(disk)?;
     disk.cut(4)?;
     disk.sync()?;
     let mut bytes = [0u8; 3];
@@ -22,25 +27,35 @@ fn use_disk<D: Disk>(disk: &mut D) -> Result<(u64, [u8; 3]), DiskFail> {
     Ok((disk.len()?, bytes))
 }
 
+/// The length of a new disk, what its use gives, and the faults after it.
+fn begun<D: Disk>(disk: &mut D) -> (Result<u64, DiskFail>, Result<(u64, [u8; 3]), DiskFail>, u64) {
+    (disk.len(), use_disk(disk), disk.faults())
+}
+
+/// Whether a read, a write and a cut past the end of a disk of 4 bytes fail, and the faults after them.
+fn past_end<D: Disk>(disk: &mut D) -> ([bool; 3], u64) {
+    let read = disk.read(1, &mut [0u8; 4]).is_err();
+    let write = disk.write_at(5, b"x").is_err();
+    let cut = disk.cut(5).is_err();
+    ([read, write, cut], disk.faults())
+}
+
+/// The length of the file at this path, as a disk, and the faults then.
+fn length_at(rt: &HostRuntime, path: &str) -> Result<(Result<u64, DiskFail>, u64), AllocError> {
+    let mut disk = FileDisk::new(rt, PathBuf::from_str(rt.alloc(), path)?);
+    Ok((disk.len(), disk.faults()))
+}
+
 #[test]
 fn a_file_is_a_disk(rt: HostRuntime) -> Result<(), Fail> {
     let name = "edges.disk";
     let mut disk = FileDisk::new(&rt, PathBuf::from_str(rt.alloc(), name)?);
     assert!(rt; fs::metadata(&rt, name).is_err());
-    assert_eq!(rt; disk.len(), Ok(0));
-    assert_eq!(rt; use_disk(&mut disk), Ok((4, *b"bXY")));
-    assert_eq!(rt; disk.faults(), 0);
-    let mut past = [0u8; 4];
-    assert!(rt; disk.read(1, &mut past).is_err());
-    assert!(rt; disk.write_at(5, b"x").is_err());
-    assert!(rt; disk.cut(5).is_err());
-    assert_eq!(rt; disk.faults(), 3);
-    let mut again = FileDisk::new(&rt, PathBuf::from_str(rt.alloc(), name)?);
-    assert_eq!(rt; again.len(), Ok(4));
+    assert_eq!(rt; begun(&mut disk), (Ok(0), Ok((4, *b"bXY")), 0));
+    assert_eq!(rt; past_end(&mut disk), ([true, true, true], 3));
+    assert_eq!(rt; length_at(&rt, name)?, (Ok(4), 0));
     fs::remove_file(&rt, name)?;
-    let mut nowhere = FileDisk::new(&rt, PathBuf::from_str(rt.alloc(), "absent/edges.disk")?);
-    assert!(rt; nowhere.len().is_err());
-    assert_eq!(rt; nowhere.faults(), 1);
+    assert_eq!(rt; length_at(&rt, "absent/edges.disk")?, (Err(DiskFail), 1));
     Ok(())
 }
 
@@ -82,42 +97,108 @@ fn listen<N: Net>(net: &mut N) -> Option<Addr> {
 /// 127.0.0.1.
 const LOOPBACK: u32 = 0x7f00_0001;
 
+/// The ends of a connection: the one that dialled, and the one that was listening.
+#[derive(Clone, Copy)]
+enum End {
+    Near,
+    Far,
+}
+
+/// A call at an end of a connection, with its answer.
+#[derive(Clone, Copy)]
+enum Step<'a> {
+    Opened,
+    Readable,
+    Ended,
+    /// Nothing happens.
+    Idle,
+    /// All of these bytes are taken.
+    Writes(&'a [u8]),
+    /// These bytes come.
+    Reads(&'a [u8]),
+    ReadsNothing(Got),
+    Closes,
+}
+
+/// Whether a call at an end answers so.
+fn answers<N: Net>(net: &mut N, conn: Conn, step: Step) -> bool {
+    let mut buf = [0u8; 8];
+    match step {
+        Step::Opened => next(net) == Ok(Happening::Writable(conn)),
+        Step::Readable => next(net) == Ok(Happening::Readable(conn)),
+        Step::Ended => next(net) == Ok(Happening::Ended(conn)),
+        Step::Idle => net.wait(0) == Ok(0),
+        Step::Writes(bytes) => {
+            !bytes.is_empty() && net.write(conn, bytes) == Ok(Took::Bytes(bytes.len()))
+        }
+        Step::Reads(bytes) => net.read(conn, &mut buf) == Ok(Got::Bytes(bytes.len()))
+            && buf.starts_with(bytes),
+        Step::ReadsNothing(got) => net.read(conn, &mut buf) == Ok(got),
+        Step::Closes => {
+            net.close(conn);
+            true
+        }
+    }
+}
+
+/// Bytes both ways, and the end. What wasn't read is told again.
+const TALK: [(End, Step); 17] = [
+    (End::Near, Step::Opened),
+    (End::Near, Step::Writes(b"ping")),
+    (End::Far, Step::Readable),
+    (End::Far, Step::Readable),
+    (End::Far, Step::Reads(b"ping")),
+    (End::Far, Step::ReadsNothing(Got::NotYet)),
+    (End::Far, Step::Idle),
+    (End::Far, Step::Writes(b"pong!")),
+    (End::Near, Step::Readable),
+    (End::Near, Step::Reads(b"pong!")),
+    (End::Near, Step::Closes),
+    (End::Near, Step::ReadsNothing(Got::Ended)),
+    (End::Far, Step::Readable),
+    (End::Far, Step::ReadsNothing(Got::Ended)),
+    (End::Far, Step::Ended),
+    (End::Far, Step::Closes),
+    (End::Far, Step::Idle),
+];
+
+/// Dials a net that listens at this address, and gives both ends of the connection.
+fn accepted<N: Net>(server: &mut N, client: &mut N, addr: &Addr) -> Option<(Conn, Conn)> {
+    let Ok(Some(near)) = client.dial(addr) else {
+        return None;
+    };
+    match next(server) {
+        Ok(Happening::Accepted(far)) => Some((near, far)),
+        _ => None,
+    }
+}
+
+/// The first step of the talk between two nets that goes otherwise.
+fn first_wrong<N: Net>(server: &mut N, client: &mut N, (near, far): (Conn, Conn)) -> Option<usize> {
+    for (place, (end, step)) in TALK.iter().enumerate() {
+        let goes = match end {
+            End::Near => answers(client, near, *step),
+            End::Far => answers(server, far, *step),
+        };
+        if !goes {
+            return Some(place);
+        }
+    }
+    None
+}
+
 #[test]
-fn sockets_carry_bytes_both_ways(rt: HostRuntime) -> Result<(), Fail> {
+fn sockets_carry_bytes_both_ways(rt: HostRuntime) {
     let mut server = MioNet::new(&rt, rt.alloc(), MonotonicClock::new(&rt));
     let mut client = MioNet::new(&rt, rt.alloc(), MonotonicClock::new(&rt));
     let Some(addr) = listen(&mut server) else {
         panic!(rt; "no port");
     };
-    let Ok(Some(near)) = client.dial(&addr) else {
-        panic!(rt; "no dial");
-    };
-    let Ok(Happening::Accepted(far)) = next(&mut server) else {
+    let Some(conns) = accepted(&mut server, &mut client, &addr) else {
         panic!(rt; "not accepted");
     };
-    let mut buf = [0u8; 8];
-    assert_eq!(rt; next(&mut client), Ok(Happening::Writable(near)));
-    assert_eq!(rt; client.write(near, b"ping"), Ok(Took::Bytes(4)));
-    assert_eq!(rt; next(&mut server), Ok(Happening::Readable(far)));
-    // what wasn't read is told again
-    assert_eq!(rt; next(&mut server), Ok(Happening::Readable(far)));
-    assert_eq!(rt; server.read(far, &mut buf), Ok(Got::Bytes(4)));
-    assert_eq!(rt; &buf[..4], b"ping".as_slice());
-    assert_eq!(rt; server.read(far, &mut buf), Ok(Got::NotYet));
-    assert_eq!(rt; server.wait(0), Ok(0));
-    assert_eq!(rt; server.write(far, b"pong!"), Ok(Took::Bytes(5)));
-    assert_eq!(rt; next(&mut client), Ok(Happening::Readable(near)));
-    assert_eq!(rt; client.read(near, &mut buf), Ok(Got::Bytes(5)));
-    assert_eq!(rt; &buf[..5], b"pong!".as_slice());
-    client.close(near);
-    assert_eq!(rt; client.read(near, &mut buf), Ok(Got::Ended));
-    assert_eq!(rt; next(&mut server), Ok(Happening::Readable(far)));
-    assert_eq!(rt; server.read(far, &mut buf), Ok(Got::Ended));
-    assert_eq!(rt; next(&mut server), Ok(Happening::Ended(far)));
-    server.close(far);
-    assert_eq!(rt; server.wait(0), Ok(0));
+    assert_eq!(rt; first_wrong(&mut server, &mut client, conns), None);
     assert_eq!(rt; client.faults(), 0);
-    Ok(())
 }
 
 /// Writes until there is no room.
@@ -144,32 +225,47 @@ fn fill_until_ended<N: Net>(net: &mut N, conn: Conn) -> Result<Took, NetFail> {
     Err(NetFail)
 }
 
+/// Dials, and gives the connection once it is open.
+fn opened<N: Net>(net: &mut N, addr: &Addr) -> Option<Conn> {
+    let Ok(Some(conn)) = net.dial(addr) else {
+        return None;
+    };
+    if next(net) == Ok(Happening::Writable(conn)) {
+        Some(conn)
+    } else {
+        None
+    }
+}
+
+/// Whether a dial to this address gives no connection, or one that ends at once.
+fn ends_at_once<N: Net>(net: &mut N, addr: &Addr) -> bool {
+    let Ok(Some(conn)) = net.dial(addr) else {
+        return true;
+    };
+    next(net) == Ok(Happening::Readable(conn)) && net.read(conn, &mut [0u8; 8]) == Ok(Got::Ended)
+}
+
 /// A connection whose bytes don't move has ended, by a clock that goes on by a second with each answer. One to a port where
 /// nobody listens ends at once.
 #[test]
-fn a_connection_that_is_stuck_ends(rt: HostRuntime) -> Result<(), Fail> {
+fn a_connection_that_is_stuck_ends(rt: HostRuntime) {
     let clock = FakeClock::new(rt.alloc(), VecDeque::new(rt.alloc()), 1000);
     let mut server = MioNet::new(&rt, rt.alloc(), MonotonicClock::new(&rt));
     let mut client = MioNet::new(&rt, rt.alloc(), clock);
     let Some(addr) = listen(&mut server) else {
         panic!(rt; "no port");
     };
-    let Ok(Some(near)) = client.dial(&addr) else {
-        panic!(rt; "no dial");
+    let Some(near) = opened(&mut client, &addr) else {
+        panic!(rt; "not open");
     };
-    assert_eq!(rt; next(&mut client), Ok(Happening::Writable(near)));
     assert_eq!(rt; fill_until_ended(&mut client, near), Ok(Took::NotYet));
     client.close(near);
     let closed = Addr {
         host: LOOPBACK,
         port: 1,
     };
-    if let Ok(Some(conn)) = client.dial(&closed) {
-        assert_eq!(rt; next(&mut client), Ok(Happening::Readable(conn)));
-        assert_eq!(rt; client.read(conn, &mut [0u8; 8]), Ok(Got::Ended));
-    }
+    assert!(rt; ends_at_once(&mut client, &closed));
     assert_eq!(rt; client.faults(), 0);
-    Ok(())
 }
 
 /// How long a dial goes without an answer, in milliseconds. Two clocks may differ by one.
@@ -194,53 +290,108 @@ fn first_end<N: Net>(net: &mut N) -> Result<Conn, NetFail> {
     Err(NetFail)
 }
 
+/// The address at which this listens.
+fn addr_of(listener: &TcpListener) -> io::Result<Addr> {
+    Ok(Addr {
+        host: LOOPBACK,
+        port: listener.local_addr()?.port(),
+    })
+}
+
+/// Whether it took so long, where the bound is this.
+fn is_within(millis: u64, bound: u64) -> bool {
+    bound <= millis.saturating_add(1) && millis < bound.saturating_mul(2)
+}
+
+/// The first connection that has ended after three dials, and how long it took in milliseconds.
+fn unanswered<N: Net, C: Clock>(
+    net: &mut N,
+    clock: &mut C,
+    addr: &Addr,
+) -> Result<(Conn, u64), NetFail> {
+    let begin = clock.millis();
+    for _ in 0..3u32 {
+        net.dial(addr)?;
+    }
+    let ended = first_end(net)?;
+    Ok((ended, clock.millis().saturating_sub(begin)))
+}
+
 /// By the real clock a dial that nobody answers has ended after a second. The listener has room for one that waits, and
 /// accepts none: others have no answer.
 #[test]
 fn a_dial_without_an_answer_ends(rt: HostRuntime) -> Result<(), Fail> {
     let listener = TcpListener::bind(&rt, SocketAddr::from((Ipv4Addr::LOCALHOST, 0)))?;
     assert_eq!(rt; listen_for(listener.as_raw_fd(), 0), 0);
-    let addr = Addr {
-        host: LOOPBACK,
-        port: listener.local_addr()?.port(),
-    };
+    let addr = addr_of(&listener)?;
     let mut clock = MonotonicClock::new(&rt);
     let mut net = MioNet::new(&rt, rt.alloc(), MonotonicClock::new(&rt));
-    let Ok(Some(waiting)) = net.dial(&addr) else {
-        panic!(rt; "no dial");
+    let Some(waiting) = opened(&mut net, &addr) else {
+        panic!(rt; "not open");
     };
-    assert_eq!(rt; next(&mut net), Ok(Happening::Writable(waiting)));
-    let begin = clock.millis();
-    for _ in 0..3u32 {
-        assert!(rt; net.dial(&addr).is_ok());
-    }
-    let ended = first_end(&mut net)?;
-    let millis = clock.millis().saturating_sub(begin);
+    let (ended, millis) = unanswered(&mut net, &mut clock, &addr)?;
     assert!(rt; ended != waiting);
-    assert!(rt; UNANSWERED_MILLIS - 1 <= millis && millis < 2 * UNANSWERED_MILLIS);
+    assert!(rt; is_within(millis, UNANSWERED_MILLIS), "{millis}");
     assert_eq!(rt; net.faults(), 0);
     Ok(())
+}
+
+/// Whether the first connection that has ended is that of one dial, and how long it took in milliseconds.
+fn unmoved<N: Net, C: Clock>(
+    net: &mut N,
+    clock: &mut C,
+    addr: &Addr,
+) -> Result<(bool, u64), NetFail> {
+    let begin = clock.millis();
+    let conn = net.dial(addr)?;
+    let ended = first_end(net)?;
+    Ok((conn == Some(ended), clock.millis().saturating_sub(begin)))
 }
 
 /// By the real clock a connection whose bytes don't move has ended after 2 seconds. The other end isn't read.
 #[test]
 fn bytes_that_do_not_move_end_a_connection(rt: HostRuntime) -> Result<(), Fail> {
     let listener = TcpListener::bind(&rt, SocketAddr::from((Ipv4Addr::LOCALHOST, 0)))?;
-    let addr = Addr {
-        host: LOOPBACK,
-        port: listener.local_addr()?.port(),
-    };
+    let addr = addr_of(&listener)?;
     let mut clock = MonotonicClock::new(&rt);
     let mut net = MioNet::new(&rt, rt.alloc(), MonotonicClock::new(&rt));
-    let begin = clock.millis();
-    let Ok(Some(conn)) = net.dial(&addr) else {
-        panic!(rt; "no dial");
-    };
-    assert_eq!(rt; first_end(&mut net), Ok(conn));
-    let millis = clock.millis().saturating_sub(begin);
-    assert!(rt; UNMOVED_MILLIS - 1 <= millis && millis < 2 * UNMOVED_MILLIS);
+    let (is_dialled, millis) = unmoved(&mut net, &mut clock, &addr)?;
+    assert!(rt; is_dialled);
+    assert!(rt; is_within(millis, UNMOVED_MILLIS), "{millis}");
     assert_eq!(rt; net.faults(), 0);
     Ok(())
+}
+
+/// Starts the program of an id and waits for its end, which gives this status, and once more, which fails.
+/// Gives the faults after each of the two, or None where something goes otherwise.
+fn faults_of_ends<S: Spawner>(
+    spawner: &mut S,
+    id: u32,
+    input: &[u8],
+    status: u8,
+) -> Option<(u64, u64)> {
+    if spawner.start(id, input).is_err() || spawner.end(id) != Ok(status) {
+        return None;
+    }
+    let first = spawner.faults();
+    if spawner.end(id).is_ok() {
+        return None;
+    }
+    Some((first, spawner.faults()))
+}
+
+/// What the shell gives that is run as program 7.
+fn faults_of_shell(rt: &HostRuntime) -> Result<Option<(u64, u64)>, AllocError> {
+    let shell = PathBuf::from_str(rt.alloc(), "/bin/sh")?;
+    let mut children = Programs::new(rt, Ok(shell));
+    Ok(faults_of_ends(&mut children, 7, b"4\n", 47))
+}
+
+/// Whether a program that is absent starts as program 8, and the faults then.
+fn starts_absent(rt: &HostRuntime) -> Result<(bool, u64), AllocError> {
+    let absent = PathBuf::from_str(rt.alloc(), "/absent/program")?;
+    let mut nobody = Programs::new(rt, Ok(absent));
+    Ok((nobody.start(8, b"").is_ok(), nobody.faults()))
 }
 
 /// The shell runs the script `node` of the folder `n7`, which ends with the number that it is given and the program's id.
@@ -248,19 +399,10 @@ fn bytes_that_do_not_move_end_a_connection(rt: HostRuntime) -> Result<(), Fail> 
 fn a_child_runs_in_its_folder(rt: HostRuntime) -> Result<(), Fail> {
     fs::create_dir(&rt, "n7")?;
     fs::write(&rt, "n7/node", "read number; exit $number$1")?;
-    let shell = PathBuf::from_str(rt.alloc(), "/bin/sh")?;
-    let mut children = Programs::new(&rt, Ok(shell));
-    assert!(rt; children.start(7, b"4\n").is_ok());
-    assert_eq!(rt; children.end(7), Ok(47));
-    assert_eq!(rt; children.faults(), 0);
-    assert!(rt; children.end(7).is_err());
-    assert_eq!(rt; children.faults(), 1);
+    assert_eq!(rt; faults_of_shell(&rt)?, Some((0, 1)));
     fs::remove_file(&rt, "n7/node")?;
     fs::remove_dir(&rt, "n7")?;
-    let absent = PathBuf::from_str(rt.alloc(), "/absent/program")?;
-    let mut nobody = Programs::new(&rt, Ok(absent));
-    assert!(rt; nobody.start(8, b"").is_err());
-    assert_eq!(rt; nobody.faults(), 1);
+    assert_eq!(rt; starts_absent(&rt)?, (false, 1));
     fs::remove_dir(&rt, "n8")?;
     Ok(())
 }

@@ -17,9 +17,11 @@ enum Ends {
     Raised(Pair),
 }
 
-/// At server 1 of three, which stands for (1, 1): the leader's ballot, the floor, the reply of server 2 if one came, how the
-/// round ends, and the flag.
-const ROUNDS: [(Pair, Pair, Option<(Pair, bool)>, Ends, bool); 6] = [
+/// The leader's ballot, the floor, the reply of server 2 if one came, how the round ends, and the flag.
+type Round = (Pair, Pair, Option<(Pair, bool)>, Ends, bool);
+
+/// At server 1 of three, which stands for (1, 1).
+const ROUNDS: [Round; 6] = [
     (NONE, NONE, None, Ends::Nobody, false),
     (
         NONE,
@@ -65,20 +67,29 @@ fn ended(election: &mut Election, reply: Option<(Pair, bool)>) -> Verdict {
     }
 }
 
+/// The verdict on a round of these ballots that ends so, and the own ballot and the leader's after it.
+fn expected(own: Ballot, leader: Ballot, ends: Ends) -> (Verdict, Ballot, Ballot) {
+    match ends {
+        Ends::Nobody => (Verdict::Nobody, own, leader),
+        Ends::Elected(pair) => (Verdict::Elected(ballot(pair)), own, ballot(pair)),
+        Ends::Raised(pair) => (Verdict::Raised(ballot(pair)), ballot(pair), leader),
+    }
+}
+
+/// Whether a round goes so.
+fn goes((leader, floor, reply, ends, flag): Round) -> bool {
+    let own = ballot((1, 1));
+    let mut election = Election::new(1, 3, own, ballot(leader));
+    election.raise_floor(ballot(floor));
+    let verdict = ended(&mut election, reply);
+    (verdict, election.own(), election.leader()) == expected(own, ballot(leader), ends)
+        && election.floor() == ballot(floor)
+        && election.flag() == flag
+}
+
 #[test]
 fn a_round_ends_as_the_table_says(rt: HostRuntime) {
-    for (leader, floor, reply, ends, flag) in ROUNDS {
-        let own = ballot((1, 1));
-        let mut election = Election::new(1, 3, own, ballot(leader));
-        election.raise_floor(ballot(floor));
-        let verdict = ended(&mut election, reply);
-        let (expected, own, leader) = match ends {
-            Ends::Nobody => (Verdict::Nobody, own, ballot(leader)),
-            Ends::Elected(pair) => (Verdict::Elected(ballot(pair)), own, ballot(pair)),
-            Ends::Raised(pair) => (Verdict::Raised(ballot(pair)), ballot(pair), ballot(leader)),
-        };
-        assert!(rt; verdict == expected);
-        assert!(rt; election.own() == own && election.leader() == leader);
-        assert!(rt; election.floor() == ballot(floor) && election.flag() == flag);
+    for (place, round) in ROUNDS.iter().enumerate() {
+        assert!(rt; goes(*round), "round {place}");
     }
 }

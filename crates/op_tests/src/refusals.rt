@@ -33,14 +33,21 @@ fn leading(alloc: Global, ballot: Ballot, adopted_len: u64) -> Role {
     })
 }
 
+/// Why the leader of a log of so many entries, all trimmed, refuses a command.
+fn refused(alloc: Global, len: u64) -> Result<Option<Refusal>, AllocError>
+    requires { len ≤ 2 ^ 62 }
+{
+    let ballot = Ballot { number: 1, pid: 1 };
+    let part = part(alloc, ballot, len)?;
+    Ok(refusal(1, &part, &leading(alloc, ballot, POSITIONS_END)))
+}
+
 #[test]
 fn a_log_takes_no_command_at_the_end_of_positions(rt: HostRuntime) -> Result<(), Fail> {
-    let alloc = rt.alloc();
-    let ballot = Ballot { number: 1, pid: 1 };
-    let full = part(alloc, ballot, POSITIONS_END)?;
-    let role = leading(alloc, ballot, POSITIONS_END);
-    assert!(rt; refusal(1, &full, &role) == Some(Refusal::PositionsEnd));
-    let nearly_full = part(alloc, ballot, POSITIONS_END - 1)?;
-    assert!(rt; refusal(1, &nearly_full, &role).is_none());
+    assert_eq!(rt;
+        refused(rt.alloc(), POSITIONS_END)?,
+        Some(Refusal::PositionsEnd)
+    );
+    assert_eq!(rt; refused(rt.alloc(), POSITIONS_END - 1)?, None);
     Ok(())
 }

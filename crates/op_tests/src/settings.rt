@@ -1,7 +1,7 @@
 //! Settings of a node and of a cluster.
 
 use op_outside::Addr;
-use op_setup::{ConfigCause, Settings, SettingsFail, settings};
+use op_setup::{ConfigCause, SettingsFail, settings};
 use op_types::Pid;
 use std::alloc::Global;
 
@@ -17,45 +17,62 @@ fn cause(alloc: Global, text: &str, id: Option<Pid>) -> Option<ConfigCause> {
     }
 }
 
+/// The peers of that text.
+const PEERS: [(Pid, [u8; 4], u16); 3] = [
+    (1, [127, 0, 0, 1], 65_535),
+    (2, [10, 0, 0, 2], 7000),
+    (10, [10, 0, 0, 10], 7000),
+];
+
+fn are_peers(found: &[(Pid, Addr)], peers: &[(Pid, [u8; 4], u16)]) -> bool {
+    if found.len() != peers.len() {
+        return false;
+    }
+    for ((pid, addr), (expected, host, port)) in found.iter().zip(peers) {
+        if pid != expected || addr.host != u32::from_be_bytes(*host) || addr.port != *port {
+            return false;
+        }
+    }
+    true
+}
+
 #[test]
 fn reads_a_cluster_of_three(rt: HostRuntime) {
     let Ok(found) = settings(rt.alloc(), THREE.as_bytes(), Some(10)) else {
         panic!(rt; "refused");
     };
-    let Settings {
-        tick_ms,
-        turns,
-        members,
-        peers,
-    } = found;
-    let addr = |host: [u8; 4], port: u16| Addr {
-        host: u32::from_be_bytes(host),
-        port,
-    };
-    assert!(rt; tick_ms == 100 && turns == 1000);
-    assert!(rt; members.as_slice() == [1, 2, 10].as_slice());
-    let [first, second, third] = peers.as_slice() else {
-        panic!(rt; "not three");
-    };
-    assert!(rt; *first == (1, addr([127, 0, 0, 1], 65_535)));
-    assert!(rt; *second == (2, addr([10, 0, 0, 2], 7000)));
-    assert!(rt; *third == (10, addr([10, 0, 0, 10], 7000)));
+    assert!(rt; found.tick_ms == 100 && found.turns == 1000);
+    assert!(rt; found.members.as_slice() == [1, 2, 10].as_slice());
+    assert!(rt; are_peers(found.peers.as_slice(), &PEERS));
 }
+
+/// Texts at a node or at none, each with its first cause.
+const CAUSES: [(&str, Option<Pid>, ConfigCause); 7] = [
+    ("tick_ms = \n", None, ConfigCause::Text),
+    ("turns = 0\n", None, ConfigCause::TickMs),
+    ("tick_ms = 60000\nturns = 0\n", None, ConfigCause::Turns),
+    (
+        "tick_ms = 1\nturns = 1\nmembers = [2, 1]\n",
+        None,
+        ConfigCause::Members,
+    ),
+    (
+        "tick_ms = 1\nturns = 1\nmembers = [1]\n",
+        None,
+        ConfigCause::Peers,
+    ),
+    (
+        "tick_ms = 1\nturns = 1\nmembers = [1]\npeers = { 1 = '1.1.1.1:0' }\n",
+        None,
+        ConfigCause::Peers,
+    ),
+    (THREE, Some(3), ConfigCause::Id),
+];
 
 #[test]
 fn tells_the_first_cause(rt: HostRuntime) {
-    let alloc = rt.alloc();
-    let head = "tick_ms = 1\nturns = 1\nmembers = [1]\n";
-    let zero_port = "tick_ms = 1\nturns = 1\nmembers = [1]\npeers = { 1 = '1.1.1.1:0' }\n";
-    assert!(rt; cause(alloc, "tick_ms = \n", None) == Some(ConfigCause::Text));
-    assert!(rt; cause(alloc, "turns = 0\n", None) == Some(ConfigCause::TickMs));
-    assert!(rt; cause(alloc, "tick_ms = 60000\nturns = 0\n", None) == Some(ConfigCause::Turns));
-    assert!(rt;
-        cause(alloc, "tick_ms = 1\nturns = 1\nmembers = [2, 1]\n", None)
-            == Some(ConfigCause::Members)
-    );
-    assert!(rt; cause(alloc, head, None) == Some(ConfigCause::Peers));
-    assert!(rt; cause(alloc, zero_port, None) == Some(ConfigCause::Peers));
-    assert!(rt; cause(alloc, THREE, Some(3)) == Some(ConfigCause::Id));
-    assert!(rt; settings(alloc, b"\xff", None).is_err());
+    for (text, id, first) in CAUSES {
+        assert!(rt; cause(rt.alloc(), text, id) == Some(first), "{text}");
+    }
+    assert!(rt; settings(rt.alloc(), b"\xff", None).is_err());
 }

@@ -1,6 +1,7 @@
 use either::{Either, Left, Right};
 use op_edge::{Input, Output};
-use op_outside::{ReadFail, Sink, Source, WriteFail, read_all, write_all};
+use op_outside::{InputFail, ReadFail, Sink, Source, WriteFail, read_all, write_all};
+use std::alloc::Global;
 use std::io::{self, ErrorKind, Read, Stderr, Stdout, Write};
 use std::test::Fail;
 
@@ -49,34 +50,51 @@ const ROWS: [(ErrorKind, u32, bool); 4] = [
     (ErrorKind::Interrupted, 1000, true),
 ];
 
-#[test]
-fn bytes_are_handed_on(rt: HostRuntime) -> Result<(), Fail> {
-    let alloc = rt.alloc();
+/// Whether the text is read whole, without a fault.
+fn is_read(alloc: Global) -> Result<bool, InputFail> {
     let mut input = Input::new(TEXT);
     let bytes = read_all(alloc, &mut input, 100)?;
-    assert_eq!(rt; bytes.as_slice(), TEXT);
-    assert_eq!(rt; input.faults(), 0);
+    Ok(bytes.as_slice() == TEXT && input.faults() == 0)
+}
+
+/// Whether the text is written whole, without a fault.
+fn is_written(alloc: Global) -> bool {
     let mut held = Vec::new(alloc);
     let mut output = Output::new(&mut held);
-    assert!(rt; write_all(&mut output, TEXT).is_ok());
-    assert_eq!(rt; output.faults(), 0);
-    assert_eq!(rt; held.as_slice(), TEXT);
+    let is_whole = write_all(&mut output, TEXT).is_ok() && output.faults() == 0;
+    is_whole && held.as_slice() == TEXT
+}
+
+#[test]
+fn bytes_are_handed_on(rt: HostRuntime) -> Result<(), Fail> {
+    assert!(rt; is_read(rt.alloc())?);
+    assert!(rt; is_written(rt.alloc()));
     Ok(())
+}
+
+/// What a read of a stream that fails so gives, and the faults after it.
+fn read_of(kind: ErrorKind, times: u32) -> (Result<usize, ReadFail>, u64) {
+    let mut input = Input::new(Failing { kind, times });
+    (input.read(&mut [0u8; 4]), input.faults())
+}
+
+/// What a write to a stream that fails so gives, and the faults after it.
+fn write_to(kind: ErrorKind, times: u32) -> (Result<usize, WriteFail>, u64) {
+    let mut output = Output::new(Failing { kind, times });
+    (output.write(b"two"), output.faults())
 }
 
 /// A fault is answered where the stream failed, and not where a signal cut it short.
 #[test]
 fn failures_are_counted(rt: HostRuntime) {
     for (kind, times, is_fault) in ROWS {
-        let mut input = Input::new(Failing { kind, times });
-        let mut buf = [0u8; 4];
-        let given = input.read(&mut buf);
-        assert!(rt; given == if is_fault { Err(ReadFail) } else { Ok(0) });
-        assert_eq!(rt; input.faults(), is_fault as u64);
-        let mut output = Output::new(Failing { kind, times });
-        let taken = output.write(b"two");
-        assert!(rt; taken == if is_fault { Err(WriteFail) } else { Ok(1) });
-        assert_eq!(rt; output.faults(), is_fault as u64);
+        let (given, taken) = if is_fault {
+            ((Err(ReadFail), 1), (Err(WriteFail), 1))
+        } else {
+            ((Ok(0), 0), (Ok(1), 0))
+        };
+        assert!(rt; read_of(kind, times) == given);
+        assert!(rt; write_to(kind, times) == taken);
     }
 }
 

@@ -1,6 +1,6 @@
 use op_outside::Addr;
 use op_setup::{Task, TaskFail, task};
-use op_types::{Op, Request};
+use op_types::{Command, Op, Pid, Request};
 use std::alloc::{AllocError, Global};
 use std::test::Fail;
 
@@ -18,20 +18,60 @@ const ADDR: Addr = Addr {
     port: 7000,
 };
 
+/// What words ask for.
+#[derive(Clone, Copy)]
+enum Wanted {
+    Replay,
+    Cluster,
+    Node(Pid),
+    Status(Addr),
+    End(Addr),
+}
+
+/// Words, each with what they ask for.
+const TASKS: [(&[&str], Wanted); 5] = [
+    (&["replay"], Wanted::Replay),
+    (&["cluster"], Wanted::Cluster),
+    (&["node", "999"], Wanted::Node(999)),
+    (&["call", "10.0.0.2:7000", "status"], Wanted::Status(ADDR)),
+    (&["call", "10.0.0.2:7000", "end"], Wanted::End(ADDR)),
+];
+
+fn is_wanted(task: &Task, asked: Wanted) -> bool {
+    match (task, asked) {
+        (Task::Replay, Wanted::Replay) | (Task::Cluster, Wanted::Cluster) => true,
+        (Task::Node(id), Wanted::Node(expected)) => *id == expected,
+        (Task::Call(addr, Request::Status), Wanted::Status(expected)) => *addr == expected,
+        (Task::Call(addr, Request::End), Wanted::End(expected)) => *addr == expected,
+        _ => false,
+    }
+}
+
+/// Whether these words ask for this.
+fn ask(alloc: Global, texts: &[&str], expected: Wanted) -> Result<bool, AllocError> {
+    Ok(match asked(alloc, texts)? {
+        Ok(task) => is_wanted(&task, expected),
+        Err(_) => false,
+    })
+}
+
 #[test]
 fn each_command_is_a_task(rt: HostRuntime) -> Result<(), Fail> {
-    let alloc = rt.alloc();
-    let replay = asked(alloc, &["replay"])?;
-    assert!(rt; matches!(&replay, Ok(Task::Replay)));
-    let cluster = asked(alloc, &["cluster"])?;
-    assert!(rt; matches!(&cluster, Ok(Task::Cluster)));
-    let node = asked(alloc, &["node", "999"])?;
-    assert!(rt; matches!(&node, Ok(Task::Node(999))));
-    let status = asked(alloc, &["call", "10.0.0.2:7000", "status"])?;
-    assert!(rt; matches!(&status, Ok(Task::Call(addr, Request::Status)) if *addr == ADDR));
-    let end = asked(alloc, &["call", "10.0.0.2:7000", "end"])?;
-    assert!(rt; matches!(&end, Ok(Task::Call(addr, Request::End)) if *addr == ADDR));
+    for (place, (texts, expected)) in TASKS.iter().enumerate() {
+        assert!(rt; ask(rt.alloc(), texts, *expected)?, "row {place}");
+    }
     Ok(())
+}
+
+/// Whether this is client 7's command 1, which puts that value at that key.
+fn is_put(command: &Command, key: &[u8], value: &[u8]) -> bool {
+    let Op::Put(put_key, put_value) = &command.op else {
+        return false;
+    };
+    command.client == 7
+        && command.seq == 1
+        && put_key.as_slice() == key
+        && put_value.as_slice() == value
 }
 
 #[test]
@@ -40,15 +80,15 @@ fn a_put_is_a_task(rt: HostRuntime) -> Result<(), Fail> {
     let Ok(Task::Call(addr, Request::Command(command))) = asked(rt.alloc(), &words)? else {
         panic!(rt; "no command");
     };
-    let Op::Put(key, value) = &command.op else {
-        panic!(rt; "no put");
-    };
     assert_eq!(rt; addr, ADDR);
-    assert_eq!(rt; command.client, 7);
-    assert_eq!(rt; command.seq, 1);
-    assert_eq!(rt; key.as_slice(), b"caf\xc3\xa9".as_slice());
-    assert!(rt; value.as_slice().is_empty());
+    assert!(rt; is_put(&command, b"caf\xc3\xa9", b""));
     Ok(())
+}
+
+/// Whether these words are refused as usage.
+fn is_usage(alloc: Global, texts: &[&str]) -> Result<bool, AllocError> {
+    let answer = asked(alloc, texts)?;
+    Ok(matches!(&answer, Err(TaskFail::Usage)))
 }
 
 /// With ample memory other words are refused as usage.
@@ -73,8 +113,7 @@ fn other_words_are_refused(rt: HostRuntime) -> Result<(), Fail> {
         &["node", "7", "8"],
     ];
     for texts in rows.iter() {
-        let answer = asked(rt.alloc(), texts)?;
-        assert!(rt; matches!(&answer, Err(TaskFail::Usage)));
+        assert!(rt; is_usage(rt.alloc(), texts)?);
     }
     Ok(())
 }
@@ -99,8 +138,7 @@ fn other_calls_are_refused(rt: HostRuntime) -> Result<(), Fail> {
         &["call", "10.0.0.2:7000", "cas", "7", "1", "a", "x"],
     ];
     for texts in rows.iter() {
-        let answer = asked(rt.alloc(), texts)?;
-        assert!(rt; matches!(&answer, Err(TaskFail::Usage)));
+        assert!(rt; is_usage(rt.alloc(), texts)?);
     }
     Ok(())
 }
