@@ -1,12 +1,10 @@
 -- What a cluster calls and writes: a start of each id, then an end of each with its line.
-use Rattle.std.specs.Prelude.{◌≡◌, ◌≤◌, ◌⊎◌, ℕ, List, [], ◌∷◌, ◌++◌, map, codes, decimal, Option, Some, None, Result, IsErrOf}
+use Rattle.std.specs.Prelude.{◌≡◌, ◌⊎◌, ℕ, List, [], ◌∷◌, ◌++◌, map, codes, decimal, Option, Some, None}
 use Rattle.std.specs.List.{flat_map}
 use Rattle.std.specs.Map.{keys_of}
 use Rattle.std.specs.Io.KnownBytes.{Appends}
-use Rattle.op_outside.specs.Causes.{FaultsRose}
 use Rattle.op_outside.specs.Spawners.{ChildCall, Started, EndedWith}
 use Rattle.op_outside.specs.Telling.{Grows}
-use Rattle.op_cluster.specs.declared.cluster_fail.ClusterFail.{ClusterFail}
 
 -- a child that has ended: its id and its exit status
 abbrev pub Ended : Type 0
@@ -64,10 +62,11 @@ pub record EndFails (starts : List ChildCall) (ids : List ℕ) (old new : Told) 
 -- a start failed, and nothing is written; or all were started, and an end failed
 abbrev pub StartOrEndFails : List ℕ → List ℕ → Told → Told → Type 0
 StartOrEndFails input ids old new =
-    (StartFails input ids old.calls new.calls × (new.bytes ≡ old.bytes)) ⊎ EndFails (starts_of input ids) ids old new
+    (StartFails input ids old.calls new.calls × (new.bytes ≡ old.bytes))
+    ⊎ EndFails (starts_of input ids) ids old new
 
--- after these starts a write failed in the line of the last child that had ended: a part of it is written, after all lines
--- before it
+-- after these starts a write failed in the line of the last child that had ended:
+-- a part of it is written, after all lines before it
 pub record WriteFails (starts : List ChildCall) (ids : List ℕ) (old new : Told) : Type 0 where
   pub children : List Ended
   pub last : Ended
@@ -78,9 +77,3 @@ pub record WriteFails (starts : List ChildCall) (ids : List ℕ) (old new : Told
   pub rest : List ℕ
   pub line : part ++ rest ≡ child_line last
   pub lines : Appends old.bytes new.bytes (lines_of children ++ part)
-
--- this failure is answered exactly where the object's count of faults rose in the call
-pub record IsFault (fault : ClusterFail) (result : Result (Unit {0}) ClusterFail) (before after : ℕ) : Type 0 where
-  pub later : before ≤ after
-  pub rose : IsErrOf result fault → FaultsRose before after
-  pub same : (IsErrOf result fault → ⊥) → after ≡ before

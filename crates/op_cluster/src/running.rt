@@ -1,10 +1,9 @@
 ghost use Rattle.std.specs.Prelude.{[], OnOk, OnErr, IsErrOf};
-ghost use Rattle.op_outside.specs.Causes.{FailsOnlyOnFault};
+ghost use Rattle.op_outside.specs.Causes.{FailsOnlyOnFault, RisesWith};
 ghost use Rattle.op_outside.specs.Telling.{Grows};
 ghost use Rattle.op_cluster.specs.Clusters.{
   AllEnd,
   EndFails,
-  IsFault,
   StartFails,
   StartOrEndFails,
   WriteFails,
@@ -39,9 +38,9 @@ pub fn cluster<K: Sink, P: Spawner>(
         (tells (P.told children.old) (K.held out.old)) (tells (P.told children.new) (K.held out.new)) }
 
     // A fault is answered where that object has failed in this call, and nowhere else.
-    ensures child_cause { IsFault ChildFault result
+    ensures child_cause { RisesWith (IsErrOf result ChildFault)
         (P.fault_count children.old) (P.fault_count children.new) }
-    ensures write_cause { IsFault WriteFault result (K.fault_count out.old) (K.fault_count out.new) }
+    ensures write_cause { RisesWith (IsErrOf result WriteFault) (K.fault_count out.old) (K.fault_count out.new) }
 {
     start_all(ids, input, children)?;
     end_all(ids, out, children)
@@ -73,9 +72,9 @@ fn end_all<K: Sink, P: Spawner>(
         (tells (P.told children.old) (K.held out.old)) (tells (P.told children.new) (K.held out.new)) }
     ensures write_fault { IsErrOf result WriteFault → WriteFails [] ids.now
         (tells (P.told children.old) (K.held out.old)) (tells (P.told children.new) (K.held out.new)) }
-    ensures child_cause { IsFault ChildFault result
+    ensures child_cause { RisesWith (IsErrOf result ChildFault)
         (P.fault_count children.old) (P.fault_count children.new) }
-    ensures write_cause { IsFault WriteFault result (K.fault_count out.old) (K.fault_count out.new) }
+    ensures write_cause { RisesWith (IsErrOf result WriteFault) (K.fault_count out.old) (K.fault_count out.new) }
 {
     for id in ids {
         let status = children.end(*id)?;

@@ -1,5 +1,5 @@
 -- What is read of an input, and the settings that it holds.
-use Rattle.std.specs.Prelude.{◌≡◌, ℕ, ◌≤◌, ◌+◌, List, length, Option, Result, Ok, Err}
+use Rattle.std.specs.Prelude.{◌≡◌, ℕ, ◌≤◌, ◌+◌, List, length, Option}
 use Rattle.std.specs.Io.KnownBytes.{IsAtEnd}
 use Rattle.op_outside.specs.Causes.{FaultsRose}
 use Rattle.op_outside.specs.Streams.{ReadsAll, HasAtLeast}
@@ -21,7 +21,8 @@ pub record IsInput (old new : Option (List ℕ)) (bytes : List ℕ) : Type 0 whe
   pub end : IsAtEnd new
 
 -- the settings of the node of this id, or of a cluster, are these
-pub record IsConfigured (old new : Option (List ℕ)) (id : Option ℕ) (text : List ℕ) (s : Settings) : Type 0 where
+pub record IsConfigured (old new : Option (List ℕ)) (id : Option ℕ) (text : List ℕ)
+    (s : Settings) : Type 0 where
   pub read : IsInput old new text
   pub settings : IsSettings text id s
 
@@ -32,7 +33,8 @@ pub record IsBadConfig (old : Option (List ℕ)) (id : Option ℕ) (c : ConfigCa
   pub few : length text ≤ input_limit
   pub first : IsFirstCause text id c
 
--- why input is not read, by its status: a read failed, which raises the count of faults; there is more of it than may be; or no memory
+-- why input is not read, by its status: a read failed, which raises the count of faults;
+-- there is more of it than may be; or no memory
 abbrev pub IsUnread : Option (List ℕ) → ℕ → ℕ → Status → Type 0
 IsUnread old before now status.ReadFault = FaultsRose before now
 IsUnread old before now status.InputLimit = HasAtLeast old (input_limit + 1)
@@ -43,8 +45,3 @@ IsUnread old before now _ = ⊥
 abbrev pub IsMisconfigured : Option (List ℕ) → Option ℕ → ℕ → ℕ → Status → Type 0
 IsMisconfigured old id before now (status.BadConfig c) = IsBadConfig old id c
 IsMisconfigured old id before now s = IsUnread old before now s
-
--- a count of faults rises only with this answer
-abbrev pub RisesOnlyAt : {T : Type 0} → Status → Result T Status → ℕ → ℕ → Type 0
-RisesOnlyAt fault (Ok x) before now = now ≡ before
-RisesOnlyAt fault (Err s) before now = (s ≡ fault → ⊥) → now ≡ before

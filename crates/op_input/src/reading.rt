@@ -1,6 +1,7 @@
-ghost use Rattle.std.specs.Prelude.{◌+◌, IfOk, IfErr};
+ghost use Rattle.std.specs.Prelude.{◌+◌, IfOk, IfErr, IsErrOf};
+ghost use Rattle.op_outside.specs.Causes.{RisesWith};
 ghost use Rattle.op_outside.specs.Streams.{TakesAtMost};
-ghost use Rattle.op_input.specs.Inputs.{IsInput, IsUnread, RisesOnlyAt, input_limit};
+ghost use Rattle.op_input.specs.Inputs.{IsInput, IsUnread, input_limit};
 
 use op_outside::{InputFail, Source, read_all};
 use op_status::Status;
@@ -16,7 +17,8 @@ pub fn read_input<S: Source>(alloc: Global, input: &mut S) -> Result<Vec<u8>, St
     ensures unread { IfErr result (IsUnread (S.left input.old)
         (S.fault_count input.old) (S.fault_count input.new)) }
     ensures most { TakesAtMost (input_limit + 1) (S.left input.old) (S.left input.new) }
-    ensures count { RisesOnlyAt Status.ReadFault result (S.fault_count input.old) (S.fault_count input.new) }
+    ensures count { RisesWith (IsErrOf result Status.ReadFault)
+        (S.fault_count input.old) (S.fault_count input.new) }
 {
     match read_all(alloc, input, INPUT_LIMIT) {
         Ok(bytes) => Ok(bytes),

@@ -1,6 +1,7 @@
-ghost use Rattle.std.specs.Prelude.{◌+◌, IfOk, IfErr};
+ghost use Rattle.std.specs.Prelude.{◌+◌, IfOk, IfErr, IsErrOf};
+ghost use Rattle.op_outside.specs.Causes.{RisesWith};
 ghost use Rattle.op_outside.specs.Streams.{TakesAtMost};
-ghost use Rattle.op_input.specs.Inputs.{IsConfigured, IsMisconfigured, RisesOnlyAt, input_limit};
+ghost use Rattle.op_input.specs.Inputs.{IsConfigured, IsMisconfigured, input_limit};
 
 use crate::reading::read_input;
 use op_outside::Source;
@@ -9,10 +10,12 @@ use op_status::Status;
 use op_types::Pid;
 use std::alloc::Global;
 
-/// Settings, and the text that sets them.
+/// Settings that were read.
 #[derive(Drop)]
 pub struct Configured {
+    /// The text that sets them, which is the whole input.
     pub text: Vec<u8>,
+    /// What it sets.
     pub settings: Settings,
 }
 
@@ -28,7 +31,8 @@ pub fn read_settings<S: Source>(
     ensures refused { IfErr result (IsMisconfigured (S.left input.old) id
         (S.fault_count input.old) (S.fault_count input.new)) }
     ensures most { TakesAtMost (input_limit + 1) (S.left input.old) (S.left input.new) }
-    ensures count { RisesOnlyAt Status.ReadFault result (S.fault_count input.old) (S.fault_count input.new) }
+    ensures count { RisesWith (IsErrOf result Status.ReadFault)
+        (S.fault_count input.old) (S.fault_count input.new) }
 {
     let text = read_input(alloc, input)?;
     match settings(alloc, &text, id) {

@@ -1,7 +1,8 @@
 -- What is seen of an object outside, one run of calls after another.
 use Rattle.std.proofs.Common.{◌≡◌, ℕ, List, [], ◌∷◌, ◌++◌, ◌||◌, Bool, true, false, Option, Some, None, option_map, inl, inr, refl, sym, ◌∙◌, ap, append_assoc, append-nil, subst, arith, Result, Ok, Err, IsErr}
+use Rattle.std.specs.Prelude.{IsErrOf}
 use Rattle.std.proofs.lemmas.List.Folds.{list_any-append}
-use Rattle.op_outside.specs.Causes.{FailsOnlyOnFault, Rises, RisesIf}
+use Rattle.op_outside.specs.Causes.{FailsOnlyOnFault, Rises, RisesIf, RisesWith}
 use Rattle.op_outside.specs.Nets.{Call, call_fails, has_failed}
 use Rattle.op_outside.specs.Seen.{NetSeen, Told}
 use Rattle.op_outside.specs.Telling.{Grows}
@@ -39,11 +40,11 @@ rises_if_one : (p : Bool) (f g : ℕ) → RisesIf p f g → RisesIf (p || false)
 rises_if_one false f g h = h
 rises_if_one true f g h = h
 
--- a call that didn't fail, and one that did
-pub went_well : {T E : Type 0} (f g : ℕ) (result : Result T E) (x : T) → result ≡ Ok x → FailsOnlyOnFault f g result → RisesIf false f g
-went_well f g (Ok y) x e cause = cause.ok
-went_well f g (Err y) x e cause = absurd cc
+-- an error that is told of a result, and of itself
+pub rises_with_error : (T : Type 0) {E : Type 0} (e fault : E) (f g : ℕ) → RisesWith (IsErrOf {T = T} (Err e) fault) f g → RisesWith (e ≡ fault) f g
+rises_with_error T e fault f g r = record { later = r.later; rose = λ is. r.rose (ap Err is); same = λ other. r.same (λ is. other cc) }
 
+-- a call that failed
 pub went_wrong : {T E : Type 0} (f g : ℕ) (result : Result T E) → IsErr result → FailsOnlyOnFault f g result → RisesIf true f g
 went_wrong f g result is cause = record { later = cause.later; rose = cause.err is }
 

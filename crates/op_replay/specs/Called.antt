@@ -41,12 +41,14 @@ IsReported input old new = (text : List ℕ) × IsWithinLimit input × Reports i
 
 -- a prefix of that report was written
 abbrev pub IsReportedPrefix : List ℕ → Option (List ℕ) → Option (List ℕ) → Type 0
-IsReportedPrefix input old new = (text : List ℕ) × IsWithinLimit input × Reports input text × AppendsPrefix old new text
+IsReportedPrefix input old new =
+    (text : List ℕ) × IsWithinLimit input × Reports input text × AppendsPrefix old new text
 
--- line n is the first that isn't in the grammar or, where all are, that of the first event that names a server that is no member,
--- or a message that wasn't sent
+-- line n is the first that isn't in the grammar or, where all are, that of the first event that names a
+-- server that is no member, or a message that wasn't sent
 abbrev pub IsBadAt : List ℕ → ℕ → Type 0
-IsBadAt input n = IsFirstBadLine input n ⊎ ((s : Schedule) × IsSchedule input s × IsLineOfFirstBad s.members s.events n)
+IsBadAt input n =
+    IsFirstBadLine input n ⊎ ((s : Schedule) × IsSchedule input s × IsLineOfFirstBad s.members s.events n)
 
 -- the input isn't too long, and is refused at this line
 abbrev pub IsRefusedAt : List ℕ → ℕ → Type 0

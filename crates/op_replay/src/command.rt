@@ -1,6 +1,6 @@
-ghost use Rattle.op_outside.specs.Causes.{NoFault};
+ghost use Rattle.std.specs.Prelude.{◌≡◌};
+ghost use Rattle.op_outside.specs.Causes.{NoFault, RisesWith};
 ghost use Rattle.op_replay.specs.Answers.{AnswersReplay, EndsIfValid, LeavesInput, LeavesOutput, RefusesInput};
-ghost use Rattle.op_status.specs.Faults.{IsFault};
 
 use crate::running::replayed;
 use op_input::read_input;
@@ -18,8 +18,10 @@ pub fn replay<S: Source, K: Sink>(alloc: Global, input: &mut S, out: &mut K) -> 
     ensures refused { RefusesInput result
         (S.left input.old) (S.fault_count input.old) (S.fault_count input.new) }
     // A fault is answered where the stream failed in this call, and nowhere else.
-    ensures read_fault { IsFault Status.ReadFault result (S.fault_count input.old) (S.fault_count input.new) }
-    ensures write_fault { IsFault Status.WriteFault result (K.fault_count out.old) (K.fault_count out.new) }
+    ensures read_fault { RisesWith (result ≡ Status.ReadFault)
+        (S.fault_count input.old) (S.fault_count input.new) }
+    ensures write_fault { RisesWith (result ≡ Status.WriteFault)
+        (K.fault_count out.old) (K.fault_count out.new) }
     ensures no_other { AnswersReplay result }
     // A valid schedule is reported, unless a stream fails or there is no memory.
     ensures complete { NoFault (S.fault_count input.old) (S.fault_count input.new)

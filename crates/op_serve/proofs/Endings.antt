@@ -3,6 +3,7 @@ use Rattle.std.proofs.Common.{◌+◌, ◌≡◌, ℕ, List, ◌∷◌, [], Opti
 use Rattle.std.proofs.lemmas.List.Elements.{All-weaker}
 use Rattle.op_types.specs.declared.durable.Durable.{Durable}
 use Rattle.op_types.specs.declared.messages.Msg.{Msg}
+use Rattle.op_outside.specs.Causes.{RisesWith}
 use Rattle.op_outside.specs.Disks.{DiskState}
 use Rattle.op_outside.specs.Seen.{NetSeen, StreamSeen}
 use Rattle.op_outside.specs.Streams.{TakesAtMost}
@@ -28,7 +29,7 @@ use Rattle.op_loop.specs.declared.serve_end.ServeEnd.{ServeEnd}
 use Rattle.op_sessions.specs.declared.mark.Mark.{Mark}
 use Rattle.op_status.specs.declared.status.Status.{Status}
 use Rattle.op_status.specs.declared.status.Status.TheVariants as status
-use Rattle.op_input.specs.Inputs.{IsMisconfigured, RisesOnlyAt, input_limit}
+use Rattle.op_input.specs.Inputs.{IsMisconfigured, input_limit}
 use Rattle.op_serve.specs.Nodes.{Around, Serves, is_misconfigured, Goes, is_unheard, cannot_begin, has_served, Ends, cannot_open, is_damaged, has_no_memory, is_opened, IsHeard, IsNodeOf, IsOwn, IsReady, Holds, around, status_of, status_of_refusal}
 
 module _ {D : Type 0} (state : D → DiskState) where
@@ -129,7 +130,7 @@ node_of_settings id text o one s =
 pub serves_misconfigured : {D : Type 0} (state : D → DiskState) (id : ℕ) (in0 in1 : StreamSeen) (first second a b : D) (net : NetSeen) (clock : Option (List ℕ)) (out : StreamSeen)
     (told s : Status) (lost : List Mark)
     → IsMisconfigured in0.0 (Some id) in0.1 in1.1 told
-    → RisesOnlyAt {T = Unit {0}} status.ReadFault (Err told) in0.1 in1.1 → TakesAtMost (input_limit + 1) in0.0 in1.0 → a ≡ first → b ≡ second → s ≡ told → lost ≡ []
+    → RisesWith (told ≡ status.ReadFault) in0.1 in1.1 → TakesAtMost (input_limit + 1) in0.0 in1.0 → a ≡ first → b ≡ second → s ≡ told → lost ≡ []
     → Serves state id in0 in1 (around first second net clock out) (around a b net clock out) s lost
 serves_misconfigured state id in0 in1 first second a b net clock out told s lost why rises most at_first at_second is no_loss =
     rw (at_first, at_second, is, no_loss) (is_misconfigured why rises most refl)

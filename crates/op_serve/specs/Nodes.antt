@@ -3,7 +3,7 @@ use Rattle.std.specs.Prelude.{◌≡◌, ◌+◌, ◌++◌, ◌∷◌, [], ℕ, 
 use Rattle.std.specs.Io.KnownBytes.{Appends}
 use Rattle.op_types.specs.Ranges.{IsPid, MembersInRange}
 use Rattle.op_types.specs.declared.durable.Durable.{Durable}
-use Rattle.op_outside.specs.Causes.{FaultsRose}
+use Rattle.op_outside.specs.Causes.{FaultsRose, RisesWith}
 use Rattle.op_outside.specs.Disks.{DiskState}
 use Rattle.op_outside.specs.Nets.{Call, Listened}
 use Rattle.op_outside.specs.Seen.{NetSeen, StreamSeen}
@@ -25,7 +25,7 @@ use Rattle.op_loop.specs.Serving.{PeersInRange}
 use Rattle.op_loop.specs.declared.serve_end.ServeEnd.{ServeEnd}
 use Rattle.op_loop.specs.declared.serve_end.ServeEnd.TheVariants as ends
 use Rattle.op_sessions.specs.declared.mark.Mark.{Mark}
-use Rattle.op_input.specs.Inputs.{IsConfigured, IsMisconfigured, RisesOnlyAt, input_limit}
+use Rattle.op_input.specs.Inputs.{IsConfigured, IsMisconfigured, input_limit}
 use Rattle.op_status.specs.declared.status.Status.{Status}
 use Rattle.op_status.specs.declared.status.Status.TheVariants as status
 
@@ -39,7 +39,8 @@ pub record IsNodeOf (id : ℕ) (o : Settings) : Type 0 where
 -- ---- a node is heard
 
 -- it was to listen at its own address, which was answered so
-pub record AsksToListen (id : ℕ) (o : Settings) (net0 net1 : Option (List Call)) (answer : Option (Unit {0})) : Type 0 where
+pub record AsksToListen (id : ℕ) (o : Settings) (net0 net1 : Option (List Call))
+    (answer : Option (Unit {0})) : Type 0 where
   pub addr : Addr
   pub own : Contains o.peers (id, addr)
   pub net : Grows net0 (Listened addr answer ∷ []) net1
@@ -56,12 +57,14 @@ pub record IsReady (id : ℕ) (o : Settings) (net0 net1 : NetSeen) (out0 out1 : 
   pub no_write_fault : out1.1 ≡ out0.1
 
 -- it is ready; or it could not listen; or its line could not be told
-abbrev pub IsHeard : {T : Type 0} → ℕ → Settings → Result T Status → NetSeen → NetSeen → StreamSeen → StreamSeen → Type 0
+abbrev pub IsHeard : {T : Type 0} → ℕ → Settings → Result T Status →
+    NetSeen → NetSeen → StreamSeen → StreamSeen → Type 0
 IsHeard id o (Ok x) net0 net1 out0 out1 = IsReady id o net0 net1 out0 out1
 IsHeard id o (Err status.NetFault) net0 net1 out0 out1 =
     AsksToListen id o net0.0 net1.0 None × FaultsRose net0.1 net1.1 × (out1 ≡ out0)
 IsHeard id o (Err status.WriteFault) net0 net1 out0 out1 =
-    AsksToListen id o net0.0 net1.0 (Some tt) × (net1.1 ≡ net0.1) × AppendsPrefix out0.0 out1.0 (ready_line id) × FaultsRose out0.1 out1.1
+    AsksToListen id o net0.0 net1.0 (Some tt) × (net1.1 ≡ net0.1) ×
+    AppendsPrefix out0.0 out1.0 (ready_line id) × FaultsRose out0.1 out1.1
 IsHeard id o (Err _) net0 net1 out0 out1 = ⊥
 
 -- the status by which serving ended
@@ -88,7 +91,8 @@ pub record Around (D : Type 0) : Type 0 where
   pub output : StreamSeen
 
 abbrev pub around : {D : Type 0} → D → D → NetSeen → Option (List ℕ) → StreamSeen → Around D
-around first second net clock output = record { first = first; second = second; net = net; clock = clock; output = output }
+around first second net clock output =
+    record { first = first; second = second; net = net; clock = clock; output = output }
 
 -- nothing but the disks changed
 abbrev pub OnlyDisks : {D : Type 0} → Around D → Around D → Type 0
@@ -111,7 +115,8 @@ module _ {D : Type 0} (state : D → DiskState) where
   pub record IsOpened (id : ℕ) (members : List ℕ) (old new : Around D) (n : NodeState) : Type 0 where
     pub durable : Durable
     pub is_new : Bool
-    pub found : ObeyIn old → IsOpenedAs (fresh_for id members) (state old.first).content (state old.second).content durable is_new
+    pub found : ObeyIn old →
+        IsOpenedAs (fresh_for id members) (state old.first).content (state old.second).content durable is_new
     pub node : n ≡ record { me = id; state = opening_state id is_new durable; failed = None }
     pub no_fault : faults_of new ≡ faults_of old
 
@@ -119,35 +124,45 @@ module _ {D : Type 0} (state : D → DiskState) where
   abbrev pub IsOwn : ℕ → Around D → Durable → Type 0
   IsOwn id old durable = ObeyIn old × (durable_for id durable ≡ durable)
 
-  -- How an open node ends: it could not listen, or could not tell that it does; there was no memory to begin; or it has served. If the disks
-  -- stood for what it had stored, and it has not failed, they do so at the end.
-  pub data Goes (id : ℕ) (o : Settings) (n : NodeState) (stood : Type 0) (old new : Around D) : Status → List Mark → Type 0 where
+  -- How an open node ends: it could not listen, or could not tell that it does;
+  -- there was no memory to begin; or it has served.
+  -- If the disks stood for what it had stored, and it has not failed, they do so at the end.
+  pub data Goes (id : ℕ) (o : Settings) (n : NodeState) (stood : Type 0)
+      (old new : Around D) : Status → List Mark → Type 0 where
     is_unheard : {s : Status} → IsHeard {T = Unit {0}} id o (Err s) old.net new.net old.output new.output
         → new ≡ record old { net = new.net; output = new.output } → Goes id o n stood old new s []
-    cannot_begin : (t : ℕ) → IsReady id o old.net new.net old.output new.output → Grows old.clock (t ∷ []) new.clock
-        → new ≡ record old { net = new.net; output = new.output; clock = new.clock } → Goes id o n stood old new status.NoMemory []
-    has_served : {m : NodeState} {end : ServeEnd} {lost : List Mark} (net : NetSeen) → IsReady id o old.net net old.output new.output
-        → loop.Serves o end lost (record { node = n; faults = faults_of old }) (record { node = m; faults = faults_of new })
-        net new.net old.clock new.clock
+    cannot_begin : (t : ℕ) → IsReady id o old.net new.net old.output new.output
+        → Grows old.clock (t ∷ []) new.clock
+        → new ≡ record old { net = new.net; output = new.output; clock = new.clock }
+        → Goes id o n stood old new status.NoMemory []
+    has_served : {m : NodeState} {end : ServeEnd} {lost : List Mark} (net : NetSeen)
+        → IsReady id o old.net net old.output new.output
+        → loop.Serves o end lost (record { node = n; faults = faults_of old })
+        (record { node = m; faults = faults_of new }) net new.net old.clock new.clock
         → (stood → m.failed ≡ None → Holds new m.state.durable)
         → Goes id o n stood old new (status_of end) lost
 
-  -- How a node ends, and what it leaves. Each end has its cause, and nothing is asked of the outside after it.
+  -- How a node ends, and what it leaves. Each end has its cause,
+  -- and nothing is asked of the outside after it.
   pub data Ends (id : ℕ) (o : Settings) (old new : Around D) : Status → List Mark → Type 0 where
-    cannot_open : OnlyDisks old new → FaultsRose (faults_of old) (faults_of new) → Ends id o old new status.DiskFault []
+    cannot_open : OnlyDisks old new → FaultsRose (faults_of old) (faults_of new)
+        → Ends id o old new status.DiskFault []
     is_damaged : {area at : ℕ} → OnlyDisks old new → faults_of new ≡ faults_of old
         → (ObeyIn old → IsDamageOf (state old.first).content (state old.second).content area at)
         → Ends id o old new (status.Damaged area at) []
     has_no_memory : OnlyDisks old new → faults_of new ≡ faults_of old → Ends id o old new status.NoMemory []
-    is_opened : {n : NodeState} {s : Status} {lost : List Mark} (mid : Around D) (opened : IsOpened id o.members old mid n) → OnlyDisks old mid
+    is_opened : {n : NodeState} {s : Status} {lost : List Mark} (mid : Around D)
+        (opened : IsOpened id o.members old mid n) → OnlyDisks old mid
         → Goes id o n (IsOwn id old opened.durable) mid new s lost → Ends id o old new s lost
 
-  -- How the command ends, where this was left of the input before and after it: there are no settings of the node, and nothing else was
-  -- done, where the input failed only with a read fault, and not more was read than tells that it is too long; or there are settings, and
-  -- the node ends as above.
+  -- How the command ends, where this was left of the input before and after it: there are no settings of the
+  -- node, and nothing else was done, where the input failed only with a read fault, and not more was read
+  -- than tells that it is too long; or there are settings, and the node ends as above.
   pub data Serves (id : ℕ) (in0 in1 : StreamSeen) (old new : Around D) : Status → List Mark → Type 0 where
     is_misconfigured : {s : Status} → IsMisconfigured in0.0 (Some id) in0.1 in1.1 s
-        → RisesOnlyAt {T = Unit {0}} status.ReadFault (Err s) in0.1 in1.1 → TakesAtMost (input_limit + 1) in0.0 in1.0
+        → RisesWith (s ≡ status.ReadFault) in0.1 in1.1
+        → TakesAtMost (input_limit + 1) in0.0 in1.0
         → new ≡ old → Serves id in0 in1 old new s []
-    is_configured : {s : Status} {lost : List Mark} {text : List ℕ} (o : Settings) → IsConfigured in0.0 in1.0 (Some id) text o → in1.1 ≡ in0.1
+    is_configured : {s : Status} {lost : List Mark} {text : List ℕ} (o : Settings)
+        → IsConfigured in0.0 in1.0 (Some id) text o → in1.1 ≡ in0.1
         → Ends id o old new s lost → Serves id in0 in1 old new s lost

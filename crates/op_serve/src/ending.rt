@@ -4,12 +4,16 @@ use op_sessions::Mark;
 use op_status::Status;
 use std::alloc::Global;
 
-/// How a command ended: its status, the disks that it was handed, and what a node lost for want of memory, in order.
+/// How a command ended.
 #[derive(Drop)]
 pub struct Ending<D> {
+    /// Its status.
     pub status: Status,
+    /// The first disk that it was handed.
     pub first: D,
+    /// The second disk that it was handed.
     pub second: D,
+    /// What a node lost for want of memory, in order.
     pub lost: Vec<Mark>,
 }
 

@@ -1,6 +1,6 @@
 ghost use Rattle.std.specs.Prelude.{◌≡◌, map};
 ghost use Rattle.std.specs.List.{concat};
-ghost use Rattle.op_outside.specs.Streams.{Tells};
+ghost use Rattle.op_outside.specs.Seen.{Tells};
 ghost use Rattle.op_status.specs.Statuses.{cause_name, exit_code, status_line};
 
 use itoa::Buffer;
@@ -27,6 +27,7 @@ pub enum Status {
     DiskFault,
     /// A call of the net failed.
     NetFault,
+    /// No memory was found, or a node that serves has 64 marks.
     NoMemory,
     /// All turns were taken, and no end was asked for.
     TurnsOver,
@@ -65,7 +66,8 @@ impl Status {
 
     /// Writes the status's line, with no memory taken. `Ended` has none.
     pub fn tell<K: Sink>(self, err: &mut K)
-        ensures { Tells K.held K.fault_count err.old err.new (status_line self) }
+        ensures { Tells (K.held err.old, K.fault_count err.old) (K.held err.new, K.fault_count err.new)
+            (status_line self) }
     {
         match self {
             Status::Ended => tell_text(err, b""),
@@ -98,13 +100,15 @@ impl Status {
 }
 
 fn tell_text<K: Sink>(err: &mut K, text: &[u8])
-    ensures { Tells K.held K.fault_count err.old err.new text.now }
+    ensures { Tells (K.held err.old, K.fault_count err.old) (K.held err.new, K.fault_count err.new)
+        text.now }
 {
     let _ = write_all(err, text);
 }
 
 fn tell_parts<K: Sink>(err: &mut K, parts: &[&[u8]])
-    ensures { Tells K.held K.fault_count err.old err.new (concat (map (λ part. part.now) parts.now)) }
+    ensures { Tells (K.held err.old, K.fault_count err.old) (K.held err.new, K.fault_count err.new)
+        (concat (map (λ part. part.now) parts.now)) }
 {
     let _ = write_parts(err, parts);
 }

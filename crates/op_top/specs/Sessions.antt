@@ -1,27 +1,22 @@
 -- A run of the program: what it leaves outside, and the line that tells how it ended.
-use Rattle.std.specs.Prelude.{◌≡◌, ◌⊎◌, ℕ, List}
-use Rattle.std.specs.Io.KnownBytes.{Appends}
-use Rattle.op_outside.specs.Causes.{FaultsRose}
+use Rattle.std.specs.Prelude.{◌≡◌, ℕ, List}
 use Rattle.op_outside.specs.Disks.{DiskState}
-use Rattle.op_outside.specs.Seen.{StreamSeen}
-use Rattle.op_outside.specs.Streams.{AppendsPrefix}
+use Rattle.op_outside.specs.Seen.{StreamSeen, Tells}
 use Rattle.op_sessions.specs.declared.mark.Mark.{Mark}
 use Rattle.op_status.specs.Statuses.{status_line}
 use Rattle.op_status.specs.declared.status.Status.{Status}
 use Rattle.op_status.specs.declared.status.Status.TheVariants as status
 use Rattle.op_top.specs.Tasks.{Outside, Does, DoesNothing}
 
--- this text was added to the stream, whole unless it failed
-abbrev pub GetsText : StreamSeen → StreamSeen → List ℕ → Type 0
-GetsText old new text = AppendsPrefix old.0 new.0 text × (Appends old.0 new.0 text ⊎ FaultsRose old.1 new.1)
-
 -- a run of these words that ended with this status
-pub record Ends {D : Type 0} (state : D → DiskState) (words : List (List ℕ)) (old new : Outside D) (err0 err1 : StreamSeen) (s : Status) (lost : List Mark) : Type 0 where
+pub record Ends {D : Type 0} (state : D → DiskState) (words : List (List ℕ)) (old new : Outside D)
+    (err0 err1 : StreamSeen) (s : Status) (lost : List Mark) : Type 0 where
   pub does : Does state words old new s lost
-  pub told : GetsText err0 err1 (status_line s)
+  pub told : Tells err0 err1 (status_line s)
 
 -- a run without memory for its words: nothing is done but the line that tells it
-pub record EndsWithoutWords {D : Type 0} (old new : Outside D) (err0 err1 : StreamSeen) (s : Status) (lost : List Mark) : Type 0 where
+pub record EndsWithoutWords {D : Type 0} (old new : Outside D) (err0 err1 : StreamSeen) (s : Status)
+    (lost : List Mark) : Type 0 where
   pub ended : s ≡ status.NoMemory
   pub nothing : DoesNothing old new lost
-  pub told : GetsText err0 err1 (status_line s)
+  pub told : Tells err0 err1 (status_line s)

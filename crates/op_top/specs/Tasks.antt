@@ -14,8 +14,8 @@ use Rattle.op_serve.specs.Nodes as node
 use Rattle.op_call.specs.Calls.{CallEnds}
 use Rattle.op_top.specs.Clusters.{RunsCluster}
 
--- all that is outside the program but its standard error: its disks, and what net, clock, input, output and child programs tell, with the
--- counts of faults
+-- all that is outside the program but its standard error: its disks, and what net, clock, input, output and
+-- child programs tell, with the counts of faults
 pub record Outside (D : Type 0) : Type 0 where
   pub first : D
   pub second : D
@@ -25,9 +25,18 @@ pub record Outside (D : Type 0) : Type 0 where
   pub output : StreamSeen
   pub children : SpawnerSeen
 
-abbrev pub outside : {D : Type 0} → D → D → NetSeen → Option (List ℕ) → StreamSeen → StreamSeen → SpawnerSeen → Outside D
+abbrev pub outside : {D : Type 0} → D → D → NetSeen → Option (List ℕ) → StreamSeen → StreamSeen →
+    SpawnerSeen → Outside D
 outside first second net clock input output children =
-    record { first = first; second = second; net = net; clock = clock; input = input; output = output; children = children }
+    record {
+      first = first;
+      second = second;
+      net = net;
+      clock = clock;
+      input = input;
+      output = output;
+      children = children;
+    }
 
 -- what is around a node
 abbrev pub around_node : {D : Type 0} → Outside D → Around D
@@ -41,18 +50,22 @@ module _ {D : Type 0} (state : D → DiskState) where
   -- how a task ends, what was lost, and what it leaves outside
   abbrev pub DoesTask : Task → Outside D → Outside D → Status → List Mark → Type 0
   DoesTask Replay old new s lost =
-      Replays s old.input new.input old.output new.output × (new ≡ record old { input = new.input; output = new.output }) × (lost ≡ [])
+      Replays s old.input new.input old.output new.output
+      × (new ≡ record old { input = new.input; output = new.output }) × (lost ≡ [])
   DoesTask (Node id) old new s lost =
-      node.Serves state id old.input new.input (around_node old) (around_node new) s lost × (new.children ≡ old.children)
+      node.Serves state id old.input new.input (around_node old) (around_node new) s lost
+      × (new.children ≡ old.children)
   DoesTask (Call addr request) old new s lost =
-      CallEnds addr request old.net new.net old.output new.output s × (new ≡ record old { net = new.net; output = new.output }) × (lost ≡ [])
+      CallEnds addr request old.net new.net old.output new.output s
+      × (new ≡ record old { net = new.net; output = new.output }) × (lost ≡ [])
   DoesTask Cluster old new s lost =
       RunsCluster old.input new.input old.output new.output old.children new.children s
       × (new ≡ record old { input = new.input; output = new.output; children = new.children }) × (lost ≡ [])
 
-  -- What the program does with these words: `Usage` comes exactly where they ask for no task; a task ends as it may, unless there was no
-  -- memory to read the words, and then, as with `Usage`, nothing was done.
+  -- What the program does with these words: `Usage` comes exactly where they ask for no task; a task ends as
+  -- it may, unless there was no memory to read the words, and then, as with `Usage`, nothing was done.
   pub record Does (words : List (List ℕ)) (old new : Outside D) (s : Status) (lost : List Mark) : Type 0 where
     pub usage_only_if : s ≡ status.Usage → IsTask words → ⊥
     pub usage_always : (IsTask words → ⊥) → (s ≡ status.Usage) × DoesNothing old new lost
-    pub task : (t : Task) → IsTaskOf words t → DoesTask t old new s lost ⊎ ((s ≡ status.NoMemory) × DoesNothing old new lost)
+    pub task : (t : Task) → IsTaskOf words t
+        → DoesTask t old new s lost ⊎ ((s ≡ status.NoMemory) × DoesNothing old new lost)

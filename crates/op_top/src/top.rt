@@ -1,5 +1,5 @@
 ghost use Rattle.std.specs.Prelude.{◌≡◌, map, string_bytes};
-ghost use Rattle.op_outside.specs.Streams.{Tells};
+ghost use Rattle.op_outside.specs.Seen.{Tells};
 ghost use Rattle.op_status.specs.Statuses.{status_line};
 ghost use Rattle.op_top.specs.Tasks.{Does, outside};
 
@@ -34,7 +34,8 @@ pub fn omni<D: Disk, N: Net, C: Clock, S: Source, K: Sink, P: Spawner>(
         (S.left input.new, S.fault_count input.new) (K.held out.new, K.fault_count out.new)
         (P.told children.new, P.fault_count children.new))
         result.status result.lost.items }
-    ensures told { Tells K.held K.fault_count err.old err.new (status_line result.status) }
+    ensures told { Tells (K.held err.old, K.fault_count err.old) (K.held err.new, K.fault_count err.new)
+        (status_line result.status) }
 {
     let ending = done(
         alloc, words, first, second, net, clock, input, out, children,

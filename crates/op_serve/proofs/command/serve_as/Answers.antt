@@ -1,3 +1,5 @@
+use Rattle.op_outside.proofs.Seen.{rises_with_error}
+use Rattle.op_input.specs.declared.settings.Configured.{Configured}
 use Rattle.op_serve.specs.Nodes.{is_configured}
 use Rattle.op_serve.proofs.Endings.{node_of_settings, serves_misconfigured}
 use Rattle.op_serve.proofs.command.serve_as.Goals as goal
@@ -6,9 +8,9 @@ pub serve_node-requires : goal.serve_node-requires
 serve_node-requires g c = node_of_settings _ _ _ c.requires c.in-Ok.ensures.configured.settings
 
 pub returns-in-Ok : goal.returns-in-Ok
-returns-in-Ok g c = is_configured c.in-Ok.found.settings c.in-Ok.ensures.configured c.in-Ok.ensures.count c.serve_node.ensures
+returns-in-Ok g c = is_configured c.in-Ok.found.settings c.in-Ok.ensures.configured (c.in-Ok.ensures.count.same (λ is. cc)) c.serve_node.ensures
 
 pub returns-in-Err : goal.returns-in-Err
 returns-in-Err g c =
     let early = c.early.ensures in
-    serves_misconfigured _ _ _ _ _ _ _ _ _ _ _ _ _ _ c.in-Err.ensures.refused c.in-Err.ensures.count c.in-Err.ensures.most early.first early.second early.status early.lost
+    serves_misconfigured _ _ _ _ _ _ _ _ _ _ _ _ _ _ c.in-Err.ensures.refused (rises_with_error Configured _ _ _ _ c.in-Err.ensures.count) c.in-Err.ensures.most early.first early.second early.status early.lost
