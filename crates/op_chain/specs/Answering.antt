@@ -51,8 +51,10 @@ served_of s w replies = record { service = s; waiting = w.waiting; replies = rep
 abbrev pub dropped_of : WaitingSet → Roomed Reply → Dropping
 dropped_of w told = record { waiting = w.waiting; replies = told.items }
 
--- Who waits then, and the replies: those that waited are told what is given up, and then these entries are served; the
--- replies to these stand first.
-pub record Answers (s : Service) (waits : Waiting) (given_up : List Reply) (entries : List Entry) (waiting : Waiting) (replies : List Reply) : Type 0 where
+-- Who waits then, and the replies: those that waited are told what is given up,
+-- and then these entries are served; the replies to these stand first.
+pub record Answers (s : Service) (waits : Waiting) (given_up : List Reply) (entries : List Entry)
+    (waiting : Waiting) (replies : List Reply) : Type 0 where
   pub waiting_are : waiting ≡ (serving s (dropping waits given_up).waiting entries).waiting
-  pub replies_are : replies ≡ (serving s (dropping waits given_up).waiting entries).replies ++ (dropping waits given_up).replies
+  pub replies_are : replies ≡ (serving s (dropping waits given_up).waiting entries).replies
+      ++ (dropping waits given_up).replies

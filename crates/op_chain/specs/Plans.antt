@@ -20,11 +20,12 @@ use Rattle.op_chain.specs.declared.given.Given.{Given}
 abbrev pub decided_by : Chain → ChainPlan → List Entry
 decided_by c plan = newly_decided (state_of c).durable.part plan.plan.batch
 
--- What the step table plans for an input, made ready in the chain: its batch is in range and applies, and there is room for
--- all that adopting it takes.
+-- What the step table plans for an input, made ready in the chain: its batch is in range and applies, and
+-- there is room for all that adopting it takes.
 pub record Plans (c : Chain) (x : Input) (plan : ChainPlan) : Type 0 where
   pub sound : IsSoundChain c
-  pub step : part_step_of plan.plan (state_of c).volatile ≡ step_at c.me (state_of c).durable.part (state_of c).volatile x
+  pub step : part_step_of plan.plan (state_of c).volatile
+      ≡ step_at c.me (state_of c).durable.part (state_of c).volatile x
   pub range : BatchInRange plan.plan.batch
   pub applies : Applies c.durable plan.plan.batch
   pub log : needed plan.plan.batch ≤ room_of c.durable.part

@@ -47,7 +47,7 @@ pub struct Chain {
 }
 
 impl Chain {
-    /// A node at its first start, which has stored this.
+    /// A node at its first start, which has stored this. Its service keeps nothing, and nobody waits.
     pub fn first(alloc: Global, me: Pid, durable: Durable) -> Result<Chain, NoMemory>
         requires { CanOpen me durable }
         ensures me { IfOk result (λ c. c.me ≡ me) }
@@ -160,6 +160,7 @@ impl Chain {
         ensures served { IfOk result (λ plan. IsServicePlan self.old.service.service plan
             (newly_decided self.old.durable.part batch.now)) }
     {
+        // A plan of nothing settles the service; the entries that the batch decides are planned on top of it.
         let (answers, change) = self.service.plan(self.alloc, &[])?;
         let mut plan = ServicePlan { answers, change };
         if let Some(part) = &self.durable.part {

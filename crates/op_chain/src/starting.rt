@@ -5,8 +5,8 @@ ghost use Rattle.op_record.specs.Ranges.{DurableInRange};
 ghost use Rattle.op_protocol.specs.Starting as starts;
 ghost use Rattle.op_runs.specs.World as runs;
 
-use op_plans::{others, send_each};
-use op_types::{Ballot, Blob, Body, Durable, Members, NoMemory, Part, Pid, Reserved, Sends};
+use op_follower::restart;
+use op_types::{Ballot, Blob, Durable, Members, NoMemory, Part, Pid, Reserved, Sends};
 use std::alloc::Global;
 
 /// What a member of the first configuration has stored at first: nothing is promised, and its log is empty.
@@ -46,16 +46,9 @@ pub fn spare_durable() -> Durable
 pub fn sends_after_restart(alloc: Global, me: Pid, durable: &Durable) -> Result<Sends, NoMemory>
     ensures { IfOk result (λ sends. sends ≡ starts.sends_after_restart me durable.now.part) }
 {
-    let mut sends = Sends::new(alloc);
-    if let Some(part) = &durable.part {
-        let others = others(alloc, me, part)?;
-        send_each(
-            alloc,
-            &mut sends,
-            part,
-            others.as_slice(),
-            &Body::PrepareReq,
-        )?;
-    }
-    Ok(sends)
+    let Some(part) = &durable.part else {
+        return Ok(Sends::new(alloc));
+    };
+    let plan = restart(alloc, me, part)?;
+    Ok(plan.sends)
 }

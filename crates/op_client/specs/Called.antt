@@ -18,8 +18,8 @@ use Rattle.op_client.specs.Run.{Run, calls}
 
 -- ---- a whole call
 
--- all that happens in a call: it finds no memory before its dial; the dial fails; it gives no connection; or what
--- happens at the connection that it gives
+-- all that happens in a call: it finds no memory before its dial; the dial fails;
+-- it gives no connection; or what happens at the connection that it gives
 pub data Happens (addr : Addr) (request : Request) : List Event → Ending → Type 0 where
   starves : Happens addr request (starved ∷ []) (Err fail.NoMemory)
   dials_failing : Happens addr request (net (Dialled addr None) ∷ []) (Err fail.NetFault)
@@ -102,7 +102,8 @@ Why (Err fail.TurnsOver) xs = waited xs ≡ most_waits
 Why (Err fail.NetFault) xs = has_failed xs ≡ true
 Why (Err fail.NoMemory) xs = Unit {0}
 
--- the writes took a prefix of these bytes, and all of them where there was a connection and it took some of each write
+-- the writes took a prefix of these bytes, and all of them
+-- where there was a connection and it took some of each write
 pub record Sends (bytes : List ℕ) (xs : List Call) : Type 0 where
   pub rest : List ℕ
   pub split : taken xs ++ rest ≡ bytes
@@ -113,8 +114,8 @@ abbrev pub Faults : Ending → ℕ → ℕ → Type 0
 Faults (Err fail.NetFault) before now = Rises before now
 Faults _ before now = now ≡ before
 
--- What a call promises. What happened is by the rules, and the net tells its calls. They say what was written, how many
--- waits there were, and why it ended so.
+-- What a call promises. What happened is by the rules, and the net tells its calls. They say what was
+-- written, how many waits there were, and why it ended so.
 pub record Calls (addr : Addr) (request : Request) (e : Ending) (net0 net1 : NetSeen) : Type 0 where
   pub events : List Event
   pub happens : Happens addr request events e

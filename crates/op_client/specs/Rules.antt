@@ -1,4 +1,5 @@
--- The call by rules: what the client does next at its connection, what the net answers, and what comes of that.
+-- The call by rules: what the client does next at its connection,
+-- what the net answers, and what comes of that.
 use Rattle.std.specs.Prelude.{◌≡◌, ◌<◌, ◌+◌, ◌==◌, ◌∷◌, [], ℕ, List, length, drop, if◌then◌else◌, Some, None, Result, Ok, Err}
 use Rattle.op_types.specs.declared.events.Request.{Request}
 use Rattle.op_outside.specs.Nets.{Call, Waited, Readied, WasRead, Wrote, Closed, SawBytes, SawNotYet, SawEnd, SawFault}
@@ -135,7 +136,8 @@ pub data Step (c : ℕ) : Moment → Event → Moment → Type 0 where
   has_asked : {k n : ℕ} {s : Client} → Step c (at (ask n n) k s) quiet (at turn k s)
   -- one read
   reads : {k i n : ℕ} {bytes : List ℕ} {s : Client}
-      → Step c (at (read i n) k s) (net (WasRead c piece_len (SawBytes bytes))) (at (look i n) k (has_read bytes s))
+      → Step c (at (read i n) k s) (net (WasRead c piece_len (SawBytes bytes)))
+      (at (look i n) k (has_read bytes s))
   reads_nothing : {k i n : ℕ} {s : Client}
       → Step c (at (read i n) k s) (net (WasRead c piece_len SawNotYet)) (at (ask i n) k s)
   reads_end : {k i n : ℕ} {s : Client}

@@ -9,6 +9,7 @@ pub enum CallFail {
     TurnsOver,
     /// A call of the net failed.
     NetFault,
+    /// No memory was found for the request, or for what was read.
     NoMemory,
 }
 

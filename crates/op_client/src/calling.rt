@@ -25,7 +25,7 @@ pub fn call<N: Net>(
     ensures { Calls addr.now request.now result
         (N.told net.old, N.fault_count net.old) (N.told net.new, N.fault_count net.new) }
 {
-    let mut client = Client::new(alloc, request)?;
+    let client = Client::new(alloc, request)?;
     match net.dial(addr) {
         Ok(Some(conn)) => {
             let ending = client.talk(net, conn);

@@ -64,8 +64,8 @@ impl Client {
     }
 
     /// Takes turns at a connection until a whole frame was read.
-    pub fn talk<N: Net>(&mut self, net: &mut N, conn: Conn) -> Result<ClientReply, CallFail>
-        ensures { RanOut conn (at turn most_waits self.old) result
+    pub fn talk<N: Net>(mut self, net: &mut N, conn: Conn) -> Result<ClientReply, CallFail>
+        ensures { RanOut conn (at turn most_waits self) result
             (N.told net.old, N.fault_count net.old) (N.told net.new, N.fault_count net.new) }
     {
         for _ in 0..MOST_WAITS {

@@ -41,7 +41,8 @@ given_of p = record { sends = p.sends; replies = p.replies; outcome = p.outcome 
 
 -- a node that has failed refuses what is proposed, with the count that it keeps, and does nothing else
 abbrev pub refused_with : ℕ → Input → Given
-refused_with count (input.Command c) = record { sends = []; replies = []; outcome = Some (Refused (StorageFailed count)) }
+refused_with count (input.Command c) =
+    record { sends = []; replies = []; outcome = Some (Refused (StorageFailed count)) }
 refused_with count x = record { sends = []; replies = []; outcome = None }
 
 -- what a step gives out
@@ -55,10 +56,12 @@ stores n x = elim n.failed [ None ↦ (step_plan n.me n.state x).batch | Some co
 -- the node after it
 abbrev pub after_input : NodeState → Input → NodeState
 after_input n x =
-    elim n.failed [ None ↦ record n { state = state_after n.state (step_plan n.me n.state x) } | Some count ↦ n ]
+    elim n.failed
+    [ None ↦ record n { state = state_after n.state (step_plan n.me n.state x) } | Some count ↦ n ]
 
--- What a step did: it gave out what the table gives; or a disk failed, nothing was given out, and the node has failed with the
--- count of faults, in its state of before; or it found no memory, and the node is as before.
+-- What a step did: it gave out what the table gives; or a disk failed,
+-- nothing was given out, and the node has failed with the count of faults,
+-- in its state of before; or it found no memory, and the node is as before.
 abbrev pub Stepped : NodeState → Input → Result Given StepFail → NodeState → Type 0
 Stepped n x (Ok given) m = (given ≡ gives n x) × (m ≡ after_input n x)
 Stepped n x (Err (fails.DiskFail count)) m = m ≡ record n { failed = Some count }

@@ -162,7 +162,8 @@ unfoldable pub greeting : List ℕ → Greeting
 greeting [] = silent
 greeting (b ∷ bytes) =
     if b == client_byte then client else
-    if b == peer_byte then (if nat_lt (length bytes) 4 then silent else peer (from_be_bytes w32 (take 4 bytes))) else
+    if b == peer_byte
+    then (if nat_lt (length bytes) 4 then silent else peer (from_be_bytes w32 (take 4 bytes))) else
     strange
 
 -- what a session has read, and was not dealt with
@@ -231,7 +232,8 @@ forgotten c s = record s { queues = removed c s.queues }
 -- it has a session, for which these bytes wait
 abbrev pub joined : ℕ → Kind → List ℕ → Loop → Loop
 joined c kind bytes s = record s {
-  sessions = put c (record { kind = kind; starved = false; number = s.made; frames = stream_for kind }) s.sessions;
+  sessions =
+      put c (record { kind = kind; starved = false; number = s.made; frames = stream_for kind }) s.sessions;
   queues = appended c bytes s.queues;
   made = next s.made;
 }
@@ -275,7 +277,8 @@ unlinked (Some x) s = elim x.kind [ Unknown ↦ s | Peer q h ↦ linked q None s
 
 -- a session ended
 abbrev pub left_by : ℕ → Loop → Loop
-left_by c s = record (unlinked (find c s.sessions) s) { sessions = without c s.sessions; queues = removed c s.queues }
+left_by c s =
+    record (unlinked (find c s.sessions) s) { sessions = without c s.sessions; queues = removed c s.queues }
 
 -- who asked last, with another in the place of this one
 abbrev pub noted : ℕ × ℕ → Asker → Option Asker → Askers → Askers

@@ -6,7 +6,8 @@ use Rattle.std.specs.BTreeSet.{insert_key}
 use Rattle.op_protocol.specs.State.{Waiting}
 use Rattle.op_protocol.specs.Serving.{waiting_cmp}
 
--- Those that wait, and those that wait from the next call of `let_wait` on: there is room for one of them that didn't wait.
+-- Those that wait, and those that wait from the next call of `let_wait` on:
+-- there is room for one of them that didn't wait.
 pub record WaitingSet : Type 0 where
   pub waiting : Waiting
   pub next : Waiting

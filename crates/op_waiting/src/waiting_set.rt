@@ -67,6 +67,7 @@ impl WaitingSet {
     pub fn remove(&mut self, client: u64, seq: u64) -> bool
         ensures waited { result ≡ waits self.old.waiting client seq }
         ensures others { self.new.waiting ≡ without_waiting self.old.waiting client seq }
+        ensures room { self.new.next ≡ self.new.waiting }
     {
         take_out(&mut self.pairs, self.coming);
         self.coming = None;

@@ -29,7 +29,7 @@ pub returns-in-Ok-None : goal.returns-in-Ok-None
 returns-in-Ok-None g c =
     called_in_vain c.args.addr.now c.args.request.now (g.N.Net.told c.args.net.now, g.N.Net.fault_count c.args.net.now) (g.N.Net.told c.dial.new.self, g.N.Net.fault_count c.dial.new.self) (search rules) (search rules)
 
-pub returns : goal.returns
-returns g c =
+pub returns-in-Err : goal.returns-in-Err
+returns-in-Err g c =
     called_failing c.args.addr.now c.args.request.now (g.N.Net.told c.args.net.now, g.N.Net.fault_count c.args.net.now) (g.N.Net.told c.dial.new.self, g.N.Net.fault_count c.dial.new.self) (search rules)
     (went_wrong _ _ c.dial.result (search rules) c.dial.ensures.cause)
