@@ -14,7 +14,8 @@ use Rattle.op_bounds.specs.States.{DurableOf, StateInRange}
 
 -- ---- a step
 
--- what a step plans in this state, in range: its batch applies, it sends to known ids, and the state after it is in range
+-- what a step plans in this state, in range: its batch applies,
+-- it sends to known ids, and the state after it is in range
 pub record PlanInRange (Known : ℕ → Type 0) (s : State) (p : Planned) : Type 0 where
   pub applies : Applies s.durable p.batch
   pub batch : BatchInRange p.batch
@@ -26,7 +27,8 @@ pub record PlanInRange (Known : ℕ → Type 0) (s : State) (p : Planned) : Type
 -- where these ids are known, each step from a state and an input in range is in range
 abbrev pub StepsStayInRange : (ℕ → Type 0) → Type 0
 StepsStayInRange Known =
-    AreIds Known → (me : ℕ) → Known me → (s : State) → StateInRange Known s → (x : Input) → InputInRange Known x
+    AreIds Known → (me : ℕ) → Known me → (s : State) → StateInRange Known s
+    → (x : Input) → InputInRange Known x
     → PlanInRange Known s (step_plan me s x)
 
 -- ---- an opening
@@ -85,9 +87,12 @@ StartsAreInRange = (members : List ℕ) → MembersInRange members → WorldInRa
 
 -- each happening keeps the world in range
 abbrev pub HappeningsStayInRange : Type 0
-HappeningsStayInRange = (members : List ℕ) → MembersInRange members → (w : World) → WorldInRange members w → (h : Happening) → HappeningInRange h → WorldInRange members (world_after w h)
+HappeningsStayInRange =
+    (members : List ℕ) → MembersInRange members → (w : World) → WorldInRange members w
+    → (h : Happening) → HappeningInRange h → WorldInRange members (world_after w h)
 
 -- so does each run
 abbrev pub RunsStayInRange : Type 0
 RunsStayInRange =
-    (members : List ℕ) → MembersInRange members → (happenings : List Happening) → All HappeningInRange happenings → WorldInRange members (run_of (first_world members) happenings)
+    (members : List ℕ) → MembersInRange members → (happenings : List Happening)
+    → All HappeningInRange happenings → WorldInRange members (run_of (first_world members) happenings)

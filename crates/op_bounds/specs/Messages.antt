@@ -36,7 +36,9 @@ abbrev pub BodyInRange : (ℕ → Type 0) → Body → Type 0
 BodyInRange Known (body.HeartbeatRequest round) = round ≤ greatest_number
 BodyInRange Known (body.HeartbeatReply round b flag) = (round ≤ greatest_number) × BallotOf Known b
 BodyInRange Known (body.Prepare n na nl nd) = BallotOf Known n × BallotOf Known na × IsPlace nl × IsPlace nd
-BodyInRange Known (body.Promise n fa fl fd s es) = BallotOf Known n × BallotOf Known fa × IsPlace fl × IsPlace fd × IsPlace s × EntriesInRange positions_end es
+BodyInRange Known (body.Promise n fa fl fd s es) =
+    BallotOf Known n × BallotOf Known fa × IsPlace fl × IsPlace fd × IsPlace s ×
+    EntriesInRange positions_end es
 BodyInRange Known (body.AcceptSync n x es) = BallotOf Known n × IsPlace x × EntriesInRange positions_end es
 BodyInRange Known (body.Accept n at es) = BallotOf Known n × IsPlace at × EntriesInRange positions_end es
 BodyInRange Known (body.Accepted n x) = BallotOf Known n × IsPlace x

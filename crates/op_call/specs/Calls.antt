@@ -36,12 +36,16 @@ status_of fail.TurnsOver = status.TurnsOver
 status_of fail.NetFault = status.NetFault
 status_of fail.NoMemory = status.NoMemory
 
--- How a call ends: its reply is written as a line, whole unless a write failed; or there was no memory for the line; or there is no reply,
--- and nothing is written. An output is the bytes that it tells, and its count of faults.
-pub data CallEnds (addr : Addr) (request : Request) (net0 net1 : NetSeen) (out0 out1 : StreamSeen) : Status → Type 0 where
-  is_told : {x : ClientReply} → Calls addr request (Ok x) net0 net1 → Appends out0.0 out1.0 (said_line x.said) → out1.1 ≡ out0.1
+-- How a call ends: its reply is written as a line, whole unless a write failed;
+-- or there was no memory for the line; or there is no reply, and nothing is written.
+-- An output is the bytes that it tells, and its count of faults.
+pub data CallEnds (addr : Addr) (request : Request) (net0 net1 : NetSeen)
+    (out0 out1 : StreamSeen) : Status → Type 0 where
+  is_told : {x : ClientReply} → Calls addr request (Ok x) net0 net1
+      → Appends out0.0 out1.0 (said_line x.said) → out1.1 ≡ out0.1
       → CallEnds addr request net0 net1 out0 out1 status.Ended
-  is_cut : {x : ClientReply} → Calls addr request (Ok x) net0 net1 → AppendsPrefix out0.0 out1.0 (said_line x.said) → FaultsRose out0.1 out1.1
+  is_cut : {x : ClientReply} → Calls addr request (Ok x) net0 net1
+      → AppendsPrefix out0.0 out1.0 (said_line x.said) → FaultsRose out0.1 out1.1
       → CallEnds addr request net0 net1 out0 out1 status.WriteFault
   is_untold : {x : ClientReply} → Calls addr request (Ok x) net0 net1 → out1 ≡ out0
       → CallEnds addr request net0 net1 out0 out1 status.NoMemory

@@ -182,4 +182,6 @@ reply_parts = pair client (λ c. pair (number_of c) (λ _. said_form))
 
 -- a reply
 abbrev pub reply_form : Form ClientReply
-reply_form = fitted (λ x. record { client = x.0; seq = x.1.0; said = x.1.1 }) (λ r. (r.client, (r.seq, r.said))) ReplyInRange reply_parts
+reply_form =
+    fitted (λ x. record { client = x.0; seq = x.1.0; said = x.1.1 }) (λ r. (r.client, (r.seq, r.said)))
+    ReplyInRange reply_parts

@@ -21,8 +21,10 @@ ballots_of (verdict.Raised b) = []
 -- calls in turn, from what a server knows, with the ballots that they elect, to what it then knows
 pub data Elections : Candidate → List Call → List Ballot → Candidate → Type 0 where
   none : {c : Candidate} → Elections c [] [] c
-  round_ended : {c d e : Candidate} {heard : List Heard} {v : Verdict} {calls : List Call} {ballots : List Ballot}
-      → Elected c heard v d → Elections d calls ballots e → Elections c (EndRound heard ∷ calls) (ballots_of v ++ ballots) e
+  round_ended : {c d e : Candidate} {heard : List Heard} {v : Verdict}
+      {calls : List Call} {ballots : List Ballot}
+      → Elected c heard v d → Elections d calls ballots e
+      → Elections c (EndRound heard ∷ calls) (ballots_of v ++ ballots) e
   floor_raised : {c e : Candidate} {b : Ballot} {calls : List Call} {ballots : List Ballot}
       → Elections (with_floor c b) calls ballots e → Elections c (RaiseFloor b ∷ calls) ballots e
 

@@ -127,7 +127,8 @@ Options B = ℕ → List ℕ → ℕ → Read B
 
 -- one tag more, and what stands after it
 abbrev pub option : {A B : Type 0} → ℕ → Form A → (A → B) → Options B → Options B
-option t f make others tag bytes at = if tag == t then (f.read bytes at >>= λ a. Ok (make a.0, a.1)) else others tag bytes at
+option t f make others tag bytes at =
+    if tag == t then (f.read bytes at >>= λ a. Ok (make a.0, a.1)) else others tag bytes at
 
 -- no tag is left; this is never read, since a tag has its range
 abbrev pub no_option : {B : Type 0} → Options B

@@ -18,5 +18,7 @@ GivesItem key (Ok x) read = (read ≡ Ok (x.0, x.2)) × (x.1 ≡ key x.0)
 GivesItem key (Err e) read = Fails e read
 
 -- each call at a place and a key gives the item there
-abbrev pub ReadsItems : {A : Type 0} → (ℕ → ℕ → Result (A × ℕ × ℕ) TakeFail → Type 0) → Reader A → (A → ℕ) → List ℕ → Type 0
-ReadsItems post read key bytes = (at low : ℕ) (r : _) → at < 2 ^ 64 → low < 2 ^ 64 → post at low r → GivesItem key r (read low bytes at)
+abbrev pub ReadsItems : {A : Type 0} → (ℕ → ℕ → Result (A × ℕ × ℕ) TakeFail → Type 0) →
+    Reader A → (A → ℕ) → List ℕ → Type 0
+ReadsItems post read key bytes =
+    (at low : ℕ) (r : _) → at < 2 ^ 64 → low < 2 ^ 64 → post at low r → GivesItem key r (read low bytes at)

@@ -31,8 +31,10 @@ pub record Took (bytes : List ℕ) (at : ℕ) (text : List ℕ) (next : ℕ) : T
 
 -- a value that is read is encoded there, and one that is encoded there is read
 pub record Reads {A : Type 0} (f : Form A) : Type 0 where
-  pub takes : (bytes : List ℕ) (at : ℕ) (x : A × ℕ) → IsBytes bytes → at ≤ length bytes → f.read bytes at ≡ Ok x → Took bytes at (f.text x.0) x.1 × f.fits x.0
-  pub again : (bytes : List ℕ) (at : ℕ) (a : A) (rest : List ℕ) → f.fits a → at ≤ length bytes → drop at bytes ≡ f.text a ++ rest → f.read bytes at ≡ Ok (a, at + length (f.text a))
+  pub takes : (bytes : List ℕ) (at : ℕ) (x : A × ℕ) → IsBytes bytes → at ≤ length bytes →
+      f.read bytes at ≡ Ok x → Took bytes at (f.text x.0) x.1 × f.fits x.0
+  pub again : (bytes : List ℕ) (at : ℕ) (a : A) (rest : List ℕ) → f.fits a → at ≤ length bytes →
+      drop at bytes ≡ f.text a ++ rest → f.read bytes at ≡ Ok (a, at + length (f.text a))
 
 -- the same of whole bodies
 pub record ReadsWhole {A : Type 0} (f : Form A) : Type 0 where

@@ -23,7 +23,9 @@ is_for_role _ = true
 -- the row of such a message, by what it says
 abbrev pub row_of : ℕ → Part → Role → ℕ → Body → Effects
 row_of me p r q (body.Prepare n na nl nd) = on_prepare p r q n na nl nd
-row_of me p r q (body.Promise n fa fl fd s entries) = on_promise me p r n (record { from = q; accepted = fa; len = fl; decided = fd; start = s; entries = entries })
+row_of me p r q (body.Promise n fa fl fd s entries) =
+    on_promise me p r n
+    (record { from = q; accepted = fa; len = fl; decided = fd; start = s; entries = entries })
 row_of me p r q (body.AcceptSync n x entries) = on_accept_sync p r q n x entries
 row_of me p r q (body.Accept n at entries) = on_accept p r q n at entries
 row_of me p r q (body.Accepted n x) = on_accepted me p r q n x

@@ -27,22 +27,26 @@ header_after_gate generation = codes "OMNIPAX" ++ format_version ∷ encoded w64
 
 -- an area of one record after its gate, up to the closed gate
 abbrev pub area_after_gate : ℕ → List ℕ → List ℕ
-area_after_gate generation body = header_after_gate generation ++ open_gate ∷ (record_text body ++ closed_gate ∷ [])
+area_after_gate generation body =
+    header_after_gate generation ++ open_gate ∷ (record_text body ++ closed_gate ∷ [])
 
 -- an area of one record, up to the closed gate
 abbrev pub new_area : ℕ → List ℕ → List ℕ
 new_area generation body = open_gate ∷ area_after_gate generation body
 
--- What is done to a disk whose images have P: where it answers Ok the disk holds this text after an open gate and nothing more, and each
--- image then is that. A crash at any moment leaves what has P, or that.
-pub record OpensGate {T E : Type 0} (P : List ℕ → Type 0) (text : List ℕ) (old new : DiskState) (result : Result T E) : Type 0 where
+-- What is done to a disk whose images have P: where it answers Ok the disk holds this text after an open gate
+-- and nothing more, and each image then is that. A crash at any moment leaves what has P, or that.
+pub record OpensGate {T E : Type 0} (P : List ℕ → Type 0) (text : List ℕ) (old new : DiskState)
+    (result : Result T E) : Type 0 where
   pub written : old.obeys → OnOk result (new.content ≡ open_gate ∷ text)
   pub rests : old.obeys → OnOk result (IsAtRest new)
   pub crash : IsAtRest old → LeavesOnly (λ image. P image ⊎ (image ≡ open_gate ∷ text)) old new
 
--- What a format does to a disk that holds no area: where it answers Ok the disk holds the area of this record and nothing more, and
--- each image then is that. A crash at any moment leaves no area, or the whole one.
-pub record Formats {E : Type 0} (generation : ℕ) (body : List ℕ) (old new : DiskState) (result : Result ℕ E) : Type 0 where
+-- What a format does to a disk that holds no area: where it answers Ok the disk holds the area of this record
+-- and nothing more, and each image then is that. A crash at any moment leaves no area, or the whole one.
+pub record Formats {E : Type 0} (generation : ℕ) (body : List ℕ) (old new : DiskState)
+    (result : Result ℕ E) : Type 0 where
   pub written : old.obeys → IfOk result (λ _. new.content ≡ new_area generation body)
   pub begun : IsAtRest old → IfOk result (λ end. IsSettled generation (body ∷ []) end new)
-  pub crash : IsAtRest old → LeavesOnly (λ image. HasNone image ⊎ HoldsRecords generation (body ∷ []) image) old new
+  pub crash : IsAtRest old →
+      LeavesOnly (λ image. HasNone image ⊎ HoldsRecords generation (body ∷ []) image) old new

@@ -7,8 +7,11 @@ use std::alloc::Global;
 /// An answer whose bytes were looked at, and not copied.
 #[derive(Clone, Copy)]
 pub enum Told<'a> {
+    /// The command took effect.
     Done,
+    /// The key's value.
     Value(&'a [u8]),
+    /// The key has no value.
     Absent,
 }
 
@@ -28,7 +31,10 @@ impl Told<'_> {
 /// A client and its last command, whose bytes were looked at.
 #[derive(Clone, Copy)]
 pub struct LastCommand<'a> {
+    /// The client's id.
     pub(crate) client: u64,
+    /// The command's number.
     pub(crate) seq: u64,
+    /// Its answer.
     pub(crate) told: Told<'a>,
 }

@@ -44,7 +44,8 @@ node_before w hs i p = node_at (before w hs i).nodes p
 
 -- message number k is one from p to q that says this
 abbrev pub IsMessage : World → ℕ → ℕ → ℕ → Body → Type 0
-IsMessage w k p q b = (m : Msg) × (slice_get w.messages k ≡ Some (record { from = p; to = q; message = m })) × (m.body ≡ b)
+IsMessage w k p q b =
+    (m : Msg) × (slice_get w.messages k ≡ Some (record { from = p; to = q; message = m })) × (m.body ≡ b)
 
 -- happening number i delivers this message from p to q
 pub record Delivery (w : World) (hs : List Happening) (i p q : ℕ) (b : Body) : Type 0 where
@@ -90,7 +91,8 @@ abbrev pub KeepsSessionsOf : List ℕ → ℕ → Option Deed → Type 0
 KeepsSessionsOf others x None = Unit {0}
 KeepsSessionsOf others x (Some d) = d.pid ≡ x → KeepsSessions others d.doing
 
--- from happening number i on, x is up and promises nothing above b, and no session of it with one of the others ends
+-- from happening number i on, x is up and promises nothing above b,
+-- and no session of it with one of the others ends
 pub record IsCalm (w : World) (hs : List Happening) (b : Ballot) (others : List ℕ) (x i : ℕ) : Type 0 where
   pub up : (j : ℕ) → i ≤ j → IsUpTo b (node_before w hs j x)
   pub sessions : (j : ℕ) (h : Happening) → i ≤ j → slice_get hs j ≡ Some h
@@ -113,8 +115,8 @@ abbrev pub node_log : Option Node → List Entry
 node_log None = []
 node_log (Some n) = part_log n.state.durable.part
 
--- at happening number i, p begins to lead: to the log that it adopts it adds its buffer, as far as a stop-sign and the positions
--- let it
+-- at happening number i, p begins to lead: to the log that it adopts
+-- it adds its buffer, as far as a stop-sign and the positions let it
 pub record Begins (w : World) (p : ℕ) (hs : List Happening) (i : ℕ) : Type 0 where
   pub preparation : Preparing
   pub leadership : Leading
@@ -122,9 +124,11 @@ pub record Begins (w : World) (p : ℕ) (hs : List Happening) (i : ℕ) : Type 0
   pub leading : node_role (node_before w hs (suc i) p) ≡ role.Leading leadership
   pub adopted : List Entry
   pub size : length adopted ≡ leadership.adopted_len
-  pub log : node_log (node_before w hs (suc i) p) ≡ adopted ++ fitting (stop_at 0 adopted) (length adopted) preparation.buffer
+  pub log : node_log (node_before w hs (suc i) p)
+      ≡ adopted ++ fitting (stop_at 0 adopted) (length adopted) preparation.buffer
 
--- what comes at p at happening number at is buffered, and p begins to lead later, where it would stand at this place
+-- what comes at p at happening number at is buffered,
+-- and p begins to lead later, where it would stand at this place
 pub record IsBuffered (w : World) (p : ℕ) (hs : List Happening) (at place : ℕ) : Type 0 where
   pub preparation : Preparing
   pub preparing : node_role (node_before w hs at p) ≡ role.Preparing preparation
@@ -133,10 +137,12 @@ pub record IsBuffered (w : World) (p : ℕ) (hs : List Happening) (at place : �
   pub begins : Begins w p hs adds_at
   pub is : place ≡ length begins.adopted + length preparation.buffer
 
--- it stands at this place of p's log: at the end of what p has, if p leads, and else where its buffer is added
+-- it stands at this place of p's log: at the end of what p has,
+-- if p leads, and else where its buffer is added
 abbrev pub IsPlaced : World → ℕ → List Happening → ℕ → ℕ → Type 0
 IsPlaced w p hs at place =
-    ((l : Leading) × (node_role (node_before w hs at p) ≡ role.Leading l) × (place ≡ length (node_log (node_before w hs at p))))
+    ((l : Leading) × (node_role (node_before w hs at p) ≡ role.Leading l) ×
+    (place ≡ length (node_log (node_before w hs at p))))
     ⊎ ((x : IsBuffered w p hs at place) × (place < length (node_log (node_before w hs (suc x.adds_at) p))))
 
 -- why a log takes nothing more: a stop-sign ends it at this place, or it ends where the positions end
@@ -145,13 +151,14 @@ IsFullFor log (cause.Ballot b) = ⊥
 IsFullFor log (cause.Stop pos) = stop_at 0 log ≡ Some pos
 IsFullFor log cause.End = positions_end ≤ length log
 
--- or e, which came at p at happening number at, is dropped when p begins to lead, after a stop-sign or at the end of positions:
--- p's log then takes nothing more
+-- or e, which came at p at happening number at, is dropped when p begins to lead, after a stop-sign or at the
+-- end of positions: p's log then takes nothing more
 pub record IsDropped (w : World) (p : ℕ) (hs : List Happening) (at : ℕ) (e : Entry) : Type 0 where
   pub place : ℕ
   pub buffered : IsBuffered w p hs at place
   -- it waits there until then
-  pub held : slice_get (map (λ b. b.entry) buffered.begins.preparation.buffer) (length buffered.preparation.buffer) ≡ Some e
+  pub held : slice_get (map (λ b. b.entry) buffered.begins.preparation.buffer)
+      (length buffered.preparation.buffer) ≡ Some e
   pub gone : length (node_log (node_before w hs (suc buffered.adds_at) p)) ≤ place
   pub why : Cause
   pub full : IsFullFor (node_log (node_before w hs (suc buffered.adds_at) p)) why
@@ -159,13 +166,15 @@ pub record IsDropped (w : World) (p : ℕ) (hs : List Happening) (at : ℕ) (e :
 -- from happening number at on, and before number i, p's client of the command was answered
 abbrev pub IsAnsweredBefore : World → List Happening → ℕ → Command → ℕ → ℕ → Type 0
 IsAnsweredBefore w hs p c at i =
-    (a : Answer) × (more : List Line) × ((before w hs i).lines ≡ (before w hs at).lines ++ more) × IsAmong more (answer_line p c.client c.seq a)
+    (a : Answer) × (more : List Line) × ((before w hs i).lines ≡ (before w hs at).lines ++ more)
+    × IsAmong more (answer_line p c.client c.seq a)
 
 -- by happening number i, p's client of the command is told that it is dropped, and why: as p's log is then
 abbrev pub IsToldDropped : World → List Happening → ℕ → Command → ℕ → Type 0
 IsToldDropped w hs p c i =
     (why : Cause) × IsFullFor (node_log (node_before w hs (suc i) p)) why
-    × (new : List Line) × ((before w hs (suc i)).lines ≡ (before w hs i).lines ++ new) × IsAmong new (line.Dropped p c.client c.seq why)
+    × (new : List Line) × ((before w hs (suc i)).lines ≡ (before w hs i).lines ++ new)
+    × IsAmong new (line.Dropped p c.client c.seq why)
 
 -- ---- the exchange with one other
 
@@ -177,8 +186,8 @@ IsIn place start entries = (start ≤ place) × (place < start + length entries)
 abbrev pub promise_body : Ballot → Promised → Body
 promise_body b k = body.Promise b k.accepted k.len k.decided k.start k.entries
 
--- the five steps of p, which leads b, with q, where something is proposed at happening number at: each by the number of its
--- happening
+-- the five steps of p, which leads b, with q, where something is proposed at happening number at:
+-- each by the number of its happening
 pub record FiveSteps (w : World) (hs : List Happening) (b : Ballot) (p q at : ℕ) : Type 0 where
   -- 1. a Prepare of b from p is delivered to q, whose promise is below b
   pub prepare_at : ℕ
@@ -200,15 +209,17 @@ pub record FiveSteps (w : World) (hs : List Happening) (b : Ballot) (p q at : �
   pub sent : Sending w hs sync_sent p q (body.AcceptSync b start rest)
   pub after_sending : sync_sent < sync_at
   pub synced : Delivery w hs sync_at p q (body.AcceptSync b start rest)
-  -- 4. each Accept that p sent to q after that AcceptSync, up to a last one, is delivered to q in the order of sending
+  -- 4. each Accept that p sent to q after that AcceptSync,
+  -- up to a last one, is delivered to q in the order of sending
   pub last : ℕ
   pub accept_at : ℕ → ℕ
-  pub accepted : (i a : ℕ) (entries : List Entry) → sync_sent < i → i ≤ last → SendsAccept w hs i b p q a entries
+  pub accepted : (i a : ℕ) (entries : List Entry) → sync_sent < i → i ≤ last
+      → SendsAccept w hs i b p q a entries
       → (sync_at < accept_at i) × Delivery w hs (accept_at i) p q (body.Accept b a entries)
   pub in_order : (i j a c : ℕ) (first second : List Entry) → sync_sent < i → i < j → j ≤ last
       → SendsAccept w hs i b p q a first → SendsAccept w hs j b p q c second → accept_at i < accept_at j
-  -- what first carries to q what was proposed is among these: an Accept that carries it isn't sent sooner than one of them that
-  -- does
+  -- what first carries to q what was proposed is among these:
+  -- an Accept that carries it isn't sent sooner than one of them that does
   pub carried : (place i c : ℕ) (entries : List Entry)
       → IsPlaced w p hs at place → SendsAccept w hs i b p q c entries → IsIn place c entries
       → ((sync_sent ≤ i) × IsIn place start rest)
@@ -238,12 +249,14 @@ abbrev pub Takes : Option Node → Type 0
 Takes None = ⊥
 Takes (Some n) = refusal_of n.pid n.state.volatile.role n.state.durable.part ≡ None
 
--- p, which prepares b in w, does the five steps with each of the others, that with it are a majority, and the command comes at p
--- meanwhile
-pub record Exchange (members : List ℕ) (w : World) (p : ℕ) (b : Ballot) (others : List ℕ) (hs : List Happening) (c : Command) : Type 0 where
+-- p, which prepares b in w, does the five steps with each of the others,
+-- that with it are a majority, and the command comes at p meanwhile
+pub record Exchange (members : List ℕ) (w : World) (p : ℕ) (b : Ballot) (others : List ℕ)
+    (hs : List Happening) (c : Command) : Type 0 where
   pub preparing : Prepares b (node_role (node_at w.nodes p))
   pub are_members : (q : ℕ) → IsOne others q → IsOne members q × (q ≡ p → ⊥)
-  pub majority : is_majority (passing (λ q. q == p || is_member nat_eq others q) members) (length members) ≡ true
+  pub majority :
+      is_majority (passing (λ q. q == p || is_member nat_eq others q) members) (length members) ≡ true
   -- the command comes at p, and isn't refused
   pub proposed_at : ℕ
   pub happening : Happening
@@ -261,25 +274,31 @@ pub record Exchange (members : List ℕ) (w : World) (p : ℕ) (b : Ballot) (oth
 abbrev pub IsKnownAt : Machine → ℕ → Entry → ℕ → Type 0
 IsKnownAt m p e place = (place < m.known p 1) × (slice_get (m.lists 1) place ≡ Some e)
 
--- after the happenings of a run so far, an exchange in those that come decides the command that is proposed in it, at its place,
--- unless that is dropped after a stop-sign or at the end of positions: then its client is told so by the very step that drops it,
--- if it wasn't answered before
+-- after the happenings of a run so far, an exchange in those that come decides the command that is proposed
+-- in it, at its place, unless that is dropped after a stop-sign or at the end of positions: then its client
+-- is told so by the very step that drops it, if it wasn't answered before
 abbrev pub DecidesAfter : List ℕ → List Happening → List Happening → Type 0
 DecidesAfter members early hs =
     (p : ℕ) (b : Ballot) (others : List ℕ) (c : Command)
-    → let t : Execution = execution_of (first_execution members) early in (x : Exchange members t.world p b others hs c)
-    → ((place : ℕ) × IsPlaced t.world p hs x.proposed_at place × IsKnownAt (execution_of t hs).machine p (entry.Command c) place)
+    → let t : Execution = execution_of (first_execution members) early in
+    (x : Exchange members t.world p b others hs c)
+    → ((place : ℕ) × IsPlaced t.world p hs x.proposed_at place ×
+    IsKnownAt (execution_of t hs).machine p (entry.Command c) place)
     ⊎ ((d : IsDropped t.world p hs x.proposed_at (entry.Command c))
-    × (IsAnsweredBefore t.world hs p c x.proposed_at d.buffered.adds_at ⊎ IsToldDropped t.world hs p c d.buffered.adds_at))
+    × (IsAnsweredBefore t.world hs p c x.proposed_at d.buffered.adds_at
+    ⊎ IsToldDropped t.world hs p c d.buffered.adds_at))
 
 -- from every world that a run reaches, one exchange decides
 abbrev pub ExchangeDecides : Type 0
-ExchangeDecides = (members : List ℕ) → MembersInRange members → (early hs : List Happening) → DecidesAfter members early hs
+ExchangeDecides =
+    (members : List ℕ) → MembersInRange members → (early hs : List Happening) → DecidesAfter members early hs
 
 -- each exchange of a run decides, wherever it begins
 abbrev pub EachExchangeDecides : List ℕ → List Happening → Type 0
-EachExchangeDecides members run = (early hs : List Happening) → run ≡ early ++ hs → DecidesAfter members early hs
+EachExchangeDecides members run =
+    (early hs : List Happening) → run ≡ early ++ hs → DecidesAfter members early hs
 
 -- the same, of every run
 abbrev pub EveryExchangeDecides : Type 0
-EveryExchangeDecides = (members : List ℕ) → MembersInRange members → (run : List Happening) → EachExchangeDecides members run
+EveryExchangeDecides =
+    (members : List ℕ) → MembersInRange members → (run : List Happening) → EachExchangeDecides members run

@@ -36,8 +36,8 @@ after_input n x = record n { node = node.after_input n.node x }
 unfoldable pub faulted : ℕ → Standing → Standing
 faulted k n = record { node = record n.node { failed = Some k }; faults = k }
 
--- what a step did: it gave out what the table gives; or a disk failed, and the node has failed with the count, which
--- rose; or it found no memory, and the node is as before
+-- what a step did: it gave out what the table gives; or a disk failed, and the node has failed with the
+-- count, which rose; or it found no memory, and the node is as before
 abbrev pub Steps : Standing → Input → Result Given StepFail → Standing → Type 0
 Steps n x (Ok given) m = (given ≡ gives n x) × (m ≡ after_input n x)
 Steps n x (Err (fails.DiskFail k)) m = (m ≡ faulted k n) × Rises n.faults k

@@ -320,7 +320,8 @@ pub data Step (o : Settings) : Moment → Event → Moment → Type 0 where
   -- the node
   gives_done : {r : List Task} {s : Loop} {n : Standing} {who : Option ℕ} {i : Input}
       → Step o (at (give who i ∷ r) s n) (node i done)
-      (at (of_given who i (gives n i) ++ r) (counted (waits_for_answer who i (gives n i).outcome s)) (after_input n i))
+      (at (of_given who i (gives n i) ++ r) (counted (waits_for_answer who i (gives n i).outcome s))
+      (after_input n i))
   gives_faulted : {r : List Task} {s : Loop} {n : Standing} {who : Option ℕ} {i : Input} {k : ℕ}
       → Rises n.faults k
       → Step o (at (give who i ∷ r) s n) (node i (faults k))
@@ -338,7 +339,8 @@ pub data Step (o : Settings) : Moment → Event → Moment → Type 0 where
       → Step o (at (send m ∷ r) s n) quiet (at r s n)
   replies : {r : List Task} {s : Loop} {n : Standing} {x : Reply}
       → Step o (at (reply x ∷ r) s n) quiet
-      (at (of_asker (goes_to (asker_of (x.client, x.seq) s.askers) s) (answered x) ++ r) (told (x.client, x.seq) s) n)
+      (at (of_asker (goes_to (asker_of (x.client, x.seq) s.askers) s) (answered x) ++ r)
+      (told (x.client, x.seq) s) n)
   answers : {r : List Task} {s : Loop} {n : Standing} {c : ℕ} {x : ClientReply}
       → Step o (at (answer c x ∷ r) s n) (queues c (client_frame x)) (at r (waits_for c (client_frame x) s) n)
   answers_hungry : {r : List Task} {s : Loop} {n : Standing} {c : ℕ} {x : ClientReply}

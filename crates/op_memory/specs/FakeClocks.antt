@@ -3,7 +3,8 @@ use Rattle.std.specs.Prelude.{◌≡◌, ◌+◌, min, ℕ, List, drop, Option}
 use Rattle.op_outside.specs.Causes.{last_count}
 use Rattle.op_memory.specs.Fakes.{first_or}
 
--- what it answers next, its last answer, by how many milliseconds it goes on after the script, and its answers as told
+-- what it answers next, its last answer, by how many milliseconds it goes on after the script,
+-- and its answers as told
 pub record ClockState : Type 0 where
   pub script : List ℕ
   pub last : ℕ

@@ -12,8 +12,8 @@ abbrev pub child_call : KeptChild → ChildCall
 child_call (kept.Started id input done) = Started id input.items done
 child_call (kept.Ended id status) = EndedWith id status
 
--- the statuses that ends give next, the numbers of the calls that fail, how many calls were made and how many failed, which ids run,
--- and the calls that are told
+-- the statuses that ends give next, the numbers of the calls that fail, how many calls were made and how many
+-- failed, which ids run, and the calls that are told
 pub record SpawnerState : Type 0 where
   pub statuses : List ℕ
   pub fails : List ℕ

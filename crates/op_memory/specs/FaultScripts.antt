@@ -15,7 +15,8 @@ abbrev pub reaches : Option ℕ → ℕ → Bool
 reaches None call = false
 reaches (Some stop) call = if nat_lt call stop then false else true
 
--- what becomes of the next call: it fails after a stop, stops where that is due, fails where it was told to, and else runs
+-- what becomes of the next call: it fails after a stop,
+-- stops where that is due, fails where it was told to, and else runs
 abbrev pub next_fate : FaultScript → CallFate
 next_fate script =
     if script.is_stopped then Fails else
@@ -23,7 +24,8 @@ next_fate script =
     if list_any (λ call. call == next_call script) script.fails.items then Fails else Runs
 
 -- so many calls were made, these are to fail, the disk is to stop in this one, and it has or has not
-pub record IsScript (made : ℕ) (fails : List ℕ) (stop : Option ℕ) (is_stopped : Bool) (script : FaultScript) : Type 0 where
+pub record IsScript (made : ℕ) (fails : List ℕ) (stop : Option ℕ) (is_stopped : Bool)
+    (script : FaultScript) : Type 0 where
   pub made_is : script.made ≡ made
   pub fails_are : script.fails.items ≡ fails
   pub stop_is : script.stop ≡ stop
@@ -35,7 +37,8 @@ IsSameScript old = IsScript old.made old.fails.items old.stop old.is_stopped
 
 -- one call more was made
 abbrev pub MakesCall : FaultScript → FaultScript → Type 0
-MakesCall old = IsScript (next_call old) old.fails.items old.stop (old.is_stopped || reaches old.stop (next_call old))
+MakesCall old =
+    IsScript (next_call old) old.fails.items old.stop (old.is_stopped || reaches old.stop (next_call old))
 
 -- one call more is to fail
 abbrev pub FailsAt : ℕ → FaultScript → FaultScript → Type 0

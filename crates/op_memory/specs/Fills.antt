@@ -12,4 +12,6 @@ pub record SetsRange (at count byte : ℕ) (old new : List ℕ) : Type 0 where
 
 -- what was filled before this call is filled after it
 abbrev pub Fills : Call → ℕ → List ℕ → List ℕ → Type 0
-Fills call byte old new = (s : State) → HasNoSync (call ∷ []) → IsFilled s.pending byte old → IsFilled (after call s).pending byte new
+Fills call byte old new =
+    (s : State) → HasNoSync (call ∷ []) → IsFilled s.pending byte old →
+    IsFilled (after call s).pending byte new

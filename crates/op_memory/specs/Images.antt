@@ -7,14 +7,16 @@ use Rattle.op_outside.specs.Moments.Moment.{At, Both}
 use Rattle.op_memory.specs.declared.call.Call.{Call}
 use Rattle.op_memory.specs.declared.call.Call.TheVariants.{Write, StoppedWrite, Cut, StoppedCut, Sync}
 
--- the bytes of the last sync, the least and the greatest length since, and the range of each write tried since
+-- the bytes of the last sync, the least and the greatest length since,
+-- and the range of each write tried since
 pub record Pending : Type 0 where
   pub base : List ℕ
   pub low : ℕ
   pub high : ℕ
   pub writes : List (ℕ × ℕ)
 
--- what is pending, what a read gives, and what it would give had the call in which the disk stopped taken place
+-- what is pending, what a read gives, and what it would give
+-- had the call in which the disk stopped taken place
 pub record State : Type 0 where
   pub pending : Pending
   pub content : List ℕ
@@ -42,11 +44,21 @@ shortened n s = record s { low = min s.low n }
 
 -- after a write
 abbrev pub wrote : ℕ → List ℕ → State → State
-wrote at piece s = record { pending = written at (length piece) s.pending; content = overlaid s.content at piece; whole = overlaid s.content at piece }
+wrote at piece s =
+    record {
+      pending = written at (length piece) s.pending;
+      content = overlaid s.content at piece;
+      whole = overlaid s.content at piece;
+    }
 
 -- after a write in which the disk stopped
 abbrev pub stopped_in_write : ℕ → List ℕ → State → State
-stopped_in_write at piece s = record { pending = written at (length piece) s.pending; content = s.content; whole = overlaid s.content at piece }
+stopped_in_write at piece s =
+    record {
+      pending = written at (length piece) s.pending;
+      content = s.content;
+      whole = overlaid s.content at piece;
+    }
 
 -- after a cut
 abbrev pub cut_to : ℕ → State → State
@@ -126,15 +138,16 @@ IfSync Sync bytes may_leave = Only bytes may_leave
 
 -- a crash after some call from this moment on
 abbrev pub LeftSince : List ℕ → List Call → Moment → List ℕ → Type 0
-LeftSince start calls (At n) x = (k : ℕ) × (n ≤ k) × (k ≤ length calls) × IsImage (state_of (fresh start) (take k calls)).pending x
+LeftSince start calls (At n) x =
+    (k : ℕ) × (n ≤ k) × (k ≤ length calls) × IsImage (state_of (fresh start) (take k calls)).pending x
 LeftSince start calls (Both a b) x = ⊥
 
 -- a crash now
 abbrev pub LeftNow : List ℕ → List Call → List ℕ → Type 0
 LeftNow start calls = LeftSince start calls (At (length calls))
 
--- what is known of a disk that these calls made of these first bytes, of which a read gives these, and which counts so many faults
--- and so many device calls
+-- what is known of a disk that these calls made of these first bytes, of which a read gives these, and which
+-- counts so many faults and so many device calls
 abbrev pub known : List ℕ → List Call → List ℕ → ℕ → ℕ → DiskState
 known start calls bytes faults made = record {
   obeys = Unit {0};

@@ -44,7 +44,8 @@ pub record IsUnchanged (old new : MemDisk) : Type 0 where
   pub history : new.history ≡ old.history
   pub faults : new.faults ≡ old.faults
 
--- What is known of a disk that let go of old calls: all is as it was but the moments, which begin anew. So it is at rest where it was.
+-- What is known of a disk that let go of old calls:
+-- all is as it was but the moments, which begin anew. So it is at rest where it was.
 pub record BeginsAnew (old new : DiskState) : Type 0 where
   pub model : new.obeys ↔ old.obeys
   pub content : new.content ≡ old.content
@@ -62,7 +63,8 @@ pub record Forgets (old new : MemDisk) : Type 0 where
   pub faults : new.faults ≡ old.faults
   pub script : IsSameScript old.script new.script
 
--- The image of this number: 0 of what was synced, 1 of all that is pending, and else of that byte wherever a write is pending.
+-- The image of this number: 0 of what was synced, 1 of all that is pending,
+-- and else of that byte wherever a write is pending.
 pub record IsImageOf (d : MemDisk) (number : ℕ) (x : List ℕ) : Type 0 where
   pub left : MayLeave (known_disk d) x
   pub synced : number ≡ 0 → x ≡ (disk_state d).pending.base
@@ -71,7 +73,8 @@ pub record IsImageOf (d : MemDisk) (number : ℕ) (x : List ℕ) : Type 0 where
 
 -- ---- one call
 
--- what a caller asks a disk for: its length, a read of so many bytes from a place on, a write there, a cut to a length, a sync
+-- what a caller asks a disk for: its length, a read of so many bytes from a place on,
+-- a write there, a cut to a length, a sync
 pub data Request : Type 0 where
   AskLen : Request
   AskRead : ℕ → ℕ → Request
@@ -111,22 +114,24 @@ stopped_of (AskWrite at piece) d = stopped_in_write at piece (disk_state d)
 stopped_of (AskCut n) d = stopped_in_cut n (disk_state d)
 stopped_of AskSync d = disk_state d
 
--- A failed call counts once and changes nothing that a read gives. It was to fail, or the disk to stop in it, or its range isn't
--- there, or it starves. One that was to fail, or whose range isn't there, starves no disk. The write or the cut in which the disk
--- stopped is pending.
+-- A failed call counts once and changes nothing that a read gives. It was to fail, or the disk to stop in it,
+-- or its range isn't there, or it starves. One that was to fail, or whose range isn't there, starves no disk.
+-- The write or the cut in which the disk stopped is pending.
 pub record FailsAsScripted (request : Request) (old new : MemDisk) : Type 0 where
   pub count : fault_count_of new ≡ min (fault_count_of old + 1) last_count
   pub seen : seen_of new ≡ seen_of old
   pub cause : (next_fate old.script ≢ Runs) ⊎ IsOut request old ⊎ HasStarved request new
   pub fed : (next_fate old.script ≡ fate.Fails) ⊎ IsOut request old ⊎ (HasStarved request new → ⊥)
       → new.faults.is_starved ≡ old.faults.is_starved
-  pub state : (disk_state new ≡ disk_state old) ⊎ ((next_fate old.script ≡ Stops) × (disk_state new ≡ stopped_of request old))
+  pub state : (disk_state new ≡ disk_state old)
+      ⊎ ((next_fate old.script ≡ Stops) × (disk_state new ≡ stopped_of request old))
   pub pending : next_fate old.script ≡ Stops → (disk_state new ≡ stopped_of request old)
       ⊎ ((disk_state new ≡ disk_state old) × (IsOut request old ⊎ HasStarved request new))
 
--- What a call does beside what a call of every disk does: it counts in the script, is done only where it was to run and then leaves
--- this state, and fails as scripted.
-pub record Performs {T E : Type 0} (request : Request) (old new : MemDisk) (result : Result T E) : Type 0 where
+-- What a call does beside what a call of every disk does: it counts in the script, is done only where it was
+-- to run and then leaves this state, and fails as scripted.
+pub record Performs {T E : Type 0} (request : Request) (old new : MemDisk)
+    (result : Result T E) : Type 0 where
   pub script : MakesCall old.script new.script
   pub runs : OnOk result (next_fate old.script ≡ Runs)
   pub state : OnOk result (disk_state new ≡ done_of request old)

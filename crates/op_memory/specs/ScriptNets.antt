@@ -35,8 +35,8 @@ net_call (kept.WasRead c room got) = WasRead c room (seen_kept got)
 net_call (kept.Wrote c piece took) = Wrote c piece.items took
 net_call (kept.Closed c) = Closed c
 
--- what dials, waits, reads and writes are answered next, the numbers of the calls that fail, how many calls were made and how many
--- failed, the happenings of the last wait, and the calls that are told
+-- what dials, waits, reads and writes are answered next, the numbers of the calls that fail, how many calls
+-- were made and how many failed, the happenings of the last wait, and the calls that are told
 pub record NetState : Type 0 where
   pub dials : List (Option ℕ)
   pub waits : List (Vec Happening)
@@ -54,7 +54,8 @@ answer_of n x = if fails_next n.calls n.fails then Err record {} else Ok x
 
 -- the same of a read into a buffer of so many bytes
 abbrev pub seen_next : ℕ → NetState → Seen
-seen_next room n = if fails_next n.calls n.fails then SawFault else seen_of room (first_or incoming.NotYet n.reads)
+seen_next room n =
+    if fails_next n.calls n.fails then SawFault else seen_of room (first_or incoming.NotYet n.reads)
 
 -- the happenings of the next wait
 abbrev pub happenings_next : List (Vec Happening) → List Happening
@@ -85,7 +86,8 @@ abbrev pub after_dial : {T : Type 0} → NetState → Result T NetFail → NetSt
 after_dial n result = record (called n result) { dials = left_after n.dials result }
 
 abbrev pub after_wait : {T : Type 0} → NetState → Result T NetFail → NetState
-after_wait n result = record (called n result) { waits = left_after n.waits result; ready = ready_after n result }
+after_wait n result =
+    record (called n result) { waits = left_after n.waits result; ready = ready_after n result }
 
 abbrev pub after_read : {T : Type 0} → NetState → Result T NetFail → NetState
 after_read n result = record (called n result) { reads = left_after n.reads result }

@@ -6,7 +6,8 @@ use Rattle.op_memory.specs.declared.call_fate.CallFate.TheVariants.{Runs}
 use Rattle.op_memory.specs.FaultScripts.{next_fate, MakesCall}
 
 -- one call more was made; it is done only where it was to run, and a failure counts once
-pub record FollowsScript {T E : Type 0} (old new : FaultScript) (faults now : ℕ) (result : Result T E) : Type 0 where
+pub record FollowsScript {T E : Type 0} (old new : FaultScript) (faults now : ℕ)
+    (result : Result T E) : Type 0 where
   pub script : MakesCall old new
   pub runs : OnOk result (next_fate old ≡ Runs)
   pub by_one : OnErr result (now ≡ min (faults + 1) last_count)

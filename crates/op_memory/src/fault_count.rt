@@ -4,10 +4,12 @@ ghost use Rattle.op_outside.specs.Causes.{FailsOnlyOnFault, FaultsRose, last_cou
 use op_outside::DiskFail;
 use std::alloc::AllocError;
 
-/// How many calls have failed, and whether one found no room.
+/// The calls that failed.
 #[derive(Clone, Copy)]
 pub struct FaultCount {
+    /// How many there were, up to 2^64 - 1.
     pub count: u64,
+    /// Whether one found no memory, or would have ended past 2^62 bytes.
     pub is_starved: bool,
 }
 

@@ -131,7 +131,9 @@ msg_parts = pair kind (λ tag. pair conf (λ _. body tag))
 
 -- a message
 abbrev pub msg : Form Msg
-msg = fitted (λ x. record { conf = x.1.0; body = x.1.1 }) (λ m. (body_tag m.body, (m.conf, m.body))) MsgInRange msg_parts
+msg =
+    fitted (λ x. record { conf = x.1.0; body = x.1.1 }) (λ m. (body_tag m.body, (m.conf, m.body)))
+    MsgInRange msg_parts
 
 -- a sender, an addressee and a message
 abbrev pub addressed_parts : Form (ℕ × (ℕ × Msg))

@@ -15,7 +15,8 @@ abbrev pub BodyInRange : Body → Type 0
 BodyInRange (variant.HeartbeatRequest r) = IsRound r
 BodyInRange (variant.HeartbeatReply r own heard) = IsRound r × BallotInRange own
 BodyInRange (variant.Prepare n na nl nd) = BallotInRange n × BallotInRange na × IsPlace nl × IsPlace nd
-BodyInRange (variant.Promise n fa fl fd s es) = BallotInRange n × BallotInRange fa × IsPlace fl × IsPlace fd × IsPlace s × EntriesInRange positions_end es
+BodyInRange (variant.Promise n fa fl fd s es) =
+    BallotInRange n × BallotInRange fa × IsPlace fl × IsPlace fd × IsPlace s × EntriesInRange positions_end es
 BodyInRange (variant.AcceptSync n x es) = BallotInRange n × IsPlace x × EntriesInRange positions_end es
 BodyInRange (variant.Accept n a es) = BallotInRange n × IsPlace a × EntriesInRange positions_end es
 BodyInRange (variant.Accepted n x) = BallotInRange n × IsPlace x

@@ -13,7 +13,8 @@ IsPrefix xs ys = (rest : List Entry) × (xs ++ rest ≡ ys)
 abbrev pub decided_log : World → ℕ → List Entry
 decided_log w p = take (w.nodes p).decided (w.nodes p).log
 
--- what one node decided after the early events and what another has after all of them: one is a prefix of the other
+-- what one node decided after the early events and what another has after all of them:
+-- one is a prefix of the other
 abbrev pub Agree : Type 0
 Agree =
     (members : List ℕ) (early late : List Event) (p q : ℕ)
@@ -39,11 +40,14 @@ Proposed =
 
 -- no entry is decided after a stop-sign
 abbrev pub Ends : Type 0
-Ends = (members : List ℕ) (events : List Event) (p : ℕ) → NoneAfterStop (decided_log (run members events start) p)
+Ends =
+    (members : List ℕ) (events : List Event) (p : ℕ)
+    → NoneAfterStop (decided_log (run members events start) p)
 
 -- nor does an entry stand after a stop-sign in any node's whole log
 abbrev pub LogsEnd : Type 0
-LogsEnd = (members : List ℕ) (events : List Event) (p : ℕ) → NoneAfterStop ((run members events start).nodes p).log
+LogsEnd =
+    (members : List ℕ) (events : List Event) (p : ℕ) → NoneAfterStop ((run members events start).nodes p).log
 
 -- what a node has decided never falls
 abbrev pub NeverFalls : Type 0
@@ -53,4 +57,7 @@ NeverFalls =
 
 -- a node has every entry that it has decided
 abbrev pub DecidedIsInLog : Type 0
-DecidedIsInLog = (members : List ℕ) (events : List Event) (p : ℕ) → let node = (run members events start).nodes p in node.decided ≤ length node.log
+DecidedIsInLog =
+    (members : List ℕ) (events : List Event) (p : ℕ)
+    → let node = (run members events start).nodes p in
+    node.decided ≤ length node.log

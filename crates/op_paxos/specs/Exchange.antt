@@ -52,18 +52,23 @@ Interrupts others Starts = Unit {0}
 Interrupts others (Down q) = IsAmong others q
 Interrupts others _ = ⊥
 
--- this event leaves x alone: it is no step of x, or one that x ends, and that is no start and no loss of the session of one of the others
+-- this event leaves x alone: it is no step of x, or one that x ends,
+-- and that is no start and no loss of the session of one of the others
 abbrev pub LeavesAlone : List ℕ → ℕ → World → Event → Type 0
-LeavesAlone others x w e = (i : Input) → input_of w e ≡ Some (x, i) → (is_stopped e ≡ false) × (Interrupts others i → ⊥)
+LeavesAlone others x w e =
+    (i : Input) → input_of w e ≡ Some (x, i) → (is_stopped e ≡ false) × (Interrupts others i → ⊥)
 
 -- from event number i on, x promises nothing above b, and no event disturbs it
-pub record IsCalm (members : List ℕ) (w : World) (events : List Event) (b : ℕ) (others : List ℕ) (x i : ℕ) : Type 0 where
+pub record IsCalm (members : List ℕ) (w : World) (events : List Event) (b : ℕ) (others : List ℕ)
+    (x i : ℕ) : Type 0 where
   pub promised : (j : ℕ) → i ≤ j → (node_before members w events j x).promised ≤ b
-  pub alone : (j : ℕ) (e : Event) → i ≤ j → slice_get events j ≡ Some e → LeavesAlone others x (world_before members w events j) e
+  pub alone : (j : ℕ) (e : Event) → i ≤ j → slice_get events j ≡ Some e
+      → LeavesAlone others x (world_before members w events j) e
 
 -- ---- where what is proposed comes to stand
 
--- at event number i, p begins to lead: to the log that it adopts it adds its buffer, as far as a stop-sign and the positions let it
+-- at event number i, p begins to lead: to the log that it adopts
+-- it adds its buffer, as far as a stop-sign and the positions let it
 pub record Begins (members : List ℕ) (w : World) (p : ℕ) (events : List Event) (i : ℕ) : Type 0 where
   pub preparation : PreparingState
   pub leadership : LeadingState
@@ -73,7 +78,8 @@ pub record Begins (members : List ℕ) (w : World) (p : ℕ) (events : List Even
   pub size : length adopted ≡ leadership.size
   pub log : (node_before members w events (suc i) p).log ≡ adopted ++ fitting adopted preparation.buffer
 
--- what comes at p at event number at is buffered, and p begins to lead later, where it would stand at this place
+-- what comes at p at event number at is buffered,
+-- and p begins to lead later, where it would stand at this place
 pub record Buffered (members : List ℕ) (w : World) (p : ℕ) (events : List Event) (at place : ℕ) : Type 0 where
   pub preparation : PreparingState
   pub preparing : (node_before members w events at p).role ≡ Preparing preparation
@@ -82,17 +88,23 @@ pub record Buffered (members : List ℕ) (w : World) (p : ℕ) (events : List Ev
   pub begins : Begins members w p events adds_at
   pub is : place ≡ length begins.adopted + length preparation.buffer
 
--- it stands at this place of p's log: at the end of what p has, if p leads, and else where its buffer is added
+-- it stands at this place of p's log: at the end of what p has,
+-- if p leads, and else where its buffer is added
 abbrev pub IsPlaced : List ℕ → World → ℕ → List Event → ℕ → ℕ → Type 0
 IsPlaced members w p events at place =
-    ((l : LeadingState) × ((node_before members w events at p).role ≡ Leading l) × (place ≡ length (node_before members w events at p).log))
-    ⊎ ((x : Buffered members w p events at place) × (place < length (node_before members w events (suc x.adds_at) p).log))
+    ((l : LeadingState) × ((node_before members w events at p).role ≡ Leading l) ×
+    (place ≡ length (node_before members w events at p).log))
+    ⊎ ((x : Buffered members w p events at place) ×
+    (place < length (node_before members w events (suc x.adds_at) p).log))
 
--- or e, which came at p at event number at, is dropped when p begins to lead, after a stop-sign or at the end of positions
-pub record Dropped (members : List ℕ) (w : World) (p : ℕ) (events : List Event) (at : ℕ) (e : Entry) : Type 0 where
+-- or e, which came at p at event number at, is dropped when p begins to lead,
+-- after a stop-sign or at the end of positions
+pub record Dropped (members : List ℕ) (w : World) (p : ℕ) (events : List Event) (at : ℕ)
+    (e : Entry) : Type 0 where
   pub place : ℕ
   pub buffered : Buffered members w p events at place
-  pub held : slice_get buffered.begins.preparation.buffer (length buffered.preparation.buffer) ≡ Some e  -- it waits there until then
+  -- it waits there until then
+  pub held : slice_get buffered.begins.preparation.buffer (length buffered.preparation.buffer) ≡ Some e
   pub gone : length (node_before members w events (suc buffered.adds_at) p).log ≤ place
   pub because_full :
       (has_stop (node_before members w events (suc buffered.adds_at) p).log ≡ true)
@@ -104,7 +116,8 @@ pub record Dropped (members : List ℕ) (w : World) (p : ℕ) (events : List Eve
 abbrev pub IsIn : ℕ → ℕ → List Entry → Type 0
 IsIn place start entries = (start ≤ place) × (place < start + length entries)
 
--- the five steps of p, which leads b, with q, where something is proposed at event number at: each by the number of its event
+-- the five steps of p, which leads b, with q, where something is proposed at event number at:
+-- each by the number of its event
 pub record Steps (members : List ℕ) (w : World) (events : List Event) (b p q at : ℕ) : Type 0 where
   -- 1. a Prepare of b from p is delivered to q, whose promise is below b
   pub prepare_at : ℕ
@@ -126,16 +139,21 @@ pub record Steps (members : List ℕ) (w : World) (events : List Event) (b p q a
   pub sent : Sending members w events sync_sent p q (AcceptSync b start rest)
   pub after_sending : sync_sent < sync_at
   pub synced : Delivery members w events sync_at p q (AcceptSync b start rest)
-  -- 4. each Accept that p sent to q after that AcceptSync, up to a last one, is delivered to q in the order of sending
+  -- 4. each Accept that p sent to q after that AcceptSync,
+  -- up to a last one, is delivered to q in the order of sending
   pub last : ℕ
   pub accept_at : ℕ → ℕ
-  pub accepted : (i a : ℕ) (entries : List Entry) → sync_sent < i → i ≤ last → SendsAccept members w events i b p q a entries
+  pub accepted : (i a : ℕ) (entries : List Entry) → sync_sent < i → i ≤ last
+      → SendsAccept members w events i b p q a entries
       → (sync_at < accept_at i) × Delivery members w events (accept_at i) p q (Accept b a entries)
   pub in_order : (i j a c : ℕ) (first second : List Entry) → sync_sent < i → i < j → j ≤ last
-      → SendsAccept members w events i b p q a first → SendsAccept members w events j b p q c second → accept_at i < accept_at j
-  -- what first carries to q what was proposed is among these: an Accept that carries it isn't sent sooner than one of them that does
+      → SendsAccept members w events i b p q a first → SendsAccept members w events j b p q c second
+      → accept_at i < accept_at j
+  -- what first carries to q what was proposed is among these:
+  -- an Accept that carries it isn't sent sooner than one of them that does
   pub carried : (place i c : ℕ) (entries : List Entry)
-      → IsPlaced members w p events at place → SendsAccept members w events i b p q c entries → IsIn place c entries
+      → IsPlaced members w p events at place → SendsAccept members w events i b p q c entries
+      → IsIn place c entries
       → ((sync_sent ≤ i) × IsIn place start rest)
       ⊎ ((j a : ℕ) × (entries : List Entry) × (sync_sent < j) × (j ≤ last) × (j ≤ i)
       × SendsAccept members w events j b p q a entries × IsIn place a entries)
@@ -152,8 +170,10 @@ pub record Steps (members : List ℕ) (w : World) (events : List Event) (b p q a
 
 -- ---- the exchange
 
--- p, which prepares b in w, does the five steps with each of the others, that with it are a majority, and e comes at p meanwhile
-pub record Exchange (members : List ℕ) (w : World) (p b : ℕ) (others : List ℕ) (events : List Event) (e : Entry) : Type 0 where
+-- p, which prepares b in w, does the five steps with each of the others,
+-- that with it are a majority, and e comes at p meanwhile
+pub record Exchange (members : List ℕ) (w : World) (p b : ℕ) (others : List ℕ) (events : List Event)
+    (e : Entry) : Type 0 where
   pub preparation : PreparingState
   pub preparing : (w.nodes p).role ≡ Preparing preparation
   pub ballot : preparation.ballot ≡ b
@@ -168,26 +188,30 @@ pub record Exchange (members : List ℕ) (w : World) (p b : ℕ) (others : List 
   pub steps : (q : ℕ) → IsAmong others q → Steps members w events b p q proposed_at
   -- nothing disturbs p, nor q from its step 1 on
   pub calm : IsCalm members w events b others p 0
-  pub calm_other : (q : ℕ) (i : IsAmong others q) → IsCalm members w events b (p ∷ []) q (steps q i).prepare_at
+  pub calm_other : (q : ℕ) (i : IsAmong others q)
+      → IsCalm members w events b (p ∷ []) q (steps q i).prepare_at
 
 -- ---- what it decides
 
 -- e stands in the one list of this run, at a place below what p has shown that it knows
 abbrev pub IsDecided : List ℕ → ℕ → List Event → ℕ → Entry → ℕ → Type 0
-IsDecided members conf events p e place = (place < known members conf events p) × (slice_get (ledger members conf events) place ≡ Some e)
+IsDecided members conf events p e place =
+    (place < known members conf events p) × (slice_get (ledger members conf events) place ≡ Some e)
 
--- from every world that a run reaches, one exchange decides what was proposed in it, at its place, unless it was dropped
--- after a stop-sign or at the end of positions
+-- from every world that a run reaches, one exchange decides what was proposed in it, at its place, unless it
+-- was dropped after a stop-sign or at the end of positions
 abbrev pub ExchangeDecides : Type 0
 ExchangeDecides =
     (members : List ℕ) (conf : ℕ) (early events : List Event) (p b : ℕ) (others : List ℕ) (e : Entry)
     → let w = run members early start in (x : Exchange members w p b others events e)
-    → ((place : ℕ) × IsPlaced members w p events x.proposed_at place × IsDecided members conf (early ++ events) p e place)
+    → ((place : ℕ) × IsPlaced members w p events x.proposed_at place ×
+    IsDecided members conf (early ++ events) p e place)
     ⊎ Dropped members w p events x.proposed_at e
 
 -- a leader that is a majority alone decides what is proposed to it, unless it refuses, at once
 abbrev pub AloneDecides : Type 0
 AloneDecides =
     (members : List ℕ) (conf : ℕ) (early : List Event) (p : ℕ) (e : Entry) (l : LeadingState)
-    → let node = (run members early start).nodes p in node.role ≡ Leading l → majority_passes members (λ q. q == p) ≡ true → refuses node ≡ false
+    → let node = (run members early start).nodes p in
+    node.role ≡ Leading l → majority_passes members (λ q. q == p) ≡ true → refuses node ≡ false
     → IsDecided members conf (early ++ Proposes p e ∷ []) p e (length node.log)

@@ -24,11 +24,13 @@ pub record Execution : Type 0 where
   pub world : World
   pub machine : Machine
 
--- a node shows what it has decided: where that is more than the list has, the list gets its entries from there on
+-- a node shows what it has decided:
+-- where that is more than the list has, the list gets its entries from there on
 abbrev pub showing : Machine → ℕ → ℕ → Node → Machine
 showing m conf p node =
     record {
-      lists = with_at conf (m.lists conf ++ drop (length (m.lists conf)) (take node.decided node.log)) m.lists;
+      lists =
+          with_at conf (m.lists conf ++ drop (length (m.lists conf)) (take node.decided node.log)) m.lists;
       known = with_node_at p conf (max (m.known p conf) node.decided) m.known;
       proposed = m.proposed;
       opened = m.opened;
@@ -48,7 +50,11 @@ showing_at m conf w (Some x) = showing m conf x.0 (w.nodes x.0)
 -- a run after one event more
 abbrev pub execution_with : List ℕ → ℕ → Execution → Event → Execution
 execution_with members conf t e =
-    let w = happens members t.world e in record { world = w; machine = showing_at (proposing t.machine conf t.world e) conf w (input_of t.world e) }
+    let w = happens members t.world e in
+    record {
+      world = w;
+      machine = showing_at (proposing t.machine conf t.world e) conf w (input_of t.world e);
+    }
 
 -- a run after these events
 unfoldable pub execution_of : List ℕ → ℕ → List Event → Execution → Execution
@@ -65,7 +71,8 @@ ledger members conf events = ((execution_of members conf events (first_execution
 
 -- how much of that list a node has shown that it knows
 abbrev pub known : List ℕ → ℕ → List Event → ℕ → ℕ
-known members conf events p = ((execution_of members conf events (first_execution members)).machine).known p conf
+known members conf events p =
+    ((execution_of members conf events (first_execution members)).machine).known p conf
 
 -- each node's decided log is a prefix of the list, and known to it
 pub record StandsIn (conf : ℕ) (t : Execution) (p : ℕ) : Type 0 where
@@ -73,7 +80,8 @@ pub record StandsIn (conf : ℕ) (t : Execution) (p : ℕ) : Type 0 where
   pub within : ((t.world).nodes p).decided ≤ length ((t.machine).lists conf)
   pub prefix : take ((t.world).nodes p).decided ((t.machine).lists conf) ≡ decided_log t.world p
 
--- an event is finitely many allowed steps of the list machine, which only add to it; after it the lists are safe, and every node stands
+-- an event is finitely many allowed steps of the list machine,
+-- which only add to it; after it the lists are safe, and every node stands
 pub record GoesOn (members : List ℕ) (conf : ℕ) (t u : Execution) : Type 0 where
   pub leads : Leads t.machine u.machine
   pub grows : OnlyGrows t.machine u.machine
@@ -84,4 +92,5 @@ pub record GoesOn (members : List ℕ) (conf : ℕ) (t u : Execution) : Type 0 w
 abbrev pub Meets : Type 0
 Meets =
     (members : List ℕ) (conf : ℕ) (early : List Event) (e : Event)
-    → let t = execution_of members conf early (first_execution members) in GoesOn members conf t (execution_with members conf t e)
+    → let t = execution_of members conf early (first_execution members) in
+    GoesOn members conf t (execution_with members conf t e)

@@ -23,6 +23,7 @@ up_to_stop false (e ∷ entries) = e ∷ up_to_stop (is_stop e) entries
 abbrev pub is_full : List Entry → Bool
 is_full log = has_stop log || nat_le positions_end (length log)
 
--- the entries of a buffer that go to a log's end: none after an entry that ends the configuration, and none past the positions
+-- the entries of a buffer that go to a log's end:
+-- none after an entry that ends the configuration, and none past the positions
 abbrev pub fitting : List Entry → List Entry → List Entry
 fitting log buffer = take (positions_end - length log) (up_to_stop (has_stop log) buffer)

@@ -48,7 +48,9 @@ packet p q msg = record { from = p; to = q; msg = msg }
 -- one message to each member that passes the test, but p, which sends it
 abbrev pub broadcast : ℕ → (ℕ → Bool) → Msg → List ℕ → List Packet
 broadcast p test msg [] = []
-broadcast p test msg (q ∷ members) = if test q && not (q == p) then packet p q msg ∷ broadcast p test msg members else broadcast p test msg members
+broadcast p test msg (q ∷ members) =
+    if test q && not (q == p) then packet p q msg ∷ broadcast p test msg members
+    else broadcast p test msg members
 
 -- a step that sends nothing
 abbrev pub silent : Node → Effect

@@ -41,7 +41,8 @@ step members p node (Comes q msg) = on_msg members p node q msg
 step members p node (Up q) = record { node = node; sends = packet p q PrepareReq ∷ [] }
 step members p node (Down q) = silent (record node { role = without node.role q })
 step members p node TrimNow = on_trim_now_in members p node node.role
-step members p node Starts = record { node = record node { role = Idle }; sends = broadcast p (λ q. true) PrepareReq members }
+step members p node Starts =
+    record { node = record node { role = Idle }; sends = broadcast p (λ q. true) PrepareReq members }
 
 -- a world
 pub record World : Type 0 where
@@ -105,4 +106,8 @@ run members (e ∷ events) w = run members events (happens members w e)
 
 -- the world at the start: nothing is promised, and nothing was sent
 unfoldable pub start : World
-start = record { nodes = λ p. record { promised = 0; accepted = 0; log = []; decided = 0; trimmed = 0; role = Idle }; packets = [] }
+start =
+    record {
+      nodes = λ p. record { promised = 0; accepted = 0; log = []; decided = 0; trimmed = 0; role = Idle };
+      packets = [];
+    }

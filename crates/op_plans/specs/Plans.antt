@@ -7,4 +7,5 @@ use Rattle.op_types.specs.declared.plan.Plan.{Plan}
 
 -- a plan, after these changes, messages and replies
 abbrev pub plan_after : List Change → List (ℕ × Msg) → List Reply → Plan → Plan
-plan_after batch sends replies x = record x { batch = batch ++ x.batch; sends = sends ++ x.sends; replies = replies ++ x.replies }
+plan_after batch sends replies x =
+    record x { batch = batch ++ x.batch; sends = sends ++ x.sends; replies = replies ++ x.replies }

@@ -30,7 +30,9 @@ use Rattle.op_protocol.specs.Promises.{has_quorum, is_usable, Choice, own_choice
 -- the greatest length up to k that a majority has
 abbrev pub backed : (ℕ → ℕ) → List ℕ → ℕ → ℕ
 backed has members zero = 0
-backed has members (suc k) = if is_majority (passing (λ q. nat_le (suc k) (has q)) members) (length members) then suc k else backed has members k
+backed has members (suc k) =
+    if is_majority (passing (λ q. nat_le (suc k) (has q)) members) (length members) then suc k
+    else backed has members k
 
 -- the length that a member has, as far as the leader of a log of this length knows
 abbrev pub length_at : ℕ → ℕ → List Acknowledged → ℕ → ℕ
@@ -47,29 +49,43 @@ synced_others me members l = filter (λ q. is_member nat_eq l.synced q) (others 
 -- so much is decided, and each synced follower is told
 abbrev pub decides : ℕ → Part → state.Leading → ℕ → Effects
 decides me p l x =
-    record { batch = change.Decided x ∷ []; role = Leading l; sends = to_each p.conf (synced_others me p.members l) (body.Decide l.ballot x); replies = []; outcome = None }
+    record {
+      batch = change.Decided x ∷ [];
+      role = Leading l;
+      sends = to_each p.conf (synced_others me p.members l) (body.Decide l.ballot x);
+      replies = [];
+      outcome = None;
+    }
 
--- What a majority has is decided, where the own log has this length. If that is nothing new, these messages go out.
+-- What a majority has is decided, where the own log has this length.
+-- If that is nothing new, these messages go out.
 abbrev pub count : ℕ → Part → ℕ → state.Leading → List (ℕ × Msg) → Effects
 count me p len l otherwise =
-    if nat_lt p.decided (counted me p.members len l.acknowledged) then decides me p l (counted me p.members len l.acknowledged) else saying (Leading l) otherwise
+    if nat_lt p.decided (counted me p.members len l.acknowledged)
+    then decides me p l (counted me p.members len l.acknowledged)
+    else saying (Leading l) otherwise
 
 -- ---- syncing
 
--- The length up to which the follower has the leader's log: what it told, where its round is the leader's or it is a prefix of
--- the log that was adopted, and otherwise what it has decided.
+-- The length up to which the follower has the leader's log: what it told, where its round is the leader's or
+-- it is a prefix of the log that was adopted, and otherwise what it has decided.
 abbrev pub sync_start : state.Leading → Promised → ℕ
-sync_start l k = if is_same_ballot k.accepted l.ballot || (is_same_ballot k.accepted l.adopted_round && nat_le k.len l.adopted_len) then k.len else k.decided
+sync_start l k =
+    if is_same_ballot k.accepted l.ballot
+    || (is_same_ballot k.accepted l.adopted_round && nat_le k.len l.adopted_len) then k.len else k.decided
 
 -- the follower is synced from there: the place is in the log, and isn't trimmed
 abbrev pub is_synced : Part → state.Leading → Promised → Bool
 is_synced p l k = nat_le p.trimmed (sync_start l k) && nat_le (sync_start l k) (len_of p)
 
--- what is sent to a follower that promised: the log from where it may lack it; where that is trimmed, it is asked again
+-- what is sent to a follower that promised:
+-- the log from where it may lack it; where that is trimmed, it is asked again
 abbrev pub sync_sends : Part → state.Leading → Promised → List (ℕ × Msg)
 sync_sends p l k =
     if nat_lt (sync_start l k) p.trimmed then message p.conf k.from (prepare_body p l.ballot) ∷ []
-    else if nat_le (sync_start l k) (len_of p) then message p.conf k.from (body.AcceptSync l.ballot (sync_start l k) (log_from p (sync_start l k))) ∷ []
+    else if nat_le (sync_start l k) (len_of p)
+    then message p.conf k.from
+    (body.AcceptSync l.ballot (sync_start l k) (log_from p (sync_start l k))) ∷ []
     else []
 
 -- ---- adopting
@@ -86,21 +102,27 @@ sends_by p l (Some k) = sync_sends p l k
 
 -- the leader of a ballot that has adopted a log
 abbrev pub first_leading : Ballot → Choice → state.Leading
-first_leading n c = record { ballot = n; adopted_round = c.accepted; adopted_len = c.len; synced = []; acknowledged = [] }
+first_leading n c =
+    record { ballot = n; adopted_round = c.accepted; adopted_len = c.len; synced = []; acknowledged = [] }
 
 -- the same, when those of the members are synced that promised
 abbrev pub leading_with : Part → state.Leading → List Promised → state.Leading
-leading_with p l promises = record l { synced = filter (λ q. is_synced_by p l (promise_of promises q)) p.members }
+leading_with p l promises =
+    record l { synced = filter (λ q. is_synced_by p l (promise_of promises q)) p.members }
 
 -- the log of the leader is sent to each that promised, and what a majority has is decided
 abbrev pub begin_leading : ℕ → Part → state.Leading → List Promised → Effects
-begin_leading me p l promises = first [] (flat_map (λ q. sends_by p l (promise_of promises q)) p.members) [] (count me p (len_of p) (leading_with p l promises) [])
+begin_leading me p l promises =
+    first [] (flat_map (λ q. sends_by p l (promise_of promises q)) p.members) []
+    (count me p (len_of p) (leading_with p l promises) [])
 
 -- the log of the choice is adopted, with these entries of the buffer after it, in the ballot's round
 abbrev pub adopt_with : ℕ → Part → state.Preparing → Choice → List Entry → Effects
 adopt_with me p r c more =
-    first (choice_changes p c ++ appending more ++ change.Accept r.ballot ∷ []) [] (left_over (chosen_stop p c) (chosen_len p c) r.buffer)
-    (begin_leading me (part_in_round p r.ballot (chosen_log p c ++ more)) (first_leading r.ballot c) r.promises)
+    first (choice_changes p c ++ appending more ++ change.Accept r.ballot ∷ []) []
+    (left_over (chosen_stop p c) (chosen_len p c) r.buffer)
+    (begin_leading me (part_in_round p r.ballot (chosen_log p c ++ more))
+    (first_leading r.ballot c) r.promises)
 
 -- the log of the choice is adopted, with what of the buffer fits after it
 abbrev pub adopt_choice : ℕ → Part → state.Preparing → Choice → Effects
@@ -123,19 +145,24 @@ given_up_by r why = []
 
 -- ---- the rows
 
--- A ballot of its own is led: it is promised, the others are asked for their promises, and the own state counts as one. A node
--- that is a majority by itself adopts at once.
+-- A ballot of its own is led: it is promised, the others are asked for their promises, and the own state
+-- counts as one. A node that is a majority by itself adopts at once.
 abbrev pub lead : ℕ → Part → Role → Ballot → Effects
 lead me p r n =
-    first (change.Promise n ∷ []) (to_each p.conf (others me p.members) (prepare_body p n)) (given_up_by r (cause.Ballot n))
+    first (change.Promise n ∷ []) (to_each p.conf (others me p.members) (prepare_body p n))
+    (given_up_by r (cause.Ballot n))
     (prepares me (part_with p (change.Promise n)) (record { ballot = n; promises = []; buffer = [] }))
 
 -- a promise comes: it is kept, or its sender is synced
 abbrev pub on_promise : ℕ → Part → Role → Ballot → Promised → Effects
 on_promise me p Idle n k = nothing Idle
-on_promise me p (Preparing r) n k = if is_same_ballot n r.ballot && is_usable p k then prepares me p (with_promise r k) else nothing (Preparing r)
+on_promise me p (Preparing r) n k =
+    if is_same_ballot n r.ballot && is_usable p k then prepares me p (with_promise r k)
+    else nothing (Preparing r)
 on_promise me p (Leading l) n k =
-    if is_same_ballot n l.ballot then saying (Leading (if is_synced p l k then with_synced l k.from else l)) (sync_sends p l k) else nothing (Leading l)
+    if is_same_ballot n l.ballot
+    then saying (Leading (if is_synced p l k then with_synced l k.from else l)) (sync_sends p l k)
+    else nothing (Leading l)
 
 -- what is decided is told again, if anything is
 abbrev pub decided_again : Part → ℕ → Ballot → List (ℕ × Msg)
@@ -144,7 +171,8 @@ decided_again p q n = if nat_lt 0 p.decided then message p.conf q (body.Decide n
 -- a follower has accepted up to a length in the leader's round
 abbrev pub on_accepted : ℕ → Part → Role → ℕ → Ballot → ℕ → Effects
 on_accepted me p (Leading l) q n x =
-    if is_same_ballot n l.ballot && nat_le x (len_of p) then count me p (len_of p) (with_acknowledged l (record { from = q; len = x })) (decided_again p q l.ballot)
+    if is_same_ballot n l.ballot && nat_le x (len_of p) then count me p (len_of p)
+    (with_acknowledged l (record { from = q; len = x })) (decided_again p q l.ballot)
     else nothing (Leading l)
 on_accepted me p r q n x = nothing r
 
@@ -157,18 +185,24 @@ on_prepare_req p (Leading l) q = saying (Leading l) (message p.conf q (prepare_b
 -- a leader adds an entry to its log, and sends it to each synced follower
 abbrev pub extends : ℕ → Part → state.Leading → Entry → Effects
 extends me p l e =
-    first (change.Append (e ∷ []) ∷ []) (to_each p.conf (synced_others me p.members l) (body.Accept l.ballot (len_of p) (e ∷ []))) [] (count me p (len_of p + 1) l [])
+    first (change.Append (e ∷ []) ∷ [])
+    (to_each p.conf (synced_others me p.members l) (body.Accept l.ballot (len_of p) (e ∷ []))) []
+    (count me p (len_of p + 1) l [])
 
 -- an entry is proposed: it is added, waits in the buffer, or goes to whom the node takes for the leader
 abbrev pub propose : ℕ → Part → Role → Entry → Effects
-propose me p Idle e = answered (outcome.Forwarded p.promised.pid) (saying Idle (message p.conf p.promised.pid (body.Forward e) ∷ []))
-propose me p (Preparing r) e = answered outcome.Buffered (nothing (Preparing (with_buffered r (record { entry = e; is_own = true }))))
+propose me p Idle e =
+    answered (outcome.Forwarded p.promised.pid)
+    (saying Idle (message p.conf p.promised.pid (body.Forward e) ∷ []))
+propose me p (Preparing r) e =
+    answered outcome.Buffered (nothing (Preparing (with_buffered r (record { entry = e; is_own = true }))))
 propose me p (Leading l) e = answered (outcome.Appended p.conf (len_of p)) (extends me p l e)
 
 -- a leader takes an entry that was forwarded, where its log goes on
 abbrev pub on_forward_leading : ℕ → Part → state.Leading → Entry → Option ℕ → Effects
 on_forward_leading me p l e (Some pos) = nothing (Leading l)
-on_forward_leading me p l e None = if nat_lt (len_of p) positions_end then extends me p l e else nothing (Leading l)
+on_forward_leading me p l e None =
+    if nat_lt (len_of p) positions_end then extends me p l e else nothing (Leading l)
 
 -- a proposal was forwarded
 abbrev pub on_forward : ℕ → Part → Role → Entry → Effects

@@ -37,7 +37,8 @@ has_stop (e ∷ entries) = if is_some (stop_of e) then true else has_stop entrie
 
 -- entries end within the positions, and are no stop-sign of the last configuration
 abbrev pub is_admitted : Part → ℕ → List Entry → Bool
-is_admitted p at entries = nat_le (at + length entries) positions_end && not (p.conf == last_conf && has_stop entries)
+is_admitted p at entries =
+    nat_le (at + length entries) positions_end && not (p.conf == last_conf && has_stop entries)
 
 -- what a message brings is admitted; where an entry goes that is forwarded isn't known yet
 abbrev pub is_admitted_body : Part → Body → Bool
@@ -101,7 +102,14 @@ nothing r = saying r []
 
 -- these changes, messages and replies, and then what follows from them
 abbrev pub first : List Change → List (ℕ × Msg) → List Reply → Effects → Effects
-first batch sends replies e = record { batch = batch ++ e.batch; role = e.role; sends = sends ++ e.sends; replies = replies ++ e.replies; outcome = e.outcome }
+first batch sends replies e =
+    record {
+      batch = batch ++ e.batch;
+      role = e.role;
+      sends = sends ++ e.sends;
+      replies = replies ++ e.replies;
+      outcome = e.outcome;
+    }
 
 -- the same effects, of a proposal that is answered so
 abbrev pub answered : Outcome → Effects → Effects

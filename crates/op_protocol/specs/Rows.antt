@@ -34,7 +34,9 @@ abbrev pub on_body : ℕ → Part → Volatile → ℕ → Body → PartStep
 on_body me p v q (body.HeartbeatRequest round) = on_heartbeat_request p v q round
 on_body me p v q (body.HeartbeatReply round b flag) = on_heartbeat_reply me p v q round b flag
 on_body me p v q (body.Prepare n na nl nd) = with_effects v (on_prepare p v.role q n na nl nd)
-on_body me p v q (body.Promise n fa fl fd s entries) = with_effects v (on_promise me p v.role n (record { from = q; accepted = fa; len = fl; decided = fd; start = s; entries = entries }))
+on_body me p v q (body.Promise n fa fl fd s entries) =
+    with_effects v (on_promise me p v.role n
+    (record { from = q; accepted = fa; len = fl; decided = fd; start = s; entries = entries }))
 on_body me p v q (body.AcceptSync n x entries) = with_effects v (on_accept_sync p v.role q n x entries)
 on_body me p v q (body.Accept n at entries) = with_effects v (on_accept p v.role q n at entries)
 on_body me p v q (body.Accepted n x) = with_effects v (on_accepted me p v.role q n x)
@@ -45,7 +47,8 @@ on_body me p v q (body.Forward e) = with_effects v (on_forward me p v.role e)
 
 -- a message of another configuration does nothing, nor does one whose entries aren't admitted
 abbrev pub on_message : ℕ → Part → Volatile → ℕ → Msg → PartStep
-on_message me p v q m = if m.conf == p.conf && is_admitted_body p m.body then on_body me p v q m.body else remembering v []
+on_message me p v q m =
+    if m.conf == p.conf && is_admitted_body p m.body then on_body me p v q m.body else remembering v []
 
 -- ---- proposals
 
@@ -60,7 +63,10 @@ knows_no_leader me r p = is_same_ballot p.promised no_ballot || (p.promised.pid 
 
 -- why a proposal is refused by a log that no stop-sign ends
 abbrev pub open_refusal : ℕ → Role → Part → Option Refusal
-open_refusal me r p = if knows_no_leader me r p then Some refusal.NoLeader else if nat_lt (len_of p) positions_end then None else Some refusal.PositionsEnd
+open_refusal me r p =
+    if knows_no_leader me r p then Some refusal.NoLeader
+    else if nat_lt (len_of p) positions_end then None
+    else Some refusal.PositionsEnd
 
 -- a stop-sign at the log's end is the first cause
 abbrev pub refusal_after : ℕ → Role → Part → Option ℕ → Option Refusal
@@ -76,7 +82,9 @@ refusal_of me r (Some p) = refusal_after me r p (pending p)
 
 -- a session begins with one of the others: if it leads, it is to prepare this node
 abbrev pub session_up : ℕ → Part → Role → ℕ → Effects
-session_up me p r q = if is_member nat_eq (others me p.members) q then saying r (message p.conf q body.PrepareReq ∷ []) else nothing r
+session_up me p r q =
+    if is_member nat_eq (others me p.members) q then saying r (message p.conf q body.PrepareReq ∷ [])
+    else nothing r
 
 -- nothing changes, and a proposal is answered so
 abbrev pub answering : Volatile → Option Outcome → PartStep
@@ -122,13 +130,24 @@ abbrev pub newly_decided : Option Part → List Change → List Entry
 newly_decided None batch = []
 newly_decided (Some p) batch = decided_since p (part_after p batch)
 
--- what is decided goes to the service; its clients are answered first, and then those are told whose proposals are given up
+-- what is decided goes to the service; its clients are answered first,
+-- and then those are told whose proposals are given up
 abbrev pub planned_serving : PartStep → Dropping → Served → Planned
-planned_serving x d t = record { batch = x.batch; volatile = x.volatile; service = t.service; waiting = t.waiting; sends = x.sends; replies = t.replies ++ d.replies; outcome = x.outcome }
+planned_serving x d t =
+    record {
+      batch = x.batch;
+      volatile = x.volatile;
+      service = t.service;
+      waiting = t.waiting;
+      sends = x.sends;
+      replies = t.replies ++ d.replies;
+      outcome = x.outcome;
+    }
 
 -- the same, when these are told
 abbrev pub planned_dropping : State → PartStep → Dropping → Planned
-planned_dropping s x d = planned_serving x d (serving s.service d.waiting (newly_decided s.durable.part x.batch))
+planned_dropping s x d =
+    planned_serving x d (serving s.service d.waiting (newly_decided s.durable.part x.batch))
 
 -- the plan of what a step does at a part, where these clients wait
 abbrev pub planned : State → Waiting → PartStep → Planned

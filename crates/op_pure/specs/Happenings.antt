@@ -23,14 +23,16 @@ happenings_of hs = map happening_of hs
 -- from this world on, each event names members, and messages that were sent
 abbrev pub CanHappenFrom : List ℕ → World → List runs.Happening → Type 0
 CanHappenFrom members w [] = Unit {0}
-CanHappenFrom members w (h ∷ hs) = (is_possible_in members w h.event ≡ true) × CanHappenFrom members (world_after w h) hs
+CanHappenFrom members w (h ∷ hs) =
+    (is_possible_in members w h.event ≡ true) × CanHappenFrom members (world_after w h) hs
 
 -- from this world on, the happening of this number, from 0, is the first whose event doesn't
 abbrev pub IsFirstBadFrom : List ℕ → World → List runs.Happening → ℕ → Type 0
 IsFirstBadFrom members w [] i = ⊥
 IsFirstBadFrom members w (h ∷ hs) i =
     ((i ≡ 0) × (is_possible_in members w h.event ≡ false))
-    ⊎ ((j : ℕ) × (i ≡ suc j) × (is_possible_in members w h.event ≡ true) × IsFirstBadFrom members (world_after w h) hs j)
+    ⊎ ((j : ℕ) × (i ≡ suc j) × (is_possible_in members w h.event ≡ true) ×
+    IsFirstBadFrom members (world_after w h) hs j)
 
 -- all of it can happen, from the start
 abbrev pub CanHappen : List ℕ → List runs.Happening → Type 0

@@ -18,7 +18,8 @@ node_of pid status = record { pid = pid; status = status }
 
 -- ---- the node that is shown
 
--- the state and how it runs; of a node that is down, what it has stored and was to store is kept, and all memory is lost
+-- the state and how it runs; of a node that is down,
+-- what it has stored and was to store is kept, and all memory is lost
 abbrev pub StatusShown : Status → Node → Type 0
 StatusShown (status.Up c) x = (x.state ≡ state_of c) × (x.status ≡ Up)
 StatusShown (status.Down d batch) x = (x.state.durable ≡ d) × (x.status ≡ Down (durable_after d batch))
@@ -51,14 +52,18 @@ pub record CanDo (n : PureNode) (d : Doing) : Type 0 where
   pub range : NodeInRange members node
   pub doing : DoingInRange members d
 
--- What a world becomes by what is done at one of its nodes, in a happening of this fate, opening and line: this node
--- takes its place, and these messages and lines come.
+-- What a world becomes by what is done at one of its nodes, in a happening of this fate, opening and line:
+-- this node takes its place, and these messages and lines come.
 pub record IsNodeDone (x : Node) (d : Doing) (fate : Fate) (finds_after : Bool) (line : ℕ)
     (y : Node) (sends : List (ℕ × Msg)) (told : List Line) : Type 0 where
   pub pid : y.pid ≡ x.pid
   pub world : (w : World) (h : Happening) → h.fate ≡ fate → h.finds_after ≡ finds_after → h.event.line ≡ line
       → node_at w.nodes x.pid ≡ Some x → world_by_status x.status d h w x
-      ≡ record { nodes = with_node w.nodes y; messages = w.messages ++ sent_by x.pid sends; lines = w.lines ++ told }
+      ≡ record {
+        nodes = with_node w.nodes y;
+        messages = w.messages ++ sent_by x.pid sends;
+        lines = w.lines ++ told;
+      }
 
 -- what is done at a node: it shows the node after it, with these messages and lines
 pub record IsDoneAt (old : PureNode) (d : Doing) (fate : Fate) (finds_after : Bool) (line : ℕ)

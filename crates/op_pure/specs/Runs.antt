@@ -31,7 +31,8 @@ abbrev pub ElectsRising : List ℕ → List Happening → Type 0
 ElectsRising members hs =
     (t : Two members hs) (pid : ℕ) (a b : Ballot)
     → t.first.fate ≡ Done → elected_at (before_first t) t.first pid ≡ Some a
-    → NeverOpens (world_after (before_first t) t.first) t.between pid → elected_at (before_second t) t.second pid ≡ Some b
+    → NeverOpens (world_after (before_first t) t.first) t.between pid
+    → elected_at (before_second t) t.second pid ≡ Some b
     → is_below a b ≡ true
 
 -- of two ballots that a node leads in the run, with a step that was stored, the second is above the first

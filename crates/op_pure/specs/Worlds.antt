@@ -48,8 +48,8 @@ place_of [] pid = 0
 place_of (n ∷ nodes) pid = if n.pid == pid then 0 else 1 + place_of nodes pid
 
 -- the happening is of this line, fate and opening, and does this where these messages were sent
-pub record Does (messages : List Sent) (h : Happening) (d : deed.Deed) (fate : Fate) (finds_after : Bool) (line : ℕ)
-    : Type 0 where
+pub record Does (messages : List Sent) (h : Happening) (d : deed.Deed) (fate : Fate) (finds_after : Bool)
+    (line : ℕ) : Type 0 where
   pub line_is : h.event.line ≡ line
   pub fate_is : h.fate ≡ fate
   pub finds : h.finds_after ≡ finds_after

@@ -9,12 +9,14 @@ pub enum Fate {
     Stopped,
 }
 
-/// An event, what becomes of its step, and which state an opening finds: the one after the step in which the node stopped,
-/// or the one before.
+/// An event, and what becomes of it.
 #[derive(Drop)]
 pub struct Happening {
+    /// The event.
     pub event: Event,
+    /// What becomes of its step.
     pub fate: Fate,
+    /// Whether an opening finds the state after the step in which the node stopped, or the one before.
     pub finds_after: bool,
 }
 

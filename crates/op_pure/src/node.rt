@@ -19,7 +19,9 @@ use std::alloc::Global;
 /// A node.
 #[derive(Drop)]
 pub struct PureNode {
+    /// Its id.
     pub pid: Pid,
+    /// Whether it is up or down, and what it has then.
     pub status: Status,
 }
 
@@ -33,9 +35,10 @@ pub enum Status {
     Down(Durable, Batch),
 }
 
-/// What was done at a node: how it is then, and what it gave.
+/// What was done at a node.
 #[derive(Drop)]
 pub struct NodeDone {
+    /// The node, as it is then.
     pub node: PureNode,
     /// Messages, each to a node.
     pub sends: Sends,

@@ -128,7 +128,9 @@ change = choice 5 change_tag change_body ChangeInRange change_options
 
 -- a batch of changes
 abbrev pub batch : Form (List Change)
-batch = fitted (λ changes. changes) (λ changes. changes) BatchInRange (listed w8 0 most_changes (λ _. change) (λ _. 0) 0)
+batch =
+    fitted (λ changes. changes) (λ changes. changes) BatchInRange
+    (listed w8 0 most_changes (λ _. change) (λ _. 0) 0)
 
 -- ---- a record
 

@@ -35,7 +35,8 @@ machine_proposing_in m c (Some p) None = machine_proposing m p.conf (entry.Comma
 abbrev pub machine_proposing_input : Machine → ℕ → State → Input → Machine
 machine_proposing_input m me s input.Tick = m
 machine_proposing_input m me s (input.Deliver q x) = m
-machine_proposing_input m me s (input.Command c) = machine_proposing_in m c s.durable.part (refusal_of me s.volatile.role s.durable.part)
+machine_proposing_input m me s (input.Command c) =
+    machine_proposing_in m c s.durable.part (refusal_of me s.volatile.role s.durable.part)
 machine_proposing_input m me s (input.Up q) = m
 machine_proposing_input m me s (input.Down q) = m
 
@@ -56,7 +57,8 @@ abbrev pub machine_proposing_at : Machine → Option Node → Doing → Machine
 machine_proposing_at m None d = m
 machine_proposing_at m (Some n) d = machine_proposing_if n.status m n.pid n.state d
 
--- a command that a node's part doesn't refuse is proposed in its configuration, whether or not the step then ends
+-- a command that a node's part doesn't refuse is proposed in its configuration,
+-- whether or not the step then ends
 abbrev pub machine_proposing_by : Machine → List Node → Option Deed → Machine
 machine_proposing_by m nodes None = m
 machine_proposing_by m nodes (Some x) = machine_proposing_at m (node_at nodes x.pid) x.doing
@@ -66,7 +68,9 @@ abbrev pub execution_with : Execution → Happening → Execution
 execution_with t h =
     record {
       world = world_after t.world h;
-      machine = machine_showing_all (machine_proposing_by t.machine t.world.nodes (deed_of t.world.messages h.event.what)) (world_after t.world h).nodes;
+      machine = machine_showing_all
+          (machine_proposing_by t.machine t.world.nodes (deed_of t.world.messages h.event.what))
+          (world_after t.world h).nodes;
     }
 
 -- the start of a run
@@ -78,12 +82,14 @@ abbrev pub execution_of : Execution → List Happening → Execution
 execution_of t [] = t
 execution_of t (h ∷ hs) = execution_of (execution_with t h) hs
 
--- the service at a part has applied all that is decided there and in the configurations before, and nothing else
+-- the service at a part has applied all that is decided there
+-- and in the configurations before, and nothing else
 abbrev pub ServesDecided : (ℕ → List Entry) → Option Part → Service → Type 0
 ServesDecided lists None s = Unit {0}
 ServesDecided lists (Some p) s = s ≡ service_of (prefix_of lists p.conf p.decided)
 
--- what a run's state keeps: the lists are safe, every node stands, and its service is that of all that it has decided
+-- what a run's state keeps: the lists are safe, every node stands,
+-- and its service is that of all that it has decided
 pub record IsSound (members : List ℕ) (t : Execution) : Type 0 where
   pub safe : IsSafe members t.machine
   pub stand : All (λ n. Stands members t.machine.lists n.state.durable) t.world.nodes
@@ -98,7 +104,8 @@ decided_at (Some n) conf = decided_in n.state.durable conf
 abbrev pub DecidedStays : List Node → List Node → Type 0
 DecidedStays old new = (pid conf : ℕ) → decided_at (node_at old pid) conf ≤ decided_at (node_at new pid) conf
 
--- a happening is finitely many steps of the list machine, which only add to it; nothing decided is lost, and all is sound after it
+-- a happening is finitely many steps of the list machine, which only add to it;
+-- nothing decided is lost, and all is sound after it
 pub record GoesOn (members : List ℕ) (t u : Execution) : Type 0 where
   pub leads : Leads t.machine u.machine
   pub grows : OnlyGrows t.machine u.machine
@@ -108,7 +115,8 @@ pub record GoesOn (members : List ℕ) (t u : Execution) : Type 0 where
 -- each happening goes on so
 abbrev pub MeetsFrom : List ℕ → Execution → List Happening → Type 0
 MeetsFrom members t [] = Unit {0}
-MeetsFrom members t (h ∷ hs) = GoesOn members t (execution_with t h) × MeetsFrom members (execution_with t h) hs
+MeetsFrom members t (h ∷ hs) =
+    GoesOn members t (execution_with t h) × MeetsFrom members (execution_with t h) hs
 
 -- a run of these members meets the list machine, from its start on
 abbrev pub Meets : List ℕ → List Happening → Type 0

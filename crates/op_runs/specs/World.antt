@@ -20,7 +20,8 @@ use Rattle.op_protocol.specs.State.{State, Planned, state_after}
 use Rattle.op_protocol.specs.Rows.{step_plan}
 use Rattle.op_protocol.specs.Starting.{first_volatile, state_after_restart, sends_after_restart}
 
--- how a node runs: when it is down, its next opening finds what it stored before the step in which it stopped, or this
+-- how a node runs: when it is down,
+-- its next opening finds what it stored before the step in which it stopped, or this
 pub data NodeStatus : Type 0 where
   Up : NodeStatus
   Down : (after : Durable) → NodeStatus
@@ -60,14 +61,32 @@ pub record Happening : Type 0 where
 abbrev pub first_durable : List ℕ → Durable
 first_durable members =
     record {
-      part = Some (record { conf = 1; members = members; promised = no_ballot; accepted = no_ballot; base = base_bytes new_service; trimmed = 0; tail = record { items = []; room = 0 }; decided = 0 });
+      part = Some (record {
+        conf = 1;
+        members = members;
+        promised = no_ballot;
+        accepted = no_ballot;
+        base = base_bytes new_service;
+        trimmed = 0;
+        tail = record { items = []; room = 0 };
+        decided = 0;
+      });
       closed = None;
     }
 
 -- a member at its start
 abbrev pub first_node : List ℕ → ℕ → Node
 first_node members pid =
-    record { pid = pid; state = record { durable = first_durable members; volatile = first_volatile pid; service = new_service; waiting = [] }; status = Up }
+    record {
+      pid = pid;
+      state = record {
+        durable = first_durable members;
+        volatile = first_volatile pid;
+        service = new_service;
+        waiting = [];
+      };
+      status = Up;
+    }
 
 -- all members at their start
 abbrev pub first_world : List ℕ → World
@@ -166,26 +185,33 @@ world_by_fate Done at w n p =
       messages = w.messages ++ sent_by n.pid p.sends;
       lines = w.lines ++ lines_of at n.pid p;
     }
-world_by_fate Stopped at w n p = world_with_node w (record n { status = Down (durable_after n.state.durable p.batch) })
+world_by_fate Stopped at w n p =
+    world_with_node w (record n { status = Down (durable_after n.state.durable p.batch) })
 
 -- what happens at a node that is up, where an opening does nothing
 abbrev pub world_if_up : Doing → Fate → ℕ → World → Node → World
 world_if_up (Steps x) f at w n = world_by_fate f at w n (step_plan n.pid n.state x)
 world_if_up Stops f at w n = world_with_node w (record n { status = Down n.state.durable })
 world_if_up Opens f at w n = w
-world_if_up (Tells t) f at w n = record w { lines = w.lines ++ told_lines t n.pid n.state n.state.durable.part }
+world_if_up (Tells t) f at w n =
+    record w { lines = w.lines ++ told_lines t n.pid n.state n.state.durable.part }
 
 -- the node opened again, unless it stops in its opening; waiting clients are lost
 abbrev pub world_opening : Fate → World → Node → Durable → World
 world_opening Done w n found =
-    record { nodes = with_node w.nodes (record n { state = state_after_restart n.pid found; status = Up }); messages = w.messages ++ sent_by n.pid (sends_after_restart n.pid found.part); lines = w.lines }
+    record {
+      nodes = with_node w.nodes (record n { state = state_after_restart n.pid found; status = Up });
+      messages = w.messages ++ sent_by n.pid (sends_after_restart n.pid found.part);
+      lines = w.lines;
+    }
 world_opening Stopped w n found = w
 
 -- what happens at a node that is down: only an opening has an effect
 abbrev pub world_if_down : Doing → Fate → Bool → Durable → World → Node → World
 world_if_down (Steps x) f finds_after after w n = w
 world_if_down Stops f finds_after after w n = w
-world_if_down Opens f finds_after after w n = world_opening f w n (if finds_after then after else n.state.durable)
+world_if_down Opens f finds_after after w n =
+    world_opening f w n (if finds_after then after else n.state.durable)
 world_if_down (Tells t) f finds_after after w n = w
 
 -- what happens at a node, by how it runs

@@ -1,4 +1,5 @@
--- The names that begin events' lines, and the ids that stand after one. Only what is inside the crate speaks of this.
+-- The names that begin events' lines, and the ids that stand after one.
+-- Only what is inside the crate speaks of this.
 use Rattle.std.specs.Prelude.{◌≡◌, ℕ, List, codes, map, decimal}
 use Rattle.op_types.specs.Ranges.{IsPid, MembersInRange}
 use Rattle.op_sched.specs.declared.reading.forms.Form.{Form}

@@ -1,4 +1,5 @@
--- The schedule grammar: a header line, and then a line for each event. Empty lines and comments may stand anywhere.
+-- The schedule grammar: a header line, and then a line for each event.
+-- Empty lines and comments may stand anywhere.
 use Rattle.std.specs.Prelude.{◌≡◌, ◌==◌, ◌⊎◌, ℕ, ◌+◌, Bool, true, if◌then◌else◌}
 use Rattle.std.specs.Prelude.{List, [], ◌∷◌, length, map, All, codes, decimal}
 use Rattle.std.specs.List.{slice_split}
@@ -172,7 +173,8 @@ IsFirstBadEvent [] n = ⊥
 IsFirstBadEvent (line ∷ lines) n =
     ((n ≡ line.0) × (IsAnEvent line.1 → ⊥)) ⊎ (IsAnEvent line.1 × IsFirstBadEvent lines n)
 
--- n is the number of the first that isn't in the grammar, and where there are no lines the number after the last
+-- n is the number of the first that isn't in the grammar,
+-- and where there are no lines the number after the last
 abbrev pub IsFirstBadOf : ℕ → List (ℕ × List ℕ) → ℕ → Type 0
 IsFirstBadOf end [] n = n ≡ end
 IsFirstBadOf end (header ∷ lines) n =

@@ -1,5 +1,5 @@
--- The words of an operation behind its client and number, as a schedule and a request have them. Only what is inside
--- the crates speaks of this.
+-- The words of an operation behind its client and number,
+-- as a schedule and a request have them. Only what is inside the crates speaks of this.
 use Rattle.std.specs.Prelude.{◌≡◌, ℕ, List, [], ◌∷◌}
 use Rattle.op_types.specs.Ranges.{IsKey, OpInRange}
 use Rattle.op_types.specs.declared.log.Op.{Op}

@@ -70,7 +70,8 @@ line_text (line.Dropped pid client seq cause) =
 line_text (line.Pair pid key value) =
     codes "pair " ++ decimal pid ++ codes " " ++ encoded key ++ codes " " ++ encoded value ++ codes "\n"
 line_text (line.Ballots pid own leader promised) =
-    codes "ballots " ++ decimal pid ++ codes " own " ++ ballot_text own ++ codes " leader " ++ ballot_text leader
+    codes "ballots " ++ decimal pid ++ codes " own " ++ ballot_text own
+    ++ codes " leader " ++ ballot_text leader
     ++ codes " promised " ++ ballot_text promised ++ codes "\n"
 
 -- ---- the lists
@@ -81,7 +82,8 @@ pid_text p = codes " " ++ decimal p
 
 -- a client, the number of its command, and a key, each after a space
 abbrev pub keyed_text : ℕ → ℕ → List ℕ → List ℕ
-keyed_text client seq key = codes " " ++ decimal client ++ codes " " ++ decimal seq ++ codes " " ++ encoded key
+keyed_text client seq key =
+    codes " " ++ decimal client ++ codes " " ++ decimal seq ++ codes " " ++ encoded key
 
 -- a client's operation
 abbrev pub op_text : ℕ → ℕ → Op → List ℕ

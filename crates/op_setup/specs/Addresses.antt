@@ -21,7 +21,8 @@ addr_text a = ipv4_text (to_be_bytes w32 a.host) ++ codes ":" ++ decimal a.port
 abbrev pub IsAddr : List ℕ → Addr → Type 0
 IsAddr text a = AddrInRange a × (text ≡ addr_text a)
 
--- the text is this address of std, whose port has no leading zeros. Only what is inside the crate speaks of this
+-- the text is this address of std, whose port has no leading zeros.
+-- Only what is inside the crate speaks of this
 abbrev pub IsSocketText : List ℕ → SocketAddrV4 → Type 0
 IsSocketText text s = IsSocketAddrV4 s × (text ≡ socket_v4_text s)
 

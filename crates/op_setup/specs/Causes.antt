@@ -22,8 +22,11 @@ Lacks table id cause.Text = ⊥
 Lacks table id cause.TickMs = (n : ℕ) → SetsTickMs table n → ⊥
 Lacks table id cause.Turns = (n : ℕ) → SetsTurns table n → ⊥
 Lacks table id cause.Members = (members : List ℕ) → SetsMembers table members → ⊥
-Lacks table id cause.Peers = (members : List ℕ) (peers : List Peer) → SetsMembers table members → SetsPeers table members peers → ⊥
-Lacks table id cause.Id = (members : List ℕ) (peers : List Peer) → SetsMembers table members → SetsPeers table members peers → IsAmong peers id → ⊥
+Lacks table id cause.Peers =
+    (members : List ℕ) (peers : List Peer) → SetsMembers table members → SetsPeers table members peers → ⊥
+Lacks table id cause.Id =
+    (members : List ℕ) (peers : List Peer) → SetsMembers table members → SetsPeers table members peers →
+    IsAmong peers id → ⊥
 
 -- of a table's causes, this is the first
 pub record IsFirstLack (table : Table) (id : Option ℕ) (c : ConfigCause) : Type 0 where

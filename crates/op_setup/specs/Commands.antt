@@ -41,7 +41,10 @@ program_app = let a = new_app (codes "omni") in record a { top = record a.top { 
 -- the program and its commands
 abbrev pub omni_app : App
 omni_app =
-    with_subcommand (with_subcommand (with_subcommand (with_subcommand program_app node_app.top) replay_app.top) call_app.top)
+    with_subcommand
+    (with_subcommand
+    (with_subcommand (with_subcommand program_app node_app.top) replay_app.top)
+    call_app.top)
     cluster_app.top
 
 -- clap found the command that the first word names

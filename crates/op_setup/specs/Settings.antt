@@ -62,7 +62,8 @@ pub record IsRow (key : List ℕ) (value : Data) (peer : Peer) : Type 0 where
 
 -- the peer has a row
 abbrev pub HasPeer : Table → Peer → Type 0
-HasPeer rows peer = (key : List ℕ) × (value : Data) × (get_member key rows ≡ Some value) × IsRow key value peer
+HasPeer rows peer =
+    (key : List ℕ) × (value : Data) × (get_member key rows ≡ Some value) × IsRow key value peer
 
 -- the row is that of some of these peers
 abbrev pub IsSomePeers : List Peer → List ℕ → Data → Type 0
@@ -76,7 +77,8 @@ pub record AreRows (rows : Table) (peers : List Peer) : Type 0 where
 
 -- the key `peers` has a table of these peers
 abbrev pub HasPeers : Table → List Peer → Type 0
-HasPeers table peers = (rows : Table) × (get_member (codes "peers") table ≡ Some (subtable rows)) × AreRows rows peers
+HasPeers table peers =
+    (rows : Table) × (get_member (codes "peers") table ≡ Some (subtable rows)) × AreRows rows peers
 
 -- the nodes of the cluster, every member among them
 pub record SetsPeers (table : Table) (members : List ℕ) (peers : List Peer) : Type 0 where

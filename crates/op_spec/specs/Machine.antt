@@ -66,8 +66,8 @@ first_machine members =
       opened = λ pid conf. conf == 1 && is_member nat_eq members pid;
     }
 
--- an entry is chosen only where it was proposed, and never after a stop-sign; what is known is a prefix that only grows;
--- a configuration is opened only by those that the stop-sign before it names
+-- an entry is chosen only where it was proposed, and never after a stop-sign; what is known is a prefix that
+-- only grows; a configuration is opened only by those that the stop-sign before it names
 abbrev pub IsAllowed : Machine → MachineStep → Type 0
 IsAllowed m (Propose conf e) = Unit {0}
 IsAllowed m (Choose conf e) = IsAmong (m.proposed conf) e × (stop_at_end (m.lists conf) ≡ None)

@@ -11,7 +11,8 @@ use Rattle.op_store.specs.declared.reading.Reading.TheVariants as reading
 -- no closed gate stands at this place, and no record that makes anything of what those before made
 pub record EndsAt (made : Option Durable) (bytes : List ℕ) (at : ℕ) : Type 0 where
   pub not_closed : IsClosed (drop at bytes) → ⊥
-  pub no_record : (body : List ℕ) (next : ℕ) (d : Durable) → IsRecordAt bytes at body next → Makes made body d → ⊥
+  pub no_record : (body : List ℕ) (next : ℕ) (d : Durable) → IsRecordAt bytes at body next →
+      Makes made body d → ⊥
 
 -- records after a header that make a durable state, up to a closed gate
 pub record IsRowFor (bytes : List ℕ) (end : ℕ) (d : Durable) : Type 0 where
@@ -27,9 +28,11 @@ pub record StopsAt (bytes : List ℕ) (at : ℕ) : Type 0 where
   pub make : AllMake None bodies made
   pub ends : EndsAt made bytes at
 
--- the bytes are damaged at this place: at 0 no right header stands after an open gate, and elsewhere the records stop after one
+-- the bytes are damaged at this place: at 0 no right header stands
+-- after an open gate, and elsewhere the records stop after one
 abbrev pub IsDamagedFrom : List ℕ → ℕ → Type 0
-IsDamagedFrom bytes at = ((at ≡ 0) × HasNoHeader bytes) ⊎ ((generation : ℕ) × HasHeader generation bytes × StopsAt bytes at)
+IsDamagedFrom bytes at =
+    ((at ≡ 0) × HasNoHeader bytes) ⊎ ((generation : ℕ) × HasHeader generation bytes × StopsAt bytes at)
 
 -- an area of this generation, with its closed gate at this place, whose records make this durable state
 pub record IsAreaFor (generation end : ℕ) (d : Durable) (bytes : List ℕ) : Type 0 where

@@ -17,7 +17,8 @@ pub record StandsFor (d : Durable) (bytes : List ℕ) : Type 0 where
 abbrev pub IsStored : Durable → List ℕ → List ℕ → Type 0
 IsStored d first second = StandsFor d first
 
--- a disk that holds an area that makes this durable state, whose closed gate is the last byte, and a crash leaves nothing else
+-- a disk that holds an area that makes this durable state,
+-- whose closed gate is the last byte, and a crash leaves nothing else
 pub record Settles (d : Durable) (generation end : ℕ) (disk : DiskState) : Type 0 where
   pub bodies : List (List ℕ)
   pub settled : IsSettled generation bodies end disk
@@ -39,14 +40,17 @@ pub record Disks : Type 1 where
 abbrev pub Obey : Disks → Type 0
 Obey disks = disks.first.obeys × disks.second.obeys
 
--- Of two disks a crash at any moment since the old ones leaves what it might have left of them then, or what has P; and so does one
--- now. The images of an earlier crash are not spoken of: such an image of one disk never meets one of now of the other.
+-- Of two disks a crash at any moment since the old ones leaves what it might have left of them then,
+-- or what has P; and so does one now. The images of an earlier crash are not spoken of:
+-- such an image of one disk never meets one of now of the other.
 pub record LeavesPairs (P : List ℕ → List ℕ → Type 0) (old new : Disks) : Type 0 where
   pub first_later : Before old.first.moment new.first.moment
   pub second_later : Before old.second.moment new.second.moment
-  pub each : (x y : List ℕ) → new.first.left_since old.first.moment x → new.second.left_since old.second.moment y
+  pub each : (x y : List ℕ) → new.first.left_since old.first.moment x
+      → new.second.left_since old.second.moment y
       → (MayLeave old.first x × MayLeave old.second y) ⊎ P x y
-  pub now : (x y : List ℕ) → MayLeave new.first x → MayLeave new.second y → (MayLeave old.first x × MayLeave old.second y) ⊎ P x y
+  pub now : (x y : List ℕ) → MayLeave new.first x → MayLeave new.second y
+      → (MayLeave old.first x × MayLeave old.second y) ⊎ P x y
 
 -- what calls keep of both: whether they obey the model, and their marks
 pub record KeepBoth (old new : Disks) : Type 0 where

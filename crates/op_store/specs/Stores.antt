@@ -21,19 +21,23 @@ module _ {D : Type 0} (state : D → DiskState) where
   abbrev pub disks_of : Store D → Disks
   disks_of s = record { first = state s.first; second = state s.second }
 
-  -- each image of its disks stands for this durable state, and so does what a read gives; both disks obey the model
+  -- each image of its disks stands for this durable state,
+  -- and so does what a read gives; both disks obey the model
   pub record Represents (d : Durable) (s : Store D) : Type 0 where
     pub settles : Settles d s.generation s.end (state s.first)
     pub obeys : (state s.second).obeys
 
-  -- What a commit of this batch does to a store that represents this durable state: where it answers Ok it represents the one after it.
-  -- A crash at any moment of the call leaves the one before or the one after, and so does a read after a fault.
-  pub record Commits {T E : Type 0} (d : Durable) (batch : List Change) (old new : Store D) (result : Result T E) : Type 0 where
+  -- What a commit of this batch does to a store that represents this durable state:
+  -- where it answers Ok it represents the one after it. A crash at any moment
+  -- of the call leaves the one before or the one after, and so does a read after a fault.
+  pub record Commits {T E : Type 0} (d : Durable) (batch : List Change) (old new : Store D)
+      (result : Result T E) : Type 0 where
     pub stored : OnOk result (Represents (durable_after d batch) new)
     pub left : OnErr result (IsBeforeOrAfter d batch (state new.first).content (state new.second).content)
     pub crash : LeavesPairs (IsBeforeOrAfter d batch) (disks_of old) (disks_of new)
 
-  -- A store goes on after a call that answers Ok. Else a disk failed in it, its count is told, and the store has failed.
+  -- A store goes on after a call that answers Ok.
+  -- Else a disk failed in it, its count is told, and the store has failed.
   pub record GoesOnOrFails {T : Type 0} (old new : Store D) (result : Result T DiskFault) : Type 0 where
     pub ready : OnOk result ((new.is_failed ≡ false) × (new.end < disk_end))
     pub failed : OnErr result (new.is_failed ≡ true)

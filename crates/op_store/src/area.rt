@@ -21,13 +21,16 @@ use std::alloc::Global;
 /// The generation of the first area.
 const FIRST_GENERATION: u64 = 1;
 
-/// An area that is open: its generation, the byte offset of its closed gate, the durable state that it stands for, and
-/// whether it was begun just now.
+/// An area that is open.
 #[derive(Drop)]
 pub struct OpenArea {
+    /// Its generation, from 1.
     pub generation: u64,
+    /// The byte offset of its closed gate.
     pub end: u64,
+    /// The durable state that it stands for.
     pub durable: Durable,
+    /// Whether it was begun just now.
     pub is_new: bool,
 }
 

@@ -19,14 +19,18 @@ use std::alloc::Global;
 /// What an area's bytes hold.
 #[derive(Drop)]
 pub enum Reading {
-    /// An area of this generation, the durable state that its records make, and the byte offset of its closed gate.
+    /// An area.
     Area {
+        /// Its generation, 1 to 2^62 - 1.
         generation: u64,
+        /// The durable state that its records make.
         durable: Durable,
+        /// The byte offset of its closed gate.
         end: u64,
     },
-    /// No area: a byte at most or, where it is closed, more bytes after a closed gate.
+    /// No area: a byte at most, or more bytes after a closed gate.
     New {
+        /// Whether there are more bytes, after a closed gate.
         closed: bool,
     },
 }

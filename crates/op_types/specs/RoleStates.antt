@@ -56,7 +56,9 @@ acknowledged_of (a ∷ acks) q = if a.from == q then a.len else acknowledged_of 
 
 -- the acknowledged lengths with this one, where it is greater than its sender's before
 abbrev pub acknowledged_with : List Acknowledged → Acknowledged → List Acknowledged
-acknowledged_with acks a = if nat_lt (acknowledged_of acks a.from) a.len then filter (λ b. not (b.from == a.from)) acks ++ a ∷ [] else acks
+acknowledged_with acks a =
+    if nat_lt (acknowledged_of acks a.from) a.len then filter (λ b. not (b.from == a.from)) acks ++ a ∷ []
+    else acks
 
 -- a length is acknowledged
 abbrev pub with_acknowledged : Leading → Acknowledged → Leading

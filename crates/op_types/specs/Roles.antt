@@ -21,7 +21,14 @@ preparing_of r = record { ballot = r.ballot; promises = r.promises.items; buffer
 
 -- what is led, without room
 abbrev pub leading_of : leading.Leading → state.Leading
-leading_of l = record { ballot = l.ballot; adopted_round = l.adopted_round; adopted_len = l.adopted_len; synced = l.synced.items; acknowledged = l.acknowledged.items }
+leading_of l =
+    record {
+      ballot = l.ballot;
+      adopted_round = l.adopted_round;
+      adopted_len = l.adopted_len;
+      synced = l.synced.items;
+      acknowledged = l.acknowledged.items;
+    }
 
 -- a role, without room
 abbrev pub role_of : role.Role → Role

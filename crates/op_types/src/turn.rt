@@ -9,7 +9,9 @@ use crate::{Acknowledged, Ballot, Buffered, ElectionState, Heard, Pid, Promised,
 /// What a step changes of what a node keeps in memory of its part: of its role, its heartbeat round or its election.
 #[derive(Drop)]
 pub enum Turn {
+    /// Nothing changes.
     Stay,
+    /// The node takes this role, and gives up its own.
     Become(Role),
     /// A node that prepares keeps a promise.
     Keep(Promised),

@@ -33,10 +33,12 @@ pub record Parts : Type 0 where
 
 -- ---- the world that is shown
 
--- the node is in this state, and runs so; of one that is down the bytes stand for the durable state, and the rest is lost
+-- the node is in this state, and runs so; of one that is down
+-- the bytes stand for the durable state, and the rest is lost
 abbrev pub IsShown : NodeState → State → NodeStatus → Type 0
 IsShown (node.Up n) s status = (s ≡ (node_of n).state) × (status ≡ Up)
-IsShown (node.Down first second) s status = IsStored s.durable (seen_of first) (seen_of second) × (status ≡ Down s.durable)
+IsShown (node.Down first second) s status =
+    IsStored s.durable (seen_of first) (seen_of second) × (status ≡ Down s.durable)
 
 -- the node is this one
 pub record ShowsNode (n : WorldNode) (x : Node) : Type 0 where
@@ -88,19 +90,27 @@ place_of (n ∷ nodes) pid = if n.pid == pid then 0 else 1 + place_of nodes pid
 
 -- where a server stands that runs so and has stored this
 abbrev pub line_of : ℕ → Running → Durable → NodeLine
-line_of pid running d = record { pid = pid; at = stands_at d.part d.closed; joining = None; running = running }
+line_of pid running d =
+    record { pid = pid; at = stands_at d.part d.closed; joining = None; running = running }
 
 -- ---- what is done at a node
 
--- what a world becomes by what is done at one of its nodes: this node takes its place, and these messages and lines come
-pub record NodeDone (x : Node) (d : Doing) (line : ℕ) (y : Node) (sends : List (ℕ × Msg)) (told : List Line) : Type 0 where
+-- what a world becomes by what is done at one of its nodes:
+-- this node takes its place, and these messages and lines come
+pub record NodeDone (x : Node) (d : Doing) (line : ℕ) (y : Node) (sends : List (ℕ × Msg))
+    (told : List Line) : Type 0 where
   pub pid : y.pid ≡ x.pid
   pub world : (w : World) (e : Event) → e.line ≡ line → node_at w.nodes x.pid ≡ Some x
       → world_by_status x.status d (done_event e) w x
-      ≡ record { nodes = with_node w.nodes y; messages = w.messages ++ sent_by x.pid sends; lines = w.lines ++ told }
+      ≡ record {
+        nodes = with_node w.nodes y;
+        messages = w.messages ++ sent_by x.pid sends;
+        lines = w.lines ++ told;
+      }
 
 -- what is done at a node: it shows the node after it, with these messages and lines
-pub record IsDoneAt (pid : ℕ) (old : NodeState) (d : Doing) (line : ℕ) (new : NodeState) (sends : List (ℕ × Msg)) (told : List Line) : Type 0 where
+pub record IsDoneAt (pid : ℕ) (old : NodeState) (d : Doing) (line : ℕ) (new : NodeState)
+    (sends : List (ℕ × Msg)) (told : List Line) : Type 0 where
   pub after : (x : Node) → x.pid ≡ pid → IsShown old x.state x.status
       → (y : Node) × IsShown new y.state y.status × NodeDone x d line y sends told
   pub kept : IsKept pid new

@@ -17,19 +17,25 @@ pub enum Told {
     Ballots,
 }
 
-/// What is done at a node: a step of it, a stop between two steps, an opening, or something is told.
+/// What is done at a node.
 #[derive(Drop)]
 pub enum Doing {
+    /// It takes a step with this input.
     Steps(Input),
+    /// It stops between two steps.
     Stops,
+    /// It is opened, if it is down.
     Opens,
+    /// It tells this.
     Tells(Told),
 }
 
 /// What is done, and at which node.
 #[derive(Drop)]
 pub struct Deed {
+    /// The node's id.
     pub pid: Pid,
+    /// What is done there.
     pub doing: Doing,
 }
 

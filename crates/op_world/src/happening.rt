@@ -14,9 +14,10 @@ use op_node::{Given, Node};
 use op_types::{Input, Lines, Members, NoMemory, Pid, Sends};
 use std::alloc::Global;
 
-/// What was done at a node: how it is then, and what it gave.
+/// What was done at a node.
 #[derive(Drop)]
 pub struct NodeDone {
+    /// How the node is then.
     pub state: NodeState,
     /// Messages, each to a node.
     pub sends: Sends,

@@ -19,7 +19,9 @@ use std::alloc::Global;
 /// A node of a world.
 #[derive(Drop)]
 pub struct WorldNode {
+    /// Its id.
     pub pid: Pid,
+    /// Whether it is up or down, with its disks.
     pub state: NodeState,
 }
 

@@ -8,8 +8,11 @@ use std::marker::Model;
 /// A message, from one node to another.
 #[derive(Drop)]
 pub struct Sent {
+    /// The sender.
     pub from: Pid,
+    /// The addressee.
     pub to: Pid,
+    /// What was sent.
     pub message: Msg,
 }
 
