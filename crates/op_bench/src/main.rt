@@ -22,24 +22,24 @@ const SECOND_FILE: &str = "op_bench.second";
 const FAILED: u8 = 1;
 
 fn main(rt: HostRuntime) -> ExitCode {
-    let alloc = rt.alloc();
-    let Ok(mut words) = env::args(&rt) else {
-        return ExitCode::from(FAILED);
-    };
-    words.next();
-    let (Some(what), Some(count), Some(size)) = (words.next(), words.next(), words.next()) else {
-        return ExitCode::from(FAILED);
-    };
-    let (Ok(count), Ok(size)) = (count.parse::<u64>(), size.parse::<u64>()) else {
-        return ExitCode::from(FAILED);
-    };
-    let Some(done) = done(&rt, what.as_str(), count, size) else {
-        return ExitCode::from(FAILED);
-    };
-    match println!(rt; "{what} {done}") {
-        Ok(()) => ExitCode::SUCCESS,
-        Err(_) => ExitCode::from(FAILED),
+    match done_by_words(&rt) {
+        Some(()) => ExitCode::SUCCESS,
+        None => ExitCode::from(FAILED),
     }
+}
+
+/// Does what the words say, and prints how much was done.
+fn done_by_words(rt: &HostRuntime) -> Option<()> {
+    let mut words = env::args(rt).ok()?;
+    words.next();
+    let (what, count, size) = (words.next()?, words.next()?, words.next()?);
+    let done = done(rt, what.as_str(), size_of(&count)?, size_of(&size)?)?;
+    println!(rt; "{what} {done}").ok()
+}
+
+/// The size that a word says.
+fn size_of(word: &str) -> Option<u64> {
+    word.parse::<u64>().ok()
 }
 
 /// Does what is named, at this size.

@@ -31,19 +31,21 @@ pub fn served(alloc: Global, commands: u64, keys: u64) -> Option<u64> {
 fn puts(alloc: Global, first: u64, keys: u64) -> Option<Entries> {
     let mut puts = Entries::new(alloc);
     for at in 0..PLANNED {
-        let number = first.wrapping_add(at);
-        let op = Op::Put(
-            key(alloc, number, keys)?,
-            Blob::from_slice(alloc, b"value").ok()?,
-        );
-        let command = Command {
-            client: 7,
-            seq: number.wrapping_add(1),
-            op,
-        };
-        puts.push(Entry::Command(command)).ok()?;
+        let put = put(alloc, first.wrapping_add(at), keys)?;
+        puts.push(put).ok()?;
     }
     Some(puts)
+}
+
+/// A put by its number.
+fn put(alloc: Global, number: u64, keys: u64) -> Option<Entry> {
+    let key = key(alloc, number, keys)?;
+    let value = Blob::from_slice(alloc, b"value").ok()?;
+    Some(Entry::Command(Command {
+        client: 7,
+        seq: number.wrapping_add(1),
+        op: Op::Put(key, value),
+    }))
 }
 
 /// The same keys and values put into a map alone: how many were.

@@ -1,6 +1,7 @@
 //! Puts to the node of a sole member, which is served over a net in memory.
 ghost use Rattle.std.specs.Prelude.{IfSome};
 ghost use Rattle.op_types.specs.Ranges.{MembersInRange};
+ghost use Rattle.op_loop.specs.NodeCores.{IsServable};
 ghost use Rattle.op_loop.specs.Serving.{PeersInRange};
 
 use crate::frames::taken;
@@ -45,16 +46,31 @@ pub fn answered<D: Disk>(
     puts: u64,
     in_read: u64,
 ) -> Option<u64> {
+    let mut node = opened(alloc, first, second)?;
+    answered_by(alloc, &mut node, puts, in_read)
+}
+
+/// The node of the only member.
+fn opened<D: Disk>(alloc: Global, first: D, second: D) -> Option<Node<D>>
+    ensures { IfSome result IsServable }
+{
     opened_nodes_can_be_served::<D>();
     let members = sole(alloc)?;
-    let Ok((mut node, _)) = Node::open(alloc, ID, &members, first, second) else {
-        return None;
-    };
+    match Node::open(alloc, ID, &members, first, second) {
+        Ok((node, _)) => Some(node),
+        Err(_) => None,
+    }
+}
+
+/// How many answers this node writes to so many puts.
+fn answered_by<D: Disk>(alloc: Global, node: &mut Node<D>, puts: u64, in_read: u64) -> Option<u64>
+    requires { IsServable node.old }
+{
     let reads = puts.checked_div(in_read)?;
     let settings = settings(alloc, reads.saturating_add(TURNS_BEFORE))?;
     let mut net = ScriptNet::new(alloc, script(alloc, reads, in_read)?);
     let mut clock = FakeClock::new(alloc, VecDeque::new(alloc), 1);
-    serve(alloc, &mut node, &mut net, &mut clock, &settings).ok()?;
+    serve(alloc, node, &mut net, &mut clock, &settings).ok()?;
     answers(alloc, &net)
 }
 
@@ -85,18 +101,27 @@ fn sole(alloc: Global) -> Option<Members>
 /// A client comes, and each turn reads some puts.
 fn script(alloc: Global, reads: u64, in_read: u64) -> Option<NetScript> {
     let mut script = NetScript::new(alloc);
-    for _ in 1..TURNS_BEFORE {
-        script.waits.push_back(Vec::new(alloc)).ok()?;
-    }
-    let comes = Vec::from_slice(alloc, &[Happening::Accepted(CONN)]).ok()?;
-    script.waits.push_back(comes).ok()?;
+    add_client(alloc, &mut script)?;
     for read in 0..reads {
-        let happens = Vec::from_slice(alloc, &[Happening::Readable(CONN)]).ok()?;
-        script.waits.push_back(happens).ok()?;
+        add_wait(alloc, &mut script, &[Happening::Readable(CONN)])?;
         let bytes = frames(alloc, read.saturating_mul(in_read), in_read, read == 0)?;
         script.reads.push_back(Incoming::Bytes(bytes)).ok()?;
     }
     Some(script)
+}
+
+/// Adds the waits before the client comes, and that in which it does.
+fn add_client(alloc: Global, script: &mut NetScript) -> Option<()> {
+    for _ in 1..TURNS_BEFORE {
+        add_wait(alloc, script, &[])?;
+    }
+    add_wait(alloc, script, &[Happening::Accepted(CONN)])
+}
+
+/// Adds a wait in which this happens.
+fn add_wait(alloc: Global, script: &mut NetScript, happenings: &[Happening]) -> Option<()> {
+    let wait = Vec::from_slice(alloc, happenings).ok()?;
+    script.waits.push_back(wait).ok()
 }
 
 /// The frames of some puts, behind the client's hello where they are the first.
@@ -107,24 +132,32 @@ fn frames(alloc: Global, first: u64, count: u64, is_first: bool) -> Option<Vec<u
     }
     for at in 0..count {
         let body = put(alloc, first.saturating_add(at))?;
-        bytes
-            .extend_from_slice(&u32::try_from(body.len()).ok()?.to_be_bytes())
-            .ok()?;
-        bytes.extend_from_slice(body.as_slice()).ok()?;
+        add_frame(&mut bytes, body.as_slice())?;
     }
     Some(bytes)
 }
 
+/// Adds the frame of this body.
+fn add_frame(bytes: &mut Vec<u8>, body: &[u8]) -> Option<()> {
+    let length = u32::try_from(body.len()).ok()?;
+    bytes.extend_from_slice(&length.to_be_bytes()).ok()?;
+    bytes.extend_from_slice(body).ok()
+}
+
 /// A put by its number, as a request: the tags of a command and of a put, each before its fields.
 fn put(alloc: Global, number: u64) -> Option<Vec<u8>> {
-    let mut body = Vec::from_slice(alloc, &[1]).ok()?;
-    body.extend_from_slice(&CLIENT.to_be_bytes()).ok()?;
-    body.extend_from_slice(&number.saturating_add(1).to_be_bytes())
-        .ok()?;
-    body.extend_from_slice(&[1, 8]).ok()?;
     let key = number.checked_rem(KEYS)?;
-    body.extend_from_slice(&key.to_be_bytes()).ok()?;
-    body.extend_from_slice(b"\x00\x05value").ok()?;
+    let mut body = Vec::new(alloc);
+    for part in [
+        [1].as_slice(),
+        CLIENT.to_be_bytes().as_slice(),
+        number.saturating_add(1).to_be_bytes().as_slice(),
+        [1, 8].as_slice(),
+        key.to_be_bytes().as_slice(),
+        b"\x00\x05value".as_slice(),
+    ] {
+        body.extend_from_slice(part).ok()?;
+    }
     Some(body)
 }
 

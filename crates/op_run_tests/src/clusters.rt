@@ -1,6 +1,6 @@
 //! Schedules of three servers, and what is reported of them.
 
-use crate::replays::{Row, check_row};
+use crate::replays::{Row, first_wrong};
 use op_top::Status;
 use std::test::Fail;
 
@@ -104,8 +104,6 @@ const ROWS: [Row; 13] = [
 /// With ample memory a row's answers are its own.
 #[test]
 fn three_servers_answer_as_they_are_told(rt: HostRuntime) -> Result<(), Fail> {
-    for row in ROWS.iter() {
-        check_row(&rt, row)?;
-    }
+    assert_eq!(rt; first_wrong(rt.alloc(), &ROWS)?, None);
     Ok(())
 }

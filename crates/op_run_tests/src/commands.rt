@@ -1,12 +1,11 @@
 //! The commands `node`, `call` and `cluster` over what is in memory.
 
-use crate::runs::{Things, ended, sink, source, words_of};
-use op_memory::{Incoming, NetScript};
+use crate::runs::{Sinks, Things, ended, source, words_of};
+use op_memory::{Incoming, MemSource, NetScript};
 use op_outside::Happening;
 use op_setup::ConfigCause;
 use op_top::Status;
 use std::alloc::{AllocError, Global};
-use std::process::Abort;
 use std::test::Fail;
 
 const SOLE: &str = "tick_ms = 10\nturns = 3\nmembers = [1]\n[peers]\n1 = '127.0.0.1:7101'\n";
@@ -124,42 +123,85 @@ const ROWS: [Row; 10] = [
     ),
 ];
 
-fn check_row(rt: &(impl Abort + Alloc<A = Global>), row: &Row) -> Result<(), Fail> {
-    let alloc = rt.alloc();
-    let words = words_of(alloc, row.0)?;
+/// How these words end over these things and streams.
+fn ended_as(
+    alloc: Global,
+    words: &[&str],
+    things: Things,
+    mut input: MemSource,
+    sinks: &mut Sinks,
+) -> Result<Status, AllocError> {
+    let words = words_of(alloc, words)?;
+    Ok(ended(alloc, words.as_slice(), things, &mut input, sinks))
+}
+
+/// A first disk with these bytes, and a net on which these calls fail.
+fn failing(alloc: Global, bytes: &[u8], fails: &[u64]) -> Result<Things, AllocError> {
     let mut script = NetScript::new(alloc);
-    script.fails = Vec::from_slice(alloc, row.3)?;
-    let things = Things::new(alloc, Vec::from_slice(alloc, row.2)?, script)?;
-    let mut input = source(alloc, row.1, 9, &[])?;
-    let mut out = sink(alloc, 5, &[])?;
-    let mut err = sink(alloc, 5, &[])?;
-    let status = ended(alloc, &words, things, &mut input, &mut out, &mut err);
-    assert!(rt; status == row.4);
-    assert_eq!(rt; out.bytes.as_slice(), row.5.as_bytes());
-    assert_eq!(rt; err.bytes.as_slice(), row.6.as_bytes());
-    Ok(())
+    script.fails = Vec::from_slice(alloc, fails)?;
+    Things::new(alloc, Vec::from_slice(alloc, bytes)?, script)
+}
+
+/// Whether the row's command ends with its status, and writes its output and its error text.
+fn goes(alloc: Global, row: &Row) -> Result<bool, AllocError> {
+    let things = failing(alloc, row.2, row.3)?;
+    let input = source(alloc, row.1, 9, &[])?;
+    let mut sinks = Sinks::new(alloc, 5, 5)?;
+    let status = ended_as(alloc, row.0, things, input, &mut sinks)?;
+    Ok(status == row.4 && sinks.hold(row.5.as_bytes(), row.6.as_bytes()))
+}
+
+/// The first row that goes otherwise.
+fn first_wrong(alloc: Global, rows: &[Row]) -> Result<Option<usize>, AllocError> {
+    for (place, row) in rows.iter().enumerate() {
+        if !goes(alloc, row)? {
+            return Ok(Some(place));
+        }
+    }
+    Ok(None)
 }
 
 #[test]
 fn commands_end_as_they_are_told(rt: HostRuntime) -> Result<(), Fail> {
-    for row in ROWS.iter() {
-        check_row(&rt, row)?;
-    }
+    assert_eq!(rt; first_wrong(rt.alloc(), &ROWS)?, None);
     Ok(())
+}
+
+/// Adds a wait in which this happens.
+fn add_wait(alloc: Global, script: &mut NetScript, happening: Happening) -> Result<(), AllocError> {
+    let wait = Vec::from_slice(alloc, &[happening])?;
+    script.waits.push_back(wait)?;
+    Ok(())
+}
+
+/// Adds a wait in which connection 5 can be read, and what is read then.
+fn add_read(alloc: Global, script: &mut NetScript, bytes: &[u8]) -> Result<(), AllocError> {
+    add_wait(alloc, script, Happening::Readable(5))?;
+    let bytes = Vec::from_slice(alloc, bytes)?;
+    script.reads.push_back(Incoming::Bytes(bytes))?;
+    Ok(())
+}
+
+/// Whether these words over this net end with an end, write this and tell nothing.
+fn ends(
+    alloc: Global,
+    words: &[&str],
+    script: NetScript,
+    settings: &str,
+    written: &[u8],
+) -> Result<bool, AllocError> {
+    let things = Things::new(alloc, Vec::new(alloc), script)?;
+    let input = source(alloc, settings, 100, &[])?;
+    let mut sinks = Sinks::new(alloc, 100, 100)?;
+    let status = ended_as(alloc, words, things, input, &mut sinks)?;
+    Ok(status == Status::Ended && sinks.hold(written, b""))
 }
 
 /// A net on which connection 5 comes, and then sends these bytes.
 fn one_visitor(alloc: Global, bytes: &[u8]) -> Result<NetScript, AllocError> {
     let mut script = NetScript::new(alloc);
-    script
-        .waits
-        .push_back(Vec::from_slice(alloc, &[Happening::Accepted(5)])?)?;
-    script
-        .waits
-        .push_back(Vec::from_slice(alloc, &[Happening::Readable(5)])?)?;
-    script
-        .reads
-        .push_back(Incoming::Bytes(Vec::from_slice(alloc, bytes)?))?;
+    add_wait(alloc, &mut script, Happening::Accepted(5))?;
+    add_read(alloc, &mut script, bytes)?;
     Ok(script)
 }
 
@@ -167,42 +209,25 @@ fn one_visitor(alloc: Global, bytes: &[u8]) -> Result<NetScript, AllocError> {
 #[test]
 fn a_node_ends_when_it_is_asked_to(rt: HostRuntime) -> Result<(), Fail> {
     let alloc = rt.alloc();
-    let words = words_of(alloc, &["node", "1"])?;
-    let things = Things::new(
-        alloc,
-        Vec::new(alloc),
-        one_visitor(alloc, b"C\0\0\0\x01\x05")?,
-    )?;
-    let mut input = source(alloc, SOLE, 100, &[])?;
-    let mut out = sink(alloc, 100, &[])?;
-    let mut err = sink(alloc, 100, &[])?;
-    let status = ended(alloc, &words, things, &mut input, &mut out, &mut err);
-    assert!(rt; status == Status::Ended);
-    assert_eq!(rt; out.bytes.as_slice(), b"ready 1\n".as_slice());
-    assert_eq!(rt; err.bytes.len(), 0);
+    let script = one_visitor(alloc, b"C\0\0\0\x01\x05")?;
+    assert!(rt; ends(alloc, &["node", "1"], script, SOLE, b"ready 1\n")?);
     Ok(())
+}
+
+/// A net on which a dial opens connection 5, and these bytes come on it.
+fn one_reply(alloc: Global, bytes: &[u8]) -> Result<NetScript, AllocError> {
+    let mut script = NetScript::new(alloc);
+    script.dials.push_back(Some(5))?;
+    add_read(alloc, &mut script, bytes)?;
+    Ok(script)
 }
 
 /// The reply of a node is written as a line.
 #[test]
 fn a_reply_is_a_line(rt: HostRuntime) -> Result<(), Fail> {
     let alloc = rt.alloc();
-    let words = words_of(alloc, &["call", "127.0.0.1:7101", "end"])?;
-    let reply = b"\0\0\0\x11\0\0\0\0\0\0\0\0\0\0\0\0\0\0\0\0\x0D";
-    let mut script = NetScript::new(alloc);
-    script.dials.push_back(Some(5))?;
-    script
-        .waits
-        .push_back(Vec::from_slice(alloc, &[Happening::Readable(5)])?)?;
-    script
-        .reads
-        .push_back(Incoming::Bytes(Vec::from_slice(alloc, reply)?))?;
-    let things = Things::new(alloc, Vec::new(alloc), script)?;
-    let mut input = source(alloc, "", 100, &[])?;
-    let mut out = sink(alloc, 100, &[])?;
-    let mut err = sink(alloc, 100, &[])?;
-    let status = ended(alloc, &words, things, &mut input, &mut out, &mut err);
-    assert!(rt; status == Status::Ended);
-    assert_eq!(rt; out.bytes.as_slice(), b"ended\n".as_slice());
+    let script = one_reply(alloc, b"\0\0\0\x11\0\0\0\0\0\0\0\0\0\0\0\0\0\0\0\0\x0D")?;
+    let words: &[&str] = &["call", "127.0.0.1:7101", "end"];
+    assert!(rt; ends(alloc, words, script, "", b"ended\n")?);
     Ok(())
 }

@@ -64,36 +64,49 @@ fn stops_in_a_put(alloc: Global, finds_after: bool) -> Result<Happenings, NoMemo
     Ok(happenings)
 }
 
+/// Where the put that is sent last is appended, if the run ends and tells that line and its reply.
+fn appended_at(alloc: Global, finds_after: bool) -> Result<Option<u64>, NoMemory> {
+    let happenings = stops_in_a_put(alloc, finds_after)?;
+    let Ok(world) = PureWorld::run(alloc, sole(alloc)?, happenings) else {
+        return Ok(None);
+    };
+    Ok(match world.lines() {
+        [
+            Line::Answer(6, Outcome::Appended(1, at)),
+            Line::Reply(1, 7, 1, _),
+        ] => Some(*at),
+        _ => None,
+    })
+}
+
 #[test]
 fn a_stopped_step_is_found_undone_or_done(rt: HostRuntime) -> Result<(), Fail> {
-    let alloc = rt.alloc();
-    for (finds_after, position) in [(false, 0), (true, 1)] {
-        let happenings = stops_in_a_put(alloc, finds_after)?;
-        match PureWorld::run(alloc, sole(alloc)?, happenings) {
-            Ok(world) => match world.lines() {
-                [
-                    Line::Answer(6, Outcome::Appended(1, at)),
-                    Line::Reply(1, 7, 1, _),
-                ] => {
-                    assert_eq!(rt; *at, position);
-                }
-                _ => assert!(rt; false, "other lines"),
-            },
-            Err(_) => assert!(rt; false, "no world"),
-        }
-    }
+    assert_eq!(rt; appended_at(rt.alloc(), false)?, Some(0));
+    assert_eq!(rt; appended_at(rt.alloc(), true)?, Some(1));
     Ok(())
+}
+
+/// A tick of server 1, and then one of server 2.
+fn two_ticks(alloc: Global) -> Result<Happenings, NoMemory>
+    ensures { IfOk result (λ happenings. All (λ h. WhatInRange h.event.what) happenings) }
+{
+    let mut happenings = Happenings::new(alloc);
+    add(&mut happenings, 2, What::Tick(1), Fate::Done, false)?;
+    add(&mut happenings, 3, What::Tick(2), Fate::Done, false)?;
+    Ok(happenings)
+}
+
+/// Why a run of the sole member doesn't end.
+fn refusal(alloc: Global, happenings: Happenings) -> Result<Option<RunFail>, NoMemory>
+    requires { All (λ h. WhatInRange h.event.what) happenings }
+{
+    Ok(PureWorld::run(alloc, sole(alloc)?, happenings).err())
 }
 
 #[test]
 fn a_server_that_is_no_member_is_refused(rt: HostRuntime) -> Result<(), Fail> {
     let alloc = rt.alloc();
-    let mut happenings = Happenings::new(alloc);
-    add(&mut happenings, 2, What::Tick(1), Fate::Done, false)?;
-    add(&mut happenings, 3, What::Tick(2), Fate::Done, false)?;
-    match PureWorld::run(alloc, sole(alloc)?, happenings) {
-        Ok(_) => assert!(rt; false, "a world"),
-        Err(fail) => assert!(rt; fail == RunFail::BadEvent { index: 1 }),
-    }
+    let fail = refusal(alloc, two_ticks(alloc)?)?;
+    assert!(rt; fail == Some(RunFail::BadEvent { index: 1 }));
     Ok(())
 }

@@ -1,9 +1,9 @@
 use crate::letters::Letters;
-use crate::runs::{ended_over, sink, source, words_of};
+use crate::runs::{Sinks, ended_over, sink, source};
+use op_outside::Source;
 use op_sched::bytes_of;
 use op_top::Status;
 use std::alloc::{AllocError, Global};
-use std::process::Abort;
 use std::test::Fail;
 
 const ONE_PUT: &str = "members 1\ntick 1\nput 1 7 1 a x\n";
@@ -156,133 +156,149 @@ const WORDS: [(&str, Option<&str>); 14] = [
     ("é", None),
 ];
 
-fn replay_word(alloc: Global) -> Result<Vec<String>, AllocError> {
-    words_of(alloc, &["replay"])
+/// How a replay of this input ends.
+fn replayed<S: Source>(
+    alloc: Global,
+    input: &mut S,
+    sinks: &mut Sinks,
+) -> Result<Status, AllocError> {
+    ended_over(alloc, &["replay"], input, sinks)
 }
 
-/// A replay of the row's input ends with its status, and writes its output and its error text.
-pub fn check_row(rt: &(impl Abort + Alloc<A = Global>), row: &Row) -> Result<(), Fail> {
-    let alloc = rt.alloc();
-    let words = replay_word(alloc)?;
+/// Whether a replay of the row's input ends with its status, and writes its output and its error text.
+fn goes(alloc: Global, row: &Row) -> Result<bool, AllocError> {
     let mut input = source(alloc, row.0, 7, &[])?;
-    let mut out = sink(alloc, 11, &[])?;
-    let mut err = sink(alloc, 3, &[])?;
-    let status = ended_over(alloc, &words, &mut input, &mut out, &mut err)?;
-    assert!(rt; status == row.1);
-    assert_eq!(rt; out.bytes.as_slice(), row.2.as_bytes());
-    assert_eq!(rt; err.bytes.as_slice(), row.3.as_bytes());
-    Ok(())
+    let mut sinks = Sinks::new(alloc, 11, 3)?;
+    let status = replayed(alloc, &mut input, &mut sinks)?;
+    Ok(status == row.1 && sinks.hold(row.2.as_bytes(), row.3.as_bytes()))
+}
+
+/// The first row that goes otherwise.
+pub fn first_wrong(alloc: Global, rows: &[Row]) -> Result<Option<usize>, AllocError> {
+    for (place, row) in rows.iter().enumerate() {
+        if !goes(alloc, row)? {
+            return Ok(Some(place));
+        }
+    }
+    Ok(None)
 }
 
 /// With ample memory a row's answers are its own: so a body that always answers want of memory fails here.
 #[test]
 fn rows_end_as_they_are_told(rt: HostRuntime) -> Result<(), Fail> {
-    for row in ROWS.iter() {
-        check_row(&rt, row)?;
-    }
+    assert_eq!(rt; first_wrong(rt.alloc(), &ROWS)?, None);
     Ok(())
 }
 
-fn check_word(
-    rt: &(impl Abort + Alloc<A = Global>),
-    row: &(&str, Option<&str>),
-) -> Result<(), Fail> {
-    match (bytes_of(rt.alloc(), row.0)?, row.1) {
-        (Some(bytes), Some(text)) => assert_eq!(rt; bytes.as_slice(), text.as_bytes()),
-        (bytes, text) => assert!(rt; bytes.is_none() && text.is_none()),
+/// Whether the word encodes this.
+fn encodes(alloc: Global, word: &str, told: Option<&str>) -> Result<bool, AllocError> {
+    Ok(match (bytes_of(alloc, word)?, told) {
+        (Some(bytes), Some(text)) => bytes.as_slice() == text.as_bytes(),
+        (bytes, text) => bytes.is_none() && text.is_none(),
+    })
+}
+
+/// The first of the words that encodes something else.
+fn first_wrong_word(alloc: Global) -> Result<Option<usize>, AllocError> {
+    for (place, (word, told)) in WORDS.iter().enumerate() {
+        if !encodes(alloc, word, *told)? {
+            return Ok(Some(place));
+        }
     }
-    Ok(())
+    Ok(None)
 }
 
 /// With ample memory a word's answer is its own.
 #[test]
 fn words_encode_what_they_are_told_to(rt: HostRuntime) -> Result<(), Fail> {
-    for row in WORDS.iter() {
-        check_word(&rt, row)?;
-    }
+    assert_eq!(rt; first_wrong_word(rt.alloc())?, None);
     Ok(())
+}
+
+/// Whether no word, and then a word that is no command, are refused over the same streams.
+fn are_refused(alloc: Global) -> Result<bool, AllocError> {
+    let mut input = source(alloc, ONE_PUT, 7, &[])?;
+    let mut sinks = Sinks::new(alloc, 100, 100)?;
+    let none = ended_over(alloc, &[], &mut input, &mut sinks)?;
+    let other = ended_over(alloc, &["--help"], &mut input, &mut sinks)?;
+    let are_usage = none == Status::Usage && other == Status::Usage;
+    Ok(are_usage && sinks.hold(b"", b"usage\nusage\n"))
 }
 
 #[test]
 fn other_words_are_refused(rt: HostRuntime) -> Result<(), Fail> {
-    let alloc = rt.alloc();
-    let mut words = Vec::new(alloc);
-    let mut input = source(alloc, ONE_PUT, 7, &[])?;
-    let mut out = sink(alloc, 100, &[])?;
-    let mut err = sink(alloc, 100, &[])?;
-    let status = ended_over(alloc, &words, &mut input, &mut out, &mut err)?;
-    assert!(rt; status == Status::Usage);
-    words.push(String::from_str(alloc, "--help")?)?;
-    let status = ended_over(alloc, &words, &mut input, &mut out, &mut err)?;
-    assert!(rt; status == Status::Usage);
-    assert_eq!(rt; out.bytes.len(), 0);
-    assert_eq!(rt; err.bytes.as_slice(), b"usage\nusage\n".as_slice());
+    assert!(rt; are_refused(rt.alloc())?);
     Ok(())
+}
+
+/// Whether a replay whose read of this number fails, from 1, is a read fault.
+fn is_read_fault(alloc: Global, fail_at: u64) -> Result<bool, AllocError> {
+    let mut input = source(alloc, ONE_PUT, 8, &[fail_at])?;
+    let mut sinks = Sinks::new(alloc, 100, 100)?;
+    let status = replayed(alloc, &mut input, &mut sinks)?;
+    Ok(status == Status::ReadFault && sinks.hold(b"", b"read fault\n"))
 }
 
 #[test]
 fn a_source_that_fails_in_mid_stream_is_a_read_fault(rt: HostRuntime) -> Result<(), Fail> {
-    let alloc = rt.alloc();
-    let words = replay_word(alloc)?;
-    for fail_at in 1..6 {
-        let mut input = source(alloc, ONE_PUT, 8, &[fail_at])?;
-        let mut out = sink(alloc, 100, &[])?;
-        let mut err = sink(alloc, 100, &[])?;
-        let status = ended_over(alloc, &words, &mut input, &mut out, &mut err)?;
-        assert!(rt; status == Status::ReadFault);
-        assert_eq!(rt; out.bytes.len(), 0);
-        assert_eq!(rt; err.bytes.as_slice(), b"read fault\n".as_slice());
+    for fail_at in 1..6u64 {
+        assert!(rt; is_read_fault(rt.alloc(), fail_at)?, "at {fail_at}");
     }
     Ok(())
+}
+
+/// Whether a replay whose write of this number fails, from 1, is a write fault, which keeps this.
+fn is_write_fault(alloc: Global, fail_at: u64, kept: &[u8]) -> Result<bool, AllocError> {
+    let mut input = source(alloc, ONE_PUT, 100, &[])?;
+    let mut sinks = Sinks {
+        out: sink(alloc, 20, &[fail_at])?,
+        err: sink(alloc, 100, &[])?,
+    };
+    let status = replayed(alloc, &mut input, &mut sinks)?;
+    Ok(status == Status::WriteFault && sinks.hold(kept, b"write fault\n"))
 }
 
 #[test]
 fn a_sink_that_fails_in_mid_stream_keeps_a_prefix(rt: HostRuntime) -> Result<(), Fail> {
-    let alloc = rt.alloc();
-    let words = replay_word(alloc)?;
     let report = ONE_PUT_REPORT.as_bytes();
     assert_eq!(rt; report.len(), 116);
-    for fail_at in 1..7 {
-        let mut input = source(alloc, ONE_PUT, 100, &[])?;
-        let mut out = sink(alloc, 20, &[fail_at])?;
-        let mut err = sink(alloc, 100, &[])?;
-        let status = ended_over(alloc, &words, &mut input, &mut out, &mut err)?;
-        assert!(rt; status == Status::WriteFault);
-        let whole = (fail_at as usize - 1) * 20;
-        assert_eq!(rt; out.bytes.as_slice(), &report[..whole]);
-        assert_eq!(rt; err.bytes.as_slice(), b"write fault\n".as_slice());
+    for fail_at in 1..7u64 {
+        let kept = &report[..(fail_at as usize - 1) * 20];
+        assert!(rt; is_write_fault(rt.alloc(), fail_at, kept)?, "at {fail_at}");
     }
     Ok(())
 }
 
+/// Whether a write of the line that fails in mid-stream changes no status.
+fn is_usage_all_the_same(alloc: Global) -> Result<bool, AllocError> {
+    let mut input = source(alloc, "", 1, &[])?;
+    let mut sinks = Sinks {
+        out: sink(alloc, 1, &[])?,
+        err: sink(alloc, 2, &[2])?,
+    };
+    let status = ended_over(alloc, &[], &mut input, &mut sinks)?;
+    Ok(status == Status::Usage && sinks.hold(b"", b"us"))
+}
+
 #[test]
 fn a_failed_write_of_the_line_changes_no_status(rt: HostRuntime) -> Result<(), Fail> {
-    let alloc = rt.alloc();
-    let words = Vec::new(alloc);
-    let mut input = source(alloc, "", 1, &[])?;
-    let mut out = sink(alloc, 1, &[])?;
-    let mut err = sink(alloc, 2, &[2])?;
-    let status = ended_over(alloc, &words, &mut input, &mut out, &mut err)?;
-    assert!(rt; status == Status::Usage);
-    assert_eq!(rt; err.bytes.as_slice(), b"us".as_slice());
+    assert!(rt; is_usage_all_the_same(rt.alloc())?);
     Ok(())
+}
+
+/// How a replay of so many letters ends.
+fn letters_replayed(alloc: Global, left: usize, sinks: &mut Sinks) -> Result<Status, AllocError> {
+    replayed(alloc, &mut Letters { left }, sinks)
 }
 
 #[test]
 fn one_byte_more_than_the_limit_is_refused(rt: HostRuntime) -> Result<(), Fail> {
     let alloc = rt.alloc();
-    let words = replay_word(alloc)?;
-    let mut out = sink(alloc, 100, &[])?;
-    let mut err = sink(alloc, 100, &[])?;
-    let mut input = Letters { left: 67_108_864 };
-    let status = ended_over(alloc, &words, &mut input, &mut out, &mut err)?;
-    assert!(rt; status == Status::BadSchedule { line: 1 });
-    let mut input = Letters { left: 67_108_865 };
-    let status = ended_over(alloc, &words, &mut input, &mut out, &mut err)?;
-    assert!(rt; status == Status::InputLimit);
-    assert_eq!(rt;
-        err.bytes.as_slice(),
-        b"bad schedule line 1\ninput too long\n".as_slice()
-    );
+    let mut sinks = Sinks::new(alloc, 100, 100)?;
+    let at_limit = letters_replayed(alloc, 67_108_864, &mut sinks)?;
+    assert!(rt; at_limit == Status::BadSchedule { line: 1 });
+    let past_limit = letters_replayed(alloc, 67_108_865, &mut sinks)?;
+    assert!(rt; past_limit == Status::InputLimit);
+    assert!(rt; sinks.hold(b"", b"bad schedule line 1\ninput too long\n"));
     Ok(())
 }

@@ -59,14 +59,38 @@ pub fn sink(alloc: Global, most: usize, fails: &[u64]) -> Result<MemSink, AllocE
     Ok(MemSink::new(Vec::new(alloc), most, Vec::from_slice(alloc, fails)?))
 }
 
+/// What a run writes to, and what it tells on.
+#[derive(Drop)]
+pub struct Sinks {
+    pub out: MemSink,
+    pub err: MemSink,
+}
+
+impl Sinks {
+    /// Empty sinks, which take at most so many bytes a write.
+    pub fn new(alloc: Global, out_most: usize, err_most: usize) -> Result<Sinks, AllocError>
+        requires out { 0 < out_most }
+        requires err { 0 < err_most }
+    {
+        Ok(Sinks {
+            out: sink(alloc, out_most, &[])?,
+            err: sink(alloc, err_most, &[])?,
+        })
+    }
+
+    /// Whether this was written and told.
+    pub fn hold(&self, out: &[u8], err: &[u8]) -> bool {
+        self.out.bytes.as_slice() == out && self.err.bytes.as_slice() == err
+    }
+}
+
 /// How these words end over these things and streams.
 pub fn ended<S: Source>(
     alloc: Global,
     words: &[String],
     things: Things,
     input: &mut S,
-    out: &mut MemSink,
-    err: &mut MemSink,
+    sinks: &mut Sinks,
 ) -> Status {
     let Things {
         first,
@@ -83,8 +107,8 @@ pub fn ended<S: Source>(
         &mut net,
         &mut clock,
         input,
-        out,
-        err,
+        &mut sinks.out,
+        &mut sinks.err,
         &mut children,
     )
     .status
@@ -93,11 +117,11 @@ pub fn ended<S: Source>(
 /// How these words end where nothing but the streams is asked.
 pub fn ended_over<S: Source>(
     alloc: Global,
-    words: &[String],
+    words: &[&str],
     input: &mut S,
-    out: &mut MemSink,
-    err: &mut MemSink,
+    sinks: &mut Sinks,
 ) -> Result<Status, AllocError> {
+    let words = words_of(alloc, words)?;
     let things = Things::new(alloc, Vec::new(alloc), NetScript::new(alloc))?;
-    Ok(ended(alloc, words, things, input, out, err))
+    Ok(ended(alloc, words.as_slice(), things, input, sinks))
 }
