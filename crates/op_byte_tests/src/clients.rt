@@ -2,8 +2,8 @@ ghost use Rattle.std.specs.Prelude.{IfOk};
 ghost use Rattle.op_command.specs.Ranges.{RequestInRange};
 
 use crate::puts::one_put;
+use crate::taking::is_bad;
 use op_command::{Request, Said, put_reply, put_request, take_reply, take_request};
-use op_fields::TakeFail;
 use op_types::{Answer, Ballot, Cause, Entry, NoMemory, Outcome, Refusal};
 use std::alloc::Global;
 use std::test::Fail;
@@ -241,14 +241,6 @@ const NO_REPLIES: [(&[u8], usize); 8] = [
     ),
     (&[0, 0, 0, 0, 0, 0, 0, 0, 0, 0, 0, 0, 0, 0, 0, 0, 13, 0], 17),
 ];
-
-/// Whether reading fails at this place.
-fn is_bad<T: Drop>(taken: Result<T, TakeFail>, at: usize) -> bool {
-    match taken {
-        Ok(_) => false,
-        Err(e) => e == TakeFail::Bad { at },
-    }
-}
 
 /// The place of the first of these bytes that is named otherwise.
 fn first_misnamed_request(alloc: Global) -> Option<usize> {

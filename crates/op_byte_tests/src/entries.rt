@@ -1,6 +1,6 @@
 use crate::puts::{is_one_put, one_put};
+use crate::taking::is_bad;
 use op_entry::{put, take};
-use op_fields::TakeFail;
 use op_types::{Entry, Op};
 use std::alloc::Global;
 use std::test::Fail;
@@ -131,10 +131,7 @@ const BAD: [(&[u8], usize); 6] = [
 #[test]
 fn the_first_bad_field_is_named(rt: HostRuntime) -> Result<(), Fail> {
     for (bytes, place) in BAD {
-        match take(rt.alloc(), bytes) {
-            Ok(_) => assert!(rt; false, "{place}"),
-            Err(e) => assert!(rt; e == TakeFail::Bad { at: place }, "{place}"),
-        }
+        assert!(rt; is_bad(take(rt.alloc(), bytes), place), "{place}");
     }
     Ok(())
 }

@@ -15,3 +15,5 @@ mod puts;
 mod records;
 #[cfg(test)]
 mod service;
+#[cfg(test)]
+mod taking;

@@ -2,7 +2,7 @@ ghost use Rattle.std.specs.Prelude.{IfOk};
 ghost use Rattle.op_msg.specs.Ranges.{MsgInRange};
 
 use crate::puts::{is_one_put, one_put};
-use op_fields::TakeFail;
+use crate::taking::is_bad;
 use op_frame::{Frames, NextFail};
 use op_msg::{put, take};
 use op_types::{Ballot, Body, Msg, NoMemory, Seq};
@@ -144,7 +144,7 @@ fn first_misnamed(alloc: Global) -> Option<usize> {
     for (at, byte, place) in CHANGED {
         let mut bytes = PROMISE;
         bytes[at] = byte;
-        if !is_bad(alloc, &bytes, place) {
+        if !is_bad(take(alloc, &bytes), place) {
             return Some(at);
         }
     }
@@ -155,20 +155,13 @@ fn first_misnamed(alloc: Global) -> Option<usize> {
 fn end_is_named(alloc: Global) -> Result<bool, NoMemory> {
     let mut longer = Vec::from_slice(alloc, PROMISE.as_slice())?;
     longer.push(0)?;
-    Ok(is_bad(alloc, longer.as_slice(), 92))
+    Ok(is_bad(take(alloc, longer.as_slice()), 92))
 }
 
 #[test]
 fn the_first_bad_field_is_named(rt: HostRuntime) -> Result<(), Fail> {
     assert_eq!(rt; first_misnamed(rt.alloc()), None);
-    assert!(rt; is_bad(rt.alloc(), &PREPARE_REQ[8..20], 9));
+    assert!(rt; is_bad(take(rt.alloc(), &PREPARE_REQ[8..20]), 9));
     assert!(rt; end_is_named(rt.alloc())?);
     Ok(())
-}
-
-fn is_bad(alloc: Global, bytes: &[u8], at: usize) -> bool {
-    match take(alloc, bytes) {
-        Ok(_) => false,
-        Err(e) => e == TakeFail::Bad { at },
-    }
 }

@@ -2,7 +2,7 @@ ghost use Rattle.std.specs.Prelude.{IfOk};
 ghost use Rattle.op_record.specs.Ranges.{RecInRange};
 
 use crate::puts::{is_one_put, one_put};
-use op_fields::TakeFail;
+use crate::taking::is_bad;
 use op_record::{Rec, put, take};
 use op_types::{Ballot, Blob, Change, Durable, NoMemory, Part, Reserved, Seq};
 use std::alloc::Global;
@@ -112,22 +112,15 @@ fn a_batch_is_read_back(rt: HostRuntime) -> Result<(), Fail> {
 
 #[test]
 fn the_first_bad_field_is_named(rt: HostRuntime) -> Result<(), Fail> {
-    assert!(rt; is_bad(rt.alloc(), &[3], 0));
+    assert!(rt; is_bad(take(rt.alloc(), &[3]), 0));
     let mut longer = Vec::from_slice(rt.alloc(), FIRST.as_slice())?;
     longer.push(0)?;
-    assert!(rt; is_bad(rt.alloc(), longer.as_slice(), 85));
+    assert!(rt; is_bad(take(rt.alloc(), longer.as_slice()), 85));
     let mut other_base = Vec::from_slice(rt.alloc(), FIRST.as_slice())?;
     other_base[58] = 1;
-    assert!(rt; is_bad(rt.alloc(), other_base.as_slice(), 35));
+    assert!(rt; is_bad(take(rt.alloc(), other_base.as_slice()), 35));
     let mut decides_too_much = Vec::from_slice(rt.alloc(), FIRST.as_slice())?;
     decides_too_much[82] = 1;
-    assert!(rt; is_bad(rt.alloc(), decides_too_much.as_slice(), 75));
+    assert!(rt; is_bad(take(rt.alloc(), decides_too_much.as_slice()), 75));
     Ok(())
-}
-
-fn is_bad(alloc: Global, bytes: &[u8], at: usize) -> bool {
-    match take(alloc, bytes) {
-        Ok(_) => false,
-        Err(e) => e == TakeFail::Bad { at },
-    }
 }

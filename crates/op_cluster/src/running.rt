@@ -40,7 +40,8 @@ pub fn cluster<K: Sink, P: Spawner>(
     // A fault is answered where that object has failed in this call, and nowhere else.
     ensures child_cause { RisesWith (IsErrOf result ChildFault)
         (P.fault_count children.old) (P.fault_count children.new) }
-    ensures write_cause { RisesWith (IsErrOf result WriteFault) (K.fault_count out.old) (K.fault_count out.new) }
+    ensures write_cause { RisesWith (IsErrOf result WriteFault)
+        (K.fault_count out.old) (K.fault_count out.new) }
 {
     start_all(ids, input, children)?;
     end_all(ids, out, children)
@@ -74,7 +75,8 @@ fn end_all<K: Sink, P: Spawner>(
         (tells (P.told children.old) (K.held out.old)) (tells (P.told children.new) (K.held out.new)) }
     ensures child_cause { RisesWith (IsErrOf result ChildFault)
         (P.fault_count children.old) (P.fault_count children.new) }
-    ensures write_cause { RisesWith (IsErrOf result WriteFault) (K.fault_count out.old) (K.fault_count out.new) }
+    ensures write_cause { RisesWith (IsErrOf result WriteFault)
+        (K.fault_count out.old) (K.fault_count out.new) }
 {
     for id in ids {
         let status = children.end(*id)?;
