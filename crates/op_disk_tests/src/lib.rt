@@ -17,3 +17,5 @@ mod store_stops;
 mod stored;
 #[cfg(test)]
 mod stores;
+#[cfg(test)]
+mod two_areas;

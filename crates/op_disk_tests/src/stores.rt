@@ -11,11 +11,19 @@ use std::alloc::{AllocError, Global};
 use std::process::Abort;
 use std::test::Fail;
 
-/// A first disk with these bytes, and a second one whose every call fails.
+/// A first disk with these bytes, and an empty second one.
 pub fn disks(alloc: Global, parts: &[&[u8]]) -> Result<(MemDisk, MemDisk), AllocError> {
-    let first = MemDisk::new(alloc, laid(alloc, parts)?)?;
-    let mut second = MemDisk::new(alloc, Vec::new(alloc))?;
-    second.stop_at(1);
+    both(alloc, parts, &[])
+}
+
+/// Two disks with these bytes.
+pub fn both(
+    alloc: Global,
+    first: &[&[u8]],
+    second: &[&[u8]],
+) -> Result<(MemDisk, MemDisk), AllocError> {
+    let first = MemDisk::new(alloc, laid(alloc, first)?)?;
+    let second = MemDisk::new(alloc, laid(alloc, second)?)?;
     Ok((first, second))
 }
 
@@ -61,8 +69,9 @@ pub fn check_bytes(
 fn a_new_area_is_its_112_bytes(rt: HostRuntime) -> Result<(), Fail> {
     let (store, is_new) = open(&rt, disks(rt.alloc(), &[])?, &[])?;
     assert!(rt; is_new);
-    let (first, _) = store.into_disks();
-    check_bytes(&rt, &first, &[&WHOLE, &[0]])
+    let (first, second) = store.into_disks();
+    check_bytes(&rt, &first, &[&WHOLE, &[0]])?;
+    check_bytes(&rt, &second, &[])
 }
 
 #[test]

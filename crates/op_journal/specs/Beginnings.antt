@@ -1,5 +1,5 @@
 -- How an area is begun.
-use Rattle.std.specs.Prelude.{◌≡◌, ◌≢◌, ◌⊎◌, ℕ, Bool, List, [], ◌∷◌, ◌++◌, Result, IfOk, OnOk}
+use Rattle.std.specs.Prelude.{◌≡◌, ◌≢◌, ◌⊎◌, ◌≤◌, ℕ, Bool, true, false, List, [], ◌∷◌, ◌++◌, length, slice_index, Result, IfOk, OnOk}
 use Rattle.std.specs.Prelude.{codes}
 use Rattle.std.specs.Int.{w64}
 use Rattle.op_fields.specs.Form.{encoded}
@@ -14,6 +14,16 @@ first_generation = 1
 -- no area is there
 abbrev pub HasNone : List ℕ → Type 0
 HasNone bytes = (closed : Bool) × IsNew bytes closed
+
+-- What a format can begin on: a closed gate before more bytes, as is told,
+-- or else a byte at most, or an open gate.
+abbrev pub IsFormattable : List ℕ → Bool → Type 0
+IsFormattable bytes false = (length bytes ≤ 1) ⊎ (slice_index bytes 0 ≡ open_gate)
+IsFormattable bytes true = IsNew bytes true
+
+-- the bytes from before a format, or no area
+abbrev pub IsOldOrNone : List ℕ → List ℕ → Type 0
+IsOldOrNone old image = (image ≡ old) ⊎ HasNone image
 
 -- this text after a closed gate
 pub record IsAfterClosed (text bytes : List ℕ) : Type 0 where
@@ -42,11 +52,12 @@ pub record OpensGate {T E : Type 0} (P : List ℕ → Type 0) (text : List ℕ) 
   pub rests : old.obeys → OnOk result (IsAtRest new)
   pub crash : IsAtRest old → LeavesOnly (λ image. P image ⊎ (image ≡ open_gate ∷ text)) old new
 
--- What a format does to a disk that holds no area: where it answers Ok the disk holds the area of this record
--- and nothing more, and each image then is that. A crash at any moment leaves no area, or the whole one.
+-- What a format does to a disk: where it answers Ok the disk holds the area of this record and nothing
+-- more, and each image then is that. A crash at any moment leaves the bytes from before, no area, or the
+-- whole new one.
 pub record Formats {E : Type 0} (generation : ℕ) (body : List ℕ) (old new : DiskState)
     (result : Result ℕ E) : Type 0 where
   pub written : old.obeys → IfOk result (λ _. new.content ≡ new_area generation body)
   pub begun : IsAtRest old → IfOk result (λ end. IsSettled generation (body ∷ []) end new)
   pub crash : IsAtRest old →
-      LeavesOnly (λ image. HasNone image ⊎ HoldsRecords generation (body ∷ []) image) old new
+      LeavesOnly (λ image. IsOldOrNone old.content image ⊎ HoldsRecords generation (body ∷ []) image) old new

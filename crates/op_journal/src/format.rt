@@ -2,9 +2,8 @@
 ghost use Rattle.std.specs.Prelude.{◌≡◌, ◌<◌, ◌≤◌, ◌+◌, ℕ, length, true, IfOk, OnOk};
 ghost use Rattle.op_outside.specs.Disks.{disk_end, Called, Costs};
 ghost use Rattle.op_journal.specs.Areas.{IsGeneration, IsNextGate, header_len};
-ghost use Rattle.op_journal.specs.Readings.{IsNew};
 ghost use Rattle.op_journal.specs.Rows.{IsClosed};
-ghost use Rattle.op_journal.specs.Beginnings.{HasNone, OpensGate, Formats};
+ghost use Rattle.op_journal.specs.Beginnings.{IsFormattable, IsOldOrNone, OpensGate, Formats};
 ghost use Rattle.op_journal.specs.Calls.{format_calls};
 ghost use Rattle.op_journal.specs.Failing.{TellsFault};
 
@@ -16,9 +15,9 @@ use crate::synced::write_synced;
 use op_outside::Disk;
 
 impl Journal {
-    /// Begins an area of one record on a disk that has none, and gives the byte offset of the closed gate after the record.
-    /// The gate is closed first, unless a closed one stands before more bytes, as `is_closed` says: without it, older bytes
-    /// could be taken for an area. It fails where a call of the disk does, with its count of faults.
+    /// Begins an area of one record on a disk, in place of what it held, and gives the byte offset of the closed gate after
+    /// the record. The gate is closed first, unless a closed one stands before more bytes, as `is_closed` says: without it,
+    /// older bytes could be taken for an area. It fails where a call of the disk does, with its count of faults.
     pub fn format<D: Disk>(
         disk: &mut D,
         is_closed: bool,
@@ -26,7 +25,7 @@ impl Journal {
         framed: Framed,
     ) -> Result<u64, DiskFault>
         requires known { IsGeneration generation }
-        ensures formats { IsNew (D.state disk.old).content is_closed →
+        ensures formats { IsFormattable (D.state disk.old).content is_closed →
             Formats generation framed (D.state disk.old) (D.state disk.new) result }
         ensures calls { Costs (format_calls is_closed) (D.state disk.old) (D.state disk.new) result }
         ensures end { IfOk result (IsNextGate header_len framed) }
@@ -39,10 +38,11 @@ impl Journal {
     }
 }
 
-/// Closes the gate of a disk with a byte at most, writes all that is to stand after it, and opens it.
+/// Closes the gate of a disk, unless it is closed, writes all that is to stand after it, and opens it.
 fn begin_area<D: Disk>(disk: &mut D, is_closed: bool, bytes: &[u8]) -> Result<(), DiskFault>
-    ensures opens_gate { IsNew (D.state disk.old).content is_closed →
-        OpensGate HasNone bytes.now (D.state disk.old) (D.state disk.new) result }
+    ensures opens_gate { IsFormattable (D.state disk.old).content is_closed →
+        OpensGate (IsOldOrNone (D.state disk.old).content) bytes.now
+        (D.state disk.old) (D.state disk.new) result }
     ensures calls { Costs (format_calls is_closed) (D.state disk.old) (D.state disk.new) result }
     ensures room { OnOk result (1 + length bytes.now ≤ disk_end) }
     ensures told { TellsFault (D.state disk.old) (D.state disk.new) result }

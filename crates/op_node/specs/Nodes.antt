@@ -5,7 +5,7 @@ use Rattle.op_types.specs.declared.answers.Refusal.TheVariants.{StorageFailed}
 use Rattle.op_types.specs.declared.changes.Change.{Change}
 use Rattle.op_types.specs.declared.events.Input.{Input}
 use Rattle.op_types.specs.declared.events.Input.TheVariants as input
-use Rattle.op_record.specs.Ranges.{BatchInRange}
+use Rattle.op_record.specs.Ranges.{BatchInRange, DurableInRange}
 use Rattle.op_protocol.specs.State.{State, Planned, state_after}
 use Rattle.op_protocol.specs.Rows.{step_plan}
 use Rattle.op_outside.specs.Disks.{DiskState}
@@ -67,9 +67,11 @@ Stepped n x (Ok given) m = (given ≡ gives n x) × (m ≡ after_input n x)
 Stepped n x (Err (fails.DiskFail count)) m = m ≡ record n { failed = Some count }
 Stepped n x (Err fails.NoMemory) m = m ≡ n
 
--- what a node keeps in memory is of what it has stored; unless it has failed, a record can be added
+-- what a node keeps in memory is of what it has stored, and that is in range; unless it has failed, a
+-- record can be added
 pub record IsSoundNode {D : Type 0} (n : Node D) : Type 0 where
   pub chain : IsSoundChain n.chain
+  pub range : DurableInRange (state_of n.chain).durable
   pub store : n.failed ≡ None → IsReady n.store
 
 -- the node can do this step: what the step stores is in range

@@ -1,7 +1,10 @@
 pub mod RecordsMakeStates
 pub mod UniqueState
-pub mod CommitCrashes
-pub mod BeginningCalls
-pub mod OpeningOutcomes
-pub mod RefusalCauses
+pub mod UniquePairs
 pub mod MadeInRange
+pub mod PairRuns
+pub mod AreaDisks
+pub mod CommitCrashes
+pub mod CheckpointCrashes
+pub mod OpeningCalls
+pub mod OpeningOutcomes

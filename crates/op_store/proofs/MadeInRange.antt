@@ -1,10 +1,10 @@
 -- What records make is in range, whatever the bytes are that they come from.
-use Rattle.std.proofs.Common.{◌≡◌, ◌≤◌, ◌+◌, ◌-◌, ℕ, List, [], ◌∷◌, ◌++◌, length, take, Option, Some, None, sym, subst, arith, length-append, All}
+use Rattle.std.proofs.Common.{◌≡◌, ◌+◌, ◌-◌, ℕ, List, [], ◌∷◌, ◌++◌, length, take, Option, Some, None, sym, subst, arith, length-append, All}
 use Rattle.std.specs.Prelude.{IfSome}
 use Rattle.std.proofs.lemmas.List.Elements.{All-head, All-tail, All-append, All-take}
 use Rattle.std.proofs.lemmas.List.{length-take-le}
 use Rattle.op_types.specs.Ranges.{EntryInRange}
-use Rattle.op_types.specs.Changes.{len_of, part_with, durable_with, durable_after, PartApplies, ChangeApplies, Applies}
+use Rattle.op_types.specs.Changes.{part_with, durable_with, durable_after, PartApplies, ChangeApplies, Applies}
 use Rattle.op_types.specs.declared.durable.Part.{Part}
 use Rattle.op_types.specs.declared.durable.Closed.{Closed}
 use Rattle.op_types.specs.declared.durable.Durable.{Durable}
@@ -36,7 +36,7 @@ change_after : (o : Option Part) (k : Option Closed) (c : Change) → DurableInR
 change_after None k c r range applies = absurd applies
 change_after (Some p) k c r range applies = record { part = part_after p c r.part range applies; closed = r.closed }
 
-batch_after : (d : Durable) (batch : List Change) → DurableInRange d → All ChangeInRange batch → Applies d batch → DurableInRange (durable_after d batch)
+pub batch_after : (d : Durable) (batch : List Change) → DurableInRange d → All ChangeInRange batch → Applies d batch → DurableInRange (durable_after d batch)
 batch_after d [] r range applies = r
 batch_after d (c ∷ batch) r range applies =
     batch_after (durable_with d c) batch (change_after d.part d.closed c r (All-head ChangeInRange c batch range) applies.0) (All-tail ChangeInRange c batch range) applies.1
@@ -51,5 +51,5 @@ made_in_range (Some old) [] d was all = let same : d ≡ old = cc in subst Durab
 made_in_range old (bytes ∷ bodies) d was all = made_in_range (Some all.0) bodies d (makes_in_range old bytes all.0 was all.1) all.2
 
 -- what was read of an area, and is opened
-pub found_in_range : (generation end : ℕ) (d : Durable) (bytes : List ℕ) → IsAreaFor generation end d bytes → DurableInRange d
-found_in_range generation end d bytes found = made_in_range None found.bodies d tt found.make
+pub found_in_range : (generation end base : ℕ) (d : Durable) (bytes : List ℕ) → IsAreaFor generation end base d bytes → DurableInRange d
+found_in_range generation end base d bytes found = made_in_range None found.bodies d tt found.make

@@ -1,31 +1,56 @@
--- What an opening finds, tells and leaves, from what was read.
-use Rattle.std.proofs.Common.{◌≡◌, ◌⊎◌, inl, inr, ⊎_elim, ℕ, ◌+◌, ◌-◌, ◌≤◌, ◌<◌, Bool, true, false, List, [], ◌∷◌, length, drop, length-drop, Result, Ok, Err, refl, sym, ◌∙◌, ap, subst, arith, rules}
-use Rattle.std.specs.Prelude.{IsErr, IfErr, IfOk}
+-- What an opening finds, tells and leaves, from what was read of both disks.
+use Rattle.std.proofs.Common.{◌≡◌, ◌⊎◌, inl, inr, ⊎_elim, ℕ, ◌+◌, ◌≤◌, ◌<◌, Bool, true, false, List, [], ◌∷◌, ◌++◌, length, length-append, Result, Ok, Err, refl, sym, ◌∙◌, ap, subst, arith}
+use Rattle.std.specs.Prelude.{◌^◌, IsErr, IfOk, IfErr}
 use Rattle.op_types.specs.declared.durable.Durable.{Durable}
-use Rattle.op_outside.specs.Disks.{DiskState, MayLeave, IsAtRest, GoesOn, LeavesOnly, Counts, Costs}
-use Rattle.op_outside.specs.Disks.Edit.{Nothing}
-use Rattle.op_outside.proofs.Runs.{started, still_leaves, joined, weaker}
+use Rattle.op_outside.specs.Disks.{DiskState, MayLeave, IsAtRest, LeavesOnly, Counts, CountsUpTo, Costs}
+use Rattle.op_outside.proofs.Runs.{started, weaker}
 use Rattle.op_record.specs.Forms.{body}
 use Rattle.op_record.specs.declared.body.Rec.TheVariants.{Whole}
-use Rattle.op_journal.specs.Areas.{HoldsRecords, IsArea}
+use Rattle.std.specs.Int.{w64}
+use Rattle.op_fields.specs.Form.{encoded}
+use Rattle.op_fields.proofs.Formats.{wide64}
+use Rattle.op_journal.specs.Areas.{header, prefix, record_text, records_text, HasHeader, HoldsRecords, IsArea}
 use Rattle.op_journal.specs.Appends.{Trims}
-use Rattle.op_journal.specs.Readings.{IsReading, IsNew}
+use Rattle.op_journal.specs.Calls.{format_calls}
+use Rattle.op_journal.specs.Readings.{IsReading, IsNew, HasNoHeader}
 use Rattle.op_journal.specs.Openings.{IsReadFrom}
-use Rattle.op_journal.specs.Beginnings.{HasNone, Formats}
-use Rattle.op_journal.specs.Failing.{IfDamaged, IsFault}
-use Rattle.op_journal.specs.declared.fail.JournalFail.{JournalFail}
-use Rattle.op_journal.specs.declared.fail.JournalFail.TheVariants as fails
-use Rattle.op_journal.proofs.ShortDisks.{area_long, no_area_in_nothing}
-use Rattle.op_journal.proofs.FoundAreas.{IfDamaged-map}
-use Rattle.op_outside.proofs.Counting.{HasMade}
-use Rattle.op_journal.specs.Calls.{reading_calls, format_calls, trim_calls, CountsFailing}
-use Rattle.op_journal.proofs.OpeningCalls.{all_calls, failed_after, trimmed, untrimmed}
-use Rattle.op_store.proofs.BeginningCalls.{begun_calls, unbegun_calls, fault_calls, no_damage}
-use Rattle.op_store.specs.Stored.{StandsFor}
-use Rattle.op_store.specs.Readings.{IsAreaFor, IsDamagedFrom}
-use Rattle.op_store.specs.Openings.{StaysIn, IsFoundIn, OpensArea, Resumes, Begins, CountsUnformatted, opening_calls}
+use Rattle.op_journal.specs.Beginnings.{HasNone, IsFormattable, IsOldOrNone}
+use Rattle.op_journal.proofs.Headers.{length-header, header_long}
+use Rattle.op_store.specs.Stored.{StandsAs, IsBelow, IsChosen, IsStored, StoreNothing, Disks, Obey, LeaveStill, HaveImages, len_at_format, chosen, other, chosen_disk, other_disk, rival_end}
+use Rattle.op_store.specs.Readings.{StopsAt, IsAreaFor, IsDamageOf, IsRead}
+use Rattle.op_store.specs.Failing.{IsDamageOrNoMemory, IsDamageOrStopped, IsUndamaged, IsFault}
+use Rattle.op_store.specs.Openings.{Remains, Keeps, IsOpenedAs, OpensAreas, FindsAreas, FindsNone, BeginsArea, IsFit, IsFitFor, CountsOpened, CountsReadings, CountsRefused, CountsBeginning, begun_area}
 use Rattle.op_store.specs.declared.area.OpenArea.{OpenArea}
-use Rattle.op_store.proofs.UniqueState.{damaged_long, undamaged_state, nothing_or_damage, stands_area}
+use Rattle.op_store.specs.declared.fail.StoreFail.{StoreFail}
+use Rattle.op_store.specs.declared.fail.StoreFail.TheVariants.{DiskFault, Damaged, NoMemory}
+use Rattle.op_store.specs.declared.reading.Reading.{Reading}
+use Rattle.op_store.specs.declared.reading.Reading.TheVariants as reading
+use Rattle.op_store.proofs.UniqueState.{stands_area}
+use Rattle.op_store.proofs.MadeInRange.{found_in_range}
+use Rattle.op_store.proofs.UniquePairs.{stands_header, stored_of, stored_or_damage, nothing_or_damage, one_damage}
+use Rattle.op_store.proofs.PairRuns.{chosen_pairs_left, pairs_still, stored_at}
+use Rattle.op_store.proofs.OpeningCalls.{readings_stopped, reads_chosen, resumed_calls, unresumed_calls, trimmed, untrimmed, begun_calls, unbegun_calls}
+use Rattle.op_store.proofs.CheckpointCrashes.{settles_begun, stands_whole}
+
+-- an area and its closed gate are within the bytes, and so was its first record
+area_room : (g : ℕ) (bodies : List (List ℕ)) (end : ℕ) (bytes : List ℕ) → IsArea g bodies end bytes → (end + 1 ≤ length bytes) × (len_at_format bodies ≤ length bytes)
+area_room g bodies end bytes area = (closed, within bodies area)
+  where
+    whole : length bytes ≡ length (prefix g bodies) + length (area.records.gate ∷ area.records.rest)
+    whole = ap length area.records.is ∙ length-append (prefix g bodies) (area.records.gate ∷ area.records.rest)
+
+    closed : end + 1 ≤ length bytes
+    closed = let place = area.place in omega (arith, whole, place)
+
+    within : (bs : List (List ℕ)) → IsArea g bs end bytes → len_at_format bs ≤ length bytes
+    within [] a = omega arith
+    within (b ∷ bs) a =
+        let size = ap length a.records.is ∙ length-append (prefix g (b ∷ bs)) (a.records.gate ∷ a.records.rest) in
+        let split = length-append (header g) (165 ∷ (record_text b ++ records_text bs)) in
+        let more = length-append (record_text b) (records_text bs) in
+        let head = length-append (encoded w64 (length b)) b in
+        let n = wide64.len (length b) in
+        omega (arith, size, split, more, head, n, length-header g)
 
 -- ---- an opening reads nothing of a byte at most
 
@@ -33,172 +58,319 @@ few_new : (bytes : List ℕ) (closed : Bool) → length bytes ≤ 1 → IsNew []
 few_new bytes true few new = let long : 2 ≤ 0 = new.0 in absurd (omega arith)
 few_new bytes false few new = few
 
+few_formattable : (bytes : List ℕ) (closed : Bool) → length bytes ≤ 1 → IsFormattable [] closed → IsFormattable bytes closed
+few_formattable bytes true few new = let long : 2 ≤ 0 = new.0 in absurd (omega arith)
+few_formattable bytes false few new = inl few
+
 module _ (bytes read : List ℕ) (r : IsReading bytes read) where
-  pub area_read : (generation end : ℕ) (d : Durable) → IsAreaFor generation end d read → read ≡ bytes
-  area_read generation end d a =
-      ⊎_elim (λ few. absurd (no_area_in_nothing generation a.bodies end (subst (λ (l : List ℕ). IsArea generation a.bodies end l) few.1 a.area))) (λ all. all.1) r
-
-  pub area_in : (generation end : ℕ) (d : Durable) → IsAreaFor generation end d read → IsAreaFor generation end d bytes
-  area_in generation end d a = subst (λ (l : List ℕ). IsAreaFor generation end d l) (area_read generation end d a) a
-
-  pub new_in : (closed : Bool) → IsNew read closed → IsNew bytes closed
+  new_in : (closed : Bool) → IsNew read closed → IsNew bytes closed
   new_in closed new =
       ⊎_elim (λ few. few_new bytes closed few.0 (subst (λ (l : List ℕ). IsNew l closed) few.1 new)) (λ all. subst (λ (l : List ℕ). IsNew l closed) all.1 new) r
 
-  pub damaged_from : (at : ℕ) → IsDamagedFrom read at → IsDamagedFrom bytes at
-  damaged_from at is =
-      ⊎_elim (λ few. absurd (nothing_or_damage [] false at (omega arith) (subst (λ (l : List ℕ). IsDamagedFrom l at) few.1 is))) (λ all. subst (λ (l : List ℕ). IsDamagedFrom l at) all.1 is) r
+  formattable_in : (closed : Bool) → IsFormattable read closed → IsFormattable bytes closed
+  formattable_in closed h =
+      ⊎_elim (λ few. few_formattable bytes closed few.0 (subst (λ (l : List ℕ). IsFormattable l closed) few.1 h)) (λ all. subst (λ (l : List ℕ). IsFormattable l closed) all.1 h) r
 
--- what was found or begun is no damage
-pub undamaged_found : (fresh : Durable) (bytes : List ℕ) (d : Durable) (is_new : Bool) (at : ℕ) → IsFoundIn fresh bytes d is_new → IsDamagedFrom bytes at → ⊥
-undamaged_found fresh bytes d false at found here = undamaged_state bytes d at found here
-undamaged_found fresh bytes d true at found here = nothing_or_damage bytes found.0.0 at found.0.1 here
+  -- what has more than a byte was read
+  all_of : 2 ≤ length read → read ≡ bytes
+  all_of long = ⊎_elim (λ few. let none : length read ≡ 0 = ap length few.1 in absurd (omega (arith, none, long))) (λ all. all.1) r
 
--- ---- what an opening leaves
+  all_back : 2 ≤ length bytes → read ≡ bytes
+  all_back long = ⊎_elim (λ few. let small = few.0 in absurd (omega (arith, small, long))) (λ all. all.1) r
 
-module _ (fresh : Durable) (old mid : DiskState) (g : GoesOn Nothing old mid) where
-  abbrev Leaves : List ℕ → Type 0
-  Leaves image = MayLeave old image ⊎ StaysIn fresh old.content image
+  headed : (g : ℕ) → HasHeader g read → read ≡ bytes
+  headed g h = all_of (let long = header_long g read h in omega (arith, long))
 
-  pub after_read : LeavesOnly Leaves old mid
-  after_read = weaker (MayLeave old) Leaves old mid (still_leaves old mid g) (λ c was. inl was)
+  below_in : (end : ℕ) → IsBelow end read → IsBelow end bytes
+  below_in end below =
+      ⊎_elim (λ none. inl (none.0, new_in none.0 none.1)) (λ b. inr (b.0, subst (λ (l : List ℕ). HasHeader b.0 l) (headed b.0 b.1) b.1, b.2)) below
 
-  -- no area is opened, and no damage told
-  pub opens_nothing : (new : DiskState) (r : Result OpenArea JournalFail) → IsErr r → IfDamaged r (λ at. ⊥) → IfErr r (λ e. CountsFailing 9 e old.calls new.calls)
-      → LeavesOnly Leaves old new → OpensArea fresh old new r
-  opens_nothing new (Ok x) err none calls leaves = absurd (cc)
-  opens_nothing new (Err (fails.DiskFault n)) err none calls leaves = record { opened = tt; damaged = tt; calls = calls; crash = leaves }
-  opens_nothing new (Err (fails.Damaged n)) err none calls leaves = absurd none
-  opens_nothing new (Err fails.NoMemory) err none calls leaves = record { opened = tt; damaged = tt; calls = calls; crash = leaves }
+  no_header_in : HasNoHeader read → HasNoHeader bytes
+  no_header_in h = subst HasNoHeader (all_of h.long) h
 
-  module _ (f : old.obeys) (bytes : List ℕ) (read : IsReadFrom old mid bytes) (reading : Counts (reading_calls old.content) old.calls mid.calls) where
-    -- there is damage, or no memory
-    pub opens_damaged : (r : Result OpenArea JournalFail) → IsErr r → IfDamaged r (IsDamagedFrom bytes) → OpensArea fresh old mid r
-    opens_damaged (Ok x) err said = absurd (cc)
-    opens_damaged (Err e) err said =
-        let r : Result OpenArea JournalFail = Err e in
+  no_header_back : HasNoHeader bytes → HasNoHeader read
+  no_header_back h = subst HasNoHeader (sym (all_back h.long)) h
+
+  area_header : (g end base : ℕ) (d : Durable) → IsAreaFor g end base d read → HasHeader g read
+  area_header g end base d a = stands_header read g d (stands_area read g end base d a)
+
+  area_in : (g end base : ℕ) (d : Durable) → IsAreaFor g end base d read → IsAreaFor g end base d bytes
+  area_in g end base d a = subst (λ (l : List ℕ). IsAreaFor g end base d l) (headed g (area_header g end base d a)) a
+
+  area_len : (g end base : ℕ) (d : Durable) → IsAreaFor g end base d read → length read ≡ length bytes
+  area_len g end base d a = ap length (headed g (area_header g end base d a))
+
+  stops_in : (g at : ℕ) → HasHeader g read → StopsAt read at → StopsAt bytes at
+  stops_in g at h stops = subst (λ (l : List ℕ). StopsAt l at) (headed g h) stops
+
+-- ---- the same of two disks
+
+module _ (x y a b : List ℕ) (one : IsReading x a) (two : IsReading y b) where
+  pub read_in : (r : Reading) → IsRead a b r → IsRead x y r
+  read_in (reading.New closed closed_other) h = (new_in x a one closed h.0, new_in y b two closed_other h.1)
+  read_in (reading.Area false g d end base closed) h = (area_in x a one g end base d h.0, below_in y b two (g + 1) h.1, formattable_in y b two closed h.2)
+  read_in (reading.Area true g d end base closed) h = (area_in y b two g end base d h.0, below_in x a one g h.1, formattable_in x a one closed h.2)
+
+  -- all of the chosen area was read
+  pub chosen_len : (is_second : Bool) (g end base : ℕ) (d : Durable) → IsAreaFor g end base d (chosen is_second a b) → length (chosen is_second a b) ≡ length (chosen is_second x y)
+  chosen_len false g end base d h = area_len x a one g end base d h
+  chosen_len true g end base d h = area_len y b two g end base d h
+
+  stops_chosen : (is_second : Bool) (g at : ℕ) → IsChosen is_second g a b → StopsAt (chosen is_second a b) at → IsChosen is_second g x y × StopsAt (chosen is_second x y) at
+  stops_chosen false g at c stops =
+      (record { header = subst (λ (l : List ℕ). HasHeader g l) (headed x a one g c.header) c.header; below = below_in y b two (g + 1) c.below }, stops_in x a one g at c.header stops)
+  stops_chosen true g at c stops =
+      (record { header = subst (λ (l : List ℕ). HasHeader g l) (headed y b two g c.header) c.header; below = below_in x a one g c.below }, stops_in y b two g at c.header stops)
+
+  pub damage_in : (area at : ℕ) → IsDamageOf a b area at → IsDamageOf x y area at
+  damage_in area at h =
+      ⊎_elim (λ p. inl (p.0, p.1, no_header_in x a one p.2))
+      (λ more. ⊎_elim (λ p. inr (inl (p.0, p.1, λ damage. p.2 (no_header_back x a one damage), no_header_in y b two p.3)))
+      (λ p. let s = stops_chosen p.0 p.1 at p.2 p.4 in inr (inr (p.0, p.1, s.0, p.3, s.1))) more) h
+
+-- ---- what is told
+
+fault_undamaged : (e : StoreFail) → IsFault e → IsUndamaged e
+fault_undamaged (DiskFault n) fault = fault
+fault_undamaged (Damaged a n) fault = fault
+fault_undamaged NoMemory fault = tt
+
+pub if_err_map : {T E : Type 0} (r : Result T E) (P Q : E → Type 0) → ((e : E) → P e → Q e) → IfErr r P → IfErr r Q
+if_err_map (Ok x) P Q f h = tt
+if_err_map (Err e) P Q f h = f e h
+
+stopped_or_told : (x y : List ℕ) (e : StoreFail) → (IsDamageOrNoMemory x y e ⊎ IsUndamaged e) → (area at : ℕ) → IsDamageOf x y area at → IsDamageOrStopped area at e
+stopped_or_told x y (DiskFault n) said area at here = tt
+stopped_or_told x y (Damaged a n) said area at here = ⊎_elim (λ told. one_damage x y a area n at told here) (λ none. absurd none) said
+stopped_or_told x y NoMemory said area at here = tt
+
+-- an opening that ends with no damage
+pub stops_undamaged : (fresh : Durable) (old new : Disks) (e : StoreFail) → IsUndamaged e → Keeps fresh old new → MayLeave new.first new.first.content → MayLeave new.second new.second.content
+    → CountsRefused e old new → OpensAreas fresh old new (Err e)
+stops_undamaged fresh old new (DiskFault n) none keeps image other_image calls =
+    record { opened = tt; undamaged = tt; refusal = tt; complete = λ area at here. tt; crash = keeps; images = (image, other_image); calls = calls }
+stops_undamaged fresh old new (Damaged a n) none keeps image other_image calls = absurd none
+stops_undamaged fresh old new NoMemory none keeps image other_image calls =
+    record { opened = tt; undamaged = tt; refusal = tt; complete = λ area at here. tt; crash = keeps; images = (image, other_image); calls = calls }
+
+-- what was read of both, with nothing changed and nothing pending
+module _ (old mid : Disks) (obey : Obey old) (a b : List ℕ) (read_first : IsReadFrom old.first mid.first a) (read_second : IsReadFrom old.second mid.second b) where
+  pub finds_damage : (e : StoreFail) → IsDamageOrNoMemory a b e → CountsReadings old mid → FindsNone old mid e
+  finds_damage (DiskFault n) said calls = absurd said
+  finds_damage (Damaged area at) said calls =
+      let here = damage_in old.first.content old.second.content a b (read_first.reading obey.0) (read_second.reading obey.1) area at said in
+      record {
+        calls = calls;
+        refusal = (here, read_first.same obey.0, read_second.same obey.1);
+        complete = stopped_or_told old.first.content old.second.content (Damaged area at) (inl here);
+        images = ((read_first.rests obey.0).only.itself, (read_second.rests obey.1).only.itself);
+      }
+  finds_damage NoMemory said calls =
+      record {
+        calls = readings_stopped old mid calls;
+        refusal = tt;
+        complete = stopped_or_told old.first.content old.second.content NoMemory (inl tt);
+        images = ((read_first.rests obey.0).only.itself, (read_second.rests obey.1).only.itself);
+      }
+
+area_fit : (bytes : List ℕ) (g end base : ℕ) (d : Durable) → length bytes ≤ 2 ^ 62 → IsAreaFor g end base d bytes → IsFitFor g end base d
+area_fit bytes g end base d small a =
+    let room = area_room g a.bodies end bytes a.area in
+    (omega (arith, room.0, small), a.area.records.known, omega (arith, room.1, a.base_is, small), found_in_range g end base d bytes a)
+
+-- whatever the disks are, what was read is in range
+pub fit_in : (a b : List ℕ) (r : Reading) → length a ≤ 2 ^ 62 → length b ≤ 2 ^ 62 → IsRead a b r → IsFit r
+fit_in a b (reading.New closed closed_other) one two h = tt
+fit_in a b (reading.Area false g d end base closed) one two h = area_fit a g end base d one h.0
+fit_in a b (reading.Area true g d end base closed) one two h = area_fit b g end base d two h.0
+
+-- ---- what an opening leaves, once both disks are read
+
+module _ (fresh : Durable) (old mid : Disks) (still : LeaveStill old mid) where
+  abbrev Left : List ℕ → List ℕ → Type 0
+  Left = Remains fresh old.first.content old.second.content
+
+  pub keeps_still : Keeps fresh old mid
+  keeps_still = pairs_still Left old mid still.first still.second
+
+  -- nothing was found
+  pub opens_none : (e : StoreFail) → FindsNone old mid e → OpensAreas fresh old mid (Err e)
+  opens_none e f = record { opened = tt; undamaged = tt; refusal = f.refusal; complete = f.complete; crash = keeps_still; images = f.images; calls = f.calls }
+
+  pub opens_none_of : (r : Result OpenArea StoreFail) → IsErr r → IfErr r (FindsNone old mid) → OpensAreas fresh old mid r
+  opens_none_of (Ok x) err f = absurd (cc)
+  opens_none_of (Err e) err f = opens_none e f
+
+  content_of : (c : Bool) (disks : Disks) (P : List ℕ → List ℕ → Type 0) → P (chosen c disks.first.content disks.second.content) (other c disks.first.content disks.second.content)
+      → P (chosen_disk c disks).content (other_disk c disks).content
+  content_of false disks P h = h
+  content_of true disks P h = h
+
+  images_of : (c : Bool) (new : Disks) → MayLeave (chosen_disk c new) (chosen_disk c new).content → MayLeave (other_disk c new) (other_disk c new).content → HaveImages new
+  images_of false new one two = (one, two)
+  images_of true new one two = (two, one)
+
+  -- an area is chosen, and what lies after its closed gate is cut
+  module _ (c : Bool) (g end base : ℕ) (d : Durable) (closed : Bool) (len : ℕ) (found : FindsAreas old mid (reading.Area c g d end base closed) len) where
+    rests_both : (k : Bool) → IsAtRest (chosen_disk k mid) × IsAtRest (other_disk k mid)
+    rests_both false = (found.rests_first, found.rests_second)
+    rests_both true = (found.rests_second, found.rests_first)
+
+    same_both : (k : Bool) → ((chosen_disk k mid).content ≡ (chosen_disk k old).content) × ((other_disk k mid).content ≡ (other_disk k old).content)
+    same_both false = (found.same_first, found.same_second)
+    same_both true = (found.same_second, found.same_first)
+
+    there : IsAreaFor g end base d (chosen_disk c old).content × IsBelow (rival_end c g) (other_disk c old).content × IsFormattable (other_disk c old).content closed
+    there = content_of c old (λ x y. IsAreaFor g end base d x × IsBelow (rival_end c g) y × IsFormattable y closed) found.found
+
+    stored : IsStored d old.first.content old.second.content
+    stored = stored_of c g end base d old.first.content old.second.content found.found.0 found.found.1
+
+    -- of the chosen area's disk
+    pub area_there : IsAreaFor g end base d (chosen_disk c mid).content
+    area_there = subst (λ (l : List ℕ). IsAreaFor g end base d l) (sym (same_both c).0) there.0
+
+    pub rests_there : IsAtRest (chosen_disk c mid)
+    rests_there = (rests_both c).0
+
+    pub rests_beside : IsAtRest (other_disk c mid)
+    rests_beside = (rests_both c).1
+
+    resume_keeps : (new : Disks) → LeavesOnly (StandsAs g d) (chosen_disk c mid) (chosen_disk c new) → LeavesOnly (λ image. ⊥) (other_disk c mid) (other_disk c new) → Keeps fresh old new
+    resume_keeps new leaves others =
+        chosen_pairs_left (StandsAs g d) (λ image. ⊥) Left c old mid new still.first still.second found.rests_first found.rests_second found.same_first found.same_second leaves others
+        (λ x stands. inl (d, stored, stored_at c g d x (other_disk c old).content stands there.1))
+        (λ y none. absurd none) (λ x y stands none. absurd none)
+
+    resume_leaves : {T E : Type 0} (new : Disks) (r : Result T E) → Trims g area_there.bodies end (chosen_disk c mid) (chosen_disk c new) r → LeavesOnly (StandsAs g d) (chosen_disk c mid) (chosen_disk c new)
+    resume_leaves new r trims = weaker (HoldsRecords g area_there.bodies) (StandsAs g d) (chosen_disk c mid) (chosen_disk c new) trims.crash
+        (λ image h. record { bodies = area_there.bodies; records = h; make = area_there.make })
+
+  module _ (a : OpenArea) (len : ℕ) (found : FindsAreas old mid (reading.Area a.is_second a.generation a.durable a.end a.base a.is_closed) len) (was_there : a.is_new ≡ false) where
+    abbrev c : Bool
+    c = a.is_second
+
+    abbrev pub bodies : IsAreaFor a.generation a.end a.base a.durable (chosen_disk c mid).content
+    bodies = area_there c a.generation a.end a.base a.durable a.is_closed len found
+
+    opens_ok : (new : Disks) (made : OpenArea) → made ≡ a → Trims {T = OpenArea} {E = StoreFail} a.generation bodies.bodies a.end (chosen_disk c mid) (chosen_disk c new) (Ok made)
+        → LeavesOnly (λ image. ⊥) (other_disk c mid) (other_disk c new) → IsAtRest (other_disk c new) → (other_disk c new).content ≡ (other_disk c mid).content → CountsOpened false c a.end old new → OpensAreas fresh old new (Ok made)
+    opens_ok new made is trims others rests same calls =
+        let s = stored c a.generation a.end a.base a.durable a.is_closed len found in
+        let t = there c a.generation a.end a.base a.durable a.is_closed len found in
+        let r : Result OpenArea StoreFail = Ok made in
+        let as_old = same ∙ (same_both c a.generation a.end a.base a.durable a.is_closed len found c).1 in
+        subst (λ (m : OpenArea). OpensAreas fresh old new (Ok m)) (sym is)
+        (record {
+          opened = record {
+            found = subst (λ (k : Bool). IsOpenedAs fresh old.first.content old.second.content a.durable k) (sym was_there) s;
+            is_open = record {
+              settles = record { bodies = bodies.bodies; settled = trims.settled; make = bodies.make; base_is = bodies.base_is };
+              rests = rests;
+              below = subst (λ (l : List ℕ). IsBelow (rival_end c a.generation) l) (sym as_old) t.1;
+              formattable = subst (λ (l : List ℕ). IsFormattable l a.is_closed) (sym as_old) t.2;
+            };
+            begun = λ is_new. absurd (let e : false ≡ true = sym was_there ∙ is_new in cc);
+          };
+          undamaged = λ area at here. stored_or_damage old.first.content old.second.content a.durable area at s here;
+          refusal = tt;
+          complete = tt;
+          crash = resume_keeps c a.generation a.end a.base a.durable a.is_closed len found new (resume_leaves c a.generation a.end a.base a.durable a.is_closed len found new r trims) others;
+          images = images_of c new trims.settled.rests.only.itself rests.only.itself;
+          calls = subst (λ (k : Bool). CountsOpened k c a.end old new) (sym was_there) calls;
+        })
+
+    chosen_size : length (chosen_disk c old).content ≡ len
+    chosen_size = ap length (sym (same_both c a.generation a.end a.base a.durable a.is_closed len found c).0) ∙ found.size
+
+    -- the calls of the chosen area's disk after both were read
+    module _ (new : Disks) (idle : len ≤ a.end + 1 → (chosen_disk c new).calls ≡ (chosen_disk c mid).calls) (uncalled : (other_disk c new).calls ≡ (other_disk c mid).calls) where
+      cut_calls : (a.end + 1 < len → Counts 2 (chosen_disk c mid).calls (chosen_disk c new).calls) → CountsOpened false c a.end old new
+      cut_calls cut =
+          resumed_calls old mid new found.calls c a.end
+          (trimmed (chosen_disk c old).content a.end len (chosen_disk c old).calls (chosen_disk c mid).calls (chosen_disk c new).calls chosen_size (reads_chosen old mid new found.calls c).0 idle cut) uncalled
+
+      uncut_calls : (e : StoreFail) → IsFault e → (a.end + 1 < len → CountsUpTo 2 (chosen_disk c mid).calls (chosen_disk c new).calls) → CountsRefused e old new
+      uncut_calls (DiskFault n) fault cut =
+          unresumed_calls old mid new found.calls c n
+          (untrimmed (chosen_disk c old).content a.end len (chosen_disk c old).calls (chosen_disk c mid).calls (chosen_disk c new).calls chosen_size (reads_chosen old mid new found.calls c).0 idle cut) uncalled
+      uncut_calls (Damaged k n) fault cut = absurd fault
+      uncut_calls NoMemory fault cut = absurd fault
+
+    obeys_there : (chosen_disk c mid).obeys
+    obeys_there = (rests_there c a.generation a.end a.base a.durable a.is_closed len found).obeys
+
+    pub opens_resumed : (new : Disks) (r : Result OpenArea StoreFail) → IfOk r (λ m. m ≡ a) → IfErr r IsFault → Trims a.generation bodies.bodies a.end (chosen_disk c mid) (chosen_disk c new) r
+        → LeavesOnly (λ image. ⊥) (other_disk c mid) (other_disk c new) → IsAtRest (other_disk c new) → (other_disk c new).content ≡ (other_disk c mid).content
+        → MayLeave (chosen_disk c new) (chosen_disk c new).content
+        → (a.end + 1 < len → Costs 2 (chosen_disk c mid) (chosen_disk c new) r) → (len ≤ a.end + 1 → (chosen_disk c new).calls ≡ (chosen_disk c mid).calls) → (other_disk c new).calls ≡ (other_disk c mid).calls
+        → OpensAreas fresh old new r
+    opens_resumed new (Ok made) is fault trims others rests same image cut idle uncalled =
+        opens_ok new made is trims others rests same (cut_calls new idle uncalled (λ more. cut more obeys_there))
+    opens_resumed new (Err e) is fault trims others rests same image cut idle uncalled =
+        let both = images_of c new image rests.only.itself in
+        let r : Result OpenArea StoreFail = Err e in
+        stops_undamaged fresh old new e (fault_undamaged e fault) (resume_keeps c a.generation a.end a.base a.durable a.is_closed len found new (resume_leaves c a.generation a.end a.base a.durable a.is_closed len found new r trims) others) both.0 both.1
+        (uncut_calls new idle uncalled e fault (λ more. cut more obeys_there))
+
+  -- no area is there, and the first one is begun
+  module _ (closed closed_other : Bool) (len : ℕ) (found : FindsAreas old mid (reading.New closed closed_other) len) (fits : body.fits (Whole fresh)) where
+    nothing : StoreNothing old.first.content old.second.content
+    nothing = ((closed, found.found.0), (closed_other, found.found.1))
+
+    formattable_new : (k : Bool) (bytes : List ℕ) → IsNew bytes k → IsFormattable bytes k
+    formattable_new false bytes few = inl few
+    formattable_new true bytes new = new
+
+    pub formattable_there : IsFormattable mid.first.content closed
+    formattable_there = subst (λ (l : List ℕ). IsFormattable l closed) (sym found.same_first) (formattable_new closed old.first.content found.found.0)
+
+    abbrev text : List ℕ
+    text = body.text (Whole fresh)
+
+    begin_keeps : (new : DiskState) → LeavesOnly (λ image. IsOldOrNone mid.first.content image ⊎ HoldsRecords 1 (text ∷ []) image) mid.first new → Keeps fresh old (record { first = new; second = mid.second })
+    begin_keeps new leaves =
+        chosen_pairs_left (λ image. IsOldOrNone mid.first.content image ⊎ HoldsRecords 1 (text ∷ []) image) (λ image. ⊥) Left false old mid (record { first = new; second = mid.second })
+        still.first still.second found.rests_first found.rests_second found.same_first found.same_second leaves (started (λ image. ⊥) mid.second)
+        (λ x h. inr (
+          nothing,
+          ⊎_elim
+              (λ before. inl (⊎_elim (λ same. subst HasNone (sym (same ∙ found.same_first)) nothing.0) (λ none. none) before, nothing.1))
+              (λ whole. inr (stored_at false 1 fresh x old.second.content (stands_whole fresh text (fits, refl) 1 x whole) (inl nothing.1))) h,
+        ))
+        (λ y none. absurd none) (λ x y h none. absurd none)
+
+    begins_ok : (new : DiskState) (end : ℕ) → end ≡ 17 + 9 + length text → BeginsArea fresh mid.first new (Ok (begun_area fresh closed_other end)) → Counts (format_calls closed) mid.first.calls new.calls → OpensAreas fresh old (record { first = new; second = mid.second }) (Ok (begun_area fresh closed_other end))
+    begins_ok new end place begins calls =
         record {
-          opened = tt;
-          damaged = IfDamaged-map r (IsDamagedFrom bytes) (λ at. IsDamagedFrom old.content at × (mid.content ≡ old.content)) (λ at here. (damaged_from old.content bytes (read.reading f) at here, read.same f)) said;
-          calls = failed_after old.content old.calls mid.calls 9 r (omega arith)
-              (IfDamaged-map r (IsDamagedFrom bytes) (λ _. 2 ≤ length old.content) (λ at here. damaged_long old.content at (damaged_from old.content bytes (read.reading f) at here)) said) reading;
-          crash = after_read;
+          opened = record {
+            found = (nothing, refl);
+            is_open = record {
+              settles = settles_begun fresh text (fits, refl) 1 end (end + 1) new begins.settled place refl;
+              rests = found.rests_second;
+              below = inl (closed_other, subst (λ (l : List ℕ). IsNew l closed_other) (sym found.same_second) found.found.1);
+              formattable = subst (λ (l : List ℕ). IsFormattable l closed_other) (sym found.same_second) (formattable_new closed_other old.second.content found.found.1);
+            };
+            begun = λ is_new. begins.written;
+          };
+          undamaged = λ area at here. nothing_or_damage old.first.content old.second.content area at nothing here;
+          refusal = tt;
+          complete = tt;
+          crash = begin_keeps new begins.crash;
+          images = (begins.settled.rests.only.itself, found.rests_second.only.itself);
+          calls = begun_calls old mid (record { first = new; second = mid.second }) closed found.found.0 found.calls refl end calls;
         }
 
-    -- no area is there, and one is begun
-    pub new_there : (closed : Bool) → IsNew bytes closed → IsNew old.content closed
-    new_there closed new = new_in old.content bytes (read.reading f) closed new
+    pub opens_begun : (new : DiskState) (r : Result OpenArea StoreFail) → IfOk r (λ a. a ≡ begun_area fresh closed_other a.end) → IfOk r (λ a. a.end ≡ 17 + 9 + length text) → IfErr r IsUndamaged → BeginsArea fresh mid.first new r
+        → MayLeave new new.content → CountsBeginning closed mid.first.calls new.calls r → OpensAreas fresh old (record { first = new; second = mid.second }) r
+    opens_begun new (Ok a) is place none begins image calls =
+        subst (λ (m : OpenArea). OpensAreas fresh old (record { first = new; second = mid.second }) (Ok m)) (sym is)
+        (begins_ok new a.end place (subst (λ (m : OpenArea). BeginsArea fresh mid.first new (Ok m)) is begins) calls)
+    opens_begun new (Err e) is place none begins image calls =
+        stops_undamaged fresh old (record { first = new; second = mid.second }) e none (begin_keeps new begins.crash) image found.rests_second.only.itself
+        (unbegun_calls old mid (record { first = new; second = mid.second }) closed found.found.0 found.calls refl e calls)
 
-    pub new_still : (closed : Bool) → IsNew bytes closed → IsNew mid.content closed
-    new_still closed new = subst (λ (l : List ℕ). IsNew l closed) (sym (read.same f)) (new_there closed new)
+-- ---- without memory no area is begun
 
-    module _ (closed : Bool) (none : IsNew bytes closed) (new : DiskState) where
-      begun_leaves : LeavesOnly (λ image. HasNone image ⊎ StandsFor fresh image) mid new → LeavesOnly Leaves old new
-      begun_leaves begun = joined (MayLeave old) (λ image. HasNone image ⊎ StandsFor fresh image) Leaves old mid new (still_leaves old mid g) begun
-          (λ c was. inl was) (λ c has. inr (inr ((closed, new_there closed none), has)))
-
-      pub opens_begun : (r : Result OpenArea JournalFail) → Begins fresh closed mid new r → IfDamaged r (λ at. ⊥) → OpensArea fresh old new r
-      opens_begun (Ok a) begins sound =
-          let o = begins.opened in
-          record {
-            opened = record { found = subst (λ (l : List ℕ). IsFoundIn fresh l a.durable a.is_new) (read.same f) o.found; settles = o.settles; begun = o.begun };
-            damaged = tt;
-            calls = subst (λ (b : Bool). Counts (opening_calls b a.end old.content) old.calls new.calls) (sym begins.is_new)
-                (begun_calls old.content closed (new_there closed none) old.calls mid.calls new.calls reading begins.calls);
-            crash = begun_leaves begins.crash;
-          }
-      opens_begun (Err e) begins sound =
-          opens_nothing new (Err e) (search rules) sound (unbegun_calls {T = OpenArea} old.content closed (new_there closed none) old mid new reading (Err e) begins.calls_failing) (begun_leaves begins.crash)
-
-    -- an area is there, and what lies after its closed gate is cut
-    module _ (generation end : ℕ) (d : Durable) (a : IsAreaFor generation end d bytes) where
-      pub there : IsAreaFor generation end d old.content
-      there = area_in old.content bytes (read.reading f) generation end d a
-
-      pub still : IsAreaFor generation end d mid.content
-      still = subst (λ (l : List ℕ). IsAreaFor generation end d l) (sym (read.same f)) there
-
-      pub size : length mid.content ≡ length bytes
-      size = ap length (read.same f) ∙ sym (ap length (area_read old.content bytes (read.reading f) generation end d a))
-
-      -- the calls of both
-      pub read_calls : HasMade 3 old mid
-      read_calls _ = subst (λ (n : ℕ). Counts n old.calls mid.calls) (all_calls old.content (area_long old.content generation there.bodies end there.area)) reading
-
-      pub tail_size : (len : ℕ) → length mid.content ≡ len → length (drop (end + 1) old.content) ≡ len - (end + 1)
-      tail_size len size = omega (arith, size, ap length (read.same f), length-drop (end + 1) old.content)
-
-      resumed_leaves : (new : DiskState) → LeavesOnly (StandsFor d) mid new → LeavesOnly Leaves old new
-      resumed_leaves new resumed = joined (MayLeave old) (StandsFor d) Leaves old mid new (still_leaves old mid g) resumed
-          (λ c was. inl was) (λ c stands. inr (inl (d, stands_area old.content generation end d there, stands)))
-
-      found_old : (new_now : Bool) (e : Durable) → e ≡ d → new_now ≡ false → IsFoundIn fresh old.content e new_now
-      found_old true e same is = absurd (cc)
-      found_old false e same is = subst (λ (x : Durable). StandsFor x old.content) (sym same) (stands_area old.content generation end d there)
-
-      pub opens_resumed : (len : ℕ) (new : DiskState) (r : Result OpenArea JournalFail) → length mid.content ≡ len → Resumes d mid new r → IfErr r IsFault
-          → IfOk r (λ o. o.end ≡ end) → (len ≤ end + 1 → new.calls ≡ mid.calls) → (end + 1 < len → Costs 2 mid new r) → (old.obeys → mid.obeys) → OpensArea fresh old new r
-      opens_resumed len new (Ok a) size resumes fault same none cut obeys =
-          let o = resumes.opened in
-          let made = trimmed end len old mid new obeys read_calls none (drop (end + 1) old.content) (tail_size len size) cut in
-          record {
-            calls = subst (λ (b : Bool). Counts (opening_calls b a.end old.content) old.calls new.calls) (sym o.1)
-                (subst (λ (n : ℕ). Counts (3 + trim_calls (drop (n + 1) old.content)) old.calls new.calls) (sym same) (made f));
-            opened = record { found = found_old a.is_new a.durable o.0 o.1; settles = o.2; begun = λ is. absurd (let e : false ≡ true = sym o.1 ∙ is in cc) };
-            damaged = tt;
-            crash = resumed_leaves new resumes.crash;
-          }
-      opens_resumed len new (Err e) size resumes fault same none cut obeys =
-          let r : Result OpenArea JournalFail = Err e in
-          let most = untrimmed end len old mid new obeys read_calls none (drop (end + 1) old.content) (tail_size len size) r (search rules) cut in
-          opens_nothing new (Err e) (search rules) (no_damage r fault) (let c = most f in fault_calls 9 old.calls new.calls r fault (c.0, omega (arith, c.1))) (resumed_leaves new resumes.crash)
-
--- ---- an area that was read is opened
-
-module _ (generation end : ℕ) (d : Durable) (old new : DiskState) (a : IsAreaFor generation end d old.content) where
-  resume_leaves : LeavesOnly (HoldsRecords generation a.bodies) old new → LeavesOnly (StandsFor d) old new
-  resume_leaves leaves = weaker (HoldsRecords generation a.bodies) (StandsFor d) old new leaves (λ c stands. record { generation = generation; bodies = a.bodies; records = stands; make = a.make })
-
-  pub resumes : {T E : Type 0} (x : T) → Trims {T = T} {E = E} generation a.bodies end old new (Ok x) → Resumes d old new (Ok (record { generation = generation; end = end; durable = d; is_new = false }))
-  resumes x trims = record { opened = (refl, refl, record { bodies = a.bodies; settled = trims.settled; make = a.make }); crash = resume_leaves trims.crash }
-
-  pub resumes_not : {T E : Type 0} (t : Result T E) → Trims generation a.bodies end old new t → (r : Result OpenArea JournalFail) → IsErr r → Resumes d old new r
-  resumes_not t trims (Ok x) err = absurd (cc)
-  resumes_not t trims (Err e) err = record { opened = tt; crash = resume_leaves trims.crash }
-
--- ---- an area is begun of the fresh durable state
-
-module _ (fresh : Durable) (fits : body.fits (Whole fresh)) (closed : Bool) (old new : DiskState) (none : IsNew old.content closed) (rests : IsAtRest old) where
-  abbrev text : List ℕ
-  text = body.text (Whole fresh)
-
-  begin_leaves : LeavesOnly (λ image. HasNone image ⊎ HoldsRecords 1 (text ∷ []) image) old new → LeavesOnly (λ image. HasNone image ⊎ StandsFor fresh image) old new
-  begin_leaves leaves = weaker (λ image. HasNone image ⊎ HoldsRecords 1 (text ∷ []) image) (λ image. HasNone image ⊎ StandsFor fresh image) old new leaves
-      (λ c h. ⊎_elim (λ closing. inl closing) (λ stands. inr (record { generation = 1; bodies = text ∷ []; records = stands; make = (fresh, (fits, refl), refl) })) h)
-
-  pub begins : {E : Type 0} (end : ℕ) → Formats {E = E} 1 (body.text (Whole fresh)) old new (Ok end) → Counts (format_calls closed) old.calls new.calls → Begins fresh closed old new (Ok (record { generation = 1; end = end; durable = fresh; is_new = true }))
-  begins end formats calls = record {
-    opened = record {
-      found = ((closed, none), refl);
-      settles = record { bodies = text ∷ []; settled = formats.begun rests; make = (fresh, (fits, refl), refl) };
-      begun = λ new_now. formats.written rests.obeys;
-    };
-    is_new = refl;
-    calls = calls;
-    calls_failing = tt;
-    crash = begin_leaves (formats.crash rests);
-  }
-
-  pub begins_not : {E : Type 0} (t : Result ℕ E) → Formats 1 (body.text (Whole fresh)) old new t → (r : Result OpenArea JournalFail) → IsErr r → IfErr r (λ e. CountsUnformatted closed e old.calls new.calls) → Begins fresh closed old new r
-  begins_not t formats (Ok x) err calls = absurd (cc)
-  begins_not t formats (Err e) err calls = record { opened = tt; is_new = tt; calls = tt; calls_failing = calls; crash = begin_leaves (formats.crash rests) }
-
--- ---- without memory nothing is formatted
-
-pub formats_not_yet : {E : Type 0} (body_text : List ℕ) (d : DiskState) (r : Result ℕ E) → IsErr r → Formats 1 body_text d d r
-formats_not_yet body_text d (Ok x) err = absurd (cc)
-formats_not_yet body_text d (Err e) err = record { written = λ f. tt; begun = λ rests. tt; crash = λ rests. started _ d }
-
-pub formats_as : {E F : Type 0} (text said : List ℕ) (old new : DiskState) (t : Result ℕ E) (r : Result ℕ F) → text ≡ said → IsErr r → Formats 1 text old new t → Formats 1 said old new r
-formats_as text said old new t (Ok x) is err formats = absurd (cc)
-formats_as text said old new t (Err e) is err formats = subst (λ (l : List ℕ). Formats 1 l old new (Err e)) is (record { written = λ f. tt; begun = λ rests. tt; crash = formats.crash })
+pub begins_not_yet : (fresh : Durable) (d : DiskState) (e : StoreFail) → BeginsArea fresh d d (Err e)
+begins_not_yet fresh d e = record { settled = tt; written = tt; crash = started _ d }

@@ -1,20 +1,13 @@
--- Bytes stand for one durable state, or are damaged at one place.
-use Rattle.std.proofs.Common.{◌≡◌, inl, inr, ⊎_elim, ℕ, Bool, List, [], ◌∷◌, ◌++◌, ◌≤◌, length, drop, Result, Ok, Err, Option, Some, None, sym, subst, ◌∙◌, arith}
-use Rattle.std.specs.Prelude.{IsErr}
+-- An area's records make one durable state, or stop at one place.
+use Rattle.std.proofs.Common.{◌≡◌, ⊎_elim, ℕ, List, [], ◌∷◌, ◌++◌, drop, Option, Some, None, sym, subst, ◌∙◌}
 use Rattle.op_types.specs.declared.durable.Durable.{Durable}
 use Rattle.op_journal.specs.Areas.{HasHeader}
-use Rattle.op_journal.specs.Readings.{IsNew, IsBroken}
-use Rattle.op_journal.specs.Beginnings.{HasNone}
 use Rattle.op_journal.specs.Rows.{AreRecords, IsRecordAt, IsClosed, IsBegun}
-use Rattle.op_journal.specs.Failing.{IfDamaged, IsDamagedOrStopped}
-use Rattle.op_journal.specs.declared.fail.JournalFail.{JournalFail}
-use Rattle.op_journal.specs.declared.fail.JournalFail.TheVariants as fails
 use Rattle.op_journal.proofs.FoundAreas.{area_of, first_there}
-use Rattle.op_journal.proofs.Headers.{header_long, header_first}
-use Rattle.op_journal.proofs.UniqueReading.{header_of, one_area, no_new, new_or_area, new_or_damaged, StandsNext, two_walks, one_record_at, closed_or_record, broken_or_record, closed_or_broken, row_of}
+use Rattle.op_journal.proofs.UniqueReading.{one_area, StandsNext, two_walks, one_record_at, closed_or_record, row_of}
 use Rattle.op_store.specs.Records.{Makes, AllMake}
-use Rattle.op_store.specs.Stored.{StandsFor}
-use Rattle.op_store.specs.Readings.{EndsAt, StopsAt, IsRowFor, IsAreaFor, IsDamagedFrom}
+use Rattle.op_store.specs.Stored.{StandsAs}
+use Rattle.op_store.specs.Readings.{EndsAt, StopsAt, IsRowFor, IsAreaFor}
 use Rattle.op_store.proofs.RecordsMakeStates.{SoFar, makes_one}
 
 same_some : (d e : Durable) → (let x : Option Durable = Some d in x) ≡ Some e → d ≡ e
@@ -41,31 +34,23 @@ module _ (bytes : List ℕ) (bs : List (List ℕ)) (at : ℕ) (made : Option Dur
       let makes = all_next None bs next.body next.more made other make (subst (λ (l : List (List ℕ)). AllMake None l other) next.is all) in
       ends.no_record next.body next.next makes.0 next.here makes.1
 
--- ---- the law
+-- ---- one area
 
-pub one_state : (bytes : List ℕ) (d e : Durable) → StandsFor d bytes → StandsFor e bytes → d ≡ e
-one_state bytes d e p q =
-    let same = (one_area bytes p.generation q.generation p.bodies q.bodies p.records q.records).1 in
+pub one_state : (bytes : List ℕ) (g h : ℕ) (d e : Durable) → StandsAs g d bytes → StandsAs h e bytes → d ≡ e
+one_state bytes g h d e p q =
+    let same = (one_area bytes g h p.bodies q.bodies p.records q.records).1 in
     same_some d e (all_one None q.bodies (Some d) (Some e) (subst (λ (b : List (List ℕ)). AllMake None b (Some d)) same p.make) q.make)
 
-pub nothing_or_state : (bytes : List ℕ) (d : Durable) → HasNone bytes → StandsFor d bytes → ⊥
-nothing_or_state bytes d none s = new_or_area bytes none.0 s.generation s.bodies none.1 s.records
-
-pub undamaged_state : (bytes : List ℕ) (d : Durable) (at : ℕ) → StandsFor d bytes → IsDamagedFrom bytes at → ⊥
-undamaged_state bytes d at s (inl a) = a.1.none s.generation (header_of s.generation s.bodies bytes s.records)
-undamaged_state bytes d at s (inr (g, h, b)) =
-    let row = row_of s.generation s.bodies bytes s.records in
+pub undamaged_state : (bytes : List ℕ) (g : ℕ) (d : Durable) (at : ℕ) → StandsAs g d bytes → StopsAt bytes at → ⊥
+undamaged_state bytes g d at s b =
+    let row = row_of g s.bodies bytes s.records in
     ⊎_elim (λ same. b.ends.not_closed (subst (λ (n : ℕ). IsClosed (drop n bytes)) same.1 row.1.gate))
     (λ goes_on. ⊎_elim
     (λ next. closed_or_record bytes row.0 next.body next.next row.1.gate next.here)
     (λ next. none_next bytes b.bodies at b.made b.make b.ends s.bodies (Some d) s.make next)
     goes_on) (two_walks bytes s.bodies b.bodies row.0 at row.1.records b.records)
 
-pub damaged_long : (bytes : List ℕ) (at : ℕ) → IsDamagedFrom bytes at → 2 ≤ length bytes
-damaged_long bytes at (inl a) = a.1.long
-damaged_long bytes at (inr (g, h, b)) = let long = header_long g bytes h in omega arith
-
-one_stop : (bytes : List ℕ) (m n : ℕ) → StopsAt bytes m → StopsAt bytes n → m ≡ n
+pub one_stop : (bytes : List ℕ) (m n : ℕ) → StopsAt bytes m → StopsAt bytes n → m ≡ n
 one_stop bytes m n a b =
     ⊎_elim (λ same. same.1)
     (λ goes_on. absurd (⊎_elim
@@ -73,21 +58,11 @@ one_stop bytes m n a b =
     (λ next. none_next bytes b.bodies n b.made b.make b.ends a.bodies a.made a.make next)
     goes_on)) (two_walks bytes a.bodies b.bodies m n a.records b.records)
 
-pub one_damage : (bytes : List ℕ) (m n : ℕ) → IsDamagedFrom bytes m → IsDamagedFrom bytes n → m ≡ n
-one_damage bytes m n (inl a) (inl b) = a.0 ∙ sym b.0
-one_damage bytes m n (inl a) (inr (g, h, b)) = absurd (a.1.none g h)
-one_damage bytes m n (inr (g, h, a)) (inl b) = absurd (b.1.none g h)
-one_damage bytes m n (inr (g, h, a)) (inr (k, l, b)) = one_stop bytes m n a b
-
-pub nothing_or_damage : (bytes : List ℕ) (closed : Bool) (at : ℕ) → IsNew bytes closed → IsDamagedFrom bytes at → ⊥
-nothing_or_damage bytes closed at new (inl a) = new_or_damaged bytes closed at new (inl a)
-nothing_or_damage bytes closed at new (inr (g, h, b)) = no_new bytes closed new (omega (arith, header_long g bytes h)) (header_first g bytes h)
-
 -- ---- where reading ends
 
 -- a record that makes nothing stops it
-pub stops_made : (bytes : List ℕ) (at : ℕ) (made : Option Durable) (body : List ℕ) (next : ℕ) → SoFar bytes at made → IsRecordAt bytes at body next → ((d : Durable) → Makes made body d → ⊥) → StopsAt bytes at
-stops_made bytes at made body next so_far r none = record {
+pub stops_made : (bytes : List ℕ) (at base : ℕ) (made : Option Durable) (body : List ℕ) (next : ℕ) → SoFar bytes at base made → IsRecordAt bytes at body next → ((d : Durable) → Makes made body d → ⊥) → StopsAt bytes at
+stops_made bytes at base made body next so_far r none = record {
   bodies = so_far.bodies;
   records = so_far.records;
   made = made;
@@ -98,41 +73,21 @@ stops_made bytes at made body next so_far r none = record {
   };
 }
 
--- and so does a gate that isn't there, or no whole record after it
-pub stops_broken : (bytes : List ℕ) (at : ℕ) (made : Option Durable) → SoFar bytes at made → IsBroken (drop at bytes) → StopsAt bytes at
-stops_broken bytes at made so_far broken = record {
-  bodies = so_far.bodies;
-  records = so_far.records;
-  made = made;
-  make = so_far.make;
-  ends = record { not_closed = λ closed. closed_or_broken (drop at bytes) closed broken; no_record = λ body next d r m. broken_or_record bytes at body next broken r };
-}
-
 some_stays : (d : Durable) (bodies : List (List ℕ)) → AllMake (Some d) bodies None → ⊥
 some_stays d [] is = absurd (cc)
 some_stays d (b ∷ bodies) all = some_stays all.0 bodies all.2
 
 -- after an open gate something is made
-pub something_made : (bytes : List ℕ) (generation first at : ℕ) → IsBegun generation first bytes → SoFar bytes at None → IsClosed (drop at bytes) → ⊥
-something_made bytes generation first at begun so_far closed = by_bodies so_far.bodies so_far.records so_far.make
+pub something_made : (bytes : List ℕ) (generation first at base : ℕ) → IsBegun generation first bytes → SoFar bytes at base None → IsClosed (drop at bytes) → ⊥
+something_made bytes generation first at base begun so_far closed = by_bodies so_far.bodies so_far.records so_far.make
   where
     by_bodies : (bodies : List (List ℕ)) → AreRecords bytes bodies at → AllMake None bodies None → ⊥
     by_bodies [] r all = first_there bytes generation begun.header at r closed
     by_bodies (b ∷ bodies) r all = some_stays all.0 bodies all.2
 
 -- a whole row after a header is an area
-pub area_for : (bytes : List ℕ) (generation end : ℕ) (d : Durable) → HasHeader generation bytes → IsRowFor bytes end d → IsAreaFor generation end d bytes
-area_for bytes generation end d h row = record { bodies = row.bodies; area = area_of bytes generation h row.bodies end row.row; make = row.make }
+pub area_for : (bytes : List ℕ) (generation end base : ℕ) (d : Durable) → HasHeader generation bytes → IsRowFor bytes end base d → IsAreaFor generation end base d bytes
+area_for bytes generation end base d h row = record { bodies = row.bodies; area = area_of bytes generation h row.bodies end row.row; make = row.make; base_is = row.base_is }
 
-pub stands_area : (bytes : List ℕ) (generation end : ℕ) (d : Durable) → IsAreaFor generation end d bytes → StandsFor d bytes
-stands_area bytes generation end d a = record { generation = generation; bodies = a.bodies; records = a.area.records; make = a.make }
-
--- ---- what is told
-
-module _ {T : Type 0} where
-  -- damage is told where it is
-  pub told : (bytes : List ℕ) (at : ℕ) (r : Result T JournalFail) → IsErr r → IfDamaged r (IsDamagedFrom bytes) → IsDamagedFrom bytes at → IsDamagedOrStopped at r
-  told bytes at (Ok x) err damaged here = absurd (cc)
-  told bytes at (Err (fails.DiskFault n)) err damaged here = tt
-  told bytes at (Err (fails.Damaged n)) err damaged here = one_damage bytes n at damaged here
-  told bytes at (Err fails.NoMemory) err damaged here = tt
+pub stands_area : (bytes : List ℕ) (generation end base : ℕ) (d : Durable) → IsAreaFor generation end base d bytes → StandsAs generation d bytes
+stands_area bytes generation end base d a = record { bodies = a.bodies; records = a.area.records; make = a.make }

@@ -1,122 +1,211 @@
 -- What an opening finds and leaves.
-use Rattle.std.specs.Prelude.{◌≡◌, ◌⊎◌, ◌≤◌, ◌+◌, ℕ, Bool, true, false, List, [], ◌∷◌, drop, Result, Ok, Err, OnOk, IfOk, IfErr}
-use Rattle.op_outside.specs.Disks.{DiskState, MayLeave, LeavesOnly, Counts, CountsUpTo}
+use Rattle.std.specs.Prelude.{◌≡◌, ◌⊎◌, ◌<◌, ◌≤◌, ◌+◌, ℕ, Bool, true, false, List, [], ◌∷◌, length, drop, Result, Ok, Err, OnOk, IfOk, IfErr}
+use Rattle.op_outside.specs.Disks.{disk_end, DiskState, IsAtRest, LeavesOnly, Counts, CountsUpTo}
+use Rattle.op_record.specs.Ranges.{DurableInRange}
 use Rattle.op_record.specs.Forms.{body}
 use Rattle.op_record.specs.declared.body.Rec.TheVariants.{Whole}
-use Rattle.op_journal.specs.Calls.{synced_calls, most_reading_calls, format_calls, trim_calls, CountsFailing}
-use Rattle.op_journal.specs.Failing.{IfDamaged}
-use Rattle.op_journal.specs.declared.fail.JournalFail.{JournalFail}
-use Rattle.op_journal.specs.declared.fail.JournalFail.TheVariants as journal
+use Rattle.op_journal.specs.Areas.{IsGeneration, HoldsRecords, IsSettled}
 use Rattle.op_types.specs.declared.durable.Durable.{Durable}
-use Rattle.op_journal.specs.Beginnings.{HasNone, first_generation, new_area}
-use Rattle.op_store.specs.Stored.{StandsFor, Settles, Disks, Obey, LeavesPairs, KeepBoth}
-use Rattle.op_store.specs.Readings.{IsDamagedFrom, IsDamageOf}
+use Rattle.op_journal.specs.Calls.{synced_calls, reading_calls, most_reading_calls, format_calls, trim_calls}
+use Rattle.op_journal.specs.Beginnings.{IsOldOrNone, first_generation, new_area}
+use Rattle.op_store.specs.Stored.{IsStored, StoreNothing, Disks, disks_with, chosen, chosen_disk, other_disk, Obey, HaveImages, LeavesPairs, KeepBoth}
+use Rattle.op_store.specs.Readings.{IsRead, IsDamageOf}
 use Rattle.op_store.specs.Failing.{faults, IsFaultOf, IsDamageOrStopped}
-use Rattle.op_store.specs.Stores.{disks_of, Represents, IsReady}
+use Rattle.op_store.specs.Stores.{disks_of, IsOpen, Represents, IsReady}
 use Rattle.op_store.specs.declared.area.OpenArea.{OpenArea}
+use Rattle.op_store.specs.declared.reading.Reading.{Reading}
+use Rattle.op_store.specs.declared.reading.Reading.TheVariants as reading
 use Rattle.op_store.specs.declared.store.Store.{Store}
 use Rattle.op_store.specs.declared.fail.StoreFail.{StoreFail}
 use Rattle.op_store.specs.declared.fail.StoreFail.TheVariants.{DiskFault, Damaged, NoMemory}
 use Rattle.op_store.specs.declared.fail.Returned.{Returned}
 
--- ---- of one disk
-
--- this durable state was found in the bytes or, where they are no area, is the fresh one
-abbrev pub IsFoundIn : Durable → List ℕ → Durable → Bool → Type 0
-IsFoundIn fresh bytes d false = StandsFor d bytes
-IsFoundIn fresh bytes d true = HasNone bytes × (d ≡ fresh)
-
--- what the old bytes stand for stays; where they are no area, there is none or one of the fresh durable state
-abbrev pub StaysIn : Durable → List ℕ → List ℕ → Type 0
-StaysIn fresh old image =
-    ((d : Durable) × StandsFor d old × StandsFor d image)
-    ⊎ (HasNone old × (HasNone image ⊎ StandsFor fresh image))
-
--- ---- how many calls it makes of a disk
-
--- it reads these bytes, which are no area, and formats
-abbrev pub beginning_calls : List ℕ → ℕ
-beginning_calls [] = synced_calls + format_calls false
-beginning_calls (a ∷ []) = synced_calls + format_calls false
-beginning_calls (a ∷ b ∷ rest) = most_reading_calls + format_calls true
-
--- it begins an area or reads one, and cuts what lies after the closed gate at this place
-abbrev pub opening_calls : Bool → ℕ → List ℕ → ℕ
-opening_calls true end bytes = beginning_calls bytes
-opening_calls false end bytes = most_reading_calls + trim_calls (drop (end + 1) bytes)
-
--- the calls of the longest opening
-abbrev pub most_opening_calls : ℕ
-most_opening_calls = synced_calls + format_calls false
-
--- those of an opening with this answer
-abbrev pub CountsOpening : DiskState → DiskState → Result OpenArea JournalFail → Type 0
-CountsOpening old new (Ok a) = Counts (opening_calls a.is_new a.end old.content) old.calls new.calls
-CountsOpening old new (Err e) = CountsFailing most_opening_calls e old.calls new.calls
-
--- those of a format that fails, at most all after a fault, and none without memory
-abbrev pub CountsUnformatted : Bool → JournalFail → ℕ → ℕ → Type 0
-CountsUnformatted closed (journal.DiskFault n) before now = CountsUpTo (format_calls closed) before now
-CountsUnformatted closed (journal.Damaged at) before now = ⊥
-CountsUnformatted closed journal.NoMemory before now = now ≡ before
-
--- those of an opening that is refused: after damage a whole reading,
--- without memory no more, and after a fault at most the longest's
-abbrev pub CountsRefused : StoreFail → ℕ → ℕ → Type 0
-CountsRefused (DiskFault n) before now = CountsUpTo most_opening_calls before now
-CountsRefused (Damaged area at) before now = Counts most_reading_calls before now
-CountsRefused NoMemory before now = CountsUpTo most_reading_calls before now
-
--- ---- what it finds and leaves
-
--- an area that is open: what it stands for was found or begun, and each image of the disk then stands for it
-pub record IsOpenArea (fresh : Durable) (old new : DiskState) (a : OpenArea) : Type 0 where
-  pub found : IsFoundIn fresh old.content a.durable a.is_new
-  pub settles : Settles a.durable a.generation a.end new
-  pub begun : a.is_new ≡ true → new.content ≡ new_area first_generation (body.text (Whole fresh))
-
--- What an opening does to a disk: it opens its area, or tells damage at its place and has then changed
--- nothing. A crash at any moment leaves what it might have left before, or what stays of that.
-pub record OpensArea (fresh : Durable) (old new : DiskState)
-    (result : Result OpenArea JournalFail) : Type 0 where
-  pub opened : IfOk result (IsOpenArea fresh old new)
-  pub damaged : IfDamaged result (λ at. IsDamagedFrom old.content at × (new.content ≡ old.content))
-  pub calls : CountsOpening old new result
-  pub crash : LeavesOnly (λ image. MayLeave old image ⊎ StaysIn fresh old.content image) old new
-
--- what opening an area that was read does to its disk
-pub record Resumes (d : Durable) (old new : DiskState) (result : Result OpenArea JournalFail) : Type 0 where
-  pub opened : IfOk result
-      (λ a. (a.durable ≡ d) × (a.is_new ≡ false) × Settles a.durable a.generation a.end new)
-  pub crash : LeavesOnly (StandsFor d) old new
-
--- what beginning an area does to a disk that has none and of which nothing is pending
-pub record Begins (fresh : Durable) (closed : Bool) (old new : DiskState)
-    (result : Result OpenArea JournalFail) : Type 0 where
-  pub opened : IfOk result (IsOpenArea fresh old new)
-  pub is_new : IfOk result (λ a. a.is_new ≡ true)
-  pub calls : OnOk result (Counts (format_calls closed) old.calls new.calls)
-  pub calls_failing : IfErr result (λ e. CountsUnformatted closed e old.calls new.calls)
-  pub crash : LeavesOnly (λ image. HasNone image ⊎ StandsFor fresh image) old new
-
--- ---- of both, of which the second isn't read yet
-
 -- an opening found this durable state on the disks or, where they store nothing, began with the fresh one
 abbrev pub IsOpenedAs : Durable → List ℕ → List ℕ → Durable → Bool → Type 0
-IsOpenedAs fresh first second = IsFoundIn fresh first
+IsOpenedAs fresh first second d false = IsStored d first second
+IsOpenedAs fresh first second d true = StoreNothing first second × (d ≡ fresh)
 
 -- what the disks stored stays; where they stored nothing, they store nothing or the fresh durable state
 abbrev pub Remains : Durable → List ℕ → List ℕ → List ℕ → List ℕ → Type 0
-Remains fresh first second x y = StaysIn fresh first x
+Remains fresh first second x y =
+    ((d : Durable) × IsStored d first second × IsStored d x y)
+    ⊎ (StoreNothing first second × (StoreNothing x y ⊎ IsStored fresh x y))
 
--- A crash at any moment of an opening leaves what it might have left before,
+-- A crash after an opening, or at any moment of it, leaves what it might have left before,
 -- or what remains of what the disks store.
 abbrev pub Keeps : Durable → Disks → Disks → Type 0
 Keeps fresh old new = LeavesPairs (Remains fresh old.first.content old.second.content) old new
 
+-- ---- how many calls it makes of the disks
+
+-- an area is begun on a disk that holds these bytes: its gate is closed first, unless more bytes stand
+-- after a closed one
+abbrev pub beginning_calls : List ℕ → ℕ
+beginning_calls [] = format_calls false
+beginning_calls (a ∷ []) = format_calls false
+beginning_calls (a ∷ b ∷ rest) = format_calls true
+
+-- once both are read, an area is begun, or what lies after the closed gate at this place is cut
+abbrev pub ending_calls : Bool → ℕ → List ℕ → ℕ
+ending_calls true end bytes = beginning_calls bytes
+ending_calls false end bytes = trim_calls (drop (end + 1) bytes)
+
+-- of an opening that answers Ok: both disks are read, and the chosen area's is written to
+pub record CountsOpened (is_new is_second : Bool) (end : ℕ) (old new : Disks) : Type 0 where
+  pub chosen : Counts (reading_calls (chosen_disk is_second old).content
+      + ending_calls is_new end (chosen_disk is_second old).content)
+      (chosen_disk is_second old).calls (chosen_disk is_second new).calls
+  pub other : Counts (reading_calls (other_disk is_second old).content)
+      (other_disk is_second old).calls (other_disk is_second new).calls
+
+-- no call, or so many at most
+abbrev pub CountsAtMost : ℕ → ℕ → ℕ → Type 0
+CountsAtMost n before now = (now ≡ before) ⊎ CountsUpTo n before now
+
+-- a reading of both disks
+abbrev pub CountsReadings : Disks → Disks → Type 0
+CountsReadings old new = Counts (reading_calls old.first.content) old.first.calls new.first.calls
+    × Counts (reading_calls old.second.content) old.second.calls new.second.calls
+
+-- a reading of both that stops: no more, and none of the second disk where it stops at the first one
+abbrev pub CountsStopped : Disks → Disks → Type 0
+CountsStopped old new = CountsUpTo most_reading_calls old.first.calls new.first.calls
+    × CountsAtMost most_reading_calls old.second.calls new.second.calls
+
+-- the most of the first disk: it is read, and an area is begun
+abbrev pub most_calls_of_first : ℕ
+most_calls_of_first = synced_calls + format_calls false
+
+-- the most of the second one: it is read, and what lies after a closed gate is cut
+abbrev pub most_calls_of_second : ℕ
+most_calls_of_second = most_reading_calls + synced_calls
+
+-- those of an opening that is refused: after damage both disks were read, without memory they were at most,
+-- and after a fault one was written to besides, at most
+abbrev pub CountsRefused : StoreFail → Disks → Disks → Type 0
+CountsRefused (DiskFault n) old new = CountsUpTo most_calls_of_first old.first.calls new.first.calls
+    × CountsAtMost most_calls_of_second old.second.calls new.second.calls
+CountsRefused (Damaged area at) old new = CountsReadings old new
+CountsRefused NoMemory old new = CountsStopped old new
+
+-- those of an opening, by its answer
+abbrev pub CountsOpening : Disks → Disks → Result OpenArea StoreFail → Type 0
+CountsOpening old new (Ok a) = CountsOpened a.is_new a.is_second a.end old new
+CountsOpening old new (Err e) = CountsRefused e old new
+
+-- those of a reading of both
+abbrev pub CountsReading : {T : Type 0} → Disks → Disks → Result T StoreFail → Type 0
+CountsReading old new (Ok x) = CountsReadings old new
+CountsReading old new (Err e) = CountsStopped old new
+
+-- those of the beginning of an area, none without memory
+abbrev pub CountsBeginning : {T : Type 0} → Bool → ℕ → ℕ → Result T StoreFail → Type 0
+CountsBeginning closed before now (Ok x) = Counts (format_calls closed) before now
+CountsBeginning closed before now (Err (DiskFault n)) = CountsUpTo (format_calls closed) before now
+CountsBeginning closed before now (Err (Damaged area at)) = ⊥
+CountsBeginning closed before now (Err NoMemory) = now ≡ before
+
+-- ---- both disks are read
+
+-- the chosen one of two lengths
+abbrev pub len_in : Reading → ℕ → ℕ → ℕ
+len_in (reading.Area is_second generation durable end base is_closed) first second =
+    chosen is_second first second
+len_in (reading.New is_closed is_other_closed) first second = first
+
+-- an area that was found is on a disk with so many bytes
+abbrev pub HasLen : Reading → ℕ → Disks → Type 0
+HasLen (reading.Area is_second generation durable end base is_closed) len disks =
+    length (chosen_disk is_second disks).content ≡ len
+HasLen (reading.New is_closed is_other_closed) len disks = Unit {0}
+
+-- What a reading of both disks found, with the length of the chosen area's disk.
+-- Nothing has changed, and nothing is pending.
+pub record FindsAreas (old new : Disks) (r : Reading) (len : ℕ) : Type 0 where
+  pub found : IsRead old.first.content old.second.content r
+  pub rests_first : IsAtRest new.first
+  pub rests_second : IsAtRest new.second
+  pub same_first : new.first.content ≡ old.first.content
+  pub same_second : new.second.content ≡ old.second.content
+  pub size : HasLen r len new
+  pub calls : CountsReadings old new
+
+-- an area that is open: what it stands for was found or begun
+pub record IsOpenArea (fresh : Durable) (old new : Disks) (a : OpenArea) : Type 0 where
+  pub found : IsOpenedAs fresh old.first.content old.second.content a.durable a.is_new
+  pub is_open : IsOpen a.durable a.is_second a.generation a.end a.base a.is_closed new
+  pub begun : a.is_new ≡ true → new.first.content ≡ new_area first_generation (body.text (Whole fresh))
+
+-- a refusal for damage tells where it is, and nothing was changed
+abbrev pub IsRefusal : Disks → Disks → StoreFail → Type 0
+IsRefusal old new (DiskFault n) = Unit {0}
+IsRefusal old new (Damaged area at) = IsDamageOf old.first.content old.second.content area at
+    × (new.first.content ≡ old.first.content) × (new.second.content ≡ old.second.content)
+IsRefusal old new NoMemory = Unit {0}
+
+-- a reading that found nothing: damage is told, and nothing has changed, or it stopped before
+pub record FindsNone (old new : Disks) (e : StoreFail) : Type 0 where
+  pub refusal : IsRefusal old new e
+  pub complete : (area at : ℕ) → IsDamageOf old.first.content old.second.content area at →
+      IsDamageOrStopped area at e
+  pub images : HaveImages new
+  pub calls : CountsRefused e old new
+
+-- what an area that was found can go on with, whatever disks it was read from
+abbrev pub IsFitFor : ℕ → ℕ → ℕ → Durable → Type 0
+IsFitFor generation end base d =
+    (end < disk_end) × IsGeneration generation × (base ≤ disk_end) × DurableInRange d
+
+-- what was read is that, where it is an area
+abbrev pub IsFit : Reading → Type 0
+IsFit (reading.Area is_second generation durable end base is_closed) = IsFitFor generation end base durable
+IsFit (reading.New is_closed is_other_closed) = Unit {0}
+
+-- an area that is open is that
+abbrev pub IsFitArea : OpenArea → Type 0
+IsFitArea a = IsFitFor a.generation a.end a.base a.durable
+
+-- ---- an area is begun
+
+-- the first area, just begun of this durable state, whose closed gate is at this place
+abbrev pub begun_area : Durable → Bool → ℕ → OpenArea
+begun_area fresh is_closed end =
+    record {
+      is_second = false;
+      generation = first_generation;
+      end = end;
+      base = end + 1;
+      is_closed = is_closed;
+      durable = fresh;
+      is_new = true;
+    }
+
+-- What the beginning of an area of this durable state does to its disk. A crash at any moment leaves the
+-- bytes from before, no area, or the whole new one.
+pub record BeginsArea (fresh : Durable) (old new : DiskState)
+    (result : Result OpenArea StoreFail) : Type 0 where
+  pub settled : IfOk result (λ a. IsSettled first_generation (body.text (Whole fresh) ∷ []) a.end new)
+  pub written : OnOk result (new.content ≡ new_area first_generation (body.text (Whole fresh)))
+  pub crash : LeavesOnly (λ image. IsOldOrNone old.content image
+      ⊎ HoldsRecords first_generation (body.text (Whole fresh) ∷ []) image) old new
+
+-- ---- an opening
+
+-- What an opening does to disks that obey the model: it opens an area, or tells damage at its place and has
+-- then changed nothing. Damage is told wherever there is some, unless a disk failed or there was no memory.
+pub record OpensAreas (fresh : Durable) (old new : Disks) (result : Result OpenArea StoreFail) : Type 0 where
+  pub opened : IfOk result (IsOpenArea fresh old new)
+  pub undamaged : OnOk result ((area at : ℕ) → IsDamageOf old.first.content old.second.content area at → ⊥)
+  pub refusal : IfErr result (IsRefusal old new)
+  pub complete : IfErr result (λ e. (area at : ℕ) → IsDamageOf old.first.content old.second.content area at →
+      IsDamageOrStopped area at e)
+  pub crash : Keeps fresh old new
+  pub images : HaveImages new
+  pub calls : CountsOpening old new result
+
 -- An opening that answers Ok: the store is ready, and no disk has failed.
 -- Where the disks obey the model the store represents the durable state that they stored or,
--- where they stored nothing, the fresh one, and is then an area of the first generation alone.
+-- where they stored nothing, the fresh one, and the first disk is then an area of the first generation alone.
 pub record Opened {D : Type 0} (state : D → DiskState) (fresh : Durable) (old : Disks) (s : Store D)
     (d : Durable) (is_new : Bool) : Type 0 where
   pub ready : IsReady s
@@ -126,25 +215,17 @@ pub record Opened {D : Type 0} (state : D → DiskState) (fresh : Durable) (old 
   pub stored : Obey old → Represents state d s
   pub begun : Obey old → is_new ≡ true →
       (state s.first).content ≡ new_area first_generation (body.text (Whole fresh))
-  pub calls : old.first.obeys →
-      Counts (opening_calls is_new s.end old.first.content) old.first.calls (state s.first).calls
+  pub calls : Obey old → CountsOpened is_new s.is_second s.end old (disks_of state s)
   pub undamaged : Obey old → (area at : ℕ) → IsDamageOf old.first.content old.second.content area at → ⊥
   pub crash : Obey old → Keeps fresh old (disks_of state s)
 
 -- the disks that a refused opening hands back
 abbrev pub handed_back : {D : Type 0} → (D → DiskState) → Returned D → Disks
-handed_back state e = record { first = state e.first; second = state e.second }
-
--- a refusal for damage tells where it is, and nothing was changed
-abbrev pub IsRefusal : Disks → Disks → StoreFail → Type 0
-IsRefusal old new (DiskFault n) = Unit {0}
-IsRefusal old new (Damaged area at) = IsDamageOf old.first.content old.second.content area at
-    × (new.first.content ≡ old.first.content) × (new.second.content ≡ old.second.content)
-IsRefusal old new NoMemory = Unit {0}
+handed_back state e = disks_with state e.first e.second
 
 -- An opening that is refused: a fault is told where the count of a disk rose, and nowhere else.
 -- Damage is told wherever there is some, unless a disk failed or there was no memory.
--- What a read of the first disk gives then is one of its images.
+-- What a read of the disks gives then is one of their images.
 pub record Refused {D : Type 0} (state : D → DiskState) (fresh : Durable) (old : Disks)
     (e : Returned D) : Type 0 where
   pub later : faults old ≤ faults (handed_back state e)
@@ -153,6 +234,6 @@ pub record Refused {D : Type 0} (state : D → DiskState) (fresh : Durable) (old
   pub refusal : Obey old → IsRefusal old (handed_back state e) e.cause
   pub complete : Obey old → (area at : ℕ) → IsDamageOf old.first.content old.second.content area at →
       IsDamageOrStopped area at e.cause
-  pub calls : old.first.obeys → CountsRefused e.cause old.first.calls (state e.first).calls
-  pub image : old.first.obeys → MayLeave (state e.first) (state e.first).content
+  pub calls : Obey old → CountsRefused e.cause old (handed_back state e)
+  pub images : Obey old → HaveImages (handed_back state e)
   pub crash : Obey old → Keeps fresh old (handed_back state e)

@@ -1,80 +1,122 @@
-//! An area's bytes are read: what its records make, one after the other.
-ghost use Rattle.std.specs.Prelude.{◌≡◌, ℕ, List, Some, IfOk, IfSome, IfNone};
+//! Two areas' bytes are read: what the chosen one's records make, one after the other.
+ghost use Rattle.std.specs.Prelude.{◌≡◌, ◌≢◌, ◌<◌, ◌+◌, ◌-◌, ◌^◌, ℕ, List, Some, IfOk, IfErr, IfSome, IfNone};
 ghost use Rattle.op_types.specs.Changes.{Applies, durable_after};
 ghost use Rattle.op_types.specs.declared.changes.Change.{Change};
 ghost use Rattle.op_types.specs.declared.durable.Durable.{Durable};
 ghost use Rattle.op_record.specs.declared.body.Rec.TheVariants.{Whole, Step};
 ghost use Rattle.op_journal.specs.Rows.{IsBegun};
-ghost use Rattle.op_journal.specs.Failing.{IfDamaged, IfFault, IsDamagedOrNoMemory};
+ghost use Rattle.op_journal.specs.Failing.{IfDamaged, IfFault};
 ghost use Rattle.op_store.specs.Records.{Makes};
-ghost use Rattle.op_store.specs.Readings.{IsRowFor, StopsAt, IsDamagedFrom, IsRead};
+ghost use Rattle.op_store.specs.Readings.{IsRowFor, StopsAt, IsDamageOf, IsRead};
+ghost use Rattle.op_store.specs.Failing.{IsDamageOrNoMemory};
 ghost use Rattle.op_types.specs.Rooms.{room_of};
 
+use crate::choosing::{Choice, choose, chosen_of};
+use crate::fail::{StoreFail, cause_of};
 use op_fields::{NoMemory, TakeFail};
-use op_journal::{Begun, Journal, JournalFail};
+use op_journal::{Journal, JournalFail};
 use op_record::{Rec, take};
 use op_types::Durable;
 use std::alloc::Global;
 
-/// What an area's bytes hold.
+/// What the bytes of two disks hold.
 #[derive(Drop)]
 pub enum Reading {
-    /// An area.
+    /// An area is chosen.
     Area {
+        /// Whether it is on the second disk.
+        is_second: bool,
         /// Its generation, 1 to 2^62 - 1.
         generation: u64,
         /// The durable state that its records make.
         durable: Durable,
         /// The byte offset of its closed gate.
         end: u64,
+        /// Its length right after its format.
+        base: u64,
+        /// Whether a closed gate stands before more bytes of the other disk.
+        is_closed: bool,
     },
-    /// No area: a byte at most, or more bytes after a closed gate.
+    /// No area.
     New {
-        /// Whether there are more bytes, after a closed gate.
-        closed: bool,
+        /// Whether a closed gate stands before more bytes of the first disk.
+        is_closed: bool,
+        /// The same of the second disk.
+        is_other_closed: bool,
     },
 }
 
-/// What these bytes hold. No disk fault comes.
-pub fn read(alloc: Global, bytes: &[u8]) -> Result<Reading, JournalFail>
-    ensures found { IfOk result (IsRead bytes.now) }
-    ensures damaged { IfDamaged result (IsDamagedFrom bytes.now) }
-    ensures complete { (at : ℕ) → IsDamagedFrom bytes.now at → IsDamagedOrNoMemory at result }
-    ensures no_fault { IfFault result (λ _. ⊥) }
+/// What the bytes of two disks hold. No disk fault comes.
+pub fn read(alloc: Global, first: &[u8], second: &[u8]) -> Result<Reading, StoreFail>
+    ensures found { IfOk result (IsRead first.now second.now) }
+    ensures undamaged { IfOk result (λ _. (area at : ℕ) → IsDamageOf first.now second.now area at → ⊥) }
+    ensures damaged { IfErr result (IsDamageOrNoMemory first.now second.now) }
 {
-    match Journal::begun(bytes)? {
-        Begun::New { closed } => Ok(Reading::New { closed }),
-        Begun::Area { generation, first } => {
-            let (durable, end) = durable_of(alloc, bytes, first)?;
-            Ok(Reading::Area {
-                generation,
-                durable,
-                end,
-            })
+    match choose(first, second)? {
+        Choice::Neither {
+            is_closed,
+            is_other_closed,
+        } => Ok(Reading::New {
+            is_closed,
+            is_other_closed,
+        }),
+        Choice::Area {
+            is_second,
+            generation,
+            start,
+            is_closed,
+        } => {
+            let bytes = chosen_of(is_second, first, second);
+            match durable_of(alloc, bytes, start) {
+                Ok((durable, end, base)) => Ok(Reading::Area {
+                    is_second,
+                    generation,
+                    durable,
+                    end,
+                    base,
+                    is_closed,
+                }),
+                Err(fail) => Err(cause_of(fail, is_second as u8, 0)),
+            }
         }
     }
 }
 
-/// What the records after a header make, from the first one on, and the byte offset of the closed gate after them.
-fn durable_of(alloc: Global, bytes: &[u8], first: usize) -> Result<(Durable, u64), JournalFail>
+/// What the records after a header make, from the first one on, the byte offset of the closed gate after them, and the
+/// area's length with the first of them alone.
+fn durable_of(alloc: Global, bytes: &[u8], first: usize) -> Result<(Durable, u64, u64), JournalFail>
     requires { (generation : ℕ) × IsBegun generation first bytes.now }
-    ensures found { IfOk result (λ r. IsRowFor bytes.now r.1 r.0) }
+    ensures found { IfOk result (λ r. IsRowFor bytes.now r.1 r.2 r.0) }
     ensures damaged { IfDamaged result (StopsAt bytes.now) }
     ensures no_fault { IfFault result (λ _. ⊥) }
 {
     let mut made = None;
     let mut at = first;
+    let mut base = 0;
     'records: while let Some((body, next)) = Journal::record_at(bytes, at)? {
         let Some(durable) = after_record(alloc, made, body)? else {
             return Err(JournalFail::Damaged { at: at as u64 });
         };
         made = Some(durable);
+        base = base_after(base, next);
         at = next;
     }
     match made {
-        Some(durable) => Ok((durable, at as u64)),
+        Some(durable) => Ok((durable, at as u64, base)),
         None => unreachable!(),
     }
+}
+
+/// The area's length with its first record alone, once a record ends at this byte offset.
+fn base_after(base: u64, next: usize) -> u64
+    requires { next < 2 ^ 64 - 1 }
+    ensures first { base ≡ 0 → result ≡ next + 1 }
+    ensures later { base ≢ 0 → result ≡ base }
+{
+    if base == 0 {
+        return next as u64 + 1;
+    }
+    base
 }
 
 /// What a record makes of what those before it made, or none where it makes nothing.

@@ -1,32 +1,55 @@
-ghost use Rattle.std.specs.Prelude.{◌≡◌, ℕ, List, IfOk, IfErr};
+ghost use Rattle.std.specs.Prelude.{◌≡◌, ◌≤◌, ◌<◌, ◌*◌, ◌↔◌, max, true, IsTrue, ℕ, List, IfOk, IfErr};
+ghost use Rattle.op_outside.specs.Disks.{disk_end, LeavesOnly};
 ghost use Rattle.op_types.specs.Changes.{Applies};
 ghost use Rattle.op_types.specs.declared.durable.Durable.{Durable};
 ghost use Rattle.op_types.specs.declared.changes.Change.{Change};
 ghost use Rattle.op_record.specs.Ranges.{DurableInRange};
-ghost use Rattle.op_record.specs.declared.body.Rec.TheVariants.{Step};
+ghost use Rattle.op_record.specs.declared.body.Rec.TheVariants.{Step, Whole};
+ghost use Rattle.op_store.specs.Failing.{faults};
 ghost use Rattle.op_store.specs.Records.{IsBodyOf};
-ghost use Rattle.op_store.specs.Stored.{Disks, RestsAs};
-ghost use Rattle.op_store.specs.Stores.{Represents, IsReady, Commits, GoesOnOrFails, detached_of};
+ghost use Rattle.op_store.specs.Stored.{disks_with, chosen_disk, other_disk, RestsAs};
+ghost use Rattle.op_store.specs.Stores.{
+  Represents,
+  IsReady,
+  Passes,
+  Commits,
+  Checkpoints,
+  StandsBeforeOrAfter,
+  IsBelowOrNext,
+  GoesOnOrFails,
+  Appended,
+  Switched,
+  checkpoint_len,
+  last_generation,
+  disks_of,
+  detached_of,
+};
 ghost use Rattle.op_store.specs.Openings.{Opened, Refused};
-ghost use Rattle.op_store.specs.Failing.{total, IsCauseOf};
 
-use crate::area::open_area;
-use crate::fail::{Returned, StoreFail};
-use op_journal::{DiskFault, Framed, Journal, JournalFail};
+use crate::area::open_areas;
+use crate::fail::{Returned, faults};
+use crate::writing::{append, format};
+use op_journal::{DiskFault, Framed};
 use op_outside::Disk;
 use op_types::Durable;
 use std::alloc::Global;
 
-/// A node's durable state on two disks. Each step's batch is one record of the area on the first disk; the second isn't used
-/// yet.
+/// A node's durable state on two disks, each of which has an area or none. Each step's batch is one record of the chosen
+/// area, and a checkpoint begins the other one with the whole state.
 #[derive(Drop)]
 pub struct Store<D> {
     first: D,
     second: D,
-    /// The area's generation.
+    /// Whether the chosen area is on the second disk.
+    is_second: bool,
+    /// The chosen area's generation.
     generation: u64,
-    /// The byte offset of the area's closed gate.
+    /// The byte offset of the chosen area's closed gate.
     end: u64,
+    /// The chosen area's length right after its format.
+    base: u64,
+    /// Whether a closed gate stands before more bytes of the other disk.
+    is_closed: bool,
     /// A call of a disk failed: the store has to be opened again.
     is_failed: bool,
 }
@@ -34,27 +57,26 @@ pub struct Store<D> {
 /// A store without its disks.
 #[derive(Clone, Copy, Debug, PartialEq, Eq)]
 pub struct Detached {
+    is_second: bool,
     generation: u64,
     end: u64,
+    base: u64,
+    is_closed: bool,
     is_failed: bool,
 }
 
-/// How often two disks have failed.
-fn faults<D: Disk>(first: &D, second: &D) -> u64
-    ensures { result ≡ total (D.state first.now).faults (D.state second.now).faults }
-{
-    first.faults().saturating_add(second.faults())
-}
+/// At the last generation no checkpoint is made.
+const LAST_GENERATION: u64 = (1 << 62) - 1;
 
-/// Why the area of the first disk was not opened, with the faults of both.
-fn cause_of(fail: JournalFail, count: u64) -> StoreFail
-    ensures { IsCauseOf fail count result }
+/// An area that is no longer than this, in bytes, is never left for a checkpoint.
+const CHECKPOINT_LEN: u64 = 1 << 20;
+
+/// So long may an area become that was this long right after its format.
+fn longest(base: u64) -> u64
+    requires { base ≤ disk_end }
+    ensures { result ≡ max checkpoint_len (2 * base) }
 {
-    match fail {
-        JournalFail::DiskFault { .. } => StoreFail::DiskFault { count },
-        JournalFail::Damaged { at } => StoreFail::Damaged { area: 0, at },
-        JournalFail::NoMemory => StoreFail::NoMemory,
-    }
+    CHECKPOINT_LEN.max(2 * base)
 }
 
 impl<D: Disk> Store<D> {
@@ -64,39 +86,34 @@ impl<D: Disk> Store<D> {
         alloc: Global,
         fresh: Durable,
         mut first: D,
-        second: D,
+        mut second: D,
     ) -> Result<(Store<D>, Durable, bool), Returned<D>>
         requires { DurableInRange fresh }
-        ensures opened { IfOk result (λ o.
-            let old : Disks = record { first = D.state first; second = D.state second } in
-            Opened D.state fresh old o.0 o.1 o.2) }
-        ensures refused { let old : Disks = record { first = D.state first; second = D.state second } in
-            IfErr result (Refused D.state fresh old) }
+        ensures opened { IfOk result
+            (λ o. Opened D.state fresh (disks_with D.state first second) o.0 o.1 o.2) }
+        ensures refused { IfErr result (Refused D.state fresh (disks_with D.state first second)) }
         // What is found is in range, whatever a disk gives that doesn't obey the model.
         ensures range { IfOk result (λ o. DurableInRange o.1) }
-        // The second disk isn't called.
-        ensures uncalled { IfOk result (λ o. o.0.second ≡ second) }
-        ensures returned { IfErr result (λ e. e.second ≡ second) }
     {
-        match open_area(alloc, fresh, &mut first) {
+        match open_areas(alloc, fresh, &mut first, &mut second) {
             Ok(area) => {
                 let store = Store {
                     first,
                     second,
+                    is_second: area.is_second,
                     generation: area.generation,
                     end: area.end,
+                    base: area.base,
+                    is_closed: area.is_closed,
                     is_failed: false,
                 };
                 Ok((store, area.durable, area.is_new))
             }
-            Err(fail) => {
-                let cause = cause_of(fail, faults(&first, &second));
-                Err(Returned {
-                    cause,
-                    first,
-                    second,
-                })
-            }
+            Err(cause) => Err(Returned {
+                cause,
+                first,
+                second,
+            }),
         }
     }
 
@@ -107,19 +124,89 @@ impl<D: Disk> Store<D> {
         ensures commits { (d : Durable) (batch : List Change) →
             Represents D.state d self.old → IsBodyOf (Step batch) framed.now → Applies d batch →
             Commits D.state d batch self.old self.new result }
+        // What the calls of one disk leave, for a caller that makes more calls after it.
+        ensures alone { (d : Durable) (batch : List Change) →
+            Represents D.state d self.old → IsBodyOf (Step batch) framed.now → Applies d batch →
+            LeavesOnly (StandsBeforeOrAfter self.old.generation d batch)
+            (chosen_disk self.old.is_second (disks_of D.state self.old))
+            (chosen_disk self.old.is_second (disks_of D.state self.new)) }
         ensures ends { GoesOnOrFails D.state self.old self.new result }
+        ensures appended { Appended D.state framed.now self.old self.new result }
     {
-        match Journal::append(&mut self.first, self.end, framed) {
-            Ok(end) => {
-                self.end = end;
+        match append(
+            &mut self.first,
+            &mut self.second,
+            self.is_second,
+            self.end,
+            framed,
+        ) {
+            Ok(next) => {
+                self.end = next;
                 Ok(())
             }
-            Err(_) => {
-                self.is_failed = true;
-                Err(DiskFault {
-                    count: faults(&self.first, &self.second),
-                })
+            Err(_) => Err(self.fail()),
+        }
+    }
+
+    /// Whether the chosen area, with this record more, is due for a checkpoint: it isn't of the last generation, and would be
+    /// longer than 1,048,576 bytes, and than twice its length right after its format. It takes no memory.
+    pub fn passes(&self, framed: &Framed) -> bool
+        requires { IsReady self.now }
+        ensures { IsTrue result ↔ Passes self.now framed.now }
+    {
+        if LAST_GENERATION <= self.generation {
+            return false;
+        }
+        let len = self
+            .end
+            .saturating_add(framed.bytes().len() as u64)
+            .saturating_add(1);
+        longest(self.base) < len
+    }
+
+    /// Stores the whole durable state in the other area, which is chosen from then on. It takes no memory, and fails where a
+    /// call of a disk does, with the count of faults of both disks; then the store is failed.
+    pub fn checkpoint(&mut self, framed: Framed) -> Result<(), DiskFault>
+        requires ready { IsReady self.old }
+        requires earlier { self.old.generation < last_generation }
+        ensures checkpoints { (d : Durable) → Represents D.state d self.old → IsBodyOf (Whole d) framed →
+            Checkpoints D.state d self.old self.new result }
+        // What the calls of one disk leave, for a caller that made calls before it.
+        ensures alone { (d : Durable) → Represents D.state d self.old → IsBodyOf (Whole d) framed →
+            LeavesOnly (IsBelowOrNext self.old.is_second self.old.generation d)
+            (other_disk self.old.is_second (disks_of D.state self.old))
+            (other_disk self.old.is_second (disks_of D.state self.new)) }
+        ensures ends { GoesOnOrFails D.state self.old self.new result }
+        ensures switched { Switched D.state self.old self.new result }
+    {
+        match format(
+            &mut self.first,
+            &mut self.second,
+            self.is_second,
+            self.is_closed,
+            self.generation + 1,
+            framed,
+        ) {
+            Ok(end) => {
+                self.is_second = !self.is_second;
+                self.generation += 1;
+                self.end = end;
+                self.base = end + 1;
+                self.is_closed = false;
+                Ok(())
             }
+            Err(_) => Err(self.fail()),
+        }
+    }
+
+    /// Notes that a call of a disk failed, and tells how often one has.
+    fn fail(&mut self) -> DiskFault
+        ensures failed { self.new ≡ record self.old { is_failed = true } }
+        ensures told { result.count ≡ faults (disks_of D.state self.old) }
+    {
+        self.is_failed = true;
+        DiskFault {
+            count: faults(&self.first, &self.second),
         }
     }
 
@@ -132,32 +219,42 @@ impl<D: Disk> Store<D> {
         let Store {
             first,
             second,
+            is_second,
             generation,
             end,
+            base,
+            is_closed,
             is_failed,
         } = self;
         let detached = Detached {
+            is_second,
             generation,
             end,
+            base,
+            is_closed,
             is_failed,
         };
         (detached, first, second)
     }
 
-    /// A store over these disks, which goes on as the one before where the first disk is at rest with the same content.
+    /// A store over these disks, which goes on as the one before where both are at rest with the same content.
     pub fn from_parts(detached: Detached, first: D, second: D) -> Self
         ensures detached { detached_of result ≡ detached }
         ensures first { result.first ≡ first }
         ensures second { result.second ≡ second }
         ensures ready { (s : Store D) → detached ≡ detached_of s → IsReady s → IsReady result }
         ensures represents { (s : Store D) (d : Durable) → detached ≡ detached_of s → Represents D.state d s →
-            RestsAs (D.state s.first) (D.state first) → (D.state second).obeys → Represents D.state d result }
+            RestsAs (D.state s.first) (D.state first) → RestsAs (D.state s.second) (D.state second) →
+            Represents D.state d result }
     {
         Store {
             first,
             second,
+            is_second: detached.is_second,
             generation: detached.generation,
             end: detached.end,
+            base: detached.base,
+            is_closed: detached.is_closed,
             is_failed: detached.is_failed,
         }
     }

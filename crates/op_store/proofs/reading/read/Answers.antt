@@ -1,40 +1,21 @@
-use Rattle.std.proofs.Common.{◌≡◌, inl, inr, rules}
-use Rattle.std.specs.Prelude.{IsErr}
-use Rattle.op_journal.specs.Areas.{HasHeader}
-use Rattle.op_journal.specs.Readings.{HasNoHeader}
-use Rattle.op_journal.specs.Failing.{IfDamaged, IfFault}
-use Rattle.op_journal.proofs.FoundAreas.{IfDamaged-map, told_of}
-use Rattle.op_store.specs.Readings.{IsDamagedFrom, StopsAt}
-use Rattle.op_store.proofs.UniqueState.{area_for, stands_area, undamaged_state, told}
+use Rattle.std.proofs.Common.{List, ℕ, subst, rules}
+use Rattle.op_store.specs.Readings.{IsChoice, IsRowFor}
+use Rattle.op_store.specs.declared.choosing.Choice.TheVariants as choice
+use Rattle.op_store.proofs.UniqueState.{area_for}
+use Rattle.op_store.proofs.UniquePairs.{stored_of, stored_or_damage}
 use Rattle.op_store.proofs.reading.read.Goals as goal
 
-pub returns-in_err-closed-clause-complete : goal.returns-in_err-closed-clause-complete
-returns-in_err-closed-clause-complete c at here =
-    let bytes = c.args.bytes.now in
-    let r = c.from_residual.result in
-    let said : IfDamaged r (λ place. (place ≡ 0) × HasNoHeader bytes) = search rules in
-    let none : IfFault r (λ _. ⊥) = search rules in
-    let err : IsErr r = search rules in
-    told_of at r none (told bytes at r err (IfDamaged-map r (λ place. (place ≡ 0) × HasNoHeader bytes) (IsDamagedFrom bytes) (λ place h. inl h) said) here)
+pub returns-in-Ok-clause-found : goal.returns-in-Ok-clause-found
+returns-in-Ok-clause-found c =
+    let a = c.in-Area in
+    let o = c.in-Ok in
+    let chosen_first : IsChoice c.args.first.now c.args.second.now (choice.Area a.is_second a.generation a.start a.is_closed) = search rules in
+    let row = subst (λ (l : List ℕ). IsRowFor l o.end o.base o.durable) c.chosen_of-bytes.ensures o.ensures.found in
+    (area_for _ a.generation o.end o.base o.durable chosen_first.0.header row, chosen_first.0.below, chosen_first.2)
 
-pub returns-in_err-durable-in-Area-clause-complete : goal.returns-in_err-durable-in-Area-clause-complete
-returns-in_err-durable-in-Area-clause-complete c at here =
-    let bytes = c.args.bytes.now in
-    let r = c.from_residual-in_err-durable-in-Area.result in
-    let h : HasHeader c.in-Area.generation bytes = search rules in
-    let said : IfDamaged r (StopsAt bytes) = search rules in
-    let none : IfFault r (λ _. ⊥) = search rules in
-    let err : IsErr r = search rules in
-    told_of at r none (told bytes at r err (IfDamaged-map r (StopsAt bytes) (IsDamagedFrom bytes) (λ place stops. inr (c.in-Area.generation, h, stops)) said) here)
-
-pub returns-in_ok-durable-in-Area-clause-found : goal.returns-in_ok-durable-in-Area-clause-found
-returns-in_ok-durable-in-Area-clause-found c =
-    let bytes = c.args.bytes.now in
-    let h : HasHeader c.in-Area.generation bytes = search rules in
-    area_for bytes c.in-Area.generation c.in_ok-durable-in-Area.end c.in_ok-durable-in-Area.durable h c.in_ok-durable-in-Area.ensures.found
-
-pub returns-in_ok-durable-in-Area-clause-complete : goal.returns-in_ok-durable-in-Area-clause-complete
-returns-in_ok-durable-in-Area-clause-complete c at here =
-    let bytes = c.args.bytes.now in
-    let d = c.in_ok-durable-in-Area.durable in
-    undamaged_state bytes d at (stands_area bytes c.in-Area.generation c.in_ok-durable-in-Area.end d (returns-in_ok-durable-in-Area-clause-found c)) here
+pub returns-in-Ok-clause-undamaged : goal.returns-in-Ok-clause-undamaged
+returns-in-Ok-clause-undamaged c area at here =
+    let a = c.in-Area in
+    let o = c.in-Ok in
+    let found = returns-in-Ok-clause-found c in
+    stored_or_damage c.args.first.now c.args.second.now o.durable area at (stored_of a.is_second a.generation o.end o.base o.durable c.args.first.now c.args.second.now found.0 found.1) here
