@@ -1,4 +1,4 @@
-ghost use Rattle.std.specs.Prelude.{◌≡◌, OnOk, OnErr, IfOk};
+ghost use Rattle.std.specs.Prelude.{◌≡◌, OnOk, OnErr, IfOk, option_map};
 ghost use Rattle.op_types.specs.Changes.{Applies};
 ghost use Rattle.op_types.specs.Rooms.{needed, with_room};
 ghost use Rattle.op_types.specs.declared.events.Input as input;
@@ -28,7 +28,7 @@ use crate::service_plan::ServicePlan;
 use op_instance::{
     Volatile, first_volatile, refusal, spare_volatile, step, volatile_after_restart,
 };
-use op_kv::{Map, Pairs};
+use op_kv::Map;
 use op_types::{Ballot, Batch, Durable, Input, NoMemory, Pid, Plan};
 use op_waiting::{Waiter, WaitingSet};
 use std::alloc::Global;
@@ -255,14 +255,14 @@ impl Chain {
         Some((election.own(), election.leader(), part.promised))
     }
 
-    /// A copy of the pairs of the service, rising by key; none without a part.
-    pub fn pairs(&self) -> Result<Option<Pairs>, NoMemory>
-        ensures { IfOk result (λ pairs. pairs
-            ≡ pairs_in (state_of self.now).service (state_of self.now).durable.part) }
+    /// The service, whose pairs stand there to be read; none without a part.
+    pub fn pairs(&self) -> Option<&Map>
+        ensures { option_map (λ m. m.now.service.pairs) result
+            ≡ pairs_in (state_of self.now).service (state_of self.now).durable.part }
     {
         match self.durable.part {
-            Some(_) => Ok(Some(self.service.pairs(self.alloc)?)),
-            None => Ok(None),
+            Some(_) => Some(&self.service),
+            None => None,
         }
     }
 }

@@ -14,5 +14,5 @@ mod starting;
 pub use chain::Chain;
 pub use chain_plan::ChainPlan;
 pub use given::Given;
-pub use op_kv::Pairs;
+pub use op_kv::{Map, Pairs};
 pub use starting::{first_durable, sends_after_restart, spare_durable};

@@ -1,8 +1,9 @@
-ghost use Rattle.std.specs.Prelude.{◌≡◌};
+ghost use Rattle.std.specs.Prelude.{◌≡◌, ◌++◌, ℕ, List};
 ghost use Rattle.op_record.specs.Forms.{body};
 ghost use Rattle.op_record.specs.declared.body.Rec.{Rec};
 
-/// Each encoding is of one record.
+/// No record's encoding begins another's, and each encodes one record.
 pub fn record_is_unambiguous()
-    ensures { (a b : Rec) → body.fits a → body.fits b → body.text a ≡ body.text b → a ≡ b }
+    ensures { (a b : Rec) (r s : List ℕ) → body.fits a → body.fits b →
+        body.text a ++ r ≡ body.text b ++ s → a ≡ b }
 {}
