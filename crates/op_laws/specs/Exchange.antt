@@ -8,7 +8,6 @@ use Rattle.op_types.specs.Ranges.{MembersInRange}
 use Rattle.op_types.specs.RoleStates.{Preparing, Leading}
 use Rattle.op_types.specs.Roles as role
 use Rattle.op_types.specs.Roles.{Role}
-use Rattle.op_types.specs.declared.answers.Answer.{Answer}
 use Rattle.op_types.specs.declared.answers.Cause.{Cause}
 use Rattle.op_types.specs.declared.answers.Cause.TheVariants as cause
 use Rattle.op_types.specs.declared.ballot.Ballot.{Ballot}
@@ -28,7 +27,7 @@ use Rattle.op_spec.specs.Machine.{Machine, IsAmong}
 use Rattle.op_protocol.specs.Parts.{stop_at}
 use Rattle.op_protocol.specs.Promises.{fitting}
 use Rattle.op_protocol.specs.Rows.{refusal_of}
-use Rattle.op_runs.specs.World.{World, Node, Up, Happening, Doing, Steps, Deed, deed_of, node_at, run_of, answer_line}
+use Rattle.op_runs.specs.World.{World, Node, Up, Happening, Doing, Steps, Deed, deed_of, node_at, run_of}
 use Rattle.op_runs.specs.Run.{Execution, first_execution, execution_of}
 use Rattle.op_laws.specs.Led.{IsBelowAt}
 
@@ -163,12 +162,6 @@ pub record IsDropped (w : World) (p : ℕ) (hs : List Happening) (at : ℕ) (e :
   pub why : Cause
   pub full : IsFullFor (node_log (node_before w hs (suc buffered.adds_at) p)) why
 
--- from happening number at on, and before number i, p's client of the command was answered
-abbrev pub IsAnsweredBefore : World → List Happening → ℕ → Command → ℕ → ℕ → Type 0
-IsAnsweredBefore w hs p c at i =
-    (a : Answer) × (more : List Line) × ((before w hs i).lines ≡ (before w hs at).lines ++ more)
-    × IsAmong more (answer_line p c.client c.seq a)
-
 -- by happening number i, p's client of the command is told that it is dropped, and why: as p's log is then
 abbrev pub IsToldDropped : World → List Happening → ℕ → Command → ℕ → Type 0
 IsToldDropped w hs p c i =
@@ -276,7 +269,7 @@ IsKnownAt m p e place = (place < m.known p 1) × (slice_get (m.lists 1) place �
 
 -- after the happenings of a run so far, an exchange in those that come decides the command that is proposed
 -- in it, at its place, unless that is dropped after a stop-sign or at the end of positions: then its client
--- is told so by the very step that drops it, if it wasn't answered before
+-- is told so by the very step that drops it
 abbrev pub DecidesAfter : List ℕ → List Happening → List Happening → Type 0
 DecidesAfter members early hs =
     (p : ℕ) (b : Ballot) (others : List ℕ) (c : Command)
@@ -285,8 +278,7 @@ DecidesAfter members early hs =
     → ((place : ℕ) × IsPlaced t.world p hs x.proposed_at place ×
     IsKnownAt (execution_of t hs).machine p (entry.Command c) place)
     ⊎ ((d : IsDropped t.world p hs x.proposed_at (entry.Command c))
-    × (IsAnsweredBefore t.world hs p c x.proposed_at d.buffered.adds_at
-    ⊎ IsToldDropped t.world hs p c d.buffered.adds_at))
+    × IsToldDropped t.world hs p c d.buffered.adds_at)
 
 -- from every world that a run reaches, one exchange decides
 abbrev pub ExchangeDecides : Type 0

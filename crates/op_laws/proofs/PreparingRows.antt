@@ -1,0 +1,254 @@
+-- Who prepares before and after a step in which the promise doesn't rise decides nothing and tells nobody.
+use Rattle.std.proofs.Common.{◌≡◌, ℕ, ◌-◌, ◌+◌, min, true, false, ◌&&◌, eqb, ltb, leb, nat_eq, List, [], ◌∷◌, ◌++◌, take, drop, Option, Some, None, refl, sym, ap, ◌∙◌, subst, arith}
+use Rattle.std.proofs.lemmas.Bool.{cond_both, both_ways, and_parts}
+use Rattle.std.proofs.lemmas.List.{drop_all, length-take}
+use Rattle.std.specs.Set.{is_member}
+use Rattle.op_types.specs.Ballots.{is_below, is_same_ballot}
+use Rattle.op_types.specs.Changes.{len_of, part_with}
+use Rattle.op_types.specs.Effects.{Effects}
+use Rattle.op_types.specs.Limits.{positions_end}
+use Rattle.op_types.specs.RoleStates.{Preparing, Leading, with_promise, with_acknowledged}
+use Rattle.op_types.specs.Roles as role
+use Rattle.op_types.specs.Roles.{Role}
+use Rattle.op_types.specs.declared.answers.Refusal.{Refusal}
+use Rattle.op_types.specs.declared.answers.Reply.{Reply}
+use Rattle.op_types.specs.declared.ballot.Ballot.{Ballot}
+use Rattle.op_types.specs.declared.changes.Change.{Change}
+use Rattle.op_types.specs.declared.changes.Change.TheVariants as change
+use Rattle.op_types.specs.declared.durable.Part.{Part}
+use Rattle.op_types.specs.declared.events.Input.{Input}
+use Rattle.op_types.specs.declared.events.Input.TheVariants as input
+use Rattle.op_types.specs.declared.log.Command.{Command}
+use Rattle.op_types.specs.declared.log.Entry.{Entry}
+use Rattle.op_types.specs.declared.log.Entry.TheVariants as entry
+use Rattle.op_types.specs.declared.messages.Body.{Body}
+use Rattle.op_types.specs.declared.messages.Body.TheVariants as body
+use Rattle.op_types.specs.declared.messages.Msg.{Msg}
+use Rattle.op_types.specs.declared.role.Promised.{Promised}
+use Rattle.op_types.specs.declared.verdict.Verdict.{Verdict}
+use Rattle.op_types.specs.declared.verdict.Verdict.TheVariants as verdict
+use Rattle.op_protocol.specs.State.{State, Volatile, Waiting, PartStep}
+use Rattle.op_protocol.specs.Election.{Ended, round_end}
+use Rattle.op_protocol.specs.Parts.{pending, is_admitted_body, part_after, part_in_round, cutting, appending, others, message, nothing, first}
+use Rattle.op_protocol.specs.Promises.{has_quorum, is_usable, Choice, own_choice, best, chosen_stop, chosen_len, chosen_log, fitting}
+use Rattle.op_protocol.specs.Leader.{counted, count, first_leading, leading_with, adopt, on_promise, on_accepted, on_prepare_req, propose, on_forward_leading, on_forward, session_down}
+use Rattle.op_protocol.specs.Follower.{suffix_start, promise_body, on_prepare, on_accept_sync, on_accept, on_decide}
+use Rattle.op_protocol.specs.Tick.{candidate_of, next_round_state, by_verdict}
+use Rattle.op_protocol.specs.Serving.{serving, dropping}
+use Rattle.op_protocol.specs.Rows.{refusal_of, on_body, command_step, part_step, newly_decided, planned}
+use Rattle.op_laws.proofs.View.{Each, Each-append}
+use Rattle.op_laws.proofs.StepRows.{effects_in}
+use Rattle.op_laws.proofs.Vows.{lead_promises}
+
+-- ---- batches that decide nothing
+abbrev IsUndecided : Change → Type 0
+IsUndecided (change.Promise n) = Unit {0}
+IsUndecided (change.Accept n) = Unit {0}
+IsUndecided (change.CutTo n) = Unit {0}
+IsUndecided (change.Append es) = Unit {0}
+IsUndecided (change.Decided x) = ⊥
+
+undecided_with : (p : Part) (c : Change) → IsUndecided c → (part_with p c).decided ≡ p.decided
+undecided_with p (change.Promise n) f = refl
+undecided_with p (change.Accept n) f = refl
+undecided_with p (change.CutTo n) f = refl
+undecided_with p (change.Append es) f = refl
+undecided_with p (change.Decided x) f = absurd f
+
+undecided_after : (p : Part) (batch : List Change) → Each IsUndecided batch → (part_after p batch).decided ≡ p.decided
+undecided_after p [] f = refl
+undecided_after p (c ∷ batch) f = undecided_after (part_with p c) batch f.1 ∙ undecided_with p c f.0
+
+undecided_cutting : (p : Part) (x : ℕ) → Each IsUndecided (cutting p x)
+undecided_cutting p x = cond_both (ltb x (len_of p)) (change.CutTo x ∷ []) [] (Each IsUndecided) (λ _. (tt, tt)) (λ _. tt)
+
+undecided_appending : (es : List Entry) → Each IsUndecided (appending es)
+undecided_appending [] = tt
+undecided_appending (e ∷ es) = (tt, tt)
+
+-- ---- what is said of a row
+
+-- no round is promised and accepted
+abbrev pub IsApart : Part → Type 0
+IsApart p = (n : Ballot) → is_same_ballot p.promised n ≡ true → is_same_ballot p.accepted n ≡ true → ⊥
+
+-- the promise doesn't rise
+abbrev Stays : Part → Effects → Type 0
+Stays p e = is_below p.promised (part_after p e.batch).promised ≡ false
+
+-- Of who prepares then, where the promise doesn't rise: it prepared before; and if its promised round isn't accepted,
+-- it tells nobody and decides nothing.
+pub record IsQuiet (p : Part) (ρ : Role) (e : Effects) : Type 0 where
+  pub prepared : (s : Preparing) → e.role ≡ role.Preparing s → Stays p e → (r : Preparing) × (ρ ≡ role.Preparing r)
+  pub quiet : (r s : Preparing) → ρ ≡ role.Preparing r → e.role ≡ role.Preparing s → Stays p e → IsApart p → (e.replies ≡ []) × ((part_after p e.batch).decided ≡ p.decided)
+
+idle_prepares : {P : Type 0} (s : Preparing) (ρ : Role) → ρ ≡ role.Idle → ρ ≡ role.Preparing s → P
+idle_prepares s ρ a b = absurd (differ s (sym a ∙ b))
+  where
+    differ : (s : Preparing) → role.Idle ≡ role.Preparing s → ⊥
+    differ s h = cc
+
+leader_prepares : {P : Type 0} (s : Preparing) (l : Leading) (ρ : Role) → ρ ≡ role.Leading l → ρ ≡ role.Preparing s → P
+leader_prepares s l ρ a b = absurd (differ s l (sym a ∙ b))
+  where
+    differ : (s : Preparing) (l : Leading) → role.Leading l ≡ role.Preparing s → ⊥
+    differ s l h = cc
+
+-- it is idle then
+idles : (p : Part) (ρ : Role) (e : Effects) → e.role ≡ role.Idle → IsQuiet p ρ e
+idles p ρ e is = record { prepared = λ s at stays. idle_prepares s e.role is at; quiet = λ r s was at stays apart. idle_prepares s e.role is at }
+
+-- it leads then
+leads : (p : Part) (ρ : Role) (e : Effects) (l : Leading) → e.role ≡ role.Leading l → IsQuiet p ρ e
+leads p ρ e l is = record { prepared = λ s at stays. leader_prepares s l e.role is at; quiet = λ r s was at stays apart. leader_prepares s l e.role is at }
+
+-- the promise rises
+raises : (p : Part) (ρ : Role) (e : Effects) → is_below p.promised (part_after p e.batch).promised ≡ true → IsQuiet p ρ e
+raises p ρ e up = record { prepared = λ s at stays. absurd (both_ways _ stays up); quiet = λ r s was at stays apart. absurd (both_ways _ stays up) }
+
+-- it was prepared before
+keeps_on : (p : Part) (r : Preparing) (e : Effects) → e.replies ≡ [] → Each IsUndecided e.batch → IsQuiet p (role.Preparing r) e
+keeps_on p r e none few = record { prepared = λ s at stays. (r, refl); quiet = λ x s was at stays apart. (none, undecided_after p e.batch few) }
+
+-- its role is as it was
+same_role : (p : Part) (ρ : Role) (e : Effects) → e.role ≡ ρ → e.replies ≡ [] → Each IsUndecided e.batch → IsQuiet p ρ e
+same_role p ρ e is none few = record { prepared = λ s at stays. (s, sym is ∙ at); quiet = λ r s was at stays apart. (none, undecided_after p e.batch few) }
+
+-- ---- the rows
+count_leads : (me : ℕ) (p : Part) (len : ℕ) (l : Leading) (other : List (ℕ × Msg)) → (count me p len l other).role ≡ role.Leading l
+count_leads me p len l other = cond_both (ltb p.decided (counted me p.members len l.acknowledged)) _ _ (λ (e : Effects). e.role ≡ role.Leading l) (λ _. refl) (λ _. refl)
+
+adopt_leads : (me : ℕ) (p : Part) (ρ : Role) (r : Preparing) → IsQuiet p ρ (adopt me p r)
+adopt_leads me p ρ r =
+    let c : Choice = best p r.promises p.members (own_choice p) in
+    let q : Part = part_in_round p r.ballot (chosen_log p c ++ fitting (chosen_stop p c) (chosen_len p c) r.buffer) in
+    leads p ρ (adopt me p r) _ (count_leads me q (len_of q) (leading_with q (first_leading r.ballot c) r.promises) [])
+
+promise_quiet : (me : ℕ) (p : Part) (ρ : Role) (n : Ballot) (k : Promised) → IsQuiet p ρ (on_promise me p ρ n k)
+promise_quiet me p role.Idle n k = idles p _ _ refl
+promise_quiet me p (role.Preparing r) n k =
+    cond_both (is_same_ballot n r.ballot && is_usable p k) _ _ (IsQuiet p (role.Preparing r))
+    (λ _. cond_both (has_quorum me p.members (with_promise r k).promises) (adopt me p (with_promise r k)) (nothing (role.Preparing (with_promise r k))) (IsQuiet p (role.Preparing r))
+    (λ _. adopt_leads me p (role.Preparing r) (with_promise r k)) (λ _. keeps_on p r _ refl tt))
+    (λ _. keeps_on p r _ refl tt)
+promise_quiet me p (role.Leading l) n k = cond_both (is_same_ballot n l.ballot) _ _ (IsQuiet p (role.Leading l)) (λ _. leads p _ _ _ refl) (λ _. leads p _ _ _ refl)
+
+prepare_quiet : (p : Part) (ρ : Role) (q : ℕ) (n na : Ballot) (nl nd : ℕ) → IsQuiet p ρ (on_prepare p ρ q n na nl nd)
+prepare_quiet p ρ q n na nl nd =
+    cond_both (is_below n p.promised) _ _ (IsQuiet p ρ) (λ _. same_role p ρ _ refl refl tt)
+    (λ _. cond_both (ltb (suffix_start p na nl nd) p.trimmed) _ _ (IsQuiet p ρ) (λ _. same_role p ρ _ refl refl tt)
+    (λ _. cond_both (is_below p.promised n) _ _ (λ (e : Effects). IsQuiet p ρ (first [] (message p.conf q (promise_body p n (suffix_start p na nl nd)) ∷ []) [] e)) (λ _. idles p ρ _ refl) (λ _. same_role p ρ _ refl refl tt)))
+
+accept_quiet : (p : Part) (ρ : Role) (q : ℕ) (n : Ballot) (at : ℕ) (es : List Entry) → IsQuiet p ρ (on_accept p ρ q n at es)
+accept_quiet p ρ q n at es =
+    cond_both (is_same_ballot p.promised n && is_same_ballot p.accepted n) _ _ (IsQuiet p ρ)
+    (λ _. cond_both (ltb (len_of p) at) _ _ (IsQuiet p ρ) (λ _. same_role p ρ _ refl refl tt)
+    (λ _. same_role p ρ _ refl refl (Each-append IsUndecided (appending (drop (len_of p - at) es)) [] (undecided_appending (drop (len_of p - at) es)) tt)))
+    (λ _. same_role p ρ _ refl refl tt)
+
+sync_quiet : (p : Part) (ρ : Role) (q : ℕ) (n : Ballot) (x : ℕ) (es : List Entry) → IsQuiet p ρ (on_accept_sync p ρ q n x es)
+sync_quiet p ρ q n x es =
+    let batch : List Change = cutting p x ++ appending es ++ change.Accept n ∷ [] in
+    cond_both (is_same_ballot p.promised n && is_below p.accepted n) _ _ (IsQuiet p ρ)
+    (λ _. cond_both (leb p.decided x && leb x (len_of p)) _ _ (IsQuiet p ρ)
+    (λ _. same_role p ρ _ refl refl (Each-append IsUndecided batch []
+    (Each-append IsUndecided (cutting p x ++ appending es) (change.Accept n ∷ []) (Each-append IsUndecided (cutting p x) (appending es) (undecided_cutting p x) (undecided_appending es)) (tt, tt)) tt))
+    (λ _. same_role p ρ _ refl refl tt))
+    (λ _. accept_quiet p ρ q n x es)
+
+decide_quiet : (p : Part) (ρ : Role) (n : Ballot) (x : ℕ) → IsQuiet p ρ (on_decide p ρ n x)
+decide_quiet p ρ n x =
+    cond_both (is_same_ballot p.promised n && (is_same_ballot p.accepted n && ltb p.decided (min x (len_of p)))) _ _ (IsQuiet p ρ)
+    (λ h. record {
+      prepared = λ s at stays. (s, at);
+      quiet = λ r s was at stays apart. let both = and_parts (is_same_ballot p.promised n) _ h in absurd (apart n both.0 (and_parts (is_same_ballot p.accepted n) _ both.1).0);
+    })
+    (λ _. same_role p ρ _ refl refl tt)
+
+accepted_quiet : (me : ℕ) (p : Part) (ρ : Role) (q : ℕ) (n : Ballot) (x : ℕ) → IsQuiet p ρ (on_accepted me p ρ q n x)
+accepted_quiet me p role.Idle q n x = idles p _ _ refl
+accepted_quiet me p (role.Preparing r) q n x = keeps_on p r _ refl tt
+accepted_quiet me p (role.Leading l) q n x =
+    cond_both (is_same_ballot n l.ballot && leb x (len_of p)) _ _ (IsQuiet p (role.Leading l))
+    (λ _. leads p _ _ _ (count_leads me p (len_of p) (with_acknowledged l (record { from = q; len = x })) _)) (λ _. leads p _ _ _ refl)
+
+prepare_req_quiet : (p : Part) (ρ : Role) (q : ℕ) → IsQuiet p ρ (on_prepare_req p ρ q)
+prepare_req_quiet p role.Idle q = idles p _ _ refl
+prepare_req_quiet p (role.Preparing r) q = keeps_on p r _ refl tt
+prepare_req_quiet p (role.Leading l) q = leads p _ _ _ refl
+
+propose_quiet : (me : ℕ) (p : Part) (ρ : Role) (e : Entry) → IsQuiet p ρ (propose me p ρ e)
+propose_quiet me p role.Idle e = idles p _ _ refl
+propose_quiet me p (role.Preparing r) e = keeps_on p r _ refl tt
+propose_quiet me p (role.Leading l) e = leads p _ _ _ (count_leads me p (len_of p + 1) l [])
+
+forward_leading_quiet : (me : ℕ) (p : Part) (l : Leading) (e : Entry) (o : Option ℕ) → IsQuiet p (role.Leading l) (on_forward_leading me p l e o)
+forward_leading_quiet me p l e (Some pos) = leads p _ _ _ refl
+forward_leading_quiet me p l e None = cond_both (ltb (len_of p) positions_end) _ _ (IsQuiet p (role.Leading l)) (λ _. leads p _ _ _ (count_leads me p (len_of p + 1) l [])) (λ _. leads p _ _ _ refl)
+
+forward_quiet : (me : ℕ) (p : Part) (ρ : Role) (e : Entry) → IsQuiet p ρ (on_forward me p ρ e)
+forward_quiet me p role.Idle e = idles p _ _ refl
+forward_quiet me p (role.Preparing r) e = keeps_on p r _ refl tt
+forward_quiet me p (role.Leading l) e = forward_leading_quiet me p l e (pending p)
+
+down_quiet : (p : Part) (ρ : Role) (q : ℕ) → IsQuiet p ρ (session_down ρ q)
+down_quiet p role.Idle q = idles p _ _ refl
+down_quiet p (role.Preparing r) q = keeps_on p r _ refl tt
+down_quiet p (role.Leading l) q = leads p _ _ _ refl
+
+-- ---- a step
+
+-- a step at a part
+abbrev pub StepIsQuiet : Part → Volatile → PartStep → Type 0
+StepIsQuiet p v x = IsQuiet p v.role (effects_in x)
+
+body_quiet : (me : ℕ) (p : Part) (v : Volatile) (q : ℕ) (b : Body) → StepIsQuiet p v (on_body me p v q b)
+body_quiet me p v q (body.HeartbeatRequest r) = same_role p v.role _ refl refl tt
+body_quiet me p v q (body.HeartbeatReply r b f) = same_role p v.role _ refl refl tt
+body_quiet me p v q (body.Prepare n na nl nd) = prepare_quiet p v.role q n na nl nd
+body_quiet me p v q (body.Promise n fa fl fd s es) = promise_quiet me p v.role n (record { from = q; accepted = fa; len = fl; decided = fd; start = s; entries = es })
+body_quiet me p v q (body.AcceptSync n x es) = sync_quiet p v.role q n x es
+body_quiet me p v q (body.Accept n a es) = accept_quiet p v.role q n a es
+body_quiet me p v q (body.Accepted n x) = accepted_quiet me p v.role q n x
+body_quiet me p v q (body.Decide n x) = decide_quiet p v.role n x
+body_quiet me p v q body.PrepareReq = prepare_req_quiet p v.role q
+body_quiet me p v q (body.Refuse n b) = same_role p v.role _ refl refl tt
+body_quiet me p v q (body.Forward e) = forward_quiet me p v.role e
+
+verdict_quiet : (me : ℕ) (p : Part) (w : Volatile) (x : Verdict) → StepIsQuiet p w (by_verdict me p w x)
+verdict_quiet me p w verdict.Nobody = same_role p w.role _ refl refl tt
+verdict_quiet me p w (verdict.Raised b) = same_role p w.role _ refl refl tt
+verdict_quiet me p w (verdict.Elected n) =
+    cond_both (eqb n.pid me) _ _ (λ (x : PartStep). StepIsQuiet p w x)
+    (λ _. cond_both (is_below p.promised n) _ _ (λ (x : PartStep). StepIsQuiet p w x)
+    (λ h. raises p w.role _ (subst (λ (b : Ballot). is_below p.promised b ≡ true) (sym (lead_promises me p w.role n)) h)) (λ _. same_role p w.role _ refl refl tt))
+    (λ _. same_role p w.role _ refl refl tt)
+
+command_quiet : (me : ℕ) (p : Part) (v : Volatile) (c : Command) (o : Option Refusal) → StepIsQuiet p v (command_step me p v c o)
+command_quiet me p v c (Some r) = same_role p v.role _ refl refl tt
+command_quiet me p v c None = propose_quiet me p v.role (entry.Command c)
+
+pub step_quiet : (me : ℕ) (p : Part) (v : Volatile) (x : Input) → StepIsQuiet p v (part_step me p v x)
+step_quiet me p v input.Tick = let e : Ended = round_end (candidate_of me p v) v.heard in verdict_quiet me p (next_round_state v e.after) e.verdict
+step_quiet me p v (input.Deliver q m) =
+    cond_both (eqb m.conf p.conf && is_admitted_body p m.body) _ _ (λ (x : PartStep). StepIsQuiet p v x) (λ _. body_quiet me p v q m.body) (λ _. same_role p v.role _ refl refl tt)
+step_quiet me p v (input.Command c) = command_quiet me p v c (refusal_of me v.role (Some p))
+step_quiet me p v (input.Up q) = cond_both (is_member nat_eq (others me p.members) q) _ _ (IsQuiet p v.role) (λ _. same_role p v.role _ refl refl tt) (λ _. same_role p v.role _ refl refl tt)
+step_quiet me p v (input.Down q) = down_quiet p v.role q
+
+-- ---- who waits goes on waiting
+
+none_left : (n : ℕ) (es : List Entry) → drop n (take n es) ≡ []
+none_left n es = drop_all n (take n es) (omega (arith, length-take n es))
+
+-- what is decided no further decides nothing new
+nothing_new : (p : Part) (batch : List Change) → (part_after p batch).decided ≡ p.decided → newly_decided (Some p) batch ≡ []
+nothing_new p batch same =
+    let new : Part = part_after p batch in
+    ap (λ (n : ℕ). drop (p.decided - new.trimmed) (take (n - new.trimmed) new.tail.items)) same ∙ none_left (p.decided - new.trimmed) new.tail.items
+
+-- where nobody is told and nothing is decided, those wait that waited
+pub waits_on : (s : State) (ws : Waiting) (x : PartStep) (p : Part) → s.durable.part ≡ Some p → x.replies ≡ [] → (part_after p x.batch).decided ≡ p.decided → (planned s ws x).waiting ≡ ws
+waits_on s ws x p at none same =
+    ap (λ (rs : List Reply). (serving s.service (dropping ws rs).waiting (newly_decided s.durable.part x.batch)).waiting) none
+    ∙ ap (λ (es : List Entry). (serving s.service ws es).waiting) (ap (λ (o : Option Part). newly_decided o x.batch) at ∙ nothing_new p x.batch same)
