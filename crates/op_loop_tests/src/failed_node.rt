@@ -41,7 +41,7 @@ impl Core for FailedNode {
 
     ghost ready = { λ n. IsPid n.me };
 
-    ghost stored = { λ _. Unit {0} };
+    ghost stored = { λ _ _. Unit {0} };
 
     #[tactic(auto, unfolding(op_loop::specs::Cores::gives, op_loop::specs::Cores::after_input))]
     fn step(&mut self, input: Input) -> Result<Given, StepFail> {

@@ -22,7 +22,7 @@ use Rattle.op_loop.specs.Cores.{Standing, gives}
 use Rattle.op_loop.specs.Following.{Answer, became, found, answer_of}
 use Rattle.op_loop.specs.Looks.{nothing}
 use Rattle.op_loop.specs.Rules.{Task, Moment, Event, Step, done, faults, lost, at, give, send, reply, answer, status, close, meet, starved, of_asker, answered, of_end, of_loss, status_of, met, refusal_of, waits_unless, waits_for_answer}
-use Rattle.op_loop.specs.Run.{input_of}
+use Rattle.op_loop.specs.Run.{input_of, call_of}
 use Rattle.op_loop.proofs.Follows.{Sees, next_of, of_queued, of_sent, of_fate, step_next}
 
 -- ---- what is the same
@@ -63,12 +63,13 @@ pub record Alike (s t : Loop) : Type 0 where
 unfoldable pub Tidy : Loop → Type 0
 Tidy s = (c : ℕ) → is_open c s ≡ false → find c s.queues ≡ None
 
--- two steps led to the same things to do, with alike loops and the same input, if there was one
+-- two steps led to the same things to do, with alike loops, the same input and the same call, if there was one
 pub record Together (e f : Event) (b d : Moment) : Type 0 where
   pub todo : b.todo ≡ d.todo
   pub node : b.node_at ≡ d.node_at
   pub loops : Alike b.loop d.loop
   pub inputs : input_of e ≡ input_of f
+  pub calls : call_of e ≡ call_of f
 
 -- ---- the first entry of a number
 
@@ -570,17 +571,17 @@ module _ {s t : Loop} (r : List Task) (n : Standing) (a : Alike s t) where
   queued_nexts : Tidy s → (c : ℕ) (bytes more : List ℕ) → bytes ≡ more → (x y : Answer) → Nexts (of_queued c bytes r s n x) (of_queued c more r t n y)
   unfolding of_queued Nexts
   queued_nexts tidy c bytes more e (found true) (found true) =
-      record { todo = refl; node = refl; loops = subst (λ b. Alike (waits_for c bytes s) (waits_for c b t)) e (alike_queued c bytes a); inputs = refl }
-  queued_nexts tidy c bytes more e (found false) (found false) = record { todo = refl; node = refl; loops = alike_hungry c a; inputs = refl }
+      record { todo = refl; node = refl; loops = subst (λ b. Alike (waits_for c bytes s) (waits_for c b t)) e (alike_queued c bytes a); inputs = refl; calls = refl }
+  queued_nexts tidy c bytes more e (found false) (found false) = record { todo = refl; node = refl; loops = alike_hungry c a; inputs = refl; calls = refl }
   queued_nexts tidy c bytes more e (found false) (found true) =
-      record { todo = refl; node = refl; loops = alike_hungry_queued c more (alike_tidy a tidy) a; inputs = refl }
+      record { todo = refl; node = refl; loops = alike_hungry_queued c more (alike_tidy a tidy) a; inputs = refl; calls = refl }
   queued_nexts tidy c bytes more e (found true) (found false) =
-      record { todo = refl; node = refl; loops = alike_sym (alike_hungry_queued c bytes tidy (alike_sym a)); inputs = refl }
+      record { todo = refl; node = refl; loops = alike_sym (alike_hungry_queued c bytes tidy (alike_sym a)); inputs = refl; calls = refl }
   queued_nexts tidy c bytes more e x y = tt
 
   sent_nexts : Tidy s → (o : Option ℕ) (m : ℕ × Msg) (x y : Answer) → Nexts (of_sent o m r s n x) (of_sent o m r t n y)
   unfolding of_sent Nexts
-  sent_nexts tidy None m x y = record { todo = refl; node = refl; loops = a; inputs = refl }
+  sent_nexts tidy None m x y = record { todo = refl; node = refl; loops = a; inputs = refl; calls = refl }
   sent_nexts tidy (Some c) m x y = queued_nexts tidy c (peer_frame s.me m.0 m.1) (peer_frame t.me m.0 m.1) (ap (λ me. peer_frame me m.0 m.1) (alike_me a)) x y
 
   busy_nexts : (o : Settings) (task : Task) → stays_alike task ≡ true → Tidy s → (x y : Answer)
@@ -592,6 +593,7 @@ module _ {s t : Loop} (r : List Task) (n : Standing) (a : Alike s t) where
     node = refl;
     loops = alike_told (z.client, z.seq) a;
     inputs = refl;
+    calls = refl;
   }
   busy_nexts o (answer c z) is tidy x y = queued_nexts tidy c (client_frame z) (client_frame z) refl x y
   busy_nexts o (status c) is tidy x y = queued_nexts tidy c (client_frame (status_of n)) (client_frame (status_of n)) refl x y
@@ -600,19 +602,21 @@ module _ {s t : Loop} (r : List Task) (n : Standing) (a : Alike s t) where
     node = refl;
     loops = alike_left c a;
     inputs = refl;
+    calls = refl;
   }
-  busy_nexts o (meet c q) is tidy x y = record { todo = refl; node = refl; loops = alike_met c q a; inputs = refl }
+  busy_nexts o (meet c q) is tidy x y = record { todo = refl; node = refl; loops = alike_met c q a; inputs = refl; calls = refl }
   busy_nexts o task is tidy x y = absurd cc
 
   fate_nexts : (who : Option ℕ) (i : Input) (x : Answer) → Nexts (of_fate who i r s n x) (of_fate who i r t n x)
   unfolding of_fate Nexts
-  fate_nexts who i (became done) = record { todo = refl; node = refl; loops = alike_counted (alike_waiting who i (gives n i).outcome a); inputs = refl }
-  fate_nexts who i (became (faults k)) = record { todo = refl; node = refl; loops = alike_counted a; inputs = refl }
+  fate_nexts who i (became done) = record { todo = refl; node = refl; loops = alike_counted (alike_waiting who i (gives n i).outcome a); inputs = refl; calls = refl }
+  fate_nexts who i (became (faults k)) = record { todo = refl; node = refl; loops = alike_counted a; inputs = refl; calls = refl }
   fate_nexts who i (became lost) = record {
     todo = ap (λ marks. if nat_lt (length marks) most_marks then of_loss who i ++ r else starved ∷ []) (alike_lost (alike_marked None a));
     node = refl;
     loops = alike_counted (alike_marked None a);
     inputs = refl;
+    calls = refl;
   }
   fate_nexts who i x = tt
 

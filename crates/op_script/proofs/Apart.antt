@@ -56,7 +56,7 @@ joined_none {o = o} {r = r} {u = u} {n = n} c kind bytes rest shape still due =
 join_step : {o : Settings} {r : List Task} {u : Loop} {n : Standing} {c : ℕ} {kind : Kind} {bytes : List ℕ} {e : Event} {b : Moment} → Step o (at (join c kind bytes ∷ r) u n) e b
     → (b ≡ at r (admitted c kind bytes u) n) ⊎ (Still e × (b ≡ at (unless_full (marked (Some c) (forgotten c u)) (drop c ∷ r)) (marked (Some c) (forgotten c u)) n))
 join_step is_admitted = inl refl
-join_step is_turned_out = inr ((refl, refl, refl), refl)
+join_step is_turned_out = inr ((refl, refl, refl, refl), refl)
 
 forgotten_noted : (c : ℕ) (s : Loop) → find c s.queues ≡ None → forgotten c (noted_at c s) ≡ s
 forgotten_noted c s none = ap (λ q. record s { queues = q }) (put_undone c [] s.queues none)
@@ -78,7 +78,7 @@ module _ {o : Settings} {marks : List Mark} {m : ℕ} (below : Below o marks m) 
       let todo : List Task = unless_full u (drop c ∷ r) in
       elim (join_step g.step) [
         | inl is ↦ absurd (joined_none c kind bytes (subst (λ x. Rest o end marks x g.others) is g.rest) next.1.placed.shape still (due_like c s (noted_at c s) refl refl due))
-        | inr is ↦ (let quietly : Still e = subst Still (sym next.0) (refl, refl, refl) in
+        | inr is ↦ (let quietly : Still e = subst Still (sym next.0) (refl, refl, refl, refl) in
             let here : g.after ≡ at todo u n = is.1 ∙ ap (λ (x : Loop). at (unless_full (marked (Some c) x) (drop c ∷ r)) (marked (Some c) x) n) again in
             let got = gets_step (at todo u n) g is.0 here in
             met_again below todo u u n (got.0, tell_still e quietly refl got.1, got.2) (fs, tell_same fs, two) lt (unended_unless u (drop c ∷ r) unended)
@@ -96,7 +96,7 @@ module _ {o : Settings} {marks : List Mark} {m : ℕ} (below : Below o marks m) 
       let fed_it : Step o (at (feed c bs ∷ settle ∷ ask i k ∷ r) s n) (memory true) (at (frames c (fed (held_by c s) bs) ∷ settle ∷ ask i k ∷ r) t n) = feeds in
       let next = found_next one found_it fed_it refl in
       let lagged = lag c c es (fed (held_by c s) bs) t next.1 (calm_step fed_it refl still) (due_like c s t refl refl due) in
-      let quietly : Still e = subst Still (sym next.0) (refl, refl, refl) in
+      let quietly : Still e = subst Still (sym next.0) (refl, refl, refl, refl) in
       let told = tell_still e quietly refl (tell_same es) in
       agree_as told (tell_same fs) (both_shut below lagged.shut (shuts two) (let p = told.fewer in omega (arith, lt, p)) (alike_same t) unended (sym told.said ∙ said) (sym told.came ∙ came))
   apart_feeding _ shape one found_it two due lt unended still said came = absurd shape

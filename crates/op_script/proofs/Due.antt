@@ -15,7 +15,7 @@ use Rattle.op_script.proofs.Owing.{Placed, mark_of, Owes, owes_one}
 use Rattle.op_script.proofs.Calm.{Calm}
 use Rattle.op_script.proofs.Stretches.{no_mark_moving}
 use Rattle.op_loop.proofs.TakingTables.{hits}
-use Rattle.op_script.proofs.Rests.{Rest, Goes, goes, Still, Staged, is_joining, stage_keeps, Gets, gets_step}
+use Rattle.op_script.proofs.Rests.{Rest, Goes, goes, Still, Staged, is_joining, stage_keeps, tell_closed, Gets, gets_step}
 use Rattle.op_loop.proofs.Follows.{some_is}
 use Rattle.op_loop.proofs.Keeping.{unlinked_lost, unlinked_place}
 use Rattle.op_script.proofs.Leaving.{unchanged, away_sees}
@@ -55,10 +55,7 @@ module _ {o : Settings} {r : List Task} {s : Loop} {n : Standing} where
 -- ---- what a run owes
 
 pub still_quiet : (e : Event) → e ≡ quiet → Still e
-still_quiet e is = rw is (refl, refl, refl)
-
-still_closed : (e : Event) (c : ℕ) → e ≡ net (Closed c) → Still e
-still_closed e c is = rw is (refl, refl, refl)
+still_quiet e is = rw is (refl, refl, refl, refl)
 
 -- a run with these marks makes its next one at this place, for this connection
 abbrev pub Due : List Mark → ℕ → Loop → Type 0
@@ -95,20 +92,20 @@ module _ {o : Settings} {end : ServeEnd} {marks : List Mark} where
   due_mark c conn g is due = due_step c conn g.step g.rest g.placed is due
 
   module _ {n : Standing} where
-    pub settled : {r : List Task} {s : Loop} {es : List Event} → Rest o end marks (at (settle ∷ r) s n) es → Calm s → Gets o end marks es (at r s n)
+    pub settled : {r : List Task} {s : Loop} {es : List Event} → Rest o end marks (at (settle ∷ r) s n) es → Calm s → Gets o end marks [] es (at r s n)
     settled {r = r} {s = s} rest calm = let g = goes refl rest in let h = settle_step g.step calm in gets_step (at r s n) g (still_quiet g.event h.0) h.1
 
-    pub closing : {r : List Task} {s : Loop} {es : List Event} {c : ℕ} → Rest o end marks (at (close c ∷ r) s n) es → Gets o end marks es (at (of_end (goes_down (kind_at c s)) ++ r) (left_by c s) n)
+    pub closing : {r : List Task} {s : Loop} {es : List Event} {c : ℕ} → Rest o end marks (at (close c ∷ r) s n) es → Gets o end marks (Closed c ∷ []) es (at (of_end (goes_down (kind_at c s)) ++ r) (left_by c s) n)
     closing {r = r} {s = s} {c = c} rest =
         let g = goes refl rest in
         let h = close_step g.step in
-        gets_step (at (of_end (goes_down (kind_at c s)) ++ r) (left_by c s) n) g (still_closed g.event c h.0) h.1
+        (g.others, tell_closed c (g.are ∙ ap (λ e. e ∷ g.others) h.0), subst (λ m. Rest o end marks m g.others) h.1 g.rest)
 
-    pub counting : {r : List Task} {s : Loop} {es : List Event} → Rest o end marks (at (count ∷ r) s n) es → Gets o end marks es (at r (frame_counted s) n)
+    pub counting : {r : List Task} {s : Loop} {es : List Event} → Rest o end marks (at (count ∷ r) s n) es → Gets o end marks [] es (at r (frame_counted s) n)
     counting {r = r} {s = s} rest = let g = goes refl rest in let h = count_step g.step in gets_step (at r (frame_counted s) n) g (still_quiet g.event h.0) h.1
 
     -- a connection without a session has no frames
-    pub passing : {r : List Task} {s : Loop} {es : List Event} {c : ℕ} {y : Stream} → Rest o end marks (at (frames c y ∷ r) s n) es → is_open c s ≡ false → Gets o end marks es (at r s n)
+    pub passing : {r : List Task} {s : Loop} {es : List Event} {c : ℕ} {y : Stream} → Rest o end marks (at (frames c y ∷ r) s n) es → is_open c s ≡ false → Gets o end marks [] es (at r s n)
     passing {r = r} {s = s} rest out = let g = goes refl rest in let h = away_step g.step out in gets_step (at r s n) g (still_quiet g.event h.0) h.1
 
     -- nothing is owed where a frame is counted next, or happenings are asked

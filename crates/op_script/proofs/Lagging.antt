@@ -39,20 +39,20 @@ Queued n e b r d s t = Still e × ((b ≡ at r t n) ⊎ (b ≡ at r (with_sessio
 
 module _ {o : Settings} {r : List Task} {s : Loop} {n : Standing} {d : ℕ} where
   answer_step : {x : ClientReply} {e : Event} {b : Moment} → Step o (at (answer d x ∷ r) s n) e b → Queued n e b r d s (waits_for d (client_frame x) s)
-  answer_step answers = ((refl, refl, refl), inl refl)
-  answer_step answers_hungry = ((refl, refl, refl), inr refl)
+  answer_step answers = ((refl, refl, refl, refl), inl refl)
+  answer_step answers_hungry = ((refl, refl, refl, refl), inr refl)
 
   status_step : {e : Event} {b : Moment} → Step o (at (status d ∷ r) s n) e b → Queued n e b r d s (waits_for d (client_frame (status_of n)) s)
-  status_step tells_status = ((refl, refl, refl), inl refl)
-  status_step tells_no_status = ((refl, refl, refl), inr refl)
+  status_step tells_status = ((refl, refl, refl, refl), inl refl)
+  status_step tells_no_status = ((refl, refl, refl, refl), inr refl)
 
   pub finish_step : {e : Event} {b : Moment} → Step o (at (finish d ∷ r) s n) e b → Queued n e b r d s (record (waits_for d (client_frame ended) s) { ending = true })
-  finish_step finishes = ((refl, refl, refl), inl refl)
-  finish_step finishes_not = ((refl, refl, refl), inr refl)
+  finish_step finishes = ((refl, refl, refl, refl), inl refl)
+  finish_step finishes_not = ((refl, refl, refl, refl), inr refl)
 
 module _ {o : Settings} {end : ServeEnd} {marks : List Mark} {n : Standing} where
   -- as before a step that tells nothing
-  lag_then : {c d : ℕ} {s : Loop} {r : List Task} {es : List Event} (g : List Event) → TellAs es g → Lagged o end marks n c d s r g → Lagged o end marks n c d s r es
+  lag_then : {c d : ℕ} {s : Loop} {r : List Task} {es : List Event} (g : List Event) → TellAs [] es g → Lagged o end marks n c d s r g → Lagged o end marks n c d s r es
   lag_then g told l = record {
     own = l.own;
     shut = shut_then told l.shut;
@@ -138,7 +138,7 @@ module _ {o : Settings} {end : ServeEnd} {marks : List Mark} {n : Standing} wher
         let is : kind_at c s ≡ Some Unknown = subst (λ z. kind_at z s ≡ Some Unknown) l.own (client_kind x s (kind_at d s) look) in
         let shut : Shut o end marks c (with_session (of_this_kind Client) c s) n (settle ∷ ask i k ∷ r) es =
         subst (λ z. Shut o end marks c (with_session (of_this_kind Client) z s) n (settle ∷ ask i k ∷ r) es) l.own l.shut in (
-          (refl, refl, refl),
+          (refl, refl, refl, refl),
           record {
             own = l.own;
             shut = shut_changed (of_this_kind Client) (ap goes_down (kind_changed c Unknown Client s is) ∙ sym (ap goes_down is))
@@ -148,10 +148,10 @@ module _ {o : Settings} {end : ServeEnd} {marks : List Mark} {n : Standing} wher
     lag_step (is_peer_of q look) rest still few mark again =
         absurd (peer_none (frames d (begun peer_head peer_limit hello_len x) ∷ settle ∷ ask i k ∷ r) c d q (session_of q s) rest due)
     lag_step (has_frame kind body tail look) rest still few mark again =
-        ((refl, refl, refl), body_lag r i k (left x tail) c d calm few due kind body (whole_kind d x s (kind_at d s) kind body tail look) rest)
+        ((refl, refl, refl, refl), body_lag r i k (left x tail) c d calm few due kind body (whole_kind d x s (kind_at d s) kind body tail look) rest)
     lag_step {es = es} (has_no_room kind body tail look) rest still few mark again =
         let own : d ≡ c = some_is (mark (Some d) refl) in (
-          (refl, refl, refl),
+          (refl, refl, refl, refl),
           record {
             own = own;
             shut = subst (λ z. Shut o end marks z s n (settle ∷ ask i k ∷ r) es) own (shuts rest);

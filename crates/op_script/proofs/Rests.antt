@@ -1,11 +1,12 @@
 -- What is left of a run that ends, and what is known where it stands.
-use Rattle.std.proofs.Common.{◌≡◌, ℕ, suc, List, [], ◌∷◌, ◌++◌, ◌≤◌, Bool, true, false, refl, ◌∙◌, ap, subst, length, arith}
+use Rattle.std.proofs.Common.{◌≡◌, ℕ, suc, List, [], ◌∷◌, ◌++◌, ◌≤◌, Bool, true, false, refl, sym, ◌∙◌, ap, subst, length, append-nil, append_assoc, arith}
 use Rattle.op_setup.specs.declared.config.Settings.{Settings}
 use Rattle.op_sessions.specs.declared.mark.Mark.{Mark}
 use Rattle.op_sessions.specs.State.{Loop}
 use Rattle.op_loop.specs.Cores.{Standing}
-use Rattle.op_loop.specs.Rules.{Task, Moment, at, Step, Event, turns, admit, join, drop, starved, broken}
-use Rattle.op_loop.specs.Run.{Run, none, more, inputs, input_of}
+use Rattle.op_outside.specs.Nets.{Call, Closed}
+use Rattle.op_loop.specs.Rules.{Task, Moment, at, Step, Event, net, turns, admit, join, drop, starved, broken}
+use Rattle.op_loop.specs.Run.{Run, none, more, calls, call_of, inputs, input_of}
 use Rattle.op_loop.specs.Serving.{EndsAt}
 use Rattle.op_script.specs.Script.{script, said_in, fates, fate_in}
 use Rattle.op_loop.specs.Taking.{Traffic, and_then}
@@ -129,47 +130,54 @@ goes {es = es} f r = goes_if es f r.placed (going r)
 
 -- ---- two runs that tell the same
 
--- the events of one run tell the same as those of another, which are no more
-pub record TellAs (es fs : List Event) : Type 0 where
+-- the events of one run tell the same as those of another, which are no more, but that these calls came before
+pub record TellAs (before : List Call) (es fs : List Event) : Type 0 where
   pub said : script es ≡ script fs
   pub came : fates es ≡ fates fs
   pub given : inputs es ≡ inputs fs
+  pub called : calls es ≡ before ++ calls fs
   pub fewer : length fs ≤ length es
 
-pub tell_same : (es : List Event) → TellAs es es
-tell_same es = record { said = refl; came = refl; given = refl; fewer = omega arith }
+pub tell_same : (es : List Event) → TellAs [] es es
+tell_same es = record { said = refl; came = refl; given = refl; called = refl; fewer = omega arith }
 
-pub tell_then : {es fs gs : List Event} → TellAs es fs → TellAs fs gs → TellAs es gs
-tell_then a b = record { said = a.said ∙ b.said; came = a.came ∙ b.came; given = a.given ∙ b.given; fewer = let p = a.fewer in let q = b.fewer in omega (arith, p, q) }
+pub tell_then : {cs ds : List Call} {es fs gs : List Event} → TellAs cs es fs → TellAs ds fs gs → TellAs (cs ++ ds) es gs
+tell_then {cs = cs} {ds = ds} {gs = gs} a b = record { said = a.said ∙ b.said; came = a.came ∙ b.came; given = a.given ∙ b.given; called = a.called ∙ ap (λ l. cs ++ l) b.called ∙ sym (append_assoc cs ds (calls gs)); fewer = let p = a.fewer in let q = b.fewer in omega (arith, p, q) }
 
 -- an event that tells nothing
 abbrev pub Still : Event → Type 0
-Still e = (said_in e ≡ []) × (fate_in e ≡ []) × (input_of e ≡ [])
+Still e = (said_in e ≡ []) × (fate_in e ≡ []) × (input_of e ≡ []) × (call_of e ≡ [])
 
-pub tell_still : {es fs gs : List Event} (e : Event) → Still e → es ≡ e ∷ fs → TellAs fs gs → TellAs es gs
+pub tell_still : {cs : List Call} {es fs gs : List Event} (e : Event) → Still e → es ≡ e ∷ fs → TellAs cs fs gs → TellAs cs es gs
 tell_still {fs = fs} e still is a = record {
   said = ap script is ∙ ap (λ l. l ++ script fs) still.0 ∙ a.said;
   came = ap fates is ∙ ap (λ l. l ++ fates fs) still.1 ∙ a.came;
   given = ap inputs is ∙ ap (λ l. l ++ inputs fs) still.2 ∙ a.given;
+  called = ap calls is ∙ ap (λ l. l ++ calls fs) still.3 ∙ a.called;
   fewer = let p = a.fewer in let q = ap length is in omega (arith, p, q);
 }
 
+-- a connection is closed
+pub tell_closed : {es fs : List Event} (c : ℕ) → es ≡ net (Closed c) ∷ fs → TellAs (Closed c ∷ []) es fs
+tell_closed c is = record { said = ap script is; came = ap fates is; given = ap inputs is; called = ap calls is; fewer = let q = ap length is in omega (arith, q) }
+
 -- the same event in both
-pub tell_both : {es fs : List Event} (e : Event) → TellAs es fs → TellAs (e ∷ es) (e ∷ fs)
+pub tell_both : {es fs : List Event} (e : Event) → TellAs [] es fs → TellAs [] (e ∷ es) (e ∷ fs)
 tell_both e a = record {
   said = ap (λ l. said_in e ++ l) a.said;
   came = ap (λ l. fate_in e ++ l) a.came;
   given = ap (λ l. input_of e ++ l) a.given;
+  called = ap (λ l. call_of e ++ l) a.called;
   fewer = let p = a.fewer in omega (arith, p);
 }
 
--- a run gets to this moment, and tells nothing on its way
-abbrev pub Gets : Settings → ServeEnd → List Mark → List Event → Moment → Type 0
-Gets o end marks es b = (fs : List Event) × TellAs es fs × Rest o end marks b fs
+-- a run gets to this moment, and tells nothing on its way but these calls
+abbrev pub Gets : Settings → ServeEnd → List Mark → List Call → List Event → Moment → Type 0
+Gets o end marks cs es b = (fs : List Event) × TellAs cs es fs × Rest o end marks b fs
 
 module _ {o : Settings} {end : ServeEnd} {marks : List Mark} where
-  pub gets_step : {a : Moment} {es : List Event} (b : Moment) (g : Goes o end marks a es) → Still g.event → g.after ≡ b → Gets o end marks es b
+  pub gets_step : {a : Moment} {es : List Event} (b : Moment) (g : Goes o end marks a es) → Still g.event → g.after ≡ b → Gets o end marks [] es b
   gets_step b g still is = (g.others, tell_still g.event still g.are (tell_same g.others), subst (λ m. Rest o end marks m g.others) is g.rest)
 
-  pub gets_then : {es : List Event} (b d : Moment) → Gets o end marks es b → ((fs : List Event) → Rest o end marks b fs → Gets o end marks fs d) → Gets o end marks es d
-  gets_then b d g go = let h = go g.0 g.2 in (h.0, tell_then g.1 h.1, h.2)
+  pub gets_then : {cs : List Call} {es : List Event} (b d : Moment) → Gets o end marks cs es b → ((fs : List Event) → Rest o end marks b fs → Gets o end marks [] fs d) → Gets o end marks cs es d
+  gets_then {cs = cs} {es = es} b d g go = let h = go g.0 g.2 in (h.0, subst (λ l. TellAs l es h.0) (append-nil cs) (tell_then g.1 h.1), h.2)

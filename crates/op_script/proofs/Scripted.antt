@@ -9,7 +9,7 @@ use Rattle.op_sessions.specs.Wire.{client_frame}
 use Rattle.op_sessions.specs.State.{Loop, fresh, mark_at, marked, is_open, first_hungry, with_session, hungry, waits_for, kind_at, goes_down, left_by}
 use Rattle.op_loop.specs.Cores.{Standing}
 use Rattle.op_loop.specs.Rules.{Task, Moment, at, Step, Event, turns, Fate, done, faults, lost, node, send, reply, meet, answer, status, finish, count, ended, join, frames, close, ask, dial, pour, write, settle, give, starved, of_end, gives_done, gives_faulted, gives_lost, meets, sends, sends_hungry, sends_to_none, replies, answers, answers_hungry, tells_status, tells_no_status, closes}
-use Rattle.op_loop.specs.Run.{inputs, input_of}
+use Rattle.op_loop.specs.Run.{calls, call_of, inputs, input_of}
 use Rattle.op_script.specs.Script.{IsServed, script, said_in, fates, fate_in, fate_of}
 use Rattle.op_loop.specs.declared.serve_end.ServeEnd.{ServeEnd}
 use Rattle.op_loop.specs.declared.serve_end.ServeEnd.TheVariants as ends
@@ -118,17 +118,17 @@ stays_joins : (x : Task) (r : List Task) → stays_alike x ≡ true → is_joini
 stays_joins (join c kind bytes) r f = absurd cc
 stays_joins _ r f = refl
 
-stays_still : {o : Settings} {x : Task} {r : List Task} {s : Loop} {n : Standing} {e : Event} {b : Moment} → Step o (at (x ∷ r) s n) e b → stays_alike x ≡ true → Still e
-stays_still meets f = (refl, refl, refl)
-stays_still (sends _) f = (refl, refl, refl)
-stays_still (sends_hungry _) f = (refl, refl, refl)
-stays_still (sends_to_none _) f = (refl, refl, refl)
-stays_still replies f = (refl, refl, refl)
-stays_still answers f = (refl, refl, refl)
-stays_still answers_hungry f = (refl, refl, refl)
-stays_still tells_status f = (refl, refl, refl)
-stays_still tells_no_status f = (refl, refl, refl)
-stays_still closes f = (refl, refl, refl)
+stays_still : {o : Settings} {x : Task} {r : List Task} {s : Loop} {n : Standing} {e : Event} {b : Moment} → Step o (at (x ∷ r) s n) e b → stays_alike x ≡ true → (said_in e ≡ []) × (fate_in e ≡ [])
+stays_still meets f = (refl, refl)
+stays_still (sends _) f = (refl, refl)
+stays_still (sends_hungry _) f = (refl, refl)
+stays_still (sends_to_none _) f = (refl, refl)
+stays_still replies f = (refl, refl)
+stays_still answers f = (refl, refl)
+stays_still answers_hungry f = (refl, refl)
+stays_still tells_status f = (refl, refl)
+stays_still tells_no_status f = (refl, refl)
+stays_still closes f = (refl, refl)
 stays_still st f = absurd cc
 
 module _ {o : Settings} {marks : List Mark} {m : ℕ} (below : Below o marks m) where
@@ -174,8 +174,8 @@ module _ {o : Settings} {marks : List Mark} {m : ℕ} (below : Below o marks m) 
         both_finish f.conn now too lt f.rest (calm_step st (no_starving a.todo e free) still) f.here said came)
   ]
 
-  tell_unfound : (f : Event) (fs : List Event) → answer_of f ≡ found false → TellAs (f ∷ fs) fs
-  tell_unfound f fs h = tell_still f (subst Still (sym (unfound_is f h)) (refl, refl, refl)) refl (tell_same fs)
+  tell_unfound : (f : Event) (fs : List Event) → answer_of f ≡ found false → TellAs [] (f ∷ fs) fs
+  tell_unfound f fs h = tell_still f (subst Still (sym (unfound_is f h)) (refl, refl, refl, refl)) refl (tell_same fs)
 
   agree_answers : {end other : ServeEnd} {a b d : Moment} {e f : Event} {es fs : List Event} → Answers e f → Step o a e b → Step o a f d → Rest o end marks a (e ∷ es) → Rest o other marks a (f ∷ fs)
       → Rest o end marks b es → Rest o other marks d fs → length (e ∷ es) + length (f ∷ fs) < suc m → Unended a.todo → is_busy a.todo ≡ false → Calm a.loop
@@ -185,7 +185,7 @@ module _ {o : Settings} {marks : List Mark} {m : ℕ} (below : Below o marks m) 
       let a = agree_on st free still one.placed.shape unended p (subst (λ x. Rest o other marks x fs) (sym next.1) q) (omega (arith, lt))
       (append_cancel_left (said_in e) (script es) (script fs) (said ∙ ap (λ x. said_in x ++ script fs) (sym next.0)))
       (append_cancel_left (fate_in e) (fates es) (fates fs) (came ∙ ap (λ x. fate_in x ++ fates fs) (sym next.0))) in
-      record { given = ap (λ l. input_of e ++ l) a.given ∙ ap (λ x. input_of x ++ inputs fs) next.0; ends = a.ends }
+      record { given = ap (λ l. input_of e ++ l) a.given ∙ ap (λ x. input_of x ++ inputs fs) next.0; called = ap (λ l. call_of e ++ l) a.called ∙ ap (λ x. call_of x ++ calls fs) next.0; ends = a.ends }
   agree_answers {e = e} {f = f} {es = es} {fs = fs} (in_first h k) st also one two p q lt unended free still said came =
       let told = tell_unfound f fs k in
       agree_as (tell_same (e ∷ es)) told (apart below also k free one h q two.placed (omega (arith, lt)) unended still (said ∙ told.said) (came ∙ told.came))
@@ -196,7 +196,7 @@ module _ {o : Settings} {marks : List Mark} {m : ℕ} (below : Below o marks m) 
   agree_calm : {end other : ServeEnd} {todo : List Task} {s : Loop} {n : Standing} (es fs : List Event) → Rest o end marks (at todo s n) es → Rest o other marks (at todo s n) fs
       → length es + length fs < suc m → Unended todo → is_busy todo ≡ false → Calm s → script es ≡ script fs → fates es ≡ fates fs → Agree es fs end other
   agree_calm {end = end} {other = other} {todo = todo} {s = s} [] [] one two lt unended free still said came =
-      record { given = refl; ends = one_end end other todo s s refl (going one).0 (going two).0 }
+      record { given = refl; called = refl; ends = one_end end other todo s s refl (going one).0 (going two).0 }
   agree_calm {end = end} [] (f ∷ fs) one two lt unended free still said came = absurd (no_step_at_end end (going one).0 (going two).step)
   agree_calm {other = other} (e ∷ es) [] one two lt unended free still said came = absurd (no_step_at_end other (going two).0 (going one).step)
   agree_calm (e ∷ es) (f ∷ fs) one two lt unended free still said came =
@@ -221,7 +221,7 @@ module _ {o : Settings} {marks : List Mark} {m : ℕ} (below : Below o marks m) 
         said = said;
         came = came;
       }) in
-      record { given = ap (λ l. input_of e ++ l) a.given ∙ ap (λ l. l ++ inputs fs) both.inputs; ends = a.ends }
+      record { given = ap (λ l. input_of e ++ l) a.given ∙ ap (λ l. l ++ inputs fs) both.inputs; called = ap (λ l. call_of e ++ l) a.called ∙ ap (λ l. l ++ calls fs) both.calls; ends = a.ends }
 
   -- whether there is memory or not
   agree_stays : {end other : ServeEnd} {r : List Task} {s t : Loop} {n : Standing} (x : Task) (es fs : List Event) → stays_alike x ≡ true
@@ -381,6 +381,7 @@ module _ {o : Settings} {marks : List Mark} {m : ℕ} (below : Below o marks m) 
       let q = no_run_at_end ends.Starved at_end two.run in
       record {
         given = ap inputs p.0 ∙ sym (ap inputs q.0);
+        called = ap calls p.0 ∙ sym (ap calls q.0);
         ends = one_end end other (starved ∷ r) s t (alike_ending a) (subst (λ (x : Moment). EndsAt end x.todo x.loop) p.1 one.ends) (subst (λ (x : Moment). EndsAt other x.todo x.loop) q.1 two.ends);
       }
 
@@ -429,10 +430,10 @@ served {o = o} {k = k} {me = me} {start = start} {n = n} {es = es} is =
     }
 
 -- Two runs from one start, with the same answers of net and clock, the same marks, and the same fates of the inputs that
--- were not lost, have the same inputs, lost ones too, and end in the same way.
+-- were not lost, have the same inputs, lost ones too, and the same calls, and end in the same way.
 pub follows_script : {o : Settings} {k me start : ℕ} {n : Standing} {es fs : List Event} {end other : ServeEnd} {marks : List Mark}
     → IsServed o k me start n es end marks → IsServed o k me start n fs other marks → script es ≡ script fs → fates es ≡ fates fs
-    → (inputs es ≡ inputs fs) × (end ≡ other)
+    → (inputs es ≡ inputs fs) × (calls es ≡ calls fs) × (end ≡ other)
 unfolding Unended has_finish
 follows_script {o = o} {k = k} {me = me} {start = start} {n = n} {es = es} {fs = fs} {end = end} {other = other} {marks = marks} one two said came =
     let s : Loop = started o me start in
@@ -444,4 +445,4 @@ follows_script {o = o} {k = k} {me = me} {start = start} {n = n} {es = es} {fs =
       said = said;
       came = came;
     }) in
-    (a.given, a.ends)
+    (a.given, a.called, a.ends)

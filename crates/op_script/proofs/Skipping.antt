@@ -148,7 +148,7 @@ gone_step {e = e} c st f g = (g.0, and_then g.0 c g.1 e, not_joined g.0 c g.1 e 
 
 -- the same end, from another moment, telling the same
 abbrev Instead : Settings → ServeEnd → List Mark → List Event → Moment → Type 0
-Instead o end marks es b = (fs : List Event) × TellAs es fs × Ended o end marks b fs
+Instead o end marks es b = (fs : List Event) × TellAs [] es fs × Ended o end marks b fs
 
 -- ---- the frames of a connection that was closed
 
@@ -224,7 +224,7 @@ end_joins (Some q) r = refl
 
 pub skipped : {o : Settings} {end : ServeEnd} {marks : List Mark} {v : Loop} {n : Standing} {es : List Event} (w : Option ℕ) (c i k : ℕ) (y : Stream) (r : List Task)
     → Rest o end marks (at (of_end w ++ settle ∷ frames c y ∷ settle ∷ ask i k ∷ r) v n) es → is_open c v ≡ false
-    → Gets o end marks es (at (of_end w ++ settle ∷ ask i k ∷ r) v n)
+    → Gets o end marks [] es (at (of_end w ++ settle ∷ ask i k ∷ r) v n)
 skipped {o = o} {end = end} {marks = marks} {v = v} {n = n} {es = es} w c i k y r rest out =
     let todo : List Task = of_end w ++ settle ∷ frames c y ∷ settle ∷ ask i k ∷ r in
     let gone = gone_now c todo v n (end_joins w (frames c y ∷ settle ∷ ask i k ∷ r)) rest.staged out in

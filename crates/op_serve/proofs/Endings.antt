@@ -1,5 +1,5 @@
 -- How a node ends, from what its opening and its serving tell.
-use Rattle.std.proofs.Common.{◌+◌, ◌≡◌, ℕ, List, ◌∷◌, [], Option, Some, None, Err, refl, inl, inr}
+use Rattle.std.proofs.Common.{◌+◌, ◌≡◌, ◌≤◌, ℕ, Bool, List, ◌∷◌, [], Option, Some, None, Err, refl, inl, inr, ⊎_elim, arith}
 use Rattle.std.proofs.lemmas.List.Elements.{All-weaker}
 use Rattle.op_types.specs.declared.durable.Durable.{Durable}
 use Rattle.op_types.specs.declared.messages.Msg.{Msg}
@@ -12,9 +12,12 @@ use Rattle.op_types.specs.Ranges.{IsPid}
 use Rattle.op_setup.specs.Settings.{HasPeer, IsSettings}
 use Rattle.op_setup.specs.declared.config.Settings.{Settings}
 use Rattle.op_store.specs.Failing.{faults, IsFaultOf}
-use Rattle.op_store.specs.Openings.{IsRefusal}
-use Rattle.op_store.specs.Stored.{Obey}
-use Rattle.op_store.specs.Stores.{Represents}
+use Rattle.op_store.specs.Openings.{IsRefusal, Opened, Remains}
+use Rattle.op_store.specs.Stored.{Obey, HaveImages, KeepBoth}
+use Rattle.op_store.specs.Stores.{Represents, disks_of}
+use Rattle.op_store.specs.declared.store.Store.{Store}
+use Rattle.op_store.proofs.CommitCrashes.{open_stored, rests_first, rests_second}
+use Rattle.op_store.proofs.PairRuns.{pairs_same}
 use Rattle.op_store.specs.declared.fail.Returned.{Returned}
 use Rattle.op_store.specs.declared.fail.StoreFail.{StoreFail}
 use Rattle.op_store.specs.declared.fail.StoreFail.TheVariants as refusals
@@ -30,7 +33,7 @@ use Rattle.op_sessions.specs.declared.mark.Mark.{Mark}
 use Rattle.op_status.specs.declared.status.Status.{Status}
 use Rattle.op_status.specs.declared.status.Status.TheVariants as status
 use Rattle.op_input.specs.Inputs.{IsMisconfigured, input_limit}
-use Rattle.op_serve.specs.Nodes.{Around, Serves, is_misconfigured, Goes, is_unheard, cannot_begin, has_served, Ends, cannot_open, is_damaged, has_no_memory, is_opened, IsHeard, IsNodeOf, IsOwn, IsReady, Holds, around, status_of, status_of_refusal}
+use Rattle.op_serve.specs.Nodes.{Around, Serves, is_misconfigured, Goes, is_unheard, cannot_begin, has_served, Ends, cannot_open, is_damaged, has_no_memory, is_opened, IsHeard, IsNodeOf, IsOwn, IsReady, Holds, KeepsStored, around, status_of, status_of_refusal}
 
 module _ {D : Type 0} (state : D → DiskState) where
   -- what stood for what was stored may be known by less
@@ -38,7 +41,73 @@ module _ {D : Type 0} (state : D → DiskState) where
       → Goes state id o n P old new s lost → Goes state id o n Q old new s lost
   goes_by id o n P Q old new s lost f (is_unheard h same) = is_unheard h same
   goes_by id o n P Q old new s lost f (cannot_begin t r c same) = cannot_begin t r c same
-  goes_by id o n P Q old new s lost f (has_served net r serves stored) = has_served net r serves (λ q. stored (f q))
+  goes_by id o n P Q old new s lost f (has_served net r serves kept stored) = has_served net r serves kept (λ q. stored (f q))
+
+  -- ---- what an opening keeps
+
+  -- what a store represents is on its disks
+  holds : (k : Node D) (d : Durable) (net : NetSeen) (clock : Option (List ℕ)) (out : StreamSeen) → Represents state d k.store → Holds state (around k.store.first k.store.second net clock out) d
+  holds k d net clock out r =
+      let s = k.store in
+      record {
+        rests_first = rests_first d s.is_second s.generation s.end s.base s.is_closed (disks_of state s) r;
+        rests_second = rests_second d s.is_second s.generation s.end s.base s.is_closed (disks_of state s) r;
+        stored = open_stored d s.is_second s.generation s.end s.base s.is_closed (disks_of state s) r;
+      }
+
+  represented_images : (d : Durable) (s : Store D) → Represents state d s → HaveImages (disks_of state s)
+  represented_images d s r = (
+    (rests_first d s.is_second s.generation s.end s.base s.is_closed (disks_of state s) r).only.itself,
+    (rests_second d s.is_second s.generation s.end s.base s.is_closed (disks_of state s) r).only.itself,
+  )
+
+  no_less : (a b : ℕ) → b ≡ a → a ≤ b
+  no_less a b e = omega arith
+
+  opened_keeps : (id : ℕ) (members : List ℕ) (first second : D) (s : Store D) (d : Durable) (is_new : Bool) (net : NetSeen) (clock : Option (List ℕ)) (out : StreamSeen)
+      → Opened state (fresh_for id members) (disks_with state first second) s d is_new
+      → KeepsStored state id members (around first second net clock out) (around s.first s.second net clock out)
+  opened_keeps id members first second s d is_new net clock out opened =
+      record {
+        only_disks = refl;
+        kept = opened.kept;
+        later = no_less _ _ opened.no_fault;
+        crash = opened.crash;
+        images = λ obey had. represented_images d s (opened.stored obey);
+      }
+
+  module _ (id : ℕ) (members : List ℕ) (first second : D) (net : NetSeen) (clock : Option (List ℕ)) (out : StreamSeen) where
+    -- around the node with these disks
+    abbrev with_disks : D → D → Around D
+    with_disks a b = around a b net clock out
+
+    -- no call was made
+    uncalled_keeps : KeepsStored state id members (with_disks first second) (with_disks first second)
+    uncalled_keeps =
+        record {
+          only_disks = refl;
+          kept = record { model = ((λ x. x, λ x. x), (λ x. x, λ x. x)); mark = (refl, refl) };
+          later = omega arith;
+          crash = λ obey. pairs_same (Remains (fresh_for id members) (state first).content (state second).content) (disks_with state first second);
+          images = λ obey had. had;
+        }
+
+    -- the disks are these others
+    handed : (a b x y : D) → x ≡ a → y ≡ b → KeepsStored state id members (with_disks first second) (with_disks a b)
+        → KeepsStored state id members (with_disks first second) (with_disks x y)
+    handed a b x y is_first is_second h = rw (is_first, is_second) h
+
+    refusal_keeps : (e : Returned D) → RefusesNode state (fresh_for id members) first second e
+        → KeepsStored state id members (with_disks first second) (with_disks e.first e.second)
+    refusal_keeps e (inl r) =
+        record { only_disks = refl; kept = r.kept; later = r.later; crash = r.crash; images = λ obey had. r.images obey }
+    refusal_keeps e (inr s) =
+        ⊎_elim (λ same. handed first second e.first e.second same.0 same.1 uncalled_keeps)
+        (λ h. handed h.store.first h.store.second e.first e.second h.same.0 h.same.1
+        (opened_keeps id members first second h.store h.durable h.is_new net clock out h.opened))
+        s.left
+
+  -- ---- how an opening goes on
 
   -- an opened node goes on
   pub ends_opened : (id : ℕ) (o : Settings) (first second : D) (n : Node D) (sends : List (ℕ × Msg)) (net : NetSeen) (clock : Option (List ℕ)) (out : StreamSeen) (new : Around D) (s : Status) (lost : List Mark)
@@ -47,19 +116,28 @@ module _ {D : Type 0} (state : D → DiskState) where
       → Ends state id o (around first second net clock out) new s lost
   ends_opened id o first second n sends net clock out new s lost opens goes =
       is_opened (around n.store.first n.store.second net clock out)
-      (record { durable = opens.durable; is_new = opens.is_new; found = opens.opened.found; node = opens.node; no_fault = opens.opened.no_fault })
-      refl
+      (record {
+        durable = opens.durable;
+        is_new = opens.is_new;
+        found = opens.opened.found;
+        holds = λ obey. holds n opens.durable net clock out (opens.opened.stored obey);
+        node = opens.node;
+        no_fault = opens.opened.no_fault;
+        keeps = opened_keeps id o.members first second n.store opens.durable opens.is_new net clock out opens.opened;
+      })
       (goes_by id o (node_of n) (IsRepresented state n) (IsOwn state id (around first second net clock out) opens.durable) _ new s lost
       (λ own. opened_represented state id o.members (disks_with state first second) n sends opens own.0 own.1) goes)
 
   -- a node that was not opened ends
   refused_by : (id : ℕ) (o : Settings) (first second : D) (cause : StoreFail) (a b : D) (net : NetSeen) (clock : Option (List ℕ)) (out : StreamSeen)
+      → KeepsStored state id o.members (around first second net clock out) (around a b net clock out)
       → IsFaultOf (faults (disks_with state first second)) (faults (disks_with state a b)) cause
       → (Obey (disks_with state first second) → IsRefusal (disks_with state first second) (disks_with state a b) cause)
       → Ends state id o (around first second net clock out) (around a b net clock out) (status_of_refusal cause) []
-  refused_by id o first second (refusals.DiskFault count) a b net clock out fault refusal = cannot_open refl fault.1
-  refused_by id o first second (refusals.Damaged area at) a b net clock out fault refusal = is_damaged refl fault (λ obey. (refusal obey).0)
-  refused_by id o first second refusals.NoMemory a b net clock out fault refusal = has_no_memory refl fault
+  refused_by id o first second (refusals.DiskFault count) a b net clock out keeps fault refusal = cannot_open keeps fault.1
+  refused_by id o first second (refusals.Damaged area at) a b net clock out keeps fault refusal =
+      is_damaged keeps fault (λ obey. let r = refusal obey in record { damage = r.0; same_first = r.1; same_second = r.2 })
+  refused_by id o first second refusals.NoMemory a b net clock out keeps fault refusal = has_no_memory keeps fault
 
   refusal_of : (id : ℕ) (o : Settings) (first second : D) (e : Returned D) → RefusesNode state (fresh_for id o.members) first second e
       → Obey (disks_with state first second) → IsRefusal (disks_with state first second) (disks_with state e.first e.second) e.cause
@@ -70,7 +148,7 @@ module _ {D : Type 0} (state : D → DiskState) where
       → RefusesNode state (fresh_for id o.members) first second e
       → Ends state id o (around first second net clock out) (around e.first e.second net clock out) (status_of_refusal e.cause) []
   refused id o first second e net clock out r =
-      refused_by id o first second e.cause e.first e.second net clock out
+      refused_by id o first second e.cause e.first e.second net clock out (refusal_keeps id o.members first second net clock out e r)
       (refusal_tells state (fresh_for id o.members) first second e r) (refusal_of id o first second e r)
 
   pub ends_refused : (id : ℕ) (o : Settings) (first second : D) (e : Returned D) (net : NetSeen) (clock : Option (List ℕ)) (out : StreamSeen)
@@ -98,20 +176,17 @@ module _ {D : Type 0} (state : D → DiskState) where
   goes_unserved id o n stood first second net0 mid net1 clock0 clock1 out0 out1 a b t s lost ready same grows at_first at_second is no_loss =
       rw (same, at_first, at_second, is, no_loss) (cannot_begin t ready grows refl)
 
-  -- what a node's store represents is on its disks
-  holds : (k : Node D) (d : Durable) (net : NetSeen) (clock : Option (List ℕ)) (out : StreamSeen) → Represents state d k.store → Holds state (around k.store.first k.store.second net clock out) d
-  holds k d net clock out r = (k.store.generation, k.store.end, r.settles)
-
   -- it has served
   pub goes_served : (id : ℕ) (o : Settings) (n : NodeState) (stood : Type 0) (first second : D) (k : Node D) (end : ServeEnd) (net0 mid net1 : NetSeen) (clock0 clock1 : Option (List ℕ)) (out0 out1 : StreamSeen)
       (a b : D) (s : Status) (lost : List Mark)
       → IsReady id o net0 mid out0 out1
       → loop.Serves o end lost (record { node = n; faults = faults (disks_with state first second) }) (standing_of state k) mid net1 clock0 clock1
+      → KeepBoth (disks_with state first second) (disks_of state k.store)
       → (stood → IsStoredWhileUp state k) → a ≡ k.store.first → b ≡ k.store.second → s ≡ status_of end
       → Goes state id o n stood (around first second net0 clock0 out0) (around a b net1 clock1 out1) s lost
-  goes_served id o n stood first second k end net0 mid net1 clock0 clock1 out0 out1 a b s lost ready serves stored at_first at_second is =
+  goes_served id o n stood first second k end net0 mid net1 clock0 clock1 out0 out1 a b s lost ready serves kept stored at_first at_second is =
       rw (at_first, at_second, is)
-      (has_served mid ready serves (λ (yes : stood) (up : (node_of k).failed ≡ None). holds k (node_of k).state.durable net1 clock1 out1 (stored yes up)))
+      (has_served mid ready serves kept (λ (yes : stood) (up : (node_of k).failed ≡ None). holds k (node_of k).state.durable net1 clock1 out1 (stored yes up)))
 
 -- ---- its settings
 

@@ -1,10 +1,10 @@
 -- How a node that serves ends, and what it leaves on its disks, its net and its output.
-use Rattle.std.specs.Prelude.{◌≡◌, ◌+◌, ◌++◌, ◌∷◌, [], ℕ, Bool, List, codes, decimal, Option, Some, None, Result, Ok, Err, Contains}
+use Rattle.std.specs.Prelude.{◌≡◌, ◌≤◌, ◌+◌, ◌++◌, ◌∷◌, [], ℕ, Bool, List, codes, decimal, Option, Some, None, Result, Ok, Err, Contains}
 use Rattle.std.specs.Io.KnownBytes.{Appends}
 use Rattle.op_types.specs.Ranges.{IsPid, MembersInRange}
 use Rattle.op_types.specs.declared.durable.Durable.{Durable}
 use Rattle.op_outside.specs.Causes.{FaultsRose, RisesWith}
-use Rattle.op_outside.specs.Disks.{DiskState}
+use Rattle.op_outside.specs.Disks.{DiskState, IsAtRest}
 use Rattle.op_outside.specs.Nets.{Call, Listened}
 use Rattle.op_outside.specs.Seen.{NetSeen, StreamSeen}
 use Rattle.op_outside.specs.Streams.{AppendsPrefix, TakesAtMost}
@@ -13,9 +13,9 @@ use Rattle.op_outside.specs.declared.net.Addr.{Addr}
 use Rattle.op_setup.specs.declared.config.Settings.{Settings}
 use Rattle.op_setup.specs.Settings.{IsAmong}
 use Rattle.op_store.specs.Failing.{faults}
-use Rattle.op_store.specs.Openings.{IsOpenedAs}
+use Rattle.op_store.specs.Openings.{IsOpenedAs, Keeps}
 use Rattle.op_store.specs.Readings.{IsDamageOf}
-use Rattle.op_store.specs.Stored.{Obey, Settles}
+use Rattle.op_store.specs.Stored.{Disks, Obey, IsStored, HaveImages, KeepBoth}
 use Rattle.op_store.specs.declared.fail.StoreFail.{StoreFail}
 use Rattle.op_store.specs.declared.fail.StoreFail.TheVariants as refusals
 use Rattle.op_node.specs.Nodes.{NodeState}
@@ -94,38 +94,59 @@ abbrev pub around : {D : Type 0} → D → D → NetSeen → Option (List ℕ) �
 around first second net clock output =
     record { first = first; second = second; net = net; clock = clock; output = output }
 
--- nothing but the disks changed
-abbrev pub OnlyDisks : {D : Type 0} → Around D → Around D → Type 0
-OnlyDisks old new = new ≡ record old { first = new.first; second = new.second }
-
 module _ {D : Type 0} (state : D → DiskState) where
-  -- how often the disks have failed in all
+  -- what is known of the disks
+  abbrev pub disks_in : Around D → Disks
+  disks_in a = disks_with state a.first a.second
+
+  -- how often they have failed in all
   abbrev pub faults_of : Around D → ℕ
-  faults_of a = faults (disks_with state a.first a.second)
+  faults_of a = faults (disks_in a)
 
-  -- both disks obey the model of a disk
+  -- both obey the model of a disk
   abbrev pub ObeyIn : Around D → Type 0
-  ObeyIn a = Obey (disks_with state a.first a.second)
+  ObeyIn a = Obey (disks_in a)
 
-  -- the first disk holds an area that makes this durable state, and a crash leaves nothing else
-  abbrev pub Holds : Around D → Durable → Type 0
-  Holds a d = (generation : ℕ) × (end : ℕ) × Settles d generation end (state a.first)
+  -- they store this durable state, and a crash leaves nothing else
+  pub record Holds (a : Around D) (d : Durable) : Type 0 where
+    pub rests_first : IsAtRest (state a.first)
+    pub rests_second : IsAtRest (state a.second)
+    pub stored : IsStored d (state a.first).content (state a.second).content
 
-  -- A node was opened: it takes what the disks store, or begins with its first state, and no disk failed.
+  -- What an opening leaves, however it ends: nothing but the disks was called, each of them is itself, and
+  -- the count of faults didn't fall. A crash leaves what it might have left before, or what they stored;
+  -- and a read gives what a crash may leave, if it did so before.
+  pub record KeepsStored (id : ℕ) (members : List ℕ) (old new : Around D) : Type 0 where
+    pub only_disks : new ≡ record old { first = new.first; second = new.second }
+    pub kept : KeepBoth (disks_in old) (disks_in new)
+    pub later : faults_of old ≤ faults_of new
+    pub crash : ObeyIn old → Keeps (fresh_for id members) (disks_in old) (disks_in new)
+    pub images : ObeyIn old → HaveImages (disks_in old) → HaveImages (disks_in new)
+
+  -- an area is damaged at this place, and nothing was cut or written
+  pub record IsDamaged (old new : Around D) (area at : ℕ) : Type 0 where
+    pub damage : IsDamageOf (state old.first).content (state old.second).content area at
+    pub same_first : (state new.first).content ≡ (state old.first).content
+    pub same_second : (state new.second).content ≡ (state old.second).content
+
+  -- A node was opened: it takes what the disks store, or begins with its first state, which they hold then,
+  -- and no disk failed.
   pub record IsOpened (id : ℕ) (members : List ℕ) (old new : Around D) (n : NodeState) : Type 0 where
     pub durable : Durable
     pub is_new : Bool
     pub found : ObeyIn old →
         IsOpenedAs (fresh_for id members) (state old.first).content (state old.second).content durable is_new
+    pub holds : ObeyIn old → Holds new durable
     pub node : n ≡ record { me = id; state = opening_state id is_new durable; failed = None }
     pub no_fault : faults_of new ≡ faults_of old
+    pub keeps : KeepsStored id members old new
 
   -- the disks obey the model, and what they store is of this node
   abbrev pub IsOwn : ℕ → Around D → Durable → Type 0
   IsOwn id old durable = ObeyIn old × (durable_for id durable ≡ durable)
 
   -- How an open node ends: it could not listen, or could not tell that it does;
-  -- there was no memory to begin; or it has served.
+  -- there was no memory to begin; or it has served, and each disk is itself at the end.
   -- If the disks stood for what it had stored, and it has not failed, they do so at the end.
   pub data Goes (id : ℕ) (o : Settings) (n : NodeState) (stood : Type 0)
       (old new : Around D) : Status → List Mark → Type 0 where
@@ -139,20 +160,22 @@ module _ {D : Type 0} (state : D → DiskState) where
         → IsReady id o old.net net old.output new.output
         → loop.Serves o end lost (record { node = n; faults = faults_of old })
         (record { node = m; faults = faults_of new }) net new.net old.clock new.clock
+        → KeepBoth (disks_in old) (disks_in new)
         → (stood → m.failed ≡ None → Holds new m.state.durable)
         → Goes id o n stood old new (status_of end) lost
 
   -- How a node ends, and what it leaves. Each end has its cause,
   -- and nothing is asked of the outside after it.
   pub data Ends (id : ℕ) (o : Settings) (old new : Around D) : Status → List Mark → Type 0 where
-    cannot_open : OnlyDisks old new → FaultsRose (faults_of old) (faults_of new)
+    cannot_open : KeepsStored id o.members old new → FaultsRose (faults_of old) (faults_of new)
         → Ends id o old new status.DiskFault []
-    is_damaged : {area at : ℕ} → OnlyDisks old new → faults_of new ≡ faults_of old
-        → (ObeyIn old → IsDamageOf (state old.first).content (state old.second).content area at)
+    is_damaged : {area at : ℕ} → KeepsStored id o.members old new → faults_of new ≡ faults_of old
+        → (ObeyIn old → IsDamaged old new area at)
         → Ends id o old new (status.Damaged area at) []
-    has_no_memory : OnlyDisks old new → faults_of new ≡ faults_of old → Ends id o old new status.NoMemory []
+    has_no_memory : KeepsStored id o.members old new → faults_of new ≡ faults_of old
+        → Ends id o old new status.NoMemory []
     is_opened : {n : NodeState} {s : Status} {lost : List Mark} (mid : Around D)
-        (opened : IsOpened id o.members old mid n) → OnlyDisks old mid
+        (opened : IsOpened id o.members old mid n)
         → Goes id o n (IsOwn id old opened.durable) mid new s lost → Ends id o old new s lost
 
   -- How the command ends, where this was left of the input before and after it: there are no settings of the

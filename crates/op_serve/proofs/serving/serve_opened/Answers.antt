@@ -10,7 +10,7 @@ returns-in-Err g c =
 pub returns-in-Ok : goal.returns-in-Ok
 returns-in-Ok g c =
     goes_served _ _ _ _ _ _ _ c.serve.new.node _ _ _ _ _ _ _ _ _ _ _ _ c.in_default.ensures c.in-Ok.ensures.serves
-    (λ before. c.in-Ok.ensures.stored (λ _. before)) c.park-first.ensures.first c.park-first.ensures.second c.status_of.ensures
+    c.in-Ok.ensures.stored.kept (λ before. c.in-Ok.ensures.stored.stored (λ _. before)) c.park-first.ensures.first c.park-first.ensures.second c.status_of.ensures
 
 pub returns-in-Err-serve : goal.returns-in-Err-serve
 returns-in-Err-serve g c =
