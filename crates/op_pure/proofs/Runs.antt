@@ -5,6 +5,7 @@ use Rattle.op_types.specs.Ranges.{MembersInRange, WhatInRange}
 use Rattle.op_types.specs.declared.events.Event.{Event}
 use Rattle.op_runs.specs.World.{World, Sent, first_world, world_after, run_of}
 use Rattle.op_runs.specs.Possible.{is_possible, is_possible_in}
+use Rattle.op_lockstep.proofs.Reached.{every_lockstep_reaches}
 use Rattle.op_laws.proofs.Meeting.{runs_meet}
 use Rattle.op_laws.proofs.RepliesServed.{every_reply_is_served}
 use Rattle.op_laws.proofs.Elections.{elected_rise}
@@ -68,6 +69,7 @@ keeps_the_laws members range w left all index c none =
       meets = runs_meet members range (happenings_of all);
       served = every_reply_is_served members range (happenings_of all);
       exchanges = λ early hs is. decides members range early hs;
+      reaches = every_lockstep_reaches members range (happenings_of all);
       rises = λ t pid a b. elected_rise (run_of (first_world members) t.early) t.first t.between t.second pid a b;
       leads = λ t pid a b. led_once (run_of (first_world members) t.early) t.first t.between t.second pid a b;
     }

@@ -6,6 +6,7 @@ use Rattle.op_runs.specs.World.{World, Happening, Done, first_world, world_after
 use Rattle.op_runs.specs.Run.{Meets, first_execution, execution_of}
 use Rattle.op_runs.specs.Replies.{RepliesAreServed}
 use Rattle.op_runs.specs.Summary.{summary_of}
+use Rattle.op_lockstep.specs.Reach.{EachLockstepReaches}
 use Rattle.op_laws.specs.Elected.{elected_at, NeverOpens}
 use Rattle.op_laws.specs.Exchange.{EachExchangeDecides}
 use Rattle.op_laws.specs.Led.{IsStored, LeadsAt}
@@ -52,6 +53,9 @@ pub record KeepsTheLaws (members : List ℕ) (hs : List Happening) : Type 0 wher
   pub served : RepliesAreServed (summary_of members (execution_of (first_execution members) hs))
   -- wherever an exchange is in the run, it decides
   pub exchanges : EachExchangeDecides members hs
+  -- wherever three lockstep rounds are in the run, whoever alone hears a majority takes its own ballot for
+  -- the leader's
+  pub reaches : EachLockstepReaches members hs
   -- the ballots that a node elects rise, and none is led twice
   pub rises : ElectsRising members hs
   pub leads : LeadsOnce members hs

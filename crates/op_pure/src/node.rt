@@ -137,7 +137,7 @@ fn told_lines(alloc: Global, pid: Pid, chain: &Chain, told: Told) -> Result<Line
         lines ≡ runs.told_lines (told_of told) pid s s.durable.part) }
 {
     match told {
-        Told::Pairs => pair_lines(alloc, pid, chain.pairs()?),
+        Told::Pairs => pair_lines(alloc, pid, chain.pairs()),
         Told::Ballots => ballot_lines(alloc, pid, chain.ballots()),
     }
 }

@@ -5,7 +5,7 @@ use op_top::Status;
 use std::test::Fail;
 
 /// A schedule, how its replay ends, what it writes and what it tells.
-const ROWS: [Row; 13] = [
+const ROWS: [Row; 14] = [
     // A leader is elected and prepares server 2; what it proposes is decided with two of three. Server 3 hears nothing.
     (
         "members 1 2 3\ntick 1\ndeliver 0\ndeliver 2\ntick 1\ndeliver 5\ndeliver 7\nput 1 7 1 a x\ndeliver 8\ndeliver 9\ndeliver 11\n",
@@ -55,6 +55,14 @@ const ROWS: [Row; 13] = [
         "members 1 2 3\nput 2 7 1 a x\ntick 1\ndeliver 0\ndeliver 2\ntick 1\ndeliver 5\nput 2 7 1 a x\ndeliver 7\ndeliver 8\ndeliver 9\ndeliver 10\ndeliver 12\ndeliver 13\n",
         Status::Ended,
         "answer 2 refused noleader\nanswer 8 forwarded 1\nreply 2 7 1 done\nconfig 1 members 1 2 3\nentry 1 0 put 7 1 a x\nnode 1 config 1 decided 1 trimmed 0\nnode 2 config 1 decided 1 trimmed 0\nnode 3 config 1 decided 0 trimmed 0\n",
+        "",
+    ),
+    // A client's number stands in the log twice, before and behind another client's put: its effect comes once, and each server that
+    // it waits at answers it once.
+    (
+        "members 1 2 3\ntick 1\ndeliver 0\ndeliver 2\ntick 1\ndeliver 5\ndeliver 7\nput 1 7 1 a x\ndeliver 8\ndeliver 9\ndeliver 11\nput 1 8 1 a y\nput 2 7 1 a x\ndeliver 13\ndeliver 14\ndeliver 16\ndeliver 17\ndeliver 18\nshow 2\n",
+        Status::Ended,
+        "answer 8 appended 1 0\nreply 1 7 1 done\nanswer 12 appended 1 1\nanswer 13 forwarded 1\nreply 1 8 1 done\nreply 2 7 1 done\npair 2 a y\nconfig 1 members 1 2 3\nentry 1 0 put 7 1 a x\nentry 1 1 put 8 1 a y\nentry 1 2 put 7 1 a x\nnode 1 config 1 decided 3 trimmed 0\nnode 2 config 1 decided 3 trimmed 0\nnode 3 config 1 decided 0 trimmed 0\n",
         "",
     ),
     // Servers 1 and 3 hear server 2 alone. Each of them takes itself for the leader, and one of them decides.

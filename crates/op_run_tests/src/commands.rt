@@ -1,6 +1,6 @@
-//! The commands `node`, `call` and `cluster` over what is in memory.
+//! The commands `node`, `call`, `cluster` and `drill` over what is in memory.
 
-use crate::runs::{Sinks, Things, ended, source, words_of};
+use crate::runs::{Sinks, Things, ended, sink, source, words_of};
 use op_memory::{Incoming, MemSource, NetScript};
 use op_outside::Happening;
 use op_setup::ConfigCause;
@@ -21,7 +21,7 @@ type Row = (
     &'static str,
 );
 
-const ROWS: [Row; 10] = [
+const ROWS: [Row; 14] = [
     (
         &["node", "1"],
         SOLE,
@@ -121,6 +121,43 @@ const ROWS: [Row; 10] = [
         "",
         "bad config tick_ms\n",
     ),
+    // Who alone hears a majority raises its ballot, and takes itself for the leader after the third round.
+    (
+        &["drill", "--links", "quorum", "3"],
+        "",
+        &[],
+        &[],
+        Status::Ended,
+        "links quorum 3\nballots 1 own 2 1 leader 2 1 promised 2 1\nballots 2 own 1 2 leader 1 5 promised 1 2\nballots 3 own 1 3 leader 1 5 promised 1 3\nballots 4 own 1 4 leader 1 5 promised 1 4\nballots 5 own 1 5 leader 1 5 promised 1 5\n",
+        "",
+    ),
+    (
+        &["drill", "--links", "quorum", "2"],
+        "",
+        &[],
+        &[],
+        Status::Ended,
+        "links quorum 2\nballots 1 own 2 1 leader 1 5 promised 1 1\nballots 2 own 1 2 leader 1 5 promised 1 2\nballots 3 own 1 3 leader 1 5 promised 1 3\nballots 4 own 1 4 leader 1 5 promised 1 4\nballots 5 own 1 5 leader 1 5 promised 1 5\n",
+        "",
+    ),
+    (
+        &["drill", "--links", "constrained", "3"],
+        "",
+        &[],
+        &[],
+        Status::Ended,
+        "links constrained 3\nballots 1 own 2 1 leader 2 1 promised 2 1\nballots 2 own 1 2 leader 1 5 promised 1 2\nballots 3 own 1 3 leader 1 5 promised 1 3\nballots 4 own 1 4 leader 1 5 promised 1 4\nballots 5 own 1 5 leader 1 5 promised 1 5\n",
+        "",
+    ),
+    (
+        &["drill", "--links", "chained", "3"],
+        "",
+        &[],
+        &[],
+        Status::Ended,
+        "links chained 3\nballots 1 own 2 1 leader 2 1 promised 2 1\nballots 2 own 1 2 leader 2 1 promised 1 2\nballots 3 own 1 3 leader 1 3 promised 1 3\n",
+        "",
+    ),
 ];
 
 /// How these words end over these things and streams.
@@ -203,6 +240,21 @@ fn one_visitor(alloc: Global, bytes: &[u8]) -> Result<NetScript, AllocError> {
     add_wait(alloc, &mut script, Happening::Accepted(5))?;
     add_read(alloc, &mut script, bytes)?;
     Ok(script)
+}
+
+/// A drill whose write fails ends so, and leaves what was written.
+#[test]
+fn a_drill_tells_a_failed_write(rt: HostRuntime) -> Result<(), Fail> {
+    let alloc = rt.alloc();
+    let things = failing(alloc, &[], &[])?;
+    let mut sinks = Sinks {
+        out: sink(alloc, 10, &[2])?,
+        err: sink(alloc, 20, &[])?,
+    };
+    let words: &[&str] = &["drill", "--links", "chained", "1"];
+    let status = ended_as(alloc, words, things, source(alloc, "", 1, &[])?, &mut sinks)?;
+    assert!(rt; status == Status::WriteFault && sinks.hold(b"links chai", b"write fault\n"));
+    Ok(())
 }
 
 /// With ample memory an end request ends a node: a body that always answers want of memory fails here.

@@ -1,4 +1,4 @@
-//! Examples of whole runs: schedules with their reports, and fates of steps.
+//! Examples of whole runs: schedules with their reports, fates of steps, and a client's talk with a node.
 #![tactic(auto)]
 
 #[cfg(test)]
@@ -13,3 +13,5 @@ mod letters;
 mod replays;
 #[cfg(test)]
 mod runs;
+#[cfg(test)]
+mod talks;

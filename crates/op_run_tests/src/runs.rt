@@ -92,6 +92,17 @@ pub fn ended<S: Source>(
     input: &mut S,
     sinks: &mut Sinks,
 ) -> Status {
+    ended_with_net(alloc, words, things, input, sinks).0
+}
+
+/// The same, with the net as it is then.
+pub fn ended_with_net<S: Source>(
+    alloc: Global,
+    words: &[String],
+    things: Things,
+    input: &mut S,
+    sinks: &mut Sinks,
+) -> (Status, ScriptNet) {
     let Things {
         first,
         second,
@@ -99,7 +110,7 @@ pub fn ended<S: Source>(
         mut clock,
         mut children,
     } = things;
-    omni(
+    let ending = omni(
         alloc,
         words,
         first,
@@ -110,8 +121,8 @@ pub fn ended<S: Source>(
         &mut sinks.out,
         &mut sinks.err,
         &mut children,
-    )
-    .status
+    );
+    (ending.status, net)
 }
 
 /// How these words end where nothing but the streams is asked.

@@ -22,7 +22,7 @@ two_words now [] d0 d1 x0 x1 low high h0 h1 = absurd (omega arith)
 two_words now (a ∷ []) d0 d1 x0 x1 low high h0 h1 = absurd (omega arith)
 two_words now (a ∷ b ∷ c ∷ more) d0 d1 x0 x1 low high h0 h1 = absurd (omega arith)
 
-three_words : {A : Type 0} (now : A → List ℕ) (ws : List A) (d0 d1 d2 : A) (x0 x1 x2 : List ℕ) → 3 ≤ length ws → length ws < 4
+pub three_words : {A : Type 0} (now : A → List ℕ) (ws : List A) (d0 d1 d2 : A) (x0 x1 x2 : List ℕ) → 3 ≤ length ws → length ws < 4
     → now (get_or ws 0 d0) ≡ x0 → now (get_or ws 1 d1) ≡ x1 → now (get_or ws 2 d2) ≡ x2 → map now ws ≡ x0 ∷ x1 ∷ x2 ∷ []
 three_words now (a ∷ b ∷ c ∷ []) d0 d1 d2 x0 x1 x2 low high h0 h1 h2 = cc
 three_words now [] d0 d1 d2 x0 x1 x2 low high h0 h1 h2 = absurd (omega arith)

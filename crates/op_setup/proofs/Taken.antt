@@ -6,10 +6,13 @@ use Rattle.clap.specs.declared.parser.matches.ArgMatches.{ArgMatches}
 use Rattle.clap.specs.declared.parser.matches.ArgMatches.TheViews.{out-ArgMatches}
 use Rattle.clap.proofs.OnLiterals.{clap_on_literals}
 use Rattle.op_setup.specs.declared.tasks.Task.{Task}
-use Rattle.op_setup.specs.declared.tasks.Task.TheVariants.{Node, Replay, Call, Cluster}
+use Rattle.op_setup.specs.declared.tasks.Task.TheVariants.{Node, Replay, Call, Cluster, DrillLinks}
 use Rattle.op_types.specs.declared.log.Op.{Op}
 use Rattle.op_types.specs.declared.log.Op.TheVariants.{Put, Del, Get, Cas}
 use Rattle.op_types.specs.declared.events.Request.TheVariants as request
+use Rattle.op_gen.specs.Scenarios.{name_of}
+use Rattle.op_gen.specs.declared.scenario.Scenario.{Scenario}
+use Rattle.op_gen.specs.declared.scenario.Scenario.TheVariants.{Quorum, Constrained, Chained}
 use Rattle.op_sched.specs.Percent.{encoded}
 use Rattle.op_setup.specs.Addresses.{addr_text}
 use Rattle.op_setup.specs.Tasks.{op_words, task_words, IsTask, TaskInRange}
@@ -27,6 +30,12 @@ replay_taken = refl
 cluster_taken : takes omni_app (codes "cluster" ∷ []) ≡ true
 unfolding clap_on_literals
 cluster_taken = refl
+
+drill_taken : (scenario : Scenario) (rounds : List ℕ) → IsPlainWord rounds → takes omni_app (codes "drill" ∷ codes "--links" ∷ name_of scenario ∷ rounds ∷ []) ≡ true
+unfolding clap_on_literals
+drill_taken Quorum rounds h = rw (h.long, h.short, h.bare) refl
+drill_taken Constrained rounds h = rw (h.long, h.short, h.bare) refl
+drill_taken Chained rounds h = rw (h.long, h.short, h.bare) refl
 
 status_taken : (addr : List ℕ) → IsPlainWord addr → takes omni_app (codes "call" ∷ addr ∷ codes "status" ∷ []) ≡ true
 unfolding clap_on_literals
@@ -61,6 +70,7 @@ taken (Call addr (request.Command c)) h = op_taken (addr_text addr) c.client c.s
 taken (Call addr request.Status) h = status_taken (addr_text addr) (plain_addr addr)
 taken (Call addr request.End) h = end_taken (addr_text addr) (plain_addr addr)
 taken Cluster h = cluster_taken
+taken (DrillLinks scenario rounds) h = drill_taken scenario (decimal rounds) (plain_decimal rounds (omega (arith, h.1)))
 
 simple : is_simple omni_app ≡ true
 unfolding clap_on_literals
@@ -81,6 +91,12 @@ replay_found = refl
 cluster_found : name_found (codes "cluster" ∷ []) ≡ Some (codes "cluster")
 unfolding clap_on_literals
 cluster_found = refl
+
+drill_found : (scenario : Scenario) (rounds : List ℕ) → name_found (codes "drill" ∷ codes "--links" ∷ name_of scenario ∷ rounds ∷ []) ≡ Some (codes "drill")
+unfolding clap_on_literals
+drill_found Quorum rounds = refl
+drill_found Constrained rounds = refl
+drill_found Chained rounds = refl
 
 call_found : (addr word : List ℕ) → name_found (codes "call" ∷ addr ∷ word ∷ []) ≡ Some (codes "call")
 unfolding clap_on_literals
@@ -111,6 +127,7 @@ found (Call addr (request.Command c)) h = op_found (addr_text addr) c.client c.s
 found (Call addr request.Status) h = call_found (addr_text addr) (codes "status")
 found (Call addr request.End) h = call_found (addr_text addr) (codes "end")
 found Cluster h = cluster_found
+found (DrillLinks scenario rounds) h = drill_found scenario (decimal rounds)
 
 mapped_twice : {A B C : Type 0} (f : A → B) (g : B → C) (o : Option A) → option_map g (option_map f o) ≡ option_map (λ x. g (f x)) o
 mapped_twice f g None = refl

@@ -1,5 +1,5 @@
 -- The words of tasks: none begins with `-`, and no two tasks have the same.
-use Rattle.std.proofs.Common.{◌≡◌, ℕ, List, [], ◌∷◌, refl, sym, ap, ◌∙◌, arith, false, IsTrue, codes, decimal}
+use Rattle.std.proofs.Common.{◌≡◌, ◌≤◌, ◌<◌, length, get_or, map, ℕ, Bool, true, List, [], ◌∷◌, refl, sym, ap, ◌∙◌, arith, false, IsTrue, codes, decimal}
 use Rattle.std.proofs.lemmas.Bool.{false≢true}
 use Rattle.std.proofs.lemmas.Fmt.{decimal_injective}
 use Rattle.std.proofs.lemmas.Slice.Eq.{bytes_eq-Decides}
@@ -9,19 +9,26 @@ use Rattle.op_types.specs.declared.events.Request.{Request}
 use Rattle.op_types.specs.declared.events.Request.TheVariants as request
 use Rattle.op_types.specs.declared.log.Op.{Op}
 use Rattle.op_types.specs.declared.log.Op.TheVariants.{Put, Del, Get, Cas}
+use Rattle.op_gen.specs.Scenarios.{name_of}
+use Rattle.op_gen.specs.declared.scenario.Scenario.{Scenario}
+use Rattle.op_gen.specs.declared.scenario.Scenario.TheVariants.{Quorum, Constrained, Chained}
 use Rattle.op_sched.proofs.EventWords.{no_op}
 use Rattle.op_sched.proofs.UnambiguousSchedules.{one_command}
 use Rattle.op_sched.specs.Grammar.{op_name, operands}
 use Rattle.op_sched.specs.Percent.{encoded}
 use Rattle.op_setup.specs.Addresses.{addr_text}
-use Rattle.op_setup.specs.Tasks.{has_flag, is_flag, op_words, request_words, task_words, IsRequest, IsTask, IsTaskOf, RequestInRange, TaskInRange}
+use Rattle.op_setup.specs.Tasks.{has_flag, is_flag, most_rounds, op_words, request_words, task_words, DrillsLinks, IsRequest, IsTask, IsTaskOf, RequestInRange, TaskInRange}
 use Rattle.op_setup.specs.declared.tasks.Task.{Task}
-use Rattle.op_setup.specs.declared.tasks.Task.TheVariants.{Node, Replay, Call, Cluster}
+use Rattle.op_setup.specs.declared.tasks.Task.TheVariants.{Node, Replay, Call, Cluster, DrillLinks}
 use Rattle.op_setup.specs.Addresses.{IsAddr}
 use Rattle.op_setup.proofs.AddressTexts.{one_addr}
+use Rattle.op_setup.proofs.CommandWords.{three_words}
 use Rattle.op_setup.proofs.Flags.{plain_addr, plain_decimal, plain_encoded}
 
 -- ---- no flag
+
+no_flag : {P : Type 0} {b : Bool} → b ≡ false → b ≡ true → P
+no_flag none some = absurd (false≢true (sym none ∙ some))
 
 one_flag : (name word : List ℕ) → is_flag name ≡ false → is_flag word ≡ false → has_flag (name ∷ word ∷ []) ≡ false
 one_flag name word hn hw = rw (hn, hw) refl
@@ -51,17 +58,19 @@ op_flag addr client seq op ha hc hs =
     let s = plain_decimal seq (omega (arith, hs.1)) in
     words_flag addr (op_name op) (decimal client) (decimal seq) (operands op) ha (name_flag op) c.flag s.flag (operands_flag op)
 
-no_flag : (t : Task) → TaskInRange t → has_flag (task_words t) ≡ false
-no_flag (Node id) h = one_flag (codes "node") (decimal id) refl (plain_decimal id (omega (arith, h.1))).flag
-no_flag Replay h = refl
-no_flag (Call addr (request.Command c)) h = op_flag (addr_text addr) c.client c.seq c.op (plain_addr addr).flag h.1.0.client h.1.0.seq
-no_flag (Call addr request.Status) h = call_flag (addr_text addr) (codes "status") (plain_addr addr).flag refl
-no_flag (Call addr request.End) h = call_flag (addr_text addr) (codes "end") (plain_addr addr).flag refl
-no_flag Cluster h = refl
+-- the task has no such word, or drills links
+flag_of : (t : Task) → TaskInRange t → has_flag (task_words t) ≡ true → DrillsLinks t
+flag_of (Node id) h flag = no_flag (one_flag (codes "node") (decimal id) refl (plain_decimal id (omega (arith, h.1))).flag) flag
+flag_of Replay h flag = no_flag refl flag
+flag_of (Call addr (request.Command c)) h flag = no_flag (op_flag (addr_text addr) c.client c.seq c.op (plain_addr addr).flag h.1.0.client h.1.0.seq) flag
+flag_of (Call addr request.Status) h flag = no_flag (call_flag (addr_text addr) (codes "status") (plain_addr addr).flag refl) flag
+flag_of (Call addr request.End) h flag = no_flag (call_flag (addr_text addr) (codes "end") (plain_addr addr).flag refl) flag
+flag_of Cluster h flag = no_flag refl flag
+flag_of (DrillLinks scenario rounds) h flag = tt
 
--- words one of which begins with `-` are no task's
-pub flag_is_none : (words : List (List ℕ)) → IsTrue (has_flag words) → IsTask words → ⊥
-flag_is_none words flag (t, is) = false≢true (sym (ap has_flag is.written ∙ no_flag t is.in_range) ∙ flag)
+-- words one of which begins with `-` are no other task's
+pub flag_drills : (words : List (List ℕ)) (t : Task) → IsTrue (has_flag words) → IsTaskOf words t → DrillsLinks t
+flag_drills words t flag is = flag_of t is.in_range (sym (ap has_flag is.written) ∙ flag)
 
 -- ---- one request
 
@@ -89,18 +98,27 @@ one_request r s hr hs e = absurd (false≢true ((bytes_eq-Decides (first (reques
 
 -- ---- one task
 
+-- no two scenarios have the same name
+one_scenario : (s t : Scenario) → name_of s ≡ name_of t → s ≡ t
+one_scenario Quorum Quorum e = refl
+one_scenario Constrained Constrained e = refl
+one_scenario Chained Chained e = refl
+one_scenario s t e = absurd (false≢true ((bytes_eq-Decides (name_of s) (name_of t)).1 e))
+
 -- the name of a task
 abbrev task_name : Task → List ℕ
 task_name (Node id) = codes "node"
 task_name Replay = codes "replay"
 task_name (Call addr request) = codes "call"
 task_name Cluster = codes "cluster"
+task_name (DrillLinks scenario rounds) = codes "drill"
 
 named : (t : Task) → first (task_words t) ≡ task_name t
 named (Node id) = refl
 named Replay = refl
 named (Call addr request) = refl
 named Cluster = refl
+named (DrillLinks scenario rounds) = refl
 
 one_of : (s t : Task) → TaskInRange s → TaskInRange t → task_words s ≡ task_words t → s ≡ t
 one_of (Node p) (Node q) hs ht e = ap Node (decimal_injective p q (omega (arith, hs.1)) (omega (arith, ht.1)) cc)
@@ -111,6 +129,11 @@ one_of (Call a r) (Call b s) hs ht e =
     let request = one_request r s hs.1 ht.1 (ap after_first rest) in
     cc (addr, request)
 one_of Cluster Cluster hs ht e = refl
+one_of (DrillLinks s m) (DrillLinks t n) hs ht e =
+    let name : name_of s ≡ name_of t = cc in
+    let scenario = one_scenario s t name in
+    let rounds : m ≡ n = decimal_injective m n (omega (arith, hs.1)) (omega (arith, ht.1)) cc in
+    cc
 one_of s t hs ht e = absurd (false≢true ((bytes_eq-Decides (task_name s) (task_name t)).1 (sym (named s) ∙ ap first e ∙ named t)))
 
 -- words ask for one task at most
@@ -128,3 +151,13 @@ call_is_task word rest addr ha hr = (
     written = cc (ha.1, hr.1.written);
   },
 )
+
+-- ---- a drill
+
+-- the flag, a scenario's name and a number of rounds after `drill` are a task's
+pub drill_is_task : {A : Type 0} (now : A → List ℕ) (ws : List A) (d0 d1 d2 : A) (scenario : Scenario) (rounds : ℕ) → 3 ≤ length ws → length ws < 4
+    → now (get_or ws 0 d0) ≡ codes "--links" → now (get_or ws 1 d1) ≡ name_of scenario → now (get_or ws 2 d2) ≡ decimal rounds
+    → (1 ≤ rounds) × (rounds ≤ most_rounds) → IsTaskOf (codes "drill" ∷ map now ws) (DrillLinks scenario rounds)
+drill_is_task now ws d0 d1 d2 scenario rounds low high flag name count range =
+    let words = three_words now ws d0 d1 d2 (codes "--links") (name_of scenario) (decimal rounds) low high flag name count in
+    record { in_range = range; written = ap (λ (more : List (List ℕ)). codes "drill" ∷ more) words }

@@ -34,6 +34,13 @@ call_app = with_rule (with_rule (new_app (codes "call")) (needed (codes "addr"))
 abbrev pub cluster_app : App
 cluster_app = new_app (codes "cluster")
 
+-- `drill --links NAME ROUNDS`
+abbrev pub drill_app : App
+drill_app =
+    with_rule
+    (with_rule (new_app (codes "drill")) (record (needed (codes "links")) { long = Some (codes "links") }))
+    (needed (codes "rounds"))
+
 -- the program, whose words come without its own name
 abbrev pub program_app : App
 program_app = let a = new_app (codes "omni") in record a { top = record a.top { no_binary_name = true } }
@@ -43,9 +50,11 @@ abbrev pub omni_app : App
 omni_app =
     with_subcommand
     (with_subcommand
+    (with_subcommand
     (with_subcommand (with_subcommand program_app node_app.top) replay_app.top)
     call_app.top)
-    cluster_app.top
+    cluster_app.top)
+    drill_app.top
 
 -- clap found the command that the first word names
 abbrev pub NamesFirst : ArgMatches → List (List ℕ) → Type 0

@@ -1,14 +1,15 @@
 -- What the words of the command line ask.
-use Rattle.std.specs.Prelude.{◌≡◌, ℕ, List, [], ◌∷◌, codes, decimal, nat_eq, Bool}
+use Rattle.std.specs.Prelude.{◌≡◌, ◌≤◌, ℕ, List, [], ◌∷◌, codes, decimal, nat_eq, Bool}
 use Rattle.std.specs.List.{starts_with, list_any}
 use Rattle.op_types.specs.Ranges.{CommandInRange, IsPid}
 use Rattle.op_types.specs.declared.log.Op.{Op}
 use Rattle.op_types.specs.declared.events.Request.{Request}
 use Rattle.op_types.specs.declared.events.Request.TheVariants as request
+use Rattle.op_gen.specs.Scenarios.{name_of}
 use Rattle.op_sched.specs.Grammar.{OpIsOfBytes, op_name, operands}
 use Rattle.op_setup.specs.Addresses.{AddrInRange, addr_text}
 use Rattle.op_setup.specs.declared.tasks.Task.{Task}
-use Rattle.op_setup.specs.declared.tasks.Task.TheVariants.{Node, Replay, Call, Cluster}
+use Rattle.op_setup.specs.declared.tasks.Task.TheVariants.{Node, Replay, Call, Cluster, DrillLinks}
 
 -- the words of a client's operation, as in a schedule but for the server
 abbrev pub op_words : ℕ → ℕ → Op → List (List ℕ)
@@ -20,12 +21,18 @@ request_words (request.Command c) = op_words c.client c.seq c.op
 request_words request.Status = codes "status" ∷ []
 request_words request.End = codes "end" ∷ []
 
+-- the greatest number of rounds of a drill
+abbrev pub most_rounds : ℕ
+most_rounds = 1000
+
 -- the words that ask for a task
 abbrev pub task_words : Task → List (List ℕ)
 task_words (Node id) = codes "node" ∷ decimal id ∷ []
 task_words Replay = codes "replay" ∷ []
 task_words (Call addr request) = codes "call" ∷ addr_text addr ∷ request_words request
 task_words Cluster = codes "cluster" ∷ []
+task_words (DrillLinks scenario rounds) =
+    codes "drill" ∷ codes "--links" ∷ name_of scenario ∷ decimal rounds ∷ []
 
 -- the request's parts are in range
 abbrev pub RequestInRange : Request → Type 0
@@ -39,6 +46,7 @@ TaskInRange (Node id) = IsPid id
 TaskInRange Replay = Unit {0}
 TaskInRange (Call addr request) = AddrInRange addr × RequestInRange request
 TaskInRange Cluster = Unit {0}
+TaskInRange (DrillLinks scenario rounds) = (1 ≤ rounds) × (rounds ≤ most_rounds)
 
 -- the words are this request's
 pub record IsRequestOf (words : List (List ℕ)) (r : Request) : Type 0 where
@@ -65,3 +73,8 @@ is_flag word = starts_with nat_eq word (codes "-")
 -- some word does
 abbrev pub has_flag : List (List ℕ) → Bool
 has_flag words = list_any is_flag words
+
+-- the task drills links, and no other has a word that begins with `-`
+abbrev pub DrillsLinks : Task → Type 0
+DrillsLinks (DrillLinks scenario rounds) = Unit {0}
+DrillsLinks _ = ⊥

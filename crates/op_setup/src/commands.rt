@@ -2,7 +2,7 @@
 ghost use Rattle.std.specs.Prelude.{◌≡◌, IfOk, false};
 ghost use Rattle.clap.specs.Words.{app_of, rule_of};
 ghost use Rattle.clap.specs.declared.builder.command.Command.TheViews.{out-Command as fields_of};
-ghost use Rattle.op_setup.specs.Commands.{call_app, cluster_app, needed, node_app, omni_app, program_app, replay_app, several};
+ghost use Rattle.op_setup.specs.Commands.{call_app, cluster_app, drill_app, needed, node_app, omni_app, program_app, replay_app, several};
 
 use clap::{Arg, ArgAction, Command};
 use std::alloc::{AllocError, Global};
@@ -61,6 +61,16 @@ fn cluster<'a>(alloc: Global) -> Command<'a>
     Command::new(alloc, "cluster")
 }
 
+/// The command `drill`, with the flag `--links`, a scenario's name and a number of rounds.
+fn drill<'a>(alloc: Global) -> Result<Command<'a>, AllocError>
+    ensures app { IfOk result (λ c. app_of c ≡ drill_app) }
+    ensures local { IfOk result (λ c. (fields_of c).has_globals ≡ false) }
+{
+    Command::new(alloc, "drill")
+        .arg(needed(alloc, "links").long("links"))?
+        .arg(needed(alloc, "rounds"))
+}
+
 /// The program, whose words come without its own name.
 fn program<'a>(alloc: Global) -> Command<'a>
     ensures { app_of result ≡ program_app }
@@ -74,9 +84,11 @@ pub fn omni<'a>(alloc: Global) -> Result<Command<'a>, AllocError>
 {
     let node = node(alloc)?;
     let call = call(alloc)?;
+    let drill = drill(alloc)?;
     program(alloc)
         .subcommand(node)?
         .subcommand(replay(alloc))?
         .subcommand(call)?
-        .subcommand(cluster(alloc))
+        .subcommand(cluster(alloc))?
+        .subcommand(drill)
 }

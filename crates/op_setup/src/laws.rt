@@ -5,12 +5,13 @@ ghost use Rattle.op_setup.specs.declared.config.Settings.{Settings};
 ghost use Rattle.op_setup.specs.declared.config_cause.ConfigCause.{ConfigCause};
 ghost use Rattle.op_setup.specs.Settings.{IsSettings};
 ghost use Rattle.op_setup.specs.Causes.{IsFirstCause};
-ghost use Rattle.op_setup.specs.Tasks.{IsTask, IsTaskOf, has_flag};
+ghost use Rattle.op_setup.specs.Tasks.{DrillsLinks, IsTaskOf, has_flag};
 
-/// No two tasks have the same words, and words are no task's where one of them begins with `-`.
+/// No two tasks have the same words, and words of which one begins with `-` are no other task's than a drill's of links.
 pub fn words_are_unambiguous()
     ensures one { (words : List (List ℕ)) (s t : Task) → IsTaskOf words s → IsTaskOf words t → s ≡ t }
-    ensures flag { (words : List (List ℕ)) → IsTrue (has_flag words) → IsTask words → ⊥ }
+    ensures flag { (words : List (List ℕ)) (t : Task) → IsTrue (has_flag words) → IsTaskOf words t →
+        DrillsLinks t }
 {}
 
 /// A text has one reading: no two settings, no two first causes, and not both.

@@ -21,5 +21,5 @@ pub use fail::TaskFail;
 pub use laws::{settings_are_unambiguous, words_are_unambiguous};
 pub use reading::task;
 pub use settings_fail::SettingsFail;
-pub use tasks::Task;
+pub use tasks::{MOST_ROUNDS, Task};
 pub use toml_keys::settings;

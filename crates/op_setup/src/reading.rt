@@ -1,17 +1,18 @@
 //! The task that words ask for.
-ghost use Rattle.std.specs.Prelude.{◌≡◌, ◌∷◌, ◌↔◌, map, codes, string_bytes, slice_get, Some, IfOk, IfErr, IsTrue, Err};
+ghost use Rattle.std.specs.Prelude.{◌≡◌, ◌≤◌, ◌∷◌, ◌↔◌, map, codes, decimal, string_bytes, slice_get, Some, IfOk, IfErr, IsTrue, Err};
 ghost use Rattle.op_sched.specs.Found.{IsFound};
 ghost use Rattle.op_setup.specs.Commands.{NamesFirst};
-ghost use Rattle.op_setup.specs.Tasks.{task_words, IsTask, IsTaskOf, TaskInRange};
+ghost use Rattle.op_setup.specs.Tasks.{task_words, most_rounds, IsTask, IsTaskOf, TaskInRange};
 
 use crate::addresses::addr;
 use crate::arguments::bytes;
 use crate::commands::omni;
 use crate::fail::TaskFail;
 use crate::requests::request;
-use crate::tasks::Task;
+use crate::tasks::{MOST_ROUNDS, Task};
 use clap::ArgMatches;
-use op_sched::pid;
+use op_gen::Scenario;
+use op_sched::{number, pid};
 use op_types::NoMemory;
 use std::alloc::Global;
 
@@ -22,6 +23,32 @@ fn node(words: &[String]) -> Option<Task>
     match words {
         [id] => Some(Task::Node(pid(bytes(id))?)),
         _ => None,
+    }
+}
+
+/// `drill`: the flag `--links`, a scenario's name, and how many rounds.
+fn drill(words: &[String]) -> Option<Task>
+    ensures { IsFound (IsTaskOf (codes "drill" ∷ map string_bytes words.now)) result }
+{
+    match words {
+        [flag, name, count] if flag.as_str() == "--links" => {
+            let scenario = Scenario::named(name.as_str())?;
+            Some(Task::DrillLinks(scenario, rounds(bytes(count))?))
+        }
+        _ => None,
+    }
+}
+
+/// The number of rounds that a word writes.
+#[tactic(auto, using(std::proofs::lemmas::Fmt::decimal_injective))]
+fn rounds(word: &[u8]) -> Option<u64>
+    ensures { IsFound (λ n. (1 ≤ n) × (n ≤ most_rounds) × (word.now ≡ decimal n)) result }
+{
+    let n = number(word)?;
+    if 1 <= n && n <= MOST_ROUNDS {
+        Some(n)
+    } else {
+        None
     }
 }
 
@@ -55,6 +82,7 @@ fn asked(alloc: Global, words: &[String]) -> Result<Option<Task>, NoMemory>
         "replay" if words.is_empty() => Ok(Some(Task::Replay)),
         "call" => call(alloc, words),
         "cluster" if words.is_empty() => Ok(Some(Task::Cluster)),
+        "drill" => Ok(drill(words)),
         _ => Ok(None),
     }
 }

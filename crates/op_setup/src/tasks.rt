@@ -1,7 +1,11 @@
 //! The tasks of the program.
 
+use op_gen::Scenario;
 use op_outside::Addr;
 use op_types::{Pid, Request};
+
+/// The greatest number of rounds of a drill.
+pub const MOST_ROUNDS: u64 = 1000;
 
 /// What the program is asked to do.
 #[derive(Drop)]
@@ -14,4 +18,6 @@ pub enum Task {
     Call(Addr, Request),
     /// To run each node of the settings as a program of its own.
     Cluster,
+    /// To drill this scenario of partial links for so many lockstep rounds, 1 to 1,000.
+    DrillLinks(Scenario, u64),
 }

@@ -1,3 +1,4 @@
+use op_gen::Scenario;
 use op_outside::Addr;
 use op_setup::{Task, TaskFail, task};
 use op_types::{Command, Op, Pid, Request};
@@ -26,15 +27,24 @@ enum Wanted {
     Node(Pid),
     Status(Addr),
     End(Addr),
+    DrillLinks(Scenario, u64),
 }
 
 /// Words, each with what they ask for.
-const TASKS: [(&[&str], Wanted); 5] = [
+const TASKS: [(&[&str], Wanted); 7] = [
     (&["replay"], Wanted::Replay),
     (&["cluster"], Wanted::Cluster),
     (&["node", "999"], Wanted::Node(999)),
     (&["call", "10.0.0.2:7000", "status"], Wanted::Status(ADDR)),
     (&["call", "10.0.0.2:7000", "end"], Wanted::End(ADDR)),
+    (
+        &["drill", "--links", "quorum", "1"],
+        Wanted::DrillLinks(Scenario::Quorum, 1),
+    ),
+    (
+        &["drill", "--links", "chained", "1000"],
+        Wanted::DrillLinks(Scenario::Chained, 1000),
+    ),
 ];
 
 fn is_wanted(task: &Task, asked: Wanted) -> bool {
@@ -43,6 +53,9 @@ fn is_wanted(task: &Task, asked: Wanted) -> bool {
         (Task::Node(id), Wanted::Node(expected)) => *id == expected,
         (Task::Call(addr, Request::Status), Wanted::Status(expected)) => *addr == expected,
         (Task::Call(addr, Request::End), Wanted::End(expected)) => *addr == expected,
+        (Task::DrillLinks(scenario, rounds), Wanted::DrillLinks(expected, count)) => {
+            *scenario == expected && *rounds == count
+        }
         _ => false,
     }
 }
@@ -136,6 +149,27 @@ fn other_calls_are_refused(rt: HostRuntime) -> Result<(), Fail> {
         &["call", "10.0.0.2:7000", "del", "7", "1"],
         &["call", "10.0.0.2:7000", "get", "7", "1", "a", "x"],
         &["call", "10.0.0.2:7000", "cas", "7", "1", "a", "x"],
+    ];
+    for texts in rows.iter() {
+        assert!(rt; is_usage(rt.alloc(), texts)?);
+    }
+    Ok(())
+}
+
+/// So are words of a drill that name no scenario, or no number of rounds from 1 to 1,000.
+#[test]
+fn other_drills_are_refused(rt: HostRuntime) -> Result<(), Fail> {
+    let rows: [&[&str]; 10] = [
+        &["drill"],
+        &["drill", "1", "2"],
+        &["drill", "--links", "quorum"],
+        &["drill", "quorum", "3"],
+        &["drill", "--links", "quorum", "0"],
+        &["drill", "--links", "quorum", "1001"],
+        &["drill", "--links", "quorum", "03"],
+        &["drill", "--links", "star", "3"],
+        &["drill", "--links", "quorum", "3", "4"],
+        &["--links", "drill", "quorum", "3"],
     ];
     for texts in rows.iter() {
         assert!(rt; is_usage(rt.alloc(), texts)?);

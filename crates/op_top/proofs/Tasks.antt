@@ -3,7 +3,7 @@ use Rattle.std.proofs.Common.{◌≡◌, ℕ, List, [], Option, Some, None, Err,
 use Rattle.op_outside.specs.Disks.{DiskState}
 use Rattle.op_setup.specs.Tasks.{IsTask, IsTaskOf, TaskInRange, task_words}
 use Rattle.op_setup.specs.declared.tasks.Task.{Task}
-use Rattle.op_setup.specs.declared.tasks.Task.TheVariants.{Node, Replay, Call, Cluster}
+use Rattle.op_setup.specs.declared.tasks.Task.TheVariants.{Node, Replay, Call, Cluster, DrillLinks}
 use Rattle.op_setup.proofs.TaskWords.{one_task}
 use Rattle.op_setup.specs.declared.config.Settings.{Settings}
 use Rattle.op_sessions.specs.declared.mark.Mark.{Mark}
@@ -20,6 +20,8 @@ use Rattle.op_serve.specs.Nodes as node
 use Rattle.op_types.specs.declared.events.Request.{Request}
 use Rattle.op_outside.specs.Seen.{NetSeen, StreamSeen, SpawnerSeen}
 use Rattle.op_outside.specs.declared.net.Addr.{Addr}
+use Rattle.op_gen.specs.declared.scenario.Scenario.{Scenario}
+use Rattle.op_drill.specs.Drills as drill
 use Rattle.op_call.specs.Calls as call
 use Rattle.op_top.specs.Clusters as cluster
 use Rattle.op_top.specs.Tasks.{Outside, Does, DoesTask, around_node, outside}
@@ -75,13 +77,13 @@ heard id o status.NoReply net0 net1 out0 out1 h = tt
 node_goes : {D : Type 0} (state : D → DiskState) (id : ℕ) (o : Settings) (n : NodeState) (stood : Type 0) (old new : node.Around D) (s : Status) (lost : List Mark) → node.Goes state id o n stood old new s lost → IsNoUsage s
 node_goes state id o n stood old new s lost (node.is_unheard h same) = heard id o s old.net new.net old.output new.output h
 node_goes state id o n stood old new s lost (node.cannot_begin t r c same) = tt
-node_goes state id o n stood old new s lost (node.has_served {end} net r serves stored) = served end
+node_goes state id o n stood old new s lost (node.has_served {end} net r serves kept stored) = served end
 
 node_ends : {D : Type 0} (state : D → DiskState) (id : ℕ) (o : Settings) (old new : node.Around D) (s : Status) (lost : List Mark) → node.Ends state id o old new s lost → IsNoUsage s
 node_ends state id o old new s lost (node.cannot_open a b) = tt
 node_ends state id o old new s lost (node.is_damaged a b c) = tt
 node_ends state id o old new s lost (node.has_no_memory a b) = tt
-node_ends state id o old new s lost (node.is_opened {n} mid opened only goes) =
+node_ends state id o old new s lost (node.is_opened {n} mid opened goes) =
     node_goes state id o n (node.IsOwn state id old opened.durable) mid new s lost goes
 
 pub node_serves : {D : Type 0} (state : D → DiskState) (id : ℕ) (in0 in1 : StreamSeen) (old new : node.Around D) (s : Status) (lost : List Mark) → node.Serves state id in0 in1 old new s lost → IsNoUsage s
@@ -99,6 +101,11 @@ call_ends net0 net1 out0 out1 s (call.is_told a b c) = tt
 call_ends net0 net1 out0 out1 s (call.is_cut a b c) = tt
 call_ends net0 net1 out0 out1 s (call.is_untold a b) = tt
 call_ends net0 net1 out0 out1 s (call.has_no_reply {why} a b) = failed why
+
+drill_ends : {scenario : Scenario} {rounds : ℕ} (out0 out1 : StreamSeen) (s : Status) → drill.DrillEnds scenario rounds out0 out1 s → IsNoUsage s
+drill_ends out0 out1 s (drill.is_told a b c) = tt
+drill_ends out0 out1 s (drill.is_cut a b c) = tt
+drill_ends out0 out1 s (drill.has_no_memory a) = tt
 
 cluster_ends : (text : List ℕ) (o : Settings) (out0 out1 : StreamSeen) (children0 children1 : SpawnerSeen) (s : Status) → cluster.Ends text o out0 out1 children0 children1 s → IsNoUsage s
 cluster_ends text o out0 out1 children0 children1 s (cluster.have_ended a b c) = tt
@@ -138,6 +145,7 @@ module _ {D : Type 0} (state : D → DiskState) (words : List (List ℕ)) (old n
   task_ends (Node id) h = node_serves state id old.input new.input (around_node old) (around_node new) s lost h.0
   task_ends (Call addr request) h = call_ends old.net new.net old.output new.output s h.0
   task_ends Cluster h = cluster_runs old.input new.input old.output new.output old.children new.children s h.0
+  task_ends (DrillLinks scenario rounds) h = drill_ends old.output new.output s h.0
 
   -- these words ask for this task, and it was done
   does_task : (t : Task) → IsTaskOf words t → DoesTask state t old new s lost → Does state words old new s lost
@@ -178,6 +186,13 @@ module _ {D : Type 0} (state : D → DiskState) (words : List (List ℕ)) (first
   does_call addr request net0 net1 clock input out0 out1 children of did =
       rw (at_first, at_second, is, no_loss)
       (does_task state words (outside first second net0 clock input out0 children) (outside first second net1 clock input out1 children) r [] (Call addr request) of (did, refl, refl))
+
+  pub does_drill : (scenario : Scenario) (rounds : ℕ) (net : NetSeen) (clock : Option (List ℕ)) (input out0 out1 : StreamSeen) (children : SpawnerSeen)
+      → IsTaskOf words (DrillLinks scenario rounds) → drill.DrillEnds scenario rounds out0 out1 r
+      → Does state words (outside first second net clock input out0 children) (outside a b net clock input out1 children) s lost
+  does_drill scenario rounds net clock input out0 out1 children of did =
+      rw (at_first, at_second, is, no_loss)
+      (does_task state words (outside first second net clock input out0 children) (outside first second net clock input out1 children) r [] (DrillLinks scenario rounds) of (did, refl, refl))
 
   pub does_cluster : (net : NetSeen) (clock : Option (List ℕ)) (in0 in1 out0 out1 : StreamSeen) (children0 children1 : SpawnerSeen)
       → IsTaskOf words Cluster → cluster.RunsCluster in0 in1 out0 out1 children0 children1 r

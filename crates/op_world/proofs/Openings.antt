@@ -12,10 +12,10 @@ use Rattle.op_memory.specs.MemDisks.{seen_of, known_disk}
 use Rattle.op_memory.specs.declared.disk.MemDisk.{MemDisk}
 use Rattle.op_protocol.specs.State.{State}
 use Rattle.op_protocol.specs.Starting.{state_after_restart, sends_after_restart}
-use Rattle.op_store.specs.Stored.{StandsFor}
+use Rattle.op_store.specs.Stored.{IsStored}
 use Rattle.op_store.specs.Stores.{Represents}
-use Rattle.op_store.specs.Openings.{IsFoundIn}
-use Rattle.op_store.proofs.UniqueState.{one_state, nothing_or_state}
+use Rattle.op_store.specs.Openings.{IsOpenedAs}
+use Rattle.op_store.proofs.UniquePairs.{one_stored, nothing_or_stored}
 use Rattle.op_chain.specs.Chains.{first_state}
 use Rattle.op_node.specs.Nodes.{NodeState as Inner, node_of}
 use Rattle.op_node.specs.Openings.{Opens, part_for, durable_for, fresh_for, opening_state, opening_sends}
@@ -32,18 +32,20 @@ use Rattle.op_world.specs.declared.node_state.NodeState.TheVariants as node
 -- ---- what is found
 
 -- where the disks store a durable state, it is the one that is found
-pub found_same : (fresh d e : Durable) (first : List ℕ) (is_new : Bool) → IsFoundIn fresh first e is_new → StandsFor d first → e ≡ d
-found_same fresh d e first false found stored = one_state first e d found stored
-found_same fresh d e first true found stored = absurd (nothing_or_state first d found.0 stored)
+pub found_same : (fresh d e : Durable) (first second : List ℕ) (is_new : Bool) → IsOpenedAs fresh first second e is_new → IsStored d first second → e ≡ d
+found_same fresh d e first second false found stored = one_stored first second e d found stored
+found_same fresh d e first second true found stored = absurd (nothing_or_stored first second d found.0 stored)
 
-found_old : (fresh d e : Durable) (first : List ℕ) (is_new : Bool) → IsFoundIn fresh first e is_new → StandsFor d first → is_new ≡ false
-found_old fresh d e first false found stored = refl
-found_old fresh d e first true found stored = absurd (nothing_or_state first d found.0 stored)
+found_old : (fresh d e : Durable) (first second : List ℕ) (is_new : Bool) → IsOpenedAs fresh first second e is_new → IsStored d first second → is_new ≡ false
+found_old fresh d e first second false found stored = refl
+found_old fresh d e first second true found stored = absurd (nothing_or_stored first second d found.0 stored)
 
--- an empty disk stores nothing
-found_fresh : (fresh d : Durable) (bytes : List ℕ) (is_new : Bool) → bytes ≡ [] → IsFoundIn fresh bytes d is_new → (is_new ≡ true) × (d ≡ fresh)
-found_fresh fresh d bytes true none found = (refl, found.1)
-found_fresh fresh d bytes false none found = absurd (nothing_or_state [] d (false, omega arith) (subst (λ (bs : List ℕ). StandsFor d bs) none found))
+-- empty disks store nothing
+found_fresh : (fresh d : Durable) (x y : List ℕ) (is_new : Bool) → x ≡ [] → y ≡ [] → IsOpenedAs fresh x y d is_new → (is_new ≡ true) × (d ≡ fresh)
+found_fresh fresh d x y true one two found = (refl, found.1)
+found_fresh fresh d x y false one two found =
+    let stored : IsStored d [] [] = subst (λ (bs : List ℕ). IsStored d [] bs) two (subst (λ (bs : List ℕ). IsStored d bs y) one found) in
+    absurd (nothing_or_stored [] [] d ((false, omega arith), (false, omega arith)) stored)
 
 -- ---- what a server takes of it
 
@@ -65,15 +67,15 @@ runs_in me s = record { me = me; state = s; failed = None }
 
 module _ (members : List ℕ) (me : ℕ) (first second : MemDisk) (n : nodes.Node MemDisk) (sends : List (ℕ × Msg)) (k : IsInRange members me (node.Down first second))
     (o : Opens known_disk me members (record { first = known_disk first; second = known_disk second }) n sends) where
-  found : IsFoundIn (fresh_for me members) (seen_of first) o.durable o.is_new
+  found : IsOpenedAs (fresh_for me members) (seen_of first) (seen_of second) o.durable o.is_new
   found = o.opened.found (tt, tt)
 
   is_old : o.is_new ≡ false
-  is_old = found_old (fresh_for me members) k.node.state.durable o.durable (seen_of first) o.is_new found k.shown.0
+  is_old = found_old (fresh_for me members) k.node.state.durable o.durable (seen_of first) (seen_of second) o.is_new found k.shown.0
 
   takes : durable_for me o.durable ≡ o.durable
   takes =
-      let same : o.durable ≡ k.node.state.durable = found_same (fresh_for me members) k.node.state.durable o.durable (seen_of first) o.is_new found k.shown.0 in
+      let same : o.durable ≡ k.node.state.durable = found_same (fresh_for me members) k.node.state.durable o.durable (seen_of first) (seen_of second) o.is_new found k.shown.0 in
       taken members me o.durable (subst (IsMember members) k.here k.range.pid) (subst (IsOfMembers members) (sym same) k.range.of)
 
   state_is : node_of n ≡ runs_in me (state_after_restart me o.durable)
@@ -93,7 +95,7 @@ module _ (members : List ℕ) (me : ℕ) (first second : MemDisk) (n : nodes.Nod
   pub opened_again : (line : ℕ) (told : List Line) → told ≡ [] → IsDoneAt me (node.Down first second) runs.Opens line (node.Up n) sends told
   opened_again line told none = record {
     after = λ x pid shown.
-        let same : o.durable ≡ x.state.durable = found_same (fresh_for me members) x.state.durable o.durable (seen_of first) o.is_new found shown.0 in
+        let same : o.durable ≡ x.state.durable = found_same (fresh_for me members) x.state.durable o.durable (seen_of first) (seen_of second) o.is_new found shown.0 in
         let y : Node = record x { state = state_after_restart x.pid x.state.durable; status = Up } in
         let is : y.state ≡ (node_of n).state =
         ap (λ (p : ℕ). state_after_restart p x.state.durable) pid ∙ ap (λ (d : Durable). state_after_restart me d) (sym same) ∙ ap (λ (i : Inner). i.state) (sym state_is) in
@@ -118,10 +120,10 @@ module _ (members : List ℕ) (me : ℕ) (first second : MemDisk) (n : nodes.Nod
 
 -- ---- a node at its first start
 
-module _ (members : List ℕ) (me : ℕ) (first second : MemDisk) (n : nodes.Node MemDisk) (sends : List (ℕ × Msg)) (member : IsMember members me) (empty : seen_of first ≡ [])
+module _ (members : List ℕ) (me : ℕ) (first second : MemDisk) (n : nodes.Node MemDisk) (sends : List (ℕ × Msg)) (member : IsMember members me) (empty : seen_of first ≡ []) (empty_second : seen_of second ≡ [])
     (o : Opens known_disk me members (record { first = known_disk first; second = known_disk second }) n sends) where
   is_fresh : (o.is_new ≡ true) × (o.durable ≡ fresh_for me members)
-  is_fresh = found_fresh (fresh_for me members) o.durable (seen_of first) o.is_new empty (o.opened.found (tt, tt))
+  is_fresh = found_fresh (fresh_for me members) o.durable (seen_of first) (seen_of second) o.is_new empty empty_second (o.opened.found (tt, tt))
 
   begins : o.durable ≡ first_durable members
   begins = is_fresh.1 ∙ cond-true (is_member nat_eq members me) (first_durable members) _ member

@@ -96,7 +96,7 @@ fn told_lines(alloc: Global, me: Pid, node: &Node<MemDisk>, told: Told) -> Resul
         lines ≡ runs.told_lines (told_of told) me s s.durable.part) }
 {
     match told {
-        Told::Pairs => pair_lines(alloc, me, node.pairs()?),
+        Told::Pairs => pair_lines(alloc, me, node.pairs()),
         Told::Ballots => ballot_lines(alloc, me, node.ballots()),
     }
 }

@@ -93,13 +93,14 @@ pub fn left_of_node(alloc: Global, node: Node<MemDisk>) -> Result<(MemDisk, MemD
     Ok((first, second))
 }
 
-/// The same node, over a first disk that no longer keeps its old calls. The second one isn't called in a step.
+/// The same node, over disks that no longer keep their old calls.
 pub fn forgetting(node: Node<MemDisk>) -> Result<Node<MemDisk>, NoMemory>
     ensures same { IfOk result (λ n. node_of n ≡ node_of node) }
     ensures runs { IfOk result (λ n. (pid : ℕ) → RunsAs pid node → RunsAs pid n) }
 {
     let (rest, first, second) = node.park();
     let first = first.forget()?;
+    let second = second.forget()?;
     Ok(Node::resume(rest, first, second))
 }
 

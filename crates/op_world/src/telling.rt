@@ -1,10 +1,10 @@
 //! The lines that are reported of what is done at a node.
-ghost use Rattle.std.specs.Prelude.{◌≡◌, ◌++◌, map, IfOk, OnOk};
+ghost use Rattle.std.specs.Prelude.{◌≡◌, ◌++◌, map, IfOk, OnOk, option_map};
 ghost use Rattle.op_chain.specs.Chains.{ballots_in, pairs_in};
 ghost use Rattle.op_protocol.specs.State.{State};
 ghost use Rattle.op_runs.specs.World.{ThePairs, TheBallots, answer_line, outcome_lines, pair_lines, told_lines};
 
-use op_node::Pairs;
+use op_node::{Map, Pairs};
 use op_types::{Answer, Ballot, Line, Lines, NoMemory, Outcome, Pid, Replies, Reply};
 use std::alloc::Global;
 
@@ -55,13 +55,14 @@ fn push_answers(lines: &mut Lines, pid: Pid, replies: Replies) -> Result<(), NoM
 }
 
 /// The lines of the pairs of a node's service, if it has a part.
-pub fn pair_lines(alloc: Global, pid: Pid, pairs: Option<Pairs>) -> Result<Lines, NoMemory>
-    ensures { IfOk result (λ lines. (s : State) → pairs ≡ pairs_in s.service s.durable.part →
+pub fn pair_lines(alloc: Global, pid: Pid, service: Option<&Map>) -> Result<Lines, NoMemory>
+    ensures { IfOk result (λ lines. (s : State) →
+        option_map (λ m. m.now.service.pairs) service.entry ≡ pairs_in s.service s.durable.part →
         lines ≡ told_lines ThePairs pid s s.durable.part) }
 {
     let mut lines = Lines::new(alloc);
-    if let Some(pairs) = pairs {
-        push_pairs(&mut lines, pid, pairs)?;
+    if let Some(service) = service {
+        push_pairs(&mut lines, pid, service.pairs(alloc)?)?;
     }
     Ok(lines)
 }

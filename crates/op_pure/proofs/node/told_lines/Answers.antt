@@ -5,11 +5,10 @@ use Rattle.op_world.specs.Deeds.{told_of}
 use Rattle.op_world.proofs.ToldLines.{lines_of_state}
 use Rattle.op_pure.proofs.node.told_lines.Goals as goal
 
-pub returns-in_ok-pairs-in-Pairs : goal.returns-in_ok-pairs-in-Pairs
-returns-in_ok-pairs-in-Pairs c =
-    let pairs = c.in_ok-pairs-in-Pairs in
-    lines_of_state c.pair_lines.result c.args.told ThePairs c.args.pid pairs.field-0 (λ s. pairs_in s.service s.durable.part) (state_of c.args.chain.now)
-    (ap told_of c.in-Pairs.is) pairs.ensures c.pair_lines.ensures
+pub returns-in-Pairs : goal.returns-in-Pairs
+returns-in-Pairs c =
+    lines_of_state c.pair_lines.result c.args.told ThePairs c.args.pid _ (λ s. pairs_in s.service s.durable.part) (state_of c.args.chain.now)
+    (ap told_of c.in-Pairs.is) c.pairs.ensures c.pair_lines.ensures
 
 pub returns-in-Ballots : goal.returns-in-Ballots
 returns-in-Ballots c =

@@ -1,5 +1,5 @@
-use Rattle.op_setup.proofs.TaskWords.{flag_is_none, one_task}
+use Rattle.op_setup.proofs.TaskWords.{flag_drills, one_task}
 use Rattle.op_setup.proofs.laws.words_are_unambiguous.Goals as goal
 
 pub returns : goal.returns
-returns c = record { one = one_task; flag = flag_is_none }
+returns c = record { one = one_task; flag = flag_drills }

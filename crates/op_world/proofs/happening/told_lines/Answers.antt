@@ -6,11 +6,10 @@ use Rattle.op_world.specs.Deeds.{told_of}
 use Rattle.op_world.proofs.ToldLines.{lines_of_state}
 use Rattle.op_world.proofs.happening.told_lines.Goals as goal
 
-pub returns-in_ok-pairs-in-Pairs : goal.returns-in_ok-pairs-in-Pairs
-returns-in_ok-pairs-in-Pairs c =
-    let pairs = c.in_ok-pairs-in-Pairs in
-    lines_of_state c.pair_lines.result c.args.told ThePairs c.args.me pairs.field-0 (λ s. pairs_in s.service s.durable.part) (node_of c.args.node.now).state
-    (ap told_of c.in-Pairs.is) pairs.ensures c.pair_lines.ensures
+pub returns-in-Pairs : goal.returns-in-Pairs
+returns-in-Pairs c =
+    lines_of_state c.pair_lines.result c.args.told ThePairs c.args.me _ (λ s. pairs_in s.service s.durable.part) (node_of c.args.node.now).state
+    (ap told_of c.in-Pairs.is) c.pairs.ensures c.pair_lines.ensures
 
 pub returns-in-Ballots : goal.returns-in-Ballots
 returns-in-Ballots c =

@@ -1,0 +1,42 @@
+-- What a drill reports and writes, from the parts that it is made of.
+use Rattle.std.proofs.Common.{◌≡◌, ◌++◌, ℕ, List, sym, ap, ◌∙◌, subst, arith}
+use Rattle.std.specs.List.{flat_map}
+use Rattle.op_types.specs.Ranges.{MembersInRange}
+use Rattle.op_types.specs.declared.summary.Summary.{Summary}
+use Rattle.op_gen.specs.Links.{Links}
+use Rattle.op_gen.specs.Scenarios.{members_of, links_of}
+use Rattle.op_gen.specs.declared.scenario.Scenario.{Scenario}
+use Rattle.op_gen.specs.declared.scenario.Scenario.TheVariants.{Quorum, Constrained, Chained}
+use Rattle.op_sched.specs.Text.{line_text}
+use Rattle.op_world.specs.Drills.{IsReportOfDrill}
+use Rattle.op_drill.specs.Drills.{IsTextOf, first_line}
+
+-- the members of a scenario are in range
+five : MembersInRange (members_of Quorum)
+five = record { some = omega arith; few = omega arith; rising = (omega arith, omega arith, (omega arith, omega arith, (omega arith, omega arith, (omega arith, omega arith, (omega arith, omega arith, tt))))) }
+
+three : MembersInRange (members_of Chained)
+three = record { some = omega arith; few = omega arith; rising = (omega arith, omega arith, (omega arith, omega arith, (omega arith, omega arith, tt))) }
+
+scenario_in_range : (s : Scenario) → MembersInRange (members_of s)
+scenario_in_range Quorum = five
+scenario_in_range Constrained = five
+scenario_in_range Chained = three
+
+pub members_in_range : (s : Scenario) (ids : List ℕ) → ids ≡ members_of s → MembersInRange ids
+members_in_range s ids e = subst (λ (x : List ℕ). MembersInRange x) (sym e) (scenario_in_range s)
+
+-- the report is of the scenario's members and links
+pub report_of : (s : Scenario) (rounds : ℕ) (members : List ℕ) (links : Links) (sum : Summary) → members ≡ members_of s → links ≡ links_of s
+    → IsReportOfDrill members links rounds sum → IsReportOfDrill (members_of s) (links_of s) rounds sum
+report_of s rounds members links sum members_are links_are report =
+    subst (λ (ms : List ℕ). IsReportOfDrill ms (links_of s) rounds sum) members_are (subst (λ (l : Links). IsReportOfDrill members l rounds sum) links_are report)
+
+pub text_of : (s : Scenario) (rounds : ℕ) (sum : Summary) (text first lines : List ℕ) → IsReportOfDrill (members_of s) (links_of s) rounds sum
+    → first ≡ first_line s rounds → lines ≡ flat_map line_text sum.lines → text ≡ first ++ lines → IsTextOf s rounds text
+text_of s rounds sum text first lines report first_is lines_are text_is =
+    record {
+      summary = sum;
+      report = report;
+      written = text_is ∙ ap (λ (t : List ℕ). t ++ lines) first_is ∙ ap (λ (t : List ℕ). first_line s rounds ++ t) lines_are;
+    }

@@ -1,0 +1,112 @@
+-- One event at a node that is up: what the node then is, that the others stay, and what is sent.
+use Rattle.std.proofs.Common.{◌≡◌, ℕ, Bool, true, false, cond, eqb, nat_eq, List, [], ◌∷◌, ◌++◌, Option, Some, None, refl, sym, ap, ◌∙◌}
+use Rattle.std.proofs.lemmas.Bool.{cond_both, eqb-true, eq-eqb, ne_eqb}
+use Rattle.std.specs.Set.{is_member}
+use Rattle.op_types.specs.Changes.{part_option_with, durable_after}
+use Rattle.op_types.specs.declared.changes.Change.{Change}
+use Rattle.op_types.specs.declared.durable.Durable.{Durable}
+use Rattle.op_types.specs.declared.durable.Part.{Part}
+use Rattle.op_types.specs.declared.events.Input.{Input}
+use Rattle.op_types.specs.declared.events.What.{What}
+use Rattle.op_types.specs.declared.messages.Msg.{Msg}
+use Rattle.op_protocol.specs.State.{Volatile, PartStep, state_after}
+use Rattle.op_protocol.specs.Parts.{part_after}
+use Rattle.op_protocol.specs.Rows.{part_step, step_at, step_plan}
+use Rattle.op_runs.specs.World.{World, Node, NodeStatus, Up, Done, Happening, Steps, Deed, deed_of, node_at, with_node, sent_by, world_by_fate, world_by_status, world_at_node, world_with, world_after, done_event}
+use Rattle.op_lockstep.specs.Lockstep.{event_of}
+use Rattle.op_lockstep.proofs.Lists.{by_test}
+
+-- ---- looking nodes up
+-- the others are found as before
+pub node_at-other : (nodes : List Node) (k : Node) (pid : ℕ) → (pid ≡ k.pid → ⊥) → node_at (with_node nodes k) pid ≡ node_at nodes pid
+node_at-other [] k pid d = refl
+node_at-other (n ∷ nodes) k pid d =
+    cond_both (eqb n.pid k.pid) (k ∷ nodes) (n ∷ with_node nodes k) (λ (ns : List Node). node_at ns pid ≡ node_at (n ∷ nodes) pid)
+    (λ t. let same = eqb-true n.pid k.pid t in
+    let k_not : eqb k.pid pid ≡ false = ne_eqb k.pid pid (λ s. d (sym s)) in
+    let n_not : eqb n.pid pid ≡ false = ne_eqb n.pid pid (λ s. d (sym s ∙ same)) in
+    rw (k_not, n_not) refl)
+    (λ f. ap (λ (o : Option Node). cond (eqb n.pid pid) (Some n) o) (node_at-other nodes k pid d))
+
+none_some : {A : Type 0} (a : A) → None ≡ Some a → ⊥
+none_some a e = cc
+
+-- and the new one is found
+pub node_at-here : (nodes : List Node) (k n : Node) → node_at nodes k.pid ≡ Some n → node_at (with_node nodes k) k.pid ≡ Some k
+node_at-here [] k n e = absurd (none_some n e)
+node_at-here (m ∷ nodes) k n e = step (eqb m.pid k.pid) refl (λ h. node_at-here nodes k n h)
+  where
+    step : (b : Bool) → eqb m.pid k.pid ≡ b → (node_at nodes k.pid ≡ Some n → node_at (with_node nodes k) k.pid ≡ Some k) → node_at (with_node (m ∷ nodes) k) k.pid ≡ Some k
+    step true h ih = let here : eqb k.pid k.pid ≡ true = eq-eqb k.pid k.pid refl in rw h (rw here refl)
+    step false h ih = rw h (rw h (ih (rw h at e)))
+
+-- a node that is found has the id
+pub found_id : (nodes : List Node) (pid : ℕ) (n : Node) → node_at nodes pid ≡ Some n → n.pid ≡ pid
+found_id [] pid n e = absurd (none_some n e)
+found_id (m ∷ nodes) pid n e =
+    by_test (eqb m.pid pid) (λ (b : Bool). cond b (Some m) (node_at nodes pid) ≡ Some n → n.pid ≡ pid) (λ h k. same m n pid k (eqb-true m.pid pid h)) (λ _ k. found_id nodes pid n k) e
+  where
+    same : (m n : Node) (pid : ℕ) → Some m ≡ Some n → m.pid ≡ pid → n.pid ≡ pid
+    same m n pid k h = let e : m ≡ n = cc in ap (λ (x : Node). x.pid) (sym e) ∙ h
+
+-- the part after a batch, where there is one
+abbrev pub part_option_after : Option Part → List Change → Option Part
+part_option_after None batch = None
+part_option_after (Some p) batch = Some (part_after p batch)
+
+pub durable_after-option : (d : Durable) (batch : List Change) → (durable_after d batch).part ≡ part_option_after d.part batch
+durable_after-option d [] = same d.part
+  where
+    same : (o : Option Part) → o ≡ part_option_after o []
+    same None = refl
+    same (Some p) = refl
+durable_after-option d (c ∷ batch) = durable_after-option (record { part = part_option_with d.part c; closed = d.closed }) batch ∙ step d.part
+  where
+    step : (o : Option Part) → part_option_after (part_option_with o c) batch ≡ part_option_after o (c ∷ batch)
+    step None = refl
+    step (Some p) = refl
+
+-- ---- seats
+-- the node of this id is up, with this part, and this in its memory
+pub record Sits (o : Option Node) (p : ℕ) (a : Part) (v : Volatile) : Type 0 where
+  pub node : Node
+  pub at : o ≡ Some node
+  pub pid : node.pid ≡ p
+  pub up : node.status ≡ Up
+  pub part : node.state.durable.part ≡ Some a
+  pub volatile : node.state.volatile ≡ v
+
+-- each of these does
+abbrev pub AllSit : World → (ℕ → Part) → (ℕ → Volatile) → List ℕ → Type 0
+AllSit w a v ps = (p : ℕ) → is_member nat_eq ps p ≡ true → Sits (node_at w.nodes p) p (a p) (v p)
+
+-- after an event at one node
+pub record After (w u : World) (p : ℕ) (a : Part) (v : Volatile) (sends : List (ℕ × Msg)) : Type 0 where
+  pub here : Sits (node_at u.nodes p) p a v
+  pub others : (q : ℕ) → (q ≡ p → ⊥) → node_at u.nodes q ≡ node_at w.nodes q
+  pub messages : u.messages ≡ w.messages ++ sent_by p sends
+
+-- a step at a node that is up
+pub stepped : (w : World) (e : What) (p : ℕ) (x : Input) (a : Part) (v : Volatile) (y : PartStep) → deed_of w.messages e ≡ Some (record { pid = p; doing = Steps x }) → part_step p a v x ≡ y → Sits (node_at w.nodes p) p a v
+    → After w (world_after w (done_event (event_of e))) p (part_after a y.batch) y.volatile y.sends
+stepped w e p x a v y deed is s =
+    let h : Happening = done_event (event_of e) in
+    let n : Node = s.node in
+    let m : Node = record n { state = state_after n.state (step_plan n.pid n.state x) } in
+    let d : Durable = (n.state).durable in
+    let step_is : step_at n.pid d.part (n.state).volatile x ≡ y =
+    ap (λ (k : ℕ). step_at k d.part (n.state).volatile x) s.pid ∙ ap (λ (o : Option Part). step_at p o (n.state).volatile x) s.part ∙ ap (λ (u : Volatile). part_step p a u x) s.volatile ∙ is in
+    let world_is : world_after w h ≡ world_by_fate Done 0 w n (step_plan n.pid n.state x) =
+    ap (λ (o : Option Deed). world_with o h w) deed ∙ ap (λ (o : Option Node). world_at_node o (Steps x) h w) s.at ∙ ap (λ (t : NodeStatus). world_by_status t (Steps x) h w n) s.up in
+    record {
+      here = record {
+        node = m;
+        at = ap (λ (u : World). node_at u.nodes p) world_is ∙ ap (node_at (with_node w.nodes m)) (sym s.pid) ∙ node_at-here w.nodes m n (ap (node_at w.nodes) s.pid ∙ s.at);
+        pid = s.pid;
+        up = s.up;
+        part = durable_after-option d (step_at n.pid d.part (n.state).volatile x).batch ∙ ap (λ (o : Option Part). part_option_after o (step_at n.pid d.part (n.state).volatile x).batch) s.part ∙ ap (λ (z : PartStep). Some (part_after a z.batch)) step_is;
+        volatile = ap (λ (z : PartStep). z.volatile) step_is;
+      };
+      others = λ q other. ap (λ (u : World). node_at u.nodes q) world_is ∙ node_at-other w.nodes m q (λ k. other (k ∙ s.pid));
+      messages = ap (λ (u : World). u.messages) world_is ∙ ap (λ (k : ℕ). w.messages ++ sent_by k (step_at n.pid d.part (n.state).volatile x).sends) s.pid ∙ ap (λ (z : PartStep). w.messages ++ sent_by p z.sends) step_is;
+    }

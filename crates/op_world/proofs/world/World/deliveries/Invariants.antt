@@ -1,0 +1,10 @@
+use Rattle.std.proofs.Common.{◌≡◌, ◌++◌, All}
+use Rattle.op_types.specs.Ranges.{WhatInRange}
+use Rattle.op_lockstep.specs.Lockstep.{deliveries}
+use Rattle.op_world.specs.Drills.{is_delivered}
+use Rattle.op_world.proofs.world.World.deliveries.Given as goal
+
+abbrev pub invariant-loop-number : goal.invariant-loop-number
+invariant-loop-number l =
+    (l.events ++ deliveries (is_delivered l.delivered) l.number l.self.messages ≡ deliveries (is_delivered l.delivered) l.fn.since l.self.messages)
+    × All (λ e. WhatInRange e.what) l.events

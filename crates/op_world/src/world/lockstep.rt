@@ -1,0 +1,171 @@
+//! Lockstep rounds of a world over fixed links.
+ghost use Rattle.std.specs.Prelude.{◌≡◌, All, IfOk};
+ghost use Rattle.op_types.specs.Ranges.{MembersInRange, WhatInRange};
+ghost use Rattle.op_runs.specs.Possible.{ArePossibleFrom};
+ghost use Rattle.op_runs.specs.World as runs;
+ghost use Rattle.op_lockstep.specs.Lockstep.{after_events, after_round, ballots, deliveries, lockstep, ticks};
+ghost use Rattle.op_world.specs.Drills.{IsReportOfDrill, is_delivered};
+ghost use Rattle.op_world.specs.Failing.{IfBadEvent};
+ghost use Rattle.op_world.specs.Worlds.{Shows};
+
+use super::World;
+use crate::fail::RunFail;
+use crate::sent::Sent;
+use op_gen::{Links, all_links};
+use op_types::{Body, Event, Events, Members, NoMemory, Summary, What};
+use std::alloc::Global;
+
+/// How many rounds over all links a drill begins with.
+const FIRST_ROUNDS: u64 = 3;
+
+/// Which messages of a round are delivered.
+#[derive(Clone, Copy)]
+enum Delivered<'a> {
+    /// Heartbeat requests between two that are linked.
+    Requests(&'a Links<'a>),
+    /// Heartbeat replies.
+    Replies,
+}
+
+impl Delivered<'_> {
+    /// Whether this message is.
+    fn has(&self, sent: &Sent) -> bool
+        ensures { result ≡ is_delivered self.now sent.now }
+    {
+        match self {
+            Delivered::Requests(links) => {
+                matches!(sent.message.body, Body::HeartbeatRequest(_))
+                    && links.join(sent.from, sent.to)
+            }
+            Delivered::Replies => matches!(sent.message.body, Body::HeartbeatReply(..)),
+        }
+    }
+}
+
+/// The event that this happens, which stands in no line of a schedule.
+fn event_of(what: What) -> Event
+    ensures { result ≡ record { line = 0; what = what } }
+{
+    Event { line: 0, what }
+}
+
+/// Each of these servers ticks.
+fn ticks(alloc: Global, members: &Members) -> Result<Events, NoMemory>
+    requires { MembersInRange members.now }
+    ensures are { IfOk result (λ events. events ≡ ticks members.now) }
+    ensures range { IfOk result (λ events. All (λ e. WhatInRange e.what) events) }
+{
+    let mut events = Events::new(alloc);
+    for pid in members.as_slice() {
+        events.push(event_of(What::Tick(*pid)))?;
+    }
+    Ok(events)
+}
+
+/// Each of these servers tells its ballots.
+fn ballots(alloc: Global, members: &Members) -> Result<Events, NoMemory>
+    requires { MembersInRange members.now }
+    ensures are { IfOk result (λ events. events ≡ ballots members.now) }
+    ensures range { IfOk result (λ events. All (λ e. WhatInRange e.what) events) }
+{
+    let mut events = Events::new(alloc);
+    for pid in members.as_slice() {
+        events.push(event_of(What::Ballots(*pid)))?;
+    }
+    Ok(events)
+}
+
+impl World {
+    /// Runs a drill of links at these members, from their start on, and reports it: three lockstep rounds over all links, so
+    /// many over these, and a tick of each member, which then tells its ballots. No event of it is refused.
+    pub fn lockstep(
+        alloc: Global,
+        members: Members,
+        links: &Links<'_>,
+        rounds: u64,
+    ) -> Result<Summary, RunFail>
+        requires { MembersInRange members }
+        ensures report { IfOk result (IsReportOfDrill members links.now.pairs.now rounds) }
+        ensures never_bad { IfBadEvent result (λ _. ⊥) }
+    {
+        let pairs = all_links(alloc, members.as_slice())?;
+        let all = Links { pairs: &pairs };
+        let linked = World::new(alloc, members)?.rounds(&all, FIRST_ROUNDS)?;
+        let drilled = linked.rounds(links, rounds)?;
+        Ok(drilled.tell_ballots()?.summary()?)
+    }
+
+    /// So many lockstep rounds over these links.
+    fn rounds(self, links: &Links<'_>, count: u64) -> Result<World, RunFail>
+        ensures after { IfOk result (λ w. (x : runs.World) → Shows self x →
+            Shows w (after_events x (lockstep self.members links.now.pairs.now count x))) }
+        ensures members { IfOk result (λ w. w.members ≡ self.members) }
+        ensures bad { IfBadEvent result (λ _. (x : runs.World) → Shows self x → ⊥) }
+    {
+        let mut world = self;
+        for _number in 0..count {
+            world = world.round(links)?;
+        }
+        Ok(world)
+    }
+
+    /// A lockstep round over these links.
+    fn round(self, links: &Links<'_>) -> Result<World, RunFail>
+        ensures after { IfOk result (λ w. (x : runs.World) → Shows self x →
+            Shows w (after_round self.members links.now.pairs.now x)) }
+        ensures members { IfOk result (λ w. w.members ≡ self.members) }
+        ensures bad { IfBadEvent result (λ _. (x : runs.World) → Shows self x → ⊥) }
+    {
+        let asked_since = self.messages.len();
+        let ticks = ticks(self.alloc, &self.members)?;
+        let ticked = self.follow(ticks)?;
+        let answered_since = ticked.messages.len();
+        let requests = ticked.deliveries(asked_since, Delivered::Requests(links))?;
+        let asked = ticked.follow(requests)?;
+        let replies = asked.deliveries(answered_since, Delivered::Replies)?;
+        asked.follow(replies)
+    }
+
+    /// Each member ticks, and then each tells its ballots.
+    fn tell_ballots(self) -> Result<World, RunFail>
+        ensures after { IfOk result (λ w. (x : runs.World) → Shows self x →
+            Shows w (after_events (after_events x (ticks self.members)) (ballots self.members))) }
+        ensures members { IfOk result (λ w. w.members ≡ self.members) }
+        ensures bad { IfBadEvent result (λ _. (x : runs.World) → Shows self x → ⊥) }
+    {
+        let ticks = ticks(self.alloc, &self.members)?;
+        let ballots = ballots(self.alloc, &self.members)?;
+        self.follow(ticks)?.follow(ballots)
+    }
+
+    /// The messages from this number on that are delivered, in order of sending.
+    fn deliveries(&self, since: usize, delivered: Delivered<'_>) -> Result<Events, NoMemory>
+        ensures are { IfOk result (λ events.
+            events ≡ deliveries (is_delivered delivered.entry) since self.now.messages) }
+        ensures range { IfOk result (λ events. All (λ e. WhatInRange e.what) events) }
+    {
+        let mut events = Events::new(self.alloc);
+        for number in since..self.messages.len() {
+            if delivered.has(&self.messages[number]) {
+                events.push(event_of(What::Deliver(number as u64)))?;
+            }
+        }
+        Ok(events)
+    }
+
+    /// These events, in order, each of which can come.
+    fn follow(self, events: Events) -> Result<World, RunFail>
+        requires range { All (λ e. WhatInRange e.what) events }
+        requires possible { (x : runs.World) → Shows self x → ArePossibleFrom self.members x events }
+        ensures after { IfOk result (λ w. (x : runs.World) → Shows self x →
+            Shows w (after_events x events)) }
+        ensures members { IfOk result (λ w. w.members ≡ self.members) }
+        ensures bad { IfBadEvent result (λ _. (x : runs.World) → Shows self x → ⊥) }
+    {
+        let mut world = self;
+        for event in events.into_vec() {
+            world = world.event(event)?;
+        }
+        Ok(world)
+    }
+}
