@@ -32,3 +32,18 @@ def crates():
     """The names of the crates, as crates.txt lists them, lowest first, each with the libraries that it uses."""
     lines = [it.split(":") for it in read("crates.txt").splitlines() if ":" in it and it[0] != "#"]
     return {name.split()[0]: uses.split() for name, uses in lines}
+
+
+def rooms():
+    """The headings of crates.txt, each with its crates: the name, what stands above it, and the contracts behind "By"."""
+    found, said = [], ""
+    for line in read("crates.txt").splitlines():
+        if line.startswith("## "):
+            found.append((line[3:], []))
+        elif line.startswith("# "):
+            said = line[2:]
+        elif ":" in line and found:
+            what, _, contracts = said.partition(" By `")
+            found[-1][1].append((line.split(":")[0].split()[0], what.rstrip("."), f"`{contracts}" if contracts else ""))
+            said = ""
+    return found

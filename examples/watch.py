@@ -1,0 +1,81 @@
+#!/usr/bin/env python3
+"""Shows a running cluster as a table that renews itself each second.
+
+    watch.py SETTINGS [TIMES]
+
+SETTINGS is a file such as examples/cluster.toml, whose peers are asked for their status. On a terminal each table takes the
+place of the one before; after TIMES tables it ends. Written from docs/FORMATS.md alone.
+"""
+import concurrent.futures
+import socket
+import struct
+import sys
+import time
+import tomllib
+
+STATUS_REQUEST, STATUS_REPLY = 4, 12  # tags
+WAIT, PERIOD = 0.5, 1.0  # seconds: that a node has to answer, and between two tables
+CLEAR = "\x1b[H\x1b[J" if sys.stdout.isatty() else ""
+
+
+def exactly(connection, count):
+    parts = b""
+    while len(parts) < count:
+        part = connection.recv(count - len(parts))
+        if not part:
+            raise ConnectionError("the node has closed the connection")
+        parts += part
+    return parts
+
+
+def status(address):
+    """The words of a node's status line behind its id, or none where it doesn't answer."""
+    try:
+        with socket.create_connection(address, WAIT) as connection:
+            connection.settimeout(WAIT)
+            connection.sendall(b"C" + struct.pack(">IB", 1, STATUS_REQUEST))
+            length, _client, _number, tag = struct.unpack(">IQQB", exactly(connection, 21))
+            text = exactly(connection, length - 17)[2:].decode()
+            return text.split()[2:] if tag == STATUS_REPLY else []
+    except (OSError, struct.error):
+        return []
+
+
+def told(words):
+    """What follows each name in a status line: `config 1 decided 2 trimmed 0`, and at its end perhaps `failed`."""
+    pairs = {name: int(number) for name, number in zip(words, words[1:]) if number.isdigit()}
+    state = next((it for it in ("failed", "joining", "spare") if it in words), "up") if words else "no answer"
+    return pairs, state
+
+
+def row(node, pairs, state, first, before):
+    """A line of the table: how far a node is behind the first one, and how much it decided since the table before."""
+    decided = pairs.get("decided")
+    behind = "" if decided is None else first - decided
+    rate = "" if decided is None or before is None else f"{(decided - before) / PERIOD:.0f}"
+    texts = [node, pairs.get("config", ""), decided, behind, pairs.get("trimmed", ""), rate, state]
+    return "{:>5} {:>7} {:>10} {:>8} {:>10} {:>10}   {}".format(*("" if it is None else it for it in texts))
+
+
+def main(settings, times):
+    with open(settings, "rb") as file:
+        peers = {node: address.split(":") for node, address in tomllib.load(file)["peers"].items()}
+    before = {}
+    with concurrent.futures.ThreadPoolExecutor(len(peers)) as pool:
+        for _ in range(times):
+            started = time.monotonic()
+            found = dict(zip(peers, map(told, pool.map(status, peers.values()))))
+            first = max((pairs.get("decided", 0) for pairs, _ in found.values()), default=0)
+            print(f"{CLEAR} node  config    decided   behind    trimmed   decided/s   state")
+            for node, (pairs, state) in found.items():
+                print(row(node, pairs, state, first, before.get(node)))
+            before = {node: pairs.get("decided") for node, (pairs, _) in found.items()}
+            sys.stdout.flush()
+            time.sleep(max(0, PERIOD - (time.monotonic() - started)))
+
+
+if __name__ == "__main__":
+    try:
+        main(sys.argv[1], int(sys.argv[2]) if len(sys.argv) > 2 else 1_000_000)
+    except KeyboardInterrupt:
+        pass
