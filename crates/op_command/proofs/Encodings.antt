@@ -1,6 +1,6 @@
 -- What is read is encoded so, and what is encoded so is read: requests and replies.
 use Rattle.std.proofs.Common.{◌≡◌, ℕ, ◌-◌, ◌^◌, ◌≤◌, Option, Some, None, refl, arith, lit≤}
-use Rattle.std.specs.Int.{w8, w16, w32, w64}
+use Rattle.std.specs.Int.{w16, w32, w64}
 use Rattle.op_types.specs.declared.answers.Refusal.{Refusal}
 use Rattle.op_types.specs.declared.answers.Refusal.TheVariants as refusal
 use Rattle.op_types.specs.declared.answers.Outcome.TheVariants as outcome
@@ -9,46 +9,49 @@ use Rattle.op_types.specs.declared.answers.Cause.TheVariants as cause
 use Rattle.op_types.specs.declared.answers.Answer.TheVariants as answer
 use Rattle.op_fields.specs.Form.{number, no_option}
 use Rattle.op_fields.specs.Reads.{Reads}
-use Rattle.op_fields.proofs.Formats.{wide8, wide16, wide32, wide64, number-reads, counted-reads, made}
-use Rattle.op_fields.proofs.Composites.{pair-reads, fitted-reads, tested-reads}
+use Rattle.op_fields.proofs.Formats.{wide16, wide32, wide64, number-reads, counted-reads, made}
+use Rattle.op_fields.proofs.Composites.{pair-reads, fitted-reads}
 use Rattle.op_fields.proofs.Choices.{OptionsTake, OptionsAgain, no_option-takes, option-takes, choice-reads}
-use Rattle.op_entry.specs.Forms.{ballot, value, command}
-use Rattle.op_entry.proofs.Encodings.{ballot_reads, value_reads, command_reads}
+use Rattle.op_entry.specs.Forms.{ballot, members, value, command}
+use Rattle.op_entry.proofs.Encodings.{ballot_reads, members_reads, value_reads, command_reads}
 use Rattle.op_types.specs.declared.events.Request.{Request}
 use Rattle.op_types.specs.declared.events.Request.TheVariants as request
 use Rattle.op_command.specs.declared.said.Said.{Said}
 use Rattle.op_command.specs.declared.said.Said.TheVariants as said
 use Rattle.op_command.specs.Tagged.{no_fields}
 use Rattle.op_command.specs.Ranges.{RequestInRange, CauseInRange, DenialInRange, SaidInRange, ReplyInRange}
-use Rattle.op_command.specs.Requests.{request_tag_form, request_tag, request_body, request_options, request_form}
-use Rattle.op_command.specs.Replies.{place, cause_tag, cause_body, cause_options, cause_form, fault_count, denial_tag, denial_body, denial_options, denial_form, said_of, appended, pid, line, offset, said_tag_form, said_tag, said_body, said_options, said_form, client, number_of, reply_parts, reply_form}
-use Rattle.op_command.proofs.Tags.{no_fields-reads, tagged-reads}
+use Rattle.op_command.specs.Requests.{request_tag, request_body, request_options, request_form}
+use Rattle.op_command.specs.Replies.{place, cause_tag, cause_body, cause_options, cause_form, fault_count, denial_tag, denial_body, denial_options, denial_form, said_of, appended, pid, line, offset, said_tag, said_body, said_options, said_form, client, number_of, reply_parts, reply_form}
+use Rattle.op_command.proofs.Tags.{no_fields-reads}
 use Rattle.op_command.proofs.Asked.{number_below, asked_fits, fits_asked}
 
 -- ---- requests
 
-request_tag_reads : Reads request_tag_form
-request_tag_reads = tested-reads _ _ (number-reads w8 (2 ^ 8) wide8 1 5 (omega arith))
-
 request_takes : OptionsTake request_tag request_body RequestInRange request_options
 request_takes =
     option-takes request_tag request_body RequestInRange 1 command _ _ command_reads (λ c fit. (refl, fit, refl))
+    (option-takes request_tag request_body RequestInRange 2 members (λ ids. request.Stop ids) _ members_reads (λ ids fit. (refl, fit, refl))
+    (option-takes request_tag request_body RequestInRange 3 no_fields (λ _. request.Trim) _ no_fields-reads (λ _ fit. (refl, fit, refl))
     (option-takes request_tag request_body RequestInRange 4 no_fields (λ _. request.Status) _ no_fields-reads (λ _ fit. (refl, fit, refl))
     (option-takes request_tag request_body RequestInRange 5 no_fields (λ _. request.End) no_option no_fields-reads (λ _ fit. (refl, fit, refl))
-    (no_option-takes request_tag request_body RequestInRange)))
+    (no_option-takes request_tag request_body RequestInRange)))))
 
 request_again : OptionsAgain request_tag request_body RequestInRange request_options
 request_again (request.Command c) bytes at rest fit le is = made (command.read bytes at) (λ c. request.Command c) c _ (command_reads.again bytes at c rest fit le is)
+request_again (request.Stop ids) bytes at rest fit le is = made (members.read bytes at) (λ ids. request.Stop ids) ids _ (members_reads.again bytes at ids rest fit le is)
+request_again request.Trim bytes at rest fit le is = made (no_fields.read bytes at) (λ _. request.Trim) tt _ (no_fields-reads.again bytes at tt rest fit le is)
 request_again request.Status bytes at rest fit le is = made (no_fields.read bytes at) (λ _. request.Status) tt _ (no_fields-reads.again bytes at tt rest fit le is)
 request_again request.End bytes at rest fit le is = made (no_fields.read bytes at) (λ _. request.End) tt _ (no_fields-reads.again bytes at tt rest fit le is)
 
-request_tags : (r : Request) → RequestInRange r → request_tag_form.fits (request_tag r)
-request_tags (request.Command c) fit = ((lit≤ tt, lit≤ tt), cc)
-request_tags request.Status fit = ((lit≤ tt, lit≤ tt), cc)
-request_tags request.End fit = ((lit≤ tt, lit≤ tt), cc)
+request_tags : (r : Request) → RequestInRange r → (1 ≤ request_tag r) × (request_tag r ≤ 5)
+request_tags (request.Command c) fit = (lit≤ tt, lit≤ tt)
+request_tags (request.Stop ids) fit = (lit≤ tt, lit≤ tt)
+request_tags request.Trim fit = (lit≤ tt, lit≤ tt)
+request_tags request.Status fit = (lit≤ tt, lit≤ tt)
+request_tags request.End fit = (lit≤ tt, lit≤ tt)
 
 pub request_reads : Reads request_form
-request_reads = tagged-reads request_tag_form request_tag_reads request_tag request_body RequestInRange request_options request_tags request_takes request_again
+request_reads = choice-reads request_tag request_body RequestInRange 5 request_options (omega arith) request_tags request_takes request_again
 
 -- ---- why a proposal is given up
 
@@ -125,9 +128,6 @@ line_reads = counted-reads w16 (2 ^ 16) wide16 0 (2 ^ 16 - 1) (omega arith)
 offset_reads : Reads offset
 offset_reads = number-reads w64 (2 ^ 64) wide64 0 (2 ^ 64 - 1) (omega arith)
 
-said_tag_reads : Reads said_tag_form
-said_tag_reads = tested-reads _ _ (number-reads w8 (2 ^ 8) wide8 1 14 (omega arith))
-
 said_takes : OptionsTake said_tag said_body SaidInRange said_options
 said_takes =
     option-takes said_tag said_body SaidInRange 1 no_fields (λ _. said.Answer answer.Done) _ no_fields-reads (λ _ fit. (refl, fit, refl))
@@ -139,10 +139,12 @@ said_takes =
     (option-takes said_tag said_body SaidInRange 7 appended _ _ appended_reads (λ x fit. (refl, (fit.0, fit.1.1), refl))
     (option-takes said_tag said_body SaidInRange 8 no_fields (λ _. said.Outcome outcome.Buffered) _ no_fields-reads (λ _ fit. (refl, fit, refl))
     (option-takes said_tag said_body SaidInRange 9 pid _ _ pid_reads (λ p fit. (refl, fit, refl))
+    (option-takes said_tag said_body SaidInRange 10 no_fields (λ _. said.Outcome outcome.Asked) _ no_fields-reads (λ _ fit. (refl, fit, refl))
+    (option-takes said_tag said_body SaidInRange 11 no_fields (λ _. said.Outcome outcome.NotLeading) _ no_fields-reads (λ _ fit. (refl, fit, refl))
     (option-takes said_tag said_body SaidInRange 12 line _ _ line_reads (λ t fit. (refl, fit.1, refl))
     (option-takes said_tag said_body SaidInRange 13 no_fields (λ _. said.Ended) _ no_fields-reads (λ _ fit. (refl, fit, refl))
     (option-takes said_tag said_body SaidInRange 14 offset _ no_option offset_reads (λ n fit. (refl, fit.1, refl))
-    (no_option-takes said_tag said_body SaidInRange))))))))))))
+    (no_option-takes said_tag said_body SaidInRange))))))))))))))
 
 said_again : OptionsAgain said_tag said_body SaidInRange said_options
 said_again (said.Answer answer.Done) bytes at rest fit le is = made (no_fields.read bytes at) (λ _. said.Answer answer.Done) tt _ (no_fields-reads.again bytes at tt rest fit le is)
@@ -154,28 +156,32 @@ said_again (said.Outcome (outcome.Refused why)) bytes at rest fit le is = made (
 said_again (said.Outcome (outcome.Appended conf pos)) bytes at rest fit le is = made (appended.read bytes at) (λ x. said.Outcome (outcome.Appended x.0 x.1)) (conf, pos) _ (appended_reads.again bytes at (conf, pos) rest (fit.0, (omega arith, fit.1)) le is)
 said_again (said.Outcome outcome.Buffered) bytes at rest fit le is = made (no_fields.read bytes at) (λ _. said.Outcome outcome.Buffered) tt _ (no_fields-reads.again bytes at tt rest fit le is)
 said_again (said.Outcome (outcome.Forwarded p)) bytes at rest fit le is = made (pid.read bytes at) (λ p. said.Outcome (outcome.Forwarded p)) p _ (pid_reads.again bytes at p rest fit le is)
+said_again (said.Outcome outcome.Asked) bytes at rest fit le is = made (no_fields.read bytes at) (λ _. said.Outcome outcome.Asked) tt _ (no_fields-reads.again bytes at tt rest fit le is)
+said_again (said.Outcome outcome.NotLeading) bytes at rest fit le is = made (no_fields.read bytes at) (λ _. said.Outcome outcome.NotLeading) tt _ (no_fields-reads.again bytes at tt rest fit le is)
 said_again said.RefusedMemory bytes at rest fit le is = made (denial_form.read bytes at) said_of None _ (denial_reads.again bytes at None rest fit le is)
 said_again (said.Status text) bytes at rest fit le is = made (line.read bytes at) (λ t. said.Status t) text _ (line_reads.again bytes at text rest (omega arith, fit) le is)
 said_again said.Ended bytes at rest fit le is = made (no_fields.read bytes at) (λ _. said.Ended) tt _ (no_fields-reads.again bytes at tt rest fit le is)
 said_again (said.BadRequest n) bytes at rest fit le is = made (offset.read bytes at) (λ n. said.BadRequest n) n _ (offset_reads.again bytes at n rest (omega arith, fit) le is)
 
-said_tags : (s : Said) → SaidInRange s → said_tag_form.fits (said_tag s)
-said_tags (said.Answer answer.Done) fit = ((lit≤ tt, lit≤ tt), cc)
-said_tags (said.Answer (answer.Value v)) fit = ((lit≤ tt, lit≤ tt), cc)
-said_tags (said.Answer answer.Absent) fit = ((lit≤ tt, lit≤ tt), cc)
-said_tags (said.Answer answer.Stale) fit = ((lit≤ tt, lit≤ tt), cc)
-said_tags (said.Answer (answer.Dropped c)) fit = ((lit≤ tt, lit≤ tt), cc)
-said_tags (said.Outcome (outcome.Refused why)) fit = ((lit≤ tt, lit≤ tt), cc)
-said_tags (said.Outcome (outcome.Appended conf pos)) fit = ((lit≤ tt, lit≤ tt), cc)
-said_tags (said.Outcome outcome.Buffered) fit = ((lit≤ tt, lit≤ tt), cc)
-said_tags (said.Outcome (outcome.Forwarded p)) fit = ((lit≤ tt, lit≤ tt), cc)
-said_tags said.RefusedMemory fit = ((lit≤ tt, lit≤ tt), cc)
-said_tags (said.Status text) fit = ((lit≤ tt, lit≤ tt), cc)
-said_tags said.Ended fit = ((lit≤ tt, lit≤ tt), cc)
-said_tags (said.BadRequest n) fit = ((lit≤ tt, lit≤ tt), cc)
+said_tags : (s : Said) → SaidInRange s → (1 ≤ said_tag s) × (said_tag s ≤ 14)
+said_tags (said.Answer answer.Done) fit = (lit≤ tt, lit≤ tt)
+said_tags (said.Answer (answer.Value v)) fit = (lit≤ tt, lit≤ tt)
+said_tags (said.Answer answer.Absent) fit = (lit≤ tt, lit≤ tt)
+said_tags (said.Answer answer.Stale) fit = (lit≤ tt, lit≤ tt)
+said_tags (said.Answer (answer.Dropped c)) fit = (lit≤ tt, lit≤ tt)
+said_tags (said.Outcome (outcome.Refused why)) fit = (lit≤ tt, lit≤ tt)
+said_tags (said.Outcome (outcome.Appended conf pos)) fit = (lit≤ tt, lit≤ tt)
+said_tags (said.Outcome outcome.Buffered) fit = (lit≤ tt, lit≤ tt)
+said_tags (said.Outcome (outcome.Forwarded p)) fit = (lit≤ tt, lit≤ tt)
+said_tags (said.Outcome outcome.Asked) fit = (lit≤ tt, lit≤ tt)
+said_tags (said.Outcome outcome.NotLeading) fit = (lit≤ tt, lit≤ tt)
+said_tags said.RefusedMemory fit = (lit≤ tt, lit≤ tt)
+said_tags (said.Status text) fit = (lit≤ tt, lit≤ tt)
+said_tags said.Ended fit = (lit≤ tt, lit≤ tt)
+said_tags (said.BadRequest n) fit = (lit≤ tt, lit≤ tt)
 
 said_reads : Reads said_form
-said_reads = tagged-reads said_tag_form said_tag_reads said_tag said_body SaidInRange said_options said_tags said_takes said_again
+said_reads = choice-reads said_tag said_body SaidInRange 14 said_options (omega arith) said_tags said_takes said_again
 
 -- ---- replies
 

@@ -1,8 +1,8 @@
 -- Replies as bytes.
-use Rattle.std.specs.Prelude.{◌==◌, ◌||◌, if◌then◌else◌, ℕ, Bool, List, [], Option, Some, None, nat_le}
-use Rattle.std.specs.Int.{w8, w16, w32, w64}
+use Rattle.std.specs.Prelude.{◌==◌, if◌then◌else◌, ℕ, List, [], Option, Some, None}
+use Rattle.std.specs.Int.{w16, w32, w64}
 use Rattle.op_types.specs.Limits.{greatest_pid, greatest_number, positions_end, last_conf}
-use Rattle.op_fields.specs.Form.{Form, Options, number, counted, pair, fitted, tested, option, no_option, choice}
+use Rattle.op_fields.specs.Form.{Form, Options, number, counted, pair, fitted, option, no_option, choice}
 use Rattle.op_types.specs.declared.answers.Refusal.{Refusal}
 use Rattle.op_types.specs.declared.answers.Refusal.TheVariants as refusal
 use Rattle.op_types.specs.declared.answers.Outcome.TheVariants as outcome
@@ -10,7 +10,7 @@ use Rattle.op_types.specs.declared.answers.Cause.{Cause}
 use Rattle.op_types.specs.declared.answers.Cause.TheVariants as cause
 use Rattle.op_types.specs.declared.answers.Answer.TheVariants as answer
 use Rattle.op_entry.specs.Forms.{ballot, value}
-use Rattle.op_command.specs.Tagged.{no_fields, tagged}
+use Rattle.op_command.specs.Tagged.{no_fields}
 use Rattle.op_command.specs.Ranges.{CauseInRange, DenialInRange, SaidInRange, ReplyInRange, most_line_bytes, greatest_offset, greatest_count}
 use Rattle.op_command.specs.declared.said.Said.{Said}
 use Rattle.op_command.specs.declared.said.Said.TheVariants as said
@@ -105,14 +105,6 @@ line = counted w16 0 most_line_bytes
 abbrev pub offset : Form ℕ
 offset = number w64 0 greatest_offset
 
--- the tags of replies; 10 and 11 have none yet
-abbrev pub is_said_tag : ℕ → Bool
-is_said_tag tag = nat_le tag 9 || nat_le 12 tag
-
--- a reply's tag; any other is a fault at its place
-abbrev pub said_tag_form : Form ℕ
-said_tag_form = tested is_said_tag (number w8 1 14)
-
 -- a reply's tag
 abbrev pub said_tag : Said → ℕ
 said_tag (said.Answer answer.Done) = 1
@@ -124,6 +116,8 @@ said_tag (said.Outcome (outcome.Refused why)) = 6
 said_tag (said.Outcome (outcome.Appended conf pos)) = 7
 said_tag (said.Outcome outcome.Buffered) = 8
 said_tag (said.Outcome (outcome.Forwarded p)) = 9
+said_tag (said.Outcome outcome.Asked) = 10
+said_tag (said.Outcome outcome.NotLeading) = 11
 said_tag said.RefusedMemory = 6
 said_tag (said.Status text) = 12
 said_tag said.Ended = 13
@@ -140,6 +134,8 @@ said_body (said.Outcome (outcome.Refused why)) = denial_form.text (Some why)
 said_body (said.Outcome (outcome.Appended conf pos)) = appended.text (conf, pos)
 said_body (said.Outcome outcome.Buffered) = []
 said_body (said.Outcome (outcome.Forwarded p)) = pid.text p
+said_body (said.Outcome outcome.Asked) = []
+said_body (said.Outcome outcome.NotLeading) = []
 said_body said.RefusedMemory = denial_form.text None
 said_body (said.Status text) = line.text text
 said_body said.Ended = []
@@ -157,14 +153,16 @@ said_options =
     (option 7 appended (λ x. said.Outcome (outcome.Appended x.0 x.1))
     (option 8 no_fields (λ _. said.Outcome outcome.Buffered)
     (option 9 pid (λ p. said.Outcome (outcome.Forwarded p))
+    (option 10 no_fields (λ _. said.Outcome outcome.Asked)
+    (option 11 no_fields (λ _. said.Outcome outcome.NotLeading)
     (option 12 line (λ text. said.Status text)
     (option 13 no_fields (λ _. said.Ended)
     (option 14 offset (λ at. said.BadRequest at)
-    no_option)))))))))))
+    no_option)))))))))))))
 
 -- what is said
 abbrev pub said_form : Form Said
-said_form = tagged said_tag_form said_tag said_body SaidInRange said_options
+said_form = choice 14 said_tag said_body SaidInRange said_options
 
 -- ---- a reply
 

@@ -123,10 +123,17 @@ impl Map {
         ensures bytes { IfOk result (λ bytes. bytes ≡ base_bytes self.now.service) }
         ensures order { OnOk result (ServiceIsOrdered self.now.service) }
     {
-        let mut out = Vec::new(alloc);
-        put_pairs(&mut out, &self.kept.pairs_with(alloc, &self.newer)?)?;
-        put_clients(&mut out, &self.kept.clients_with(alloc, &self.newer)?)?;
-        Ok(Blob::from_vec(out))
+        bytes_with(alloc, &self.kept, &self.newer)
+    }
+
+    /// The bytes of the service's state once a planned change is adopted. The service stays as it is.
+    pub fn base_bytes_after(&self, alloc: Global, change: &KvChange) -> Result<Blob, NoMemory>
+        requires { self.now.waiting ≡ 0 }
+        ensures bytes { IfOk result (λ bytes. bytes
+            ≡ base_bytes (service_over self.now.service change.now)) }
+        ensures order { OnOk result (ServiceIsOrdered (service_over self.now.service change.now)) }
+    {
+        bytes_with(alloc, &self.kept, change)
     }
 
     /// Whether a service in range and in order has these bytes as its base. This takes no memory.
@@ -155,6 +162,17 @@ impl Map {
             newer: KvChange::new(alloc),
         })
     }
+}
+
+/// The bytes of what is kept, with what is written over it.
+fn bytes_with(alloc: Global, kept: &Tables, newer: &KvChange) -> Result<Blob, NoMemory>
+    ensures bytes { IfOk result (λ bytes. bytes ≡ base_bytes (service_over kept.now newer.now)) }
+    ensures order { OnOk result (ServiceIsOrdered (service_over kept.now newer.now)) }
+{
+    let mut out = Vec::new(alloc);
+    put_pairs(&mut out, &kept.pairs_with(alloc, newer)?)?;
+    put_clients(&mut out, &kept.clients_with(alloc, newer)?)?;
+    Ok(Blob::from_vec(out))
 }
 
 /// Copies of these pairs, in their order.

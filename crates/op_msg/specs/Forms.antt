@@ -1,15 +1,16 @@
 -- Messages between servers as bytes.
-use Rattle.std.specs.Prelude.{◌≡◌, ◌==◌, if◌then◌else◌, ℕ, Bool, List, [], Ok}
+use Rattle.std.specs.Prelude.{◌≡◌, ◌==◌, ◌||◌, if◌then◌else◌, nat_lt, ℕ, Bool, List, [], Ok}
 use Rattle.std.specs.Int.{w8, w32, w64}
-use Rattle.op_types.specs.Limits.{greatest_pid, greatest_number, last_conf, positions_end}
-use Rattle.op_fields.specs.Form.{Form, Options, number, pair, fitted, option, no_option}
+use Rattle.op_types.specs.Limits.{greatest_pid, greatest_number, last_conf, positions_end, most_commands}
+use Rattle.op_fields.specs.Form.{Form, Options, number, counted, pair, fitted, tested, listed, option, no_option, choice}
 use Rattle.op_types.specs.declared.ballot.Ballot.{Ballot}
 use Rattle.op_types.specs.declared.log.Entry.{Entry}
+use Rattle.op_types.specs.declared.log.Entry.TheVariants as kind_of
 use Rattle.op_types.specs.declared.messages.Body.{Body}
 use Rattle.op_types.specs.declared.messages.Body.TheVariants as variant
 use Rattle.op_types.specs.declared.messages.Msg.{Msg}
-use Rattle.op_entry.specs.Forms.{ballot, entry, entries}
-use Rattle.op_msg.specs.Ranges.{BodyInRange, MsgInRange, AddressedInRange}
+use Rattle.op_entry.specs.Forms.{ballot, members, command, entry_tag, entry_body, entry, entries}
+use Rattle.op_msg.specs.Ranges.{greatest_length, ForwardedInRange, ForwardsInRange, BodyFits, MsgFits, AddressedFits}
 
 -- ---- fields
 
@@ -33,9 +34,17 @@ nothing = record { text = λ x. []; fits = λ x. Unit {0}; read = λ bytes at. O
 abbrev pub pid : Form ℕ
 pid = number w32 1 greatest_pid
 
--- a configuration's number, or 0
-abbrev pub conf : Form ℕ
-conf = number w32 0 last_conf
+-- the least configuration of a message with this tag: what is told of the next one has one before it
+abbrev pub least_conf : ℕ → ℕ
+least_conf tag = if tag == 15 then 2 else 0
+
+-- a configuration's number, or 0, of a message with this tag
+abbrev pub conf : ℕ → Form ℕ
+conf tag = number w32 (least_conf tag) last_conf
+
+-- the length of a closed list
+abbrev pub closed_len : Form ℕ
+closed_len = number w64 1 positions_end
 
 -- ---- the fields of each kind
 
@@ -67,6 +76,35 @@ length_in = pair ballot (λ _. place)
 abbrev pub refuse : Form (Ballot × Ballot)
 refuse = pair ballot (λ _. ballot)
 
+-- what is read after the tag of an entry that is forwarded with others
+abbrev pub forwarded_options : Options Entry
+forwarded_options = option 1 command (λ c. kind_of.Command c) no_option
+
+-- an entry that is forwarded with others
+abbrev pub forwarded : Form Entry
+forwarded = choice 1 entry_tag entry_body ForwardedInRange forwarded_options
+
+-- commands that are forwarded together
+abbrev pub forwards : Form (List Entry)
+forwards =
+    fitted (λ es. es) (λ es. es) ForwardsInRange (listed w64 2 most_commands (λ _. forwarded) (λ _. 0) 0)
+
+-- the next members, those before, the length of the closed list, and how much of it is trimmed
+abbrev pub next_conf : Form (List ℕ × (List ℕ × (ℕ × ℕ)))
+next_conf = pair members (λ _. pair members (λ _. pair closed_len (λ _. place)))
+
+-- a position, and bytes after their length
+abbrev pub base_part : Form (ℕ × List ℕ)
+base_part = pair place (λ _. counted w64 0 greatest_length)
+
+-- two positions
+abbrev pub ask_segment : Form (ℕ × ℕ)
+ask_segment = pair place (λ _. place)
+
+-- a position and the entries from there on
+abbrev pub segment : Form (ℕ × List Entry)
+segment = pair place (λ _. entries)
+
 -- ---- a message
 
 -- the tag of what a message says
@@ -82,6 +120,15 @@ body_tag (variant.Decide n x) = 8
 body_tag variant.PrepareReq = 9
 body_tag (variant.Refuse n b) = 10
 body_tag (variant.Forward e) = 11
+body_tag (variant.TrimAsk n) = 12
+body_tag (variant.Progress n x) = 13
+body_tag (variant.Trim x) = 14
+body_tag (variant.NextConf next olds len trimmed) = 15
+body_tag variant.AskBase = 16
+body_tag (variant.BasePart at b) = 17
+body_tag (variant.AskSegment from to) = 18
+body_tag (variant.Segment at es) = 19
+body_tag (variant.Forwards es) = 28
 
 -- its fields
 abbrev pub body_text : Body → List ℕ
@@ -96,6 +143,15 @@ body_text (variant.Decide n x) = length_in.text (n, x)
 body_text variant.PrepareReq = nothing.text tt
 body_text (variant.Refuse n b) = refuse.text (n, b)
 body_text (variant.Forward e) = entry.text e
+body_text (variant.TrimAsk n) = ballot.text n
+body_text (variant.Progress n x) = length_in.text (n, x)
+body_text (variant.Trim x) = place.text x
+body_text (variant.NextConf next olds len trimmed) = next_conf.text (next, (olds, (len, trimmed)))
+body_text variant.AskBase = nothing.text tt
+body_text (variant.BasePart at b) = base_part.text (at, b)
+body_text (variant.AskSegment from to) = ask_segment.text (from, to)
+body_text (variant.Segment at es) = segment.text (at, es)
+body_text (variant.Forwards es) = forwards.text es
 
 -- what is read where the tag is this one
 abbrev pub body_options : Options Body
@@ -111,29 +167,42 @@ body_options =
     (option 9 nothing (λ x. variant.PrepareReq)
     (option 10 refuse (λ x. variant.Refuse x.0 x.1)
     (option 11 entry (λ e. variant.Forward e)
-    no_option))))))))))
+    (option 12 ballot (λ n. variant.TrimAsk n)
+    (option 13 length_in (λ x. variant.Progress x.0 x.1)
+    (option 14 place (λ x. variant.Trim x)
+    (option 15 next_conf (λ x. variant.NextConf x.0 x.1.0 x.1.1.0 x.1.1.1)
+    (option 16 nothing (λ x. variant.AskBase)
+    (option 17 base_part (λ x. variant.BasePart x.0 x.1)
+    (option 18 ask_segment (λ x. variant.AskSegment x.0 x.1)
+    (option 19 segment (λ x. variant.Segment x.0 x.1)
+    (option 28 forwards (λ es. variant.Forwards es)
+    no_option)))))))))))))))))))
 
 -- what a message with this tag says
 abbrev pub body : ℕ → Form Body
 body tag = record {
   text = body_text;
-  fits = λ b. BodyInRange b × (body_tag b ≡ tag);
+  fits = λ b. BodyFits b × (body_tag b ≡ tag);
   read = body_options tag;
 }
 
+-- a tag that a message has
+abbrev pub is_tag : ℕ → Bool
+is_tag tag = nat_lt tag 20 || (tag == 28)
+
 -- a tag
 abbrev pub kind : Form ℕ
-kind = number w8 1 11
+kind = tested is_tag (number w8 1 28)
 
 -- a tag, a configuration and what the tag says
 abbrev pub msg_parts : Form (ℕ × (ℕ × Body))
-msg_parts = pair kind (λ tag. pair conf (λ _. body tag))
+msg_parts = pair kind (λ tag. pair (conf tag) (λ _. body tag))
 
 -- a message
 abbrev pub msg : Form Msg
 msg =
     fitted (λ x. record { conf = x.1.0; body = x.1.1 }) (λ m. (body_tag m.body, (m.conf, m.body)))
-    MsgInRange msg_parts
+    MsgFits msg_parts
 
 -- a sender, an addressee and a message
 abbrev pub addressed_parts : Form (ℕ × (ℕ × Msg))
@@ -141,4 +210,4 @@ addressed_parts = pair pid (λ _. pair pid (λ _. msg))
 
 -- the same as one triple: all that a frame between servers holds
 abbrev pub addressed : Form (ℕ × ℕ × Msg)
-addressed = fitted (λ x. (x.0, x.1.0, x.1.1)) (λ y. (y.0, (y.1, y.2))) AddressedInRange addressed_parts
+addressed = fitted (λ x. (x.0, x.1.0, x.1.1)) (λ y. (y.0, (y.1, y.2))) AddressedFits addressed_parts

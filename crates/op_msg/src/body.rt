@@ -7,9 +7,15 @@ ghost use Rattle.op_msg.specs.Forms.{body_tag, body_text, body_options};
 use crate::accepting::{
     accept_at, accept_sync_at, accepted_at, decide_at, put_entries_from, put_length_in,
 };
+use crate::closed::{
+    ask_segment_at, base_part_at, next_conf_at, put_ask_segment, put_base_part, put_next_conf,
+    put_segment, segment_at,
+};
+use crate::forwards::{forwards_at, put_forwards};
 use crate::heartbeats::{heartbeat_reply_at, heartbeat_request_at, put_heartbeat_reply};
 use crate::preparing::{prepare_at, promise_at, put_prepare, put_promise, put_refuse, refuse_at};
-use op_entry::{entry_at, put as put_entry};
+use crate::trimming::{progress_at, trim_ask_at, trim_at};
+use op_entry::{entry_at, put as put_entry, put_ballot};
 use op_fields::{NoMemory, TakeFail, put_u64};
 use op_types::Body;
 use std::alloc::Global;
@@ -35,8 +41,28 @@ const PREPARE_REQ: u8 = 9;
 
 const REFUSE: u8 = 10;
 
+const FORWARD: u8 = 11;
+
+const TRIM_ASK: u8 = 12;
+
+const PROGRESS: u8 = 13;
+
+const TRIM: u8 = 14;
+
+/// The tag of the news of the next configuration.
+pub const NEXT_CONF: u8 = 15;
+
+const ASK_BASE: u8 = 16;
+
+const BASE_PART: u8 = 17;
+
+const ASK_SEGMENT: u8 = 18;
+
+/// The last of the tags that stand in a row.
+pub const SEGMENT: u8 = 19;
+
 /// The greatest tag of a message.
-pub const FORWARD: u8 = 11;
+pub const FORWARDS: u8 = 28;
 
 /// The tag of what a message says.
 pub fn tag_of(body: &Body) -> u8
@@ -54,6 +80,15 @@ pub fn tag_of(body: &Body) -> u8
         Body::PrepareReq => PREPARE_REQ,
         Body::Refuse(_, _) => REFUSE,
         Body::Forward(_) => FORWARD,
+        Body::TrimAsk(_) => TRIM_ASK,
+        Body::Progress(_, _) => PROGRESS,
+        Body::Trim(_) => TRIM,
+        Body::NextConf(_, _, _, _) => NEXT_CONF,
+        Body::AskBase => ASK_BASE,
+        Body::BasePart(_, _) => BASE_PART,
+        Body::AskSegment(_, _) => ASK_SEGMENT,
+        Body::Segment(_, _) => SEGMENT,
+        Body::Forwards(_) => FORWARDS,
     }
 }
 
@@ -91,6 +126,17 @@ pub fn put_body(out: &mut Vec<u8>, body: &Body) -> Result<(), NoMemory>
         Body::PrepareReq => Ok(()),
         Body::Refuse(refused, promised) => put_refuse(out, *refused, *promised),
         Body::Forward(entry) => put_entry(out, entry),
+        Body::TrimAsk(ballot) => put_ballot(out, *ballot),
+        Body::Progress(ballot, decided) => put_length_in(out, *ballot, *decided),
+        Body::Trim(place) => put_u64(out, *place),
+        Body::NextConf(members, olds, len, trimmed) => {
+            put_next_conf(out, members, olds, *len, *trimmed)
+        }
+        Body::AskBase => Ok(()),
+        Body::BasePart(place, base) => put_base_part(out, *place, base),
+        Body::AskSegment(from, to) => put_ask_segment(out, *from, *to),
+        Body::Segment(start, entries) => put_segment(out, *start, entries.as_slice()),
+        Body::Forwards(entries) => put_forwards(out, entries.as_slice()),
     }
 }
 
@@ -113,6 +159,15 @@ pub fn body_at(alloc: Global, bytes: &[u8], at: usize, tag: u8) -> Result<(Body,
             let (entry, at) = entry_at(alloc, bytes, at)?;
             Ok((Body::Forward(entry), at))
         }
+        TRIM_ASK => trim_ask_at(bytes, at),
+        PROGRESS => progress_at(bytes, at),
+        TRIM => trim_at(bytes, at),
+        NEXT_CONF => next_conf_at(alloc, bytes, at),
+        ASK_BASE => Ok((Body::AskBase, at)),
+        BASE_PART => base_part_at(alloc, bytes, at),
+        ASK_SEGMENT => ask_segment_at(bytes, at),
+        SEGMENT => segment_at(alloc, bytes, at),
+        FORWARDS => forwards_at(alloc, bytes, at),
         _ => Err(TakeFail::Bad { at }),
     }
 }

@@ -3,10 +3,13 @@
 
 mod accepting;
 mod body;
+mod closed;
+mod forwards;
 mod heartbeats;
 mod laws;
 mod message;
 mod preparing;
+mod trimming;
 
-pub use laws::message_is_unambiguous;
+pub use laws::{message_is_unambiguous, short_message_fits};
 pub use message::{put, take};

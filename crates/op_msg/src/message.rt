@@ -3,17 +3,17 @@ ghost use Rattle.op_types.specs.declared.messages.Msg.{Msg};
 ghost use Rattle.op_fields.specs.Prefixes.{KeepsPrefix};
 ghost use Rattle.op_fields.specs.Form.{whole};
 ghost use Rattle.op_fields.specs.Taken.{Gives, IfBad};
-ghost use Rattle.op_msg.specs.Ranges.{MsgInRange};
-ghost use Rattle.op_msg.specs.Forms.{pid, msg, addressed};
+ghost use Rattle.op_msg.specs.Ranges.{MsgInRange, AddressedInRange};
+ghost use Rattle.op_msg.specs.Forms.{pid, kind, conf, msg, addressed};
 
-use crate::body::{FORWARD, HEARTBEAT_REQUEST, body_at, put_body, tag_of};
+use crate::body::{FORWARDS, HEARTBEAT_REQUEST, NEXT_CONF, SEGMENT, body_at, put_body, tag_of};
 use op_fields::{NoMemory, TakeFail, put_u8, put_u32, u8_in, u32_in};
-use op_types::{GREATEST_PID, LAST_CONF, Msg, Pid};
+use op_types::{ConfNo, GREATEST_PID, LAST_CONF, Msg, Pid};
 use std::alloc::Global;
 
 /// Appends a message with its sender and its addressee. Without memory nothing is appended.
 pub fn put(out: &mut Vec<u8>, from: Pid, to: Pid, m: &Msg) -> Result<(), NoMemory>
-    requires { addressed.fits (from, to, m.now) }
+    requires { AddressedInRange (from, to, m.now) }
     ensures ok { OnOk result (out.new.items ≡ out.old.items ++ addressed.text (from, to, m.now)) }
     ensures err { OnErr result (out.new.items ≡ out.old.items) }
 {
@@ -27,7 +27,7 @@ pub fn put(out: &mut Vec<u8>, from: Pid, to: Pid, m: &Msg) -> Result<(), NoMemor
 
 #[tactic(auto, using(op_fields::proofs::Prefixes::kept_through))]
 fn put_parts(out: &mut Vec<u8>, from: Pid, to: Pid, m: &Msg) -> Result<(), NoMemory>
-    requires { addressed.fits (from, to, m.now) }
+    requires { AddressedInRange (from, to, m.now) }
     ensures ok { OnOk result (out.new.items ≡ out.old.items ++ addressed.text (from, to, m.now)) }
     ensures err { OnErr result (KeepsPrefix out.old.items out.new.items) }
 {
@@ -95,8 +95,28 @@ fn pid_at(bytes: &[u8], at: usize) -> Result<(Pid, usize), TakeFail>
 fn msg_at(alloc: Global, bytes: &[u8], at: usize) -> Result<(Msg, usize), TakeFail>
     ensures { Gives result (msg.read bytes.now at) }
 {
-    let (tag, at) = u8_in(bytes, at, HEARTBEAT_REQUEST, FORWARD)?;
-    let (conf, at) = u32_in(bytes, at, 0, LAST_CONF)?;
+    let (tag, at) = tag_at(bytes, at)?;
+    let (conf, at) = conf_at(bytes, at, tag)?;
     let (body, at) = body_at(alloc, bytes, at, tag)?;
     Ok((Msg { conf, body }, at))
+}
+
+/// The tag of a message.
+fn tag_at(bytes: &[u8], at: usize) -> Result<(u8, usize), TakeFail>
+    ensures { Gives result (kind.read bytes.now at) }
+{
+    let (tag, next) = u8_in(bytes, at, HEARTBEAT_REQUEST, FORWARDS)?;
+    if tag <= SEGMENT || tag == FORWARDS {
+        Ok((tag, next))
+    } else {
+        Err(TakeFail::Bad { at })
+    }
+}
+
+/// The configuration of a message with this tag.
+fn conf_at(bytes: &[u8], at: usize, tag: u8) -> Result<(ConfNo, usize), TakeFail>
+    ensures { Gives result ((conf tag).read bytes.now at) }
+{
+    let least = if tag == NEXT_CONF { 2 } else { 0 };
+    u32_in(bytes, at, least, LAST_CONF)
 }

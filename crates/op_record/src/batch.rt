@@ -3,11 +3,14 @@ ghost use Rattle.op_fields.specs.Prefixes.{KeepsPrefix};
 ghost use Rattle.op_fields.specs.Form.{items_read};
 ghost use Rattle.op_fields.specs.Items.{GivesItem};
 ghost use Rattle.op_fields.specs.Taken.{Gives, GivesVec};
-ghost use Rattle.op_record.specs.Forms.{change, batch};
+ghost use Rattle.op_record.specs.Ranges.{ChangeInRange, BatchInRange};
+ghost use Rattle.op_record.specs.Forms.{flag, change_options, change, batch};
 
-use op_entry::{ballot_at, entries_at, put_ballot, put_entries};
-use op_fields::{NoMemory, TakeFail, items_at, put_u8, put_u64, u8_in, u64_in};
-use op_types::{Batch, Change, POSITIONS_END, Seq};
+use crate::base::{base_at, put_base};
+use crate::part::place_at;
+use op_entry::{ballot_at, entries_at, members_at, put_ballot, put_entries, put_members};
+use op_fields::{NoMemory, TakeFail, items_at, put_u8, put_u32, put_u64, u8_in, u32_in, u64_in};
+use op_types::{Batch, Change, GREATEST_PID, LAST_CONF, ListLen, POSITIONS_END, Seq};
 use std::alloc::Global;
 
 /// How many changes a batch has at most: their count is one byte.
@@ -24,10 +27,24 @@ const APPEND: u8 = 4;
 
 const DECIDED: u8 = 5;
 
+const TRIM: u8 = 6;
+
+const CLOSE: u8 = 7;
+
+const JOIN_BEGIN: u8 = 8;
+
+const JOIN_DONOR: u8 = 9;
+
+const JOIN_BASE: u8 = 10;
+
+const JOIN_PART: u8 = 11;
+
+const JOIN_DONE: u8 = 12;
+
 /// Appends a batch. Without memory a part of it may be appended.
 #[tactic(auto, using(op_fields::proofs::Prefixes::kept_through))]
 pub fn put_batch(out: &mut Vec<u8>, changes: &Batch) -> Result<(), NoMemory>
-    requires { batch.fits changes.now }
+    requires { BatchInRange changes.now }
     ensures ok { OnOk result (out.new.items ≡ out.old.items ++ batch.text changes.now) }
     ensures err { OnErr result (KeepsPrefix out.old.items out.new.items) }
 {
@@ -40,7 +57,7 @@ pub fn put_batch(out: &mut Vec<u8>, changes: &Batch) -> Result<(), NoMemory>
 
 #[tactic(auto, using(op_fields::proofs::Prefixes::kept_through))]
 fn put_change(out: &mut Vec<u8>, c: &Change) -> Result<(), NoMemory>
-    requires { change.fits c.now }
+    requires { ChangeInRange c.now }
     ensures ok { OnOk result (out.new.items ≡ out.old.items ++ change.text c.now) }
     ensures err { OnErr result (KeepsPrefix out.old.items out.new.items) }
 {
@@ -65,7 +82,50 @@ fn put_change(out: &mut Vec<u8>, c: &Change) -> Result<(), NoMemory>
             put_u8(out, DECIDED)?;
             put_u64(out, *len)
         }
+        Change::Trim(len, base) => {
+            put_u8(out, TRIM)?;
+            put_u64(out, *len)?;
+            put_base(out, base)
+        }
+        Change::Close(named, base) => {
+            put_u8(out, CLOSE)?;
+            put_flag(out, *named)?;
+            put_base(out, base)
+        }
+        Change::JoinBegin(conf, members, olds, len) => {
+            put_u8(out, JOIN_BEGIN)?;
+            put_u32(out, *conf)?;
+            put_members(out, members)?;
+            put_members(out, olds)?;
+            put_u64(out, len.get())
+        }
+        Change::JoinDonor(donor, trimmed) => {
+            put_u8(out, JOIN_DONOR)?;
+            put_u32(out, *donor)?;
+            put_u64(out, *trimmed)
+        }
+        Change::JoinBase(place, base) => {
+            put_u8(out, JOIN_BASE)?;
+            put_u64(out, *place)?;
+            put_base(out, base)
+        }
+        Change::JoinPart(place, entries) => {
+            put_u8(out, JOIN_PART)?;
+            put_u64(out, *place)?;
+            put_entries(out, entries.as_slice())
+        }
+        Change::JoinDone(base) => {
+            put_u8(out, JOIN_DONE)?;
+            put_base(out, base)
+        }
     }
+}
+
+fn put_flag(out: &mut Vec<u8>, yes: bool) -> Result<(), NoMemory>
+    ensures ok { OnOk result (out.new.items ≡ out.old.items ++ flag.text yes) }
+    ensures err { OnErr result (KeepsPrefix out.old.items out.new.items) }
+{
+    put_u8(out, if yes { 1 } else { 0 })
 }
 
 /// The batch at a byte offset, and the offset after it.
@@ -101,7 +161,7 @@ fn change_items_at(
 fn change_at(alloc: Global, bytes: &[u8], at: usize) -> Result<(Change, usize), TakeFail>
     ensures { Gives result (change.read bytes.now at) }
 {
-    let (tag, at) = u8_in(bytes, at, PROMISE, DECIDED)?;
+    let (tag, at) = u8_in(bytes, at, PROMISE, JOIN_DONE)?;
     match tag {
         PROMISE => {
             let (ballot, at) = ballot_at(bytes, at)?;
@@ -123,6 +183,74 @@ fn change_at(alloc: Global, bytes: &[u8], at: usize) -> Result<(Change, usize), 
             let (len, at) = u64_in(bytes, at, 0, POSITIONS_END)?;
             Ok((Change::Decided(len), at))
         }
+        TRIM => trim_at(alloc, bytes, at),
+        CLOSE => close_at(alloc, bytes, at),
+        JOIN_BEGIN => begin_at(alloc, bytes, at),
+        JOIN_DONOR => new_donor_at(bytes, at),
+        JOIN_BASE => place_base_at(alloc, bytes, at),
+        JOIN_PART => place_entries_at(alloc, bytes, at),
+        JOIN_DONE => {
+            let (base, at) = base_at(alloc, bytes, at)?;
+            Ok((Change::JoinDone(base), at))
+        }
         _ => Err(TakeFail::Bad { at }),
     }
+}
+
+fn trim_at(alloc: Global, bytes: &[u8], at: usize) -> Result<(Change, usize), TakeFail>
+    ensures { Gives result (change_options 6 bytes.now at) }
+{
+    let (place, at) = place_at(bytes, at)?;
+    let (base, at) = base_at(alloc, bytes, at)?;
+    Ok((Change::Trim(place, base), at))
+}
+
+fn close_at(alloc: Global, bytes: &[u8], at: usize) -> Result<(Change, usize), TakeFail>
+    ensures { Gives result (change_options 7 bytes.now at) }
+{
+    let (named, at) = flag_at(bytes, at)?;
+    let (base, at) = base_at(alloc, bytes, at)?;
+    Ok((Change::Close(named, base), at))
+}
+
+fn flag_at(bytes: &[u8], at: usize) -> Result<(bool, usize), TakeFail>
+    ensures { Gives result (flag.read bytes.now at) }
+{
+    let (yes, at) = u8_in(bytes, at, 0, 1)?;
+    Ok((yes == 1, at))
+}
+
+fn begin_at(alloc: Global, bytes: &[u8], at: usize) -> Result<(Change, usize), TakeFail>
+    ensures { Gives result (change_options 8 bytes.now at) }
+{
+    let (conf, at) = u32_in(bytes, at, 2, LAST_CONF)?;
+    let (members, at) = members_at(alloc, bytes, at)?;
+    let (olds, at) = members_at(alloc, bytes, at)?;
+    let (len, at) = u64_in(bytes, at, 1, POSITIONS_END)?;
+    let len = ListLen::new(alloc, len)?;
+    Ok((Change::JoinBegin(conf, members, olds, len), at))
+}
+
+fn new_donor_at(bytes: &[u8], at: usize) -> Result<(Change, usize), TakeFail>
+    ensures { Gives result (change_options 9 bytes.now at) }
+{
+    let (donor, at) = u32_in(bytes, at, 1, GREATEST_PID)?;
+    let (trimmed, at) = place_at(bytes, at)?;
+    Ok((Change::JoinDonor(donor, trimmed), at))
+}
+
+fn place_base_at(alloc: Global, bytes: &[u8], at: usize) -> Result<(Change, usize), TakeFail>
+    ensures { Gives result (change_options 10 bytes.now at) }
+{
+    let (place, at) = place_at(bytes, at)?;
+    let (base, at) = base_at(alloc, bytes, at)?;
+    Ok((Change::JoinBase(place, base), at))
+}
+
+fn place_entries_at(alloc: Global, bytes: &[u8], at: usize) -> Result<(Change, usize), TakeFail>
+    ensures { Gives result (change_options 11 bytes.now at) }
+{
+    let (place, at) = place_at(bytes, at)?;
+    let (entries, at) = entries_at(alloc, bytes, at)?;
+    Ok((Change::JoinPart(place, entries), at))
 }

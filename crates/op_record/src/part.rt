@@ -1,24 +1,21 @@
-ghost use Rattle.std.specs.Prelude.{◌≡◌, ◌≤◌, ◌++◌, OnOk, OnErr, IfOk};
+ghost use Rattle.std.specs.Prelude.{◌≡◌, ◌≤◌, ◌^◌, ◌++◌, length, OnOk, OnErr, IfOk};
 ghost use Rattle.op_fields.specs.Prefixes.{KeepsPrefix};
-ghost use Rattle.op_fields.specs.Taken.{Gives};
-ghost use Rattle.op_record.specs.Forms.{base, trimmed, log, log_of_part, part};
+ghost use Rattle.op_fields.specs.Form.{items_read};
+ghost use Rattle.op_fields.specs.Items.{GivesItem};
+ghost use Rattle.op_fields.specs.Taken.{Gives, GivesVec};
+ghost use Rattle.op_record.specs.Ranges.{PartInRange};
+ghost use Rattle.op_record.specs.Forms.{may_stand, entry_in, entries_in, place, log, log_of_part, part};
 
-use op_entry::{
-    ballot_at, blob_of, entries_within_at, members_at, put_ballot, put_entries, put_members,
-};
-use op_fields::{
-    NoMemory, TakeFail, bytes_after_u64, put_counted, put_u32, put_u64, u32_in, u64_in,
-};
-use op_types::{Blob, Entries, LAST_CONF, POSITIONS_END, Part, Reserved};
+use crate::base::{base_at, put_base};
+use op_entry::{ballot_at, entry_at, members_at, put_ballot, put_entries, put_members};
+use op_fields::{NoMemory, TakeFail, items_at, put_u32, put_u64, u32_in, u64_in};
+use op_types::{ConfNo, Entries, Entry, LAST_CONF, POSITIONS_END, Part, Reserved, Seq};
 use std::alloc::Global;
-
-/// The snapshot of a service that applied nothing: no pairs and no clients.
-const EMPTY_BASE: [u8; 16] = [0; 16];
 
 /// Appends a part. Without memory a part of its bytes may be appended.
 #[tactic(auto, using(op_fields::proofs::Prefixes::kept_through))]
 pub fn put_part(out: &mut Vec<u8>, p: &Part) -> Result<(), NoMemory>
-    requires { part.fits p.now }
+    requires { PartInRange p.now }
     ensures ok { OnOk result (out.new.items ≡ out.old.items ++ part.text p.now) }
     ensures err { OnErr result (KeepsPrefix out.old.items out.new.items) }
 {
@@ -30,18 +27,10 @@ pub fn put_part(out: &mut Vec<u8>, p: &Part) -> Result<(), NoMemory>
     put_log(out, p)
 }
 
-fn put_base(out: &mut Vec<u8>, bytes: &Blob) -> Result<(), NoMemory>
-    requires { base.fits bytes.now }
-    ensures ok { OnOk result (out.new.items ≡ out.old.items ++ base.text bytes.now) }
-    ensures err { OnErr result (KeepsPrefix out.old.items out.new.items) }
-{
-    put_counted(out, 8, bytes.as_slice())
-}
-
 #[tactic(auto, using(op_fields::proofs::Prefixes::kept_through))]
 fn put_log(out: &mut Vec<u8>, p: &Part) -> Result<(), NoMemory>
-    requires { part.fits p.now }
-    ensures ok { OnOk result (out.new.items ≡ out.old.items ++ log.text (log_of_part p.now)) }
+    requires { PartInRange p.now }
+    ensures ok { OnOk result (out.new.items ≡ out.old.items ++ (log p.now.conf).text (log_of_part p.now)) }
     ensures err { OnErr result (KeepsPrefix out.old.items out.new.items) }
 {
     put_u64(out, p.trimmed)?;
@@ -58,7 +47,7 @@ pub fn part_at(alloc: Global, bytes: &[u8], at: usize) -> Result<(Part, usize), 
     let (promised, at) = ballot_at(bytes, at)?;
     let (accepted, at) = ballot_at(bytes, at)?;
     let (base, at) = base_at(alloc, bytes, at)?;
-    let ((trimmed, (tail, decided)), at) = log_at(alloc, bytes, at)?;
+    let ((trimmed, (tail, decided)), at) = log_at(alloc, bytes, at, conf)?;
     let part = Part {
         conf,
         members,
@@ -72,32 +61,88 @@ pub fn part_at(alloc: Global, bytes: &[u8], at: usize) -> Result<(Part, usize), 
     Ok((part, at))
 }
 
-fn base_at(alloc: Global, bytes: &[u8], at: usize) -> Result<(Blob, usize), TakeFail>
-    ensures { Gives result (base.read bytes.now at) }
-{
-    let (base, next) = bytes_after_u64(bytes, at, 0, POSITIONS_END)?;
-    if base != EMPTY_BASE.as_slice() {
-        return Err(TakeFail::Bad { at });
-    }
-    Ok((blob_of(alloc, base)?, next))
-}
-
 /// How much is trimmed, the entries after it, and how much is decided.
 type Log = (u64, (Entries, u64));
 
-fn log_at(alloc: Global, bytes: &[u8], at: usize) -> Result<(Log, usize), TakeFail>
-    ensures { Gives result (log.read bytes.now at) }
+fn log_at(alloc: Global, bytes: &[u8], at: usize, conf: ConfNo) -> Result<(Log, usize), TakeFail>
+    ensures { Gives result ((log conf).read bytes.now at) }
 {
-    let (trimmed, at) = trimmed_at(bytes, at)?;
-    let (tail, at) = entries_within_at(alloc, bytes, at, POSITIONS_END - trimmed)?;
+    let (trimmed, at) = place_at(bytes, at)?;
+    let (tail, at) = entries_in_at(alloc, bytes, at, conf, POSITIONS_END - trimmed)?;
     let end = trimmed + tail.len() as u64;
     let (decided, at) = u64_in(bytes, at, trimmed, end)?;
     Ok(((trimmed, (tail, decided)), at))
 }
 
-fn trimmed_at(bytes: &[u8], at: usize) -> Result<(u64, usize), TakeFail>
-    ensures read { Gives result (trimmed.read bytes.now at) }
-    ensures range { IfOk result (λ x. x.0 ≤ 0) }
+/// The position at a byte offset, and the offset after it.
+pub fn place_at(bytes: &[u8], at: usize) -> Result<(u64, usize), TakeFail>
+    ensures read { Gives result (place.read bytes.now at) }
+    ensures range { IfOk result (λ x. x.0 ≤ 2 ^ 62) }
 {
-    u64_in(bytes, at, 0, 0)
+    u64_in(bytes, at, 0, POSITIONS_END)
+}
+
+/// The entries of a configuration at a byte offset, if there are at most `most`, and the offset after them.
+fn entries_in_at(
+    alloc: Global,
+    bytes: &[u8],
+    at: usize,
+    conf: ConfNo,
+    most: u64,
+) -> Result<(Entries, usize), TakeFail>
+    ensures read { Gives result ((entries_in conf most).read bytes.now at) }
+    ensures range { IfOk result (λ x. length x.0 ≤ most) }
+{
+    let (count, at) = u64_in(bytes, at, 0, most)?;
+    let (items, at) = entry_items_at(alloc, count, bytes, at, conf)?;
+    Ok((Seq::from_vec(items), at))
+}
+
+fn entry_items_at(
+    alloc: Global,
+    count: u64,
+    bytes: &[u8],
+    first: usize,
+    conf: ConfNo,
+) -> Result<(Vec<Entry>, usize), TakeFail>
+    ensures { GivesVec result (items_read (λ _. entry_in conf) (λ _. 0) count 0 bytes.now first) }
+{
+    items_at(
+        alloc,
+        count,
+        first,
+        |at, _|
+            ensures { GivesItem (λ _. 0) result ((entry_in conf).read bytes.entry.now at) }
+        {
+            let (entry, next) = entry_in_at(alloc, bytes, at, conf)?;
+            Ok((entry, 0, next))
+        },
+    )
+}
+
+/// The entry of a configuration at a byte offset, and the offset after it.
+fn entry_in_at(
+    alloc: Global,
+    bytes: &[u8],
+    at: usize,
+    conf: ConfNo,
+) -> Result<(Entry, usize), TakeFail>
+    ensures { Gives result ((entry_in conf).read bytes.now at) }
+{
+    let (entry, next) = entry_at(alloc, bytes, at)?;
+    if may_stand(conf, &entry) {
+        Ok((entry, next))
+    } else {
+        Err(TakeFail::Bad { at })
+    }
+}
+
+/// Whether an entry may stand in a configuration: the last one has no stop-sign.
+fn may_stand(conf: ConfNo, entry: &Entry) -> bool
+    ensures { result ≡ may_stand conf entry.now }
+{
+    match entry {
+        Entry::Command(_) => true,
+        Entry::Stop(_) => conf != LAST_CONF,
+    }
 }

@@ -1,7 +1,6 @@
 -- What is said in words has a name, which comes first, and a session's servers differ.
-use Rattle.std.specs.Prelude.{bytes_eq, ◌||◌}
-use Rattle.std.proofs.Common.{Bool, true, false, ◌≡◌, ℕ, List, [], ◌∷◌, get_or, length, ◌<◌, refl, sym, ap, ◌∙◌, map, arith}
-use Rattle.std.proofs.lemmas.List.{length-map}
+use Rattle.std.proofs.Common.{true, ◌≡◌, ℕ, List, [], ◌∷◌, get_or, length, take, drop, ◌-◌, ◌<◌, refl, sym, ap, subst, ◌∙◌, map, arith, length-drop}
+use Rattle.std.proofs.lemmas.List.{length-map, drop-map, take_all}
 use Rattle.std.specs.Fmt.{decimal}
 use Rattle.std.proofs.lemmas.Fmt.{decimal_injective}
 use Rattle.std.specs.Prelude.{codes}
@@ -9,28 +8,22 @@ use Rattle.std.proofs.lemmas.Bool.{false≢true}
 use Rattle.std.proofs.lemmas.Slice.Eq.{bytes_eq-Decides}
 use Rattle.op_types.specs.declared.log.Op.{Op}
 use Rattle.op_types.specs.declared.log.Op.TheVariants.{Put, Del, Get, Cas}
-use Rattle.op_types.specs.declared.events.What.{What}
-use Rattle.op_types.specs.declared.events.What.TheVariants as what
-use Rattle.op_types.specs.Ranges.{IsPid}
+use Rattle.op_runs.specs.declared.events.What.{What}
+use Rattle.op_runs.specs.declared.events.What.TheVariants as what
+use Rattle.op_types.specs.declared.log.Command.{Command}
+use Rattle.op_types.specs.Ranges.{IsPid, IsNumber, CommandInRange}
 use Rattle.op_sched.specs.declared.reading.forms.Form.{Form}
 use Rattle.op_sched.specs.declared.reading.forms.Form.TheVariants as form
 use Rattle.op_sched.specs.declared.reading.operations.OpForm.{OpForm}
 use Rattle.op_sched.specs.declared.reading.operations.OpForm.TheVariants as op_form
 use Rattle.op_sched.specs.Forms.{op_form_name, form_name, ArePeers}
-use Rattle.op_sched.specs.Grammar.{AreWordsOf, op_name, operands, what_words}
+use Rattle.std.proofs.lemmas.List.Elements.{All-nil, All-cons}
+use Rattle.op_text.specs.Operations.{OpIsOfBytes, AreOperandsOf, op_name, operands}
+use Rattle.op_text.proofs.Operations.{first, after_first, is_op_name, no_op}
+use Rattle.op_sched.specs.Grammar.{ProposesOne, AreWordsOf, op_words, what_words}
 use Rattle.op_sched.proofs.WordLists.{word_at}
 
 -- ---- the name
-
--- the first word
-abbrev pub first : List (List ℕ) → List ℕ
-first [] = []
-first (a ∷ more) = a
-
--- the words after the first one
-abbrev pub after_first : List (List ℕ) → List (List ℕ)
-after_first [] = []
-after_first (a ∷ more) = more
 
 -- the form of an operation
 abbrev pub op_form_by : Op → OpForm
@@ -42,7 +35,10 @@ op_form_by (Cas k v u) = op_form.Cas
 -- the form of what happens
 abbrev pub form_by : What → Form
 form_by (what.Tick p) = form.Tick
-form_by (what.Command p c) = form.Command (op_form_by c.op)
+form_by (what.Commands p []) = form.Tick
+form_by (what.Commands p (c ∷ cs)) = form.Command (op_form_by c.op)
+form_by (what.Stop p members) = form.Stop
+form_by (what.Trim p) = form.Trim
 form_by (what.Deliver i) = form.Deliver
 form_by (what.Up p q) = form.Up
 form_by (what.Down p q) = form.Drop
@@ -62,20 +58,20 @@ op_named (Get k) = refl
 op_named (Cas k v u) = refl
 
 -- it is that of its form
-named : (w : What) → name_of w ≡ form_name (form_by w)
-named (what.Command p c) = op_named c.op
-named (what.Tick p) = refl
-named (what.Deliver i) = refl
-named (what.Up p q) = refl
-named (what.Down p q) = refl
-named (what.Crash p) = refl
-named (what.Start p) = refl
-named (what.Show p) = refl
-named (what.Ballots p) = refl
-
--- an operation's name
-abbrev pub is_op_name : List ℕ → Bool
-is_op_name name = bytes_eq name (codes "put") || bytes_eq name (codes "del") || bytes_eq name (codes "get") || bytes_eq name (codes "cas")
+named : (w : What) → ProposesOne w → name_of w ≡ form_name (form_by w)
+named (what.Commands p []) one = absurd (omega (arith, one))
+named (what.Commands p (c ∷ [])) one = op_named c.op
+named (what.Commands p (c ∷ (d ∷ cs))) one = absurd (omega (arith, one))
+named (what.Tick p) one = refl
+named (what.Stop p members) one = refl
+named (what.Trim p) one = refl
+named (what.Deliver i) one = refl
+named (what.Up p q) one = refl
+named (what.Down p q) one = refl
+named (what.Crash p) one = refl
+named (what.Start p) one = refl
+named (what.Show p) one = refl
+named (what.Ballots p) one = refl
 
 form_has_op_name : (f : OpForm) → is_op_name (op_form_name f) ≡ true
 form_has_op_name op_form.Put = refl
@@ -83,20 +79,88 @@ form_has_op_name op_form.Del = refl
 form_has_op_name op_form.Get = refl
 form_has_op_name op_form.Cas = refl
 
--- another name is no operation's
-pub no_op : (op : Op) (name : List ℕ) → is_op_name name ≡ false → op_name op ≡ name → ⊥
-no_op op name other e = false≢true (sym other ∙ ap is_op_name (sym e ∙ op_named op) ∙ form_has_op_name (op_form_by op))
-
 -- a word that names no form begins no event's line
 pub no_event : (name : List ℕ) (words : List (List ℕ)) → ((f : Form) → name ≡ form_name f → ⊥) → (w : What) → AreWordsOf (name ∷ words) w → ⊥
-no_event name words none w h = none (form_by w) (ap first h.written ∙ named w)
+no_event name words none w h = none (form_by w) (ap first h.written ∙ named w h.one)
 
 -- words that begin with an operation's name are a command's, and there are three at least behind it
 pub no_command : {A : Type 0} (now : A → List ℕ) (words : List A) (f : OpForm) → length words < 3 → (w : What) → AreWordsOf (op_form_name f ∷ map now words) w → ⊥
-no_command now words f short (what.Command p c) h =
+no_command now words f short (what.Commands p []) h = absurd (omega (arith, h.one))
+no_command now words f short (what.Commands p (c ∷ (d ∷ cs))) h = absurd (omega (arith, h.one))
+no_command now words f short (what.Commands p (c ∷ [])) h =
     let long : map now words ≡ decimal p ∷ decimal c.client ∷ decimal c.seq ∷ operands c.op = ap after_first h.written in
     omega (arith, short, sym (length-map words now) ∙ ap length long)
 no_command now words f short w h = false≢true (sym (ap is_op_name (ap first h.written)) ∙ form_has_op_name f)
+
+-- a line of spares is no event's
+no_form_of_spares : (f : Form) → codes "spares" ≡ form_name f → ⊥
+no_form_of_spares (form.Command f) e = false≢true (ap is_op_name e ∙ form_has_op_name f)
+no_form_of_spares f e = absurd (false≢true ((bytes_eq-Decides (codes "spares") (form_name f)).1 e))
+
+pub no_spares : (words ids : List (List ℕ)) (w : What) → words ≡ codes "spares" ∷ ids → AreWordsOf words w → ⊥
+no_spares words ids w e h = no_form_of_spares (form_by w) (ap first (sym e ∙ h.written) ∙ named w h.one)
+
+-- ---- a command
+
+-- a command alone is said by its words
+pub says_one : (p : ℕ) (c : Command) (cs : List Command) (words : List (List ℕ)) → cs ≡ c ∷ [] → IsPid p → CommandInRange c → OpIsOfBytes c.op → words ≡ op_words p c.client c.seq c.op → AreWordsOf words (what.Commands p cs)
+says_one p c cs words is at range bytes written =
+    let one : AreWordsOf words (what.Commands p (c ∷ [])) =
+    record {
+      in_range = (at, record { each = All-cons CommandInRange c [] range (All-nil CommandInRange); some = omega arith; few = omega arith });
+      of_bytes = All-cons (λ (d : Command). OpIsOfBytes d.op) c [] bytes (All-nil (λ (d : Command). OpIsOfBytes d.op));
+      between = tt;
+      one = refl;
+      written = written;
+    } in
+    subst (λ (ds : List Command). AreWordsOf words (what.Commands p ds)) (sym is) one
+
+-- what words say that begin with an operation's name
+pub record SaysCommand (f : OpForm) (words : List (List ℕ)) : Type 0 where
+  pub p : ℕ
+  pub c : Command
+  pub at : IsPid p
+  pub range : CommandInRange c
+  pub bytes : OpIsOfBytes c.op
+  pub named : op_form_name f ≡ op_name c.op
+  pub rest : words ≡ decimal p ∷ decimal c.client ∷ decimal c.seq ∷ operands c.op
+
+command_says : (f : OpForm) (words : List (List ℕ)) (w : What) → AreWordsOf (op_form_name f ∷ words) w → SaysCommand f words
+command_says f words (what.Commands p []) h = absurd (omega (arith, h.one))
+command_says f words (what.Commands p (c ∷ (d ∷ cs))) h = absurd (omega (arith, h.one))
+command_says f words (what.Commands p (c ∷ [])) h =
+    record {
+      p = p;
+      c = c;
+      at = h.in_range.0;
+      range = h.in_range.1.each 0 c (omega arith);
+      bytes = h.of_bytes 0 c (omega arith);
+      named = ap first h.written;
+      rest = ap after_first h.written;
+    }
+command_says f words w h = absurd (false≢true (sym (ap is_op_name (ap first h.written)) ∙ form_has_op_name f))
+
+-- a command's words are a server, a client, a number and the operation's own
+pub no_server : {A : Type 0} (now : A → List ℕ) (words : List A) (f : OpForm) (d : A) → ((p : ℕ) → IsPid p × (now (get_or words 0 d) ≡ decimal p) → ⊥) → (w : What) → AreWordsOf (op_form_name f ∷ map now words) w → ⊥
+no_server now words f d none w h =
+    let s = command_says f (map now words) w h in
+    none s.p (s.at, word_at now words 0 d _ s.rest)
+
+pub no_client : {A : Type 0} (now : A → List ℕ) (words : List A) (f : OpForm) (d : A) → ((n : ℕ) → IsNumber n × (now (get_or words 1 d) ≡ decimal n) → ⊥) → (w : What) → AreWordsOf (op_form_name f ∷ map now words) w → ⊥
+no_client now words f d none w h =
+    let s = command_says f (map now words) w h in
+    none s.c.client (s.range.client, word_at now words 1 d _ s.rest)
+
+pub no_number : {A : Type 0} (now : A → List ℕ) (words : List A) (f : OpForm) (d : A) → ((n : ℕ) → IsNumber n × (now (get_or words 2 d) ≡ decimal n) → ⊥) → (w : What) → AreWordsOf (op_form_name f ∷ map now words) w → ⊥
+no_number now words f d none w h =
+    let s = command_says f (map now words) w h in
+    none s.c.seq (s.range.seq, word_at now words 2 d _ s.rest)
+
+pub no_operation : {A : Type 0} (now : A → List ℕ) (words : List A) (f : OpForm) → ((op : Op) → AreOperandsOf (op_form_name f) (map now (take (length words - 3) (drop 3 words))) op → ⊥) → (w : What) → AreWordsOf (op_form_name f ∷ map now words) w → ⊥
+no_operation now words f none w h =
+    let s = command_says f (map now words) w h in
+    let all = take_all (length words - 3) (drop 3 words) (omega (arith, length-drop 3 words)) in
+    none s.c.op (record { in_range = s.range.op; of_bytes = s.bytes; named = s.named; written = ap (map now) all ∙ sym (drop-map now 3 words) ∙ ap (drop 3) s.rest })
 
 -- ---- a session
 
@@ -118,11 +182,15 @@ NameNoPeers words = (x : ℕ × ℕ) → ArePeers x.0 x.1 × (words ≡ decimal 
 -- such words begin no session
 pub no_up : (words : List (List ℕ)) → NameNoPeers words → (w : What) → AreWordsOf (codes "up" ∷ words) w → ⊥
 no_up words none (what.Up p q) h = none (p, q) ((h.in_range.0, h.in_range.1, h.between), ap after_first h.written)
-no_up words none (what.Command p c) h = no_op c.op (codes "up") refl (sym (ap first h.written))
+no_up words none (what.Commands p []) h = absurd (omega (arith, h.one))
+no_up words none (what.Commands p (c ∷ (d ∷ cs))) h = absurd (omega (arith, h.one))
+no_up words none (what.Commands p (c ∷ [])) h = no_op c.op (codes "up") refl (sym (ap first h.written))
 no_up words none w h = absurd (false≢true ((bytes_eq-Decides (codes "up") (name_of w)).1 (ap first h.written)))
 
 -- and end none
 pub no_down : (words : List (List ℕ)) → NameNoPeers words → (w : What) → AreWordsOf (codes "drop" ∷ words) w → ⊥
 no_down words none (what.Down p q) h = none (p, q) ((h.in_range.0, h.in_range.1, h.between), ap after_first h.written)
-no_down words none (what.Command p c) h = no_op c.op (codes "drop") refl (sym (ap first h.written))
+no_down words none (what.Commands p []) h = absurd (omega (arith, h.one))
+no_down words none (what.Commands p (c ∷ (d ∷ cs))) h = absurd (omega (arith, h.one))
+no_down words none (what.Commands p (c ∷ [])) h = no_op c.op (codes "drop") refl (sym (ap first h.written))
 no_down words none w h = absurd (false≢true ((bytes_eq-Decides (codes "drop") (name_of w)).1 (ap first h.written)))

@@ -1,9 +1,6 @@
 pub mod LineEnds
 pub mod UnambiguousSchedules
-pub mod UnambiguousEncoding
-pub mod PlainBytes
 pub mod WordLists
-pub mod Decoding
-pub mod FoundAlike
 pub mod EventWords
 pub mod RisingIds
+pub mod Spares

@@ -1,7 +1,6 @@
 -- A text begins with the line that ends at its first LF.
-use Rattle.std.proofs.Common.{◌≡◌, ℕ, ◌+◌, ◌-◌, ◌<◌, ◌≤◌, Bool, cond, eqb, ltb, Option, Some, None, List, [], ◌∷◌, length, take, drop, refl, ap, ◌∙◌, arith, length-drop}
+use Rattle.std.proofs.Common.{◌≡◌, ℕ, ◌+◌, ◌<◌, ◌≤◌, Bool, cond, eqb, ltb, Option, Some, None, List, [], ◌∷◌, length, take, drop, refl, ap, ◌∙◌, arith}
 use Rattle.std.proofs.lemmas.Bool.Decides.{nat_tests}
-use Rattle.std.proofs.lemmas.List.{take_all}
 use Rattle.std.proofs.lemmas.List.Splits.{slice_split_none, slice_split_first, length-slice_split}
 use Rattle.std.proofs.lemmas.List.Sums.{fails_before_first}
 use Rattle.std.specs.List.{slice_split, position_or_len}
@@ -29,10 +28,6 @@ one_kept n parts some = grind (arith, nat_tests)
 
 without_empty_end-one : (part : List ℕ) → 0 < length part → without_empty_end (part ∷ []) ≡ part ∷ []
 without_empty_end-one part some = one_kept (length part) (part ∷ []) some
-
--- what a slice from an index on has
-pub rest_of : (n : ℕ) (text : List ℕ) → take (length text - n) (drop n text) ≡ drop n text
-rest_of n text = take_all (length text - n) (drop n text) (omega (arith, length-drop n text))
 
 -- a text without LF is one line
 pub lines_of-one : (text : List ℕ) → 0 < length text → line_end text ≡ None → lines_of text ≡ text ∷ []

@@ -3,9 +3,8 @@ use Rattle.std.proofs.Common.{◌≡◌, ℕ, ◌+◌, ◌<◌, ◌≤◌, List,
 use Rattle.std.specs.Fmt.{decimal}
 use Rattle.std.proofs.lemmas.List.{at_drop_more, drop_all, length-map}
 use Rattle.std.proofs.lemmas.Fmt.{decimal_injective}
-use Rattle.op_types.specs.Limits.{most_members}
 use Rattle.op_types.specs.Ranges.{IsPid, AreRising}
-use Rattle.op_sched.specs.Forms.{AreMembersOf}
+use Rattle.op_sched.specs.Forms.{AreIdsOf}
 
 -- the words are ids that rise from above `low`
 abbrev pub AreIds : ℕ → List (List ℕ) → List ℕ → Type 0
@@ -32,16 +31,16 @@ none_by : (low : ℕ) (word : List ℕ) (rest : List (List ℕ)) → IsNoIdAbove
 none_by low word rest bad [] h = absurd (let e : word ∷ rest ≡ [] = h.1 in cc)
 none_by low word rest bad (id ∷ ids) h = bad id h.0.0 (omega (arith, h.0.0), h.0.1) cc
 
--- words that name no rising ids name no members
-no_members : (words : List (List ℕ)) → NameNone 0 words → (ids : List ℕ) → AreMembersOf words ids → ⊥
-no_members words none ids h = none ids (h.0.rising, h.1)
+-- words that name no rising ids are of none
+none_of : (most : ℕ) (words : List (List ℕ)) → NameNone 0 words → (ids : List ℕ) → AreIdsOf most words ids → ⊥
+none_of most words none ids h = none ids (h.2, h.3)
 
--- where the next word is no id above the last one, the words name no members
-pub stops_at : {A : Type 0} (now : A → List ℕ) (ws : List A) (i : ℕ) (d : A) (ids : List ℕ) (last : ℕ) → i < length ws → AreReadTo ids last (map now (drop i ws)) (map now ws) → IsNoIdAbove last (now (get_or ws i d))
-    → (all : List ℕ) → AreMembersOf (map now ws) all → ⊥
-stops_at now ws i d ids last lt before bad =
+-- where the next word is no id above the last one, the words are no rising ids
+pub stops_at : {A : Type 0} (most : ℕ) (now : A → List ℕ) (ws : List A) (i : ℕ) (d : A) (ids : List ℕ) (last : ℕ) → i < length ws → AreReadTo ids last (map now (drop i ws)) (map now ws) → IsNoIdAbove last (now (get_or ws i d))
+    → (all : List ℕ) → AreIdsOf most (map now ws) all → ⊥
+stops_at most now ws i d ids last lt before bad =
     let here = rw (at_drop_more (map now) ws i d lt) at before in
-    no_members (map now ws) (here.none (none_by last (now (get_or ws i d)) (map now (drop (i + 1) ws)) bad))
+    none_of most (map now ws) (here.none (none_by last (now (get_or ws i d)) (map now (drop (i + 1) ws)) bad))
 
 none_after : (low id : ℕ) (rest : List (List ℕ)) → IsPid id → NameNone id rest → NameNone low (decimal id ∷ rest)
 none_after low id rest is none [] h = absurd (let e : decimal id ∷ rest ≡ [] = h.1 in cc)
@@ -63,14 +62,14 @@ read_more now ws i d ids more last id lt before above is e one =
     let here = rw (at_drop_more (map now) ws i d lt) at before in
     rw one (one_more ids last id (now (get_or ws i d)) (map now (drop (i + 1) ws)) (map now ws) here above is e)
 
-all_of : (ids : List ℕ) (last : ℕ) (words : List (List ℕ)) → AreReadTo ids last [] words → 1 ≤ length words → length words ≤ most_members → AreMembersOf words ids
-all_of ids last words before some few =
+all_of : (most : ℕ) (ids : List ℕ) (last : ℕ) (words : List (List ℕ)) → AreReadTo ids last [] words → 1 ≤ length words → length words ≤ most → AreIdsOf most words ids
+all_of most ids last words before some few =
     let all : AreIds 0 words ids = rw append-nil at (before.found [] (tt, refl)) in
     let count : length words ≡ length ids = ap (length {A = List ℕ}) all.1 ∙ length-map ids decimal in
-    (record { some = omega (arith, count); few = omega (arith, count); rising = all.0 }, all.1)
+    (omega (arith, count), omega (arith, count), all.0, all.1)
 
 -- all words are read
-pub read_all : {A : Type 0} (now : A → List ℕ) (ws : List A) (i : ℕ) (ids : List ℕ) (last : ℕ) → length ws ≤ i → AreReadTo ids last (map now (drop i ws)) (map now ws) → 1 ≤ length ws → length ws ≤ most_members → AreMembersOf (map now ws) ids
-read_all now ws i ids last end before some few =
+pub read_all : {A : Type 0} (most : ℕ) (now : A → List ℕ) (ws : List A) (i : ℕ) (ids : List ℕ) (last : ℕ) → length ws ≤ i → AreReadTo ids last (map now (drop i ws)) (map now ws) → 1 ≤ length ws → length ws ≤ most → AreIdsOf most (map now ws) ids
+read_all most now ws i ids last end before some few =
     let none = rw (drop_all i ws end) at before in
-    all_of ids last (map now ws) none (omega (arith, length-map ws now)) (omega (arith, length-map ws now))
+    all_of most ids last (map now ws) none (omega (arith, length-map ws now)) (omega (arith, length-map ws now))

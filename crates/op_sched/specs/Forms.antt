@@ -1,7 +1,9 @@
 -- The names that begin events' lines, and the ids that stand after one.
 -- Only what is inside the crate speaks of this.
-use Rattle.std.specs.Prelude.{◌≡◌, ℕ, List, codes, map, decimal}
-use Rattle.op_types.specs.Ranges.{IsPid, MembersInRange}
+use Rattle.std.specs.Prelude.{◌≡◌, ◌≤◌, ◌&&◌, ℕ, nat_eq, Bool, true, not, List, [], ◌∷◌, length, codes, map, decimal}
+use Rattle.std.specs.Set.{is_member}
+use Rattle.op_types.specs.Ranges.{IsPid, AreRising, MembersInRange}
+use Rattle.op_runs.specs.Possible.{SparesInRange}
 use Rattle.op_sched.specs.declared.reading.forms.Form.{Form}
 use Rattle.op_sched.specs.declared.reading.forms.Form.TheVariants as form
 use Rattle.op_sched.specs.declared.reading.operations.OpForm.{OpForm}
@@ -18,6 +20,8 @@ op_form_name op_form.Cas = codes "cas"
 abbrev pub form_name : Form → List ℕ
 form_name form.Tick = codes "tick"
 form_name (form.Command op) = op_form_name op
+form_name form.Stop = codes "stop"
+form_name form.Trim = codes "trim"
 form_name form.Deliver = codes "deliver"
 form_name form.Up = codes "up"
 form_name form.Drop = codes "drop"
@@ -33,3 +37,16 @@ ArePeers p q = IsPid p × IsPid q × (p ≡ q → ⊥)
 -- the words are these members' ids
 abbrev pub AreMembersOf : List (List ℕ) → List ℕ → Type 0
 AreMembersOf words ids = MembersInRange ids × (words ≡ map decimal ids)
+
+-- the words are ids in order, from one to so many
+abbrev pub AreIdsOf : ℕ → List (List ℕ) → List ℕ → Type 0
+AreIdsOf most words ids = (1 ≤ length ids) × (length ids ≤ most) × AreRising 0 ids × (words ≡ map decimal ids)
+
+-- none of these ids is a member
+abbrev pub are_apart : List ℕ → List ℕ → Bool
+are_apart members [] = true
+are_apart members (id ∷ ids) = not (is_member nat_eq members id) && are_apart members ids
+
+-- the words are the ids of spares beside these members
+abbrev pub AreSparesOf : List ℕ → List (List ℕ) → List ℕ → Type 0
+AreSparesOf members words ids = (1 ≤ length ids) × SparesInRange members ids × (words ≡ map decimal ids)

@@ -1,16 +1,17 @@
--- The schedule grammar: a header line, and then a line for each event.
+-- The schedule grammar: a header line, perhaps one of spares, and then a line for each event.
 -- Empty lines and comments may stand anywhere.
-use Rattle.std.specs.Prelude.{◌≡◌, ◌==◌, ◌⊎◌, ℕ, ◌+◌, Bool, true, if◌then◌else◌}
+use Rattle.std.specs.Prelude.{◌≡◌, ◌==◌, ◌≤◌, ◌⊎◌, ℕ, ◌+◌, Bool, true, if◌then◌else◌}
 use Rattle.std.specs.Prelude.{List, [], ◌∷◌, length, map, All, codes, decimal}
 use Rattle.std.specs.List.{slice_split}
-use Rattle.op_types.specs.Ranges.{MembersInRange, WhatInRange}
+use Rattle.op_types.specs.Ranges.{MembersInRange}
+use Rattle.op_runs.specs.Possible.{WhatInRange, SparesInRange}
 use Rattle.op_types.specs.declared.log.Op.{Op}
-use Rattle.op_types.specs.declared.log.Op.TheVariants.{Put, Del, Get, Cas}
-use Rattle.op_types.specs.declared.events.What.{What}
-use Rattle.op_types.specs.declared.events.What.TheVariants as what
-use Rattle.op_types.specs.declared.events.Event.{Event}
+use Rattle.op_types.specs.declared.log.Command.{Command}
+use Rattle.op_runs.specs.declared.events.What.{What}
+use Rattle.op_runs.specs.declared.events.What.TheVariants as what
+use Rattle.op_runs.specs.declared.events.Event.{Event}
 use Rattle.op_sched.specs.declared.schedule.Schedule.{Schedule}
-use Rattle.op_sched.specs.Percent.{AreBytes, encoded}
+use Rattle.op_text.specs.Operations.{OpIsOfBytes, op_name, operands}
 
 -- ---- lines and words
 
@@ -66,30 +67,33 @@ pub record AreHeaderWords (words : List (List ℕ)) (members : List ℕ) : Type 
 abbrev pub IsHeader : List ℕ → List ℕ → Type 0
 IsHeader line members = AreHeaderWords (words_of line) members
 
+-- the words name spares beside these members
+pub record AreSpareWords (members : List ℕ) (words : List (List ℕ)) (spares : List ℕ) : Type 0 where
+  pub some : 1 ≤ length spares
+  pub in_range : SparesInRange members spares
+  pub written : words ≡ codes "spares" ∷ map decimal spares
+
+-- the line names spares beside these members
+abbrev pub IsSpareLine : List ℕ → List ℕ → List ℕ → Type 0
+IsSpareLine members line spares = AreSpareWords members (words_of line) spares
+
 -- ---- events
-
--- the name of a client's operation
-abbrev pub op_name : Op → List ℕ
-op_name (Put key value) = codes "put"
-op_name (Del key) = codes "del"
-op_name (Get key) = codes "get"
-op_name (Cas key old new) = codes "cas"
-
--- what it is done with: its key, and its values
-abbrev pub operands : Op → List (List ℕ)
-operands (Put key value) = encoded key ∷ encoded value ∷ []
-operands (Del key) = encoded key ∷ []
-operands (Get key) = encoded key ∷ []
-operands (Cas key old new) = encoded key ∷ encoded old ∷ encoded new ∷ []
 
 -- the words of a client's operation at a server
 abbrev pub op_words : ℕ → ℕ → ℕ → Op → List (List ℕ)
 op_words p client seq op = op_name op ∷ decimal p ∷ decimal client ∷ decimal seq ∷ operands op
 
+-- the words of a command that is proposed alone
+abbrev pub commands_words : ℕ → List Command → List (List ℕ)
+commands_words p (c ∷ []) = op_words p c.client c.seq c.op
+commands_words p cs = []
+
 -- the words of what happens: its name, and what it needs
 abbrev pub what_words : What → List (List ℕ)
 what_words (what.Tick p) = codes "tick" ∷ decimal p ∷ []
-what_words (what.Command p c) = op_words p c.client c.seq c.op
+what_words (what.Commands p cs) = commands_words p cs
+what_words (what.Stop p members) = codes "stop" ∷ decimal p ∷ map decimal members
+what_words (what.Trim p) = codes "trim" ∷ decimal p ∷ []
 what_words (what.Deliver i) = codes "deliver" ∷ decimal i ∷ []
 what_words (what.Up p q) = codes "up" ∷ decimal p ∷ decimal q ∷ []
 what_words (what.Down p q) = codes "drop" ∷ decimal p ∷ decimal q ∷ []
@@ -98,16 +102,9 @@ what_words (what.Start p) = codes "start" ∷ decimal p ∷ []
 what_words (what.Show p) = codes "show" ∷ decimal p ∷ []
 what_words (what.Ballots p) = codes "ballots" ∷ decimal p ∷ []
 
--- the operation's key and values are bytes
-abbrev pub OpIsOfBytes : Op → Type 0
-OpIsOfBytes (Put key value) = AreBytes key × AreBytes value
-OpIsOfBytes (Del key) = AreBytes key
-OpIsOfBytes (Get key) = AreBytes key
-OpIsOfBytes (Cas key old new) = AreBytes key × AreBytes old × AreBytes new
-
 -- the keys and values of what happens are bytes
 abbrev pub IsOfBytes : What → Type 0
-IsOfBytes (what.Command p c) = OpIsOfBytes c.op
+IsOfBytes (what.Commands p cs) = All (λ c. OpIsOfBytes c.op) cs
 IsOfBytes w = Unit {0}
 
 -- a session is one between two different servers
@@ -116,11 +113,17 @@ IsBetweenTwo (what.Up p q) = p ≡ q → ⊥
 IsBetweenTwo (what.Down p q) = p ≡ q → ⊥
 IsBetweenTwo w = Unit {0}
 
+-- a line proposes one command
+abbrev pub ProposesOne : What → Type 0
+ProposesOne (what.Commands p cs) = length cs ≡ 1
+ProposesOne w = Unit {0}
+
 -- the words say what happens
 pub record AreWordsOf (words : List (List ℕ)) (w : What) : Type 0 where
   pub in_range : WhatInRange w
   pub of_bytes : IsOfBytes w
   pub between : IsBetweenTwo w
+  pub one : ProposesOne w
   pub written : words ≡ what_words w
 
 -- the line says what happens
@@ -148,10 +151,21 @@ AreEvents [] (e ∷ events) = ⊥
 AreEvents (line ∷ lines) [] = ⊥
 AreEvents (line ∷ lines) (e ∷ events) = (e.line ≡ line.0) × IsEventLine line.1 e.what × AreEvents lines events
 
--- the numbered lines are this schedule's; the header names no spares
+-- the first of the numbered lines names these spares beside these members, and the others are these events'
+abbrev pub AreSparesAndEvents : List ℕ → List (ℕ × List ℕ) → List ℕ → List Event → Type 0
+AreSparesAndEvents members [] spares events = ⊥
+AreSparesAndEvents members (line ∷ lines) spares events =
+    IsSpareLine members line.1 spares × AreEvents lines events
+
+-- the numbered lines after the header are of these spares, if there are any, and of these events
+abbrev pub AreAfterHeader : List ℕ → List (ℕ × List ℕ) → List ℕ → List Event → Type 0
+AreAfterHeader members lines spares events =
+    AreSparesAndEvents members lines spares events ⊎ ((spares ≡ []) × AreEvents lines events)
+
+-- the numbered lines are this schedule's
 abbrev pub AreLines : List (ℕ × List ℕ) → Schedule → Type 0
 AreLines [] s = ⊥
-AreLines (header ∷ lines) s = IsHeader header.1 s.members × (s.spares ≡ []) × AreEvents lines s.events
+AreLines (header ∷ lines) s = IsHeader header.1 s.members × AreAfterHeader s.members lines s.spares s.events
 
 -- the text is this schedule's
 abbrev pub IsSchedule : List ℕ → Schedule → Type 0
@@ -173,12 +187,24 @@ IsFirstBadEvent [] n = ⊥
 IsFirstBadEvent (line ∷ lines) n =
     ((n ≡ line.0) × (IsAnEvent line.1 → ⊥)) ⊎ (IsAnEvent line.1 × IsFirstBadEvent lines n)
 
+-- the line names some spares beside these members
+abbrev pub NamesSpares : List ℕ → List ℕ → Type 0
+NamesSpares members line = (spares : List ℕ) × IsSpareLine members line spares
+
+-- of numbered lines after a header with these members, n is the number of the first that isn't in the grammar
+abbrev pub IsFirstBadAfter : List ℕ → List (ℕ × List ℕ) → ℕ → Type 0
+IsFirstBadAfter members [] n = ⊥
+IsFirstBadAfter members (line ∷ lines) n =
+    (NamesSpares members line.1 × IsFirstBadEvent lines n)
+    ⊎ ((NamesSpares members line.1 → ⊥) × IsFirstBadEvent (line ∷ lines) n)
+
 -- n is the number of the first that isn't in the grammar,
 -- and where there are no lines the number after the last
 abbrev pub IsFirstBadOf : ℕ → List (ℕ × List ℕ) → ℕ → Type 0
 IsFirstBadOf end [] n = n ≡ end
 IsFirstBadOf end (header ∷ lines) n =
-    ((n ≡ header.0) × (IsAHeader header.1 → ⊥)) ⊎ (IsAHeader header.1 × IsFirstBadEvent lines n)
+    ((n ≡ header.0) × (IsAHeader header.1 → ⊥))
+    ⊎ ((members : List ℕ) × IsHeader header.1 members × IsFirstBadAfter members lines n)
 
 -- n is the first line of the text that isn't in the grammar, or after its last line where it has no header
 abbrev pub IsFirstBadLine : List ℕ → ℕ → Type 0

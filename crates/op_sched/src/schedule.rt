@@ -1,14 +1,15 @@
 ghost use Rattle.std.specs.Prelude.{◌≡◌};
 ghost use Rattle.op_sched.specs.declared.schedule.SchedFail.TheVariants.{NoMemory};
 
-use op_types::{Events, Members};
+use op_runs::Events;
+use op_types::Members;
 
 /// What a schedule's text says.
 #[derive(Drop)]
 pub struct Schedule {
     /// The servers of the first configuration.
     pub members: Members,
-    /// The servers that a later configuration may name; so far the grammar has none.
+    /// The servers beside them, which a later configuration may name.
     pub spares: Members,
     /// What happens, in the order of the lines.
     pub events: Events,

@@ -21,6 +21,10 @@ positions_end = 2 ^ 62
 abbrev pub last_conf : ℕ
 last_conf = 2 ^ 32 - 1
 
+-- how many donors a joining node keeps at most
+abbrev pub most_donors : ℕ
+most_donors = 255
+
 -- how many bytes a key has at most
 abbrev pub most_key_bytes : ℕ
 most_key_bytes = 64
@@ -28,3 +32,7 @@ most_key_bytes = 64
 -- how many bytes a value has at most
 abbrev pub most_value_bytes : ℕ
 most_value_bytes = 4096
+
+-- so many commands are proposed together at most
+abbrev pub most_commands : ℕ
+most_commands = 64

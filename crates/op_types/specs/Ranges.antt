@@ -1,15 +1,14 @@
 -- Which ids, numbers, ballots, members, commands and entries are in range.
-use Rattle.std.specs.Prelude.{◌≡◌, ◌≤◌, ◌<◌, ◌^◌, ℕ, true, nat_eq, List, [], ◌∷◌, length, All}
+use Rattle.std.specs.Prelude.{◌≡◌, ◌≤◌, ◌<◌, ℕ, true, nat_eq, List, [], ◌∷◌, length, All}
 use Rattle.std.specs.Set.{is_member}
-use Rattle.op_types.specs.Limits.{greatest_pid, most_members, greatest_number, positions_end, last_conf, most_key_bytes, most_value_bytes}
+use Rattle.op_types.specs.Limits.{greatest_pid, most_members, greatest_number, positions_end, last_conf, most_key_bytes, most_value_bytes, most_commands}
 use Rattle.op_types.specs.declared.ballot.Ballot.{Ballot}
 use Rattle.op_types.specs.declared.log.Op.{Op}
 use Rattle.op_types.specs.declared.log.Op.TheVariants.{Put, Del, Get, Cas}
 use Rattle.op_types.specs.declared.log.Command.{Command}
+use Rattle.op_types.specs.declared.log.StopSign.{StopSign}
 use Rattle.op_types.specs.declared.log.Entry.{Entry}
 use Rattle.op_types.specs.declared.log.Entry.TheVariants as entries
-use Rattle.op_types.specs.declared.events.What.{What}
-use Rattle.op_types.specs.declared.events.What.TheVariants as what
 
 -- a server's id
 abbrev pub IsPid : ℕ → Type 0
@@ -69,24 +68,23 @@ pub record CommandInRange (c : Command) : Type 0 where
   pub seq : IsNumber c.seq
   pub op : OpInRange c.op
 
--- an entry whose parts are in range; a stop-sign has no encoding yet
+-- a stop-sign whose parts are in range
+pub record StopInRange (s : StopSign) : Type 0 where
+  pub next : s.next ≤ last_conf
+  pub members : MembersInRange s.members
+
+-- an entry whose parts are in range
 abbrev pub EntryInRange : Entry → Type 0
 EntryInRange (entries.Command c) = CommandInRange c
-EntryInRange (entries.Stop s) = ⊥
+EntryInRange (entries.Stop s) = StopInRange s
 
 -- up to so many entries, each in range
 pub record EntriesInRange (most : ℕ) (es : List Entry) : Type 0 where
   pub few : length es ≤ most
   pub each : All EntryInRange es
 
--- what happens, at a server in range, with its parts in range
-abbrev pub WhatInRange : What → Type 0
-WhatInRange (what.Tick p) = IsPid p
-WhatInRange (what.Command p c) = IsPid p × CommandInRange c
-WhatInRange (what.Deliver i) = i < 2 ^ 64
-WhatInRange (what.Up p q) = IsPid p × IsPid q
-WhatInRange (what.Down p q) = IsPid p × IsPid q
-WhatInRange (what.Crash p) = IsPid p
-WhatInRange (what.Start p) = IsPid p
-WhatInRange (what.Show p) = IsPid p
-WhatInRange (what.Ballots p) = IsPid p
+-- commands that are proposed together
+pub record AreCommands (cs : List Command) : Type 0 where
+  pub each : All CommandInRange cs
+  pub some : 0 < length cs
+  pub few : length cs ≤ most_commands

@@ -1,10 +1,11 @@
 -- What a node keeps that prepares or leads, as contracts see it: without the room of its lists.
-use Rattle.std.specs.Prelude.{◌==◌, ℕ, nat_eq, nat_lt, not, List, [], ◌∷◌, ◌++◌, filter, Option, Some, None, if◌then◌else◌}
+use Rattle.std.specs.Prelude.{◌==◌, ℕ, nat_eq, nat_lt, Bool, true, not, List, [], ◌∷◌, ◌++◌, filter, Option, Some, None, if◌then◌else◌}
 use Rattle.std.specs.Set.{is_member}
 use Rattle.op_types.specs.declared.ballot.Ballot.{Ballot}
 use Rattle.op_types.specs.declared.role.Promised.{Promised}
 use Rattle.op_types.specs.declared.role.Buffered.{Buffered}
 use Rattle.op_types.specs.declared.role.Acknowledged.{Acknowledged}
+use Rattle.op_types.specs.declared.role.Report.{Report}
 
 -- of a node that prepares a ballot of its own
 pub record Preparing : Type 0 where
@@ -19,6 +20,7 @@ pub record Leading : Type 0 where
   pub adopted_len : ℕ
   pub synced : List ℕ  -- the followers that were sent the log, and get what is added to it
   pub acknowledged : List Acknowledged  -- one of each sender
+  pub reports : List Report  -- of what each has decided, one of each sender since trimming was asked for
 
 -- ---- promises
 
@@ -35,9 +37,9 @@ promises_with promises k = filter (λ j. not (j.from == k.from)) promises ++ k �
 abbrev pub with_promise : Preparing → Promised → Preparing
 with_promise r k = record r { promises = promises_with r.promises k }
 
--- a proposal more waits
-abbrev pub with_buffered : Preparing → Buffered → Preparing
-with_buffered r b = record r { buffer = r.buffer ++ b ∷ [] }
+-- proposals more wait
+abbrev pub with_buffered : Preparing → List Buffered → Preparing
+with_buffered r more = record r { buffer = r.buffer ++ more }
 
 -- ---- followers
 
@@ -63,3 +65,30 @@ acknowledged_with acks a =
 -- a length is acknowledged
 abbrev pub with_acknowledged : Leading → Acknowledged → Leading
 with_acknowledged l a = record l { acknowledged = acknowledged_with l.acknowledged a }
+
+-- ---- trimming
+
+-- what a sender has decided, if it reported that
+abbrev pub report_of : List Report → ℕ → Option ℕ
+report_of [] q = None
+report_of (r ∷ reports) q = if r.from == q then Some r.decided else report_of reports q
+
+-- a length is above what is reported so far, if anything is
+abbrev pub is_news : Option ℕ → ℕ → Bool
+is_news None x = true
+is_news (Some y) x = nat_lt y x
+
+-- the reports with this one, where it is its sender's first or greater than the one before
+abbrev pub reports_with : List Report → Report → List Report
+reports_with reports r =
+    if is_news (report_of reports r.from) r.decided
+    then filter (λ o. not (o.from == r.from)) reports ++ r ∷ []
+    else reports
+
+-- a report more is kept
+abbrev pub with_report : Leading → Report → Leading
+with_report l r = record l { reports = reports_with l.reports r }
+
+-- no report is kept
+abbrev pub without_reports : Leading → Leading
+without_reports l = record l { reports = [] }

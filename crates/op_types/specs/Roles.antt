@@ -1,7 +1,8 @@
 -- A role, as contracts see it, and what a turn makes of it.
-use Rattle.std.specs.Prelude.{◌<◌, Some, None}
+use Rattle.std.specs.Prelude.{◌<◌, ◌≤◌, List, length, Some, None}
 use Rattle.op_types.specs.RoleStates as state
-use Rattle.op_types.specs.RoleStates.{with_promise, with_buffered, with_synced, without_synced, with_acknowledged}
+use Rattle.op_types.specs.RoleStates.{with_promise, with_buffered, with_synced, without_synced, with_acknowledged, with_report, without_reports}
+use Rattle.op_types.specs.declared.role.Buffered.{Buffered}
 use Rattle.op_types.specs.declared.role.Preparing as preparing
 use Rattle.op_types.specs.declared.role.Leading as leading
 use Rattle.op_types.specs.declared.role.Role as role
@@ -28,6 +29,7 @@ leading_of l =
       adopted_len = l.adopted_len;
       synced = l.synced.items;
       acknowledged = l.acknowledged.items;
+      reports = l.reports.items;
     }
 
 -- a role, without room
@@ -53,10 +55,13 @@ abbrev pub turned : Turn → Role → Role
 turned turn.Stay r = r
 turned (turn.Become n) r = role_of n
 turned (turn.Keep k) r = if_preparing (λ s. with_promise s k) r
-turned (turn.Buffer b) r = if_preparing (λ s. with_buffered s b) r
+turned (turn.Buffer more) r = if_preparing (λ s. with_buffered s more) r
 turned (turn.Sync q) r = if_leading (λ l. with_synced l q) r
 turned (turn.Unsync q) r = if_leading (λ l. without_synced l q) r
 turned (turn.Acknowledge a) r = if_leading (λ l. with_acknowledged l a) r
+turned (turn.KeepReport k) r = if_leading (λ l. with_report l k) r
+turned turn.ClearReports r = if_leading without_reports r
+turned turn.Renew r = Idle
 turned (turn.Hear h) r = r
 turned (turn.RaiseFloor b) r = r
 turned (turn.NextRound e None) r = r
@@ -69,10 +74,10 @@ abbrev pub RoomToKeep : role.Role → Type 0
 RoomToKeep (variant.Preparing r) = 0 < r.promises.room
 RoomToKeep r = Unit {0}
 
--- for a proposal, where the node prepares
-abbrev pub RoomToBuffer : role.Role → Type 0
-RoomToBuffer (variant.Preparing r) = 0 < r.buffer.room
-RoomToBuffer r = Unit {0}
+-- for these proposals, where the node prepares
+abbrev pub RoomToBuffer : List Buffered → role.Role → Type 0
+RoomToBuffer more (variant.Preparing r) = length more ≤ r.buffer.room
+RoomToBuffer more r = Unit {0}
 
 -- for a follower, where the node leads
 abbrev pub RoomToSync : role.Role → Type 0
@@ -84,15 +89,23 @@ abbrev pub RoomToAcknowledge : role.Role → Type 0
 RoomToAcknowledge (variant.Leading l) = 0 < l.acknowledged.room
 RoomToAcknowledge r = Unit {0}
 
+-- for a report, where the node leads
+abbrev pub RoomToReport : role.Role → Type 0
+RoomToReport (variant.Leading l) = 0 < l.reports.room
+RoomToReport r = Unit {0}
+
 -- the turn changes the role alone, and there is room for what it adds
 abbrev pub HasRoom : Turn → role.Role → Type 0
 HasRoom turn.Stay r = Unit {0}
 HasRoom (turn.Become n) r = Unit {0}
 HasRoom (turn.Keep k) r = RoomToKeep r
-HasRoom (turn.Buffer b) r = RoomToBuffer r
+HasRoom (turn.Buffer more) r = RoomToBuffer more r
 HasRoom (turn.Sync q) r = RoomToSync r
 HasRoom (turn.Unsync q) r = Unit {0}
 HasRoom (turn.Acknowledge a) r = RoomToAcknowledge r
+HasRoom (turn.KeepReport k) r = RoomToReport r
+HasRoom turn.ClearReports r = Unit {0}
+HasRoom turn.Renew r = ⊥
 HasRoom (turn.Hear h) r = ⊥
 HasRoom (turn.RaiseFloor b) r = ⊥
 HasRoom (turn.NextRound e n) r = ⊥

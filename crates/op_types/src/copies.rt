@@ -1,7 +1,7 @@
 //! Copies, each equal to what it was made from.
 ghost use Rattle.std.specs.Prelude.{◌≡◌, IfOk};
 
-use crate::{Answer, Applied, Blob, Body, Command, Entries, Entry, Members, Op, Reply, StopSign};
+use crate::{Answer, Applied, Blob, Body, Command, Entries, Entry, Op, Reply, StopSign};
 use std::alloc::{AllocError as NoMemory, Global};
 
 impl Blob {
@@ -11,13 +11,6 @@ impl Blob {
     {
         Blob::from_slice(alloc, self.as_slice())
     }
-}
-
-fn copy_ids(alloc: Global, ids: &Members) -> Result<Members, NoMemory>
-    ensures { IfOk result (λ copy. copy ≡ ids.now) }
-{
-    let copy = Vec::from_slice(alloc, ids.as_slice())?;
-    Ok(Members::from_vec(copy))
 }
 
 impl Op {
@@ -53,13 +46,13 @@ impl Command {
 
 impl StopSign {
     /// An equal value.
-    pub fn copy(&self, alloc: Global) -> Result<StopSign, NoMemory>
-        ensures { IfOk result (λ s. s ≡ self.now) }
+    pub fn copy(&self) -> StopSign
+        ensures { result ≡ self.now }
     {
-        Ok(StopSign {
+        StopSign {
             next: self.next,
-            members: copy_ids(alloc, &self.members)?,
-        })
+            members: self.members.copy(),
+        }
     }
 }
 
@@ -70,7 +63,7 @@ impl Entry {
     {
         match self {
             Entry::Command(command) => Ok(Entry::Command(command.copy(alloc)?)),
-            Entry::Stop(stop) => Ok(Entry::Stop(stop.copy(alloc)?)),
+            Entry::Stop(stop) => Ok(Entry::Stop(stop.copy())),
         }
     }
 }
@@ -136,6 +129,17 @@ impl Body {
             Body::PrepareReq => Body::PrepareReq,
             Body::Refuse(n, b) => Body::Refuse(*n, *b),
             Body::Forward(entry) => Body::Forward(entry.copy(alloc)?),
+            Body::Forwards(es) => Body::Forwards(copy_entries(alloc, es.as_slice())?),
+            Body::TrimAsk(n) => Body::TrimAsk(*n),
+            Body::Progress(n, x) => Body::Progress(*n, *x),
+            Body::Trim(x) => Body::Trim(*x),
+            Body::NextConf(members, olds, len, trimmed) => {
+                Body::NextConf(members.copy(), olds.copy(), *len, *trimmed)
+            }
+            Body::AskBase => Body::AskBase,
+            Body::BasePart(at, base) => Body::BasePart(*at, base.copy(alloc)?),
+            Body::AskSegment(from, to) => Body::AskSegment(*from, *to),
+            Body::Segment(at, es) => Body::Segment(*at, copy_entries(alloc, es.as_slice())?),
         })
     }
 }

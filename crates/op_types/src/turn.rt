@@ -1,10 +1,12 @@
 //! A change of a role, whose room is made before it is adopted.
 ghost use Rattle.std.specs.Prelude.{◌≡◌, ◌==◌, not, filter, nat_eq};
 ghost use Rattle.std.specs.Set.{is_member};
-ghost use Rattle.op_types.specs.RoleStates.{acknowledged_of, with_promise, with_buffered, with_synced, without_synced, with_acknowledged};
-ghost use Rattle.op_types.specs.Roles.{role_of, turned, if_preparing, if_leading, HasRoom, RoomToKeep, RoomToBuffer, RoomToSync, RoomToAcknowledge};
+ghost use Rattle.op_types.specs.RoleStates.{acknowledged_of, with_promise, with_buffered, with_synced, without_synced, with_acknowledged, report_of, is_news, with_report, without_reports};
+ghost use Rattle.op_types.specs.Roles.{role_of, turned, if_preparing, if_leading, HasRoom, RoomToKeep, RoomToBuffer, RoomToSync, RoomToAcknowledge, RoomToReport};
 
-use crate::{Acknowledged, Ballot, Buffered, ElectionState, Heard, Pid, Promised, Reserved, Role};
+use crate::{
+    Acknowledged, Ballot, Buffer, ElectionState, Heard, Pid, Promised, Report, Reserved, Role,
+};
 
 /// What a step changes of what a node keeps in memory of its part: of its role, its heartbeat round or its election.
 #[derive(Drop)]
@@ -15,14 +17,20 @@ pub enum Turn {
     Become(Role),
     /// A node that prepares keeps a promise.
     Keep(Promised),
-    /// A node that prepares keeps a proposal.
-    Buffer(Buffered),
+    /// A node that prepares keeps proposals.
+    Buffer(Buffer),
     /// A leader syncs a follower.
     Sync(Pid),
     /// A leader's session with a follower ended.
     Unsync(Pid),
     /// A follower acknowledged a length.
     Acknowledge(Acknowledged),
+    /// A leader keeps a follower's report of what it has decided.
+    KeepReport(Report),
+    /// A leader keeps no report.
+    ClearReports,
+    /// The node goes on in another configuration, or without one: all that it keeps in memory of its part begins anew.
+    Renew,
     /// A heartbeat reply of the current round is kept.
     Hear(Heard),
     /// Elections begin at this ballot from now on, unless they begin above it already.
@@ -38,14 +46,16 @@ impl Turn {
         ensures { role_of role.new ≡ turned self (role_of role.old) }
     {
         match self {
-            Turn::Stay => {}
-            Turn::Become(next) => *role = next,
+            Turn::Stay | Turn::Hear(_) | Turn::RaiseFloor(_) | Turn::NextRound(_, None) => {}
+            Turn::Become(next) | Turn::NextRound(_, Some(next)) => *role = next,
+            Turn::Renew => *role = Role::Idle,
             Turn::Keep(promised) => keep(role, promised),
             Turn::Buffer(buffered) => buffer(role, buffered),
             Turn::Sync(pid) => sync(role, pid),
             Turn::Unsync(pid) => unsync(role, pid),
             Turn::Acknowledge(acknowledged) => acknowledge(role, acknowledged),
-            Turn::Hear(_) | Turn::RaiseFloor(_) | Turn::NextRound(_, _) => unreachable!(),
+            Turn::KeepReport(report) => keep_report(role, report),
+            Turn::ClearReports => clear_reports(role),
         }
     }
 }
@@ -68,12 +78,12 @@ fn remove_promise(promises: &mut Reserved<Promised>, from: Pid)
     promises.retain(|promised| promised.from != from);
 }
 
-fn buffer(role: &mut Role, buffered: Buffered)
-    requires { RoomToBuffer role.old }
+fn buffer(role: &mut Role, buffered: Buffer)
+    requires { RoomToBuffer buffered role.old }
     ensures { role_of role.new ≡ if_preparing (λ r. with_buffered r buffered) (role_of role.old) }
 {
     if let Role::Preparing(preparing) = role {
-        preparing.buffer.add(buffered);
+        preparing.buffer.add_all(buffered);
     }
 }
 
@@ -148,5 +158,60 @@ pub fn acknowledged_by(acknowledgements: &[Acknowledged], pid: Pid) -> u64
                 acknowledged_by(rest, pid)
             }
         }
+    }
+}
+
+fn keep_report(role: &mut Role, report: Report)
+    requires { RoomToReport role.old }
+    ensures { role_of role.new ≡ if_leading (λ l. with_report l report) (role_of role.old) }
+{
+    if let Role::Leading(leading) = role {
+        let reports = &mut leading.reports;
+        if is_more(reported_by(reports.as_slice(), report.from), report.decided) {
+            remove_report(reports, report.from);
+            reports.add(report);
+        }
+    }
+}
+
+/// Whether a length is above what is reported so far, if anything is.
+fn is_more(reported: Option<u64>, decided: u64) -> bool
+    ensures { result ≡ is_news reported decided }
+{
+    match reported {
+        None => true,
+        Some(before) => before < decided,
+    }
+}
+
+/// Removes a sender's report, if there is one.
+fn remove_report(reports: &mut Reserved<Report>, from: Pid)
+    ensures items { reports.new.items ≡ filter (λ o. not (o.from == from)) reports.old.items }
+    ensures room { reports.new.room ≡ reports.old.room }
+{
+    reports.retain(|report| report.from != from);
+}
+
+/// What a sender has decided, if it reported that.
+pub fn reported_by(reports: &[Report], pid: Pid) -> Option<u64>
+    ensures { result ≡ report_of reports.now pid }
+{
+    match reports {
+        [] => None,
+        [first, rest @ ..] => {
+            if first.from == pid {
+                Some(first.decided)
+            } else {
+                reported_by(rest, pid)
+            }
+        }
+    }
+}
+
+fn clear_reports(role: &mut Role)
+    ensures { role_of role.new ≡ if_leading without_reports (role_of role.old) }
+{
+    if let Role::Leading(leading) = role {
+        leading.reports.clear();
     }
 }

@@ -1,14 +1,15 @@
 //! The forms of lines. Each reads the words after a line's name.
 ghost use Rattle.std.specs.Prelude.{◌≡◌, ◌∷◌, [], map, codes, decimal, IfOk};
 ghost use Rattle.op_types.specs.Ranges.{IsPid};
-ghost use Rattle.op_sched.specs.Found.{IsFound};
-ghost use Rattle.op_sched.specs.Grammar.{AreHeaderWords, AreWordsOf};
-ghost use Rattle.op_sched.specs.Forms.{op_form_name, form_name, ArePeers, AreMembersOf};
+ghost use Rattle.op_text.specs.Found.{IsFound};
+ghost use Rattle.op_sched.specs.Grammar.{AreHeaderWords, AreSpareWords, AreWordsOf};
+ghost use Rattle.op_sched.specs.Forms.{op_form_name, form_name, ArePeers, AreIdsOf, AreMembersOf, AreSparesOf, are_apart};
 
-use crate::reading::numbers::{client_number, number, pid};
 use crate::reading::operations::{OpForm, op_form_of, operation};
 use crate::reading::words::is_name;
-use op_types::{Command, MOST_MEMBERS, Members, NoMemory, Pid, What};
+use op_runs::What;
+use op_text::{client_number, number, pid};
+use op_types::{Command, Commands, MOST_IDS, MOST_MEMBERS, Members, NoMemory, Pid, is_among};
 use std::alloc::Global;
 
 /// The one server that words name.
@@ -36,14 +37,14 @@ fn two_servers(words: &[&[u8]]) -> Option<(Pid, Pid)>
     Some((first, second))
 }
 
-/// The ids that words name, from 1 to 9, each above the one before it.
-fn rising_ids(alloc: Global, words: &[&[u8]]) -> Result<Option<Members>, NoMemory>
-    ensures { IfOk result (IsFound (AreMembersOf (map (λ x. x.now) words.now))) }
+/// The ids that words name, from 1 to `most`, each above the one before it.
+fn rising_ids(words: &[&[u8]], most: usize) -> Result<Option<Members>, NoMemory>
+    ensures { IfOk result (IsFound (AreIdsOf most (map (λ x. x.now) words.now))) }
 {
-    if words.is_empty() || MOST_MEMBERS < words.len() {
+    if words.is_empty() || most < words.len() {
         return Ok(None);
     }
-    let mut ids = Members::new(alloc);
+    let mut ids = Members::new();
     let mut last = 0;
     for word in words {
         let Some(id) = pid(word) else {
@@ -58,8 +59,15 @@ fn rising_ids(alloc: Global, words: &[&[u8]]) -> Result<Option<Members>, NoMemor
     Ok(Some(ids))
 }
 
+/// The members of a configuration that words name.
+fn member_ids(words: &[&[u8]]) -> Result<Option<Members>, NoMemory>
+    ensures { IfOk result (IsFound (AreMembersOf (map (λ x. x.now) words.now))) }
+{
+    rising_ids(words, MOST_MEMBERS)
+}
+
 /// The members that a header's words name.
-pub fn members(alloc: Global, words: &[&[u8]]) -> Result<Option<Members>, NoMemory>
+pub fn members(words: &[&[u8]]) -> Result<Option<Members>, NoMemory>
     ensures { IfOk result (IsFound (AreHeaderWords (map (λ x. x.now) words.now))) }
 {
     let Some((name, words)) = words.split_first() else {
@@ -68,7 +76,44 @@ pub fn members(alloc: Global, words: &[&[u8]]) -> Result<Option<Members>, NoMemo
     if !is_name(name, b"members") {
         return Ok(None);
     }
-    rising_ids(alloc, words)
+    member_ids(words)
+}
+
+/// The spares that the words of a second header name, none of them a member.
+pub fn spares(words: &[&[u8]], members: &Members) -> Result<Option<Members>, NoMemory>
+    ensures { IfOk result (IsFound (AreSpareWords members.now (map (λ x. x.now) words.now))) }
+{
+    let Some((name, words)) = words.split_first() else {
+        return Ok(None);
+    };
+    if !is_name(name, b"spares") {
+        return Ok(None);
+    }
+    spare_ids(words, members)
+}
+
+/// The ids that words name, none of them a member.
+fn spare_ids(words: &[&[u8]], members: &Members) -> Result<Option<Members>, NoMemory>
+    ensures { IfOk result (IsFound (AreSparesOf members.now (map (λ x. x.now) words.now))) }
+{
+    let Some(ids) = rising_ids(words, MOST_IDS)? else {
+        return Ok(None);
+    };
+    if are_apart(members.as_slice(), ids.as_slice()) {
+        Ok(Some(ids))
+    } else {
+        Ok(None)
+    }
+}
+
+/// Whether none of these ids is a member.
+fn are_apart(members: &[Pid], ids: &[Pid]) -> bool
+    ensures { result ≡ are_apart members.now ids.now }
+{
+    match ids {
+        [] => true,
+        [first, rest @ ..] => !is_among(members, *first) && are_apart(members, rest),
+    }
 }
 
 /// `tick`: a server.
@@ -134,6 +179,29 @@ fn show(words: &[&[u8]]) -> Option<What>
     Some(What::Show(one_server(words)?))
 }
 
+/// `stop`: a server, and the members of the next configuration.
+fn stop(words: &[&[u8]]) -> Result<Option<What>, NoMemory>
+    ensures { IfOk result (IsFound (AreWordsOf (codes "stop" ∷ map (λ x. x.now) words.now))) }
+{
+    let Some((id, words)) = words.split_first() else {
+        return Ok(None);
+    };
+    let Some(id) = pid(id) else {
+        return Ok(None);
+    };
+    let Some(members) = member_ids(words)? else {
+        return Ok(None);
+    };
+    Ok(Some(What::Stop(id, members)))
+}
+
+/// `trim`: a server.
+fn trim(words: &[&[u8]]) -> Option<What>
+    ensures { IsFound (AreWordsOf (codes "trim" ∷ map (λ x. x.now) words.now)) result }
+{
+    Some(What::Trim(one_server(words)?))
+}
+
 /// A client's operation: a server, a client, the number of its command, and the operation's own words.
 fn command(alloc: Global, form: OpForm, words: &[&[u8]]) -> Result<Option<What>, NoMemory>
     ensures { IfOk result (IsFound (AreWordsOf (op_form_name form ∷ map (λ x. x.now) words.now))) }
@@ -141,14 +209,21 @@ fn command(alloc: Global, form: OpForm, words: &[&[u8]]) -> Result<Option<What>,
     let [id, client, seq, words @ ..] = words else {
         return Ok(None);
     };
-    let (Some(id), Some(client), Some(seq)) = (pid(id), client_number(client), client_number(seq))
-    else {
+    let Some(id) = pid(id) else {
+        return Ok(None);
+    };
+    let Some(client) = client_number(client) else {
+        return Ok(None);
+    };
+    let Some(seq) = client_number(seq) else {
         return Ok(None);
     };
     let Some(op) = operation(alloc, form, words)? else {
         return Ok(None);
     };
-    Ok(Some(What::Command(id, Command { client, seq, op })))
+    let mut commands = Commands::new(alloc);
+    commands.push(Command { client, seq, op })?;
+    Ok(Some(What::Commands(id, commands)))
 }
 
 /// The forms of an event's line, each with a name of its own.
@@ -158,6 +233,10 @@ pub enum Form {
     Tick,
     /// `put`, `del`, `get` or `cas`
     Command(OpForm),
+    /// `stop`
+    Stop,
+    /// `trim`
+    Trim,
     /// `deliver`
     Deliver,
     /// `up`
@@ -182,6 +261,10 @@ fn form_of(word: &[u8]) -> Option<Form>
         Some(Form::Command(op))
     } else if is_name(word, b"tick") {
         Some(Form::Tick)
+    } else if is_name(word, b"stop") {
+        Some(Form::Stop)
+    } else if is_name(word, b"trim") {
+        Some(Form::Trim)
     } else if is_name(word, b"deliver") {
         Some(Form::Deliver)
     } else if is_name(word, b"up") {
@@ -214,6 +297,8 @@ pub fn event(alloc: Global, words: &[&[u8]]) -> Result<Option<What>, NoMemory>
     match form {
         Form::Tick => Ok(tick(words)),
         Form::Command(op) => command(alloc, op, words),
+        Form::Stop => stop(words),
+        Form::Trim => Ok(trim(words)),
         Form::Deliver => Ok(deliver(words)),
         Form::Up => Ok(up(words)),
         Form::Drop => Ok(down(words)),

@@ -1,22 +1,19 @@
 //! A schedule, read from its text.
 ghost use Rattle.std.specs.Prelude.{◌+◌, ◌<◌, ◌^◌, length, IfOk};
 ghost use Rattle.op_sched.specs.Failing.{IfBadLine};
-ghost use Rattle.op_sched.specs.Found.{IsFound};
-ghost use Rattle.op_sched.specs.Grammar.{numbered_lines, IsHeader, IsEventLine, AreEvents, IsSchedule};
-ghost use Rattle.op_sched.specs.Grammar.{IsFirstBadEvent, IsFirstBadLine};
+ghost use Rattle.op_text.specs.Found.{IsFound};
+ghost use Rattle.op_sched.specs.Grammar.{numbered_lines, IsHeader, IsSpareLine, IsEventLine, AreEvents, AreAfterHeader, IsSchedule};
+ghost use Rattle.op_sched.specs.Grammar.{IsFirstBadEvent, IsFirstBadAfter, IsFirstBadLine};
 
-mod decoding;
 mod forms;
 mod lines;
-mod numbers;
 mod operations;
 mod words;
 
 use crate::schedule::{SchedFail, Schedule};
-pub use decoding::{bytes_of, is_key, is_value, key, value};
 use lines::next_numbered;
-pub use numbers::{client_number, number, pid};
-use op_types::{Event, Events, Members, NoMemory, What};
+use op_runs::{Event, Events, What};
+use op_types::{Members, NoMemory};
 use std::alloc::Global;
 use words::words;
 
@@ -35,8 +32,7 @@ pub fn read(alloc: Global, text: &[u8]) -> Result<Schedule, SchedFail>
             line: header.number,
         });
     };
-    let spares = Members::new(alloc);
-    let events = events(alloc, header.number + 1, header.after)?;
+    let (spares, events) = after_header(alloc, &members, header.number + 1, header.after)?;
     Ok(Schedule {
         members,
         spares,
@@ -49,7 +45,36 @@ fn members(alloc: Global, line: &[u8]) -> Result<Option<Members>, NoMemory>
     ensures { IfOk result (IsFound (IsHeader line.now)) }
 {
     let words = words(alloc, line)?;
-    forms::members(alloc, &words)
+    forms::members(&words)
+}
+
+/// The spares and the events after a header with these members, of a text whose first line has this number.
+#[tactic(none)]
+fn after_header(
+    alloc: Global,
+    members: &Members,
+    number: u64,
+    text: &[u8],
+) -> Result<(Members, Events), SchedFail>
+    requires fits { number + length text.now < 2 ^ 64 }
+    ensures found { IfOk result (λ x. AreAfterHeader members.now (numbered_lines number text.now) x.0 x.1) }
+    ensures bad { IfBadLine result (IsFirstBadAfter members.now (numbered_lines number text.now)) }
+{
+    let Ok(next) = next_numbered(number, text) else {
+        return Ok((Members::new(), Events::new(alloc)));
+    };
+    match spares(alloc, members, next.line)? {
+        Some(spares) => Ok((spares, events(alloc, next.number + 1, next.after)?)),
+        None => Ok((Members::new(), events(alloc, number, text)?)),
+    }
+}
+
+/// The spares that a line names, beside these members.
+fn spares(alloc: Global, members: &Members, line: &[u8]) -> Result<Option<Members>, NoMemory>
+    ensures { IfOk result (IsFound (IsSpareLine members.now line.now)) }
+{
+    let words = words(alloc, line)?;
+    forms::spares(&words, members)
 }
 
 /// The events of a text whose first line has this number.

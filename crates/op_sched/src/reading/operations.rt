@@ -1,11 +1,11 @@
 //! A client's operations. Each reads the words after its command's number.
 ghost use Rattle.std.specs.Prelude.{◌≡◌, map, codes, IfOk};
-ghost use Rattle.op_sched.specs.Found.{IsFound};
+ghost use Rattle.op_text.specs.Found.{IsFound};
 ghost use Rattle.op_sched.specs.Forms.{op_form_name};
-ghost use Rattle.op_sched.specs.Operands.{AreKeyOnly, AreOperandsOf};
+ghost use Rattle.op_text.specs.Operations.{AreKeyOnly, AreOperandsOf};
 
-use crate::reading::decoding;
 use crate::reading::words::is_name;
+use op_text::{key, value};
 use op_types::{Blob, NoMemory, Op};
 use std::alloc::Global;
 
@@ -44,7 +44,7 @@ fn one_key(alloc: Global, words: &[&[u8]]) -> Result<Option<Blob>, NoMemory>
     ensures { IfOk result (IsFound (AreKeyOnly (map (λ x. x.now) words.now))) }
 {
     match words {
-        [key] => decoding::key(alloc, key),
+        [word] => key(alloc, word),
         _ => Ok(None),
     }
 }
@@ -53,13 +53,13 @@ fn one_key(alloc: Global, words: &[&[u8]]) -> Result<Option<Blob>, NoMemory>
 fn put(alloc: Global, words: &[&[u8]]) -> Result<Option<Op>, NoMemory>
     ensures { IfOk result (IsFound (AreOperandsOf (codes "put") (map (λ x. x.now) words.now))) }
 {
-    let [key, value] = words else {
+    let [key_word, value_word] = words else {
         return Ok(None);
     };
-    let Some(key) = decoding::key(alloc, key)? else {
+    let Some(key) = key(alloc, key_word)? else {
         return Ok(None);
     };
-    let Some(value) = decoding::value(alloc, value)? else {
+    let Some(value) = value(alloc, value_word)? else {
         return Ok(None);
     };
     Ok(Some(Op::Put(key, value)))
@@ -89,16 +89,16 @@ fn get(alloc: Global, words: &[&[u8]]) -> Result<Option<Op>, NoMemory>
 fn cas(alloc: Global, words: &[&[u8]]) -> Result<Option<Op>, NoMemory>
     ensures { IfOk result (IsFound (AreOperandsOf (codes "cas") (map (λ x. x.now) words.now))) }
 {
-    let [key, old, new] = words else {
+    let [key_word, old_word, new_word] = words else {
         return Ok(None);
     };
-    let Some(key) = decoding::key(alloc, key)? else {
+    let Some(key) = key(alloc, key_word)? else {
         return Ok(None);
     };
-    let Some(old) = decoding::value(alloc, old)? else {
+    let Some(old) = value(alloc, old_word)? else {
         return Ok(None);
     };
-    let Some(new) = decoding::value(alloc, new)? else {
+    let Some(new) = value(alloc, new_word)? else {
         return Ok(None);
     };
     Ok(Some(Op::Cas(key, old, new)))

@@ -2,12 +2,12 @@
 ghost use Rattle.std.specs.Prelude.{◌≡◌, ◌↔◌, map, take, IfOk, IsTrue};
 ghost use Rattle.op_sched.specs.Grammar.{words_of};
 
-use op_types::{MOST_MEMBERS, NoMemory};
+use op_types::{MOST_IDS, NoMemory};
 use std::alloc::Global;
 
-/// How many words of a line are read: one more than the longest form has, which is a header of as many members as
-/// there may be. A line with as many is of no form, so its other words need no memory.
-pub const MOST_WORDS: usize = MOST_MEMBERS + 2;
+/// How many words of a line are read: one more than the longest form has, which is a line of as many spares as there may
+/// be. A line with as many is of no form, so its other words need no memory.
+pub const MOST_WORDS: usize = MOST_IDS + 2;
 
 /// The first words of a line.
 pub fn words(alloc: Global, line: &[u8]) -> Result<Vec<&[u8]>, NoMemory>

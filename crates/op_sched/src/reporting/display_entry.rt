@@ -3,7 +3,7 @@ ghost use Rattle.std.specs.Prelude.{Some};
 ghost use Rattle.std.specs.List.{flat_map};
 ghost use Rattle.op_sched.specs.Text.{entry_line, entry_text, keyed_text, op_text, pid_text};
 
-use crate::percent::Encoded;
+use op_text::Encoded;
 use op_types::{Blob, Command, ConfNo, Entry, Op, Pid};
 use std::fmt;
 

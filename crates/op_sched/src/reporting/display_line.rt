@@ -1,10 +1,9 @@
 //! The lines that events give, as text.
 ghost use Rattle.std.specs.Prelude.{Some};
-ghost use Rattle.op_sched.specs.Text.{ballot_text, line_text};
+ghost use Rattle.op_sched.specs.Text.{line_text};
 
-use crate::percent::Encoded;
-use crate::reporting::display_answer::{AnswerText, CauseText, OutcomeText};
-use op_types::{Ballot, Line};
+use op_runs::Line;
+use op_text::{AnswerText, BallotText, CauseText, Encoded, OutcomeText};
 use std::fmt;
 
 /// A line of the report, which prints with its end.
@@ -40,17 +39,5 @@ impl fmt::Display for LineText<'_> {
                 )
             }
         }
-    }
-}
-
-/// A ballot: its number, and its owner.
-#[derive(Clone, Copy)]
-pub struct BallotText(pub Ballot);
-
-impl fmt::Display for BallotText {
-    ghost output = { λ b. Some (ballot_text b.0) };
-
-    fn fmt<W: fmt::Write>(&self, f: &mut fmt::Formatter<W>) -> fmt::Result {
-        write!(f, "{} {}", self.0.number, self.0.pid)
     }
 }

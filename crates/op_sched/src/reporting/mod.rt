@@ -1,19 +1,17 @@
 //! The report of a run, as text.
 ghost use Rattle.std.specs.Prelude.{◌≡◌, ◌++◌, IfOk, OnOk, string_bytes};
 ghost use Rattle.std.specs.List.{flat_map};
-ghost use Rattle.op_sched.specs.Text.{line_text, entries_text, listed_text, node_text, report_of};
+ghost use Rattle.op_text.specs.Nodes.{node_text};
+ghost use Rattle.op_sched.specs.Text.{line_text, entries_text, listed_text, report_of};
 
-mod display_answer;
 mod display_entry;
 mod display_line;
-mod display_node;
-mod pieces;
 
 use display_entry::{EntryLine, PidsText};
 use display_line::LineText;
-use display_node::NodeText;
-use op_types::{ConfNo, Entry, Line, Listed, NoMemory, NodeLine, Summary};
-pub use pieces::{answer_text, node_line, outcome_text};
+use op_runs::{Line, Listed, NodeLine, Summary};
+use op_text::NodeText;
+use op_types::{ConfNo, Entry, NoMemory};
 use std::alloc::Global;
 use std::fmt::Write;
 

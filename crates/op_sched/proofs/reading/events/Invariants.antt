@@ -1,5 +1,5 @@
 use Rattle.std.proofs.Common.{◌+◌, ◌≤◌, ℕ, List, ◌++◌, length}
-use Rattle.op_types.specs.declared.events.Event.{Event}
+use Rattle.op_runs.specs.declared.events.Event.{Event}
 use Rattle.op_sched.specs.Grammar.{numbered_lines, AreEvents, IsFirstBadEvent}
 use Rattle.op_sched.proofs.reading.events.Given as goal
 

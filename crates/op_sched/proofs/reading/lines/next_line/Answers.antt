@@ -1,7 +1,8 @@
 use Rattle.std.proofs.Common.{rules, tests, ◌≡◌, ◌+◌, ◌<◌, length, sym, ◌∙◌, arith, length-drop}
 use Rattle.std.proofs.lemmas.Iterator.{YieldsList-from_slice}
 use Rattle.std.proofs.lemmas.Iterator.Search.{position_from_yields_List}
-use Rattle.op_sched.proofs.LineEnds.{line_end, lines_of-one, lines_of-more, rest_of}
+use Rattle.op_sched.proofs.LineEnds.{line_end, lines_of-one, lines_of-more}
+use Rattle.op_text.proofs.Rests.{rest_of}
 use Rattle.op_sched.proofs.reading.lines.next_line.Goals as goal
 
 pub returns-in_default-clause-found : goal.returns-in_default-clause-found

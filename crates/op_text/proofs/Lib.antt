@@ -1,0 +1,6 @@
+pub mod UnambiguousEncoding
+pub mod PlainBytes
+pub mod DecodedBytes
+pub mod FoundAlike
+pub mod Operations
+pub mod Rests

@@ -1,0 +1,33 @@
+-- Bytes that stand for themselves are ASCII, and their own encoding.
+use Rattle.std.proofs.Common.{◌≡◌, ℕ, ◌<◌, true, false, eqb, List, [], ◌∷◌, ◌++◌, refl, ap, ◌∙◌, arith, length}
+use Rattle.std.proofs.lemmas.Bool.{and_parts}
+use Rattle.std.proofs.lemmas.Bool.Decides.{nat_tests}
+use Rattle.std.proofs.lemmas.Str.Ascii.{IsAscii-nil, IsAscii-cons}
+use Rattle.std.specs.List.{flat_map, list_all}
+use Rattle.std.specs.Str.{IsAscii}
+use Rattle.op_text.specs.Percent.{is_plain, encoded, encoded_byte}
+
+plain_below : (b : ℕ) → is_plain b ≡ true → b < 128
+plain_below b h = grind (arith, nat_tests)
+
+-- plain bytes are ASCII
+pub ascii_plain : (bytes : List ℕ) → list_all is_plain bytes ≡ true → IsAscii bytes
+ascii_plain [] h = IsAscii-nil
+ascii_plain (b ∷ bytes) h =
+    let parts = and_parts (is_plain b) (list_all is_plain bytes) h in
+    IsAscii-cons b bytes (plain_below b parts.0) (ascii_plain bytes parts.1)
+
+encoded_byte-plain : (b : ℕ) → is_plain b ≡ true → encoded_byte b ≡ b ∷ []
+encoded_byte-plain b h = rw h refl
+
+flat_map-plain : (bytes : List ℕ) → list_all is_plain bytes ≡ true → flat_map encoded_byte bytes ≡ bytes
+flat_map-plain [] h = refl
+flat_map-plain (b ∷ bytes) h =
+    let parts = and_parts (is_plain b) (list_all is_plain bytes) h in
+    ap (λ (first : List ℕ). first ++ flat_map encoded_byte bytes) (encoded_byte-plain b parts.0)
+    ∙ ap (λ (rest : List ℕ). b ∷ rest) (flat_map-plain bytes parts.1)
+
+-- plain bytes are their own encoding
+pub encoded_plain : (bytes : List ℕ) → eqb (length bytes) 0 ≡ false → list_all is_plain bytes ≡ true → encoded bytes ≡ bytes
+encoded_plain [] some h = cc
+encoded_plain (b ∷ bytes) some h = flat_map-plain (b ∷ bytes) h

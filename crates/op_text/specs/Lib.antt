@@ -1,0 +1,5 @@
+pub mod Found
+pub mod Percent
+pub mod Operations
+pub mod Answers
+pub mod Nodes
