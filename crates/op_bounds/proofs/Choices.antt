@@ -5,7 +5,7 @@ use Rattle.std.proofs.lemmas.Bool.{cond_both, ltb-true, leb-true, and_parts}
 use Rattle.std.proofs.lemmas.Bool.Decides.{nat_tests}
 use Rattle.std.proofs.lemmas.List.Elements.{All-nil, All-cons, All-head, All-tail, All-append, All-filter}
 use Rattle.op_types.specs.Limits.{positions_end}
-use Rattle.op_types.specs.Ranges.{IsPlace, EntryInRange}
+use Rattle.op_types.specs.Ranges.{IsPlace}
 use Rattle.op_types.specs.Changes.{len_of}
 use Rattle.op_types.specs.RoleStates.{promise_of, promises_with}
 use Rattle.op_types.specs.declared.ballot.Ballot.{Ballot}
@@ -17,23 +17,23 @@ use Rattle.op_types.specs.declared.answers.Cause.TheVariants as cause
 use Rattle.op_protocol.specs.Parts.{stop_at}
 use Rattle.op_protocol.specs.Promises.{is_above, is_usable, Choice, own_choice, choice_of, better, best, stop_here, fitting, dropped, left_over}
 use Rattle.op_spec.specs.Machine.{stop_of, stop_at_end}
-use Rattle.op_bounds.specs.Messages.{BallotOf, ReplyInRange}
-use Rattle.op_bounds.specs.States.{PromisedInRange, BufferedInRange}
+use Rattle.op_bounds.specs.Messages.{BallotOf, EntryOf, ReplyInRange}
+use Rattle.op_bounds.proofs.Entries.{EntriesIn, no_entries, more_entries}
 use Rattle.op_bounds.proofs.Batches.{PartIn}
-use Rattle.op_bounds.proofs.Effects.{drop_one}
+use Rattle.op_bounds.proofs.Effects.{PromisedIn, BufferedIn, drop_one}
 
 -- ---- promises that are kept
 
-pub promise_found : (Known : ℕ → Type 0) (ks : List Promised) (q : ℕ) → All (PromisedInRange Known) ks → IfSome (promise_of ks q) (PromisedInRange Known)
-promise_found Known [] q each = tt
-promise_found Known (k ∷ ks) q each =
-    cond_both (eqb k.from q) (Some k) (promise_of ks q) (λ (o : Option Promised). IfSome o (PromisedInRange Known))
-    (λ _. All-head (PromisedInRange Known) k ks each) (λ _. promise_found Known ks q (All-tail (PromisedInRange Known) k ks each))
+pub promise_found : (Known : ℕ → Type 0) (conf : ℕ) (ks : List Promised) (q : ℕ) → All (PromisedIn Known conf) ks → IfSome (promise_of ks q) (PromisedIn Known conf)
+promise_found Known conf [] q each = tt
+promise_found Known conf (k ∷ ks) q each =
+    cond_both (eqb k.from q) (Some k) (promise_of ks q) (λ (o : Option Promised). IfSome o (PromisedIn Known conf))
+    (λ _. All-head (PromisedIn Known conf) k ks each) (λ _. promise_found Known conf ks q (All-tail (PromisedIn Known conf) k ks each))
 
-pub promises_more : (Known : ℕ → Type 0) (ks : List Promised) (k : Promised) → All (PromisedInRange Known) ks → PromisedInRange Known k → All (PromisedInRange Known) (promises_with ks k)
-promises_more Known ks k each one =
-    All-append (PromisedInRange Known) (filter (λ j. not (eqb j.from k.from)) ks) (k ∷ []) (All-filter (λ j. not (eqb j.from k.from)) (PromisedInRange Known) ks each)
-    (All-cons (PromisedInRange Known) k [] one (All-nil (PromisedInRange Known)))
+pub promises_more : (Known : ℕ → Type 0) (conf : ℕ) (ks : List Promised) (k : Promised) → All (PromisedIn Known conf) ks → PromisedIn Known conf k → All (PromisedIn Known conf) (promises_with ks k)
+promises_more Known conf ks k each one =
+    All-append (PromisedIn Known conf) (filter (λ j. not (eqb j.from k.from)) ks) (k ∷ []) (All-filter (λ j. not (eqb j.from k.from)) (PromisedIn Known conf) ks each)
+    (All-cons (PromisedIn Known conf) k [] one (All-nil (PromisedIn Known conf)))
 
 -- ---- logs by round and length
 
@@ -73,18 +73,18 @@ pub record ChoiceIn (Known : ℕ → Type 0) (p : Part) (c : Choice) : Type 0 wh
   pub low : p.decided ≤ c.start
   pub high : c.start ≤ len_of p
   pub ends : c.start + length c.entries ≤ positions_end
-  pub entries : All EntryInRange c.entries
+  pub entries : EntriesIn Known p.conf c.entries
   pub above : IsUpTo p.accepted (len_of p) c.accepted c.len
 
 own_in : (Known : ℕ → Type 0) (p : Part) → PartIn Known p → ChoiceIn Known p (own_choice p)
 own_in Known p k =
     record {
-      accepted = k.of.accepted;
+      accepted = k.accepted;
       len = k.range.len;
       low = k.range.decided.1;
       high = omega arith;
       ends = omega (arith, k.range.len);
-      entries = All-nil EntryInRange;
+      entries = no_entries Known p.conf;
       above = inr (refl, inr (refl, omega arith));
     }
 
@@ -95,7 +95,7 @@ usable_goes_on p k usable above =
     let parts = and_parts (leb p.decided k.start) (leb k.start (len_of p) && eqb (k.start + length k.entries) k.len) rest in
     (leb-true p.decided k.start parts.0, leb-true k.start (len_of p) (and_parts (leb k.start (len_of p)) (eqb (k.start + length k.entries) k.len) parts.1).0)
 
-promise_chosen : (Known : ℕ → Type 0) (p : Part) (k : Promised) (c : Choice) → PromisedInRange Known k → ChoiceIn Known p c → is_usable p k ≡ true → is_above k.accepted k.len c.accepted c.len ≡ true
+promise_chosen : (Known : ℕ → Type 0) (p : Part) (k : Promised) (c : Choice) → PromisedIn Known p.conf k → ChoiceIn Known p c → is_usable p k ≡ true → is_above k.accepted k.len c.accepted c.len ≡ true
     → ChoiceIn Known p (choice_of k)
 promise_chosen Known p k c one now usable above =
     let over : IsOver k.accepted k.len p.accepted (len_of p) = over_both k.accepted k.len c.accepted c.len p.accepted (len_of p) (over_from k.accepted k.len c.accepted c.len above) now.above in
@@ -110,18 +110,18 @@ promise_chosen Known p k c one now usable above =
       above = up_to_over k.accepted k.len p.accepted (len_of p) over;
     }
 
-better_in : (Known : ℕ → Type 0) (p : Part) (o : Option Promised) (c : Choice) → IfSome o (PromisedInRange Known) → ChoiceIn Known p c → ChoiceIn Known p (better p o c)
+better_in : (Known : ℕ → Type 0) (p : Part) (o : Option Promised) (c : Choice) → IfSome o (PromisedIn Known p.conf) → ChoiceIn Known p c → ChoiceIn Known p (better p o c)
 better_in Known p None c one now = now
 better_in Known p (Some k) c one now =
     cond_both (is_usable p k && is_above k.accepted k.len c.accepted c.len) (choice_of k) c (ChoiceIn Known p)
     (λ h. let parts = and_parts (is_usable p k) (is_above k.accepted k.len c.accepted c.len) h in promise_chosen Known p k c one now parts.0 parts.1)
     (λ _. now)
 
-best_from : (Known : ℕ → Type 0) (p : Part) (ks : List Promised) → All (PromisedInRange Known) ks → (qs : List ℕ) (c : Choice) → ChoiceIn Known p c → ChoiceIn Known p (best p ks qs c)
+best_from : (Known : ℕ → Type 0) (p : Part) (ks : List Promised) → All (PromisedIn Known p.conf) ks → (qs : List ℕ) (c : Choice) → ChoiceIn Known p c → ChoiceIn Known p (best p ks qs c)
 best_from Known p ks each [] c now = now
-best_from Known p ks each (q ∷ qs) c now = best_from Known p ks each qs (better p (promise_of ks q) c) (better_in Known p (promise_of ks q) c (promise_found Known ks q each) now)
+best_from Known p ks each (q ∷ qs) c now = best_from Known p ks each qs (better p (promise_of ks q) c) (better_in Known p (promise_of ks q) c (promise_found Known p.conf ks q each) now)
 
-pub best_in : (Known : ℕ → Type 0) (p : Part) (ks : List Promised) → PartIn Known p → All (PromisedInRange Known) ks → ChoiceIn Known p (best p ks p.members (own_choice p))
+pub best_in : (Known : ℕ → Type 0) (p : Part) (ks : List Promised) → PartIn Known p → All (PromisedIn Known p.conf) ks → ChoiceIn Known p (best p ks p.members (own_choice p))
 best_in Known p ks k each = best_from Known p ks each p.members (own_choice p) (own_in Known p k)
 
 -- ---- the buffer
@@ -137,31 +137,34 @@ stop_here_in : (e : Entry) (at : ℕ) → IsPlace at → StopInRange (stop_here 
 stop_here_in e at place = cond_both (is_some (stop_of e)) (Some at) None StopInRange (λ _. place) (λ _. tt)
 
 -- entries that end within the positions
-pub record EndsInRange (len : ℕ) (es : List Entry) : Type 0 where
+pub record EndsInRange (Known : ℕ → Type 0) (conf len : ℕ) (es : List Entry) : Type 0 where
   pub ends : len + length es ≤ positions_end
-  pub each : All EntryInRange es
+  pub each : EntriesIn Known conf es
 
-none_more : (len : ℕ) → IsPlace len → EndsInRange len []
-none_more len place = record { ends = omega (arith, place); each = All-nil EntryInRange }
+none_more : (Known : ℕ → Type 0) (conf len : ℕ) → IsPlace len → EndsInRange Known conf len []
+none_more Known conf len place = record { ends = omega (arith, place); each = no_entries Known conf }
 
-pub fitting_in : (stop : Option ℕ) (len : ℕ) (buffer : List Buffered) → IsPlace len → All BufferedInRange buffer → EndsInRange len (fitting stop len buffer)
-fitting_in (Some pos) len buffer place each = none_more len place
-fitting_in None len [] place each = none_more len place
-fitting_in None len (b ∷ buffer) place each =
-    cond_both (ltb len positions_end) (b.entry ∷ fitting (stop_here b.entry len) (len + 1) buffer) [] (EndsInRange len)
+pub fitting_in : (Known : ℕ → Type 0) (conf : ℕ) (stop : Option ℕ) (len : ℕ) (buffer : List Buffered) → IsPlace len → All (BufferedIn Known conf) buffer → EndsInRange Known conf len (fitting stop len buffer)
+fitting_in Known conf (Some pos) len buffer place each = none_more Known conf len place
+fitting_in Known conf None len [] place each = none_more Known conf len place
+fitting_in Known conf None len (b ∷ buffer) place each =
+    cond_both (ltb len positions_end) (b.entry ∷ fitting (stop_here b.entry len) (len + 1) buffer) [] (EndsInRange Known conf len)
     (λ h. let room = ltb-true len positions_end h in
-    let more = fitting_in (stop_here b.entry len) (len + 1) buffer (omega (arith, room)) (All-tail BufferedInRange b buffer each) in
-    record { ends = omega (arith, more.ends); each = All-cons EntryInRange b.entry _ (All-head BufferedInRange b buffer each) more.each })
-    (λ _. none_more len place)
+    let more = fitting_in Known conf (stop_here b.entry len) (len + 1) buffer (omega (arith, room)) (All-tail (BufferedIn Known conf) b buffer each) in
+    record { ends = omega (arith, more.ends); each = more_entries Known conf b.entry _ (All-head (BufferedIn Known conf) b buffer each) more.each })
+    (λ _. none_more Known conf len place)
 
-pub left_over_in : (Known : ℕ → Type 0) (stop : Option ℕ) (len : ℕ) (buffer : List Buffered) → StopInRange stop → All BufferedInRange buffer → All (ReplyInRange Known) (left_over stop len buffer)
-left_over_in Known None len [] in_stop each = All-nil (ReplyInRange Known)
-left_over_in Known (Some pos) len [] in_stop each = All-nil (ReplyInRange Known)
-left_over_in Known (Some pos) len (b ∷ buffer) in_stop each =
-    All-append (ReplyInRange Known) (dropped (cause.Stop pos) b) (left_over (Some pos) len buffer) (drop_one Known (cause.Stop pos) b in_stop (All-head BufferedInRange b buffer each))
-    (left_over_in Known (Some pos) len buffer in_stop (All-tail BufferedInRange b buffer each))
-left_over_in Known None len (b ∷ buffer) in_stop each =
+buffered_entry : (Known : ℕ → Type 0) (conf : ℕ) (b : Buffered) (buffer : List Buffered) → All (BufferedIn Known conf) (b ∷ buffer) → EntryOf Known b.entry
+buffered_entry Known conf b buffer each = All-head (EntryOf Known) b.entry [] (All-head (BufferedIn Known conf) b buffer each).each
+
+pub left_over_in : (Known : ℕ → Type 0) (conf : ℕ) (stop : Option ℕ) (len : ℕ) (buffer : List Buffered) → StopInRange stop → All (BufferedIn Known conf) buffer → All (ReplyInRange Known) (left_over stop len buffer)
+left_over_in Known conf None len [] in_stop each = All-nil (ReplyInRange Known)
+left_over_in Known conf (Some pos) len [] in_stop each = All-nil (ReplyInRange Known)
+left_over_in Known conf (Some pos) len (b ∷ buffer) in_stop each =
+    All-append (ReplyInRange Known) (dropped (cause.Stop pos) b) (left_over (Some pos) len buffer) (drop_one Known (cause.Stop pos) b in_stop (buffered_entry Known conf b buffer each))
+    (left_over_in Known conf (Some pos) len buffer in_stop (All-tail (BufferedIn Known conf) b buffer each))
+left_over_in Known conf None len (b ∷ buffer) in_stop each =
     cond_both (ltb len positions_end) (left_over (stop_here b.entry len) (len + 1) buffer) (dropped cause.End b ++ left_over None len buffer) (All (ReplyInRange Known))
-    (λ h. let room = ltb-true len positions_end h in left_over_in Known (stop_here b.entry len) (len + 1) buffer (stop_here_in b.entry len (omega (arith, room))) (All-tail BufferedInRange b buffer each))
-    (λ _. All-append (ReplyInRange Known) (dropped cause.End b) (left_over None len buffer) (drop_one Known cause.End b tt (All-head BufferedInRange b buffer each))
-    (left_over_in Known None len buffer in_stop (All-tail BufferedInRange b buffer each)))
+    (λ h. let room = ltb-true len positions_end h in left_over_in Known conf (stop_here b.entry len) (len + 1) buffer (stop_here_in b.entry len (omega (arith, room))) (All-tail (BufferedIn Known conf) b buffer each))
+    (λ _. All-append (ReplyInRange Known) (dropped cause.End b) (left_over None len buffer) (drop_one Known cause.End b tt (buffered_entry Known conf b buffer each))
+    (left_over_in Known conf None len buffer in_stop (All-tail (BufferedIn Known conf) b buffer each)))

@@ -1,9 +1,8 @@
 -- Changes that cut a log and add to it: what they make of a part, and that they fit it.
-use Rattle.std.proofs.Common.{◌≡◌, ◌≤◌, ◌+◌, ◌-◌, ℕ, ltb, List, [], ◌∷◌, ◌++◌, length, take, refl, sym, ap, ◌∙◌, subst, arith, length-append, append-nil, take_all, All}
+use Rattle.std.proofs.Common.{◌≡◌, ◌≤◌, ◌+◌, ◌-◌, ℕ, ltb, List, [], ◌∷◌, ◌++◌, length, take, refl, sym, ap, ◌∙◌, subst, arith, length-append, append-nil, take_all}
 use Rattle.std.proofs.lemmas.Bool.{cond_both, ltb-true, ltb-false}
 use Rattle.std.proofs.lemmas.List.{length-take-le}
 use Rattle.op_types.specs.Limits.{positions_end}
-use Rattle.op_types.specs.Ranges.{EntryInRange}
 use Rattle.op_types.specs.Changes.{len_of, part_with_log}
 use Rattle.op_types.specs.declared.ballot.Ballot.{Ballot}
 use Rattle.op_types.specs.declared.log.Entry.{Entry}
@@ -12,6 +11,7 @@ use Rattle.op_types.specs.declared.changes.Change.{Change}
 use Rattle.op_types.specs.declared.changes.Change.TheVariants as change
 use Rattle.op_protocol.specs.Parts.{part_after, part_in_round, cutting, appending}
 use Rattle.op_bounds.specs.Messages.{BallotOf}
+use Rattle.op_bounds.proofs.Entries.{EntriesIn}
 use Rattle.op_bounds.proofs.Batches.{BatchFits, fits_both, part_after-both}
 
 -- ---- what they make
@@ -46,7 +46,7 @@ len_after_log p x es low high =
 
 -- ---- that they fit
 
-pub fits_appending : (Known : ℕ → Type 0) (p : Part) (es : List Entry) → len_of p + length es ≤ positions_end → All EntryInRange es → BatchFits Known p (appending es)
+pub fits_appending : (Known : ℕ → Type 0) (p : Part) (es : List Entry) → len_of p + length es ≤ positions_end → EntriesIn Known p.conf es → BatchFits Known p (appending es)
 fits_appending Known p [] ends each = tt
 fits_appending Known p (e ∷ es) ends each = ((ends, each), tt)
 
@@ -55,7 +55,7 @@ fits_cutting Known p x low =
     cond_both (ltb x (len_of p)) (change.CutTo x ∷ []) [] (λ (b : List Change). BatchFits Known p b) (λ h. let l = ltb-true x (len_of p) h in ((low, omega arith), tt)) (λ h. tt)
 
 -- a place that isn't trimmed, and isn't decided beyond
-pub fits_log : (Known : ℕ → Type 0) (p : Part) (x : ℕ) (es : List Entry) → p.trimmed ≤ p.decided → p.decided ≤ x → x ≤ len_of p → x + length es ≤ positions_end → All EntryInRange es
+pub fits_log : (Known : ℕ → Type 0) (p : Part) (x : ℕ) (es : List Entry) → p.trimmed ≤ p.decided → p.decided ≤ x → x ≤ len_of p → x + length es ≤ positions_end → EntriesIn Known p.conf es
     → BatchFits Known p (cutting p x ++ appending es)
 fits_log Known p x es first low high ends each =
     fits_both Known p (cutting p x) (appending es) (fits_cutting Known p x low)
@@ -66,7 +66,7 @@ pub fits_accepting : (Known : ℕ → Type 0) (p : Part) (batch : List Change) (
 fits_accepting Known p batch n fit of = fits_both Known p batch (change.Accept n ∷ []) fit (of, tt)
 
 pub fits_adopting : (Known : ℕ → Type 0) (p : Part) (x : ℕ) (es more : List Entry) (n : Ballot) → p.trimmed ≤ p.decided → p.decided ≤ x → x ≤ len_of p
-    → x + length es + length more ≤ positions_end → All EntryInRange es → All EntryInRange more → BallotOf Known n
+    → x + length es + length more ≤ positions_end → EntriesIn Known p.conf es → EntriesIn Known p.conf more → BallotOf Known n
     → BatchFits Known p (cutting p x ++ appending es ++ appending more ++ change.Accept n ∷ [])
 fits_adopting Known p x es more n first low high ends each others of =
     fits_accepting Known p (cutting p x ++ appending es ++ appending more) n

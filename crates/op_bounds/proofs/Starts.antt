@@ -1,99 +1,118 @@
 -- Nodes are in range at their first start and when they are opened again.
-use Rattle.std.proofs.Common.{◌-◌, ℕ, List, take, Option, Some, None, refl, arith, All}
-use Rattle.std.proofs.lemmas.Cmp.{nat_eq_equiv}
-use Rattle.std.proofs.lemmas.Map.Made.{All-is_member}
-use Rattle.std.proofs.lemmas.List.Elements.{All-nil, All-map, All-weaker, All-take}
-use Rattle.op_types.specs.Ranges.{IsMember, IsKey, IsValue, IsNumber, MembersInRange, EntryInRange}
-use Rattle.op_types.specs.Ballots.{no_ballot}
-use Rattle.op_types.specs.declared.ballot.Ballot.{Ballot}
+use Rattle.std.proofs.Common.{ℕ, not, nat_eq, eqb, List, [], ◌∷◌, Option, Some, None, arith, All}
+use Rattle.std.specs.Prelude.{IfSome}
+use Rattle.std.specs.Set.{is_member}
+use Rattle.std.specs.Ordering.{nat_cmp}
+use Rattle.std.specs.BTreeSet.{insert_key}
+use Rattle.std.proofs.lemmas.Bool.{cond_both}
+use Rattle.std.proofs.lemmas.Map.Views.{All-insert_key}
+use Rattle.std.proofs.lemmas.List.Elements.{All-nil, All-head, All-tail, All-map, All-weaker, All-filter}
+use Rattle.op_types.specs.Changes.{empty_durable}
+use Rattle.op_types.specs.Roles.{Idle}
 use Rattle.op_types.specs.declared.durable.Closed.{Closed}
+use Rattle.op_types.specs.declared.durable.Joining.{Joining}
 use Rattle.op_types.specs.declared.durable.Part.{Part}
+use Rattle.op_types.specs.declared.durable.Durable.{Durable}
 use Rattle.op_types.specs.declared.messages.Body.TheVariants as body
-use Rattle.op_spec.specs.Service.{new_service}
+use Rattle.op_spec.specs.Service.{new_service, base_bytes}
 use Rattle.op_protocol.specs.Parts.{others}
-use Rattle.op_protocol.specs.Starting.{volatile_with, first_volatile, restart_ballot, sends_after_restart, state_after_restart}
-use Rattle.op_runs.specs.World.{first_durable, first_node, first_world}
-use Rattle.op_bounds.specs.Messages.{AreIds, BallotOf, SendInRange}
-use Rattle.op_spec.specs.ServiceRanges.{AppliedInRange, ServiceInRange}
-use Rattle.op_bounds.specs.States.{DurableOf, HeardInRange, VolatileInRange, StateInRange}
+use Rattle.op_protocol.specs.Starting.{restart_ballot, requests_to_prepare, service_after_restart, volatile_after_restart, state_after_restart}
+use Rattle.op_runs.specs.World.{first_durable, durable_at_start, first_node, node_ids, first_world}
+use Rattle.op_bounds.specs.Messages.{AreIds, MembersOf, SendInRange}
+use Rattle.op_bounds.specs.States.{DurableOf, IsNamed, RoleEndsNowhere, VolatileInRange, StateInRange}
 use Rattle.op_bounds.specs.Laws.{OpeningsStayInRange, SentInRange, NodeInRange, WorldInRange, StartsAreInRange}
-use Rattle.op_bounds.proofs.Batches.{PartIn, stored}
-use Rattle.op_bounds.proofs.Effects.{send_each, others_all}
-use Rattle.op_bounds.proofs.Ballots.{member_ids, no_ballot_in, own_ballot_in, restart_ballot_in}
-use Rattle.op_bounds.proofs.Serving.{all_after_in}
-use Rattle.op_bounds.proofs.Steps.{part_of}
+use Rattle.op_bounds.proofs.ReadBases.{ServiceIn, new_service_in, base_of}
+use Rattle.op_bounds.proofs.Batches.{part_in}
+use Rattle.op_bounds.proofs.Effects.{send_each}
+use Rattle.op_bounds.proofs.Ballots.{restart_ballot_in}
+use Rattle.op_bounds.proofs.JoinChanges.{stored}
+use Rattle.op_bounds.proofs.Plans.{part_bases}
+use Rattle.op_bounds.proofs.Beginning.{started, first_volatile_in, new_part_range, new_part_of}
 
--- ---- any start
+-- ---- an opening
 
-nothing_kept : ServiceInRange new_service
-nothing_kept = record { keys = All-nil IsKey; values = All-nil IsValue; clients = All-nil IsNumber; applied = All-nil AppliedInRange }
+module _ (Known : ℕ → Type 0) (ids : AreIds Known) (me : ℕ) (one : Known me) (l : Option Closed) (j : Option Joining) where
+  memory : (o : Option Part) → DurableOf Known (stored o l j) → VolatileInRange Known (volatile_after_restart me o)
+  memory None d = first_volatile_in Known ids me one
+  memory (Some p) d = started Known ids (restart_ballot me p.promised) p.promised (restart_ballot_in Known me p.promised ids one) d.part.promised
 
-module _ (Known : ℕ → Type 0) (ids : AreIds Known) where
-  started : (own leader : Ballot) → BallotOf Known own → BallotOf Known leader → VolatileInRange Known (volatile_with own leader)
-  started own leader in_own in_leader = record { own = in_own; leader = in_leader; floor = no_ballot_in Known; round = omega arith; heard = All-nil (HeardInRange Known); role = tt }
+  idle : (o : Option Part) → IfSome o (λ p. RoleEndsNowhere p.conf (volatile_after_restart me o).role)
+  idle None = tt
+  idle (Some p) = tt
 
-  first_volatile_in : (me : ℕ) → Known me → VolatileInRange Known (first_volatile me)
-  first_volatile_in me one = started (record { number = 1; pid = me }) no_ballot (own_ballot_in Known me 1 ids one (omega arith)) (no_ballot_in Known)
+  service : (o : Option Part) → DurableOf Known (stored o l j) → ServiceIn (service_after_restart o)
+  service None d = new_service_in
+  service (Some p) d = part_bases Known p (part_in Known p d.range.part d.part) p.decided
 
-  -- ---- an opening
-  restarted : (me : ℕ) → Known me → (o : Option Part) (closed : Option Closed) → DurableOf Known (stored o closed) → StateInRange Known (state_after_restart me (stored o closed))
-  restarted me one None closed d = record { durable = d; volatile = first_volatile_in me one; service = nothing_kept }
-  restarted me one (Some p) closed d =
-      record {
-        durable = d;
-        volatile = started (restart_ballot me p.promised) p.promised (restart_ballot_in Known me p.promised ids one) d.part.promised;
-        service = all_after_in Known new_service (take (p.decided - p.trimmed) p.tail.items) (All-take EntryInRange (p.decided - p.trimmed) p.tail.items d.range.part.entries) nothing_kept;
-      }
+  restarted : (o : Option Part) → DurableOf Known (stored o l j) → StateInRange Known (state_after_restart me (stored o l j))
+  restarted o d = record { durable = d; volatile = memory o d; stops = idle o; service = (service o d).range; order = (service o d).order }
 
-  sends_in : (me : ℕ) (o : Option Part) (closed : Option Closed) → DurableOf Known (stored o closed) → All (SendInRange Known) (sends_after_restart me o)
-  sends_in me None closed d = All-nil (SendInRange Known)
-  sends_in me (Some p) closed d =
-      let k : PartIn Known p = part_of Known p closed d in send_each Known p.conf (others me p.members) body.PrepareReq k.range.conf (others_all Known me p k) tt
+  asked : (o : Option Part) (x : Option Joining) → DurableOf Known (stored o l j) → All (SendInRange Known) (requests_to_prepare me o x)
+  asked None x d = All-nil (SendInRange Known)
+  asked (Some p) (Some x) d = All-nil (SendInRange Known)
+  asked (Some p) None d =
+      send_each Known p.conf (others me p.members) body.PrepareReq d.range.part.conf (omega arith) (All-filter (λ q. not (eqb q me)) Known p.members d.part.members) tt
 
 pub openings_stay : (Known : ℕ → Type 0) → OpeningsStayInRange Known
-openings_stay Known ids me one d k = record { state = restarted Known ids me one d.part d.closed k; sends = sends_in Known ids me d.part d.closed k }
+openings_stay Known ids me one d k =
+    record {
+      state = restarted Known ids me one d.closed d.joining d.part k;
+      sends = asked Known ids me one d.closed d.joining d.part d.joining k;
+    }
 
 -- ---- the first start
 
-module _ (members : List ℕ) (range : MembersInRange members) where
-  first_durable_in : DurableOf (IsMember members) (first_durable members)
-  first_durable_in =
+pub all_ids : (Known : ℕ → Type 0) (spares members : List ℕ) → All Known members → All Known spares → All Known (node_ids members spares)
+all_ids Known [] members ms ss = ms
+all_ids Known (q ∷ spares) members ms ss =
+    all_ids Known spares (insert_key nat_cmp members q) (All-insert_key nat_cmp q Known members ms (All-head Known q spares ss)) (All-tail Known q spares ss)
+
+module _ (Known : ℕ → Type 0) (ids : AreIds Known) (members : List ℕ) (range : MembersOf Known members) where
+  member_durable : DurableOf Known (first_durable members)
+  member_durable =
       record {
         range = record {
-          part = record {
-            conf = (omega arith, omega arith);
-            members = range;
-            promised = (no_ballot_in (IsMember members)).range;
-            accepted = (no_ballot_in (IsMember members)).range;
-            base = refl;
-            trimmed = refl;
-            len = omega arith;
-            entries = All-nil EntryInRange;
-            decided = (omega arith, omega arith);
-            room = refl;
-          };
-          closed = refl;
+          part = new_part_range Known 1 members (base_bytes new_service) range (omega arith, omega arith) (base_of new_service new_service_in);
+          closed = tt;
+          joining = tt;
         };
-        part = record {
-          members = All-is_member nat_eq_equiv members;
-          promised = no_ballot_in (IsMember members);
-          accepted = no_ballot_in (IsMember members);
-        };
+        part = new_part_of Known 1 members (base_bytes new_service) range;
+        closed = tt;
+        joining = tt;
       }
 
-  first_state_in : (me : ℕ) → IsMember members me → StateInRange (IsMember members) (first_node members me).state
-  first_state_in me one =
-      record { durable = first_durable_in; volatile = first_volatile_in (IsMember members) (member_ids members range) me one; service = nothing_kept }
+  spare_durable : DurableOf Known empty_durable
+  spare_durable = record { range = record { part = tt; closed = tt; joining = tt }; part = tt; closed = tt; joining = tt }
 
-  first_node_in : (me : ℕ) → IsMember members me → NodeInRange members (first_node members me)
-  first_node_in me one = record { pid = one; state = first_state_in me one; of = refl; status = tt }
+  -- what is stored at the start, and who is a member
+  record StoredAtStart (me : ℕ) (d : Durable) : Type 0 where
+    pub fits : DurableOf Known d
+    pub idle : IfSome d.part (λ p. RoleEndsNowhere p.conf Idle)
+    pub named : IsNamed me d
 
-  first_world_in : WorldInRange members (first_world members)
-  first_world_in =
+  at_start : (me : ℕ) → StoredAtStart me (durable_at_start members me)
+  at_start me =
+      cond_both (is_member nat_eq members me) (first_durable members) empty_durable (StoredAtStart me)
+      (λ h. record { fits = member_durable; idle = tt; named = record { part = h; joining = tt } })
+      (λ _. record { fits = spare_durable; idle = tt; named = record { part = tt; joining = tt } })
+
+  first_node_in : (me : ℕ) → Known me → NodeInRange Known (first_node members me)
+  first_node_in me one =
+      let d : StoredAtStart me (durable_at_start members me) = at_start me in
       record {
-        nodes = All-map (NodeInRange members) (first_node members) members (All-weaker (IsMember members) (λ q. NodeInRange members (first_node members q)) first_node_in members (All-is_member nat_eq_equiv members));
-        messages = All-nil (SentInRange members);
+        pid = one;
+        state = record { durable = d.fits; volatile = first_volatile_in Known ids me one; stops = d.idle; service = new_service_in.range; order = new_service_in.order };
+        named = d.named;
+        status = tt;
       }
 
-pub starts_in : StartsAreInRange
-starts_in members range = first_world_in members range
+  pub first_world_in : (spares : List ℕ) → All Known spares → WorldInRange Known (first_world members spares)
+  first_world_in spares known =
+      record {
+        nodes = All-map (NodeInRange Known) (first_node members) (node_ids members spares)
+            (All-weaker Known (λ q. NodeInRange Known (first_node members q)) first_node_in (node_ids members spares) (all_ids Known spares members range.known known));
+        messages = All-nil (SentInRange Known);
+      }
+
+pub starts_in : (Known : ℕ → Type 0) → StartsAreInRange Known
+starts_in Known ids members spares k = first_world_in Known ids members k.members_are spares k.spares_are

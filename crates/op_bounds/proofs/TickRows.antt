@@ -20,38 +20,67 @@ use Rattle.op_protocol.specs.Parts.{message, others, first}
 use Rattle.op_protocol.specs.Leader.{lead}
 use Rattle.op_protocol.specs.Tick.{candidate_of, next_round_state, requests, remembering, with_floor_at, only_asks, elected, by_verdict, on_tick, on_heartbeat_request, on_heartbeat_reply, on_refuse}
 use Rattle.op_bounds.specs.Messages.{AreIds, BallotOf, SendInRange, ReplyInRange, OutcomeInRange}
-use Rattle.op_bounds.specs.States.{HeardInRange, VolatileInRange}
+use Rattle.op_bounds.specs.States.{HeardInRange, VolatileInRange, RoleEndsNowhere}
 use Rattle.op_bounds.proofs.Batches.{PartIn, BatchFits}
-use Rattle.op_bounds.proofs.Effects.{RowInRange, row_first, send_one, send_each, others_all}
+use Rattle.op_bounds.proofs.Effects.{RoleIn, role_in, role_range, RowInRange, row_first, send_one, send_each, others_all}
 use Rattle.op_bounds.proofs.LeaderRows.{lead_in}
 use Rattle.op_bounds.proofs.Ballots.{own_ballot_in, greater_in, greatest_in}
+
+-- what a node of a configuration keeps in memory, in range
+pub record VolatileIn (Known : ℕ → Type 0) (conf : ℕ) (v : Volatile) : Type 0 where
+  pub range : VolatileInRange Known v
+  pub stops : RoleEndsNowhere conf v.role
+
+-- its role
+pub role_of : (Known : ℕ → Type 0) (conf : ℕ) (v : Volatile) → VolatileIn Known conf v → RoleIn Known conf v.role
+role_of Known conf v k = role_in Known conf v.role k.range.role k.stops
 
 -- what a step does at a part, in range
 pub record PartStepInRange (Known : ℕ → Type 0) (p : Part) (x : PartStep) : Type 0 where
   pub batch : BatchFits Known p x.batch
   pub few : length x.batch ≤ 6
-  pub volatile : VolatileInRange Known x.volatile
+  pub volatile : VolatileIn Known p.conf x.volatile
   pub sends : All (SendInRange Known) x.sends
   pub replies : All (ReplyInRange Known) x.replies
   pub outcome : IfSome x.outcome (OutcomeInRange Known)
 
-pub effects_in : (Known : ℕ → Type 0) (p : Part) (most : ℕ) (v : Volatile) (e : Effects) → most ≤ 6 → VolatileInRange Known v → RowInRange Known p most e → PartStepInRange Known p (with_effects v e)
+pub effects_in : (Known : ℕ → Type 0) (p : Part) (most : ℕ) (v : Volatile) (e : Effects) → most ≤ 6 → VolatileIn Known p.conf v → RowInRange Known p.conf p most e → PartStepInRange Known p (with_effects v e)
 effects_in Known p most v e small in_volatile row =
     record {
       batch = row.batch;
       few = omega (arith, row.few);
-      volatile = record { own = in_volatile.own; leader = in_volatile.leader; floor = in_volatile.floor; round = in_volatile.round; heard = in_volatile.heard; role = row.role };
+      volatile = record {
+        range = record {
+          own = in_volatile.range.own;
+          leader = in_volatile.range.leader;
+          floor = in_volatile.range.floor;
+          round = in_volatile.range.round;
+          heard = in_volatile.range.heard;
+          role = (role_range Known p.conf e.role row.role).0;
+        };
+        stops = (role_range Known p.conf e.role row.role).1;
+      };
       sends = row.sends;
       replies = row.replies;
       outcome = row.outcome;
     }
 
-pub remembering_in : (Known : ℕ → Type 0) (p : Part) (v : Volatile) (sends : List (ℕ × Msg)) → VolatileInRange Known v → All (SendInRange Known) sends → PartStepInRange Known p (remembering v sends)
+pub remembering_in : (Known : ℕ → Type 0) (p : Part) (v : Volatile) (sends : List (ℕ × Msg)) → VolatileIn Known p.conf v → All (SendInRange Known) sends → PartStepInRange Known p (remembering v sends)
 remembering_in Known p v sends in_volatile said = record { batch = tt; few = omega arith; volatile = in_volatile; sends = said; replies = All-nil (ReplyInRange Known); outcome = tt }
 
-floor_in : (Known : ℕ → Type 0) (v : Volatile) (b : Ballot) → VolatileInRange Known v → BallotOf Known b → VolatileInRange Known (with_floor_at v b)
-floor_in Known v b in_volatile of =
-    record { own = in_volatile.own; leader = in_volatile.leader; floor = greater_in Known v.floor b in_volatile.floor of; round = in_volatile.round; heard = in_volatile.heard; role = in_volatile.role }
+floor_in : (Known : ℕ → Type 0) (conf : ℕ) (v : Volatile) (b : Ballot) → VolatileIn Known conf v → BallotOf Known b → VolatileIn Known conf (with_floor_at v b)
+floor_in Known conf v b in_volatile of =
+    record {
+      range = record {
+        own = in_volatile.range.own;
+        leader = in_volatile.range.leader;
+        floor = greater_in Known v.floor b in_volatile.range.floor of;
+        round = in_volatile.range.round;
+        heard = in_volatile.range.heard;
+        role = in_volatile.range.role;
+      };
+      stops = in_volatile.stops;
+    }
 
 -- ---- the end of a round
 
@@ -102,37 +131,40 @@ next_round_small round = cond_both (ltb round greatest_number) (round + 1) 1 (λ
 
 module _ (Known : ℕ → Type 0) (ids : AreIds Known) (me : ℕ) (one : Known me) (p : Part) (k : PartIn Known p) where
   requests_said : (round : ℕ) → round ≤ greatest_number → All (SendInRange Known) (requests me p round)
-  requests_said round small = send_each Known p.conf (others me p.members) (body.HeartbeatRequest round) k.range.conf (others_all Known me p k) small
+  requests_said round small = send_each Known p.conf (others me p.members) (body.HeartbeatRequest round) k.range.conf (omega arith) (others_all Known me p k) small
 
-  asks_in : (v : Volatile) → VolatileInRange Known v → PartStepInRange Known p (only_asks me p v)
-  asks_in v in_volatile = remembering_in Known p v (requests me p v.round) in_volatile (requests_said v.round in_volatile.round)
+  asks_in : (v : Volatile) → VolatileIn Known p.conf v → PartStepInRange Known p (only_asks me p v)
+  asks_in v in_volatile = remembering_in Known p v (requests me p v.round) in_volatile (requests_said v.round in_volatile.range.round)
 
-  elected_in : (v : Volatile) (n : Ballot) → VolatileInRange Known v → BallotOf Known n → PartStepInRange Known p (elected me p v n)
+  elected_in : (v : Volatile) (n : Ballot) → VolatileIn Known p.conf v → BallotOf Known n → PartStepInRange Known p (elected me p v n)
   elected_in v n in_volatile of =
       cond_both (is_below p.promised n) (with_effects v (first [] (requests me p v.round) [] (lead me p v.role n))) (only_asks me p (with_floor_at v p.promised)) (PartStepInRange Known p)
       (λ _. effects_in Known p 6 v (first [] (requests me p v.round) [] (lead me p v.role n)) (omega arith) in_volatile
-      (row_first Known p 6 6 [] (requests me p v.round) [] (lead me p v.role n) tt (omega arith) (requests_said v.round in_volatile.round) (All-nil (ReplyInRange Known))
-      (lead_in Known me p k v.role n in_volatile.role of)))
-      (λ _. asks_in (with_floor_at v p.promised) (floor_in Known v p.promised in_volatile k.of.promised))
+      (row_first Known p.conf p 6 6 [] (requests me p v.round) [] (lead me p v.role n) tt (omega arith) (requests_said v.round in_volatile.range.round) (All-nil (ReplyInRange Known))
+      (lead_in Known me p k v.role n (role_of Known p.conf v in_volatile) of)))
+      (λ _. asks_in (with_floor_at v p.promised) (floor_in Known p.conf v p.promised in_volatile k.promised))
 
-  verdict_in : (v : Volatile) (o : Verdict) → VolatileInRange Known v → VerdictIn Known o → PartStepInRange Known p (by_verdict me p v o)
+  verdict_in : (v : Volatile) (o : Verdict) → VolatileIn Known p.conf v → VerdictIn Known o → PartStepInRange Known p (by_verdict me p v o)
   verdict_in v verdict.Nobody in_volatile of = asks_in v in_volatile
   verdict_in v (verdict.Raised b) in_volatile of = asks_in v in_volatile
   verdict_in v (verdict.Elected n) in_volatile of =
       cond_both (eqb n.pid me) (elected me p v n) (only_asks me p v) (PartStepInRange Known p) (λ _. elected_in v n in_volatile of) (λ _. asks_in v in_volatile)
 
-  pub tick_in : (v : Volatile) → VolatileInRange Known v → PartStepInRange Known p (on_tick me p v)
+  pub tick_in : (v : Volatile) → VolatileIn Known p.conf v → PartStepInRange Known p (on_tick me p v)
   tick_in v in_volatile =
       let e : Ended = round_end (candidate_of me p v) v.heard in
-      let ended : EndedIn Known e = round_end_in Known (candidate_of me p v) v.heard ids (record { me = one; own = in_volatile.own; leader = in_volatile.leader; floor = in_volatile.floor }) in_volatile.heard in
+      let ended : EndedIn Known e = round_end_in Known (candidate_of me p v) v.heard ids (record { me = one; own = in_volatile.range.own; leader = in_volatile.range.leader; floor = in_volatile.range.floor }) in_volatile.range.heard in
       verdict_in (next_round_state v e.after) e.verdict
-      (record { own = ended.after.own; leader = ended.after.leader; floor = ended.after.floor; round = next_round_small v.round; heard = All-nil (HeardInRange Known); role = in_volatile.role })
+      (record {
+        range = record { own = ended.after.own; leader = ended.after.leader; floor = ended.after.floor; round = next_round_small v.round; heard = All-nil (HeardInRange Known); role = in_volatile.range.role };
+        stops = in_volatile.stops;
+      })
       ended.verdict
 
   -- ---- messages
-  pub request_in : (v : Volatile) (q round : ℕ) → VolatileInRange Known v → Known q → round ≤ greatest_number → PartStepInRange Known p (on_heartbeat_request p v q round)
+  pub request_in : (v : Volatile) (q round : ℕ) → VolatileIn Known p.conf v → Known q → round ≤ greatest_number → PartStepInRange Known p (on_heartbeat_request p v q round)
   request_in v q round in_volatile from small =
-      remembering_in Known p v (message p.conf q (body.HeartbeatReply round v.own v.flag) ∷ []) in_volatile (send_one Known p.conf q (body.HeartbeatReply round v.own v.flag) k.range.conf from (small, in_volatile.own))
+      remembering_in Known p v (message p.conf q (body.HeartbeatReply round v.own v.flag) ∷ []) in_volatile (send_one Known p.conf q (body.HeartbeatReply round v.own v.flag) k.range.conf (omega arith) from (small, in_volatile.range.own))
 
   heard_more : (current : ℕ) (heard : List Heard) (round : ℕ) (h : Heard) → All (HeardInRange Known) heard → HeardInRange Known h → All (HeardInRange Known) (heard_in me p.members current heard round h)
   heard_more current heard round h each of =
@@ -140,19 +172,22 @@ module _ (Known : ℕ → Type 0) (ids : AreIds Known) (me : ℕ) (one : Known m
       (λ _. All-append (HeardInRange Known) (without heard h.from) (h ∷ []) (All-filter (λ j. not (eqb j.from h.from)) (HeardInRange Known) heard each) (All-cons (HeardInRange Known) h [] of (All-nil (HeardInRange Known))))
       (λ _. each)
 
-  pub reply_in : (v : Volatile) (q round : ℕ) (b : Ballot) (flag : Bool) → VolatileInRange Known v → BallotOf Known b → PartStepInRange Known p (on_heartbeat_reply me p v q round b flag)
+  pub reply_in : (v : Volatile) (q round : ℕ) (b : Ballot) (flag : Bool) → VolatileIn Known p.conf v → BallotOf Known b → PartStepInRange Known p (on_heartbeat_reply me p v q round b flag)
   reply_in v q round b flag in_volatile of =
       let h : Heard = record { from = q; ballot = b; flag = flag } in
       remembering_in Known p (record v { heard = heard_in me p.members v.round v.heard round h }) []
       (record {
-        own = in_volatile.own;
-        leader = in_volatile.leader;
-        floor = in_volatile.floor;
-        round = in_volatile.round;
-        heard = heard_more v.round v.heard round h in_volatile.heard of;
-        role = in_volatile.role;
+        range = record {
+          own = in_volatile.range.own;
+          leader = in_volatile.range.leader;
+          floor = in_volatile.range.floor;
+          round = in_volatile.range.round;
+          heard = heard_more v.round v.heard round h in_volatile.range.heard of;
+          role = in_volatile.range.role;
+        };
+        stops = in_volatile.stops;
       })
       (All-nil (SendInRange Known))
 
-  pub refuse_in : (v : Volatile) (b : Ballot) → VolatileInRange Known v → BallotOf Known b → PartStepInRange Known p (on_refuse v b)
-  refuse_in v b in_volatile of = remembering_in Known p (with_floor_at v b) [] (floor_in Known v b in_volatile of) (All-nil (SendInRange Known))
+  pub refuse_in : (v : Volatile) (b : Ballot) → VolatileIn Known p.conf v → BallotOf Known b → PartStepInRange Known p (on_refuse v b)
+  refuse_in v b in_volatile of = remembering_in Known p (with_floor_at v b) [] (floor_in Known p.conf v b in_volatile of) (All-nil (SendInRange Known))

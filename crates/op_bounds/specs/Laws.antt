@@ -1,6 +1,9 @@
 -- What stays in range over a step, and over a run.
-use Rattle.std.specs.Prelude.{◌≡◌, ℕ, List, All, IfSome}
-use Rattle.op_types.specs.Ranges.{IsConf, IsMember, MembersInRange, WhatInRange}
+use Rattle.std.specs.Prelude.{ℕ, List, All, IfSome}
+use Rattle.op_runs.specs.declared.events.What.{What}
+use Rattle.op_runs.specs.declared.events.What.TheVariants as what
+use Rattle.op_runs.specs.Possible.{WhatInRange, SparesInRange}
+use Rattle.op_types.specs.Ranges.{IsPid, IsMember, MembersInRange}
 use Rattle.op_types.specs.Changes.{Applies}
 use Rattle.op_types.specs.declared.durable.Durable.{Durable}
 use Rattle.op_types.specs.declared.events.Input.{Input}
@@ -8,9 +11,9 @@ use Rattle.op_record.specs.Ranges.{BatchInRange}
 use Rattle.op_protocol.specs.State.{State, Planned, state_after}
 use Rattle.op_protocol.specs.Rows.{step_plan}
 use Rattle.op_protocol.specs.Starting.{state_after_restart, sends_after_restart}
-use Rattle.op_runs.specs.World.{Sent, Node, NodeStatus, Up, Down, World, Happening, first_world, world_after, run_of}
-use Rattle.op_bounds.specs.Messages.{AreIds, MsgInRange, SendInRange, ReplyInRange, OutcomeInRange, InputInRange}
-use Rattle.op_bounds.specs.States.{DurableOf, StateInRange}
+use Rattle.op_runs.specs.World.{Sent, Node, NodeStatus, Up, Down, World, Happening, node_ids, first_world, world_after, run_of}
+use Rattle.op_bounds.specs.Messages.{AreIds, MembersOf, MsgInRange, NamesConf, SendInRange, ReplyInRange, OutcomeInRange, InputInRange}
+use Rattle.op_bounds.specs.States.{DurableOf, IsNamed, StateInRange}
 
 -- ---- a step
 
@@ -36,7 +39,7 @@ StepsStayInRange Known =
 -- a node that is opened, and finds this: its state, and what it sends
 pub record OpeningInRange (Known : ℕ → Type 0) (me : ℕ) (d : Durable) : Type 0 where
   pub state : StateInRange Known (state_after_restart me d)
-  pub sends : All (SendInRange Known) (sends_after_restart me d.part)
+  pub sends : All (SendInRange Known) (sends_after_restart me d)
 
 -- where these ids are known, each opening that finds a durable state in range is in range
 abbrev pub OpeningsStayInRange : (ℕ → Type 0) → Type 0
@@ -45,54 +48,79 @@ OpeningsStayInRange Known =
 
 -- ---- a run
 
--- a message of the world: from a member to a member, in a configuration
-pub record SentInRange (members : List ℕ) (m : Sent) : Type 0 where
-  pub from : IsMember members m.from
-  pub to : IsMember members m.to
-  pub conf : IsConf m.message.conf
-  pub message : MsgInRange (IsMember members) m.message
+-- a message of the world: from a known id to a known id, in a configuration
+pub record SentInRange (Known : ℕ → Type 0) (m : Sent) : Type 0 where
+  pub from : Known m.from
+  pub to : Known m.to
+  pub conf : NamesConf m.message
+  pub message : MsgInRange Known m.message
 
--- what is stored is of these members
-abbrev pub IsOfMembers : List ℕ → Durable → Type 0
-IsOfMembers members d = IfSome d.part (λ p. p.members ≡ members)
-
--- what an opening of a member's node may find
-abbrev pub FoundInRange : List ℕ → Durable → Type 0
-FoundInRange members d = DurableOf (IsMember members) d × IsOfMembers members d
+-- what an opening of this node may find
+abbrev pub FoundInRange : (ℕ → Type 0) → ℕ → Durable → Type 0
+FoundInRange Known me d = DurableOf Known d × IsNamed me d
 
 -- what the next opening of a node that is down may find
-abbrev pub StatusInRange : List ℕ → NodeStatus → Type 0
-StatusInRange members Up = Unit {0}
-StatusInRange members (Down after) = FoundInRange members after
+abbrev pub StatusInRange : (ℕ → Type 0) → ℕ → NodeStatus → Type 0
+StatusInRange Known me Up = Unit {0}
+StatusInRange Known me (Down after) = FoundInRange Known me after
 
--- a member's node
-pub record NodeInRange (members : List ℕ) (n : Node) : Type 0 where
-  pub pid : IsMember members n.pid
-  pub state : StateInRange (IsMember members) n.state
-  pub of : IsOfMembers members n.state.durable
-  pub status : StatusInRange members n.status
+-- a node of a known id
+pub record NodeInRange (Known : ℕ → Type 0) (n : Node) : Type 0 where
+  pub pid : Known n.pid
+  pub state : StateInRange Known n.state
+  pub named : IsNamed n.pid n.state.durable
+  pub status : StatusInRange Known n.pid n.status
 
 -- all nodes, and all messages that were ever sent
-pub record WorldInRange (members : List ℕ) (w : World) : Type 0 where
-  pub nodes : All (NodeInRange members) w.nodes
-  pub messages : All (SentInRange members) w.messages
+pub record WorldInRange (Known : ℕ → Type 0) (w : World) : Type 0 where
+  pub nodes : All (NodeInRange Known) w.nodes
+  pub messages : All (SentInRange Known) w.messages
 
--- a happening whose event is in range
-abbrev pub HappeningInRange : Happening → Type 0
-HappeningInRange h = WhatInRange h.event.what
+-- a stop-sign that is proposed names known ids
+abbrev pub WhatNamesKnown : (ℕ → Type 0) → What → Type 0
+WhatNamesKnown Known (what.Stop p members) = All Known members
+WhatNamesKnown Known _ = Unit {0}
 
--- one to nine members start in range
-abbrev pub StartsAreInRange : Type 0
-StartsAreInRange = (members : List ℕ) → MembersInRange members → WorldInRange members (first_world members)
+-- a happening whose event is in range, and names known ids
+abbrev pub HappeningInRange : (ℕ → Type 0) → Happening → Type 0
+HappeningInRange Known h = WhatInRange h.event.what × WhatNamesKnown Known h.event.what
+
+-- members in range, and spares, all known
+pub record StartInRange (Known : ℕ → Type 0) (members spares : List ℕ) : Type 0 where
+  pub members_are : MembersOf Known members
+  pub spares_are : All Known spares
+
+-- they start in range
+abbrev pub StartsAreInRange : (ℕ → Type 0) → Type 0
+StartsAreInRange Known =
+    AreIds Known → (members spares : List ℕ) → StartInRange Known members spares
+    → WorldInRange Known (first_world members spares)
 
 -- each happening keeps the world in range
-abbrev pub HappeningsStayInRange : Type 0
-HappeningsStayInRange =
-    (members : List ℕ) → MembersInRange members → (w : World) → WorldInRange members w
-    → (h : Happening) → HappeningInRange h → WorldInRange members (world_after w h)
+abbrev pub HappeningsStayInRange : (ℕ → Type 0) → Type 0
+HappeningsStayInRange Known =
+    AreIds Known → (w : World) → WorldInRange Known w → (h : Happening) → HappeningInRange Known h
+    → WorldInRange Known (world_after w h)
 
 -- so does each run
-abbrev pub RunsStayInRange : Type 0
-RunsStayInRange =
-    (members : List ℕ) → MembersInRange members → (happenings : List Happening)
-    → All HappeningInRange happenings → WorldInRange members (run_of (first_world members) happenings)
+abbrev pub RunsStayInRange : (ℕ → Type 0) → Type 0
+RunsStayInRange Known =
+    AreIds Known → (members spares : List ℕ) → StartInRange Known members spares
+    → (happenings : List Happening) → All (HappeningInRange Known) happenings
+    → WorldInRange Known (run_of (first_world members spares) happenings)
+
+-- ---- runs of a world
+
+-- where stop-signs name nodes of the world, all of a run is in range, and names its nodes alone
+abbrev pub RunsOfNodesStayInRange : Type 0
+RunsOfNodesStayInRange =
+    (members spares : List ℕ) → MembersInRange members → SparesInRange members spares
+    → (happenings : List Happening) → All (HappeningInRange (IsMember (node_ids members spares))) happenings
+    → WorldInRange (IsMember (node_ids members spares)) (run_of (first_world members spares) happenings)
+
+-- whomever stop-signs name, all of a run is in range
+abbrev pub AllRunsStayInRange : Type 0
+AllRunsStayInRange =
+    (members spares : List ℕ) → MembersInRange members → SparesInRange members spares
+    → (happenings : List Happening) → All (λ h. WhatInRange h.event.what) happenings
+    → WorldInRange IsPid (run_of (first_world members spares) happenings)

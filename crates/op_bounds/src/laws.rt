@@ -1,7 +1,7 @@
 ghost use Rattle.std.specs.Prelude.{ℕ, Bool};
 ghost use Rattle.op_bounds.specs.Messages.{Passes};
 ghost use Rattle.op_bounds.specs.Laws.{StepsStayInRange, OpeningsStayInRange};
-ghost use Rattle.op_bounds.specs.Laws.{StartsAreInRange, HappeningsStayInRange, RunsStayInRange};
+ghost use Rattle.op_bounds.specs.Laws.{StartsAreInRange, HappeningsStayInRange, RunsStayInRange, RunsOfNodesStayInRange, AllRunsStayInRange};
 
 /// Whichever servers' ids may be named, as those of the members or all: a step of a node in range, from an input in range,
 /// stores a batch that applies and is in range, sends messages in range to such ids alone, answers in range, and leaves the
@@ -16,10 +16,15 @@ pub fn openings_stay_in_range()
     ensures stay { (known : ℕ → Bool) → OpeningsStayInRange (Passes known) }
 {}
 
-/// One to nine members start in range, each happening in range keeps them so, and so does each run: every node is in range, with
-/// what one that is down may find when it is opened, and so is every message that was ever sent.
+/// Whichever servers' ids may be named: one to nine members and the spares start in range, each happening in range whose
+/// stop-sign names such ids keeps them so, and so does each run: every node is in range, with what one that is down may find when
+/// it is opened, each is a member of the configuration whose part it has and of the one that it joins, and so is every message
+/// that was ever sent in range. So it is where stop-signs name nodes of the world, from members and spares in range on, and then
+/// each message goes from a node to a node; and so is every run, whomever its stop-signs name.
 pub fn runs_stay_in_range()
-    ensures start { StartsAreInRange }
-    ensures happening { HappeningsStayInRange }
-    ensures run { RunsStayInRange }
+    ensures start { (known : ℕ → Bool) → StartsAreInRange (Passes known) }
+    ensures happening { (known : ℕ → Bool) → HappeningsStayInRange (Passes known) }
+    ensures run { (known : ℕ → Bool) → RunsStayInRange (Passes known) }
+    ensures nodes { RunsOfNodesStayInRange }
+    ensures all { AllRunsStayInRange }
 {}

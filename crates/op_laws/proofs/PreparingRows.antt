@@ -1,5 +1,5 @@
 -- Who prepares before and after a step in which the promise doesn't rise decides nothing and tells nobody.
-use Rattle.std.proofs.Common.{◌≡◌, ℕ, ◌-◌, ◌+◌, min, true, false, ◌&&◌, eqb, ltb, leb, nat_eq, List, [], ◌∷◌, ◌++◌, take, drop, Option, Some, None, refl, sym, ap, ◌∙◌, subst, arith}
+use Rattle.std.proofs.Common.{◌≡◌, ℕ, ◌-◌, ◌+◌, min, inl, inr, true, false, not, ◌&&◌, eqb, ltb, leb, nat_eq, List, [], ◌∷◌, ◌++◌, length, take, drop, Option, Some, None, refl, sym, ap, ◌∙◌, arith}
 use Rattle.std.proofs.lemmas.Bool.{cond_both, both_ways, and_parts}
 use Rattle.std.proofs.lemmas.List.{drop_all, length-take}
 use Rattle.std.specs.Set.{is_member}
@@ -7,7 +7,7 @@ use Rattle.op_types.specs.Ballots.{is_below, is_same_ballot}
 use Rattle.op_types.specs.Changes.{len_of, part_with}
 use Rattle.op_types.specs.Effects.{Effects}
 use Rattle.op_types.specs.Limits.{positions_end}
-use Rattle.op_types.specs.RoleStates.{Preparing, Leading, with_promise, with_acknowledged}
+use Rattle.op_types.specs.RoleStates.{Preparing, Leading, with_promise, with_acknowledged, with_report, without_reports}
 use Rattle.op_types.specs.Roles as role
 use Rattle.op_types.specs.Roles.{Role}
 use Rattle.op_types.specs.declared.answers.Refusal.{Refusal}
@@ -15,10 +15,12 @@ use Rattle.op_types.specs.declared.answers.Reply.{Reply}
 use Rattle.op_types.specs.declared.ballot.Ballot.{Ballot}
 use Rattle.op_types.specs.declared.changes.Change.{Change}
 use Rattle.op_types.specs.declared.changes.Change.TheVariants as change
+use Rattle.op_types.proofs.Order.{is_total}
+use Rattle.op_types.specs.declared.durable.Closed.{Closed}
+use Rattle.op_types.specs.declared.durable.Durable.{Durable}
 use Rattle.op_types.specs.declared.durable.Part.{Part}
 use Rattle.op_types.specs.declared.events.Input.{Input}
 use Rattle.op_types.specs.declared.events.Input.TheVariants as input
-use Rattle.op_types.specs.declared.log.Command.{Command}
 use Rattle.op_types.specs.declared.log.Entry.{Entry}
 use Rattle.op_types.specs.declared.log.Entry.TheVariants as entry
 use Rattle.op_types.specs.declared.messages.Body.{Body}
@@ -31,29 +33,26 @@ use Rattle.op_protocol.specs.State.{State, Volatile, Waiting, PartStep}
 use Rattle.op_protocol.specs.Election.{Ended, round_end}
 use Rattle.op_protocol.specs.Parts.{pending, is_admitted_body, part_after, part_in_round, cutting, appending, others, message, nothing, first}
 use Rattle.op_protocol.specs.Promises.{has_quorum, is_usable, Choice, own_choice, best, chosen_stop, chosen_len, chosen_log, fitting}
-use Rattle.op_protocol.specs.Leader.{counted, count, first_leading, leading_with, adopt, on_promise, on_accepted, on_prepare_req, propose, on_forward_leading, on_forward, session_down}
+use Rattle.op_protocol.specs.Leader.{counted, count, first_leading, leading_with, adopt, on_promise, on_accepted, on_prepare_req, propose, on_forward_leading, on_forward, session_down, lead}
 use Rattle.op_protocol.specs.Follower.{suffix_start, promise_body, on_prepare, on_accept_sync, on_accept, on_decide}
 use Rattle.op_protocol.specs.Tick.{candidate_of, next_round_state, by_verdict}
 use Rattle.op_protocol.specs.Serving.{serving, dropping}
-use Rattle.op_protocol.specs.Rows.{refusal_of, on_body, command_step, part_step, newly_decided, planned}
-use Rattle.op_laws.proofs.View.{Each, Each-append}
-use Rattle.op_laws.proofs.StepRows.{effects_in}
-use Rattle.op_laws.proofs.Vows.{lead_promises}
+use Rattle.op_protocol.specs.Rows.{entries_of, refusal_of, stop_for, on_body, message_at, may_be_above, on_latest, proposal_at, step_at, newly_decided, planned}
+use Rattle.op_protocol.specs.Configurations.{latest_of}
+use Rattle.op_protocol.specs.Joining.{storing}
+use Rattle.op_protocol.specs.Trimming.{least_reported, trims, trims_reported, trim_now, on_progress, on_trim_ask, on_trim}
+use Rattle.op_protocol.proofs.StepBatches.{Rises}
+use Rattle.op_refinement.proofs.View.{Each, Each-append}
+use Rattle.op_laws.proofs.Leads.{lead_rises}
 
 -- ---- batches that decide nothing
 abbrev IsUndecided : Change → Type 0
-IsUndecided (change.Promise n) = Unit {0}
-IsUndecided (change.Accept n) = Unit {0}
-IsUndecided (change.CutTo n) = Unit {0}
-IsUndecided (change.Append es) = Unit {0}
 IsUndecided (change.Decided x) = ⊥
+IsUndecided _ = Unit {0}
 
 undecided_with : (p : Part) (c : Change) → IsUndecided c → (part_with p c).decided ≡ p.decided
-undecided_with p (change.Promise n) f = refl
-undecided_with p (change.Accept n) f = refl
-undecided_with p (change.CutTo n) f = refl
-undecided_with p (change.Append es) f = refl
 undecided_with p (change.Decided x) f = absurd f
+undecided_with p _ f = refl
 
 undecided_after : (p : Part) (batch : List Change) → Each IsUndecided batch → (part_after p batch).decided ≡ p.decided
 undecided_after p [] f = refl
@@ -177,16 +176,16 @@ prepare_req_quiet p role.Idle q = idles p _ _ refl
 prepare_req_quiet p (role.Preparing r) q = keeps_on p r _ refl tt
 prepare_req_quiet p (role.Leading l) q = leads p _ _ _ refl
 
-propose_quiet : (me : ℕ) (p : Part) (ρ : Role) (e : Entry) → IsQuiet p ρ (propose me p ρ e)
+propose_quiet : (me : ℕ) (p : Part) (ρ : Role) (e : List Entry) → IsQuiet p ρ (propose me p ρ e)
 propose_quiet me p role.Idle e = idles p _ _ refl
 propose_quiet me p (role.Preparing r) e = keeps_on p r _ refl tt
-propose_quiet me p (role.Leading l) e = leads p _ _ _ (count_leads me p (len_of p + 1) l [])
+propose_quiet me p (role.Leading l) e = leads p _ _ _ (count_leads me p (len_of p + length e) l [])
 
-forward_leading_quiet : (me : ℕ) (p : Part) (l : Leading) (e : Entry) (o : Option ℕ) → IsQuiet p (role.Leading l) (on_forward_leading me p l e o)
+forward_leading_quiet : (me : ℕ) (p : Part) (l : Leading) (e : List Entry) (o : Option ℕ) → IsQuiet p (role.Leading l) (on_forward_leading me p l e o)
 forward_leading_quiet me p l e (Some pos) = leads p _ _ _ refl
-forward_leading_quiet me p l e None = cond_both (ltb (len_of p) positions_end) _ _ (IsQuiet p (role.Leading l)) (λ _. leads p _ _ _ (count_leads me p (len_of p + 1) l [])) (λ _. leads p _ _ _ refl)
+forward_leading_quiet me p l e None = cond_both (leb (len_of p + length e) positions_end) _ _ (IsQuiet p (role.Leading l)) (λ _. leads p _ _ _ (count_leads me p (len_of p + length e) l [])) (λ _. leads p _ _ _ refl)
 
-forward_quiet : (me : ℕ) (p : Part) (ρ : Role) (e : Entry) → IsQuiet p ρ (on_forward me p ρ e)
+forward_quiet : (me : ℕ) (p : Part) (ρ : Role) (e : List Entry) → IsQuiet p ρ (on_forward me p ρ e)
 forward_quiet me p role.Idle e = idles p _ _ refl
 forward_quiet me p (role.Preparing r) e = keeps_on p r _ refl tt
 forward_quiet me p (role.Leading l) e = forward_leading_quiet me p l e (pending p)
@@ -196,7 +195,37 @@ down_quiet p role.Idle q = idles p _ _ refl
 down_quiet p (role.Preparing r) q = keeps_on p r _ refl tt
 down_quiet p (role.Leading l) q = leads p _ _ _ refl
 
+-- ---- trimming
+trims_quiet : (me : ℕ) (p : Part) (l : Leading) (x : ℕ) → IsQuiet p (role.Leading l) (trims me p l x)
+trims_quiet me p l x = cond_both (ltb p.trimmed x) _ _ (IsQuiet p (role.Leading l)) (λ _. leads p _ _ l refl) (λ _. leads p _ _ l refl)
+
+leader_stays : (me : ℕ) (p : Part) (l : Leading) (o : Option ℕ) → (k : Leading) × ((trims_reported me p l o).role ≡ role.Leading k)
+leader_stays me p l None = (l, refl)
+leader_stays me p l (Some x) = (without_reports l, cond_both (ltb p.trimmed x) _ _ (λ (e : Effects). e.role ≡ role.Leading (without_reports l)) (λ _. refl) (λ _. refl))
+
+trim_now_quiet : (me : ℕ) (p : Part) (ρ : Role) → IsQuiet p ρ (trim_now me p ρ)
+trim_now_quiet me p role.Idle = idles p _ _ refl
+trim_now_quiet me p (role.Preparing r) = keeps_on p r _ refl tt
+trim_now_quiet me p (role.Leading l) = let k = leader_stays me p (without_reports l) (least_reported (without_reports l).reports (others me p.members) p.decided) in leads p _ _ k.0 k.1
+
+progress_quiet : (me : ℕ) (p : Part) (ρ : Role) (q : ℕ) (n : Ballot) (x : ℕ) → IsQuiet p ρ (on_progress me p ρ q n x)
+progress_quiet me p role.Idle q n x = idles p _ _ refl
+progress_quiet me p (role.Preparing r) q n x = keeps_on p r _ refl tt
+progress_quiet me p (role.Leading l) q n x =
+    let m : Leading = with_report l (record { from = q; decided = x }) in
+    cond_both (is_same_ballot n l.ballot) _ _ (IsQuiet p (role.Leading l)) (λ _. let k = leader_stays me p m (least_reported m.reports (others me p.members) p.decided) in leads p _ _ k.0 k.1) (λ _. leads p _ _ l refl)
+
+trim_ask_quiet : (p : Part) (ρ : Role) (q : ℕ) (n : Ballot) → IsQuiet p ρ (on_trim_ask p ρ q n)
+trim_ask_quiet p ρ q n = cond_both (is_same_ballot p.promised n) _ _ (IsQuiet p ρ) (λ _. same_role p ρ _ refl refl tt) (λ _. same_role p ρ _ refl refl tt)
+
+trim_quiet : (p : Part) (ρ : Role) (x : ℕ) → IsQuiet p ρ (on_trim p ρ x)
+trim_quiet p ρ x = cond_both (ltb p.trimmed x && leb x p.decided) _ _ (IsQuiet p ρ) (λ _. same_role p ρ _ refl refl (tt, tt)) (λ _. same_role p ρ _ refl refl tt)
+
 -- ---- a step
+
+-- the effects of a step at a part
+abbrev pub effects_in : PartStep → Effects
+effects_in x = record { batch = x.batch; role = x.volatile.role; sends = x.sends; replies = x.replies; outcome = x.outcome }
 
 -- a step at a part
 abbrev pub StepIsQuiet : Part → Volatile → PartStep → Type 0
@@ -213,7 +242,19 @@ body_quiet me p v q (body.Accepted n x) = accepted_quiet me p v.role q n x
 body_quiet me p v q (body.Decide n x) = decide_quiet p v.role n x
 body_quiet me p v q body.PrepareReq = prepare_req_quiet p v.role q
 body_quiet me p v q (body.Refuse n b) = same_role p v.role _ refl refl tt
-body_quiet me p v q (body.Forward e) = forward_quiet me p v.role e
+body_quiet me p v q (body.Forward e) = forward_quiet me p v.role (e ∷ [])
+body_quiet me p v q (body.Forwards es) = forward_quiet me p v.role es
+body_quiet me p v q (body.TrimAsk n) = trim_ask_quiet p v.role q n
+body_quiet me p v q (body.Progress n x) = progress_quiet me p v.role q n x
+body_quiet me p v q (body.Trim x) = trim_quiet p v.role x
+body_quiet me p v q _ = same_role p v.role _ refl refl tt
+
+pub led_above : (me : ℕ) (p : Part) (ρ : Role) (n : Ballot) → is_below p.promised n ≡ true → is_below p.promised (part_after p (lead me p ρ n).batch).promised ≡ true
+led_above me p ρ n h = by (lead_rises me p ρ n)
+  where
+    by : Rises n (part_after p (lead me p ρ n).batch).promised → is_below p.promised (part_after p (lead me p ρ n).batch).promised ≡ true
+    by (inl e) = ap (is_below p.promised) e ∙ h
+    by (inr up) = is_total.transitive p.promised n (part_after p (lead me p ρ n).batch).promised h up
 
 verdict_quiet : (me : ℕ) (p : Part) (w : Volatile) (x : Verdict) → StepIsQuiet p w (by_verdict me p w x)
 verdict_quiet me p w verdict.Nobody = same_role p w.role _ refl refl tt
@@ -221,20 +262,42 @@ verdict_quiet me p w (verdict.Raised b) = same_role p w.role _ refl refl tt
 verdict_quiet me p w (verdict.Elected n) =
     cond_both (eqb n.pid me) _ _ (λ (x : PartStep). StepIsQuiet p w x)
     (λ _. cond_both (is_below p.promised n) _ _ (λ (x : PartStep). StepIsQuiet p w x)
-    (λ h. raises p w.role _ (subst (λ (b : Ballot). is_below p.promised b ≡ true) (sym (lead_promises me p w.role n)) h)) (λ _. same_role p w.role _ refl refl tt))
+    (λ h. raises p w.role _ (led_above me p w.role n h)) (λ _. same_role p w.role _ refl refl tt))
     (λ _. same_role p w.role _ refl refl tt)
 
-command_quiet : (me : ℕ) (p : Part) (v : Volatile) (c : Command) (o : Option Refusal) → StepIsQuiet p v (command_step me p v c o)
-command_quiet me p v c (Some r) = same_role p v.role _ refl refl tt
-command_quiet me p v c None = propose_quiet me p v.role (entry.Command c)
+proposal_quiet : (me : ℕ) (p : Part) (v : Volatile) (es : List Entry) (o : Option Refusal) → StepIsQuiet p v (proposal_at me (Some p) v es o)
+proposal_quiet me p v es (Some r) = same_role p v.role _ refl refl tt
+proposal_quiet me p v es None = propose_quiet me p v.role es
 
-pub step_quiet : (me : ℕ) (p : Part) (v : Volatile) (x : Input) → StepIsQuiet p v (part_step me p v x)
-step_quiet me p v input.Tick = let e : Ended = round_end (candidate_of me p v) v.heard in verdict_quiet me p (next_round_state v e.after) e.verdict
-step_quiet me p v (input.Deliver q m) =
+message_quiet : (me : ℕ) (p : Part) (v : Volatile) (q : ℕ) (m : Msg) → StepIsQuiet p v (message_at me (Some p) v q m)
+message_quiet me p v q m =
     cond_both (eqb m.conf p.conf && is_admitted_body p m.body) _ _ (λ (x : PartStep). StepIsQuiet p v x) (λ _. body_quiet me p v q m.body) (λ _. same_role p v.role _ refl refl tt)
-step_quiet me p v (input.Command c) = command_quiet me p v c (refusal_of me v.role (Some p))
-step_quiet me p v (input.Up q) = cond_both (is_member nat_eq (others me p.members) q) _ _ (IsQuiet p v.role) (λ _. same_role p v.role _ refl refl tt) (λ _. same_role p v.role _ refl refl tt)
-step_quiet me p v (input.Down q) = down_quiet p v.role q
+
+-- at a node with this part that joins no other configuration
+module _ (me : ℕ) (p : Part) (c : Option Closed) (v : Volatile) where
+  abbrev pub here : Durable
+  here = record { part = Some p; closed = c; joining = None }
+
+  latest_quiet : (q conf : ℕ) (b : Body) → StepIsQuiet p v (on_latest me here v q conf b)
+  latest_quiet q conf (body.NextConf members olds len trimmed) =
+      cond_both (is_member nat_eq members me && ltb (latest_of here) conf) _ _ (λ (x : PartStep). StepIsQuiet p v x)
+      (λ _. cond_both (leb trimmed len) _ _ (λ (batch : List Change). StepIsQuiet p v (storing v batch)) (λ _. same_role p v.role _ refl refl (tt, (tt, tt))) (λ _. same_role p v.role _ refl refl tt))
+      (λ _. same_role p v.role _ refl refl tt)
+  latest_quiet q conf body.AskBase = same_role p v.role _ refl refl tt
+  latest_quiet q conf (body.AskSegment from to) = same_role p v.role _ refl refl tt
+  latest_quiet q conf b = message_quiet me p v q (record { conf = conf; body = b })
+
+  -- a step
+  pub step_quiet : (x : Input) → StepIsQuiet p v (step_at me here v x)
+  step_quiet input.Tick = let e : Ended = round_end (candidate_of me p v) v.heard in verdict_quiet me p (next_round_state v e.after) e.verdict
+  step_quiet (input.Deliver q m) =
+      cond_both (ltb m.conf (latest_of here)) _ _ (λ (x : PartStep). StepIsQuiet p v x) (λ _. same_role p v.role _ refl refl tt)
+      (λ _. cond_both (ltb (latest_of here) m.conf && not (may_be_above m.body)) _ _ (λ (x : PartStep). StepIsQuiet p v x) (λ _. same_role p v.role _ refl refl tt) (λ _. latest_quiet q m.conf m.body))
+  step_quiet (input.Commands cs) = proposal_quiet me p v (entries_of cs) (refusal_of me v.role here (entries_of cs))
+  step_quiet (input.Stop members) = proposal_quiet me p v (entry.Stop (stop_for (Some p) members) ∷ []) (refusal_of me v.role here (entry.Stop (stop_for (Some p) members) ∷ []))
+  step_quiet input.TrimNow = trim_now_quiet me p v.role
+  step_quiet (input.Up q) = cond_both (is_member nat_eq (others me p.members) q) _ _ (IsQuiet p v.role) (λ _. same_role p v.role _ refl refl tt) (λ _. same_role p v.role _ refl refl tt)
+  step_quiet (input.Down q) = down_quiet p v.role q
 
 -- ---- who waits goes on waiting
 

@@ -1,25 +1,31 @@
 -- Requests and replies of a heartbeat round are delivered: what the members then know, and what was sent.
-use Rattle.std.proofs.Common.{◌≡◌, ℕ, ◌+◌, Bool, true, false, cond, ◌&&◌, eqb, nat_eq, List, [], ◌∷◌, ◌++◌, length, map, filter, Option, Some, refl, sym, ap, ◌∙◌, subst, append-nil, append_assoc, length-append, slice_get}
-use Rattle.std.proofs.lemmas.Bool.{eqb-true, eqb-false, eq-eqb, and_from}
+use Rattle.std.proofs.Common.{◌≡◌, ℕ, ◌+◌, Bool, true, false, cond, not, ◌&&◌, eqb, ltb, nat_eq, is_some, List, [], ◌∷◌, ◌++◌, length, map, filter, Option, Some, refl, sym, ap, ◌∙◌, subst, append-nil, append_assoc, length-append, slice_get, arith}
+use Rattle.std.proofs.lemmas.Bool.{eqb-true, eqb-false, eq-eqb, and_from, le-ltb}
 use Rattle.std.specs.Set.{is_member}
+use Rattle.op_types.specs.Stops.{stop_at_end}
+use Rattle.op_types.specs.declared.durable.Durable.{Durable}
+use Rattle.op_types.specs.declared.durable.Joining.{Joining}
 use Rattle.op_types.specs.declared.durable.Part.{Part}
-use Rattle.op_types.specs.declared.events.Event.{Event}
+use Rattle.op_types.specs.declared.log.Entry.{Entry}
+use Rattle.op_runs.specs.declared.events.Event.{Event}
 use Rattle.op_types.specs.declared.events.Input.TheVariants as input
-use Rattle.op_types.specs.declared.events.What.TheVariants as what
+use Rattle.op_runs.specs.declared.events.What.TheVariants as what
 use Rattle.op_types.specs.declared.messages.Body.{Body}
 use Rattle.op_types.specs.declared.messages.Body.TheVariants as body
 use Rattle.op_types.specs.declared.messages.Heard.{Heard}
 use Rattle.op_types.specs.declared.messages.Msg.{Msg}
 use Rattle.op_protocol.specs.State.{Volatile, PartStep}
 use Rattle.op_protocol.specs.Heartbeats.{is_other, heard_with}
-use Rattle.op_protocol.specs.Parts.{is_admitted_body, message}
-use Rattle.op_protocol.specs.Rows.{on_body, on_message}
+use Rattle.op_protocol.specs.Parts.{is_admitted_body, message, decided_since}
+use Rattle.op_protocol.specs.Rows.{on_body, message_at, is_of_joining, may_be_above, on_older, on_newer, on_latest}
+use Rattle.op_protocol.specs.Configurations.{latest_in, latest_of}
 use Rattle.op_protocol.specs.Tick.{remembering}
 use Rattle.op_runs.specs.World.{World, Node, Sent, Steps, node_at, delivery, world_after, done_event}
 use Rattle.op_lockstep.specs.Lockstep.{event_of, after_events, numbers_of, is_reply}
 use Rattle.op_lockstep.proofs.Lists.{Each, by_test}
 use Rattle.op_lockstep.proofs.Counting.{told, kept}
-use Rattle.op_lockstep.proofs.Seats.{Sits, AllSit, After, stepped}
+use Rattle.op_lockstep.proofs.Seats.{Sits, AllSit, After, IsRow, stepped}
+use Rattle.op_lockstep.proofs.Batches.{decides_nothing}
 
 -- the events that deliver messages of these numbers_of
 abbrev pub delivered : List ℕ → List Event
@@ -33,11 +39,29 @@ get_behind (y ∷ pre) x rest n e = subst (λ (k : ℕ). slice_get (y ∷ pre ++
 longer : {A : Type 0} (pre : List A) (x : A) (n : ℕ) → length pre ≡ n → length (pre ++ x ∷ []) ≡ n + 1
 longer pre x n e = length-append pre (x ∷ []) ∙ ap (λ (k : ℕ). k + 1) e
 
--- a message of the part's configuration that is always admitted
-admitted : (me : ℕ) (p : Part) (v : Volatile) (q : ℕ) (m : Msg) (b : Body) → m.conf ≡ p.conf → m.body ≡ b → is_admitted_body p b ≡ true → on_message me p v q m ≡ on_body me p v q b
-admitted me p v q m b same is ok =
-    ap (λ (x : Body). cond (eqb m.conf p.conf && is_admitted_body p x) (on_body me p v q x) (remembering v [])) is
-    ∙ ap (λ (t : Bool). cond t (on_body me p v q b) (remembering v [])) (and_from (eqb m.conf p.conf) (is_admitted_body p b) (eq-eqb m.conf p.conf same) ok)
+-- a message of the part's configuration, which is always admitted, comes to the part
+admitted : (me : ℕ) (p : Part) (v : Volatile) (q : ℕ) (m : Msg) (b : Body) → m.conf ≡ p.conf → m.body ≡ b → is_admitted_body p b ≡ true
+    → ((d : Durable) (c : ℕ) → on_latest me d v q c b ≡ message_at me d.part v q (record { conf = c; body = b })) → IsRow me p v (input.Deliver q m) (on_body me p v q b)
+admitted me p v q m b same is ok plain d has stays =
+    let c : ℕ = m.conf in
+    let latest : latest_of d ≡ c = ap (λ (o : Option Part). latest_in o d.closed) has ∙ sym same in
+    let level : ltb c (latest_of d) ≡ false = ap (ltb c) latest ∙ le-ltb c c (omega arith) in
+    let low : ltb (latest_of d) c ≡ false = ap (λ (k : ℕ). ltb k c) latest ∙ le-ltb c c (omega arith) in
+    let kept : PartStep = remembering v [] in
+    let older : PartStep = remembering v (on_older d d.closed q) in
+    let newer : PartStep = remembering v (on_newer d q m.body) in
+    let last : PartStep = on_latest me d v q c m.body in
+    ap (λ (o : Option Joining). cond (is_some o && not (is_of_joining m.body)) kept (cond (ltb c (latest_of d)) older (cond (ltb (latest_of d) c && not (may_be_above m.body)) newer last))) stays
+    ∙ ap (λ (t : Bool). cond t older (cond (ltb (latest_of d) c && not (may_be_above m.body)) newer last)) level
+    ∙ ap (λ (t : Bool). cond (t && not (may_be_above m.body)) newer last) low
+    ∙ ap (λ (x : Body). on_latest me d v q c x) is
+    ∙ plain d c
+    ∙ ap (λ (o : Option Part). message_at me o v q (record { conf = c; body = b })) has
+    ∙ ap (λ (t : Bool). cond t (on_body me p v q b) (remembering v [])) (and_from (eqb c p.conf) (is_admitted_body p b) (eq-eqb c p.conf same) ok)
+
+-- nothing is decided by it
+unended : (a : Part) → is_some (stop_at_end (decided_since a a)) ≡ false
+unended a = ap (λ (es : List Entry). is_some (stop_at_end es)) (decides_nothing a a refl)
 
 module _ (conf : ℕ) (members : List ℕ) (a : ℕ → Part) (v : ℕ → Volatile) (confs : (p : ℕ) → is_member nat_eq members p ≡ true → (a p).conf ≡ conf) where
   -- a request of its sender's round, to a member
@@ -56,10 +80,10 @@ module _ (conf : ℕ) (members : List ℕ) (a : ℕ → Part) (v : ℕ → Volat
     pub sit : AllSit u a v members
     pub messages : u.messages ≡ w.messages ++ map reply_to ms
 
-  request_step : (m : Sent) → IsRequest m → on_message m.to (a m.to) (v m.to) m.from m.message ≡ remembering (v m.to) (message conf m.from (body.HeartbeatReply (v m.from).round (v m.to).own (v m.to).flag) ∷ [])
-  request_step m k =
+  request_step : (m : Sent) → IsRequest m → IsRow m.to (a m.to) (v m.to) (input.Deliver m.from m.message) (remembering (v m.to) (message conf m.from (body.HeartbeatReply (v m.from).round (v m.to).own (v m.to).flag) ∷ []))
+  request_step m k d has stays =
       let there : (a m.to).conf ≡ conf = confs m.to k.to in
-      admitted m.to (a m.to) (v m.to) m.from m.message (body.HeartbeatRequest (v m.from).round) (k.conf_is ∙ sym there) k.body_is refl
+      admitted m.to (a m.to) (v m.to) m.from m.message (body.HeartbeatRequest (v m.from).round) (k.conf_is ∙ sym there) k.body_is refl (λ _ _. refl) d has stays
       ∙ ap (λ (c : ℕ). remembering (v m.to) (message c m.from (body.HeartbeatReply (v m.from).round (v m.to).own (v m.to).flag) ∷ [])) there
 
   same_seats : (w u : World) (p : ℕ) (sends : List (ℕ × Msg)) → AllSit w a v members → After w u p (a p) (v p) sends → AllSit u a v members
@@ -77,7 +101,7 @@ module _ (conf : ℕ) (members : List ℕ) (a : ℕ → Part) (v : ℕ → Volat
       → Asked w (world_after w (done_event (event_of (what.Deliver n)))) (m ∷ [])
   asked_one w pre m more n at is sit k =
       let y : PartStep = remembering (v m.to) (message conf m.from (body.HeartbeatReply (v m.from).round (v m.to).own (v m.to).flag) ∷ []) in
-      let x = stepped w (what.Deliver n) m.to (input.Deliver m.from m.message) (a m.to) (v m.to) y (deed_is w pre m more n at is) (request_step m k) (sit m.to k.to) in
+      let x = stepped w (what.Deliver n) m.to (input.Deliver m.from m.message) (a m.to) (v m.to) y (deed_is w pre m more n at is) (request_step m k) tt (unended (a m.to)) (sit m.to k.to) in
       record { sit = same_seats w (world_after w (done_event (event_of (what.Deliver n)))) m.to y.sends sit x; messages = x.messages }
 
   asked_then : (w u t : World) (m : Sent) (ms : List Sent) → Asked w u (m ∷ []) → Asked u t ms → Asked w t (m ∷ ms)
@@ -116,11 +140,11 @@ module _ (conf : ℕ) (members : List ℕ) (a : ℕ → Part) (v : ℕ → Volat
   more_heard hs m p = cond (eqb p m.from) (heard_with (hs p) (told v m.to)) (hs p)
 
   module _ (named : (p : ℕ) → is_member nat_eq members p ≡ true → (a p).members ≡ members) where
-    reply_step : (m : Sent) (hs : List Heard) → IsBetween m → on_message m.from (a m.from) (hearing (v m.from) hs) m.to (reply_to m).message ≡ remembering (hearing (v m.from) (heard_with hs (told v m.to))) []
-    reply_step m hs k =
+    reply_step : (m : Sent) (hs : List Heard) → IsBetween m → IsRow m.from (a m.from) (hearing (v m.from) hs) (input.Deliver m.to (reply_to m).message) (remembering (hearing (v m.from) (heard_with hs (told v m.to))) [])
+    reply_step m hs k d has stays =
         let p : ℕ = m.from in
         let r : ℕ = (v p).round in
-        admitted p (a p) (hearing (v p) hs) m.to (reply_to m).message (body.HeartbeatReply r (v m.to).own (v m.to).flag) (sym (confs p k.from)) refl refl
+        admitted p (a p) (hearing (v p) hs) m.to (reply_to m).message (body.HeartbeatReply r (v m.to).own (v m.to).flag) (sym (confs p k.from)) refl refl (λ _ _. refl) d has stays
         ∙ ap (λ (t : Bool). remembering (hearing (v p) (cond t (heard_with hs (told v m.to)) hs)) [])
         (and_from (eqb r r) (is_other p (a p).members m.to) (eq-eqb r r refl) (ap (λ (l : List ℕ). is_other p l m.to) (named p k.from) ∙ k.other))
 
@@ -129,7 +153,7 @@ module _ (conf : ℕ) (members : List ℕ) (a : ℕ → Part) (v : ℕ → Volat
     reply_one w pre m more n at is hs sit k =
         let p : ℕ = m.from in
         let u : World = world_after w (done_event (event_of (what.Deliver n))) in
-        let x = stepped w (what.Deliver n) p (input.Deliver m.to (reply_to m).message) (a p) (hearing (v p) (hs p)) (remembering (hearing (v p) (heard_with (hs p) (told v m.to))) []) (deed_is w pre (reply_to m) more n at is) (reply_step m (hs p) k) (sit p k.from) in (
+        let x = stepped w (what.Deliver n) p (input.Deliver m.to (reply_to m).message) (a p) (hearing (v p) (hs p)) (remembering (hearing (v p) (heard_with (hs p) (told v m.to))) []) (deed_is w pre (reply_to m) more n at is) (reply_step m (hs p) k) tt (unended (a p)) (sit p k.from) in (
           λ q h. by_test (eqb q p) (λ (b : Bool). Sits (node_at u.nodes q) q (a q) (hearing (v q) (cond b (heard_with (hs q) (told v m.to)) (hs q))))
               (λ e. subst (λ (j : ℕ). Sits (node_at u.nodes j) j (a j) (hearing (v j) (heard_with (hs j) (told v m.to)))) (sym (eqb-true q p e)) x.here)
               (λ e. subst (λ (o : Option Node). Sits o q (a q) (hearing (v q) (hs q))) (sym (x.others q (eqb-false q p e))) (sit q h)),

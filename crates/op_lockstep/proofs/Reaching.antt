@@ -1,8 +1,9 @@
 -- Over links that let one member alone hear a majority, that member takes its own ballot for the leader's
 -- after the tick that ends the second or the third round.
-use Rattle.std.proofs.Common.{◌≡◌, ◌<◌, ◌-◌, ◌⊎◌, inl, inr, ⊎_elim, ℕ, suc, Bool, true, false, ◌||◌, eqb, ltb, nat_eq, List, [], ◌∷◌, ◌++◌, Option, refl, sym, ap, ◌∙◌, subst, arith}
+use Rattle.std.proofs.Common.{◌≡◌, ◌==◌, ◌<◌, ◌-◌, ◌⊎◌, inl, inr, ⊎_elim, ℕ, suc, Bool, true, false, ◌||◌, eqb, ltb, nat_eq, List, [], ◌∷◌, ◌++◌, length, Option, refl, sym, ap, ◌∙◌, subst, arith}
 use Rattle.std.proofs.lemmas.Bool.{lt-ltb, or_left, or_right, or_parts, or_cases, and_parts, eqb-false, not-true, ne_eqb, false≢true, both_ways}
 use Rattle.std.specs.Set.{is_member}
+use Rattle.op_quorum.specs.Quorums.{is_majority, passing}
 use Rattle.op_types.specs.Limits.{greatest_number}
 use Rattle.op_types.specs.Ballots.{greater}
 use Rattle.op_types.specs.Ranges.{AreRising}
@@ -18,7 +19,7 @@ use Rattle.op_lockstep.proofs.Lists.{Each, Each-map, Each-more, each_of_all, Dis
 use Rattle.op_lockstep.proofs.Ends.{Under, greater_under, tick_unheard, tick_own, tick_leader, tick_floor, Settled, Ahead, lonely, ahead_wins}
 use Rattle.op_lockstep.proofs.Changes.{tick_promised}
 use Rattle.op_lockstep.proofs.Seats.{Sits, AllSit, found_id}
-use Rattle.op_lockstep.proofs.Ticking.{tick_part, tick_volatile, ticks_run}
+use Rattle.op_lockstep.proofs.Ticking.{Unstopped, tick_part, tick_volatile, ticks_run}
 use Rattle.op_lockstep.proofs.Counting.{told}
 use Rattle.op_lockstep.proofs.Rounds.{after_append, AreParts, parts_stay, linked_to, linked_others, round_volatile, round_run, hears_over}
 
@@ -58,10 +59,10 @@ elects_itself : (o : Option Node) (p : ℕ) (a : Part) (v : Volatile) → Sits o
 elects_itself o p a v s settled =
     subst ElectsItself (sym s.at) (ap (λ (u : Volatile). u.leader) s.volatile ∙ settled ∙ ap (λ (u : Volatile). u.own) (sym s.volatile))
 
-settles : (members : List ℕ) → Distinct members → (w : World) (a : ℕ → Part) (v : ℕ → Volatile) → AllSit w a v members → (p : ℕ) → Settled (tick_volatile a v p)
+settles : (members : List ℕ) → Distinct members → (w : World) (a : ℕ → Part) (v : ℕ → Volatile) → ((q : ℕ) → IsOneOf members q → Unstopped q (a q)) → AllSit w a v members → (p : ℕ) → Settled (tick_volatile a v p)
     → (some rest : List ℕ) → members ≡ some ++ rest → IsOneOf some p → ElectsItself (node_at (after_events w (ticks some)).nodes p)
-settles members d w a v sit p settled some rest is m =
-    let t = ticks_run a v some (distinct_front some rest (subst Distinct is d)) w (λ q k. sit q (ap (λ (l : List ℕ). is_member nat_eq l q) is ∙ front_member some rest q k)) in
+settles members d w a v un sit p settled some rest is m =
+    let t = ticks_run a v some (distinct_front some rest (subst Distinct is d)) w (λ q k. un q (ap (λ (l : List ℕ). is_member nat_eq l q) is ∙ front_member some rest q k)) (λ q k. sit q (ap (λ (l : List ℕ). is_member nat_eq l q) is ∙ front_member some rest q k)) in
     elects_itself (node_at (after_events w (ticks some)).nodes p) p (tick_part a v p) (tick_volatile a v p) (t.sit p m) settled
 
 -- ---- rounds
@@ -132,6 +133,7 @@ module _ (conf : ℕ) (members : List ℕ) (distinct : Distinct members) (links 
       let w3 : World = after_round members links w2 in
       let parts1 = parts_stay conf members distinct links a0 v0 parts0 in
       let parts2 = parts_stay conf members distinct links a1 v1 parts1 in
+      let parts3 = parts_stay conf members distinct links a2 v2 parts2 in
       let sit1 : AllSit w1 a1 v1 members = round_run conf members distinct links a0 v0 parts0 w sit0 in
       let sit2 : AllSit w2 a2 v2 members = round_run conf members distinct links a1 v1 parts1 w1 sit1 in
       let sit3 : AllSit w3 a3 v3 members = round_run conf members distinct links a2 v2 parts2 w2 sit2 in
@@ -141,9 +143,9 @@ module _ (conf : ℕ) (members : List ℕ) (distinct : Distinct members) (links 
       let majority3 = hears_over conf members distinct links a2 v2 parts2 p (hears).member ∙ (hears).hears in
       let fits : ltb (greater (v2 p).leader (v2 p).floor).number greatest_number ≡ true = lt-ltb (greater (v2 p).leader (v2 p).floor).number greatest_number (subst (λ (k : ℕ). (greater (v2 p).leader (v2 p).floor).number < k) top (room n a0 v0 parts0 under)) in
       ⊎_elim
-      (λ (settled : Settled (tick_volatile a2 v2 p)). inl (λ some rest is m. subst (λ (t : World). ElectsItself (node_at (after_events t (ticks some)).nodes p)) (sym after2) (settles members distinct w2 a2 v2 sit2 p settled some rest is m)))
+      (λ (settled : Settled (tick_volatile a2 v2 p)). inl (λ some rest is m. subst (λ (t : World). ElectsItself (node_at (after_events t (ticks some)).nodes p)) (sym after2) (settles members distinct w2 a2 v2 parts2.unstopped sit2 p settled some rest is m)))
       (λ (ahead : Ahead (tick_volatile a2 v2 p)). inr (λ some rest is m. subst (λ (t : World). ElectsItself (node_at (after_events t (ticks some)).nodes p)) (sym after3)
-      (settles members distinct w3 a3 v3 sit3 p (ahead_wins p (a3 p) (v3 p) majority3 (quiet a1 v1 parts1) ahead) some rest is m)))
+      (settles members distinct w3 a3 v3 parts3.unstopped sit3 p (ahead_wins p (a3 p) (v3 p) majority3 (quiet a1 v1 parts1) ahead) some rest is m)))
       (lonely p (a2 p) (v2 p) majority2 (quiet a0 v0 parts0) fits)
 
 -- ---- from worlds in which all members are ready
@@ -162,6 +164,7 @@ module _ (conf : ℕ) (members : List ℕ) (distinct : Distinct members) (links 
     sits : Sits (node_at w.nodes q) q a v
     conf_is : a.conf ≡ conf
     members_are : a.members ≡ members
+    unstopped : Unstopped q a
     under : AreUnder conf members distinct links p hears n a v
 
   has_room : (n : ℕ) → suc n ≡ greatest_number → (b : Ballot) → HasRoom b → Under n b
@@ -174,9 +177,10 @@ module _ (conf : ℕ) (members : List ℕ) (distinct : Distinct members) (links 
       let k = r.room in
       let u : Volatile = r.node.state.volatile in
       record {
-        sits = record { node = r.node; at = r.at; pid = found_id w.nodes q r.node r.at; up = r.up; part = r.has; volatile = refl };
+        sits = record { node = r.node; at = r.at; pid = found_id w.nodes q r.node r.at; up = r.up; part = r.has; stays = r.stays; volatile = refl };
         conf_is = r.conf_is;
         members_are = r.members_are;
+        unstopped = λ alone. r.unstopped (ap (λ (ms : List ℕ). is_majority (passing (λ x. x == q) ms) (length ms)) (sym r.members_are) ∙ alone);
         under = record {
           own = has_room n top u.own k.own;
           leader = has_room n top u.leader k.leader;
@@ -192,7 +196,7 @@ module _ (conf : ℕ) (members : List ℕ) (distinct : Distinct members) (links 
       let a : ℕ → Part = λ q. pick_part q (is_member nat_eq members q) refl in
       let v : ℕ → Volatile = λ q. pick_volatile q (is_member nat_eq members q) refl in
       let k : (q : ℕ) → IsOneOf members q → IsKnown n q (a q) (v q) = λ q m. known n top q (is_member nat_eq members q) refl m in
-      reach conf members distinct links p hears n top w a v (λ q m. (k q m).sits) (record { conf_is = λ q m. (k q m).conf_is; members_are = λ q m. (k q m).members_are }) (λ q m. (k q m).under)
+      reach conf members distinct links p hears n top w a v (λ q m. (k q m).sits) (record { conf_is = λ q m. (k q m).conf_is; members_are = λ q m. (k q m).members_are; unstopped = λ q m. (k q m).unstopped }) (λ q m. (k q m).under)
 
 -- three rounds reach what is promised of them
 pub rounds_reach : RoundsReach

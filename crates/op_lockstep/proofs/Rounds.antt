@@ -4,7 +4,7 @@ use Rattle.std.proofs.lemmas.Bool.{and_parts}
 use Rattle.std.specs.Set.{is_member}
 use Rattle.op_quorum.specs.Quorums.{is_majority}
 use Rattle.op_types.specs.declared.durable.Part.{Part}
-use Rattle.op_types.specs.declared.events.Event.{Event}
+use Rattle.op_runs.specs.declared.events.Event.{Event}
 use Rattle.op_types.specs.declared.messages.Heard.{Heard}
 use Rattle.op_protocol.specs.State.{Volatile}
 use Rattle.op_protocol.specs.Election.{hears_majority}
@@ -18,7 +18,7 @@ use Rattle.op_lockstep.proofs.Lists.{Each, Each-map, Each-more, Each-filter, Eac
 use Rattle.op_lockstep.proofs.Ends.{tick_heard}
 use Rattle.op_lockstep.proofs.Changes.{keeps_members, tick_asks}
 use Rattle.op_lockstep.proofs.Seats.{Sits, AllSit}
-use Rattle.op_lockstep.proofs.Ticking.{tick_part, tick_volatile, tick_sent, ticks_run}
+use Rattle.op_lockstep.proofs.Ticking.{Unstopped, tick_part, tick_volatile, tick_sent, unstopped_still, ticks_run}
 use Rattle.op_lockstep.proofs.Counting.{each_other, linked_sent, sent_requests, told, kept, asking_by, kept_all, length-map, count_with}
 use Rattle.op_lockstep.proofs.Delivering.{delivered, IsRequest, reply_to, Asked, asked_run, IsBetween, hearing, heard_run}
 
@@ -32,12 +32,14 @@ module _ (conf : ℕ) (members : List ℕ) (distinct : Distinct members) (links 
   pub record AreParts (a : ℕ → Part) : Type 0 where
     pub conf_is : (p : ℕ) → is_member nat_eq members p ≡ true → (a p).conf ≡ conf
     pub members_are : (p : ℕ) → is_member nat_eq members p ≡ true → (a p).members ≡ members
+    pub unstopped : (p : ℕ) → is_member nat_eq members p ≡ true → Unstopped p (a p)
 
   pub parts_stay : (a : ℕ → Part) (v : ℕ → Volatile) → AreParts a → AreParts (tick_part a v)
   parts_stay a v k =
       record {
         conf_is = λ p m. (keeps_members (a p) (on_tick p (a p) (v p)).batch).conf ∙ k.conf_is p m;
         members_are = λ p m. (keeps_members (a p) (on_tick p (a p) (v p)).batch).members ∙ k.members_are p m;
+        unstopped = λ p m. unstopped_still a v p (k.unstopped p m);
       }
 
   -- those that a member hears
@@ -95,7 +97,7 @@ module _ (conf : ℕ) (members : List ℕ) (distinct : Distinct members) (links 
 
     asked_all : (w : World) → AllSit w a v members → Asked conf members stored later (stored_parts).conf_is (ticked members w) (asked members links w) requests_over
     asked_all w sit =
-        let t = ticks_run a v members distinct w sit in
+        let t = ticks_run a v members distinct w parts.unstopped sit in
         let u : World = ticked members w in
         let n : ℕ = length w.messages in
         let ms : List Sent = flat_map (tick_sent a v) members in

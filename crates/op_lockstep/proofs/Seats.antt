@@ -1,20 +1,22 @@
 -- One event at a node that is up: what the node then is, that the others stay, and what is sent.
-use Rattle.std.proofs.Common.{◌≡◌, ℕ, Bool, true, false, cond, eqb, nat_eq, List, [], ◌∷◌, ◌++◌, Option, Some, None, refl, sym, ap, ◌∙◌}
+use Rattle.std.proofs.Common.{◌≡◌, ℕ, Bool, true, false, cond, eqb, nat_eq, is_some, List, [], ◌∷◌, ◌++◌, Option, Some, None, refl, sym, ap, ◌∙◌, subst}
 use Rattle.std.proofs.lemmas.Bool.{cond_both, eqb-true, eq-eqb, ne_eqb}
 use Rattle.std.specs.Set.{is_member}
-use Rattle.op_types.specs.Changes.{part_option_with, durable_after}
+use Rattle.op_types.specs.Changes.{durable_after}
+use Rattle.op_types.specs.Stops.{stop_at_end}
 use Rattle.op_types.specs.declared.changes.Change.{Change}
 use Rattle.op_types.specs.declared.durable.Durable.{Durable}
 use Rattle.op_types.specs.declared.durable.Part.{Part}
 use Rattle.op_types.specs.declared.events.Input.{Input}
-use Rattle.op_types.specs.declared.events.What.{What}
+use Rattle.op_runs.specs.declared.events.What.{What}
 use Rattle.op_types.specs.declared.messages.Msg.{Msg}
-use Rattle.op_protocol.specs.State.{Volatile, PartStep, state_after}
-use Rattle.op_protocol.specs.Parts.{part_after}
-use Rattle.op_protocol.specs.Rows.{part_step, step_at, step_plan}
+use Rattle.op_protocol.specs.State.{State, Volatile, PartStep, Planned, state_after}
+use Rattle.op_protocol.specs.Parts.{part_after, decided_since}
+use Rattle.op_protocol.specs.Rows.{planned, step_at, waiting_at}
 use Rattle.op_runs.specs.World.{World, Node, NodeStatus, Up, Done, Happening, Steps, Deed, deed_of, node_at, with_node, sent_by, world_by_fate, world_by_status, world_at_node, world_with, world_after, done_event}
 use Rattle.op_lockstep.specs.Lockstep.{event_of}
-use Rattle.op_lockstep.proofs.Lists.{by_test}
+use Rattle.op_lockstep.proofs.Lists.{Each, by_test}
+use Rattle.op_lockstep.proofs.Batches.{IsLight, StoresPart, stores_after, plan_is}
 
 -- ---- looking nodes up
 -- the others are found as before
@@ -49,31 +51,15 @@ found_id (m ∷ nodes) pid n e =
     same : (m n : Node) (pid : ℕ) → Some m ≡ Some n → m.pid ≡ pid → n.pid ≡ pid
     same m n pid k h = let e : m ≡ n = cc in ap (λ (x : Node). x.pid) (sym e) ∙ h
 
--- the part after a batch, where there is one
-abbrev pub part_option_after : Option Part → List Change → Option Part
-part_option_after None batch = None
-part_option_after (Some p) batch = Some (part_after p batch)
-
-pub durable_after-option : (d : Durable) (batch : List Change) → (durable_after d batch).part ≡ part_option_after d.part batch
-durable_after-option d [] = same d.part
-  where
-    same : (o : Option Part) → o ≡ part_option_after o []
-    same None = refl
-    same (Some p) = refl
-durable_after-option d (c ∷ batch) = durable_after-option (record { part = part_option_with d.part c; closed = d.closed }) batch ∙ step d.part
-  where
-    step : (o : Option Part) → part_option_after (part_option_with o c) batch ≡ part_option_after o (c ∷ batch)
-    step None = refl
-    step (Some p) = refl
-
 -- ---- seats
--- the node of this id is up, with this part, and this in its memory
+-- the node of this id is up, with this part, and this in its memory, and joins no other configuration
 pub record Sits (o : Option Node) (p : ℕ) (a : Part) (v : Volatile) : Type 0 where
   pub node : Node
   pub at : o ≡ Some node
   pub pid : node.pid ≡ p
   pub up : node.status ≡ Up
   pub part : node.state.durable.part ≡ Some a
+  pub stays : node.state.durable.joining ≡ None
   pub volatile : node.state.volatile ≡ v
 
 -- each of these does
@@ -86,27 +72,38 @@ pub record After (w u : World) (p : ℕ) (a : Part) (v : Volatile) (sends : List
   pub others : (q : ℕ) → (q ≡ p → ⊥) → node_at u.nodes q ≡ node_at w.nodes q
   pub messages : u.messages ≡ w.messages ++ sent_by p sends
 
--- a step at a node that is up
-pub stepped : (w : World) (e : What) (p : ℕ) (x : Input) (a : Part) (v : Volatile) (y : PartStep) → deed_of w.messages e ≡ Some (record { pid = p; doing = Steps x }) → part_step p a v x ≡ y → Sits (node_at w.nodes p) p a v
+-- the row of an input at a part that doesn't join another configuration
+abbrev pub IsRow : ℕ → Part → Volatile → Input → PartStep → Type 0
+IsRow p a v x y = (d : Durable) → d.part ≡ Some a → d.joining ≡ None → step_at p d v x ≡ y
+
+-- a step at a node that is up, which leaves the log as it is and decides no stop-sign
+pub stepped : (w : World) (e : What) (p : ℕ) (x : Input) (a : Part) (v : Volatile) (y : PartStep) → deed_of w.messages e ≡ Some (record { pid = p; doing = Steps x }) → IsRow p a v x y
+    → Each IsLight y.batch → is_some (stop_at_end (decided_since a (part_after a y.batch))) ≡ false → Sits (node_at w.nodes p) p a v
     → After w (world_after w (done_event (event_of e))) p (part_after a y.batch) y.volatile y.sends
-stepped w e p x a v y deed is s =
+stepped w e p x a v y deed is light ends s =
     let h : Happening = done_event (event_of e) in
     let n : Node = s.node in
-    let m : Node = record n { state = state_after n.state (step_plan n.pid n.state x) } in
-    let d : Durable = (n.state).durable in
-    let step_is : step_at n.pid d.part (n.state).volatile x ≡ y =
-    ap (λ (k : ℕ). step_at k d.part (n.state).volatile x) s.pid ∙ ap (λ (o : Option Part). step_at p o (n.state).volatile x) s.part ∙ ap (λ (u : Volatile). part_step p a u x) s.volatile ∙ is in
-    let world_is : world_after w h ≡ world_by_fate Done 0 w n (step_plan n.pid n.state x) =
-    ap (λ (o : Option Deed). world_with o h w) deed ∙ ap (λ (o : Option Node). world_at_node o (Steps x) h w) s.at ∙ ap (λ (t : NodeStatus). world_by_status t (Steps x) h w n) s.up in
+    let st : State = n.state in
+    let pl : Planned = planned st (waiting_at n.pid st x) y in
+    let step_is : step_at n.pid st.durable st.volatile x ≡ y =
+    ap (λ (k : ℕ). step_at k st.durable st.volatile x) s.pid ∙ ap (λ (u : Volatile). step_at p st.durable u x) s.volatile ∙ is st.durable s.part s.stays in
+    let plan = plan_is n.pid st x a y s.part s.stays step_is light ends in
+    let m : Node = record n { state = state_after st pl } in
+    let world_is : world_after w h ≡ world_by_fate Done 0 w n pl =
+    ap (λ (o : Option Deed). world_with o h w) deed ∙ ap (λ (o : Option Node). world_at_node o (Steps x) h w) s.at ∙ ap (λ (t : NodeStatus). world_by_status t (Steps x) h w n) s.up
+    ∙ ap (λ (k : Planned). world_by_fate Done 0 w n k) plan.0 in
+    let stored : StoresPart st.durable (part_after a y.batch) (durable_after st.durable pl.batch) =
+    subst (λ (b : List Change). StoresPart st.durable (part_after a y.batch) (durable_after st.durable b)) (sym plan.1) (stores_after st.durable a y.batch light s.part) in
     record {
       here = record {
         node = m;
         at = ap (λ (u : World). node_at u.nodes p) world_is ∙ ap (node_at (with_node w.nodes m)) (sym s.pid) ∙ node_at-here w.nodes m n (ap (node_at w.nodes) s.pid ∙ s.at);
         pid = s.pid;
         up = s.up;
-        part = durable_after-option d (step_at n.pid d.part (n.state).volatile x).batch ∙ ap (λ (o : Option Part). part_option_after o (step_at n.pid d.part (n.state).volatile x).batch) s.part ∙ ap (λ (z : PartStep). Some (part_after a z.batch)) step_is;
-        volatile = ap (λ (z : PartStep). z.volatile) step_is;
+        part = stored.part;
+        stays = stored.joining ∙ s.stays;
+        volatile = refl;
       };
       others = λ q other. ap (λ (u : World). node_at u.nodes q) world_is ∙ node_at-other w.nodes m q (λ k. other (k ∙ s.pid));
-      messages = ap (λ (u : World). u.messages) world_is ∙ ap (λ (k : ℕ). w.messages ++ sent_by k (step_at n.pid d.part (n.state).volatile x).sends) s.pid ∙ ap (λ (z : PartStep). w.messages ++ sent_by p z.sends) step_is;
+      messages = ap (λ (u : World). u.messages) world_is ∙ ap (λ (k : ℕ). w.messages ++ sent_by k y.sends) s.pid;
     }

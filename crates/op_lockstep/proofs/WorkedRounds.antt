@@ -2,10 +2,10 @@
 use Rattle.std.proofs.Common.{◌≡◌, ◌<◌, ◌+◌, ℕ, false, List, [], ◌∷◌, Some, refl, arith}
 use Rattle.op_types.specs.Limits.{greatest_number}
 use Rattle.op_types.specs.declared.ballot.Ballot.{Ballot}
-use Rattle.op_types.specs.declared.summary.Line.{Line}
-use Rattle.op_types.specs.declared.summary.Line.TheVariants.{Ballots}
+use Rattle.op_runs.specs.declared.summary.Line.{Line}
+use Rattle.op_runs.specs.declared.summary.Line.TheVariants.{Ballots}
 use Rattle.op_gen.specs.Links.{Links}
-use Rattle.op_runs.specs.World.{node_at, first_node, first_world}
+use Rattle.op_runs.specs.World.{node_at, first_durable, first_node, first_world}
 use Rattle.op_lockstep.specs.Lockstep.{hears_majority_over, after_events, lockstep, links_drill}
 use Rattle.op_lockstep.specs.Reach.{HearsAlone, IsUpWithRoom, AreUpWithRoom}
 use Rattle.op_lockstep.proofs.Lists.{Each-at}
@@ -15,7 +15,7 @@ b n p = record { number = n; pid = p }
 
 -- what each member tells after a drill
 abbrev told : List ℕ → Links → ℕ → List Line
-told members links rounds = (after_events (first_world members) (links_drill members links rounds)).lines
+told members links rounds = (after_events (first_world members []) (links_drill members links rounds)).lines
 
 -- servers 1 and 3 hear server 2 alone
 chained : told (1 ∷ 2 ∷ 3 ∷ []) ((1, 2) ∷ (2, 3) ∷ []) 3
@@ -63,16 +63,16 @@ low : (n : ℕ) → n < 2 → n + 1 < greatest_number
 low n h = omega arith
 
 -- all are up when they begin
-five_are_up : AreUpWithRoom five (first_world five)
-five_are_up q m = Each-at (IsUpWithRoom (first_world five)) five (begins 1 refl, (begins 2 refl, (begins 3 refl, (begins 4 refl, (begins 5 refl, tt))))) q m
+five_are_up : AreUpWithRoom five (first_world five [])
+five_are_up q m = Each-at (IsUpWithRoom (first_world five [])) five (begins 1 refl refl, (begins 2 refl refl, (begins 3 refl refl, (begins 4 refl refl, (begins 5 refl refl, tt))))) q m
   where
-    begins : (p : ℕ) → node_at (first_world five).nodes p ≡ Some (first_node five p) → IsUpWithRoom (first_world five) p
-    begins p at =
+    begins : (p : ℕ) → node_at (first_world five []).nodes p ≡ Some (first_node five p) → (first_node five p).state.durable.part ≡ (first_durable five).part → IsUpWithRoom (first_world five []) p
+    begins p at has =
         record {
           node = first_node five p;
           part = _;
           at = at;
           up = refl;
-          has = refl;
+          has = has;
           room = record { own = low 1 (omega arith); leader = low 0 (omega arith); floor = low 0 (omega arith); promised = low 0 (omega arith); heard = λ k d l. absurd (omega arith) };
         }

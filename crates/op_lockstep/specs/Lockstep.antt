@@ -1,9 +1,9 @@
 -- Lockstep rounds over fixed links, as the events of a schedule.
 use Rattle.std.specs.Prelude.{◌==◌, ◌&&◌, ◌||◌, ℕ, zero, suc, ◌+◌, Bool, true, false, List, [], ◌∷◌, ◌++◌, length, map, drop, if◌then◌else◌}
 use Rattle.op_quorum.specs.Quorums.{is_majority, passing}
-use Rattle.op_types.specs.declared.events.What.{What}
-use Rattle.op_types.specs.declared.events.What.TheVariants as what
-use Rattle.op_types.specs.declared.events.Event.{Event}
+use Rattle.op_runs.specs.declared.events.What.{What}
+use Rattle.op_runs.specs.declared.events.What.TheVariants as what
+use Rattle.op_runs.specs.declared.events.Event.{Event}
 use Rattle.op_types.specs.declared.messages.Body.{Body}
 use Rattle.op_types.specs.declared.messages.Body.TheVariants as body
 use Rattle.op_gen.specs.Links.{Links, is_linked, all_links}
@@ -93,13 +93,13 @@ lockstep members links (suc k) w =
 
 -- ---- a drill of links
 
--- three rounds over all links, from the members' start on
+-- three rounds over all links, from the members' start on; there are no spares
 abbrev pub first_rounds : List ℕ → List Event
-first_rounds members = lockstep members (all_links members) 3 (first_world members)
+first_rounds members = lockstep members (all_links members) 3 (first_world members [])
 
 -- the world after them
 abbrev pub linked_world : List ℕ → World
-linked_world members = after_events (first_world members) (first_rounds members)
+linked_world members = after_events (first_world members []) (first_rounds members)
 
 -- each of these servers tells its ballots
 abbrev pub ballots : List ℕ → List Event

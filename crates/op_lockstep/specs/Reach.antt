@@ -1,12 +1,16 @@
 -- What three lockstep rounds reach: the one member that hears a majority takes its own ballot for the
 -- leader's.
-use Rattle.std.specs.Prelude.{◌≡◌, ◌⊎◌, ◌<◌, ◌+◌, ℕ, nat_eq, true, false, List, ◌++◌, Option, Some, None, All}
+use Rattle.std.specs.Prelude.{◌≡◌, ◌⊎◌, ◌<◌, ◌+◌, ◌==◌, ℕ, nat_eq, true, false, List, ◌++◌, length, Option, Some, None, All}
 use Rattle.std.specs.Set.{is_member}
+use Rattle.op_quorum.specs.Quorums.{is_majority, passing}
+use Rattle.op_types.specs.Changes.{IsCommand}
 use Rattle.op_types.specs.Limits.{greatest_number}
 use Rattle.op_types.specs.Ranges.{MembersInRange}
 use Rattle.op_types.specs.declared.ballot.Ballot.{Ballot}
 use Rattle.op_types.specs.declared.durable.Part.{Part}
 use Rattle.op_protocol.specs.State.{Volatile}
+use Rattle.op_runs.specs.declared.events.What.{What}
+use Rattle.op_runs.specs.declared.events.What.TheVariants as what
 use Rattle.op_runs.specs.World.{World, Node, Up, Happening, node_at, first_world, run_of, all_done}
 use Rattle.op_gen.specs.Links.{Links}
 use Rattle.op_lockstep.specs.Lockstep.{hears_majority_over, after_events, ticks, lockstep}
@@ -26,8 +30,8 @@ pub record BallotsHaveRoom (p : Part) (v : Volatile) : Type 0 where
   pub promised : HasRoom p.promised
   pub heard : All (λ h. HasRoom h.ballot) v.heard
 
--- the node of this id is up, has the part of this configuration, with these members, and its ballots have
--- room
+-- the node of this id is up, has the part of this configuration, with these members, joins no other one, and
+-- its ballots have room
 pub record IsReady (conf : ℕ) (members : List ℕ) (w : World) (pid : ℕ) : Type 0 where
   pub node : Node
   pub part : Part
@@ -36,6 +40,11 @@ pub record IsReady (conf : ℕ) (members : List ℕ) (w : World) (pid : ℕ) : T
   pub has : node.state.durable.part ≡ Some part
   pub conf_is : part.conf ≡ conf
   pub members_are : part.members ≡ members
+  pub stays : node.state.durable.joining ≡ None
+  -- one that is a majority alone has no stop-sign in its log: its tick might decide that, and close the
+  -- configuration
+  pub unstopped : is_majority (passing (λ q. q == pid) members) (length members) ≡ true
+      → All IsCommand part.tail.items
   pub room : BallotsHaveRoom part node.state.volatile
 
 -- one of these members
@@ -91,26 +100,38 @@ pub record IsUpWithRoom (w : World) (pid : ℕ) : Type 0 where
 abbrev pub AreUpWithRoom : List ℕ → World → Type 0
 AreUpWithRoom members w = (p : ℕ) → IsOneOf members p → IsUpWithRoom w p
 
--- The same from every world that a run of these members reaches, in which all of them are up and their
--- ballots have room: each member has the part of configuration 1 then, and no other.
+-- it is no stop-sign that is proposed
+abbrev pub IsNoStop : What → Type 0
+IsNoStop (what.Stop p members) = ⊥
+IsNoStop _ = Unit {0}
+
+-- none of these happenings proposes a stop-sign
+abbrev pub ProposeNoStop : List Happening → Type 0
+ProposeNoStop hs = All (λ h. IsNoStop h.event.what) hs
+
+-- The same from every world that a run without stop-signs reaches, in which all members are up and their
+-- ballots have room: each has the part of configuration 1 then, and joins no other one. What the spares do
+-- doesn't matter.
 abbrev pub RunsReach : Type 0
 RunsReach =
-    (members : List ℕ) → MembersInRange members → (early : List Happening) (links : Links) (p : ℕ)
-    → let w : World = run_of (first_world members) early in
+    (members spares : List ℕ) → MembersInRange members → (early : List Happening) → ProposeNoStop early
+    → (links : Links) (p : ℕ)
+    → let w : World = run_of (first_world members spares) early in
     AreUpWithRoom members w → HearsAlone members links p
     → ElectsItselfAfter members links w p 2 ⊎ ElectsItselfAfter members links w p 3
 
 -- wherever three lockstep rounds and the ticks that end the last of them are in a run,
 -- over links that let one member alone hear a majority, they reach this
-abbrev pub EachLockstepReaches : List ℕ → List Happening → Type 0
-EachLockstepReaches members run =
+abbrev pub EachLockstepReaches : List ℕ → List ℕ → List Happening → Type 0
+EachLockstepReaches members spares run =
     (early late : List Happening) (links : Links) (p : ℕ)
-    → let w : World = run_of (first_world members) early in
+    → let w : World = run_of (first_world members spares) early in
     run ≡ early ++ all_done (lockstep members links 3 w ++ ticks members) ++ late
     → AreUpWithRoom members w → HearsAlone members links p
     → ElectsItselfAfter members links w p 2 ⊎ ElectsItselfAfter members links w p 3
 
--- the same, of every run
+-- the same, of every run without stop-signs
 abbrev pub EveryLockstepReaches : Type 0
 EveryLockstepReaches =
-    (members : List ℕ) → MembersInRange members → (run : List Happening) → EachLockstepReaches members run
+    (members spares : List ℕ) → MembersInRange members → (run : List Happening) → ProposeNoStop run
+    → EachLockstepReaches members spares run

@@ -1,5 +1,5 @@
 -- What one other member does in an exchange: it takes the leader's log, each entry after it, and the leader hears of that.
-use Rattle.std.proofs.Common.{◌≡◌, ℕ, zero, suc, ◌+◌, ◌-◌, ◌<◌, ◌≤◌, ◌⊎◌, inl, inr, ⊎_elim, List, [], ◌∷◌, ◌++◌, length, true, ◌&&◌, take, drop, refl, sym, ap, ◌∙◌, subst, arith, ◌==◌, length-append}
+use Rattle.std.proofs.Common.{◌≡◌, ℕ, zero, suc, ◌+◌, ◌-◌, ◌<◌, ◌≤◌, ◌⊎◌, inl, inr, ⊎_elim, List, [], ◌∷◌, ◌++◌, length, true, ◌&&◌, take, drop, refl, sym, ap, ◌∙◌, arith, ◌==◌, length-append}
 use Rattle.std.specs.Prelude.{nat_lt, nat_le, if◌then◌else◌}
 use Rattle.std.proofs.lemmas.Bool.{cases_eq, cases_lt, cond_both, both_ways, eq-eqb, lt-ltb, le-leb, ltb-true, ltb-false}
 use Rattle.std.proofs.lemmas.List.{length-take-le}
@@ -11,7 +11,7 @@ use Rattle.op_paxos.specs.Messages.{Msg, AcceptSync, Accept, Accepted, Packet, E
 use Rattle.op_paxos.specs.Follower.{appended, on_accept, synced_to, on_accept_sync}
 use Rattle.op_paxos.specs.Leader.{majority_length, recount, on_accepted_in}
 use Rattle.op_paxos.specs.Worlds.{on_msg, Comes, step, World, Event, Delivers, stepped, taken_by, input_of, applied, happens}
-use Rattle.op_paxos.specs.Exchange.{Delivery, Sending, IsCalm}
+use Rattle.op_paxos.specs.Exchange.{Delivery, Sending, IsCalm, Proposed}
 use Rattle.op_paxos.proofs.ExchangeNeeds.{Needs}
 use Rattle.op_paxos.proofs.History.{History}
 use Rattle.op_paxos.proofs.Updates.{upd_at, upd_here}
@@ -21,7 +21,7 @@ use Rattle.op_paxos.proofs.PromisesStand.{Good}
 use Rattle.op_paxos.proofs.NumberedWorlds.{Next, next, stable, W, sender, G, good_at, later_at}
 use Rattle.op_paxos.proofs.Senders.{ack_by}
 use Rattle.op_paxos.proofs.Roles.{lead_is}
-use Rattle.op_paxos.proofs.Streams.{Leads, lead_next, Stream, Starts, stream_begins, sent_before, stream_at}
+use Rattle.op_paxos.proofs.Streams.{Leads, lead_next, Stream, Starts, stream_begins, sent_before, stream_at, Reaching}
 use Rattle.op_paxos.proofs.Membership.{none_some, some_is, in_from_get}
 
 -- ---- the handlers, where their conditions hold
@@ -87,7 +87,7 @@ module _ (ms : List ℕ) (w : World) (es : List Event) where
 
 -- ---- one other
 module _ (ms : List ℕ) (w : World) (g : History) (good : Good ms w g) (es : List Event) (p b : ℕ) (others : List ℕ) (members : (q : ℕ) → IsAmong others q → IsAmong ms q × (q ≡ p → ⊥)) (calm : IsCalm ms w es b others p 0)
-    (q : ℕ) (mine : IsAmong others q) (come : ℕ) (s : Needs ms w es b p q come) (calm_q : IsCalm ms w es b (p ∷ []) q s.prepare_at) where
+    (q : ℕ) (mine : IsAmong others q) (come : Proposed) (s : Needs ms w es b p q come) (calm_q : IsCalm ms w es b (p ∷ []) q s.prepare_at) where
   abbrev pub at : ℕ → World
   at i = W ms w es i
 
@@ -203,9 +203,10 @@ module _ (ms : List ℕ) (w : World) (g : History) (good : Good ms w g) (es : Li
       let d = s.accepted i a es' first up h in
       accept_now (s.accept_at i) a es' d.1 (omega (arith, after_one, d.0))
       (⊎_elim (λ (x : a ≤ top). low x d.0)
-      (λ (x : (l : ℕ) × (c : Entry) × (suc s.sync_sent ≤ l) × (l < i) × Sending ms w es l p q (Accept b (a - 1) (c ∷ [])) × (a - 1 + 1 ≡ a)).
-      let r = covered_below bound x.0 (a - 1) (x.1 ∷ []) (omega (arith, lt, x.3)) x.2 (omega (arith, up, x.3)) x.4 in
-      subst (λ c. Has c (s.accept_at i)) x.5 (has_up (a - 1 + 1) (suc (s.accept_at x.0)) (s.accept_at i) (s.in_order x.0 i (a - 1) a (x.1 ∷ []) es' x.2 x.3 up x.4 h) r))
+      (λ (x : (0 < a) × Reaching ms w g good es p b others members calm q (suc s.sync_sent) i (a - 1)).
+      let z = x.1 in
+      let r = covered_below bound z.number z.start z.entries (omega (arith, lt, z.early)) z.first (omega (arith, up, z.early)) z.sent in
+      omega (arith, has_up (z.start + length z.entries) (suc (s.accept_at z.number)) (s.accept_at i) (s.in_order z.number i z.start a z.entries es' z.first z.early up z.sent h) r, x.0, z.high))
       (sent_before ms w g good es p b others members calm q (suc s.sync_sent) top mine i a es' (stream_to i first) h))
     where
       low : a ≤ top → s.sync_at < s.accept_at i → Has a (s.accept_at i)

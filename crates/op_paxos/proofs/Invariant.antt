@@ -3,6 +3,7 @@ use Rattle.std.proofs.Common.{◌≡◌, ℕ, suc, ◌+◌, ◌<◌, ◌≤◌, 
 use Rattle.std.specs.Prelude.{nat_lt}
 use Rattle.std.proofs.lemmas.Bool.{ltb-true, lt-ltb, cases_order}
 use Rattle.op_types.specs.declared.log.Entry.{Entry}
+use Rattle.op_types.specs.Limits.{positions_end}
 use Rattle.op_paxos.specs.Nodes.{owner, Promised, PreparingState, LeadingState, Role, Idle, Preparing, Leading, Node}
 use Rattle.op_paxos.specs.Messages.{Msg, Prepare, Promise, AcceptSync, Accept, Accepted, Decide, PrepareReq, Refuse, Forward, TrimAsk, Progress, Trim}
 use Rattle.op_paxos.specs.Leader.{is_usable}
@@ -21,7 +22,8 @@ Sure ms g z x = (x ≡ 0) ⊎ ChosenBy ms g z x
 
 -- ---- what messages tell
 -- a Prepare tells a round that its sender has come to, and what is chosen up to it
-pub record PrepareOk (ms : List ℕ) (ac : ℕ → ℕ) (g : History) (p na d : ℕ) : Type 0 where
+pub record PrepareOk (ms : List ℕ) (ac : ℕ → ℕ) (g : History) (p na nl d : ℕ) : Type 0 where
+  pub short : (nl ≤ positions_end) × (d ≤ positions_end)
   pub low : na ≤ ac p
   pub sure : Sure ms g na d
 
@@ -35,6 +37,7 @@ pub record PromOk (ms : List ℕ) (pr ac : ℕ → ℕ) (g : History) (q p n : �
   pub seen : (m : ℕ) → m < n → 0 < g.acc q m → (m < pm.round) ⊎ ((m ≡ pm.round) × (g.acc q m ≤ suc pm.size))  -- and no more before n
   pub fits : pm.decided ≤ pm.size
   pub sure : Sure ms g pm.round pm.decided  -- what q has decided is chosen
+  pub short : pm.start ≤ positions_end
   pub rest : pm.rest ≡ drop pm.start (take pm.size (g.full pm.round))  -- what it told is its log from the start on
   pub base : ℕ  -- the round that p asked with
   pub base_low : base ≤ ac p
@@ -64,7 +67,7 @@ pub record SyncOk (ms : List ℕ) (pr ac : ℕ → ℕ) (g : History) (q n x : �
 
 -- what holds of a message from p to q
 abbrev pub MsgOk : List ℕ → (ℕ → ℕ) → (ℕ → ℕ) → History → ℕ → ℕ → Msg → Type 0
-MsgOk ms pr ac g p q (Prepare n na nl d) = PrepareOk ms ac g p na d
+MsgOk ms pr ac g p q (Prepare n na nl d) = PrepareOk ms ac g p na nl d
 MsgOk ms pr ac g p q (Promise n pm) = PromOk ms pr ac g p q n pm
 MsgOk ms pr ac g p q (AcceptSync n x es) = SyncOk ms pr ac g q n x es
 MsgOk ms pr ac g p q (Accept n a es) = SliceOk g n a es
@@ -72,7 +75,7 @@ MsgOk ms pr ac g p q (Accepted n x) = x < g.acc p n
 MsgOk ms pr ac g p q (Decide n x) = Sure ms g n x
 MsgOk ms pr ac g p q PrepareReq = Unit {0}
 MsgOk ms pr ac g p q (Refuse n b) = Unit {0}
-MsgOk ms pr ac g p q (Forward e) = Unit {0}
+MsgOk ms pr ac g p q (Forward es) = Unit {0}
 MsgOk ms pr ac g p q (TrimAsk n) = Unit {0}
 MsgOk ms pr ac g p q (Progress n d) = Unit {0}
 MsgOk ms pr ac g p q (Trim x) = Unit {0}
@@ -114,6 +117,10 @@ pub record NodeOk (ms : List ℕ) (pr ac : ℕ → ℕ) (g : History) (p : ℕ) 
   pub fits : nd.decided ≤ length nd.log
   pub sure : Sure ms g nd.accepted nd.decided  -- what it has decided is chosen at a round up to its accepted one
   pub role : RoleOk ms pr ac g p nd nd.role
+
+-- a node's log is no longer than the positions
+pub log_short : (ms : List ℕ) (pr ac : ℕ → ℕ) (g : History) (p : ℕ) (nd : Node) → HistoryOk ms pr g → NodeOk ms pr ac g p nd → length nd.log ≤ positions_end
+log_short ms pr ac g p nd h o = let v = h.voted p nd.accepted (omega (arith, o.vote)) in omega (arith, v.2, o.vote, h.short nd.accepted v.0)
 
 -- ---- how the history grows by a step of p
 pub record Ext (pr : ℕ → ℕ) (p : ℕ) (g g' : History) : Type 0 where
@@ -191,6 +198,7 @@ module _ (ms : List ℕ) (pr : ℕ → ℕ) (p : ℕ) (g g' : History) (x : Ext 
       rest = o.rest ∙ ap (drop pm.start) (sym (x.prefix pm.round pm.size o.led (prom_fits q n pm t o)));
       base = o.base;
       base_low = omega (arith, o.base_low, ac_up t);
+      short = o.short;
       start = ⊎_elim (λ (l : pm.round ≤ o.base). inl l) (λ (s : Sure ms g o.base pm.start). inr (sure_up o.base o.base pm.start (omega arith) s)) o.start;
     }
 
@@ -215,7 +223,7 @@ module _ (ms : List ℕ) (pr : ℕ → ℕ) (p : ℕ) (g g' : History) (x : Ext 
 
     -- what holds of a message stays so
     pub msg_up : (q t : ℕ) (m : Msg) → MsgOk ms pr ac g q t m → MsgOk ms pr' ac' g' q t m
-    msg_up q t (Prepare n na nl d) o = record { low = omega (arith, o.low, ac_up q); sure = sure_up na na d (omega arith) o.sure }
+    msg_up q t (Prepare n na nl d) o = record { short = o.short; low = omega (arith, o.low, ac_up q); sure = sure_up na na d (omega arith) o.sure }
     msg_up q t (Promise n pm) o = prom_up q t n pm o
     msg_up q t (AcceptSync n k es) o = sync_up t n k es o
     msg_up q t (Accept n a es) o = slice_up n a es o

@@ -6,7 +6,7 @@ use Rattle.std.proofs.lemmas.List.{take-take, take_all, length-drop, take-append
 use Rattle.op_types.specs.declared.log.Entry.{Entry}
 use Rattle.op_types.specs.Limits.{positions_end}
 use Rattle.op_spec.specs.Machine.{with_at, IsAmong}
-use Rattle.op_paxos.specs.Logs.{is_full}
+use Rattle.op_paxos.specs.Logs.{overflows}
 use Rattle.op_paxos.specs.Nodes.{owner, Promised, LeadingState, Leading, Node, majority_passes}
 use Rattle.op_paxos.specs.Messages.{Msg, Prepare, AcceptSync, Accept, Decide, Trim, Packet, Effect, packet, broadcast}
 use Rattle.op_paxos.specs.Leader.{sync_at, sync_sends, is_synced, backed, majority_length, recount, on_promise_in, on_accepted_in, extended, on_propose_in}
@@ -14,7 +14,7 @@ use Rattle.op_paxos.specs.Trimming.{trim_all}
 use Rattle.op_paxos.proofs.Tidy.{room_for, tidy_more, Tidy}
 use Rattle.op_paxos.proofs.Majorities.{Many, many_up}
 use Rattle.op_paxos.proofs.History.{History, Adopted, HistoryOk}
-use Rattle.op_paxos.proofs.Invariant.{PrepareOk, Sure, ChosenBy, MsgOk, PromOk, SliceOk, SyncOk, ExactOk, LeadOk, RoleOk, Ext, sure_up}
+use Rattle.op_paxos.proofs.Invariant.{log_short, PrepareOk, Sure, ChosenBy, MsgOk, PromOk, SliceOk, SyncOk, ExactOk, LeadOk, RoleOk, Ext, sure_up}
 use Rattle.op_paxos.proofs.Updates.{upd_here, upd_both, upd_up}
 use Rattle.op_paxos.proofs.OneStep.{StepOk, put, PutOk, put_ext, put_acc, put_last, put_hist}
 use Rattle.op_paxos.proofs.PlainSteps.{Here, keep, keep_msg, still_ok}
@@ -32,7 +32,7 @@ in_spread P p f b h (q ∷ ms) m = cond_both (f q && not (q == p)) _ _ (λ ps. I
     first_or ih = ⊎_elim (λ (e : packet p q b ≡ m). subst P e (h q)) ih
 
 -- ---- Sync
-module _ (ms : List ℕ) (pr ac : ℕ → ℕ) (g : History) (h : HistoryOk ms pr g) (last : (q n : ℕ) → 0 < g.acc q n → n ≤ ac q) (p : ℕ) (nd : Node) (l : LeadingState) (o : LeadOk g p nd l) (asks : PrepareOk ms ac g p nd.accepted nd.decided) where
+module _ (ms : List ℕ) (pr ac : ℕ → ℕ) (g : History) (h : HistoryOk ms pr g) (last : (q n : ℕ) → 0 < g.acc q n → n ≤ ac q) (p : ℕ) (nd : Node) (l : LeadingState) (o : LeadOk g p nd l) (asks : PrepareOk ms ac g p nd.accepted (length nd.log) nd.decided) where
   ballot_led : 0 < g.mark l.ballot
   ballot_led = omega (arith, o.size_is)
 
@@ -260,8 +260,8 @@ module _ (ms : List ℕ) (pr ac : ℕ → ℕ) (g : History) (p : ℕ) (nd : Nod
       (record { within = (w.ok).within; log_is = (w.ok).log_is; vote = (w.ok).vote; last = (w.ok).last; fits = (w.ok).fits; sure = (w.ok).sure; role = lead_with g p nd (record nd { role = Leading (record l { synced = s; acked = a }) }) l s a l.reports refl refl refl ha o })
       (λ m i. keep_msg ms pr ac g p nd w out (omega arith) (omega arith) m.from m.to m.msg (hs m i))
 
-  asks_here : PrepareOk ms ac g p nd.accepted nd.decided
-  asks_here = record { low = omega (arith, w.accepted_is); sure = (w.ok).sure }
+  asks_here : PrepareOk ms ac g p nd.accepted (length nd.log) nd.decided
+  asks_here = record { short = (log_short ms pr ac g p nd w.hist w.ok, omega (arith, log_short ms pr ac g p nd w.hist w.ok, (w.ok).fits)); low = omega (arith, w.accepted_is); sure = (w.ok).sure }
 
   -- the step of a leader at a Promise
   pub lead_promise_goes : (q n : ℕ) (pm : Promised) → PromOk ms pr ac g q p n pm → Goes ms pr ac g p (on_promise_in ms p nd (Leading l) q n pm)
@@ -293,10 +293,11 @@ module _ (ms : List ℕ) (pr ac : ℕ → ℕ) (g : History) (p : ℕ) (nd : Nod
       counted_on e = count_goes ms pr ac g p nd (record l { acked = if nat_lt (l.acked q) x then with_at q x l.acked else l.acked }) [] other g
           (leads_on l.synced (if nat_lt (l.acked q) x then with_at q x l.acked else l.acked) other (raised e) others_ok)
 
-  propose_put : (e : Entry) → is_full nd.log ≡ false → LeadPut ms pr g p nd (record nd { log = nd.log ++ e ∷ []; role = Leading l }) l
-  propose_put e open_ =
+  propose_put : (es : List Entry) → overflows nd.log es ≡ false → LeadPut ms pr g p nd (record nd { log = nd.log ++ es; role = Leading l }) l
+  propose_put es open_ =
+      let room = room_for nd.log es open_ in
       let pa : nd.promised ≡ l.ballot = sym o.promised in
-      let n = length-append nd.log (e ∷ []) in
+      let n = length-append nd.log es in
       let full : g.full nd.promised ≡ nd.log = ap g.full pa ∙ sym o.log_is in
       record {
         promised = refl;
@@ -306,45 +307,45 @@ module _ (ms : List ℕ) (pr ac : ℕ → ℕ) (g : History) (p : ℕ) (nd : Nod
         owned = ap owner pa ∙ o.owned;
         mark_is = λ h. sym o.size_is ∙ ap g.mark o.promised;
         longer = λ h. omega (arith, ap (λ (y : List Entry). length y) full, n);
-        prefix = λ j h le. take-append-le j nd.log (e ∷ []) (omega (arith, ap (λ (y : List Entry). length y) full, le)) ∙ ap (take j) (sym full);
+        prefix = λ j h le. take-append-le j nd.log es (omega (arith, ap (λ (y : List Entry). length y) full, le)) ∙ ap (take j) (sym full);
         size = omega (arith, (w.hist).marked l.ballot (omega (arith, o.size_is)), o.size_is, ap (λ (y : List Entry). length y) o.log_is, n);
         acc_low = omega (arith, (w.ok).vote, ap (g.acc p) (sym o.accepted ∙ o.promised), n);
         below = omega (arith, o.below, o.promised);
         led = o.led;
         fits = o.fits;
-        same = take-append-le l.size nd.log (e ∷ []) (omega (arith, (w.hist).marked l.ballot (omega (arith, o.size_is)), o.size_is, ap (λ (y : List Entry). length y) o.log_is)) ∙ ap (take l.size) o.log_is ∙ o.same;
+        same = take-append-le l.size nd.log es (omega (arith, (w.hist).marked l.ballot (omega (arith, o.size_is)), o.size_is, ap (λ (y : List Entry). length y) o.log_is)) ∙ ap (take l.size) o.log_is ∙ o.same;
         acked = λ q pos. omega (arith, o.acked q pos, ap (g.acc q) o.promised);
         decided = refl;
         within = omega (arith, (w.ok).fits, n);
-        tidy = tidy_more nd.log (e ∷ []) (room_for nd.log open_).0 (subst Tidy (sym o.log_is) ((w.hist).tidy l.ballot (omega (arith, o.size_is)))) (λ d. refl, tt);
-        short = omega (arith, n, (room_for nd.log open_).1);
+        tidy = tidy_more nd.log es room.stops (subst Tidy (sym o.log_is) ((w.hist).tidy l.ballot (omega (arith, o.size_is)))) room.tidy;
+        short = omega (arith, n, room.short);
       }
 
-  extended_goes : (e : Entry) → is_full nd.log ≡ false → Goes ms pr ac g p (extended ms p nd l e)
+  extended_goes : (es : List Entry) → overflows nd.log es ≡ false → Goes ms pr ac g p (extended ms p nd l es)
   unfolding extended
-  extended_goes e open_ =
-      count_goes ms pr ac g p (record nd { log = nd.log ++ e ∷ [] }) l (broadcast p l.synced (Accept l.ballot (length nd.log) (e ∷ [])) ms) [] (lead_put g p nd nd' l)
-      (lead_step ms pr ac g p nd nd' l w (propose_put e open_) (inl (omega (arith, o.size_is, ap g.mark o.promised))) (broadcast p l.synced (Accept l.ballot (length nd.log) (e ∷ [])) ms ++ [])
-      (λ m i. ⊎_elim (λ (a : IsAmong (broadcast p l.synced (Accept l.ballot (length nd.log) (e ∷ [])) ms) m). in_spread (λ b. MsgOk ms (with_at p nd.promised pr) (with_at p nd.accepted ac) (lead_put g p nd nd' l) b.from b.to b.msg) p l.synced (Accept l.ballot (length nd.log) (e ∷ [])) (λ q. slice) ms m a) (λ (a : IsAmong [] m). absurd a)
-      (in_append m (broadcast p l.synced (Accept l.ballot (length nd.log) (e ∷ [])) ms) [] i)))
+  extended_goes es open_ =
+      count_goes ms pr ac g p (record nd { log = nd.log ++ es }) l (broadcast p l.synced (Accept l.ballot (length nd.log) es) ms) [] (lead_put g p nd nd' l)
+      (lead_step ms pr ac g p nd nd' l w (propose_put es open_) (inl (omega (arith, o.size_is, ap g.mark o.promised))) (broadcast p l.synced (Accept l.ballot (length nd.log) es) ms ++ [])
+      (λ m i. ⊎_elim (λ (a : IsAmong (broadcast p l.synced (Accept l.ballot (length nd.log) es) ms) m). in_spread (λ b. MsgOk ms (with_at p nd.promised pr) (with_at p nd.accepted ac) (lead_put g p nd nd' l) b.from b.to b.msg) p l.synced (Accept l.ballot (length nd.log) es) (λ q. slice) ms m a) (λ (a : IsAmong [] m). absurd a)
+      (in_append m (broadcast p l.synced (Accept l.ballot (length nd.log) es) ms) [] i)))
     where
       nd' : Node
-      nd' = record nd { log = nd.log ++ e ∷ []; role = Leading l }
+      nd' = record nd { log = nd.log ++ es; role = Leading l }
 
-      slice : SliceOk (lead_put g p nd nd' l) l.ballot (length nd.log) (e ∷ [])
+      slice : SliceOk (lead_put g p nd nd' l) l.ballot (length nd.log) es
       slice =
-          let at : (lead_put g p nd nd' l).full l.ballot ≡ nd.log ++ e ∷ [] = upd_here g.full nd.promised l.ballot (nd.log ++ e ∷ []) o.promised in
-          let n = length-append nd.log (e ∷ []) in
+          let at : (lead_put g p nd nd' l).full l.ballot ≡ nd.log ++ es = upd_here g.full nd.promised l.ballot (nd.log ++ es) o.promised in
+          let n = length-append nd.log es in
           record {
             led = omega (arith, upd_here g.mark nd.promised l.ballot (suc l.size) o.promised);
             within = omega (arith, ap (λ (y : List Entry). length y) at, n);
-            prefix = ap (take (length nd.log + 1)) at ∙ take_all (length nd.log + 1) (nd.log ++ e ∷ []) (omega (arith, n)) ∙ ap (λ y. y ++ e ∷ []) (sym (take_all (length nd.log) nd.log (omega arith)) ∙ sym (take-append-le (length nd.log) nd.log (e ∷ []) (omega arith)) ∙ ap (take (length nd.log)) (sym at));
+            prefix = ap (take (length nd.log + length es)) at ∙ take_all (length nd.log + length es) (nd.log ++ es) (omega (arith, n)) ∙ ap (λ y. y ++ es) (sym (take_all (length nd.log) nd.log (omega arith)) ∙ sym (take-append-le (length nd.log) nd.log es (omega arith)) ∙ ap (take (length nd.log)) (sym at));
           }
 
-  -- the step of a leader at a proposal
-  pub lead_propose_goes : (e : Entry) → Goes ms pr ac g p (on_propose_in ms p nd (Leading l) e)
+  -- the step of a leader at proposals
+  pub lead_propose_goes : (es : List Entry) → Goes ms pr ac g p (on_propose_in ms p nd (Leading l) es)
   unfolding on_propose_in
-  lead_propose_goes e = cond_both (is_full nd.log) _ _ (Goes ms pr ac g p) (λ d. (g, still_ok ms pr ac g p nd w)) (λ d. extended_goes e d)
+  lead_propose_goes es = cond_both (overflows nd.log es) _ _ (Goes ms pr ac g p) (λ d. (g, still_ok ms pr ac g p nd w)) (λ d. extended_goes es d)
 
   -- trimming leaves all of this as it is
   trims : (t : ℕ) (r : ℕ → Option ℕ) (sends : List Packet) → ((m : Packet) → IsAmong sends m → MsgOk ms pr ac g m.from m.to m.msg) → StepOk ms pr ac g p (record { node = record nd { trimmed = t; role = Leading (record l { reports = r }) }; sends = sends }) g

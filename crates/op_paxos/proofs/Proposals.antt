@@ -1,5 +1,5 @@
 -- Every decided entry was proposed; what passes one test passes a wider one.
-use Rattle.std.proofs.Common.{inl, inr, List, [], ◌∷◌, refl, subst}
+use Rattle.std.proofs.Common.{inl, inr, List, [], ◌∷◌, subst}
 use Rattle.op_types.specs.declared.log.Entry.{Entry}
 use Rattle.op_spec.specs.Machine.{IsAmong}
 use Rattle.op_paxos.specs.Nodes.{Role, Idle, Preparing, Leading}
@@ -21,7 +21,7 @@ module _ (P Q : Entry → Type 0) (wider : (e : Entry) → P e → Q e) where
   msg_wider (Promise n pm) h = λ e i. wider e (h e i)
   msg_wider (AcceptSync n x es) h = λ e i. wider e (h e i)
   msg_wider (Accept n a es) h = λ e i. wider e (h e i)
-  msg_wider (Forward e) h = wider e h
+  msg_wider (Forward es) h = λ e i. wider e (h e i)
   msg_wider (Prepare n na nl nd) h = tt
   msg_wider (Accepted n x) h = tt
   msg_wider (Decide n x) h = tt
@@ -36,7 +36,7 @@ module _ (P Q : Entry → Type 0) (wider : (e : Entry) → P e → Q e) where
   world_wider w h = record { nodes = λ q. record { log = λ e i. wider e ((h.nodes q).log e i); role = role_wider (w.nodes q).role (h.nodes q).role }; packets = λ m i. msg_wider m.msg (h.packets m i) }
 
 mine : (e : Event) (P : Entry → Type 0) → ((x : Entry) → IsAmong (proposed_by e) x → P x) → EventV P e
-mine (Proposes p x) P h = h x (inl refl)
+mine (Proposes p es) P h = h
 mine (Stops e) P h = mine e P h
 mine (Leads a b) P h = tt
 mine (Delivers a) P h = tt
@@ -45,7 +45,7 @@ mine (Trims a) P h = tt
 mine (Links a b) P h = tt
 mine (Unlinks a b) P h = tt
 
-all_mine : (es : List Event) (P : Entry → Type 0) → ((x : Entry) → IsAmong (proposals es) x → P x) → (e : Event) → IsAmong es e → EventV P e
+pub all_mine : (es : List Event) (P : Entry → Type 0) → ((x : Entry) → IsAmong (proposals es) x → P x) → (e : Event) → IsAmong es e → EventV P e
 all_mine [] P h e i = absurd i
 all_mine (d ∷ es) P h e (inl i) = subst (λ f. EventV P f) i (mine d P (λ x j. h x (IsAmong-append (proposed_by d) (proposals es) x j)))
 all_mine (d ∷ es) P h e (inr i) = all_mine es P (λ x j. h x (in_right x (proposed_by d) (proposals es) j)) e i

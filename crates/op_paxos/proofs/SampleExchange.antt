@@ -1,5 +1,5 @@
 -- An exchange, computed: node 1 leads three, and decides a command with node 2.
-use Rattle.std.proofs.Common.{◌≡◌, ℕ, zero, suc, ◌<◌, ◌≤◌, ◌⊎◌, inl, inr, ⊎_elim, List, [], ◌∷◌, length, Bool, true, refl, sym, ap, ◌∙◌, subst, arith, Option, Some, None, ◌==◌}
+use Rattle.std.proofs.Common.{◌≡◌, ℕ, zero, suc, ◌<◌, ◌≤◌, ◌⊎◌, inl, inr, ⊎_elim, List, [], ◌∷◌, length, Bool, true, refl, sym, ap, subst, arith, Option, Some, None, ◌==◌}
 use Rattle.std.specs.Prelude.{slice_get, ◌||◌}
 use Rattle.std.proofs.lemmas.Bool.{eqb-true, or_cases}
 use Rattle.op_types.specs.declared.log.Command.{Command}
@@ -18,7 +18,7 @@ use Rattle.op_paxos.proofs.Roles.{roles_differ}
 use Rattle.op_paxos.proofs.Membership.{none_some, some_is}
 
 -- ---- what disturbs nobody
-pub proposes_alone : (others : List ℕ) (x : ℕ) (w : World) (p : ℕ) (e : Entry) → LeavesAlone others x w (Proposes p e)
+pub proposes_alone : (others : List ℕ) (x : ℕ) (w : World) (p : ℕ) (e : List Entry) → LeavesAlone others x w (Proposes p e)
 unfolding input_of
 proposes_alone others x w p e i is = (refl, λ h. harmless i (some_input (p, Proposal e) (x, i) is) h)
   where
@@ -54,7 +54,7 @@ module _ (c : Command) where
 
   -- messages 0 and 1 are the Prepares, 2 the Promise of node 2, 3 the AcceptSync, 4 the Accept, 5 and 6 Accepted
   abbrev events : List Event
-  events = Delivers 0 ∷ Delivers 2 ∷ Proposes 1 (entry.Command c) ∷ Delivers 3 ∷ Delivers 4 ∷ Delivers 6 ∷ []
+  events = Delivers 0 ∷ Delivers 2 ∷ Proposes 1 (entry.Command c ∷ []) ∷ Delivers 3 ∷ Delivers 4 ∷ Delivers 6 ∷ []
 
   abbrev at : ℕ → World
   at i = world_before members first events i
@@ -85,7 +85,7 @@ module _ (c : Command) where
   all_alone : (others : List ℕ) (x j : ℕ) (e : Event) → slice_get events j ≡ Some e → LeavesAlone others x (at j) e
   all_alone others x zero e h = subst (λ (y : Event). LeavesAlone others x (at 0) y) (some_is (Delivers 0) e h) (delivers_alone others x (at 0) 0)
   all_alone others x (suc zero) e h = subst (λ (y : Event). LeavesAlone others x (at 1) y) (some_is (Delivers 2) e h) (delivers_alone others x (at 1) 2)
-  all_alone others x (suc (suc zero)) e h = subst (λ (y : Event). LeavesAlone others x (at 2) y) (some_is (Proposes 1 (entry.Command c)) e h) (proposes_alone others x (at 2) 1 (entry.Command c))
+  all_alone others x (suc (suc zero)) e h = subst (λ (y : Event). LeavesAlone others x (at 2) y) (some_is (Proposes 1 (entry.Command c ∷ [])) e h) (proposes_alone others x (at 2) 1 (entry.Command c ∷ []))
   all_alone others x (suc (suc (suc zero))) e h = subst (λ (y : Event). LeavesAlone others x (at 3) y) (some_is (Delivers 3) e h) (delivers_alone others x (at 3) 3)
   all_alone others x (suc (suc (suc (suc zero)))) e h = subst (λ (y : Event). LeavesAlone others x (at 4) y) (some_is (Delivers 4) e h) (delivers_alone others x (at 4) 4)
   all_alone others x (suc (suc (suc (suc (suc zero))))) e h = subst (λ (y : Event). LeavesAlone others x (at 5) y) (some_is (Delivers 6) e h) (delivers_alone others x (at 5) 6)
@@ -138,11 +138,11 @@ module _ (c : Command) where
   unfolding run start happens input_of step is_stop owner majority_length recount adopted_node new_leading adopt_with adopt prepared on_elected on_promise_in on_accepted_in extended on_propose_in on_prepare appended on_accept synced_to on_accept_sync on_decide on_msg
   no_log = refl
 
-  at_first : (place : ℕ) → IsPlaced members first 1 events 2 place → place ≡ 0
-  at_first place (inl x) = x.2 ∙ no_log
+  at_first : (place : ℕ) → IsPlaced members first 1 events (2, 0) place → place ≡ 0
+  at_first place (inl x) = (let e = x.2 in omega (arith, e, no_log))
   at_first place (inr x) = roles_differ (x.0).preparation the_lead.0 ((at 2).nodes 1).role (x.0).preparing the_lead.1
 
-  carried_by : (place i a : ℕ) (es : List Entry) → IsPlaced members first 1 events 2 place → Sending members first events i 1 2 (Accept 1 a es) → IsIn place a es
+  carried_by : (place i a : ℕ) (es : List Entry) → IsPlaced members first 1 events (2, 0) place → Sending members first events i 1 2 (Accept 1 a es) → IsIn place a es
       → ((1 ≤ i) × IsIn place 0 []) ⊎ ((j a : ℕ) × (es' : List Entry) × (1 < j) × (j ≤ 2) × (j ≤ i) × Sending members first events j 1 2 (Accept 1 a es') × IsIn place a es')
   carried_by place zero a es p s h = absurd (sooner_0 (Accept 1 a es) s)
   carried_by place (suc zero) a es p s h = absurd (sooner_1 a es s)
@@ -158,7 +158,7 @@ module _ (c : Command) where
       let k = accept_is a es' (subst (λ j. Sending members first events j 1 2 (Accept 1 a es')) two s) in
       (omega arith, subst (λ x. Delivery members first events 4 1 2 (Accept 1 x es')) k.0 (subst (λ y. Delivery members first events 4 1 2 (Accept 1 0 y)) k.1 the_delivery))
 
-  the_steps : Steps members first events 1 1 2 2
+  the_steps : Steps members first events 1 1 2 (2, 0)
   unfolding run start happens input_of step is_stop owner majority_length recount adopted_node new_leading adopt_with adopt prepared on_elected on_promise_in on_accepted_in extended on_propose_in on_prepare appended on_accept synced_to on_accept_sync on_decide on_msg
   the_steps = record {
     prepare_at = 0;
@@ -207,10 +207,12 @@ module _ (c : Command) where
     voters = both;
     are_voters = λ q h. ⊎_elim (λ (e : (q == 1) ≡ true). inl (eqb-true q 1 e)) (λ (e : (q == 2) ≡ true). inr (inl (sym (eqb-true q 2 e)))) (or_cases (q == 1) (q == 2) h);
     majority = refl;
-    proposed_at = 2;
+    proposed_at = (2, 0);
+    entries = entry.Command c ∷ [];
     proposed = refl;
+    among = refl;
     taken = refl;
-    steps = λ q i. ⊎_elim (λ (e : 2 ≡ q). subst (λ y. Steps members first events 1 1 y 2) e the_steps) (λ (x : ⊥). absurd x) i;
+    steps = λ q i. ⊎_elim (λ (e : 2 ≡ q). subst (λ y. Steps members first events 1 1 y (2, 0)) e the_steps) (λ (x : ⊥). absurd x) i;
     calm = record { promised = λ j le. low_1 j; alone = λ j e le h. all_alone (2 ∷ []) 1 j e h };
     calm_other = λ q i. record { promised = λ j le. ⊎_elim (λ (e : 2 ≡ q). subst (λ y. ((at j).nodes y).promised ≤ 1) e (low_2 j)) (λ (x : ⊥). absurd x) i; alone = λ j e le h. all_alone (1 ∷ []) q j e h };
   }

@@ -1,5 +1,5 @@
--- What a leader sends to a follower from its AcceptSync on: each entry that its log then gets, one after the other.
-use Rattle.std.proofs.Common.{◌≡◌, ℕ, suc, ◌+◌, ◌-◌, ◌<◌, ◌≤◌, ◌⊎◌, inl, inr, ⊎_elim, List, [], ◌∷◌, ◌++◌, length, true, refl, sym, ap, ◌∙◌, subst, arith, Some, length-append}
+-- What a leader sends to a follower from its AcceptSync on: all that its log then gets, in the order in which it gets it.
+use Rattle.std.proofs.Common.{◌≡◌, ℕ, suc, ◌+◌, ◌-◌, ◌<◌, ◌≤◌, ◌⊎◌, inl, inr, ⊎_elim, List, ◌++◌, length, true, sym, ap, ◌∙◌, subst, arith, Some, length-append}
 use Rattle.std.specs.Prelude.{slice_get}
 use Rattle.std.proofs.lemmas.Bool.{cases_lt}
 use Rattle.std.proofs.lemmas.List.{length-drop}
@@ -13,13 +13,9 @@ use Rattle.op_paxos.proofs.History.{History}
 use Rattle.op_paxos.proofs.Moves.{Extends}
 use Rattle.op_paxos.proofs.StepMoves.{step_moves}
 use Rattle.op_paxos.proofs.PromisesStand.{Good}
-use Rattle.op_paxos.proofs.NumberedWorlds.{get_left, get_right, in_get, stable, W, Moves, at_node, sender, G, good_at}
+use Rattle.op_paxos.proofs.NumberedWorlds.{get_right, in_get, stable, W, Moves, at_node, sender, G, good_at}
 use Rattle.op_paxos.proofs.Senders.{sync_by, accept_by}
 use Rattle.op_paxos.proofs.Undisturbed.{LeadsOn, leads_on}
-
--- the element after a list
-pub get_end : {A : Type 0} (xs : List A) (x : A) → slice_get (xs ++ x ∷ []) (length xs) ≡ Some x
-get_end xs x = let e : length xs + 0 ≡ length xs = omega arith in subst (λ k. slice_get (xs ++ x ∷ []) k ≡ Some x) e (get_right xs (x ∷ []) 0 x refl)
 
 module _ (ms : List ℕ) (w : World) (g : History) (good : Good ms w g) (es : List Event) (p b : ℕ) (others : List ℕ) (members : (q : ℕ) → IsAmong others q → IsAmong ms q × (q ≡ p → ⊥)) (calm : IsCalm ms w es b others p 0) where
   abbrev at : ℕ → World
@@ -39,8 +35,8 @@ module _ (ms : List ℕ) (w : World) (g : History) (good : Good ms w g) (es : Li
     pub next : Leads (suc i)
     pub acked : (q : ℕ) → l.acked q ≤ (next.lead).acked q
     pub synced : (q : ℕ) → IsAmong others q → l.synced q ≡ true → (next.lead).synced q ≡ true
-    pub log : (log_at (suc i) ≡ log_at i) ⊎ ((e : Entry) × (log_at (suc i) ≡ log_at i ++ e ∷ [])
-        × ((q : ℕ) → IsAmong others q → l.synced q ≡ true → Sending ms w es i p q (Accept b (length (log_at i)) (e ∷ []))))
+    pub log : (log_at (suc i) ≡ log_at i) ⊎ ((fs : List Entry) × (log_at (suc i) ≡ log_at i ++ fs)
+        × ((q : ℕ) → IsAmong others q → l.synced q ≡ true → Sending ms w es i p q (Accept b (length (log_at i)) fs)))
 
   -- an undisturbed leader leads on after each event
   pub lead_next : (i : ℕ) (l : LeadingState) → ((at i).nodes p).role ≡ Leading l → l.ballot ≡ b → LeadNext i l
@@ -49,12 +45,12 @@ module _ (ms : List ℕ) (w : World) (g : History) (good : Good ms w g) (es : Li
       silent : ((at (suc i)).nodes p ≡ (at i).nodes p) → LeadNext i l
       silent e = record { next = record { lead = l; role = ap (λ (n : Node). n.role) e ∙ was; ballot = is }; acked = λ q. omega arith; synced = λ q j h. h; log = inl (ap (λ (n : Node). n.log) e) }
 
-      told : (m : Moves ms w es others p i) (x : Extends ms p ((at i).nodes p) m.input (step ms p ((at i).nodes p) m.input)) → x.lead ≡ l → (q : ℕ) → IsAmong others q → l.synced q ≡ true → Sending ms w es i p q (Accept b (length (log_at i)) (x.entry ∷ []))
+      told : (m : Moves ms w es others p i) (x : Extends ms p ((at i).nodes p) m.input (step ms p ((at i).nodes p) m.input)) → x.lead ≡ l → (q : ℕ) → IsAmong others q → l.synced q ≡ true → Sending ms w es i p q (Accept b (length (log_at i)) x.entries)
       told m x e q j h =
           let t = x.told q (members q j).0 (members q j).1 (ap (λ (y : LeadingState). y.synced q) e ∙ h) in
-          let t' = subst (λ c. IsAmong (step ms p ((at i).nodes p) m.input).sends (packet p q (Accept c (length (log_at i)) (x.entry ∷ [])))) (ap (λ (y : LeadingState). y.ballot) e ∙ is) t in
-          let k = in_get (packet p q (Accept b (length (log_at i)) (x.entry ∷ []))) (step ms p ((at i).nodes p) m.input).sends t' in
-          record { number = length (at i).packets + k.0; new = omega arith; is = subst (λ (ps : List Packet). slice_get ps (length (at i).packets + k.0) ≡ Some (packet p q (Accept b (length (log_at i)) (x.entry ∷ [])))) (sym m.packets) (get_right (at i).packets _ k.0 _ k.2) }
+          let t' = subst (λ c. IsAmong (step ms p ((at i).nodes p) m.input).sends (packet p q (Accept c (length (log_at i)) x.entries))) (ap (λ (y : LeadingState). y.ballot) e ∙ is) t in
+          let k = in_get (packet p q (Accept b (length (log_at i)) x.entries)) (step ms p ((at i).nodes p) m.input).sends t' in
+          record { number = length (at i).packets + k.0; new = omega arith; is = subst (λ (ps : List Packet). slice_get ps (length (at i).packets + k.0) ≡ Some (packet p q (Accept b (length (log_at i)) x.entries))) (sym m.packets) (get_right (at i).packets _ k.0 _ k.2) }
 
       by : (m : Moves ms w es others p i) → LeadsOn ms p others ((at i).nodes p) m.input l (step ms p ((at i).nodes p) m.input) → LeadNext i l
       by m r = record {
@@ -62,36 +58,55 @@ module _ (ms : List ℕ) (w : World) (g : History) (good : Good ms w g) (es : Li
         acked = r.acked;
         synced = r.synced;
         log = ⊎_elim (λ (x : ((step ms p ((at i).nodes p) m.input).node).log ≡ ((at i).nodes p).log). inl (ap (λ (n : Node). n.log) m.here ∙ x))
-            (λ (x : (y : Extends ms p ((at i).nodes p) m.input (step ms p ((at i).nodes p) m.input)) × (y.lead ≡ l)). inr ((x.0).entry, ap (λ (n : Node). n.log) m.here ∙ (x.0).log, told m x.0 x.1)) r.log;
+            (λ (x : (y : Extends ms p ((at i).nodes p) m.input (step ms p ((at i).nodes p) m.input)) × (y.lead ≡ l)). inr ((x.0).entries, ap (λ (n : Node). n.log) m.here ∙ (x.0).log, told m x.0 x.1)) r.log;
       }
 
       moved : Moves ms w es others p i → LeadNext i l
       moved m = by m (leads_on ms (at i) (G ms w es g good i) (good_at ms w es g good i).inv p m.input m.known (step ms p ((at i).nodes p) m.input) others m.alone l was (omega (arith, is, calm.promised (suc i) (omega arith), ap (λ (n : Node). n.promised) m.here)) (step_moves ms p ((at i).nodes p) m.input))
+
+  -- between these events an Accept was sent to q that reaches over this place
+  pub record Reaching (q i0 i y : ℕ) : Type 0 where
+    pub number : ℕ
+    pub start : ℕ
+    pub entries : List Entry
+    pub first : i0 ≤ number
+    pub early : number < i
+    pub sent : Sending ms w es number p q (Accept b start entries)
+    pub low : start ≤ y
+    pub high : y < start + length entries
 
   -- ---- the stream to q, from event number i0 on, where its log is L long
   pub record Stream (q i0 L : ℕ) (i : ℕ) : Type 0 where
     pub leads : Leads i
     pub synced : (leads.lead).synced q ≡ true
     pub long : L ≤ length (log_at i)
-    -- each entry that came after that was told, by an event of its own
-    pub all : (y : ℕ) → L ≤ y → y < length (log_at i) → (j : ℕ) × (e : Entry) × (i0 ≤ j) × (j < i) × Sending ms w es j p q (Accept b y (e ∷ [])) × (slice_get (log_at i) y ≡ Some e)
+    -- each entry that came after that was told
+    pub all : (y : ℕ) → L ≤ y → y < length (log_at i) → Reaching q i0 i y
 
   module _ (q i0 L : ℕ) (mine : IsAmong others q) where
     -- each entry is told
-    all_on : (i : ℕ) (s : Stream q i0 L i) → i0 ≤ i → (n : LeadNext i (s.leads).lead) → (y : ℕ) → L ≤ y → y < length (log_at (suc i)) → (j : ℕ) × (e : Entry) × (i0 ≤ j) × (j < suc i) × Sending ms w es j p q (Accept b y (e ∷ [])) × (slice_get (log_at (suc i)) y ≡ Some e)
+    later : (i y : ℕ) → Reaching q i0 i y → Reaching q i0 (suc i) y
+    later i y z = record { number = z.number; start = z.start; entries = z.entries; first = z.first; early = omega (arith, z.early); sent = z.sent; low = z.low; high = z.high }
+
+    all_on : (i : ℕ) (s : Stream q i0 L i) → i0 ≤ i → (n : LeadNext i (s.leads).lead) → (y : ℕ) → L ≤ y → y < length (log_at (suc i)) → Reaching q i0 (suc i) y
     all_on i s first n y le lt = ⊎_elim same more n.log
       where
-        same : log_at (suc i) ≡ log_at i → (j : ℕ) × (e : Entry) × (i0 ≤ j) × (j < suc i) × Sending ms w es j p q (Accept b y (e ∷ [])) × (slice_get (log_at (suc i)) y ≡ Some e)
-        same e =
-            let z = s.all y le (omega (arith, lt, ap (λ (l : List Entry). length l) e)) in
-            (z.0, z.1, z.2, omega (arith, z.3), z.4, ap (λ (l : List Entry). slice_get l y) e ∙ z.5)
+        same : log_at (suc i) ≡ log_at i → Reaching q i0 (suc i) y
+        same e = later i y (s.all y le (omega (arith, lt, ap (λ (l : List Entry). length l) e)))
 
-        more : (e : Entry) × (log_at (suc i) ≡ log_at i ++ e ∷ []) × ((q : ℕ) → IsAmong others q → ((s.leads).lead).synced q ≡ true → Sending ms w es i p q (Accept b (length (log_at i)) (e ∷ []))) → (j : ℕ) × (e : Entry) × (i0 ≤ j) × (j < suc i) × Sending ms w es j p q (Accept b y (e ∷ [])) × (slice_get (log_at (suc i)) y ≡ Some e)
+        more : (fs : List Entry) × (log_at (suc i) ≡ log_at i ++ fs) × ((q : ℕ) → IsAmong others q → ((s.leads).lead).synced q ≡ true → Sending ms w es i p q (Accept b (length (log_at i)) fs)) → Reaching q i0 (suc i) y
         more m = ⊎_elim
-            (λ (old : y < length (log_at i)). let z = s.all y le old in (z.0, z.1, z.2, omega (arith, z.3), z.4, ap (λ (l : List Entry). slice_get l y) m.1 ∙ get_left (log_at i) (m.0 ∷ []) y z.1 z.5))
-            (λ (new : length (log_at i) ≤ y).
-            let is : length (log_at i) ≡ y = omega (arith, new, lt, ap (λ (l : List Entry). length l) m.1, length-append (log_at i) (m.0 ∷ [])) in
-            (i, m.0, first, omega arith, subst (λ c. Sending ms w es i p q (Accept b c (m.0 ∷ []))) is (m.2 q mine s.synced), ap (λ (l : List Entry). slice_get l y) m.1 ∙ subst (λ c. slice_get (log_at i ++ m.0 ∷ []) c ≡ Some m.0) is (get_end (log_at i) m.0)))
+            (λ (old : y < length (log_at i)). later i y (s.all y le old))
+            (λ (new : length (log_at i) ≤ y). record {
+              number = i;
+              start = length (log_at i);
+              entries = m.0;
+              first = first;
+              early = omega arith;
+              sent = m.2 q mine s.synced;
+              low = new;
+              high = omega (arith, lt, ap (λ (l : List Entry). length l) m.1, length-append (log_at i) m.0);
+            })
             (cases_lt y (length (log_at i)))
 
     -- the stream goes on
@@ -101,13 +116,13 @@ module _ (ms : List ℕ) (w : World) (g : History) (good : Good ms w g) (es : Li
         record {
           leads = n.next;
           synced = n.synced q mine s.synced;
-          long = ⊎_elim (λ (x : log_at (suc i) ≡ log_at i). omega (arith, s.long, ap (λ (l : List Entry). length l) x)) (λ (x : (e : Entry) × (log_at (suc i) ≡ log_at i ++ e ∷ []) × ((q : ℕ) → IsAmong others q → ((s.leads).lead).synced q ≡ true → Sending ms w es i p q (Accept b (length (log_at i)) (e ∷ [])))). omega (arith, s.long, ap (λ (l : List Entry). length l) x.1, length-append (log_at i) (x.0 ∷ []))) n.log;
+          long = ⊎_elim (λ (x : log_at (suc i) ≡ log_at i). omega (arith, s.long, ap (λ (l : List Entry). length l) x)) (λ (x : (fs : List Entry) × (log_at (suc i) ≡ log_at i ++ fs) × ((q : ℕ) → IsAmong others q → ((s.leads).lead).synced q ≡ true → Sending ms w es i p q (Accept b (length (log_at i)) fs))). omega (arith, s.long, ap (λ (l : List Entry). length l) x.1, length-append (log_at i) x.0)) n.log;
           all = all_on i s first n;
         }
 
-    -- what an Accept carries stands where the log was at its end, so an Accept for the entry before it was sent sooner
-    pub sent_before : (j a : ℕ) (es' : List Entry) → Stream q i0 L j → Sending ms w es j p q (Accept b a es') → (a ≤ L) ⊎ ((l : ℕ) × (e : Entry) × (i0 ≤ l) × (l < j) × Sending ms w es l p q (Accept b (a - 1) (e ∷ [])) × (a - 1 + 1 ≡ a))
-    sent_before j a es' s h = ⊎_elim (λ (x : L < a). inr (sooner x)) (λ (x : a ≤ L). inl x) (cases_lt L a)
+    -- what an Accept carries stands where the log was at its end, so one that reaches up to it was sent sooner
+    pub sent_before : (j a : ℕ) (es' : List Entry) → Stream q i0 L j → Sending ms w es j p q (Accept b a es') → (a ≤ L) ⊎ ((0 < a) × Reaching q i0 j (a - 1))
+    sent_before j a es' s h = ⊎_elim (λ (x : L < a). inr (omega (arith, x), sooner x)) (λ (x : a ≤ L). inl x) (cases_lt L a)
       where
         log_of : ℕ → List Entry
         log_of y = ((at j).nodes y).log
@@ -118,8 +133,8 @@ module _ (ms : List ℕ) (w : World) (g : History) (good : Good ms w g) (es : Li
             let r = accept_by ms z.node ((at j).nodes z.node) z.input (step ms z.node ((at j).nodes z.node) z.input) (step_moves ms z.node ((at j).nodes z.node) z.input) p q b a es' z.sent in
             r.at ∙ ap (λ y. length (log_of y)) r.from
 
-        sooner : L < a → (l : ℕ) × (e : Entry) × (i0 ≤ l) × (l < j) × Sending ms w es l p q (Accept b (a - 1) (e ∷ [])) × (a - 1 + 1 ≡ a)
-        sooner x = let z = s.all (a - 1) (omega (arith, x)) (omega (arith, x, place)) in (z.0, z.1, z.2, z.3, z.4, omega (arith, x))
+        sooner : L < a → Reaching q i0 j (a - 1)
+        sooner x = s.all (a - 1) (omega (arith, x)) (omega (arith, x, place))
 
     -- it begins where p sends the AcceptSync
     pub record Starts (i x : ℕ) (rest : List Entry) : Type 0 where

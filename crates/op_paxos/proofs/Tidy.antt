@@ -1,14 +1,14 @@
 -- Lists in which nothing follows a stop-sign.
-use Rattle.std.proofs.Common.{◌≡◌, ◌≤◌, ◌<◌, arith, length, length-append, ℕ, zero, suc, List, [], ◌∷◌, ◌++◌, Bool, true, false, None, ⊎_elim, take, refl, sym, ap, ◌∙◌, subst}
-use Rattle.std.specs.Prelude.{◌-◌, nat_le}
+use Rattle.std.proofs.Common.{◌≡◌, ◌≤◌, arith, length, length-append, ℕ, zero, suc, List, [], ◌∷◌, ◌++◌, Bool, true, false, None, ⊎_elim, take, refl, sym, ap, ◌∙◌, subst}
+use Rattle.std.specs.Prelude.{◌-◌, ◌+◌, ◌||◌, nat_lt}
 use Rattle.std.proofs.Math.Seq.{take-nil}
-use Rattle.std.proofs.lemmas.Bool.{or_parts, both_ways, cases_Bool, leb-false}
+use Rattle.std.proofs.lemmas.Bool.{or_parts, both_ways, cases_Bool, ltb-false}
 use Rattle.op_types.specs.declared.log.Entry.{Entry}
 use Rattle.op_types.specs.declared.log.Entry.TheVariants as entry
 use Rattle.op_spec.specs.Machine.{stop_of}
 use Rattle.op_spec.specs.Laws.{NoneAfterStop}
 use Rattle.op_types.specs.Limits.{positions_end}
-use Rattle.op_paxos.specs.Logs.{is_stop, has_stop, up_to_stop, is_full, fitting}
+use Rattle.op_paxos.specs.Logs.{is_stop, has_stop, up_to_stop, stops_early, overflows, fitting}
 
 -- nothing follows an entry that ends the configuration
 abbrev pub Tidy : List Entry → Type 0
@@ -45,9 +45,25 @@ at_stop k false l es e h = tidy_more l (take k (up_to_stop false es)) e h (tidy_
 pub tidy_fitting : (l es : List Entry) → Tidy l → Tidy (l ++ fitting l es)
 tidy_fitting l es h = at_stop (positions_end - length l) (has_stop l) l es refl h
 
--- a log to which something can be added
-pub room_for : (log : List Entry) → is_full log ≡ false → (has_stop log ≡ false) × (length log < positions_end)
-room_for log h = let t = or_parts (has_stop log) (nat_le (positions_end) (length log)) h in (t.0, leb-false (positions_end) (length log) t.1)
+-- entries of which none but the last ends the configuration are tidy
+tidy_of : (es : List Entry) → stops_early es ≡ false → Tidy es
+tidy_of [] h = tt
+tidy_of (e ∷ []) h = (λ s. refl, tt)
+tidy_of (e ∷ (d ∷ es)) h =
+    let t = or_parts (is_stop e) (stops_early (d ∷ es)) h in
+    (λ s. absurd (both_ways (is_stop e) t.0 s), tidy_of (d ∷ es) t.1)
+
+-- what is known of a log to which entries can be added, and of these
+pub record RoomFor (log es : List Entry) : Type 0 where
+  pub stops : has_stop log ≡ false
+  pub tidy : Tidy es
+  pub short : length log + length es ≤ positions_end
+
+pub room_for : (log es : List Entry) → overflows log es ≡ false → RoomFor log es
+room_for log es h =
+    let t = or_parts (has_stop log) (stops_early es || nat_lt positions_end (length log + length es)) h in
+    let u = or_parts (stops_early es) (nat_lt positions_end (length log + length es)) t.1 in
+    record { stops = t.0; tidy = tidy_of es u.0; short = ltb-false positions_end (length log + length es) u.1 }
 
 -- a buffer doesn't take a log past the positions
 pub short_fitting : (l es : List Entry) → length l ≤ positions_end → length (l ++ fitting l es) ≤ positions_end

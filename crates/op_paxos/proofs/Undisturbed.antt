@@ -1,5 +1,5 @@
 -- How a node that prepares or leads goes on while nothing disturbs it.
-use Rattle.std.proofs.Common.{◌≡◌, ℕ, ◌<◌, ◌≤◌, ◌⊎◌, inl, inr, ⊎_elim, List, [], ◌∷◌, ◌++◌, true, refl, sym, ap, ◌∙◌, subst, arith}
+use Rattle.std.proofs.Common.{◌≡◌, ℕ, ◌<◌, ◌≤◌, ◌⊎◌, inl, inr, ⊎_elim, List, ◌++◌, true, refl, sym, ap, ◌∙◌, subst, arith}
 use Rattle.op_types.specs.declared.log.Entry.{Entry}
 use Rattle.op_spec.specs.Machine.{IsAmong}
 use Rattle.op_paxos.specs.Nodes.{PreparingState, LeadingState, Idle, Preparing, Leading, Node}
@@ -26,7 +26,7 @@ pub record PreparesOn (r : PreparingState) (o : Effect) : Type 0 where
   pub next : PreparingState
   pub role : (o.node).role ≡ Preparing next
   pub ballot : next.ballot ≡ r.ballot
-  pub buffer : (next.buffer ≡ r.buffer) ⊎ ((e : Entry) × (next.buffer ≡ r.buffer ++ e ∷ []))
+  pub buffer : (next.buffer ≡ r.buffer) ⊎ ((es : List Entry) × (next.buffer ≡ r.buffer ++ es))
 
 module _ (ms : List ℕ) (w : World) (g : History) (i : Invariant ms w g) (p : ℕ) where
   module _ (input : Input) (known : Known w p input) (o : Effect) (others : List ℕ) (alone : Interrupts others input → ⊥) where
@@ -82,7 +82,7 @@ module _ (ms : List ℕ) (w : World) (g : History) (i : Invariant ms w g) (p : �
             next = k.next;
             role = k.role;
             ballot = k.ballot ∙ ap (λ (y : PreparingState). y.ballot) e;
-            buffer = ⊎_elim (λ (x : (k.next).buffer ≡ (k.prep).buffer). inl (x ∙ ap (λ (y : PreparingState). y.buffer) e)) (λ (x : (d : Entry) × ((k.next).buffer ≡ (k.prep).buffer ++ d ∷ [])). inr (x.0, x.1 ∙ ap (λ (y : PreparingState). y.buffer ++ x.0 ∷ []) e)) k.buffer;
+            buffer = ⊎_elim (λ (x : (k.next).buffer ≡ (k.prep).buffer). inl (x ∙ ap (λ (y : PreparingState). y.buffer) e)) (λ (x : (ds : List Entry) × ((k.next).buffer ≡ (k.prep).buffer ++ ds)). inr (x.0, x.1 ∙ ap (λ (y : PreparingState). y.buffer ++ x.0) e)) k.buffer;
           })
       prepares_on (Adopting k) = ⊎_elim
           (λ (x : ((o.node).promised ≡ (w.nodes p).promised) × ((r' : PreparingState) × ((w.nodes p).role ≡ Preparing r') × (r'.ballot ≡ (k.lead).ballot) × (r'.buffer ≡ k.buffer))).

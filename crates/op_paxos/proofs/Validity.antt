@@ -5,7 +5,7 @@ use Rattle.std.proofs.lemmas.Bool.{cond_both}
 use Rattle.op_types.specs.declared.log.Entry.{Entry}
 use Rattle.op_types.specs.Limits.{positions_end}
 use Rattle.op_spec.specs.Machine.{IsAmong, with_at}
-use Rattle.op_paxos.specs.Logs.{is_stop, has_stop, up_to_stop, is_full, fitting}
+use Rattle.op_paxos.specs.Logs.{is_stop, has_stop, up_to_stop, overflows, fitting}
 use Rattle.op_paxos.specs.Nodes.{owner, Promised, PreparingState, LeadingState, Role, Idle, Preparing, Leading, Node}
 use Rattle.op_paxos.specs.Messages.{Msg, Prepare, Promise, AcceptSync, Accept, Accepted, Decide, PrepareReq, Refuse, Forward, TrimAsk, Progress, Trim, Packet, Effect, packet, broadcast, silent}
 use Rattle.op_paxos.specs.Follower.{suffix_at, promise_of, on_prepare, appended, on_accept, synced_to, on_accept_sync, on_decide}
@@ -62,7 +62,7 @@ module _ (P : Entry → Type 0) where
   MsgV (Promise n pm) = Each pm.rest
   MsgV (AcceptSync n x es) = Each es
   MsgV (Accept n a es) = Each es
-  MsgV (Forward e) = P e
+  MsgV (Forward es) = Each es
   MsgV _ = Unit {0}
 
   -- every entry of a node
@@ -145,21 +145,21 @@ module _ (P : Entry → Type 0) where
         (λ e. count_v nd _ [] _ h.log (λ m i. absurd i) (λ m. cond_both (nat_lt 0 nd.decided) (packet p q (Decide l.ballot nd.decided) ∷ []) [] (λ ps. IsAmong ps m → MsgV m.msg) (λ d i. one (packet p q (Decide l.ballot nd.decided)) tt m i) (λ d i. absurd i)))
         (λ e. still_v nd h)
 
-    extended_v : (nd : Node) (l : LeadingState) (e : Entry) → NodeV nd → P e → OutV (extended ms p nd l e)
+    extended_v : (nd : Node) (l : LeadingState) (es : List Entry) → NodeV nd → Each es → OutV (extended ms p nd l es)
     unfolding extended
-    extended_v nd l e h k = count_v (record nd { log = nd.log ++ e ∷ [] }) l _ [] (each_append nd.log (e ∷ []) h.log (each_one e k)) (spread_v l.synced (Accept l.ballot (length nd.log) (e ∷ [])) (each_one e k)) (λ m i. absurd i)
+    extended_v nd l es h k = count_v (record nd { log = nd.log ++ es }) l _ [] (each_append nd.log es h.log k) (spread_v l.synced (Accept l.ballot (length nd.log) es) k) (λ m i. absurd i)
 
-    propose_v : (nd : Node) (r : Role) (e : Entry) → NodeV nd → RoleV r → (refuses_as r nd.log ≡ false → P e) → OutV (on_propose_in ms p nd r e)
+    propose_v : (nd : Node) (r : Role) (es : List Entry) → NodeV nd → RoleV r → (refuses_as r nd.log es ≡ false → Each es) → OutV (on_propose_in ms p nd r es)
     unfolding on_propose_in
-    propose_v nd Idle e h o k = record { node = h; sends = one (packet p (owner nd.promised) (Forward e)) (k refl) }
-    propose_v nd (Preparing r) e h o k = still_v _ (record { log = h.log; role = record { kept = o.kept; buffer = each_append r.buffer (e ∷ []) o.buffer (each_one e (k refl)) } })
-    propose_v nd (Leading l) e h o k = cond_both (is_full nd.log) _ _ OutV (λ d. still_v nd h) (λ d. extended_v nd l e h (k d))
+    propose_v nd Idle es h o k = record { node = h; sends = one (packet p (owner nd.promised) (Forward es)) (k refl) }
+    propose_v nd (Preparing r) es h o k = still_v _ (record { log = h.log; role = record { kept = o.kept; buffer = each_append r.buffer es o.buffer (k refl) } })
+    propose_v nd (Leading l) es h o k = cond_both (overflows nd.log es) _ _ OutV (λ d. still_v nd h) (λ d. extended_v nd l es h (k d))
 
-    forward_v : (nd : Node) (r : Role) (e : Entry) → NodeV nd → RoleV r → P e → OutV (on_forward_in ms p nd r e)
+    forward_v : (nd : Node) (r : Role) (es : List Entry) → NodeV nd → RoleV r → Each es → OutV (on_forward_in ms p nd r es)
     unfolding on_forward_in
-    forward_v nd Idle e h o k = still_v nd h
-    forward_v nd (Preparing r) e h o k = propose_v nd (Preparing r) e h o (λ d. k)
-    forward_v nd (Leading l) e h o k = propose_v nd (Leading l) e h o (λ d. k)
+    forward_v nd Idle es h o k = still_v nd h
+    forward_v nd (Preparing r) es h o k = propose_v nd (Preparing r) es h o (λ d. k)
+    forward_v nd (Leading l) es h o k = propose_v nd (Leading l) es h o (λ d. k)
 
     asked_v : (nd : Node) (r : Role) (q : ℕ) → NodeV nd → OutV (on_prepare_req_in p nd r q)
     unfolding on_prepare_req_in
@@ -227,7 +227,7 @@ module _ (P : Entry → Type 0) where
     msg_v nd q (Decide n x) h k = decide_v nd n x h
     msg_v nd q PrepareReq h k = asked_v nd nd.role q h
     msg_v nd q (Refuse n b) h k = still_v nd h
-    msg_v nd q (Forward e) h k = forward_v nd nd.role e h h.role k
+    msg_v nd q (Forward es) h k = forward_v nd nd.role es h h.role k
     msg_v nd q (TrimAsk n) h k = trim_ask_v nd q n h
     msg_v nd q (Progress n d) h k = progress_v nd nd.role q n d h
     msg_v nd q (Trim x) h k = trim_v nd x h
@@ -235,7 +235,7 @@ module _ (P : Entry → Type 0) where
     -- what it takes in passes, if it isn't refused
     abbrev InputV : Node → Input → Type 0
     InputV nd (Comes q m) = MsgV m
-    InputV nd (Proposal e) = refuses nd ≡ false → P e
+    InputV nd (Proposal es) = refuses nd es ≡ false → Each es
     InputV nd _ = Unit {0}
 
     without_v : (q : ℕ) (r : Role) → RoleV r → RoleV (without r q)
@@ -246,7 +246,7 @@ module _ (P : Entry → Type 0) where
     step_v : (nd : Node) (i : Input) → NodeV nd → InputV nd i → OutV (step ms p nd i)
     unfolding step
     step_v nd (Elected n) h k = lead_v nd n h
-    step_v nd (Proposal e) h k = propose_v nd nd.role e h h.role k
+    step_v nd (Proposal es) h k = propose_v nd nd.role es h h.role k
     step_v nd (Comes q m) h k = msg_v nd q m h k
     step_v nd (Up q) h k = record { node = h; sends = one (packet p q PrepareReq) tt }
     step_v nd (Down q) h k = still_v _ (record { log = h.log; role = without_v q nd.role h.role })
@@ -270,13 +270,13 @@ module _ (P : Entry → Type 0) where
 
   -- what an event proposes passes, if it isn't refused
   abbrev pub TakenV : World → Event → Type 0
-  TakenV w (Proposes p e) = refuses (w.nodes p) ≡ false → P e
+  TakenV w (Proposes p es) = refuses (w.nodes p) es ≡ false → Each es
   TakenV w (Stops e) = TakenV w e
   TakenV w _ = Unit {0}
 
   -- what an event proposes passes
   abbrev pub EventV : Event → Type 0
-  EventV (Proposes p e) = P e
+  EventV (Proposes p es) = Each es
   EventV (Stops e) = EventV e
   EventV _ = Unit {0}
 
@@ -321,7 +321,7 @@ module _ (P : Entry → Type 0) where
   all_taken w (Links a b) k = tt
   all_taken w (Unlinks a b) k = tt
 
-  run_v : (ms : List ℕ) (es : List Event) (w : World) → ((e : Event) → IsAmong es e → EventV e) → WorldV w → WorldV (run ms es w)
+  pub run_v : (ms : List ℕ) (es : List Event) (w : World) → ((e : Event) → IsAmong es e → EventV e) → WorldV w → WorldV (run ms es w)
   unfolding run
   run_v ms [] w f h = h
   run_v ms (e ∷ es) w f h = run_v ms es (happens ms w e) (λ d i. f d (inr i)) (happens_v ms w h e (all_taken w e (f e (inl refl))))

@@ -78,33 +78,37 @@ pub record Begins (members : List ℕ) (w : World) (p : ℕ) (events : List Even
   pub size : length adopted ≡ leadership.size
   pub log : (node_before members w events (suc i) p).log ≡ adopted ++ fitting adopted preparation.buffer
 
--- what comes at p at event number at is buffered,
--- and p begins to lead later, where it would stand at this place
-pub record Buffered (members : List ℕ) (w : World) (p : ℕ) (events : List Event) (at place : ℕ) : Type 0 where
-  pub preparation : PreparingState
-  pub preparing : (node_before members w events at p).role ≡ Preparing preparation
-  pub adds_at : ℕ
-  pub later : at < adds_at
-  pub begins : Begins members w p events adds_at
-  pub is : place ≡ length begins.adopted + length preparation.buffer
+-- where in a run an entry is proposed: the number of the event, and its place among what is proposed there
+abbrev pub Proposed : Type 0
+Proposed = ℕ × ℕ
 
--- it stands at this place of p's log: at the end of what p has,
+-- what comes at p there is buffered, and p begins to lead later, where it would stand at this place
+pub record Buffered (members : List ℕ) (w : World) (p : ℕ) (events : List Event) (at : Proposed)
+    (place : ℕ) : Type 0 where
+  pub preparation : PreparingState
+  pub preparing : (node_before members w events at.0 p).role ≡ Preparing preparation
+  pub adds_at : ℕ
+  pub later : at.0 < adds_at
+  pub begins : Begins members w p events adds_at
+  pub is : place ≡ length begins.adopted + (length preparation.buffer + at.1)
+
+-- it stands at this place of p's log: behind what p has,
 -- if p leads, and else where its buffer is added
-abbrev pub IsPlaced : List ℕ → World → ℕ → List Event → ℕ → ℕ → Type 0
+abbrev pub IsPlaced : List ℕ → World → ℕ → List Event → Proposed → ℕ → Type 0
 IsPlaced members w p events at place =
-    ((l : LeadingState) × ((node_before members w events at p).role ≡ Leading l) ×
-    (place ≡ length (node_before members w events at p).log))
+    ((l : LeadingState) × ((node_before members w events at.0 p).role ≡ Leading l) ×
+    (place ≡ length (node_before members w events at.0 p).log + at.1))
     ⊎ ((x : Buffered members w p events at place) ×
     (place < length (node_before members w events (suc x.adds_at) p).log))
 
--- or e, which came at p at event number at, is dropped when p begins to lead,
--- after a stop-sign or at the end of positions
-pub record Dropped (members : List ℕ) (w : World) (p : ℕ) (events : List Event) (at : ℕ)
+-- or e, which came at p there, is dropped when p begins to lead, after a stop-sign or at the end of positions
+pub record Dropped (members : List ℕ) (w : World) (p : ℕ) (events : List Event) (at : Proposed)
     (e : Entry) : Type 0 where
   pub place : ℕ
   pub buffered : Buffered members w p events at place
   -- it waits there until then
-  pub held : slice_get buffered.begins.preparation.buffer (length buffered.preparation.buffer) ≡ Some e
+  pub held :
+      slice_get buffered.begins.preparation.buffer (length buffered.preparation.buffer + at.1) ≡ Some e
   pub gone : length (node_before members w events (suc buffered.adds_at) p).log ≤ place
   pub because_full :
       (has_stop (node_before members w events (suc buffered.adds_at) p).log ≡ true)
@@ -116,9 +120,9 @@ pub record Dropped (members : List ℕ) (w : World) (p : ℕ) (events : List Eve
 abbrev pub IsIn : ℕ → ℕ → List Entry → Type 0
 IsIn place start entries = (start ≤ place) × (place < start + length entries)
 
--- the five steps of p, which leads b, with q, where something is proposed at event number at:
--- each by the number of its event
-pub record Steps (members : List ℕ) (w : World) (events : List Event) (b p q at : ℕ) : Type 0 where
+-- the five steps of p, which leads b, with q, where something is proposed: each by its event's number
+pub record Steps (members : List ℕ) (w : World) (events : List Event) (b p q : ℕ) (at : Proposed)
+    : Type 0 where
   -- 1. a Prepare of b from p is delivered to q, whose promise is below b
   pub prepare_at : ℕ
   pub asked : ℕ × ℕ × ℕ
@@ -181,10 +185,12 @@ pub record Exchange (members : List ℕ) (w : World) (p b : ℕ) (others : List 
   pub voters : ℕ → Bool
   pub are_voters : (q : ℕ) → voters q ≡ true → (q ≡ p) ⊎ IsAmong others q
   pub majority : majority_passes members voters ≡ true
-  -- e comes at p, and isn't refused
-  pub proposed_at : ℕ
-  pub proposed : slice_get events proposed_at ≡ Some (Proposes p e)
-  pub taken : refuses (node_before members w events proposed_at p) ≡ false
+  -- e comes at p, alone or with others, and isn't refused
+  pub proposed_at : Proposed
+  pub entries : List Entry
+  pub proposed : slice_get events proposed_at.0 ≡ Some (Proposes p entries)
+  pub among : slice_get entries proposed_at.1 ≡ Some e
+  pub taken : refuses (node_before members w events proposed_at.0 p) entries ≡ false
   pub steps : (q : ℕ) → IsAmong others q → Steps members w events b p q proposed_at
   -- nothing disturbs p, nor q from its step 1 on
   pub calm : IsCalm members w events b others p 0
@@ -211,7 +217,9 @@ ExchangeDecides =
 -- a leader that is a majority alone decides what is proposed to it, unless it refuses, at once
 abbrev pub AloneDecides : Type 0
 AloneDecides =
-    (members : List ℕ) (conf : ℕ) (early : List Event) (p : ℕ) (e : Entry) (l : LeadingState)
+    (members : List ℕ) (conf : ℕ) (early : List Event) (p : ℕ) (entries : List Entry) (l : LeadingState)
+    (k : ℕ) (e : Entry)
     → let node = (run members early start).nodes p in
-    node.role ≡ Leading l → majority_passes members (λ q. q == p) ≡ true → refuses node ≡ false
-    → IsDecided members conf (early ++ Proposes p e ∷ []) p e (length node.log)
+    node.role ≡ Leading l → majority_passes members (λ q. q == p) ≡ true → refuses node entries ≡ false
+    → slice_get entries k ≡ Some e
+    → IsDecided members conf (early ++ Proposes p entries ∷ []) p e (length node.log + k)

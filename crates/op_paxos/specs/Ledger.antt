@@ -4,20 +4,20 @@ use Rattle.op_types.specs.declared.log.Entry.{Entry}
 use Rattle.op_spec.specs.Machine.{Machine, with_at, with_node_at, first_machine, Leads}
 use Rattle.op_spec.specs.Ledger.{machine_proposing}
 use Rattle.op_spec.specs.Laws.{IsSafe, OnlyGrows}
-use Rattle.op_paxos.specs.Logs.{is_full}
+use Rattle.op_paxos.specs.Logs.{overflows}
 use Rattle.op_paxos.specs.Nodes.{Role, Idle, Preparing, Leading, Node}
 use Rattle.op_paxos.specs.Worlds.{Input, World, Event, Proposes, Stops, input_of, happens, start}
 use Rattle.op_paxos.specs.Agreement.{decided_log}
 
--- whether the node refuses what is proposed to it: it leads, and nothing can be added to its log
-abbrev pub refuses_as : Role → List Entry → Bool
-refuses_as Idle log = false
-refuses_as (Preparing r) log = false
-refuses_as (Leading l) log = is_full log
+-- whether the node refuses what is proposed to it together: it leads, and can't add all of it to its log
+abbrev pub refuses_as : Role → List Entry → List Entry → Bool
+refuses_as Idle log entries = false
+refuses_as (Preparing r) log entries = false
+refuses_as (Leading l) log entries = overflows log entries
 
 -- the same, of a node
-abbrev pub refuses : Node → Bool
-refuses node = refuses_as node.role node.log
+abbrev pub refuses : Node → List Entry → Bool
+refuses node entries = refuses_as node.role node.log entries
 
 -- a run of one configuration so far: its world, and the list machine's state that it shows
 pub record Execution : Type 0 where
@@ -36,9 +36,15 @@ showing m conf p node =
       opened = m.opened;
     }
 
--- a proposal that its node doesn't refuse is proposed, whether or not the step then ends
+-- each of these is proposed
+abbrev pub proposing_each : Machine → ℕ → List Entry → Machine
+proposing_each m conf [] = m
+proposing_each m conf (e ∷ entries) = proposing_each (machine_proposing m conf e) conf entries
+
+-- proposals that their node doesn't refuse are proposed, whether or not the step then ends
 abbrev pub proposing : Machine → ℕ → World → Event → Machine
-proposing m conf w (Proposes p e) = if refuses (w.nodes p) then m else machine_proposing m conf e
+proposing m conf w (Proposes p entries) =
+    if refuses (w.nodes p) entries then m else proposing_each m conf entries
 proposing m conf w (Stops e) = proposing m conf w e
 proposing m conf w _ = m
 

@@ -1,0 +1,6 @@
+pub mod Bases
+pub mod PartBatches
+pub mod Based
+pub mod Plans
+pub mod Starts
+pub mod StepBatches

@@ -1,5 +1,5 @@
 -- The rows of a node that prepares or leads.
-use Rattle.std.specs.Prelude.{◌==◌, ◌&&◌, ◌||◌, ℕ, zero, suc, ◌+◌, nat_lt, nat_le, nat_eq, Bool, false, true, List, [], ◌∷◌, ◌++◌, length, filter, flat_map, Option, Some, None, if◌then◌else◌}
+use Rattle.std.specs.Prelude.{◌==◌, ◌&&◌, ◌||◌, ℕ, zero, suc, ◌+◌, nat_lt, nat_le, nat_eq, Bool, false, true, List, [], ◌∷◌, ◌++◌, length, filter, flat_map, Option, Some, None, if◌then◌else◌, map}
 use Rattle.std.specs.Set.{is_member}
 use Rattle.op_types.specs.Limits.{positions_end}
 use Rattle.op_types.specs.Ballots.{is_same_ballot}
@@ -9,6 +9,7 @@ use Rattle.op_types.specs.declared.changes.Change.TheVariants as change
 use Rattle.op_types.specs.declared.log.Entry.{Entry}
 use Rattle.op_types.specs.declared.durable.Part.{Part}
 use Rattle.op_types.specs.declared.messages.Msg.{Msg}
+use Rattle.op_types.specs.declared.messages.Body.{Body}
 use Rattle.op_types.specs.declared.messages.Body.TheVariants as body
 use Rattle.op_types.specs.declared.role.Promised.{Promised}
 use Rattle.op_types.specs.declared.role.Buffered.{Buffered}
@@ -103,7 +104,14 @@ sends_by p l (Some k) = sync_sends p l k
 -- the leader of a ballot that has adopted a log
 abbrev pub first_leading : Ballot → Choice → state.Leading
 first_leading n c =
-    record { ballot = n; adopted_round = c.accepted; adopted_len = c.len; synced = []; acknowledged = [] }
+    record {
+      ballot = n;
+      adopted_round = c.accepted;
+      adopted_len = c.len;
+      synced = [];
+      acknowledged = [];
+      reports = [];
+    }
 
 -- the same, when those of the members are synced that promised
 abbrev pub leading_with : Part → state.Leading → List Promised → state.Leading
@@ -182,33 +190,43 @@ on_prepare_req p Idle q = nothing Idle
 on_prepare_req p (Preparing r) q = saying (Preparing r) (message p.conf q (prepare_body p r.ballot) ∷ [])
 on_prepare_req p (Leading l) q = saying (Leading l) (message p.conf q (prepare_body p l.ballot) ∷ [])
 
--- a leader adds an entry to its log, and sends it to each synced follower
-abbrev pub extends : ℕ → Part → state.Leading → Entry → Effects
-extends me p l e =
-    first (change.Append (e ∷ []) ∷ [])
-    (to_each p.conf (synced_others me p.members l) (body.Accept l.ballot (len_of p) (e ∷ []))) []
-    (count me p (len_of p + 1) l [])
+-- a leader adds entries to its log, and sends them to each synced follower, in one message
+abbrev pub extends : ℕ → Part → state.Leading → List Entry → Effects
+extends me p l entries =
+    first (change.Append entries ∷ [])
+    (to_each p.conf (synced_others me p.members l) (body.Accept l.ballot (len_of p) entries)) []
+    (count me p (len_of p + length entries) l [])
 
--- an entry is proposed: it is added, waits in the buffer, or goes to whom the node takes for the leader
-abbrev pub propose : ℕ → Part → Role → Entry → Effects
-propose me p Idle e =
+-- entries that wait in a buffer
+abbrev pub waiting_as : Bool → List Entry → List Buffered
+waiting_as is_own entries = map (λ e. record { entry = e; is_own = is_own }) entries
+
+-- entries as a message for the leader
+abbrev pub forward_body : List Entry → Body
+forward_body [] = body.Forwards []
+forward_body (e ∷ []) = body.Forward e
+forward_body (e ∷ (d ∷ entries)) = body.Forwards (e ∷ d ∷ entries)
+
+-- entries are proposed together: they are added, wait in the buffer, or go to the leader as far as is known
+abbrev pub propose : ℕ → Part → Role → List Entry → Effects
+propose me p Idle entries =
     answered (outcome.Forwarded p.promised.pid)
-    (saying Idle (message p.conf p.promised.pid (body.Forward e) ∷ []))
-propose me p (Preparing r) e =
-    answered outcome.Buffered (nothing (Preparing (with_buffered r (record { entry = e; is_own = true }))))
-propose me p (Leading l) e = answered (outcome.Appended p.conf (len_of p)) (extends me p l e)
+    (saying Idle (message p.conf p.promised.pid (forward_body entries) ∷ []))
+propose me p (Preparing r) entries =
+    answered outcome.Buffered (nothing (Preparing (with_buffered r (waiting_as true entries))))
+propose me p (Leading l) entries = answered (outcome.Appended p.conf (len_of p)) (extends me p l entries)
 
--- a leader takes an entry that was forwarded, where its log goes on
-abbrev pub on_forward_leading : ℕ → Part → state.Leading → Entry → Option ℕ → Effects
-on_forward_leading me p l e (Some pos) = nothing (Leading l)
-on_forward_leading me p l e None =
-    if nat_lt (len_of p) positions_end then extends me p l e else nothing (Leading l)
+-- a leader takes entries that were forwarded, where its log goes on and has a position for each
+abbrev pub on_forward_leading : ℕ → Part → state.Leading → List Entry → Option ℕ → Effects
+on_forward_leading me p l entries (Some pos) = nothing (Leading l)
+on_forward_leading me p l entries None =
+    if nat_le (len_of p + length entries) positions_end then extends me p l entries else nothing (Leading l)
 
--- a proposal was forwarded
-abbrev pub on_forward : ℕ → Part → Role → Entry → Effects
-on_forward me p Idle e = nothing Idle
-on_forward me p (Preparing r) e = nothing (Preparing (with_buffered r (record { entry = e; is_own = false })))
-on_forward me p (Leading l) e = on_forward_leading me p l e (pending p)
+-- proposals were forwarded together
+abbrev pub on_forward : ℕ → Part → Role → List Entry → Effects
+on_forward me p Idle entries = nothing Idle
+on_forward me p (Preparing r) entries = nothing (Preparing (with_buffered r (waiting_as false entries)))
+on_forward me p (Leading l) entries = on_forward_leading me p l entries (pending p)
 
 -- a follower whose session ended gets nothing more until it is synced again
 abbrev pub session_down : Role → ℕ → Effects

@@ -40,12 +40,14 @@ abbrev pub is_admitted : Part → ℕ → List Entry → Bool
 is_admitted p at entries =
     nat_le (at + length entries) positions_end && not (p.conf == last_conf && has_stop entries)
 
--- what a message brings is admitted; where an entry goes that is forwarded isn't known yet
+-- what a message brings is admitted; where an entry goes that is forwarded isn't known yet,
+-- and several of them are commands
 abbrev pub is_admitted_body : Part → Body → Bool
 is_admitted_body p (body.Promise n fa fl fd s entries) = is_admitted p s entries
 is_admitted_body p (body.AcceptSync n x entries) = is_admitted p x entries
 is_admitted_body p (body.Accept n at entries) = is_admitted p at entries
 is_admitted_body p (body.Forward e) = is_admitted p 0 (e ∷ [])
+is_admitted_body p (body.Forwards entries) = not (has_stop entries)
 is_admitted_body p _ = true
 
 -- ---- changes
@@ -54,6 +56,16 @@ is_admitted_body p _ = true
 abbrev pub part_after : Part → List Change → Part
 part_after p [] = p
 part_after p (c ∷ batch) = part_after (part_with p c) batch
+
+-- a change of the part alone: it leaves no configuration, and is of nothing that is held while joining
+abbrev pub IsOfPart : Change → Type 0
+IsOfPart (change.Promise n) = Unit {0}
+IsOfPart (change.Accept n) = Unit {0}
+IsOfPart (change.CutTo n) = Unit {0}
+IsOfPart (change.Append entries) = Unit {0}
+IsOfPart (change.Decided x) = Unit {0}
+IsOfPart (change.Trim x base) = Unit {0}
+IsOfPart _ = ⊥
 
 -- the part with this log, accepted in this round
 abbrev pub part_in_round : Part → Ballot → List Entry → Part

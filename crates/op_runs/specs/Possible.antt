@@ -1,46 +1,100 @@
--- Which events can come: those that name members, and messages that were sent.
-use Rattle.std.specs.Prelude.{◌≡◌, ◌⊎◌, ◌&&◌, ℕ, suc, nat_eq, nat_lt, Bool, true, false, List, [], ◌∷◌, length}
+-- Which events can come: those that name nodes of the world, and messages that were sent.
+-- And which worlds and happenings the laws are about.
+use Rattle.std.specs.Prelude.{◌≡◌, ◌≤◌, ◌<◌, ◌+◌, ◌^◌, ◌⊎◌, ◌&&◌, ℕ, suc, nat_eq, nat_lt, Bool, true, false, List, [], ◌∷◌, length, All}
 use Rattle.std.specs.Set.{is_member}
-use Rattle.op_types.specs.declared.events.Event.{Event}
-use Rattle.op_types.specs.declared.events.What.{What}
-use Rattle.op_types.specs.declared.events.What.TheVariants as what
-use Rattle.op_runs.specs.World.{World, first_world, world_after, done_event}
+use Rattle.op_runs.specs.declared.events.Event.{Event}
+use Rattle.op_runs.specs.declared.events.What.{What}
+use Rattle.op_runs.specs.declared.events.What.TheVariants as what
+use Rattle.op_types.specs.Ranges.{AreRising, IsMember, IsPid, AreCommands, MembersInRange}
+use Rattle.op_runs.specs.World.{World, Happening, node_ids, first_world, world_after, done_event}
 
--- whether the servers that an event names are members,
+-- all of these are among the nodes
+abbrev pub are_nodes : List ℕ → List ℕ → Bool
+are_nodes nodes [] = true
+are_nodes nodes (q ∷ qs) = is_member nat_eq nodes q && are_nodes nodes qs
+
+-- whether the servers that an event names are nodes of the world,
 -- and the message that it names is one of so many that were sent
 abbrev pub is_possible : List ℕ → ℕ → What → Bool
-is_possible members sent (what.Tick p) = is_member nat_eq members p
-is_possible members sent (what.Command p c) = is_member nat_eq members p
-is_possible members sent (what.Deliver i) = nat_lt i sent
-is_possible members sent (what.Up p q) = is_member nat_eq members p && is_member nat_eq members q
-is_possible members sent (what.Down p q) = is_member nat_eq members p && is_member nat_eq members q
-is_possible members sent (what.Crash p) = is_member nat_eq members p
-is_possible members sent (what.Start p) = is_member nat_eq members p
-is_possible members sent (what.Show p) = is_member nat_eq members p
-is_possible members sent (what.Ballots p) = is_member nat_eq members p
+is_possible nodes sent (what.Tick p) = is_member nat_eq nodes p
+is_possible nodes sent (what.Commands p cs) = is_member nat_eq nodes p
+is_possible nodes sent (what.Stop p members) = is_member nat_eq nodes p && are_nodes nodes members
+is_possible nodes sent (what.Trim p) = is_member nat_eq nodes p
+is_possible nodes sent (what.Deliver i) = nat_lt i sent
+is_possible nodes sent (what.Up p q) = is_member nat_eq nodes p && is_member nat_eq nodes q
+is_possible nodes sent (what.Down p q) = is_member nat_eq nodes p && is_member nat_eq nodes q
+is_possible nodes sent (what.Crash p) = is_member nat_eq nodes p
+is_possible nodes sent (what.Start p) = is_member nat_eq nodes p
+is_possible nodes sent (what.Show p) = is_member nat_eq nodes p
+is_possible nodes sent (what.Ballots p) = is_member nat_eq nodes p
 
 -- whether an event can come in this world
 abbrev pub is_possible_in : List ℕ → World → Event → Bool
-is_possible_in members w e = is_possible members (length w.messages) e.what
+is_possible_in nodes w e = is_possible nodes (length w.messages) e.what
 
 -- from this world on, each event can come where it stands
 abbrev pub ArePossibleFrom : List ℕ → World → List Event → Type 0
-ArePossibleFrom members w [] = Unit {0}
-ArePossibleFrom members w (e ∷ es) =
-    (is_possible_in members w e ≡ true) × ArePossibleFrom members (world_after w (done_event e)) es
+ArePossibleFrom nodes w [] = Unit {0}
+ArePossibleFrom nodes w (e ∷ es) =
+    (is_possible_in nodes w e ≡ true) × ArePossibleFrom nodes (world_after w (done_event e)) es
 
 -- from this world on, the event of this number, from 0, is the first that can't come
 abbrev pub IsFirstBadFrom : List ℕ → World → List Event → ℕ → Type 0
-IsFirstBadFrom members w [] i = ⊥
-IsFirstBadFrom members w (e ∷ es) i =
-    ((i ≡ 0) × (is_possible_in members w e ≡ false))
-    ⊎ ((j : ℕ) × (i ≡ suc j) × (is_possible_in members w e ≡ true) ×
-    IsFirstBadFrom members (world_after w (done_event e)) es j)
+IsFirstBadFrom nodes w [] i = ⊥
+IsFirstBadFrom nodes w (e ∷ es) i =
+    ((i ≡ 0) × (is_possible_in nodes w e ≡ false))
+    ⊎ ((j : ℕ) × (i ≡ suc j) × (is_possible_in nodes w e ≡ true) ×
+    IsFirstBadFrom nodes (world_after w (done_event e)) es j)
 
 -- each event of a replay can come
-abbrev pub ArePossible : List ℕ → List Event → Type 0
-ArePossible members events = ArePossibleFrom members (first_world members) events
+abbrev pub ArePossible : List ℕ → List ℕ → List Event → Type 0
+ArePossible members spares events =
+    ArePossibleFrom (node_ids members spares) (first_world members spares) events
 
 -- the event of this number, from 0, is the first of a replay that can't come
-abbrev pub IsFirstBad : List ℕ → List Event → ℕ → Type 0
-IsFirstBad members events i = IsFirstBadFrom members (first_world members) events i
+abbrev pub IsFirstBad : List ℕ → List ℕ → List Event → ℕ → Type 0
+IsFirstBad members spares events i =
+    IsFirstBadFrom (node_ids members spares) (first_world members spares) events i
+
+-- ---- ranges
+
+-- what happens, at a node in range, with its parts in range
+abbrev pub WhatInRange : What → Type 0
+WhatInRange (what.Tick p) = IsPid p
+WhatInRange (what.Commands p cs) = IsPid p × AreCommands cs
+WhatInRange (what.Stop p members) = IsPid p × MembersInRange members
+WhatInRange (what.Trim p) = IsPid p
+WhatInRange (what.Deliver i) = i < 2 ^ 64
+WhatInRange (what.Up p q) = IsPid p × IsPid q
+WhatInRange (what.Down p q) = IsPid p × IsPid q
+WhatInRange (what.Crash p) = IsPid p
+WhatInRange (what.Start p) = IsPid p
+WhatInRange (what.Show p) = IsPid p
+WhatInRange (what.Ballots p) = IsPid p
+
+-- how many spares a world has at most
+abbrev pub most_spares : ℕ
+most_spares = 22
+
+-- spares are rising, and none of them is a member
+pub record SparesInRange (members spares : List ℕ) : Type 0 where
+  pub few : length spares ≤ most_spares
+  pub rising : AreRising 0 spares
+  pub apart : (q : ℕ) → IsMember spares q → IsMember members q → ⊥
+
+-- how many entries an event proposes
+abbrev pub proposals_of : What → ℕ
+proposals_of (what.Commands p cs) = length cs
+proposals_of (what.Stop p members) = 1
+proposals_of _ = 0
+
+-- how many entries happenings propose
+abbrev pub proposals_in : List Happening → ℕ
+proposals_in [] = 0
+proposals_in (h ∷ hs) = proposals_of h.event.what + proposals_in hs
+
+-- Happenings in range. They propose so few entries that eight bytes count the keys and the clients of every
+-- service that they leave: so each base stands for its service.
+pub record HappeningsInRange (hs : List Happening) : Type 0 where
+  pub few : proposals_in hs < 2 ^ 64
+  pub each : All (λ h. WhatInRange h.event.what) hs

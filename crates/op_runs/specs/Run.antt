@@ -1,10 +1,9 @@
 -- A run, its ledger beside it, and how it meets the list machine.
-use Rattle.std.specs.Prelude.{◌≡◌, ◌≤◌, ℕ, List, [], ◌∷◌, fold, Option, Some, None, All}
+use Rattle.std.specs.Prelude.{◌≡◌, ◌≤◌, ◌<◌, ◌⊎◌, ◌+◌, ℕ, List, [], ◌∷◌, fold, Option, Some, None, All}
 use Rattle.op_types.specs.declared.durable.Part.{Part}
 use Rattle.op_types.specs.declared.answers.Refusal.{Refusal}
 use Rattle.op_types.specs.declared.events.Input.{Input}
 use Rattle.op_types.specs.declared.events.Input.TheVariants as input
-use Rattle.op_types.specs.declared.log.Command.{Command}
 use Rattle.op_types.specs.declared.log.Entry.{Entry}
 use Rattle.op_types.specs.declared.log.Entry.TheVariants as entry
 use Rattle.op_spec.specs.Machine.{Machine, first_machine, Leads}
@@ -13,7 +12,8 @@ use Rattle.op_spec.specs.Laws.{IsSafe, OnlyGrows}
 use Rattle.op_spec.specs.Service.{Service, service_of}
 use Rattle.op_spec.specs.Stands.{Stands, prefix_of}
 use Rattle.op_protocol.specs.State.{State}
-use Rattle.op_protocol.specs.Rows.{refusal_of}
+use Rattle.op_protocol.specs.Configurations.{latest_of}
+use Rattle.op_protocol.specs.Rows.{refusal_of, stop_for, entries_of}
 use Rattle.op_runs.specs.World.{World, Node, NodeStatus, Up, Down, Happening, Doing, Steps, Stops, Opens, Tells, Deed, first_world, world_after, node_at, deed_of}
 
 -- a run so far: its world, and the list machine's state that it shows
@@ -25,20 +25,23 @@ pub record Execution : Type 0 where
 abbrev pub machine_showing_all : Machine → List Node → Machine
 machine_showing_all m nodes = fold (λ x n. machine_showing x n.pid n.state.durable) m nodes
 
--- a command at a part is proposed in its configuration, if nothing refuses it
-abbrev pub machine_proposing_in : Machine → Command → Option Part → Option Refusal → Machine
-machine_proposing_in m c None r = m
-machine_proposing_in m c (Some p) (Some r) = m
-machine_proposing_in m c (Some p) None = machine_proposing m p.conf (entry.Command c)
+-- entries at a part are proposed in its configuration, if nothing refuses them
+abbrev pub machine_proposing_in : Machine → List Entry → Option Part → Option Refusal → Machine
+machine_proposing_in m entries None r = m
+machine_proposing_in m entries (Some p) (Some r) = m
+machine_proposing_in m entries (Some p) None = fold (λ x e. machine_proposing x p.conf e) m entries
 
--- a step proposes its command
+-- a node proposes these entries
+abbrev pub machine_proposing_entries : Machine → ℕ → State → List Entry → Machine
+machine_proposing_entries m me s entries =
+    machine_proposing_in m entries s.durable.part (refusal_of me s.volatile.role s.durable entries)
+
+-- a step proposes its commands or its stop-sign
 abbrev pub machine_proposing_input : Machine → ℕ → State → Input → Machine
-machine_proposing_input m me s input.Tick = m
-machine_proposing_input m me s (input.Deliver q x) = m
-machine_proposing_input m me s (input.Command c) =
-    machine_proposing_in m c s.durable.part (refusal_of me s.volatile.role s.durable.part)
-machine_proposing_input m me s (input.Up q) = m
-machine_proposing_input m me s (input.Down q) = m
+machine_proposing_input m me s (input.Commands cs) = machine_proposing_entries m me s (entries_of cs)
+machine_proposing_input m me s (input.Stop members) =
+    machine_proposing_entries m me s (entry.Stop (stop_for s.durable.part members) ∷ [])
+machine_proposing_input m me s _ = m
 
 -- the same, of what is done at a node
 abbrev pub machine_proposing_doing : Machine → ℕ → State → Doing → Machine
@@ -57,7 +60,7 @@ abbrev pub machine_proposing_at : Machine → Option Node → Doing → Machine
 machine_proposing_at m None d = m
 machine_proposing_at m (Some n) d = machine_proposing_if n.status m n.pid n.state d
 
--- a command that a node's part doesn't refuse is proposed in its configuration,
+-- what a node doesn't refuse is proposed in its configuration,
 -- whether or not the step then ends
 abbrev pub machine_proposing_by : Machine → List Node → Option Deed → Machine
 machine_proposing_by m nodes None = m
@@ -74,8 +77,9 @@ execution_with t h =
     }
 
 -- the start of a run
-abbrev pub first_execution : List ℕ → Execution
-first_execution members = record { world = first_world members; machine = first_machine members }
+abbrev pub first_execution : List ℕ → List ℕ → Execution
+first_execution members spares =
+    record { world = first_world members spares; machine = first_machine members }
 
 -- a run after these happenings
 abbrev pub execution_of : Execution → List Happening → Execution
@@ -100,9 +104,17 @@ abbrev pub decided_at : Option Node → ℕ → ℕ
 decided_at None conf = 0
 decided_at (Some n) conf = decided_in n.state.durable conf
 
--- what a node has decided of a configuration doesn't fall
+-- the latest configuration that a node knows
+abbrev pub latest_at : Option Node → ℕ
+latest_at None = 0
+latest_at (Some n) = latest_of n.state.durable
+
+-- what a node has decided of a configuration doesn't fall, until it keeps the closed list of a later one
 abbrev pub DecidedStays : List Node → List Node → Type 0
-DecidedStays old new = (pid conf : ℕ) → decided_at (node_at old pid) conf ≤ decided_at (node_at new pid) conf
+DecidedStays old new =
+    (pid conf : ℕ)
+    → (decided_at (node_at old pid) conf ≤ decided_at (node_at new pid) conf)
+    ⊎ (conf + 1 < latest_at (node_at new pid))
 
 -- a happening is finitely many steps of the list machine, which only add to it;
 -- nothing decided is lost, and all is sound after it
@@ -118,6 +130,7 @@ MeetsFrom members t [] = Unit {0}
 MeetsFrom members t (h ∷ hs) =
     GoesOn members t (execution_with t h) × MeetsFrom members (execution_with t h) hs
 
--- a run of these members meets the list machine, from its start on
-abbrev pub Meets : List ℕ → List Happening → Type 0
-Meets members hs = IsSound members (first_execution members) × MeetsFrom members (first_execution members) hs
+-- a run of these members and spares meets the list machine, from its start on
+abbrev pub Meets : List ℕ → List ℕ → List Happening → Type 0
+Meets members spares hs =
+    IsSound members (first_execution members spares) × MeetsFrom members (first_execution members spares) hs

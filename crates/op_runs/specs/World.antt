@@ -1,19 +1,21 @@
 -- A world of nodes: what happens to them, one event after the other.
-use Rattle.std.specs.Prelude.{◌==◌, ℕ, Bool, false, List, [], ◌∷◌, ◌++◌, map, Option, Some, None, slice_get, if◌then◌else◌}
-use Rattle.op_types.specs.Ballots.{no_ballot}
-use Rattle.op_types.specs.Changes.{durable_after}
+use Rattle.std.specs.Prelude.{◌==◌, ℕ, nat_eq, Bool, false, List, [], ◌∷◌, ◌++◌, map, fold, Option, Some, None, slice_get, if◌then◌else◌}
+use Rattle.std.specs.Set.{is_member}
+use Rattle.std.specs.BTreeSet.{insert_key}
+use Rattle.std.specs.Ordering.{nat_cmp}
+use Rattle.op_types.specs.Changes.{empty_durable, new_part, durable_after}
 use Rattle.op_types.specs.declared.durable.Part.{Part}
 use Rattle.op_types.specs.declared.durable.Durable.{Durable}
-use Rattle.op_types.specs.declared.events.What.{What}
-use Rattle.op_types.specs.declared.events.What.TheVariants as what
-use Rattle.op_types.specs.declared.events.Event.{Event}
+use Rattle.op_runs.specs.declared.events.What.{What}
+use Rattle.op_runs.specs.declared.events.What.TheVariants as what
+use Rattle.op_runs.specs.declared.events.Event.{Event}
 use Rattle.op_types.specs.declared.events.Input.{Input}
 use Rattle.op_types.specs.declared.events.Input.TheVariants as input
 use Rattle.op_types.specs.declared.answers.Answer.{Answer}
 use Rattle.op_types.specs.declared.answers.Answer.TheVariants as answer
 use Rattle.op_types.specs.declared.answers.Outcome.{Outcome}
-use Rattle.op_types.specs.declared.summary.Line.{Line}
-use Rattle.op_types.specs.declared.summary.Line.TheVariants as line
+use Rattle.op_runs.specs.declared.summary.Line.{Line}
+use Rattle.op_runs.specs.declared.summary.Line.TheVariants as line
 use Rattle.op_spec.specs.Service.{Pairs, new_service, base_bytes}
 use Rattle.op_types.specs.declared.messages.Msg.{Msg}
 use Rattle.op_protocol.specs.State.{State, Planned, state_after}
@@ -59,28 +61,19 @@ pub record Happening : Type 0 where
 
 -- a member of configuration 1 that has stored nothing yet
 abbrev pub first_durable : List ℕ → Durable
-first_durable members =
-    record {
-      part = Some (record {
-        conf = 1;
-        members = members;
-        promised = no_ballot;
-        accepted = no_ballot;
-        base = base_bytes new_service;
-        trimmed = 0;
-        tail = record { items = []; room = 0 };
-        decided = 0;
-      });
-      closed = None;
-    }
+first_durable members = record empty_durable { part = Some (new_part 1 members (base_bytes new_service)) }
 
--- a member at its start
+-- a node at its start; a spare has no part
+abbrev pub durable_at_start : List ℕ → ℕ → Durable
+durable_at_start members pid = if is_member nat_eq members pid then first_durable members else empty_durable
+
+-- a node at its start, with all that it keeps
 abbrev pub first_node : List ℕ → ℕ → Node
 first_node members pid =
     record {
       pid = pid;
       state = record {
-        durable = first_durable members;
+        durable = durable_at_start members pid;
         volatile = first_volatile pid;
         service = new_service;
         waiting = [];
@@ -88,9 +81,14 @@ first_node members pid =
       status = Up;
     }
 
--- all members at their start
-abbrev pub first_world : List ℕ → World
-first_world members = record { nodes = map (first_node members) members; messages = []; lines = [] }
+-- all nodes, rising by id: the members of configuration 1, and the spares
+abbrev pub node_ids : List ℕ → List ℕ → List ℕ
+node_ids members spares = fold (insert_key nat_cmp) members spares
+
+-- all nodes at their start
+abbrev pub first_world : List ℕ → List ℕ → World
+first_world members spares =
+    record { nodes = map (first_node members) (node_ids members spares); messages = []; lines = [] }
 
 -- ---- events
 
@@ -119,7 +117,9 @@ delivery (Some m) = Some (record { pid = m.to; doing = Steps (input.Deliver m.fr
 -- what an event does, where these messages were sent
 abbrev pub deed_of : List Sent → What → Option Deed
 deed_of messages (what.Tick p) = Some (record { pid = p; doing = Steps input.Tick })
-deed_of messages (what.Command p c) = Some (record { pid = p; doing = Steps (input.Command c) })
+deed_of messages (what.Commands p cs) = Some (record { pid = p; doing = Steps (input.Commands cs) })
+deed_of messages (what.Stop p members) = Some (record { pid = p; doing = Steps (input.Stop members) })
+deed_of messages (what.Trim p) = Some (record { pid = p; doing = Steps input.TrimNow })
 deed_of messages (what.Deliver i) = delivery (slice_get messages i)
 deed_of messages (what.Up p q) = Some (record { pid = p; doing = Steps (input.Up q) })
 deed_of messages (what.Down p q) = Some (record { pid = p; doing = Steps (input.Down q) })
@@ -201,7 +201,7 @@ abbrev pub world_opening : Fate → World → Node → Durable → World
 world_opening Done w n found =
     record {
       nodes = with_node w.nodes (record n { state = state_after_restart n.pid found; status = Up });
-      messages = w.messages ++ sent_by n.pid (sends_after_restart n.pid found.part);
+      messages = w.messages ++ sent_by n.pid (sends_after_restart n.pid found);
       lines = w.lines;
     }
 world_opening Stopped w n found = w

@@ -1,0 +1,71 @@
+-- A node that is a majority alone answers the clients of what comes, and that it doesn't refuse, by the happening itself.
+use Rattle.std.proofs.Common.{◌≡◌, ◌≤◌, ℕ, map, List, [], ◌∷◌, ◌++◌, Option, Some, None, refl, sym, ap, ◌∙◌, subst, arith}
+use Rattle.op_types.specs.Changes.{len_of}
+use Rattle.op_types.specs.RoleStates.{Leading}
+use Rattle.op_types.specs.Roles as role
+use Rattle.op_types.specs.declared.answers.Outcome.TheVariants as outcome
+use Rattle.op_types.specs.declared.answers.Reply.{Reply}
+use Rattle.op_types.specs.declared.durable.Part.{Part}
+use Rattle.op_types.specs.declared.log.Command.{Command}
+use Rattle.op_runs.specs.declared.summary.Line.{Line}
+use Rattle.op_runs.specs.declared.summary.Line.TheVariants as line
+use Rattle.op_spec.specs.Machine.{Machine}
+use Rattle.op_spec.specs.Service.{Service, service_of}
+use Rattle.op_spec.specs.Stands.{prefix_of, PartStands, IfPartStands}
+use Rattle.op_runs.specs.World.{World, Node, Happening, node_at, first_world, run_of}
+use Rattle.op_runs.specs.Run.{Execution, first_execution, execution_with, execution_of, ServesDecided}
+use Rattle.op_configurations.specs.Servers.{Part as Member}
+use Rattle.op_configurations.specs.Worlds as worlds
+use Rattle.op_refinement.proofs.Relation.{IfPartRel}
+use Rattle.op_refinement.proofs.Worlds.{lists_of, state_of}
+use Rattle.op_refinement.proofs.Beside.{NodeRel, IsBeside}
+use Rattle.op_refinement.proofs.NodeLists.{IfThere, found}
+use Rattle.op_refinement.proofs.Runs.{Track, node_stands, node_serves}
+use Rattle.op_refinement.proofs.EveryRun.{every_track}
+use Rattle.op_laws.specs.Alone.{TakesAlone, reply_lines, LeadersAnswerAlone}
+use Rattle.op_laws.proofs.Reached.{world_of_run}
+use Rattle.op_laws.proofs.ReplyLines.{line_of, told_alone}
+use Rattle.op_laws.proofs.WaitingOnce.{Rises, IfRises, always_rises}
+use Rattle.op_laws.proofs.WholeLogs.{log_is_decided, decided_within}
+use Rattle.op_laws.proofs.AloneSteps as step
+use Rattle.op_laws.proofs.SoleLeads.{sole_leads}
+
+module _ (first : List ℕ) (ks : List worlds.Happening) (t : Execution) (b : IsBeside first ks t) (h : Happening) (commands : List Command) (x : TakesAlone t h commands) (lead : Leading) (leads : x.node.state.volatile.role ≡ role.Leading lead) where
+  rel : NodeRel first ks t.world.messages x.node
+  rel = (subst (λ (o : Option Node). IfThere (NodeRel first ks t.world.messages) x.node.pid o) x.is (found (NodeRel first ks t.world.messages) t.world.nodes b.nodes x.node.pid)).1
+
+  -- all of its log is decided before
+  pub whole : x.part.decided ≡ len_of x.part
+  whole = by (state_of first ks x.node.pid).part refl (subst (λ (o : Option Part). IfPartRel (lists_of first ks) o x.node.state.volatile.role (state_of first ks x.node.pid).part) x.has (rel.rel).part)
+    where
+      by : (o : Option Member) → (state_of first ks x.node.pid).part ≡ o → IfPartRel (lists_of first ks) (Some x.part) x.node.state.volatile.role o → x.part.decided ≡ len_of x.part
+      by None has r = absurd r
+      by (Some pt) has r =
+          let stood : PartStands first (lists_of first ks) x.part = subst (IfPartStands first (lists_of first ks)) x.has (node_stands first ks t.world.messages x.node rel).part in
+          let all : len_of x.part ≤ x.part.decided = log_is_decided first ks x.node.pid pt has x.part x.node.state.volatile.role r lead leads x.majority in
+          omega (arith, all, decided_within first (lists_of first ks) x.part stood)
+
+  -- and its service has applied what stands before in the lists
+  serves : x.node.state.service ≡ service_of (prefix_of t.machine.lists x.part.conf (len_of x.part))
+  serves =
+      let served : x.node.state.service ≡ service_of (prefix_of (lists_of first ks) x.part.conf x.part.decided) = subst (λ (o : Option Part). ServesDecided (lists_of first ks) o x.node.state.service) x.has (node_serves first ks t.world.messages x.node rel) in
+      served ∙ ap (λ (k : ℕ). service_of (prefix_of (lists_of first ks) x.part.conf k)) whole ∙ ap (λ (m : Machine). service_of (prefix_of m.lists x.part.conf (len_of x.part))) (sym b.machine)
+
+  answers_at : Rises x.node.state.waiting
+      → (execution_with t h).world.lines
+      ≡ t.world.lines ++ line.Answer h.event.line (outcome.Appended x.part.conf (len_of x.part)) ∷ reply_lines x.node.pid (service_of (prefix_of t.machine.lists x.part.conf (len_of x.part))) [] commands
+  answers_at rises =
+      let n : Node = x.node in
+      let ls = told_alone n.pid n.state.service (prefix_of t.machine.lists x.part.conf (len_of x.part)) n.state.waiting commands serves rises in
+      step.lines_are t h commands x lead leads whole
+      ∙ ap (λ (ls : List Line). t.world.lines ++ line.Answer h.event.line (outcome.Appended x.part.conf (len_of x.part)) ∷ ls)
+      (ap (λ (rs : List Reply). map (line_of n.pid) rs) (step.replies_are t h commands x lead leads whole) ∙ ls ∙ ap (λ (s : Service). reply_lines n.pid s [] commands) serves)
+
+-- so it is after every run
+pub leaders_answer_alone : LeadersAnswerAlone
+leaders_answer_alone members spares early h range commands x =
+    let t : Execution = execution_of (first_execution members spares) early in
+    let r : Track members t (h ∷ []) = every_track members spares range.first range.others early (h ∷ []) range.happenings in
+    let at : node_at (run_of (first_world members spares) early).nodes x.node.pid ≡ Some x.node = ap (λ (w : World). node_at w.nodes x.node.pid) (sym (world_of_run (first_execution members spares) early)) ∙ x.is in
+    let led = sole_leads members spares early h range commands x in
+    answers_at members (r.ks 0) t (r.beside 0) h commands x led.0 led.1 (subst IfRises at (always_rises x.node.pid members spares early))

@@ -1,0 +1,121 @@
+-- Each step of a node is the step of the server.
+use Rattle.std.proofs.Common.{◌≡◌, ℕ, Bool, true, false, not, ◌&&◌, eqb, List, [], ◌∷◌, Option, Some, None, refl, sym, ap, ◌∙◌}
+use Rattle.std.proofs.lemmas.Bool.{eqb-true, eqb-false}
+use Rattle.op_types.specs.declared.durable.Part.{Part as StoredPart}
+use Rattle.op_types.specs.declared.durable.Joining.{Joining as StoredJoining}
+use Rattle.op_types.specs.declared.events.Input.{Input}
+use Rattle.op_types.specs.declared.events.Input.TheVariants as input
+use Rattle.op_types.specs.declared.log.Entry.{Entry}
+use Rattle.op_types.specs.declared.log.Entry.TheVariants as entry
+use Rattle.op_types.specs.declared.messages.Msg.{Msg}
+use Rattle.op_types.specs.declared.messages.Body.{Body}
+use Rattle.op_types.specs.declared.messages.Body.TheVariants as body
+use Rattle.op_protocol.specs.State as table
+use Rattle.op_protocol.specs.Parts.{is_admitted_body}
+use Rattle.op_protocol.specs.Configurations.{latest_of, latest_in as stored_latest_in}
+use Rattle.op_protocol.specs.Rows.{refusal_of, stop_for, entries_of, step_plan, waiting_at}
+use Rattle.op_configurations.specs.Servers as server
+use Rattle.op_configurations.specs.Servers.{Part, Closed, Joining, State, Letter, Fate, Stepped}
+use Rattle.op_configurations.specs.Laws.{StateStands}
+use Rattle.op_configurations.specs.Stored.{HoldsIfJoining}
+use Rattle.op_refinement.proofs.Pure as pure
+use Rattle.op_refinement.proofs.View.{view_body}
+use Rattle.op_refinement.proofs.PartRows.{commands_end}
+use Rattle.op_refinement.proofs.Relation.{PartRel, all_before, IfPartRel, StepRel}
+use Rattle.op_refinement.proofs.Inputs.{NodeFacts, WholeAfter, is_past, event_of, step_by}
+use Rattle.op_refinement.proofs.Steps.{IfComes, AllRead, StepsGo}
+use Rattle.op_refinement.proofs.Cases.{trim_now_rel, down_rel, proposal_rel, up_rel}
+use Rattle.op_refinement.proofs.Ticks.{tick_rel}
+use Rattle.op_refinement.proofs.Delivers.{inner_rel}
+use Rattle.op_refinement.proofs.Joining.{joins_rel}
+use Rattle.op_refinement.proofs.Elsewhere.{elsewhere_rel}
+use Rattle.op_refinement.proofs.WhileJoining.{while_joining}
+
+none_some : {A : Type 0} (a : A) → None ≡ Some a → ⊥
+none_some a e = cc
+
+-- what has no counterpart in a run is never past the limits
+admitted : (p : StoredPart) (b : Body) → view_body b ≡ None → is_admitted_body p b ≡ true
+admitted p (body.Prepare z na nl nd) e = absurd (none_some _ (sym e))
+admitted p (body.Promise z fa fl fd a es) e = absurd (none_some _ (sym e))
+admitted p (body.AcceptSync z g es) e = absurd (none_some _ (sym e))
+admitted p (body.Accept z a es) e = absurd (none_some _ (sym e))
+admitted p (body.Accepted z g) e = absurd (none_some _ (sym e))
+admitted p (body.Decide z g) e = absurd (none_some _ (sym e))
+admitted p body.PrepareReq e = absurd (none_some _ (sym e))
+admitted p (body.Refuse z g) e = absurd (none_some _ (sym e))
+admitted p (body.Forward g) e = absurd (none_some _ (sym e))
+admitted p (body.Forwards g) e = absurd (none_some _ (sym e))
+admitted p (body.TrimAsk z) e = absurd (none_some _ (sym e))
+admitted p (body.Progress z g) e = absurd (none_some _ (sym e))
+admitted p (body.Trim g) e = absurd (none_some _ (sym e))
+admitted p (body.HeartbeatRequest r) e = refl
+admitted p (body.HeartbeatReply r z g) e = refl
+admitted p (body.NextConf members olds len trimmed) e = refl
+admitted p body.AskBase e = refl
+admitted p (body.BasePart at bytes) e = refl
+admitted p (body.AskSegment from to) e = refl
+admitted p (body.Segment at es) e = refl
+
+module _ (first : List ℕ) (lists : ℕ → List Entry) (soup : List Letter) (me : ℕ) (f : Fate) (s : table.State) (st : State) (n : ℕ) (m : Letter)
+    (old : ℕ → List Entry) (k : NodeFacts lists soup me s st) (read : AllRead lists) (before : StateStands first old st) where
+  -- the closed list is whole in the lists after the step
+  whole : (o : Stepped) → StateStands first lists o.state → WholeAfter lists o
+  whole o a c e = (a.closed c e).entries
+
+  -- what a delivery has to show
+  abbrev Delivered : ℕ → Msg → Type 0
+  Delivered q msg = StepRel lists me f s.durable (step_plan me s (input.Deliver q msg)) (step_by f me st (event_of me s n m (input.Deliver q msg)))
+
+  deliver_rel : (q : ℕ) (msg : Msg) → IfComes first old lists soup me n m (input.Deliver q msg) → StateStands first lists (step_by f me st (event_of me s n m (input.Deliver q msg))).state
+      → StepRel lists me f s.durable (step_plan me s (input.Deliver q msg)) (step_by f me st (event_of me s n m (input.Deliver q msg)))
+  deliver_rel q msg comes a = joins s.durable.joining refl st.joining refl (k.rel).joining
+    where
+      and_false : (b : Bool) → (b && false) ≡ false
+      and_false true = refl
+      and_false false = refl
+
+      other : s.durable.joining ≡ None → st.joining ≡ None → is_past s.durable.part s.durable.joining msg ≡ false
+          → ((x : pure.Msg) → view_body msg.body ≡ Some x → msg.conf ≡ latest_of s.durable → s.durable.part ≡ None) → Delivered q msg
+      other hj tj past plain =
+          elsewhere_rel lists soup me f s st k q msg n m comes.1 hj tj (λ c e. (before.closed c e).trimmed)
+          (joins_rel lists soup me f s st k q hj tj (λ c e. (before.closed c e).trimmed) n msg.conf) plain past (whole (step_by f me st (event_of me s n m (input.Deliver q msg))) a)
+
+      at_body : (p : StoredPart) (pt : Part) → s.durable.part ≡ Some p → st.part ≡ Some pt → PartRel (all_before lists pt.conf) p s.volatile.role pt → s.durable.joining ≡ None → st.joining ≡ None → msg.conf ≡ p.conf
+          → (o : Option pure.Msg) → view_body msg.body ≡ o → Delivered q msg
+      at_body p pt hs ht r hj tj here None e = other hj tj
+          (ap (λ (o : Option StoredPart). is_past o s.durable.joining msg) hs ∙ ap (λ (o : Option StoredJoining). is_past (Some p) o msg) hj ∙ ap (λ (b : Bool). eqb msg.conf p.conf && not b) (admitted p msg.body e) ∙ and_false (eqb msg.conf p.conf))
+          (λ x i l. absurd (none_some x (sym e ∙ i)))
+      at_body p pt hs ht r hj tj here (Some y) e = inner_rel lists soup me f s st k q msg n m comes.0 comes.1 p pt hs ht r hj tj here y e (whole (step_by f me st (event_of me s n m (input.Deliver q msg))) a)
+
+      at_conf : (p : StoredPart) (pt : Part) → s.durable.part ≡ Some p → st.part ≡ Some pt → PartRel (all_before lists pt.conf) p s.volatile.role pt → s.durable.joining ≡ None → st.joining ≡ None → (b : Bool) → eqb msg.conf p.conf ≡ b → Delivered q msg
+      at_conf p pt hs ht r hj tj true e = at_body p pt hs ht r hj tj (eqb-true msg.conf p.conf e) (view_body msg.body) refl
+      at_conf p pt hs ht r hj tj false e = other hj tj
+          (ap (λ (o : Option StoredPart). is_past o s.durable.joining msg) hs ∙ ap (λ (o : Option StoredJoining). is_past (Some p) o msg) hj ∙ ap (λ (b : Bool). b && not (is_admitted_body p msg.body)) e)
+          (λ x i l. absurd (eqb-false msg.conf p.conf e (l ∙ ap (λ (o : Option StoredPart). stored_latest_in o s.durable.closed) hs)))
+
+      parts : s.durable.joining ≡ None → st.joining ≡ None → (d : Option StoredPart) → s.durable.part ≡ d → (o : Option Part) → st.part ≡ o → IfPartRel lists d s.volatile.role o → Delivered q msg
+      parts hj tj None hs o ht r = other hj tj (ap (λ (o : Option StoredPart). is_past o s.durable.joining msg) hs) (λ x i l. hs)
+      parts hj tj (Some p) hs None ht r = absurd r
+      parts hj tj (Some p) hs (Some pt) ht r = at_conf p pt hs ht r hj tj (eqb msg.conf p.conf) refl
+
+      joins : (d : Option StoredJoining) → s.durable.joining ≡ d → (j : Option Joining) → st.joining ≡ j → HoldsIfJoining lists d j → Delivered q msg
+      joins (Some d) hj None tj y = absurd y
+      joins (Some d) hj (Some j) tj y = while_joining first lists soup me f s st k read old before q msg n m comes.1 comes.2 d hj j tj y a
+      joins None hj (Some j) tj y = absurd y
+      joins None hj None tj y = parts hj tj s.durable.part refl st.part refl (k.rel).part
+
+  step_rel : (x : Input) → IfComes first old lists soup me n m x → StateStands first lists (step_by f me st (event_of me s n m x)).state
+      → StepRel lists me f s.durable (step_plan me s x) (step_by f me st (event_of me s n m x))
+  unfolding server.step
+  step_rel input.Tick c a = tick_rel lists soup me f s st k (whole (step_by f me st (event_of me s n m input.Tick)) a)
+  step_rel (input.Deliver q msg) c a = deliver_rel q msg c a
+  step_rel (input.Commands cs) c a = proposal_rel lists soup me f s st k (entries_of cs) (commands_end cs) (waiting_at me s (input.Commands cs)) (refusal_of me s.volatile.role s.durable (entries_of cs)) refl (whole (step_by f me st (event_of me s n m (input.Commands cs))) a)
+  step_rel (input.Stop members) c a = proposal_rel lists soup me f s st k (entry.Stop (stop_for s.durable.part members) ∷ []) refl s.waiting (refusal_of me s.volatile.role s.durable (entry.Stop (stop_for s.durable.part members) ∷ [])) refl (whole (step_by f me st (event_of me s n m (input.Stop members))) a)
+  step_rel input.TrimNow c a = trim_now_rel lists soup me f s st k (whole (step_by f me st (event_of me s n m input.TrimNow)) a)
+  step_rel (input.Up q) c a = up_rel lists soup me f s st k q (whole (step_by f me st (event_of me s n m (input.Up q))) a)
+  step_rel (input.Down q) c a = down_rel lists soup me f s st k q (whole (step_by f me st (event_of me s n m (input.Down q))) a)
+
+-- each step of a node is the step of the server
+pub steps_go : StepsGo
+steps_go first lists soup me f s st x n m old k read before comes after = step_rel first lists soup me f s st n m old k read before x comes after
