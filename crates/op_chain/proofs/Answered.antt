@@ -1,20 +1,24 @@
 -- Those that wait are answered as the step table says.
-use Rattle.std.proofs.Common.{◌≡◌, ℕ, ◌≤◌, ◌+◌, inl, inr, ◌∷◌, ◌++◌, List, [], length, refl, ap, Bool, false, arith}
-use Rattle.std.specs.Prelude.{fold}
+use Rattle.std.proofs.Common.{◌≡◌, ℕ, ◌≤◌, ◌+◌, inl, inr, ◌∷◌, ◌++◌, List, [], length, refl, ap, ◌∙◌, Bool, true, false, arith}
+use Rattle.std.specs.Prelude.{Option, None, Result, Ok, Err, IfOk, fold}
 use Rattle.std.specs.List.{list_any}
 use Rattle.std.specs.Set.{remove_key}
 use Rattle.std.proofs.lemmas.Bool.{cases_Bool}
 use Rattle.std.proofs.lemmas.List.{length-append}
-use Rattle.op_types.specs.Roomed.{Roomed}
+use Rattle.op_types.specs.Stops.{stop_of, stop_at_end}
 use Rattle.op_types.specs.declared.answers.Answer.{Answer}
 use Rattle.op_types.specs.declared.answers.Reply.{Reply}
+use Rattle.op_types.specs.declared.log.Command.{Command}
 use Rattle.op_types.specs.declared.log.Entry.{Entry}
-use Rattle.op_spec.specs.Service.{Service, all_after}
+use Rattle.op_types.specs.declared.log.Entry.TheVariants as entry
+use Rattle.op_types.specs.declared.log.StopSign.{StopSign}
+use Rattle.op_spec.specs.Service.{Service, service_with, all_after}
 use Rattle.op_protocol.specs.State.{Waiting}
-use Rattle.op_protocol.specs.Serving.{Dropping, serving_entry, dropping_reply, is_of_stop, waits, without_waiting}
-use Rattle.op_kv.specs.Over.{answers_of}
-use Rattle.op_waiting.specs.Waiting.{WaitingSet}
-use Rattle.op_chain.specs.Answering.{served_of}
+use Rattle.op_protocol.specs.Serving.{Served, Dropping, serving_command, serving_entry, reply_of, dropping_reply, is_of_stop, waits, without_waiting}
+use Rattle.op_kv.specs.Over.{Written, service_over, answers_of}
+use Rattle.op_chain.specs.Answering.{replies_to, proposers_of, replies_in, giving_reply, stop_after, ServesNothing, Continues, IsServedBy, IsServed}
+use Rattle.op_chain.specs.declared.served.Served as own
+use Rattle.op_chain.specs.declared.service_plan.ServicePlan.{ServicePlan}
 
 -- ---- who doesn't wait
 
@@ -31,11 +35,56 @@ others_are_all ws client seq none = none_removed _ ws none
 
 -- ---- decided commands
 
--- what a run over entries keeps: the rest of them, served from here, gives what all give from the start
-pub record IsServing (s t : Service) (w v : WaitingSet) (rs qs : Roomed Reply) (answers : List Answer) (entries rest : List Entry) : Type 0 where
-  pub answers_are : answers ≡ answers_of t rest
-  pub after : all_after t rest ≡ all_after s entries
-  pub served : fold serving_entry (served_of t v qs) rest ≡ fold serving_entry (served_of s w rs) entries
+-- the service, and what those that wait were given
+abbrev pub served_with : Service → Dropping → Served
+served_with s d = record { service = s; waiting = d.waiting; replies = d.replies }
+
+one_by : (s : Service) (d : Dropping) (c : Command) (b : Bool) → waits d.waiting c.client c.seq ≡ b → serving_command (served_with s d) c ≡ served_with (service_with s c) (giving_reply d (reply_of s c))
+one_by s d c true is = rw is refl
+one_by s d c false is = rw is (ap (λ (ws : Waiting). let t : Served = record { service = service_with s c; waiting = ws; replies = d.replies } in t) (others_are_all d.waiting c.client c.seq is))
+
+-- serving entries gives the replies to their commands to those that wait
+pub served_all : (es : List Entry) (s : Service) (d : Dropping) → fold serving_entry (served_with s d) es ≡ served_with (all_after s es) (fold giving_reply d (replies_to s es))
+served_all [] s d = refl
+served_all (entry.Command c ∷ es) s d =
+    ap (λ (t : Served). fold serving_entry t es) (one_by s d c (waits d.waiting c.client c.seq) refl) ∙ served_all es (service_with s c) (giving_reply d (reply_of s c))
+served_all (entry.Stop stop ∷ es) s d = served_all es s d
+
+-- the answers, each to its proposer
+pub replies_are : (es : List Entry) (s : Service) → replies_in (proposers_of es) (answers_of s es) ≡ replies_to s es
+replies_are [] s = refl
+replies_are (entry.Command c ∷ es) s = ap (λ (rs : List Reply). reply_of s c ∷ rs) (replies_are es (service_with s c))
+replies_are (entry.Stop stop ∷ es) s = replies_are es s
+
+-- ---- what a plan comes to
+
+ends_after : (o : Option StopSign) (e : Entry) (es : List Entry) → stop_after o (e ∷ es) ≡ stop_at_end (e ∷ es)
+ends_after o e [] = refl
+ends_after o e (f ∷ es) = ends_after (stop_of e) f es
+
+-- the stop-sign that ends entries, after none
+ends_as : (es : List Entry) → stop_after None es ≡ stop_at_end es
+ends_as [] = refl
+ends_as (e ∷ es) = ends_after None e es
+
+-- a plan that serves these entries and no others
+pub served_is : (s : Service) (a b : ServicePlan) (es : List Entry) (x : own.Served) → ServesNothing s a → Continues s a b es → IsServedBy b x → IsServed s es x
+served_is s a b es x none more by =
+    record {
+      change = ap (λ (w : Written). service_over s w) by.change ∙ more.change ∙ ap (λ (t : Service). all_after t es) none.change;
+      replies =
+          by.replies
+          ∙ ap (λ (ps : List (ℕ × ℕ)). replies_in ps b.answers) (more.proposers ∙ ap (λ (ps : List (ℕ × ℕ)). ps ++ proposers_of es) none.proposers)
+          ∙ ap (λ (given : List Answer). replies_in (proposers_of es) given)
+          (more.answers ∙ ap (λ (given : List Answer). given ++ answers_of (service_over s a.change) es) none.answers ∙ ap (λ (t : Service). answers_of t es) none.change)
+          ∙ replies_are es s;
+      stop = by.stop ∙ more.stop ∙ ap (λ (o : Option StopSign). stop_after o es) none.stop ∙ ends_as es;
+    }
+
+pub ok_served : {E : Type 0} (r : Result own.Served E) (s : Service) (a b : ServicePlan) (es : List Entry) → ServesNothing s a → Continues s a b es
+    → IfOk r (IsServedBy b) → IfOk r (IsServed s es)
+ok_served (Ok x) s a b es none more by = served_is s a b es x none more by
+ok_served (Err e) s a b es none more by = tt
 
 -- ---- what is given up
 

@@ -1,22 +1,23 @@
 -- The log that a batch leaves, change by change.
-use Rattle.std.proofs.Common.{◌≡◌, ℕ, ◌⊎◌, inl, inr, ◌+◌, ◌-◌, ◌<◌, ◌≤◌, ◌∷◌, ◌++◌, List, [], length, take, get_or, refl, sym, ap, subst, ◌∙◌, append_assoc, arith}
-use Rattle.std.specs.Prelude.{Result, Ok, Err, OnOk, IfOk}
+use Rattle.std.proofs.Common.{◌≡◌, ℕ, ◌+◌, ◌-◌, ◌<◌, ◌≤◌, ◌∷◌, ◌++◌, List, [], length, take, get_or, refl, sym, ap, subst, ◌∙◌, append_assoc, arith}
+use Rattle.std.specs.Prelude.{Option, Result, Ok, Err, OnOk, IfOk}
 use Rattle.std.proofs.lemmas.List.{take_more, take_all}
 use Rattle.std.proofs.lemmas.List.Sums.{fold-append}
 use Rattle.op_types.specs.Changes.{part_with}
 use Rattle.op_types.specs.declared.answers.Answer.{Answer}
-use Rattle.op_types.specs.declared.ballot.Ballot.{Ballot}
 use Rattle.op_types.specs.declared.changes.Change.{Change}
 use Rattle.op_types.specs.declared.changes.Change.TheVariants as change
 use Rattle.op_types.specs.declared.durable.Part.{Part}
 use Rattle.op_types.specs.declared.log.Entry.{Entry}
 use Rattle.op_types.specs.declared.log.Entry.TheVariants as entry
+use Rattle.op_types.specs.declared.log.StopSign.{StopSign}
+use Rattle.op_types.specs.Stops.{stop_of}
 use Rattle.op_spec.specs.Service.{Service, service_after, service_with, answer_of, all_after}
 use Rattle.op_protocol.specs.Parts.{part_after}
-use Rattle.op_kv.specs.Over.{service_over, answers_of}
-use Rattle.op_chain.specs.Answering.{Continues}
-use Rattle.op_chain.specs.declared.service_plan.ServicePlan.{ServicePlan}
 use Rattle.op_instance.proofs.Batches.{after_both}
+use Rattle.op_kv.specs.Over.{service_over, answers_of}
+use Rattle.op_chain.specs.Answering.{Continues, proposers_of, stop_after}
+use Rattle.op_chain.specs.declared.service_plan.ServicePlan.{ServicePlan}
 
 -- ---- one more change
 
@@ -32,18 +33,17 @@ none_decided p (change.Accept n) none = refl
 none_decided p (change.CutTo n) none = refl
 none_decided p (change.Append es) none = refl
 none_decided p (change.Decided x) none = absurd (none x refl)
+none_decided p (change.Trim x base) none = refl
+none_decided p _ none = refl
 
-trimmed_with : (p : Part) (c : Change) → (part_with p c).trimmed ≡ p.trimmed
-trimmed_with p (change.Promise n) = refl
-trimmed_with p (change.Accept n) = refl
-trimmed_with p (change.CutTo n) = refl
-trimmed_with p (change.Append es) = refl
-trimmed_with p (change.Decided x) = refl
-
--- nothing is trimmed by a batch
-pub trimmed_after : (p : Part) (batch : List Change) → (part_after p batch).trimmed ≡ p.trimmed
-trimmed_after p [] = refl
-trimmed_after p (c ∷ batch) = trimmed_after (part_with p c) batch ∙ trimmed_with p c
+pub none_trimmed : (p : Part) (c : Change) → ((x : ℕ) (base : List ℕ) → c ≡ change.Trim x base → ⊥) → (part_with p c).trimmed ≡ p.trimmed
+none_trimmed p (change.Promise n) none = refl
+none_trimmed p (change.Accept n) none = refl
+none_trimmed p (change.CutTo n) none = refl
+none_trimmed p (change.Append es) none = refl
+none_trimmed p (change.Decided x) none = refl
+none_trimmed p (change.Trim x base) none = absurd (none x base refl)
+none_trimmed p _ none = refl
 
 -- ---- the log
 
@@ -59,16 +59,20 @@ last_change p batch c some at =
     let past : length batch ≤ i + 1 = omega arith in
     sym (ap (λ (b : List Change). part_after p b) (take_all (i + 1) batch past)) ∙ one_more p batch i c inside at
 
-pub log_cut : (p : Part) (before : List Change) (n : ℕ) → (part_with (part_after p before) (change.CutTo n)).tail.items ≡ take (n - p.trimmed) (log_after p before)
-log_cut p before n = ap (λ (k : ℕ). take (n - k) (log_after p before)) (trimmed_after p before)
+pub last_log : (p : Part) (batch : List Change) (c : Change) → 1 ≤ length batch → c ≡ get_or batch (length batch - 1) c
+    → log_after p batch ≡ (part_with (part_after p (take (length batch - 1) batch)) c).tail.items
+last_log p batch c some at = ap (λ (q : Part). q.tail.items) (last_change p batch c some at)
 
--- the other changes leave the log
-pub log_stays : (q : Part) (c : Change) → ((b : Ballot) × (c ≡ change.Promise b)) ⊎ (((b : Ballot) × (c ≡ change.Accept b)) ⊎ ((x : ℕ) × (c ≡ change.Decided x))) → (part_with q c).tail.items ≡ q.tail.items
-log_stays q c is = elim is [
-  | inl h ↦ ap (λ (d : Change). (part_with q d).tail.items) h.1
-  | inr (inl h) ↦ ap (λ (d : Change). (part_with q d).tail.items) h.1
-  | inr (inr h) ↦ ap (λ (d : Change). (part_with q d).tail.items) h.1
-]
+-- changes that don't cut, add or trim leave the log
+pub log_stays : (q : Part) (c : Change) → ((n : ℕ) → c ≡ change.CutTo n → ⊥) → ((es : List Entry) → c ≡ change.Append es → ⊥)
+    → ((x : ℕ) (base : List ℕ) → c ≡ change.Trim x base → ⊥) → (part_with q c).tail.items ≡ q.tail.items
+log_stays q (change.Promise n) cut add trim = refl
+log_stays q (change.Accept n) cut add trim = refl
+log_stays q (change.CutTo n) cut add trim = absurd (cut n refl)
+log_stays q (change.Append es) cut add trim = absurd (add es refl)
+log_stays q (change.Decided x) cut add trim = refl
+log_stays q (change.Trim x base) cut add trim = absurd (trim x base refl)
+log_stays q _ cut add trim = refl
 
 -- ---- serving
 
@@ -76,6 +80,25 @@ answers_of-append : (s : Service) (xs ys : List Entry) → answers_of s (xs ++ y
 answers_of-append s [] ys = refl
 answers_of-append s (entry.Command c ∷ xs) ys = ap (λ (rest : List Answer). answer_of s c ∷ rest) (answers_of-append (service_with s c) xs ys)
 answers_of-append s (entry.Stop stop ∷ xs) ys = answers_of-append s xs ys
+
+proposers_of-append : (xs ys : List Entry) → proposers_of (xs ++ ys) ≡ proposers_of xs ++ proposers_of ys
+proposers_of-append [] ys = refl
+proposers_of-append (entry.Command c ∷ xs) ys = ap (λ (rest : List (ℕ × ℕ)). (c.client, c.seq) ∷ rest) (proposers_of-append xs ys)
+proposers_of-append (entry.Stop stop ∷ xs) ys = proposers_of-append xs ys
+
+stop_after-append : (o : Option StopSign) (xs ys : List Entry) → stop_after o (xs ++ ys) ≡ stop_after (stop_after o xs) ys
+stop_after-append o [] ys = refl
+stop_after-append o (e ∷ xs) ys = stop_after-append (stop_of e) xs ys
+
+-- one more entry that is served
+pub more_proposers : (es : List Entry) (i : ℕ) (e : Entry) → i < length es → e ≡ get_or es i e → proposers_of (take (i + 1) es) ≡ proposers_of (take i es) ++ proposers_of (e ∷ [])
+more_proposers es i e inside at =
+    ap proposers_of (take_more es i e inside) ∙ proposers_of-append (take i es) (get_or es i e ∷ [])
+    ∙ ap (λ (d : Entry). proposers_of (take i es) ++ proposers_of (d ∷ [])) (sym at)
+
+pub more_stop : (o : Option StopSign) (es : List Entry) (i : ℕ) (e : Entry) → i < length es → e ≡ get_or es i e → stop_after o (take (i + 1) es) ≡ stop_of e
+more_stop o es i e inside at =
+    ap (stop_after o) (take_more es i e inside) ∙ stop_after-append o (take i es) (get_or es i e ∷ []) ∙ ap stop_of (sym at)
 
 -- entries served after others
 pub continued : (s : Service) (a b c : ServicePlan) (xs ys : List Entry) → Continues s a b xs → Continues s b c ys → Continues s a c (xs ++ ys)
@@ -85,7 +108,12 @@ continued s a b c xs ys f g =
           g.answers ∙ ap (λ (t : Service). b.answers ++ answers_of t ys) f.change ∙ ap (λ (first : List Answer). first ++ answers_of (all_after (service_over s a.change) xs) ys) f.answers
           ∙ append_assoc a.answers (answers_of (service_over s a.change) xs) (answers_of (all_after (service_over s a.change) xs) ys)
           ∙ ap (λ (rest : List Answer). a.answers ++ rest) (sym (answers_of-append (service_over s a.change) xs ys));
+      proposers =
+          g.proposers ∙ ap (λ (first : List (ℕ × ℕ)). first ++ proposers_of ys) f.proposers
+          ∙ append_assoc a.proposers.items (proposers_of xs) (proposers_of ys)
+          ∙ ap (λ (rest : List (ℕ × ℕ)). a.proposers.items ++ rest) (sym (proposers_of-append xs ys));
       change = g.change ∙ ap (λ (t : Service). all_after t ys) f.change ∙ sym (fold-append service_after (service_over s a.change) xs ys);
+      stop = g.stop ∙ ap (λ (o : Option StopSign). stop_after o ys) f.stop ∙ sym (stop_after-append a.stop xs ys);
     }
 
 -- the same, where it succeeds

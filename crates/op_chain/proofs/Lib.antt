@@ -1,6 +1,17 @@
+pub mod Adopted
 pub mod Answered
+pub mod Based
+pub mod Bases
+pub mod Closes
+pub mod Coming
 pub mod Decided
+pub mod Inputs
+pub mod Joined
+pub mod Leaves
+pub mod News
 pub mod Opened
+pub mod Prepared
+pub mod Ready
 pub mod Rooms
 pub mod Slices
 pub mod Steps

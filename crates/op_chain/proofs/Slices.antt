@@ -1,7 +1,7 @@
 -- Slices of lists between two bounds.
 use Rattle.std.proofs.Common.{◌≡◌, ℕ, zero, suc, ◌+◌, ◌-◌, List, [], ◌∷◌, ◌++◌, length, take, drop, refl, sym, ap, ◌∙◌, arith}
 use Rattle.std.specs.Prelude.{min}
-use Rattle.std.proofs.lemmas.List.{drop-take, take_min, drop_min, length-take}
+use Rattle.std.proofs.lemmas.List.{drop-take, drop-drop, take_min, drop_min, length-take}
 
 -- a slice between two bounds that are cut to what is there
 pub cut_slice : {A : Type 0} (a b : ℕ) (xs : List A) → (let e = min b (length xs) in let s = min a e in take (e - s) (drop s xs) ≡ drop a (take b xs))
@@ -68,3 +68,10 @@ slice_joined {A = A} (suc a) (suc b) (x ∷ xs) ys =
     slice_joined a b xs ys
     ∙ ap (λ (n : ℕ). drop a (take b xs) ++ drop n (take (b - length xs) ys)) (sym (less a (length xs)))
     ∙ ap (λ (n : ℕ). drop a (take b xs) ++ drop (suc a - suc (length xs)) (take n ys)) (sym (less b (length xs)))
+
+-- a slice of what is left, in the whole list
+pub slice_behind : {A : Type 0} (s e k : ℕ) (xs : List A) → drop s (take e (drop k xs)) ≡ drop (s + k) (take (e + k) xs)
+slice_behind s e k xs =
+    let start : k + s ≡ s + k = omega arith in
+    let end : k + e ≡ e + k = omega arith in
+    ap (λ ys. drop s ys) (sym (drop-take k e xs)) ∙ drop-drop s k (take (k + e) xs) ∙ ap (λ n. drop n (take (k + e) xs)) start ∙ ap (λ n. drop (s + k) (take n xs)) end

@@ -1,214 +1,277 @@
--- A step of a chain, planned and adopted.
-use Rattle.std.proofs.Common.{◌≡◌, ℕ, ◌≤◌, ◌∷◌, List, [], Option, Some, None, refl, sym, ap, subst, ◌∙◌, length}
-use Rattle.std.specs.Prelude.{fold}
-use Rattle.op_types.specs.Changes.{Applies, durable_after}
-use Rattle.op_types.specs.Rooms.{needed, room_of, with_room}
-use Rattle.op_types.specs.Roles.{Role, role_of}
-use Rattle.op_types.proofs.Adoption.{room_serves}
+-- What adopting a plan makes is what the step table plans.
+use Rattle.std.proofs.Common.{◌≡◌, ℕ, ◌-◌, ◌∷◌, ◌++◌, List, [], map, Option, Some, None, refl, sym, ap, ◌∙◌}
+use Rattle.std.specs.Prelude.{is_some}
+use Rattle.std.proofs.lemmas.Bool.{cond-true, cond-false}
+use Rattle.op_types.specs.Changes.{joining_with, durable_after}
+use Rattle.op_types.specs.Effects.{nothing_plan}
+use Rattle.op_types.specs.Joinings.{Base, cover_of}
+use Rattle.op_types.specs.Roles.{Role, Idle, Preparing, Leading, turned}
+use Rattle.op_types.specs.Stops.{stop_at_end}
+use Rattle.op_types.specs.declared.answers.Cause.TheVariants as cause
+use Rattle.op_types.specs.declared.answers.Outcome.{Outcome}
+use Rattle.op_types.specs.declared.answers.Outcome.TheVariants as outcome
+use Rattle.op_types.specs.declared.answers.Refusal.{Refusal}
+use Rattle.op_types.specs.declared.answers.Reply.{Reply}
 use Rattle.op_types.specs.declared.changes.Change.{Change}
+use Rattle.op_types.specs.declared.changes.Change.TheVariants as change
+use Rattle.op_types.specs.declared.durable.Closed.{Closed}
 use Rattle.op_types.specs.declared.durable.Durable.{Durable}
+use Rattle.op_types.specs.declared.durable.Joining.{Joining}
 use Rattle.op_types.specs.declared.durable.Part.{Part}
 use Rattle.op_types.specs.declared.events.Input.{Input}
+use Rattle.op_types.specs.declared.events.Input.TheVariants as input
+use Rattle.op_types.specs.declared.log.Command.{Command}
 use Rattle.op_types.specs.declared.log.Entry.{Entry}
-use Rattle.op_types.specs.declared.log.Entry.TheVariants as entry
 use Rattle.op_types.specs.declared.plan.Plan.{Plan}
-use Rattle.op_record.specs.Ranges.{BatchInRange}
+use Rattle.op_types.specs.declared.turn.Turn.{Turn}
+use Rattle.op_types.specs.declared.turn.Turn.TheVariants as turn
 use Rattle.op_spec.specs.Service.{Service, all_after}
 use Rattle.op_protocol.specs.State as step
 use Rattle.op_protocol.specs.State.{State, PartStep, Planned, Waiting}
-use Rattle.op_protocol.specs.Rows.{step_at, step_plan, planned, waiting_at, newly_decided}
-use Rattle.op_protocol.specs.Serving.{Served, serving_entry, serving_command, dropping}
-use Rattle.op_kv.specs.Over.{MapState, service_over}
-use Rattle.op_instance.specs.Memory.{volatile_of, turned_in, part_step_of, HasRoomIn, IsKeptBy}
-use Rattle.op_instance.specs.Sound.{IsSound, IsSoundNode, IsSoundStep, AreOfOneConf, IsNode}
-use Rattle.op_instance.specs.declared.volatile.Volatile.{Volatile}
-use Rattle.op_instance.proofs.StepsApply.{sound_step}
-use Rattle.op_chain.specs.Answering.{Answers, IsServicePlan, HasRoomFor, decided_of, decided_from}
-use Rattle.op_chain.specs.Chains.{state_of, IsSoundChain, IsSame, Admits}
-use Rattle.op_chain.specs.Plans.{Plans, Adopts}
-use Rattle.op_chain.specs.declared.chain.Chain.{Chain}
+use Rattle.op_protocol.specs.Parts.{part_after, decided_since}
+use Rattle.op_protocol.specs.Configurations.{closing_part, closing}
+use Rattle.op_protocol.specs.Joining.{joined_service, only_stores, goes_on_if, holding, holds_more}
+use Rattle.op_protocol.specs.Leader.{propose, given_up_by}
+use Rattle.op_protocol.specs.Rows.{entries_of, refusal_of, proposal_at, step_at, waiting_each, waiting_for, waiting_at, based_batch, newly_decided, planned_serving, planned, plan_of}
+use Rattle.op_protocol.specs.Serving.{Served, dropping, waiting_with}
+use Rattle.op_protocol.specs.Starting.{first_volatile}
+use Rattle.op_protocol.proofs.Based.{based_decides}
+use Rattle.op_kv.specs.Over.{Written, MapState, service_over}
+use Rattle.op_instance.specs.Memory.{turned_in, part_step_of}
+use Rattle.op_chain.specs.Answering.{replies_to, giving}
+use Rattle.op_chain.specs.Bringing.{joining_after, joined, IfJoined}
+use Rattle.op_chain.specs.Plans.{service_anew, made_by, waiters_of, waiting_by, based_step, closed_plan, Closes, IfCloses, joined_plan, GoesOn, IfGoesOn}
+use Rattle.op_chain.specs.Waiting.{with_waiters}
 use Rattle.op_chain.specs.declared.chain_plan.ChainPlan.{ChainPlan}
-use Rattle.op_chain.specs.declared.given.Given.{Given}
+use Rattle.op_chain.specs.declared.renewal.Renewal.{Renewal}
 use Rattle.op_chain.specs.declared.room.Room.{Room}
-use Rattle.op_chain.specs.declared.service_plan.ServicePlan.{ServicePlan}
-use Rattle.op_chain.proofs.Rooms.{durable_after_room, with_room_twice, no_room, node_room, newly_room, newly_is, decided_of_room}
+use Rattle.op_chain.proofs.Answered.{served_all}
 
--- ---- what is kept in memory
+-- a plan of these
+abbrev pub chain_plan : Plan → Written → List Reply → Option Renewal → Room → ChainPlan
+chain_plan plan change replies renewal room =
+    record { plan = plan; service = change; replies = replies; renewal = renewal; room = room }
 
--- what is kept is as it was, but for room
-pub volatile_same : (old new : Volatile) → new ≡ record old { role = new.role } → role_of new.role ≡ role_of old.role → volatile_of new ≡ volatile_of old
-volatile_same old new rest role = ap volatile_of rest ∙ ap (λ (r : Role). let v : step.Volatile = record (volatile_of old) { role = r } in v) role
+-- ---- a row
 
--- so it is of the same part
-pub node_same : (me : ℕ) (o : Option Part) (old new : Volatile) → IsNode me o old → new ≡ record old { role = new.role } → role_of new.role ≡ role_of old.role → IsNode me o new
-node_same me None old new node rest role = tt
-node_same me (Some p) old new node rest role =
-    let kept : IsKeptBy me p (record old { role = new.role }) = record { elector = node.kept.elector; electors = node.kept.electors; listener = node.kept.listener; members = node.kept.members } in
-    record { sound = subst (IsSound p) (sym role) node.sound; kept = subst (IsKeptBy me p) (sym rest) kept }
-
-pub sound_of : (me : ℕ) (o : Option Part) (v : Volatile) → IsNode me o v → IsSoundNode o (role_of v.role)
-sound_of me None v node = tt
-sound_of me (Some p) v node = node.sound
-
--- the memory of a node stays that of what it stores
-pub node_after : (me : ℕ) (o q : Option Part) (v w : Volatile) → IsNode me o v → IsSoundNode q (role_of w.role) → AreOfOneConf q o → w.election.me ≡ v.election.me → w.election.members ≡ v.election.members → w.rounds.me ≡ v.rounds.me → w.rounds.members ≡ v.rounds.members
-    → IsNode me q w
-node_after me None None v w node sound same a b c d = tt
-node_after me None (Some q) v w node sound same a b c d = absurd same
-node_after me (Some p) None v w node sound same a b c d = tt
-node_after me (Some p) (Some q) v w node sound same a b c d =
+-- what a step does, where these are the replies to what it decides, and this is the service then
+abbrev row_made : Waiting → List Reply → Service → PartStep → Planned
+row_made waiting replies s y =
+    let d = dropping waiting y.replies in
+    let g = giving d.waiting replies in
     record {
-      sound = sound;
-      kept = record { elector = a ∙ node.kept.elector; electors = b ∙ node.kept.electors ∙ ap length (sym same.1); listener = c ∙ node.kept.listener; members = d ∙ node.kept.members ∙ sym same.1 };
+      batch = y.batch;
+      volatile = y.volatile;
+      service = s;
+      waiting = g.waiting;
+      sends = y.sends;
+      replies = g.replies ++ d.replies;
+      outcome = y.outcome;
     }
 
--- ---- the same chain
+row_planned : (s : State) (ws : Waiting) (y : PartStep)
+    → planned s ws y ≡ row_made ws (replies_to s.service (newly_decided s.durable.part y.batch)) (all_after s.service (newly_decided s.durable.part y.batch)) (based_step s.durable.part y)
+row_planned s ws y =
+    let d = dropping ws y.replies in
+    ap (λ (t : Served). planned_serving s y d t) (served_all (newly_decided s.durable.part y.batch) s.service (record { waiting = d.waiting; replies = [] }))
 
--- a state by its parts
-abbrev pub state_with : Durable → step.Volatile → Service → Waiting → State
-state_with d v s w = record { durable = d; volatile = v; service = s; waiting = w }
+-- the bases don't change what is decided
+based_newly : (o : Option Part) (batch : List Change) → newly_decided o (based_batch o batch) ≡ newly_decided o batch
+based_newly None batch = refl
+based_newly (Some p) batch = based_decides p batch
 
--- equal parts make equal states
-pub state_is : {d e : Durable} {v w : step.Volatile} {s t : Service} {ws xs : Waiting} → d ≡ e → v ≡ w → s ≡ t → ws ≡ xs → state_with d v s ws ≡ state_with e w t xs
-state_is durable volatile service waiting = cc
+-- a plan of a row is what the table plans, but for what is closed
+pub row_table : (ws : Waiting) (v : step.Volatile) (s : State) (y : PartStep) (plan : Plan) (change : Written) (replies : List Reply) (room : Room)
+    → part_step_of plan v ≡ based_step s.durable.part y
+    → service_over s.service change ≡ all_after s.service (newly_decided s.durable.part plan.batch)
+    → replies ≡ replies_to s.service (newly_decided s.durable.part plan.batch)
+    → made_by ws v s.service (chain_plan plan change replies None room) ≡ planned s ws y
+row_table ws v s y plan change replies room row serves gives =
+    let batch : plan.batch ≡ based_batch s.durable.part y.batch = ap (λ (z : PartStep). z.batch) row in
+    let es : newly_decided s.durable.part plan.batch ≡ newly_decided s.durable.part y.batch =
+    ap (λ (b : List Change). newly_decided s.durable.part b) batch ∙ based_newly s.durable.part y.batch in
+    let z : PartStep = part_step_of plan v in
+    ap (λ (rs : List Reply). row_made ws rs (service_over s.service change) z) (gives ∙ ap (λ (xs : List Entry). replies_to s.service xs) es)
+    ∙ ap (λ (t : Service). row_made ws (replies_to s.service (newly_decided s.durable.part y.batch)) t z) (serves ∙ ap (λ (xs : List Entry). all_after s.service xs) es)
+    ∙ ap (λ (x : PartStep). row_made ws (replies_to s.service (newly_decided s.durable.part y.batch)) (all_after s.service (newly_decided s.durable.part y.batch)) x) row
+    ∙ sym (row_planned s ws y)
 
-pub same_state : (a b : Chain) → with_room 0 b.durable ≡ with_room 0 a.durable → volatile_of b.volatile ≡ volatile_of a.volatile → b.service.service ≡ a.service.service → b.waiting.waiting ≡ a.waiting.waiting → state_of b ≡ state_of a
-same_state a b durable volatile service waiting = state_is durable volatile service waiting
+-- ---- a closing
 
--- the same, where its parts are, but for room
-same_kept : (a b c : Chain) → IsSame a b → c.me ≡ b.me → c.volatile ≡ b.volatile → with_room 0 c.durable ≡ with_room 0 b.durable → IsNode b.me c.durable.part b.volatile → c.service.service ≡ b.service.service → c.waiting.waiting ≡ b.waiting.waiting → IsSame a c
-same_kept a b c same me volatile durable node service waiting =
-    record {
-      me = me ∙ same.me;
-      state = same_state b c durable (ap volatile_of volatile) service waiting ∙ same.state;
-      sound = record { node = subst (λ (n : ℕ). IsNode n c.durable.part c.volatile) (sym me) (subst (λ (v : Volatile). IsNode b.me c.durable.part v) (sym volatile) node) };
-    }
+-- what begins anew
+abbrev anew_of : step.Volatile → Service → List Reply → Planned → Planned
+anew_of v s given_up x =
+    let g = dropping x.waiting given_up in
+    record x { volatile = v; service = s; waiting = g.waiting; replies = x.replies ++ g.replies }
 
-pub same_served : (a b c : Chain) → IsSame a b → c ≡ record b { service = c.service } → c.service.service ≡ b.service.service → IsSame a c
-same_served a b c same rest service =
-    same_kept a b c same (ap (λ (n : Chain). n.me) rest) (ap (λ (n : Chain). n.volatile) rest) (ap (λ (n : Chain). with_room 0 n.durable) rest)
-    (subst (λ (d : Durable). IsNode b.me d.part b.volatile) (sym (ap (λ (n : Chain). n.durable) rest)) same.sound.node) service (ap (λ (n : Chain). n.waiting.waiting) rest)
+role_turned : (t : Turn) (v : step.Volatile) → turned t v.role ≡ (turned_in t v).role
+role_turned (turn.Hear h) v = refl
+role_turned (turn.RaiseFloor b) v = refl
+role_turned (turn.NextRound e n) v = refl
+role_turned t v = refl
 
--- room for one that is to wait, and none in the log
-pub same_waiting : (a b c : Chain) → IsSame a b → c ≡ record b { durable = c.durable; waiting = c.waiting } → c.waiting.waiting ≡ b.waiting.waiting → c.durable ≡ b.durable → IsSame a c
-same_waiting a b c same rest waiting durable =
-    same_kept a b c same (ap (λ (n : Chain). n.me) rest) (ap (λ (n : Chain). n.volatile) rest) (ap (λ (d : Durable). with_room 0 d) durable)
-    (subst (λ (d : Durable). IsNode b.me d.part b.volatile) (sym durable) same.sound.node) (ap (λ (n : Chain). n.service.service) rest) waiting
+module _ (me : ℕ) (ws : Waiting) (v : step.Volatile) (s : Service) (change : Written) (replies : List Reply) (room : Room) (plan new : Plan) where
+  -- what the plan does without a renewal
+  abbrev bare_made : Planned
+  bare_made = made_by ws v s (chain_plan plan change replies None room)
 
--- room in the log too
-pub same_roomed : (a b c : Chain) (k : ℕ) → IsSame a b → c ≡ record b { durable = c.durable; waiting = c.waiting } → c.waiting.waiting ≡ b.waiting.waiting → c.durable ≡ with_room k b.durable → IsSame a c
-same_roomed a b c k same rest waiting durable =
-    same_kept a b c same (ap (λ (n : Chain). n.me) rest) (ap (λ (n : Chain). n.volatile) rest) (ap (λ (d : Durable). with_room 0 d) durable ∙ with_room_twice 0 k b.durable)
-    (subst (λ (d : Durable). IsNode b.me d.part b.volatile) (sym durable) (node_room k b.me b.durable.part b.volatile same.sound.node)) (ap (λ (n : Chain). n.service.service) rest) waiting
+  close_made : (q : Part) (r : Renewal) → Closes me q (service_over s change) v.role plan new r → made_by ws v s (chain_plan new change replies (Some r) room) ≡ closing_part me q bare_made
+  close_made q r closes =
+      let t : Service = service_over s change in
+      let more : Plan = closed_plan me q t plan in
+      let x : Planned = made_by ws v s (chain_plan more change replies None room) in
+      let why = cause.Stop (q.decided - 1) in
+      ap (λ (n : Plan). made_by ws v s (chain_plan n change replies (Some r) room)) closes.plan
+      ∙ ap (λ (w : step.Volatile). anew_of w (service_anew r.service t) r.given_up x) closes.anew.first
+      ∙ ap (λ (m : Option MapState). anew_of (first_volatile me) (service_anew m t) r.given_up x) closes.service
+      ∙ ap (λ (rs : List Reply). anew_of (first_volatile me) t rs x) (closes.given_up ∙ ap (λ (role : Role). given_up_by role why) (role_turned plan.turn v))
 
--- ---- a plan
+  -- a plan that may close its part does what the table says
+  pub closes_made : (o : Option Part) (r : Option Renewal) → IfCloses me o (service_over s change) v.role plan new r → made_by ws v s (chain_plan new change replies r room) ≡ closing me o bare_made
+  closes_made None r closes =
+      ap (λ (n : Plan). made_by ws v s (chain_plan n change replies r room)) closes.0
+      ∙ ap (λ (x : Option Renewal). made_by ws v s (chain_plan plan change replies x room)) closes.1
+  closes_made (Some p) None closes =
+      ap (λ (n : Plan). made_by ws v s (chain_plan n change replies None room)) closes.0
+      ∙ sym (cond-false (is_some (stop_at_end (decided_since p (part_after p plan.batch)))) (closing_part me (part_after p plan.batch) bare_made) bare_made closes.1)
+  closes_made (Some p) (Some r) closes =
+      close_made (part_after p plan.batch) r closes.0
+      ∙ sym (cond-true (is_some (stop_at_end (decided_since p (part_after p plan.batch)))) (closing_part me (part_after p plan.batch) bare_made) bare_made closes.1)
 
--- the step of a sound chain applies, and leaves a sound one
-chain_step : (c : Chain) (x : Input) (y : Plan) → IsSoundChain c → part_step_of y (volatile_of c.volatile) ≡ step_at c.me (with_room 0 c.durable).part (volatile_of c.volatile) x → IsSoundStep (with_room 0 c.durable) (part_step_of y (volatile_of c.volatile))
-chain_step c x y sound row =
-    let o = (with_room 0 c.durable).part in
-    let node = node_room 0 c.me c.durable.part c.volatile sound.node in
-    subst (λ (z : PartStep). IsSoundStep (with_room 0 c.durable) z) (sym row) (sound_step c.me o c.durable.closed (volatile_of c.volatile) x (sound_of c.me o c.volatile node))
+-- the plan of an input that brings nothing of a closed list
+pub step_table : (me : ℕ) (ws : Waiting) (v : step.Volatile) (s : State) (y : PartStep) (plan new : Plan) (change : Written) (replies : List Reply) (r : Option Renewal) (room : Room)
+    → part_step_of plan v ≡ based_step s.durable.part y
+    → service_over s.service change ≡ all_after s.service (newly_decided s.durable.part plan.batch)
+    → replies ≡ replies_to s.service (newly_decided s.durable.part plan.batch)
+    → IfCloses me s.durable.part (service_over s.service change) v.role plan new r
+    → made_by ws v s.service (chain_plan new change replies r room) ≡ plan_of me s ws y
+step_table me ws v s y plan new change replies r room row serves gives closes =
+    closes_made me ws v s.service change replies room plan new s.durable.part r closes
+    ∙ ap (λ (x : Planned). closing me s.durable.part x) (row_table ws v s y plan change replies room row serves gives)
 
-pub batch_applies : (c : Chain) (x : Input) (y : Plan) (d : Durable) → IsSoundChain c → part_step_of y (volatile_of c.volatile) ≡ step_at c.me (with_room 0 c.durable).part (volatile_of c.volatile) x → d ≡ with_room 0 c.durable → Applies d y.batch
-batch_applies c x y d sound row is = subst (λ (e : Durable). Applies e y.batch) (sym is) (chain_step c x y sound row).applies
+-- ---- what a node that joins takes
 
--- what is known when a plan is made, of the chain before, after its step, after the service's plan and with all room
-pub record Makes (a b c d : Chain) (x : Input) (y : Plan) (serving : ServicePlan) (room : Room) : Type 0 where
-  pub admits : Admits a x
-  pub stepped : IsSame a b
-  pub same : IsSame a d
-  pub row : part_step_of y (volatile_of a.volatile) ≡ step_at a.me (with_room 0 a.durable).part (volatile_of a.volatile) x
-  pub turn : HasRoomIn y.turn b.volatile
-  pub volatile : d.volatile ≡ b.volatile
-  pub log : d.durable ≡ with_room (needed y.batch) (with_room 0 a.durable)
-  pub settled : c.service.waiting ≡ 0
-  pub service : d.service ≡ c.service
-  pub served : IsServicePlan b.service.service serving (newly_decided b.durable.part y.batch)
-  pub waiting : d.waiting.next ≡ waiting_at a.me (state_of a) x
-  pub has : HasRoomFor (length serving.answers) (length y.replies) room
+conf_joined : (j : Joining) (c : Change) → (joining_with j c).conf ≡ j.conf
+conf_joined j (change.JoinDonor q t) = refl
+conf_joined j (change.JoinBase at b) = refl
+conf_joined j (change.JoinPart at es) = refl
+conf_joined j _ = refl
 
-pub plan_made : (a b c d : Chain) (x : Input) (y : Plan) (serving : ServicePlan) (room : Room) → Makes a b c d x y serving room → Plans d x (record { plan = y; service = serving.change; answers = serving.answers; room = room })
-plan_made a b c d x y serving room k =
-    let rows : part_step_of y (state_of d).volatile ≡ step_at a.me (state_of d).durable.part (state_of d).volatile x =
-    subst (λ (s : State). part_step_of y s.volatile ≡ step_at a.me s.durable.part s.volatile x) (sym k.same.state) k.row in
-    let roomed : IsServicePlan (state_of b).service serving (newly_decided (state_of b).durable.part y.batch) =
-    subst (λ (es : List Entry). IsServicePlan b.service.service serving es) (sym (newly_room 0 b.durable.part y.batch)) k.served in
-    let served = subst (λ (s : State). IsServicePlan s.service serving (newly_decided s.durable.part y.batch)) (k.stepped.state ∙ sym k.same.state) roomed in
-    let applies = (chain_step a x y k.admits.sound k.row).applies in
-    let serves = room_serves (with_room 0 a.durable) y.batch applies (no_room a.durable) in
-    record {
-      sound = k.same.sound;
-      step = subst (λ (n : ℕ). part_step_of y (state_of d).volatile ≡ step_at n (state_of d).durable.part (state_of d).volatile x) (sym k.same.me) rows;
-      range = subst (λ (z : PartStep). BatchInRange z.batch) (sym k.row) k.admits.range;
-      applies = subst (λ (e : Durable). Applies e y.batch) (sym k.log) serves.applies;
-      log = subst (λ (e : Durable). needed y.batch ≤ room_of e.part) (sym k.log) serves.room;
-      turn = subst (λ (v : Volatile). HasRoomIn y.turn v) (sym k.volatile) k.turn;
-      settled = ap (λ (m : MapState). m.waiting) k.service ∙ k.settled;
-      service = served.change;
-      answers = served.answers;
-      waiting = k.waiting ∙ ap (λ (s : State). waiting_at a.me s x) (sym k.same.state) ∙ ap (λ (n : ℕ). waiting_at n (state_of d) x) (sym k.same.me);
-      room = k.has;
-    }
+members_joined : (j : Joining) (c : Change) → (joining_with j c).members ≡ j.members
+members_joined j (change.JoinDonor q t) = refl
+members_joined j (change.JoinBase at b) = refl
+members_joined j (change.JoinPart at es) = refl
+members_joined j _ = refl
 
--- ---- adopting it
+len_joined : (j : Joining) (c : Change) → (joining_with j c).len ≡ j.len
+len_joined j (change.JoinDonor q t) = refl
+len_joined j (change.JoinBase at b) = refl
+len_joined j (change.JoinPart at es) = refl
+len_joined j _ = refl
 
-serving_service : (t : Served) (entries : List Entry) → (fold serving_entry t entries).service ≡ all_after t.service entries
-serving_service t [] = refl
-serving_service t (entry.Command c ∷ entries) = serving_service (serving_command t c) entries
-serving_service t (entry.Stop stop ∷ entries) = serving_service t entries
+-- what is held later is of the same configuration
+pub same_conf : (j : Joining) (batch : List Change) → (joining_after j batch).conf ≡ j.conf
+same_conf j [] = refl
+same_conf j (c ∷ batch) = same_conf (joining_with j c) batch ∙ conf_joined j c
 
--- what is known when a plan was adopted
-pub record Made (old : Chain) (plan : ChainPlan) (new : Chain) (g : Given) : Type 0 where
-  pub me : new.me ≡ old.me
-  pub durable : new.durable ≡ with_room 0 (durable_after old.durable plan.plan.batch)
-  pub volatile : volatile_of new.volatile ≡ turned_in plan.plan.turn (volatile_of old.volatile)
-  pub elector : new.volatile.election.me ≡ old.volatile.election.me
-  pub electors : new.volatile.election.members ≡ old.volatile.election.members
-  pub listener : new.volatile.rounds.me ≡ old.volatile.rounds.me
-  pub members : new.volatile.rounds.members ≡ old.volatile.rounds.members
-  pub service : new.service.service ≡ service_over old.service.service plan.service
-  pub answers : Answers old.service.service old.waiting.next plan.plan.replies (decided_from (decided_of old.durable.part) new.durable.part) new.waiting.waiting g.replies
-  pub sends : g.sends ≡ plan.plan.sends
-  pub outcome : g.outcome ≡ plan.plan.outcome
+pub same_members : (j : Joining) (batch : List Change) → (joining_after j batch).members ≡ j.members
+same_members j [] = refl
+same_members j (c ∷ batch) = same_members (joining_with j c) batch ∙ members_joined j c
 
--- what a batch newly decides stands in the log that was stored
-pub decided_entries : (d new : Durable) (batch : List Change) → new ≡ with_room 0 (durable_after d batch) → newly_decided (with_room 0 d).part batch ≡ decided_from (decided_of d.part) new.part
-decided_entries d new batch stored =
-    newly_is (with_room 0 d) batch ∙ ap (λ (n : ℕ). decided_from n (durable_after (with_room 0 d) batch).part) (decided_of_room 0 d.part)
-    ∙ ap (λ (e : Durable). decided_from (decided_of d.part) e.part) (durable_after_room 0 d batch ∙ sym stored)
+pub same_len : (j : Joining) (batch : List Change) → (joining_after j batch).len ≡ j.len
+same_len j [] = refl
+same_len j (c ∷ batch) = same_len (joining_with j c) batch ∙ len_joined j c
 
--- what the new chain keeps in memory is of what it has stored
-sound_after : (old new : Chain) (x : Input) (plan : ChainPlan) (g : Given) → Plans old x plan → Made old plan new g → new.durable ≡ durable_after (with_room 0 old.durable) plan.plan.batch → IsSoundChain new
-sound_after old new x plan g p k stored =
-    let o = (with_room 0 old.durable).part in
-    let stepped = chain_step old x plan.plan p.sound p.step in
-    let sound : IsSoundNode new.durable.part (role_of new.volatile.role) =
-    subst (λ (d : Durable). IsSoundNode d.part (volatile_of new.volatile).role) (sym stored)
-    (subst (λ (v : step.Volatile). IsSoundNode (durable_after (with_room 0 old.durable) plan.plan.batch).part v.role) (sym k.volatile) stepped.sound) in
-    let conf : AreOfOneConf new.durable.part o = subst (λ (d : Durable). AreOfOneConf d.part o) (sym stored) stepped.same in
-    let node = node_after old.me o new.durable.part old.volatile new.volatile (node_room 0 old.me old.durable.part old.volatile p.sound.node) sound conf k.elector k.electors k.listener k.members in
-    record { node = subst (λ (n : ℕ). IsNode n new.durable.part new.volatile) (sym k.me) node }
+-- a plan of these changes, and of nothing else
+abbrev pub storing_plan : List Change → Plan
+storing_plan batch = record nothing_plan { batch = batch }
 
-pub plan_adopted : (old new : Chain) (x : Input) (plan : ChainPlan) (g : Given) → Plans old x plan → Made old plan new g → Adopts old (step_plan old.me (state_of old) x) new g
-plan_adopted old new x plan g p k =
-    let s = state_of old in
-    let y : PartStep = part_step_of plan.plan s.volatile in
-    let ws = old.waiting.next in
-    let plans : step_plan old.me s x ≡ planned s ws y =
-    ap (λ (w : Waiting). planned s w (step_at old.me s.durable.part s.volatile x)) (sym p.waiting) ∙ ap (λ (z : PartStep). planned s ws z) (sym p.step) in
-    let stored : new.durable ≡ durable_after s.durable plan.plan.batch = k.durable ∙ sym (durable_after_room 0 old.durable plan.plan.batch) in
-    let rested : with_room 0 new.durable ≡ durable_after s.durable plan.plan.batch =
-    ap (λ (d : Durable). with_room 0 d) k.durable ∙ with_room_twice 0 0 (durable_after old.durable plan.plan.batch) ∙ sym (durable_after_room 0 old.durable plan.plan.batch) in
-    let entries = newly_decided s.durable.part plan.plan.batch in
-    let newly = decided_entries old.durable new.durable plan.plan.batch k.durable in
-    let answers = subst (λ (es : List Entry). Answers s.service ws plan.plan.replies es new.waiting.waiting g.replies) (sym newly) k.answers in
-    let first : Served = record { service = s.service; waiting = (dropping ws plan.plan.replies).waiting; replies = [] } in
-    let service : new.service.service ≡ (fold serving_entry first entries).service = k.service ∙ p.service ∙ sym (serving_service first entries) in
-    subst (λ (z : Planned). Adopts old z new g) (sym plans)
-    (record {
-      me = k.me;
-      state = state_is rested k.volatile service answers.waiting_are;
-      sound = sound_after old new x plan g p k stored;
-      given = record { sends = k.sends; replies = answers.replies_are; outcome = k.outcome };
-    })
+module _ (me : ℕ) (s : State) (batch : List Change) (change : Written) (same : service_over s.service change ≡ s.service) (room : Room) (new : Plan) where
+  stored : made_by s.waiting s.volatile s.service (chain_plan (storing_plan batch) change [] None room) ≡ only_stores s batch
+  stored = ap (λ (t : Service). let x : Planned = record (only_stores s batch) { service = t } in x) same
+
+  gone_on : (j k : Joining) (m : MapState) (r : Renewal) → GoesOn me j m s.volatile.role (storing_plan batch) new r → k.conf ≡ j.conf → k.members ≡ j.members → k.len ≡ j.len
+      → (b : Option Base) (es : Option (List Entry)) → Some m.service ≡ joined b es → made_by s.waiting s.volatile s.service (chain_plan new change [] (Some r) room) ≡ goes_on_if me s k batch b es
+  gone_on j k m r goes conf members len (Some b) (Some es) is =
+      let t : Service = joined_service b es in
+      let served : m.service ≡ t = cc in
+      let more : Service → ℕ → List ℕ → Plan = λ u c ms. joined_plan me (record k { conf = c; members = ms }) u (storing_plan batch) in
+      let x : Plan → Planned = λ n. made_by s.waiting s.volatile s.service (chain_plan n change [] None room) in
+      let why : ℕ → List Reply = λ n. given_up_by s.volatile.role (cause.Stop (n - 1)) in
+      ap (λ (n : Plan). made_by s.waiting s.volatile s.service (chain_plan n change [] (Some r) room)) goes.plan
+      ∙ ap (λ (w : step.Volatile). anew_of w (service_anew r.service (service_over s.service change)) r.given_up (x (more m.service j.conf j.members))) goes.anew.first
+      ∙ ap (λ (o : Option MapState). anew_of (first_volatile me) (service_anew o (service_over s.service change)) r.given_up (x (more m.service j.conf j.members))) goes.service
+      ∙ ap (λ (rs : List Reply). anew_of (first_volatile me) m.service rs (x (more m.service j.conf j.members))) (goes.given_up ∙ ap why (sym len))
+      ∙ ap (λ (u : Service). anew_of (first_volatile me) u (why k.len) (x (more u j.conf j.members))) served
+      ∙ ap (λ (c : ℕ). anew_of (first_volatile me) t (why k.len) (x (more t c j.members))) (sym conf)
+      ∙ ap (λ (ms : List ℕ). anew_of (first_volatile me) t (why k.len) (x (more t k.conf ms))) (sym members)
+  gone_on j k m r goes conf members len (Some b) None is = absurd cc
+  gone_on j k m r goes conf members len None es is = absurd cc
+
+  not_yet : (k : Joining) (b : Option Base) (es : Option (List Entry)) → None ≡ joined b es → only_stores s batch ≡ goes_on_if me s k batch b es
+  not_yet k (Some b) (Some es) is = absurd cc
+  not_yet k (Some b) None is = refl
+  not_yet k None es is = refl
+
+  by_service : (j : Joining) (m : Option MapState) (r : Option Renewal) → IfJoined j batch m → IfGoesOn me (Some j) m s.volatile.role (storing_plan batch) new r
+      → made_by s.waiting s.volatile s.service (chain_plan new change [] r room) ≡ holding me s batch (Some (joining_after j batch))
+  by_service j None r is goes =
+      let k : Joining = joining_after j batch in
+      ap (λ (n : Plan). made_by s.waiting s.volatile s.service (chain_plan n change [] r room)) goes.0
+      ∙ ap (λ (o : Option Renewal). made_by s.waiting s.volatile s.service (chain_plan (storing_plan batch) change [] o room)) goes.1
+      ∙ stored ∙ not_yet k k.base (cover_of k) is
+  by_service j (Some m) None is goes = absurd goes
+  by_service j (Some m) (Some r) is goes =
+      let k : Joining = joining_after j batch in gone_on j k m r goes (same_conf j batch) (same_members j batch) (same_len j batch) k.base (cover_of k) is
+
+  -- the plan of an input that brings something of a closed list
+  pub join_table : (j : Joining) (m : Option MapState) (r : Option Renewal) → IfJoined j batch m → (durable_after s.durable batch).joining ≡ Some (joining_after j batch)
+      → IfGoesOn me (Some j) m s.volatile.role (storing_plan batch) new r → made_by s.waiting s.volatile s.service (chain_plan new change [] r room) ≡ holds_more me s batch
+  join_table j m r is after goes = by_service j m r is goes ∙ ap (λ (o : Option Joining). holding me s batch o) (sym after)
+
+-- ---- who waits
+
+each_waits : (cs : List Command) (ws : Waiting) → with_waiters ws (map (λ c. (c.client, c.seq)) cs) ≡ waiting_each ws cs
+each_waits [] ws = refl
+each_waits (c ∷ cs) ws = each_waits cs (waiting_with ws c)
+
+-- what is proposed isn't refused
+proposed_waits : (me : ℕ) (p : Part) (r : Role) (es : List Entry) (ws : Waiting) (more : List (ℕ × ℕ)) → waiting_by (propose me p r es).outcome ws more ≡ with_waiters ws more
+proposed_waits me p Idle es ws more = refl
+proposed_waits me p (Preparing r) es ws more = refl
+proposed_waits me p (Leading l) es ws more = refl
+
+none_refused : (me : ℕ) (r : Role) (k : Option Closed) (j : Option Joining) (es : List Entry) → (let d : Durable = record { part = None; closed = k; joining = j } in refusal_of me r d es ≡ None → ⊥)
+none_refused me r (Some l) j es none = cc
+none_refused me r None j es none = cc
+
+proposal_waits : (me : ℕ) (o : Option Part) (v : step.Volatile) (cs : List Command) (why : Option Refusal) (ws : Waiting) → (o ≡ None → why ≡ None → ⊥)
+    → waiting_by (proposal_at me o v (entries_of cs) why).outcome ws (map (λ c. (c.client, c.seq)) cs) ≡ waiting_for ws cs why
+proposal_waits me None v cs None ws some = absurd (some refl refl)
+proposal_waits me None v cs (Some why) ws some = refl
+proposal_waits me (Some p) v cs (Some why) ws some = refl
+proposal_waits me (Some p) v cs None ws some = proposed_waits me p v.role (entries_of cs) ws (map (λ c. (c.client, c.seq)) cs) ∙ each_waits cs ws
+
+no_waiters : (o : Option Outcome) (ws : Waiting) → waiting_by o ws [] ≡ ws
+no_waiters None ws = refl
+no_waiters (Some (outcome.Refused why)) ws = refl
+no_waiters (Some o) ws = refl
+
+commands_wait : (me : ℕ) (o : Option Part) (k : Option Closed) (j : Option Joining) (v : step.Volatile) (cs : List Command) (ws : Waiting)
+    → (let d : Durable = record { part = o; closed = k; joining = j } in waiting_by (step_at me d v (input.Commands cs)).outcome ws (waiters_of (input.Commands cs)) ≡ waiting_for ws cs (refusal_of me v.role d (entries_of cs)))
+commands_wait me None k j v cs ws =
+    let d : Durable = record { part = None; closed = k; joining = j } in
+    proposal_waits me None v cs (refusal_of me v.role d (entries_of cs)) ws (λ same none. none_refused me v.role k j (entries_of cs) none)
+commands_wait me (Some p) k j v cs ws =
+    let d : Durable = record { part = Some p; closed = k; joining = j } in
+    proposal_waits me (Some p) v cs (refusal_of me v.role d (entries_of cs)) ws (λ none same. cc)
+
+-- the clients of commands that aren't refused wait
+pub waits_table : (me : ℕ) (s : State) (x : Input) → waiting_by (step_at me s.durable s.volatile x).outcome s.waiting (waiters_of x) ≡ waiting_at me s x
+waits_table me s (input.Commands cs) = commands_wait me s.durable.part s.durable.closed s.durable.joining s.volatile cs s.waiting
+waits_table me s input.Tick = no_waiters (step_at me s.durable s.volatile input.Tick).outcome s.waiting
+waits_table me s (input.Deliver q m) = no_waiters (step_at me s.durable s.volatile (input.Deliver q m)).outcome s.waiting
+waits_table me s (input.Stop members) = no_waiters (step_at me s.durable s.volatile (input.Stop members)).outcome s.waiting
+waits_table me s input.TrimNow = no_waiters (step_at me s.durable s.volatile input.TrimNow).outcome s.waiting
+waits_table me s (input.Up q) = no_waiters (step_at me s.durable s.volatile (input.Up q)).outcome s.waiting
+waits_table me s (input.Down q) = no_waiters (step_at me s.durable s.volatile (input.Down q)).outcome s.waiting

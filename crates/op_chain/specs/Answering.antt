@@ -1,60 +1,91 @@
 -- Serving what a step decides, and answering those that wait.
-use Rattle.std.specs.Prelude.{◌≡◌, ◌≤◌, ◌-◌, ◌+◌, ◌++◌, ℕ, List, [], take, drop, Option, Some, None}
+use Rattle.std.specs.Prelude.{◌≡◌, ◌≤◌, ◌++◌, ℕ, List, [], ◌∷◌, Option, None, if◌then◌else◌, fold}
 use Rattle.op_types.specs.Roomed.{Roomed}
+use Rattle.op_types.specs.Stops.{stop_of, stop_at_end}
+use Rattle.op_types.specs.declared.answers.Answer.{Answer}
 use Rattle.op_types.specs.declared.answers.Reply.{Reply}
-use Rattle.op_types.specs.declared.durable.Part.{Part}
 use Rattle.op_types.specs.declared.log.Entry.{Entry}
-use Rattle.op_spec.specs.Service.{Service, all_after}
+use Rattle.op_types.specs.declared.log.Entry.TheVariants as entry
+use Rattle.op_types.specs.declared.log.StopSign.{StopSign}
+use Rattle.op_spec.specs.Service.{Service, service_with, all_after}
 use Rattle.op_protocol.specs.State.{Waiting}
-use Rattle.op_protocol.specs.Serving.{Served, Dropping, serving, dropping}
+use Rattle.op_protocol.specs.Serving.{Dropping, reply_of, waits, without_waiting}
 use Rattle.op_kv.specs.Over.{service_over, answers_of}
-use Rattle.op_waiting.specs.Waiting.{WaitingSet}
+use Rattle.op_chain.specs.Waiting.{WaitingSet}
 use Rattle.op_chain.specs.declared.room.Room.{Room}
+use Rattle.op_chain.specs.declared.served.Served.{Served}
 use Rattle.op_chain.specs.declared.service_plan.ServicePlan.{ServicePlan}
 
 -- ---- what is decided
 
--- how much a part has decided
-abbrev pub decided_of : Option Part → ℕ
-decided_of None = 0
-decided_of (Some p) = p.decided
+-- the replies to the commands among these entries, in order, each for whoever waits for it
+abbrev pub replies_to : Service → List Entry → List Reply
+replies_to s [] = []
+replies_to s (entry.Command c ∷ es) = reply_of s c ∷ replies_to (service_with s c) es
+replies_to s (entry.Stop stop ∷ es) = replies_to s es
 
--- the entries that a part has decided, from a position on
-abbrev pub decided_from : ℕ → Option Part → List Entry
-decided_from at None = []
-decided_from at (Some p) = drop (at - p.trimmed) (take (p.decided - p.trimmed) p.tail.items)
+-- who proposed the commands among these entries, in order
+abbrev pub proposers_of : List Entry → List (ℕ × ℕ)
+proposers_of [] = []
+proposers_of (entry.Command c ∷ es) = (c.client, c.seq) ∷ proposers_of es
+proposers_of (entry.Stop stop ∷ es) = proposers_of es
+
+-- answers, each to its proposer
+abbrev pub replies_in : List (ℕ × ℕ) → List Answer → List Reply
+replies_in (p ∷ ps) (a ∷ answers) = record { client = p.0; seq = p.1; answer = a } ∷ replies_in ps answers
+replies_in ps answers = []
+
+-- the stop-sign that ends these entries; with none of them the one before them
+abbrev pub stop_after : Option StopSign → List Entry → Option StopSign
+stop_after stop [] = stop
+stop_after stop (e ∷ es) = stop_after (stop_of e) es
+
+-- over this service, the plan serves no entries
+pub record ServesNothing (s : Service) (plan : ServicePlan) : Type 0 where
+  pub answers : plan.answers ≡ []
+  pub proposers : plan.proposers.items ≡ []
+  pub change : service_over s plan.change ≡ s
+  pub stop : plan.stop ≡ None
 
 -- over this service, the new plan serves these entries after those that the old one serves
 pub record Continues (s : Service) (old new : ServicePlan) (entries : List Entry) : Type 0 where
   pub answers : new.answers ≡ old.answers ++ answers_of (service_over s old.change) entries
+  pub proposers : new.proposers.items ≡ old.proposers.items ++ proposers_of entries
   pub change : service_over s new.change ≡ all_after (service_over s old.change) entries
+  pub stop : new.stop ≡ stop_after old.stop entries
 
--- over this service, the plan serves these entries
-pub record IsServicePlan (s : Service) (plan : ServicePlan) (entries : List Entry) : Type 0 where
-  pub answers : plan.answers ≡ answers_of s entries
-  pub change : service_over s plan.change ≡ all_after s entries
+-- what a plan comes to
+pub record IsServedBy (plan : ServicePlan) (x : Served) : Type 0 where
+  pub change : x.change ≡ plan.change
+  pub replies : x.replies ≡ replies_in plan.proposers.items plan.answers
+  pub stop : x.stop ≡ plan.stop
+
+-- what these entries do, over this service
+pub record IsServed (s : Service) (entries : List Entry) (x : Served) : Type 0 where
+  pub change : service_over s x.change ≡ all_after s entries
+  pub replies : x.replies ≡ replies_to s entries
+  pub stop : x.stop ≡ stop_at_end entries
 
 -- ---- who is answered
 
--- room for the replies to so many commands that are decided, and to so many proposals that are given up
-pub record HasRoomFor (decided given_up : ℕ) (room : Room) : Type 0 where
+-- room for so many replies, of which so many are to proposals that a row gives up
+pub record HasRoomFor (all given_up : ℕ) (room : Room) : Type 0 where
   pub no_replies : room.replies.items ≡ []
   pub nobody_told : room.told.items ≡ []
-  pub replies : decided + given_up ≤ room.replies.room
+  pub replies : all ≤ room.replies.room
   pub told : given_up ≤ room.told.room
-
--- this service, those that wait, and these replies
-abbrev pub served_of : Service → WaitingSet → Roomed Reply → Served
-served_of s w replies = record { service = s; waiting = w.waiting; replies = replies.items }
 
 -- those that wait, and what the others were told
 abbrev pub dropped_of : WaitingSet → Roomed Reply → Dropping
 dropped_of w told = record { waiting = w.waiting; replies = told.items }
 
--- Who waits then, and the replies: those that waited are told what is given up,
--- and then these entries are served; the replies to these stand first.
-pub record Answers (s : Service) (waits : Waiting) (given_up : List Reply) (entries : List Entry)
-    (waiting : Waiting) (replies : List Reply) : Type 0 where
-  pub waiting_are : waiting ≡ (serving s (dropping waits given_up).waiting entries).waiting
-  pub replies_are : replies ≡ (serving s (dropping waits given_up).waiting entries).replies
-      ++ (dropping waits given_up).replies
+-- after one more reply is ready: whoever waits for it gets it, and waits no longer
+abbrev pub giving_reply : Dropping → Reply → Dropping
+giving_reply t r =
+    if waits t.waiting r.client r.seq
+    then record { waiting = without_waiting t.waiting r.client r.seq; replies = t.replies ++ r ∷ [] }
+    else t
+
+-- after these are ready, in order
+abbrev pub giving : Waiting → List Reply → Dropping
+giving waiting replies = fold giving_reply (record { waiting = waiting; replies = [] }) replies

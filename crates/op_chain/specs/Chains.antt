@@ -1,7 +1,9 @@
 -- A chain, its state in the step table, and what its steps need.
-use Rattle.std.specs.Prelude.{◌≡◌, ℕ, [], Option, Some, None}
+use Rattle.std.specs.Prelude.{◌≡◌, ◌≤◌, ℕ, [], Option, Some, None, IfSome}
+use Rattle.op_types.specs.Limits.{last_conf}
 use Rattle.op_types.specs.Ranges.{IsMember}
-use Rattle.op_types.specs.Rooms.{with_room}
+use Rattle.op_types.specs.Changes.{EndsNowhere}
+use Rattle.op_types.specs.Rooms.{IsAtRest, no_needs, with_room}
 use Rattle.op_types.specs.declared.ballot.Ballot.{Ballot}
 use Rattle.op_types.specs.declared.durable.Durable.{Durable}
 use Rattle.op_types.specs.declared.durable.Part.{Part}
@@ -12,23 +14,31 @@ use Rattle.op_protocol.specs.State.{State, Volatile}
 use Rattle.op_protocol.specs.Rows.{step_plan}
 use Rattle.op_protocol.specs.Starting.{first_volatile}
 use Rattle.op_instance.specs.Memory.{volatile_of}
-use Rattle.op_instance.specs.Sound.{IsNode}
+use Rattle.op_kv.specs.Bases.{IsBase}
+use Rattle.op_instance.specs.Sound.{IsNode, IfListFits, IfJoiningFits}
 use Rattle.op_plans.specs.Positions.{FitsPositions}
+use Rattle.op_chain.specs.Bringing.{HasBase}
 use Rattle.op_chain.specs.declared.chain.Chain.{Chain}
 
 -- the state of the step table that a chain keeps; the room that its log has is left out
 abbrev pub state_of : Chain → State
 state_of c =
     record {
-      durable = with_room 0 c.durable;
+      durable = with_room no_needs c.durable;
       volatile = volatile_of c.volatile;
       service = c.service.service;
       waiting = c.waiting.waiting;
     }
 
--- what a chain keeps in memory is of what it has stored
+-- the base of a part, and the one that a node holds that joins, are bases
+pub record HaveBases (d : Durable) : Type 0 where
+  pub part : IfSome d.part (λ p. IsBase p.base)
+  pub joining : IfSome d.joining HasBase
+
+-- what a chain keeps in memory is of what it has stored, and each base that it has to read is one
 pub record IsSoundChain (c : Chain) : Type 0 where
-  pub node : IsNode c.me c.durable.part c.volatile
+  pub node : IsNode c.me c.durable c.volatile
+  pub bases : HaveBases c.durable
 
 -- the same server in the same state
 pub record IsSame (old new : Chain) : Type 0 where
@@ -53,11 +63,13 @@ pairs_in s (Some p) = Some s.pairs
 
 -- ---- openings
 
--- a server of this id can be a member with this part: it is one of its members, and its positions fit
+-- A server of this id can be a member with this part: it is one of its members, the configuration has a
+-- number, the positions fit, and the log has no stop-sign in the last configuration.
 pub record IsPartFor (me : ℕ) (p : Part) : Type 0 where
+  pub conf : p.conf ≤ last_conf
   pub member : IsMember p.members me
   pub positions : FitsPositions p
-  pub rest : p.tail.room ≡ 0
+  pub log : EndsNowhere p.conf p.tail.items
 
 -- a part, if there is one, is for this server
 abbrev pub IfPartFor : ℕ → Option Part → Type 0
@@ -65,8 +77,12 @@ IfPartFor me None = Unit {0}
 IfPartFor me (Some p) = IsPartFor me p
 
 -- a server of this id can be opened with this; one without a part waits to be named by a configuration
-abbrev pub CanOpen : ℕ → Durable → Type 0
-CanOpen me d = IfPartFor me d.part
+pub record CanOpen (me : ℕ) (d : Durable) : Type 0 where
+  pub part : IfPartFor me d.part
+  pub closed : IfListFits d.closed
+  pub joining : IfJoiningFits me d.joining
+  pub bases : HaveBases d
+  pub rest : IsAtRest d
 
 -- the state of a node at its first start, which has stored this
 abbrev pub first_state : ℕ → Durable → State

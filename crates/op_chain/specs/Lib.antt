@@ -1,3 +1,5 @@
 pub mod Answering
+pub mod Bringing
 pub mod Chains
 pub mod Plans
+pub mod Waiting

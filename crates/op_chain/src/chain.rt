@@ -1,39 +1,46 @@
-ghost use Rattle.std.specs.Prelude.{◌≡◌, OnOk, OnErr, IfOk, option_map};
-ghost use Rattle.op_types.specs.Changes.{Applies};
-ghost use Rattle.op_types.specs.Rooms.{needed, with_room};
+ghost use Rattle.std.specs.Prelude.{◌≡◌, ◌≤◌, ℕ, length, fold, Option, Some, None, option_map, IfOk, OnOk, IfSome};
+ghost use Rattle.op_types.specs.Stops.{stop_at_end};
+ghost use Rattle.op_types.specs.Roles.{role_of};
+ghost use Rattle.op_types.specs.Rooms.{with_room, no_needs};
+ghost use Rattle.op_types.specs.declared.durable.Joining.{Joining};
 ghost use Rattle.op_types.specs.declared.events.Input as input;
-ghost use Rattle.op_protocol.specs.Rows.{step_at, step_plan, waiting_at, newly_decided};
+ghost use Rattle.op_types.specs.declared.messages.Body as body;
+ghost use Rattle.op_record.specs.Ranges.{BatchInRange};
+ghost use Rattle.op_protocol.specs.Serving.{dropping_reply};
+ghost use Rattle.op_protocol.specs.Joining.{brought_to, holds_more};
+ghost use Rattle.op_protocol.specs.Rows.{step_plan, step_at, brought_by, newly_decided, based_batch};
 ghost use Rattle.op_protocol.specs.Starting as starts;
+ghost use Rattle.op_kv.specs.Bases.{IsBase};
+ghost use Rattle.op_kv.specs.Over.{service_over};
 ghost use Rattle.op_instance.specs.Memory.{volatile_of, part_step_of, HasRoomIn};
-ghost use Rattle.op_waiting.specs.Waiting.{with_waiter};
-ghost use Rattle.op_chain.specs.Answering.{IsServicePlan};
-ghost use Rattle.op_chain.specs.Chains.{
-  state_of,
-  first_state,
-  ballots_in,
-  pairs_in,
-  IsSoundChain,
-  IsSame,
-  Admits,
-  CanOpen,
-};
-ghost use Rattle.op_chain.specs.Plans.{Plans, Adopts};
+ghost use Rattle.op_chain.specs.Answering.{dropped_of};
+ghost use Rattle.op_chain.specs.Bringing.{IfJoined};
+ghost use Rattle.op_chain.specs.Chains.{state_of, first_state, ballots_in, pairs_in, IsSoundChain, IsSame, Admits, CanOpen};
+ghost use Rattle.op_chain.specs.Plans.{Plans, Prepares, Adopts, HasRoomToTell};
+ghost use Rattle.op_chain.specs.Plans.{waiters_of, waiting_by, based_step, IfMayClose, IfCloses, IfGoesOn};
+ghost use Rattle.op_chain.specs.Plans.{told_anew, volatile_anew, service_by};
 
-use crate::answering::answer;
+use crate::answering::{give, give_up};
+use crate::brought::Brought;
 use crate::chain_plan::ChainPlan;
-use crate::deciding::{decided_from, decided_of, serve_newly};
+use crate::closing::{given_up_after, push_news};
+use crate::deciding::{decided_after, serve_decided};
 use crate::given::Given;
+use crate::joining::bringing;
+use crate::renewal::{Renewal, begin, push_requests};
 use crate::room::Room;
-use crate::service_plan::ServicePlan;
-use op_instance::{
-    Volatile, first_volatile, refusal, spare_volatile, step, volatile_after_restart,
+use crate::served::Served;
+use crate::trimming::{based, service_at};
+use crate::waiting_set::{Waiter, WaitingSet};
+use op_instance::{Stored, Volatile, first_volatile, spare_volatile, volatile_after_restart};
+use op_kv::{KvChange, Map};
+use op_types::{
+    Ballot, Batch, Cause, Change, Durable, Input, NoMemory, Outcome, Part, Pid, Plan, Replies,
+    Reply, Reserved, is_among,
 };
-use op_kv::Map;
-use op_types::{Ballot, Batch, Durable, Input, NoMemory, Pid, Plan};
-use op_waiting::{Waiter, WaitingSet};
 use std::alloc::Global;
 
-/// A node over its configuration: what is stored, and what it keeps in memory.
+/// A node over its configurations: what is stored, and what it keeps in memory.
 #[derive(Drop)]
 pub struct Chain {
     alloc: Global,
@@ -55,7 +62,7 @@ impl Chain {
         ensures sound { IfOk result IsSoundChain }
     {
         let volatile = match &durable.part {
-            Some(part) => first_volatile(alloc, me, part)?,
+            Some(part) => first_volatile(alloc, me, &part.members)?,
             None => spare_volatile(alloc, me)?,
         };
         Ok(Chain {
@@ -68,8 +75,8 @@ impl Chain {
         })
     }
 
-    /// A node that is opened again, and has stored this. Its service is made anew from what is decided, and nobody
-    /// waits.
+    /// A node that is opened again, and has stored this. Its service is made anew from its base and what is decided behind
+    /// it, and nobody waits.
     pub fn again(alloc: Global, me: Pid, durable: Durable) -> Result<Chain, NoMemory>
         requires { CanOpen me durable }
         ensures me { IfOk result (λ c. c.me ≡ me) }
@@ -80,9 +87,7 @@ impl Chain {
             Some(part) => volatile_after_restart(alloc, me, part)?,
             None => spare_volatile(alloc, me)?,
         };
-        let mut service = Map::new(alloc);
-        let (_, change) = service.plan(alloc, decided_from(&durable, 0))?;
-        service.adopt(change);
+        let service = service_of(alloc, &durable.part)?;
         Ok(Chain {
             alloc,
             me,
@@ -99,87 +104,176 @@ impl Chain {
         ensures same { IsSame self.old self.new }
         ensures plans { IfOk result (λ plan. Plans self.new input plan) }
     {
-        let waiter = self.waiter(&input);
-        let plan = self.step(input)?;
-        let ServicePlan { answers, change } = self.serve_decided(&plan.batch)?;
-        let room = Room::new(self.alloc, answers.len(), plan.replies.len())?;
-        self.make_room(waiter, &plan.batch)?;
-        Ok(ChainPlan {
-            plan,
-            service: change,
-            answers,
-            room,
-        })
-    }
-
-    /// Who is to wait for what the input proposes: the client of a command that isn't refused.
-    fn waiter(&self, input: &Input) -> Option<Waiter>
-        requires { IsSoundChain self.now }
-        ensures { waiting_at self.now.me (state_of self.now) input.now
-            ≡ with_waiter self.now.waiting.waiting result }
-    {
-        let Input::Command(command) = input else {
-            return None;
-        };
-        let Some(part) = &self.durable.part else {
-            return None;
-        };
-        match refusal(self.me, part, &self.volatile.role) {
-            Some(_) => None,
-            None => Some((command.client, command.seq)),
-        }
-    }
-
-    /// What the input does in the configuration. Nothing changes yet, but the room that the plan's turn needs.
-    fn step(&mut self, input: Input) -> Result<Plan, NoMemory>
-        requires { IsSoundChain self.old }
-        ensures same { IsSame self.old self.new }
-        ensures rest { self.new ≡ record self.old {
-          durable = with_room 0 self.old.durable;
-          volatile = self.new.volatile;
-        } }
-        ensures step { IfOk result (λ plan. part_step_of plan (volatile_of self.old.volatile)
-            ≡ step_at self.old.me (with_room 0 self.old.durable).part (volatile_of self.old.volatile) input) }
-        ensures room { IfOk result (λ plan. HasRoomIn plan.turn self.new.volatile) }
-    {
         self.durable.leave_room();
-        step(
-            self.alloc,
-            self.me,
-            &self.durable,
-            &mut self.volatile,
-            input,
-        )
-    }
-
-    /// What the entries that a batch decides do to the service, and what they are answered.
-    fn serve_decided(&mut self, batch: &Batch) -> Result<ServicePlan, NoMemory>
-        ensures rest { self.new ≡ record self.old { service = self.new.service } }
-        ensures same { self.new.service.service ≡ self.old.service.service }
-        ensures settled { OnOk result (self.new.service.waiting ≡ 0) }
-        ensures served { IfOk result (λ plan. IsServicePlan self.old.service.service plan
-            (newly_decided self.old.durable.part batch.now)) }
-    {
-        // A plan of nothing settles the service; the entries that the batch decides are planned on top of it.
-        let (answers, change) = self.service.plan(self.alloc, &[])?;
-        let mut plan = ServicePlan { answers, change };
-        if let Some(part) = &self.durable.part {
-            serve_newly(self.alloc, &self.service, part, batch.as_slice(), &mut plan)?;
-        }
+        let plan = self.prepare(input)?;
+        self.durable.room_for(plan.batch())?;
         Ok(plan)
     }
 
-    /// Room for one that is to wait, if there is one, and for what a batch adds to the log.
-    fn make_room(&mut self, waiter: Option<Waiter>, batch: &Batch) -> Result<(), NoMemory>
-        requires { Applies self.old.durable batch.now }
-        ensures rest { self.new ≡ record self.old { durable = self.new.durable; waiting = self.new.waiting } }
-        ensures same { self.new.waiting.waiting ≡ self.old.waiting.waiting }
-        ensures room { OnOk result (self.new.waiting.next ≡ with_waiter self.old.waiting.waiting waiter) }
-        ensures ok { OnOk result (self.new.durable ≡ with_room (needed batch.now) self.old.durable) }
-        ensures err { OnErr result (self.new.durable ≡ self.old.durable) }
+    /// The same, but for room in what is stored, of which there is none.
+    fn prepare(&mut self, input: Input) -> Result<ChainPlan, NoMemory>
+        requires admits { Admits self.old input }
+        requires rested { with_room no_needs self.old.durable ≡ self.old.durable }
+        ensures same { IsSame self.old self.new }
+        ensures rested { self.new.durable ≡ self.old.durable }
+        ensures prepares { IfOk result
+            (Prepares self.new (step_plan self.old.me (state_of self.old) input)) }
     {
-        self.waiting.make_room(waiter)?;
-        self.durable.room_for(batch)
+        let latest = self.stored().latest();
+        match bringing(self.alloc, latest, &self.durable.joining, input)? {
+            Brought::Nothing(input) => self.plan_step(input),
+            Brought::Changes(batch, service) => self.plan_joining(batch, service),
+        }
+    }
+
+    /// The node and what it stores.
+    fn stored(&self) -> Stored<'_>
+        ensures me { result.me ≡ self.now.me }
+        ensures durable { result.durable.now ≡ self.now.durable }
+    {
+        Stored {
+            alloc: self.alloc,
+            me: self.me,
+            durable: &self.durable,
+        }
+    }
+
+    /// The plan of an input that brings nothing of a closed list: the part that decides its stop-sign is closed.
+    fn plan_step(&mut self, input: Input) -> Result<ChainPlan, NoMemory>
+        requires admits { Admits self.old input }
+        requires rested { with_room no_needs self.old.durable ≡ self.old.durable }
+        requires none { brought_by self.old.durable input ≡ None }
+        ensures same { IsSame self.old self.new }
+        ensures rested { self.new.durable ≡ self.old.durable }
+        ensures prepares { IfOk result
+            (Prepares self.new (step_plan self.old.me (state_of self.old) input)) }
+    {
+        let waiters = waiters_of(self.alloc, &input)?;
+        let mut plan = self.step(input)?;
+        let served = serve_decided(
+            self.alloc,
+            &mut self.service,
+            &self.durable.part,
+            plan.batch.as_slice(),
+        )?;
+        let renewal = self.close(&mut plan, &served)?;
+        self.make_waiters_room(&plan.outcome, waiters.as_slice())?;
+        planned(self.alloc, plan, served.change, served.replies, renewal)
+    }
+
+    /// The plan of changes by which a node that joins holds more: it goes on in the new configuration with this service, if
+    /// it has all then.
+    fn plan_joining(&mut self, batch: Batch, service: Option<Map>) -> Result<ChainPlan, NoMemory>
+        requires sound { IsSoundChain self.old }
+        requires rested { with_room no_needs self.old.durable ≡ self.old.durable }
+        requires brought { (c : ℕ) × (b : body.Body)
+            × (brought_to self.old.durable.joining c b ≡ Some batch) }
+        requires served { (j : Joining) × (self.old.durable.joining ≡ Some j) × IfJoined j batch service }
+        requires range { BatchInRange (holds_more self.old.me (state_of self.old) batch).batch }
+        ensures same { IsSame self.old self.new }
+        ensures rested { self.new.durable ≡ self.old.durable }
+        ensures prepares { IfOk result
+            (Prepares self.new (holds_more self.old.me (state_of self.old) batch)) }
+    {
+        // A plan of nothing settles the service.
+        let (_, change) = self.service.plan(self.alloc, &[])?;
+        let mut plan = Plan::nothing(self.alloc);
+        plan.batch = batch;
+        let renewal = self.go_on(&mut plan, service)?;
+        self.waiting.make_room(&[])?;
+        planned(self.alloc, plan, change, Replies::new(self.alloc), renewal)
+    }
+
+    /// What the input does in the configurations, with the base of what it trims. Nothing changes yet, but the room that the
+    /// plan's turn needs.
+    fn step(&mut self, input: Input) -> Result<Plan, NoMemory>
+        requires { IsSoundChain self.old }
+        ensures rest { self.new ≡ record self.old {
+          volatile = record self.old.volatile { role = self.new.volatile.role };
+        } }
+        ensures role { role_of self.new.volatile.role ≡ role_of self.old.volatile.role }
+        ensures step { IfOk result (λ plan. part_step_of plan (volatile_of self.old.volatile)
+            ≡ based_step self.old.durable.part
+            (step_at self.old.me self.old.durable (volatile_of self.old.volatile) input)) }
+        ensures room { IfOk result (λ plan. HasRoomIn plan.turn self.new.volatile) }
+    {
+        let stored = Stored {
+            alloc: self.alloc,
+            me: self.me,
+            durable: &self.durable,
+        };
+        let plan = stored.step(&mut self.volatile, input)?;
+        with_bases(self.alloc, &self.durable.part, plan)
+    }
+
+    /// Where a plan decides its part's stop-sign, the part is closed: the new members hear of the next configuration, and
+    /// all that is kept in memory of the part begins anew.
+    fn close(&self, plan: &mut Plan, served: &Served) -> Result<Option<Renewal>, NoMemory>
+        requires settled { self.now.service.waiting ≡ 0 }
+        requires may { IfMayClose self.now.durable.part plan.old.batch }
+        requires stop { served.now.stop ≡ stop_at_end (newly_decided self.now.durable.part plan.old.batch) }
+        ensures { IfOk result (IfCloses self.now.me self.now.durable.part
+            (service_over self.now.service.service served.now.change)
+            (role_of self.now.volatile.role) plan.old plan.new) }
+    {
+        let Some(part) = &self.durable.part else {
+            return Ok(None);
+        };
+        let Some(stop) = &served.stop else {
+            return Ok(None);
+        };
+        let named = is_among(stop.members.as_slice(), self.me);
+        let cause = Cause::Stop(decided_after(part, plan.batch.as_slice()).saturating_sub(1));
+        push_news(&mut plan.sends, part, plan.batch.as_slice(), stop)?;
+        let base = self.service.base_bytes_after(self.alloc, &served.change)?;
+        plan.batch.push(Change::Close(named, base))?;
+        let given_up = given_up_after(self.alloc, &plan.turn, &self.volatile.role, cause)?;
+        Ok(Some(Renewal {
+            volatile: begin(self.alloc, self.me, &stop.members)?,
+            service: None,
+            given_up,
+        }))
+    }
+
+    /// Where a node that joins has all, so that this is its service, it goes on in the new configuration: whoever leads is
+    /// asked to prepare it.
+    fn go_on(&self, plan: &mut Plan, service: Option<Map>) -> Result<Option<Renewal>, NoMemory>
+        ensures { IfOk result (IfGoesOn self.now.me self.now.durable.joining service
+            (role_of self.now.volatile.role) plan.old plan.new) }
+    {
+        let Some(joining) = &self.durable.joining else {
+            return Ok(None);
+        };
+        let Some(service) = service else {
+            return Ok(None);
+        };
+        plan.batch
+            .push(Change::JoinDone(service.base_bytes(self.alloc)?))?;
+        push_requests(&mut plan.sends, self.me, joining)?;
+        let cause = Cause::Stop(joining.len.saturating_sub(1));
+        let given_up = given_up_after(self.alloc, &plan.turn, &self.volatile.role, cause)?;
+        Ok(Some(Renewal {
+            volatile: begin(self.alloc, self.me, &joining.members)?,
+            service: Some(service),
+            given_up,
+        }))
+    }
+
+    /// Room for those that are to wait: the clients of commands that weren't refused.
+    fn make_waiters_room(
+        &mut self,
+        outcome: &Option<Outcome>,
+        waiters: &[Waiter],
+    ) -> Result<(), NoMemory>
+        ensures rest { self.new ≡ record self.old { waiting = self.new.waiting } }
+        ensures same { self.new.waiting.waiting ≡ self.old.waiting.waiting }
+        ensures room { OnOk result (self.new.waiting.next
+            ≡ waiting_by outcome.now self.old.waiting.waiting waiters.now) }
+    {
+        match outcome {
+            Some(Outcome::Refused(_)) => self.waiting.make_room(&[]),
+            _ => self.waiting.make_room(waiters),
+        }
     }
 
     /// The plan takes effect. It can't fail, and takes no memory.
@@ -191,28 +285,63 @@ impl Chain {
         let ChainPlan {
             plan,
             service,
-            answers,
+            replies,
+            renewal,
             room,
         } = plan;
         let Plan {
             batch,
             turn,
             sends,
-            replies,
+            replies: given_up,
             outcome,
         } = plan;
-        let decided = decided_of(&self.durable);
+        let Room {
+            replies: mut given,
+            mut told,
+        } = room;
         self.durable.adopt(batch);
         self.volatile.adopt(turn);
         self.service.adopt(service);
         self.waiting.let_wait();
-        let entries = decided_from(&self.durable, decided);
-        let replies = answer(&mut self.waiting, entries, answers, replies, room);
+        give_up(&mut self.waiting, &mut told, given_up);
+        give(&mut self.waiting, &mut given, replies);
+        given.add_all(told.into_seq());
+        self.renew(&mut given, renewal);
         Given {
             sends,
-            replies,
+            replies: given.into_seq(),
             outcome,
         }
+    }
+
+    /// What begins anew takes its place, and those are told whose proposals are given up with it.
+    fn renew(&mut self, given: &mut Reserved<Reply>, renewal: Option<Renewal>)
+        requires { length (told_anew renewal) ≤ given.old.room }
+        ensures rest { self.new ≡ record self.old {
+          volatile = volatile_anew renewal self.old.volatile;
+          service = self.new.service;
+          waiting = self.new.waiting;
+        } }
+        ensures service { self.new.service.service ≡ service_by renewal self.old.service.service }
+        ensures told { dropped_of self.new.waiting given.new
+            ≡ fold dropping_reply (dropped_of self.old.waiting given.old) (told_anew renewal) }
+    {
+        let Some(
+            Renewal {
+                volatile,
+                service,
+                given_up: dropped,
+            },
+        ) = renewal
+        else {
+            return;
+        };
+        self.volatile = volatile;
+        if let Some(service) = service {
+            self.service = service;
+        }
+        give_up(&mut self.waiting, given, dropped);
     }
 
     /// Whose node this is.
@@ -224,7 +353,7 @@ impl Chain {
 
     /// What is stored.
     pub fn durable(&self) -> &Durable
-        ensures { with_room 0 result.now ≡ (state_of self.now).durable }
+        ensures { with_room no_needs result.now ≡ (state_of self.now).durable }
     {
         &self.durable
     }
@@ -265,4 +394,90 @@ impl Chain {
             None => None,
         }
     }
+}
+
+/// The clients of the commands that an input proposes, each with its number.
+fn waiters_of(alloc: Global, input: &Input) -> Result<Vec<Waiter>, NoMemory>
+    ensures { IfOk result (λ waiters. waiters.items ≡ waiters_of input.now) }
+{
+    let mut waiters = Vec::new(alloc);
+    if let Input::Commands(commands) = input {
+        for command in commands.as_slice() {
+            waiters.push((command.client, command.seq))?;
+        }
+    }
+    Ok(waiters)
+}
+
+/// The service of a part: that of its base, and then of what is decided behind it.
+fn service_of(alloc: Global, part: &Option<Part>) -> Result<Map, NoMemory>
+    requires { IfSome part.now (λ p. IsBase p.base) }
+    ensures { IfOk result (λ m. m.service ≡ starts.service_after_restart part.now) }
+{
+    match part {
+        Some(part) => service_at(alloc, part, part.decided),
+        None => Ok(Map::new(alloc)),
+    }
+}
+
+/// The plan, with the base of what it trims of a part.
+fn with_bases(alloc: Global, part: &Option<Part>, plan: Plan) -> Result<Plan, NoMemory>
+    requires { IfSome part.now (λ p. IsBase p.base) }
+    ensures { IfOk result (λ p. p ≡ record plan { batch = based_batch part.now plan.batch }) }
+{
+    let Some(part) = part else {
+        return Ok(plan);
+    };
+    let Plan {
+        batch,
+        turn,
+        sends,
+        replies,
+        outcome,
+    } = plan;
+    Ok(Plan {
+        batch: based(alloc, part, batch)?,
+        turn,
+        sends,
+        replies,
+        outcome,
+    })
+}
+
+/// The plan with room for its replies.
+fn planned(
+    alloc: Global,
+    plan: Plan,
+    service: KvChange,
+    replies: Replies,
+    renewal: Option<Renewal>,
+) -> Result<ChainPlan, NoMemory>
+    ensures plan { IfOk result (λ p. p ≡ record {
+      plan = plan;
+      service = service;
+      replies = replies;
+      renewal = renewal;
+      room = p.room;
+    }) }
+    ensures room { IfOk result HasRoomToTell }
+{
+    let given_up = plan.replies.len();
+    let renewed = match &renewal {
+        Some(renewal) => renewal.given_up.len(),
+        None => 0,
+    };
+    let Some(all) = replies
+        .len()
+        .checked_add(given_up)
+        .and_then(|n| n.checked_add(renewed))
+    else {
+        return Err(NoMemory);
+    };
+    Ok(ChainPlan {
+        plan,
+        service,
+        replies,
+        renewal,
+        room: Room::new(alloc, all, given_up)?,
+    })
 }

@@ -1,17 +1,21 @@
 ghost use Rattle.std.specs.Prelude.{◌≡◌};
 
+use crate::renewal::Renewal;
 use crate::room::Room;
-use op_kv::{Answers, KvChange};
-use op_types::{Batch, Plan};
+use op_kv::KvChange;
+use op_types::{Batch, Plan, Replies};
 
 /// What a step is to do, with all its room made: it can be adopted, or dropped.
 #[derive(Drop)]
 pub struct ChainPlan {
+    /// Its batch has the base of what it trims, and closes the part that decides its stop-sign.
     pub(crate) plan: Plan,
     /// What the entries that it decides do to the service.
     pub(crate) service: KvChange,
-    /// What these are answered.
-    pub(crate) answers: Answers,
+    /// The replies to these, each for whoever waits for it.
+    pub(crate) replies: Replies,
+    /// What begins anew, where the node goes on in another configuration or in none.
+    pub(crate) renewal: Option<Renewal>,
     pub(crate) room: Room,
 }
 

@@ -1,46 +1,45 @@
 //! What a batch newly decides, of the log as the batch leaves it: nothing is applied for it, and nothing copied.
 ghost use Rattle.std.specs.Prelude.{◌≡◌, ◌+◌, ◌-◌, length, take, drop, IfOk, OnOk};
 ghost use Rattle.op_protocol.specs.Parts.{part_after, decided_since};
-ghost use Rattle.op_chain.specs.Answering.{Continues, decided_of, decided_from};
+ghost use Rattle.op_protocol.specs.Rows.{newly_decided};
+ghost use Rattle.op_chain.specs.Answering.{Continues, IsServed};
 
+use crate::served::Served;
 use crate::service_plan::ServicePlan;
 use op_kv::Map;
-use op_types::{Change, Durable, Entry, NoMemory, Part};
+use op_types::{Change, Entry, NoMemory, Part};
 use std::alloc::Global;
 
-/// How much a node has decided.
-pub(crate) fn decided_of(durable: &Durable) -> u64
-    ensures { result ≡ decided_of durable.now.part }
+/// What the entries that a batch newly decides do. The service stays as it is, and is settled.
+pub(crate) fn serve_decided(
+    alloc: Global,
+    service: &mut Map,
+    part: &Option<Part>,
+    batch: &[Change],
+) -> Result<Served, NoMemory>
+    ensures stays { service.new.service ≡ service.old.service }
+    ensures ready { OnOk result (service.new.waiting ≡ 0) }
+    ensures served { IfOk result (IsServed service.old.service (newly_decided part.now batch.now)) }
 {
-    match &durable.part {
-        Some(part) => part.decided,
-        None => 0,
+    let mut plan = ServicePlan::new(alloc, service)?;
+    match part {
+        Some(part) => {
+            serve_newly(alloc, service, part, batch, &mut plan)?;
+            plan.into_served(alloc)
+        }
+        None => plan.into_served(alloc),
     }
 }
 
-/// The entries that a node has decided, from a position on.
-pub(crate) fn decided_from(durable: &Durable, at: u64) -> &[Entry]
-    ensures { result.now ≡ decided_from at durable.now.part }
+/// Where a position stands in a log of which so much is trimmed.
+pub(crate) fn index(trimmed: u64, pos: u64) -> usize
+    ensures { result ≡ pos - trimmed }
 {
-    match &durable.part {
-        Some(part) => between(
-            part.tail.as_slice(),
-            index(part, at),
-            index(part, part.decided),
-        ),
-        None => &[],
-    }
-}
-
-/// Where a position stands in a part's log.
-fn index(part: &Part, pos: u64) -> usize
-    ensures { result ≡ pos - part.now.trimmed }
-{
-    pos.saturating_sub(part.trimmed) as usize
+    pos.saturating_sub(trimmed) as usize
 }
 
 /// The entries from one index to another, as far as there are so many.
-fn between(entries: &[Entry], start: usize, end: usize) -> &[Entry]
+pub(crate) fn between(entries: &[Entry], start: usize, end: usize) -> &[Entry]
     ensures { result.now ≡ drop start (take end entries.now) }
 {
     let end = end.min(entries.len());
@@ -49,7 +48,7 @@ fn between(entries: &[Entry], start: usize, end: usize) -> &[Entry]
 }
 
 /// How much a part has decided after a batch.
-fn decided_after(part: &Part, batch: &[Change]) -> u64
+pub(crate) fn decided_after(part: &Part, batch: &[Change]) -> u64
     ensures { result ≡ (part_after part.now batch.now).decided }
 {
     let mut decided = part.decided;
@@ -61,8 +60,21 @@ fn decided_after(part: &Part, batch: &[Change]) -> u64
     decided
 }
 
+/// How much of a part is trimmed after a batch.
+pub(crate) fn trimmed_after(part: &Part, batch: &[Change]) -> u64
+    ensures { result ≡ (part_after part.now batch.now).trimmed }
+{
+    let mut trimmed = part.trimmed;
+    'changes: for change in batch {
+        if let Change::Trim(at, _) = change {
+            trimmed = *at;
+        }
+    }
+    trimmed
+}
+
 /// The entries that a batch newly decides are served after the others.
-pub(crate) fn serve_newly(
+fn serve_newly(
     alloc: Global,
     service: &Map,
     part: &Part,
@@ -73,68 +85,104 @@ pub(crate) fn serve_newly(
     ensures { OnOk result (Continues service.now.service plan.old plan.new
         (decided_since part.now (part_after part.now batch.now))) }
 {
-    let start = index(part, part.decided);
-    let end = index(part, decided_after(part, batch));
-    serve_between(alloc, service, part, batch, start, end, plan)?;
+    let trimmed = trimmed_after(part, batch);
+    let log = LogAfter { part, batch };
+    let slice = Slice {
+        start: index(trimmed, part.decided),
+        end: index(trimmed, decided_after(part, batch)),
+    };
+    serve_between(alloc, service, log, slice, plan)?;
     Ok(())
 }
 
-/// The entries from one index to another of the log that a batch leaves are served after the others. Tells that log's
-/// length.
+/// A part and a batch: the log is that of the part after the batch.
+#[derive(Clone, Copy)]
+struct LogAfter<'a> {
+    part: &'a Part,
+    batch: &'a [Change],
+}
+
+/// From one index of a log to another.
+#[derive(Clone, Copy)]
+struct Slice {
+    start: usize,
+    end: usize,
+}
+
+impl Slice {
+    /// The same entries of a log that has so many more before it.
+    fn behind(self, count: usize) -> Result<Slice, NoMemory>
+        ensures start { IfOk result (λ s. s.start ≡ self.start + count) }
+        ensures end { IfOk result (λ s. s.end ≡ self.end + count) }
+    {
+        let start = self.start.checked_add(count).ok_or(NoMemory)?;
+        let end = self.end.checked_add(count).ok_or(NoMemory)?;
+        Ok(Slice { start, end })
+    }
+}
+
+/// A slice of the log that a batch leaves is served after the others. Tells that log's length.
 fn serve_between(
     alloc: Global,
     service: &Map,
-    part: &Part,
-    batch: &[Change],
-    start: usize,
-    end: usize,
+    log: LogAfter,
+    slice: Slice,
     plan: &mut ServicePlan,
 ) -> Result<usize, NoMemory>
     requires { service.now.waiting ≡ 0 }
     ensures served { OnOk result (Continues service.now.service plan.old plan.new
-        (drop start (take end (part_after part.now batch.now).tail.items))) }
-    ensures len { IfOk result (λ n. n ≡ length (part_after part.now batch.now).tail.items) }
+        (drop slice.start (take slice.end (part_after log.entry.part.now log.entry.batch.now).tail.items))) }
+    ensures len { IfOk result (λ n.
+        n ≡ length (part_after log.entry.part.now log.entry.batch.now).tail.items) }
 {
+    let LogAfter { part, batch } = log;
     let [before @ .., last] = batch else {
         let entries = part.tail.as_slice();
-        plan.serve(alloc, service, between(entries, start, end))?;
+        plan.serve(alloc, service, between(entries, slice.start, slice.end))?;
         return Ok(entries.len());
+    };
+    let log = LogAfter {
+        part,
+        batch: before,
     };
     match last {
         Change::CutTo(len) => {
-            let kept = index(part, *len);
-            let end = end.min(kept);
-            let len = serve_between(alloc, service, part, before, start, end, plan)?;
+            let kept = index(trimmed_after(part, before), *len);
+            let end = slice.end.min(kept);
+            let len = serve_between(alloc, service, log, Slice { end, ..slice }, plan)?;
             Ok(len.min(kept))
         }
         Change::Append(entries) => {
-            let len = serve_between(alloc, service, part, before, start, end, plan)?;
-            serve_appended(alloc, service, entries.as_slice(), len, start, end, plan)
+            let len = serve_between(alloc, service, log, slice, plan)?;
+            serve_appended(alloc, service, entries.as_slice(), len, slice, plan)
         }
-        Change::Promise(_) | Change::Accept(_) | Change::Decided(_) => {
-            serve_between(alloc, service, part, before, start, end, plan)
+        Change::Trim(at, _) => {
+            let gone = index(trimmed_after(part, before), *at);
+            let slice = slice.behind(gone)?;
+            let len = serve_between(alloc, service, log, slice, plan)?;
+            Ok(len.saturating_sub(gone))
         }
+        _ => serve_between(alloc, service, log, slice, plan),
     }
 }
 
-/// What is appended to a log of this length is served after the others, as far as it stands from one index to another.
-/// Tells the log's length then.
+/// What is appended to a log of this length is served after the others, as far as it stands in a slice. Tells the log's
+/// length then.
 fn serve_appended(
     alloc: Global,
     service: &Map,
     entries: &[Entry],
     len: usize,
-    start: usize,
-    end: usize,
+    slice: Slice,
     plan: &mut ServicePlan,
 ) -> Result<usize, NoMemory>
     requires { service.now.waiting ≡ 0 }
     ensures served { OnOk result (Continues service.now.service plan.old plan.new
-        (drop (start - len) (take (end - len) entries.now))) }
+        (drop (slice.start - len) (take (slice.end - len) entries.now))) }
     ensures len { IfOk result (λ n. n ≡ len + length entries.now) }
 {
-    let first = start.saturating_sub(len);
-    let past = end.saturating_sub(len);
+    let first = slice.start.saturating_sub(len);
+    let past = slice.end.saturating_sub(len);
     plan.serve(alloc, service, between(entries, first, past))?;
     match len.checked_add(entries.len()) {
         Some(whole) => Ok(whole),

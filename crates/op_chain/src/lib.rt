@@ -1,18 +1,25 @@
-//! A node over its configuration, its service and its waiting clients, without its disks: each step is planned with all
+//! A node over all its configurations, its service and its waiting clients, without its disks: each step is planned with all
 //! the memory that it takes, and adopted once its batch is stored.
 #![tactic(auto)]
 
 mod answering;
+mod brought;
 mod chain;
 mod chain_plan;
+mod closing;
 mod deciding;
 mod given;
+mod joining;
+mod renewal;
 mod room;
+mod served;
 mod service_plan;
 mod starting;
+mod trimming;
+mod waiting_set;
 
 pub use chain::Chain;
 pub use chain_plan::ChainPlan;
 pub use given::Given;
 pub use op_kv::{Map, Pairs};
-pub use starting::{first_durable, sends_after_restart, spare_durable};
+pub use starting::{empty_durable, first_durable, sends_after_restart};

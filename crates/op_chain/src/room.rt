@@ -7,20 +7,17 @@ use std::alloc::Global;
 /// Room for the replies of a step.
 #[derive(Drop)]
 pub(crate) struct Room {
-    /// For those whose commands are decided, and for all that are told.
+    /// For all who are answered or told.
     pub(crate) replies: Reserved<Reply>,
-    /// For those whose proposals are given up.
+    /// For those whose proposals a row gives up: they are told after the others, but wait no longer before them.
     pub(crate) told: Reserved<Reply>,
 }
 
 impl Room {
-    /// Room for the replies to so many commands that are decided, and to so many proposals that are given up.
-    pub(crate) fn new(alloc: Global, decided: usize, given_up: usize) -> Result<Room, NoMemory>
-        ensures { IfOk result (HasRoomFor decided given_up) }
+    /// Room for so many replies, of which so many are to proposals that a row gives up.
+    pub(crate) fn new(alloc: Global, all: usize, given_up: usize) -> Result<Room, NoMemory>
+        ensures { IfOk result (HasRoomFor all given_up) }
     {
-        let Some(all) = decided.checked_add(given_up) else {
-            return Err(NoMemory);
-        };
         let mut replies = Reserved::new(alloc);
         replies.make_room(all)?;
         let mut told = Reserved::new(alloc);

@@ -8,142 +8,130 @@ ghost use Rattle.op_types.specs.Effects.{effects_of};
 ghost use Rattle.op_plans.specs.Positions.{FitsPositions};
 ghost use Rattle.op_types.specs.Roles.{role_of, HasRoom};
 
-use op_plans::{log_len, push_append, push_cut, saying, send, without_prefix};
-use op_types::{Ballot, Batch, Body, Change, Entries, Part, Pid, Plan, Role};
-use std::alloc::{AllocError as NoMemory, Global};
+use op_plans::{Member, push_append, without_prefix};
+use op_types::{Ballot, Batch, Body, Change, Entries, Pid, Plan, Role};
+use std::alloc::AllocError as NoMemory;
+
+/// What a leader sends of its log.
+#[derive(Drop)]
+pub struct Accept {
+    /// The leader's.
+    pub ballot: Ballot,
+    /// The position of the first of the entries.
+    pub at: u64,
+    /// The leader's entries from there on.
+    pub entries: Entries,
+}
 
 /// Entries come from a position on. They are taken if their round is the one that is promised and accepted.
-pub fn on_accept(
-    alloc: Global,
-    part: &Part,
-    role: &Role,
-    from: Pid,
-    ballot: Ballot,
-    at: u64,
-    entries: Entries,
-) -> Result<Plan, NoMemory>
-    requires positions { FitsPositions part.now }
-    requires admitted { at + length entries ≤ positions_end }
+pub fn on_accept(member: &Member, role: &Role, from: Pid, accept: Accept) -> Result<Plan, NoMemory>
+    requires positions { FitsPositions member.now.part.now }
+    requires admitted { accept.at + length accept.entries ≤ positions_end }
     ensures row { IfOk result (λ plan. effects_of role.now plan
-        ≡ on_accept part.now (role_of role.now) from ballot at entries) }
+        ≡ on_accept member.now.part.now (role_of role.now) from accept.ballot accept.at accept.entries) }
     ensures room { IfOk result (λ plan. HasRoom plan.turn role.now) }
 {
-    if part.promised.is_same(ballot) && part.accepted.is_same(ballot) {
-        accept_entries(alloc, part, role, from, ballot, at, entries)
+    let part = member.part;
+    if part.promised.is_same(accept.ballot) && part.accepted.is_same(accept.ballot) {
+        accept_entries(member, role, from, accept)
     } else {
-        Ok(Plan::nothing(alloc))
+        Ok(member.nothing())
     }
 }
 
 /// Entries of the accepted round come: they are added as far as they are new.
-fn accept_entries(
-    alloc: Global,
-    part: &Part,
-    role: &Role,
-    from: Pid,
-    ballot: Ballot,
-    at: u64,
-    entries: Entries,
-) -> Result<Plan, NoMemory>
-    requires positions { FitsPositions part.now }
-    requires admitted { at + length entries ≤ positions_end }
+fn accept_entries(member: &Member, role: &Role, from: Pid, accept: Accept) -> Result<Plan, NoMemory>
+    requires positions { FitsPositions member.now.part.now }
+    requires admitted { accept.at + length accept.entries ≤ positions_end }
     ensures row { IfOk result (λ plan. effects_of role.now plan
-        ≡ accept_entries part.now (role_of role.now) from ballot at entries) }
+        ≡ accept_entries member.now.part.now (role_of role.now) from accept.ballot accept.at accept.entries) }
     ensures room { IfOk result (λ plan. HasRoom plan.turn role.now) }
 {
-    let len = log_len(part);
-    if len < at {
-        return saying(alloc, part, from, Body::PrepareReq);
+    let len = member.log_len();
+    if len < accept.at {
+        return member.saying(from, Body::PrepareReq);
     }
-    let more = without_prefix(alloc, entries, len - at)?;
+    let more = without_prefix(member.alloc, accept.entries, len - accept.at)?;
     let new_len = len + more.len() as u64;
-    let mut batch = Batch::new(alloc);
+    let mut batch = Batch::new(member.alloc);
     push_append(&mut batch, more)?;
-    accepted(alloc, part, role, from, ballot, batch, new_len)
+    accepted(member, role, from, accept.ballot, batch, new_len)
 }
 
 /// The log is changed, and its new length is told.
 fn accepted(
-    alloc: Global,
-    part: &Part,
+    member: &Member,
     role: &Role,
     to: Pid,
     ballot: Ballot,
     batch: Batch,
     len: u64,
 ) -> Result<Plan, NoMemory>
-    requires { len ≡ len_of (part_after part.now batch) }
+    requires { len ≡ len_of (part_after member.now.part.now batch) }
     ensures row { IfOk result (λ plan. effects_of role.now plan
-        ≡ accepts part.now (role_of role.now) to ballot batch) }
+        ≡ accepts member.now.part.now (role_of role.now) to ballot batch) }
     ensures room { IfOk result (λ plan. HasRoom plan.turn role.now) }
 {
-    let mut plan = Plan::nothing(alloc);
-    send(&mut plan.sends, part, to, Body::Accepted(ballot, len))?;
+    let mut plan = member.saying(to, Body::Accepted(ballot, len))?;
     plan.batch = batch;
     Ok(plan)
 }
 
 /// The leader's log comes from a position on. In a round that is accepted already this never shortens the log.
 pub fn on_accept_sync(
-    alloc: Global,
-    part: &Part,
+    member: &Member,
     role: &Role,
     from: Pid,
-    ballot: Ballot,
-    at: u64,
-    entries: Entries,
+    accept: Accept,
 ) -> Result<Plan, NoMemory>
-    requires positions { FitsPositions part.now }
-    requires admitted { at + length entries ≤ positions_end }
+    requires positions { FitsPositions member.now.part.now }
+    requires admitted { accept.at + length accept.entries ≤ positions_end }
     ensures row { IfOk result (λ plan. effects_of role.now plan
-        ≡ on_accept_sync part.now (role_of role.now) from ballot at entries) }
+        ≡ on_accept_sync member.now.part.now (role_of role.now) from accept.ballot accept.at accept.entries) }
     ensures room { IfOk result (λ plan. HasRoom plan.turn role.now) }
 {
-    if part.promised.is_same(ballot) && part.accepted.is_below(ballot) {
-        sync_entries(alloc, part, role, from, ballot, at, entries)
+    let part = member.part;
+    if part.promised.is_same(accept.ballot) && part.accepted.is_below(accept.ballot) {
+        sync_entries(member, role, from, accept)
     } else {
-        on_accept(alloc, part, role, from, ballot, at, entries)
+        on_accept(member, role, from, accept)
     }
 }
 
 /// The leader's log takes the place of the own one from a position on, in its round.
-fn sync_entries(
-    alloc: Global,
-    part: &Part,
-    role: &Role,
-    from: Pid,
-    ballot: Ballot,
-    at: u64,
-    entries: Entries,
-) -> Result<Plan, NoMemory>
-    requires positions { FitsPositions part.now }
-    requires admitted { at + length entries ≤ positions_end }
+fn sync_entries(member: &Member, role: &Role, from: Pid, accept: Accept) -> Result<Plan, NoMemory>
+    requires positions { FitsPositions member.now.part.now }
+    requires admitted { accept.at + length accept.entries ≤ positions_end }
     ensures row { IfOk result (λ plan. effects_of role.now plan
-        ≡ sync_entries part.now (role_of role.now) from ballot at entries) }
+        ≡ sync_entries member.now.part.now (role_of role.now) from accept.ballot accept.at accept.entries) }
     ensures room { IfOk result (λ plan. HasRoom plan.turn role.now) }
 {
-    if part.decided <= at && at <= log_len(part) {
+    let Accept {
+        ballot,
+        at,
+        entries,
+    } = accept;
+    if member.part.decided <= at && at <= member.log_len() {
         let len = at + entries.len() as u64;
-        let batch = synced_batch(alloc, part, ballot, at, entries)?;
-        accepted(alloc, part, role, from, ballot, batch, len)
+        let batch = synced_batch(member, ballot, at, entries)?;
+        accepted(member, role, from, ballot, batch, len)
     } else {
-        Ok(Plan::nothing(alloc))
+        Ok(member.nothing())
     }
 }
 
 /// The changes by which the leader's log takes the place of the own one.
 fn synced_batch(
-    alloc: Global,
-    part: &Part,
+    member: &Member,
     ballot: Ballot,
     at: u64,
     entries: Entries,
 ) -> Result<Batch, NoMemory>
-    requires { FitsPositions part.now }
-    ensures { IfOk result (λ batch. batch ≡ synced_changes part.now ballot at entries) }
+    requires { FitsPositions member.now.part.now }
+    ensures { IfOk result (λ batch. batch ≡ synced_changes member.now.part.now ballot at entries) }
 {
-    let mut batch = Batch::new(alloc);
-    push_cut(&mut batch, part, at)?;
+    let mut batch = Batch::new(member.alloc);
+    member.push_cut(&mut batch, at)?;
     push_append(&mut batch, entries)?;
     batch.push(Change::Accept(ballot))?;
     Ok(batch)

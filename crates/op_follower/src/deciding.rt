@@ -5,25 +5,20 @@ ghost use Rattle.op_types.specs.Effects.{effects_of};
 ghost use Rattle.op_plans.specs.Positions.{FitsPositions};
 ghost use Rattle.op_types.specs.Roles.{role_of, HasRoom};
 
-use op_plans::log_len;
-use op_types::{Ballot, Change, Part, Pid, Plan, Role};
-use std::alloc::{AllocError as NoMemory, Global};
+use op_plans::Member;
+use op_types::{Ballot, Change, Plan, Role};
+use std::alloc::AllocError as NoMemory;
 
 /// What is decided is taken as far as the own log goes.
-pub fn on_decide(
-    alloc: Global,
-    part: &Part,
-    role: &Role,
-    ballot: Ballot,
-    len: u64,
-) -> Result<Plan, NoMemory>
-    requires positions { FitsPositions part.now }
+pub fn on_decide(member: &Member, role: &Role, ballot: Ballot, len: u64) -> Result<Plan, NoMemory>
+    requires positions { FitsPositions member.now.part.now }
     ensures row { IfOk result (λ plan.
-        effects_of role.now plan ≡ on_decide part.now (role_of role.now) ballot len) }
+        effects_of role.now plan ≡ on_decide member.now.part.now (role_of role.now) ballot len) }
     ensures room { IfOk result (λ plan. HasRoom plan.turn role.now) }
 {
-    let mut plan = Plan::nothing(alloc);
-    let decided = len.min(log_len(part));
+    let part = member.part;
+    let mut plan = member.nothing();
+    let decided = len.min(member.log_len());
     if part.promised.is_same(ballot) && part.accepted.is_same(ballot) && part.decided < decided {
         plan.batch.push(Change::Decided(decided))?;
     }

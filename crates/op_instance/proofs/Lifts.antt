@@ -1,20 +1,21 @@
 -- A plan of the role, as a step of all that is kept in memory.
-use Rattle.std.proofs.Common.{◌≡◌, ℕ, Option, Some, None, Result, Ok, Err, IfOk, refl, ap, ◌∙◌}
+use Rattle.std.proofs.Common.{◌≡◌, ℕ, Bool, Option, Some, None, Result, Ok, Err, IfOk, refl, ap, ◌∙◌, List}
 use Rattle.op_types.specs.Effects.{Effects, effects_of}
 use Rattle.op_types.specs.Roles.{turned, HasRoom}
-use Rattle.op_types.specs.declared.answers.Refusal.{Refusal}
 use Rattle.op_types.specs.declared.durable.Part.{Part}
-use Rattle.op_types.specs.declared.log.Command.{Command}
 use Rattle.op_types.specs.declared.plan.Plan.{Plan}
 use Rattle.op_types.specs.declared.role.Role.{Role}
 use Rattle.op_types.specs.declared.turn.Turn.{Turn}
 use Rattle.op_types.specs.declared.turn.Turn.TheVariants as turn
+use Rattle.op_types.specs.declared.ballot.Ballot.{Ballot}
+use Rattle.op_types.specs.declared.messages.Body.{Body}
+use Rattle.op_types.specs.declared.messages.Body.TheVariants as body
+use Rattle.op_protocol.specs.Rows.{on_body}
+use Rattle.op_instance.specs.Routing.{row_of}
 use Rattle.op_protocol.specs.State as step
 use Rattle.op_protocol.specs.State.{PartStep, with_effects}
 use Rattle.op_instance.specs.declared.volatile.Volatile.{Volatile}
-use Rattle.op_protocol.specs.Rows.{command_step}
 use Rattle.op_instance.specs.Memory.{volatile_of, turned_in, part_step_of}
-use Rattle.op_instance.specs.Routing.{command_row}
 
 -- such a turn changes the role alone
 turned_alone : (t : Turn) (r : Role) (v : step.Volatile) → HasRoom t r → turned_in t v ≡ record v { role = turned t v.role }
@@ -25,6 +26,9 @@ turned_alone (turn.Buffer b) r v room = refl
 turned_alone (turn.Sync q) r v room = refl
 turned_alone (turn.Unsync q) r v room = refl
 turned_alone (turn.Acknowledge a) r v room = refl
+turned_alone (turn.KeepReport k) r v room = refl
+turned_alone turn.ClearReports r v room = refl
+turned_alone turn.Renew r v room = absurd room
 turned_alone (turn.Hear h) r v room = absurd room
 turned_alone (turn.RaiseFloor b) r v room = absurd room
 turned_alone (turn.NextRound e n) r v room = absurd room
@@ -39,7 +43,27 @@ pub lifted_ok : {E : Type 0} (x : Result Plan E) (r : Role) (v : Volatile) (e : 
 lifted_ok (Ok p) r v e room is = lifted p r v e room is
 lifted_ok (Err err) r v e room is = tt
 
--- a command, by its row
-pub commanded : (me : ℕ) (p : Part) (v : step.Volatile) (c : Command) (why : Option Refusal) → with_effects v (command_row me p v.role c why) ≡ command_step me p v c why
-commanded me p v c (Some why) = refl
-commanded me p v c None = refl
+-- a message that is of no heartbeat and no refusal does what its row says
+pub routed : (me : ℕ) (p : Part) (v : step.Volatile) (q : ℕ) (b : Body)
+    → ((round : ℕ) → b ≡ body.HeartbeatRequest round → ⊥) → ((round : ℕ) (n : Ballot) (flag : Bool) → b ≡ body.HeartbeatReply round n flag → ⊥) → ((n m : Ballot) → b ≡ body.Refuse n m → ⊥)
+    → with_effects v (row_of me p v.role q b) ≡ on_body me p v q b
+routed me p v q (body.HeartbeatRequest round) asks replies refuses = absurd (asks round refl)
+routed me p v q (body.HeartbeatReply round n flag) asks replies refuses = absurd (replies round n flag refl)
+routed me p v q (body.Refuse n m) asks replies refuses = absurd (refuses n m refl)
+routed me p v q (body.Prepare n na nl nd) asks replies refuses = refl
+routed me p v q (body.Promise n fa fl fd s es) asks replies refuses = refl
+routed me p v q (body.AcceptSync n x es) asks replies refuses = refl
+routed me p v q (body.Accept n at es) asks replies refuses = refl
+routed me p v q (body.Accepted n x) asks replies refuses = refl
+routed me p v q (body.Decide n x) asks replies refuses = refl
+routed me p v q body.PrepareReq asks replies refuses = refl
+routed me p v q (body.Forward e) asks replies refuses = refl
+routed me p v q (body.Forwards es) asks replies refuses = refl
+routed me p v q (body.TrimAsk n) asks replies refuses = refl
+routed me p v q (body.Progress n x) asks replies refuses = refl
+routed me p v q (body.Trim x) asks replies refuses = refl
+routed me p v q (body.NextConf members olds len trimmed) asks replies refuses = refl
+routed me p v q body.AskBase asks replies refuses = refl
+routed me p v q (body.BasePart at bytes) asks replies refuses = refl
+routed me p v q (body.AskSegment a z) asks replies refuses = refl
+routed me p v q (body.Segment at es) asks replies refuses = refl

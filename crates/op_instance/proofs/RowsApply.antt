@@ -1,14 +1,14 @@
 -- Each row's batch applies, and leaves what the next one needs.
 use Rattle.std.proofs.Common.{◌≡◌, ℕ, zero, suc, ◌+◌, ◌-◌, ◌<◌, ◌≤◌, Bool, true, false, cond, min, ◌&&◌, ◌==◌, not, List, [], ◌∷◌, ◌++◌, length, take, drop, filter, All, Option, Some, None, IfSome, refl, sym, ap, ◌∙◌, subst, arith, length-append}
-use Rattle.std.proofs.lemmas.Bool.{ltb-true, ltb-false, and_parts, leb-true}
+use Rattle.std.proofs.lemmas.Bool.{ltb-true, ltb-false, and_parts, leb-true, both_ways}
 use Rattle.std.proofs.lemmas.List.{length-take, length-drop}
-use Rattle.std.proofs.lemmas.List.Elements.{All-nil, All-cons, All-head, All-tail, All-drop, All-filter, All-push}
+use Rattle.std.proofs.lemmas.List.Elements.{All-nil, All-cons, All-head, All-tail, All-drop, All-filter, All-push, All-append}
 use Rattle.std.specs.Prelude.{nat_lt, nat_le}
 use Rattle.op_types.specs.Limits.{positions_end, last_conf}
 use Rattle.op_types.specs.Ballots.{is_below, is_same_ballot}
 use Rattle.op_types.specs.Changes.{len_of, part_with, IsCommand, EndsNowhere}
 use Rattle.op_types.specs.RoleStates as state
-use Rattle.op_types.specs.RoleStates.{promise_of, with_promise, with_buffered, with_synced, without_synced, with_acknowledged}
+use Rattle.op_types.specs.RoleStates.{promise_of, with_promise, with_buffered, with_synced, without_synced, with_acknowledged, report_of, with_report, without_reports}
 use Rattle.op_types.specs.Roles.{Role, Idle, Preparing, Leading}
 use Rattle.op_types.specs.Effects.{Effects}
 use Rattle.op_types.specs.declared.ballot.Ballot.{Ballot}
@@ -20,10 +20,12 @@ use Rattle.op_types.specs.declared.messages.Body.TheVariants as body
 use Rattle.op_types.specs.declared.messages.Msg.{Msg}
 use Rattle.op_types.specs.declared.role.Buffered.{Buffered}
 use Rattle.op_types.specs.declared.role.Promised.{Promised}
-use Rattle.op_protocol.specs.Parts.{pending, part_after, part_in_round, cutting, appending, message, saying, nothing}
+use Rattle.op_types.specs.declared.role.Report.{Report}
+use Rattle.op_protocol.specs.Parts.{pending, part_after, part_in_round, cutting, appending, message, others, to_each, saying, nothing, first}
 use Rattle.op_protocol.specs.Promises.{has_quorum, is_usable, is_above, Choice, own_choice, better, best, choice_changes, chosen_log, chosen_stop, chosen_len, stop_here, fitting}
-use Rattle.op_protocol.specs.Leader.{backed, counted, decides, count, is_synced, sync_sends, first_leading, leading_with, begin_leading, adopt_with, adopt, prepares, lead, on_promise, decided_again, on_accepted, on_prepare_req, extends, propose, on_forward_leading, on_forward, session_down}
+use Rattle.op_protocol.specs.Leader.{backed, counted, decides, count, is_synced, sync_sends, first_leading, leading_with, begin_leading, adopt_with, adopt, prepares, lead, on_promise, decided_again, on_accepted, on_prepare_req, extends, propose, on_forward_leading, on_forward, session_down, waiting_as}
 use Rattle.op_protocol.specs.Follower.{suffix_start, on_prepare, added_changes, accepts, accept_entries, on_accept, synced_changes, sync_entries, on_accept_sync, on_decide}
+use Rattle.op_protocol.specs.Trimming.{lesser, least_reported, trims, trims_reported, trims_if_all, trim_now, on_progress, on_trim_ask, on_trim}
 use Rattle.op_plans.specs.Positions.{FitsPositions}
 use Rattle.op_leader.specs.Adopting.{AreAdmitted, PromisesAreAdmitted, ChoiceFits}
 use Rattle.op_leader.proofs.Fits.{best_fits}
@@ -114,11 +116,11 @@ count_leaves me p len l otherwise within =
     record { applies = ((omega arith, omega arith), tt); promises = tt; stops = tt })
     (λ none. leads p l otherwise)
 
-extends_leaves : (me : ℕ) (p : Part) (l : state.Leading) (e : Entry) → len_of p < positions_end → EndsNowhere p.conf (e ∷ []) → RowLeaves p (extends me p l e)
-extends_leaves me p l e room stops =
-    let q : Part = part_with p (change.Append (e ∷ [])) in
-    let len = length-append p.tail.items (e ∷ []) in
-    let counts : RowLeaves q (count me q (len_of p + 1) l []) = count_leaves me q (len_of p + 1) l [] (omega arith) in
+extends_leaves : (me : ℕ) (p : Part) (l : state.Leading) (es : List Entry) → len_of p + length es ≤ positions_end → EndsNowhere p.conf es → RowLeaves p (extends me p l es)
+extends_leaves me p l es room stops =
+    let q : Part = part_with p (change.Append es) in
+    let len = length-append p.tail.items es in
+    let counts : RowLeaves q (count me q (len_of p + length es) l []) = count_leaves me q (len_of p + length es) l [] (omega arith) in
     record { applies = ((omega arith, stops), counts.applies); promises = counts.promises; stops = counts.stops }
 
 begins_leaves : (me : ℕ) (p : Part) (l : state.Leading) (promises : List Promised) → RowLeaves p (begin_leading me p l promises)
@@ -226,8 +228,10 @@ lead_leaves me p r n sound =
     let q : Part = part_with p (change.Promise n) in
     let here : IsSound q (Preparing s) =
     record {
+      conf = sound.conf;
       positions = record { trimmed = sound.positions.trimmed; decided = sound.positions.decided; small = sound.positions.small };
       members = sound.members;
+      log = sound.log;
       promises = tt;
       stops = (All-nil (λ k. EndsNowhere q.conf k.entries), All-nil (λ b. EndsNowhere q.conf (b.entry ∷ [])));
     } in
@@ -239,8 +243,10 @@ promise_leaves me p Idle n k sound may = says p Idle [] sound
 promise_leaves me p (Preparing r) n k sound may =
     by_test p (is_same_ballot n r.ballot && is_usable p k) (prepares me p (with_promise r k)) (nothing (Preparing r))
     (λ taken. prepares_leaves me p (with_promise r k) (record {
+      conf = sound.conf;
       positions = sound.positions;
       members = sound.members;
+      log = sound.log;
       promises = admitted_with r.promises k sound.promises may.small;
       stops = (All-push (λ k. EndsNowhere p.conf k.entries) (filter (λ j. not (j.from == k.from)) r.promises) k (All-filter (λ j. not (j.from == k.from)) (λ k. EndsNowhere p.conf k.entries) r.promises sound.stops.0) may.stops, sound.stops.1);
     }))
@@ -262,28 +268,90 @@ prepare_req_leaves p (Leading l) q sound = record { applies = tt; promises = tt;
 
 -- ---- proposals
 
-buffered_leaves : (p : Part) (r : state.Preparing) (b : Buffered) → IsSound p (Preparing r) → EndsNowhere p.conf (b.entry ∷ []) → RowLeaves p (nothing (Preparing (with_buffered r b)))
-buffered_leaves p r b sound stops =
-    record { applies = tt; promises = sound.promises; stops = (sound.stops.0, All-push (λ b. EndsNowhere p.conf (b.entry ∷ [])) r.buffer b sound.stops.1 stops) }
+-- each of these ends no last configuration
+each_ends : (conf : ℕ) (own : Bool) (es : List Entry) → EndsNowhere conf es → All (λ b. EndsNowhere conf (b.entry ∷ [])) (waiting_as own es)
+each_ends conf own [] stops = All-nil (λ b. EndsNowhere conf (b.entry ∷ []))
+each_ends conf own (e ∷ es) stops =
+    All-cons (λ b. EndsNowhere conf (b.entry ∷ [])) (record { entry = e; is_own = own }) (waiting_as own es)
+    (λ last. All-cons IsCommand e [] (All-head IsCommand e es (stops last)) (All-nil IsCommand))
+    (each_ends conf own es (λ last. All-tail IsCommand e es (stops last)))
 
-pub propose_leaves : (me : ℕ) (p : Part) (r : Role) (e : Entry) → IsSound p r → len_of p < positions_end → EndsNowhere p.conf (e ∷ []) → RowLeaves p (propose me p r e)
-propose_leaves me p Idle e sound room stops = record { applies = tt; promises = tt; stops = tt }
-propose_leaves me p (Preparing r) e sound room stops =
-    let kept = buffered_leaves p r (record { entry = e; is_own = true }) sound stops in record { applies = tt; promises = kept.promises; stops = kept.stops }
-propose_leaves me p (Leading l) e sound room stops =
-    let added : RowLeaves p (extends me p l e) = extends_leaves me p l e room stops in record { applies = added.applies; promises = added.promises; stops = added.stops }
+buffered_leaves : (p : Part) (r : state.Preparing) (own : Bool) (es : List Entry) → IsSound p (Preparing r) → EndsNowhere p.conf es → RowLeaves p (nothing (Preparing (with_buffered r (waiting_as own es))))
+buffered_leaves p r own es sound stops =
+    record { applies = tt; promises = sound.promises; stops = (sound.stops.0, All-append (λ b. EndsNowhere p.conf (b.entry ∷ [])) r.buffer (waiting_as own es) sound.stops.1 (each_ends p.conf own es stops)) }
 
-forward_by : (me : ℕ) (p : Part) (l : state.Leading) (e : Entry) (o : Option ℕ) → EndsNowhere p.conf (e ∷ []) → RowLeaves p (on_forward_leading me p l e o)
-forward_by me p l e (Some pos) stops = leads p l []
-forward_by me p l e None stops =
-    by_test p (nat_lt (len_of p) positions_end) (extends me p l e) (nothing (Leading l)) (λ room. extends_leaves me p l e (ltb-true (len_of p) positions_end room) stops) (λ full. leads p l [])
+pub propose_leaves : (me : ℕ) (p : Part) (r : Role) (es : List Entry) → IsSound p r → len_of p + length es ≤ positions_end → EndsNowhere p.conf es → RowLeaves p (propose me p r es)
+propose_leaves me p Idle es sound room stops = record { applies = tt; promises = tt; stops = tt }
+propose_leaves me p (Preparing r) es sound room stops =
+    let kept = buffered_leaves p r true es sound stops in record { applies = tt; promises = kept.promises; stops = kept.stops }
+propose_leaves me p (Leading l) es sound room stops =
+    let added : RowLeaves p (extends me p l es) = extends_leaves me p l es room stops in record { applies = added.applies; promises = added.promises; stops = added.stops }
 
-pub forward_leaves : (me : ℕ) (p : Part) (r : Role) (e : Entry) → IsSound p r → EndsNowhere p.conf (e ∷ []) → RowLeaves p (on_forward me p r e)
-forward_leaves me p Idle e sound stops = says p Idle [] sound
-forward_leaves me p (Preparing r) e sound stops = buffered_leaves p r (record { entry = e; is_own = false }) sound stops
-forward_leaves me p (Leading l) e sound stops = forward_by me p l e (pending p) stops
+forward_by : (me : ℕ) (p : Part) (l : state.Leading) (es : List Entry) (o : Option ℕ) → EndsNowhere p.conf es → RowLeaves p (on_forward_leading me p l es o)
+forward_by me p l es (Some pos) stops = leads p l []
+forward_by me p l es None stops =
+    by_test p (nat_le (len_of p + length es) positions_end) (extends me p l es) (nothing (Leading l)) (λ room. extends_leaves me p l es (leb-true (len_of p + length es) positions_end room) stops) (λ full. leads p l [])
+
+pub forward_leaves : (me : ℕ) (p : Part) (r : Role) (es : List Entry) → IsSound p r → EndsNowhere p.conf es → RowLeaves p (on_forward me p r es)
+forward_leaves me p Idle es sound stops = says p Idle [] sound
+forward_leaves me p (Preparing r) es sound stops = buffered_leaves p r false es sound stops
+forward_leaves me p (Leading l) es sound stops = forward_by me p l es (pending p) stops
 
 pub session_down_leaves : (p : Part) (r : Role) (q : ℕ) → IsSound p r → RowLeaves p (session_down r q)
 session_down_leaves p Idle q sound = says p Idle [] sound
 session_down_leaves p (Preparing r) q sound = says p (Preparing r) [] sound
 session_down_leaves p (Leading l) q sound = leads p (without_synced l q) []
+
+-- ---- trimming
+
+low_lesser : (x : Option ℕ) (n k z : ℕ) → n ≤ k → lesser x (Some n) ≡ Some z → z ≤ k
+low_lesser None n k z low is = absurd (both_ways true (cc) refl)
+low_lesser (Some y) n k z low is = let same : min y n ≡ z = cc in omega arith
+
+least_by : (x y : Option ℕ) (k z : ℕ) → ((n : ℕ) → y ≡ Some n → n ≤ k) → lesser x y ≡ Some z → z ≤ k
+least_by None y k z low is = absurd (both_ways true (cc) refl)
+least_by (Some m) None k z low is = absurd (both_ways true (cc) refl)
+least_by (Some m) (Some n) k z low is = low_lesser (Some m) n k z (low n refl) is
+
+-- what all have reported is no more than what is decided here
+least_low : (reports : List Report) (qs : List ℕ) (k x : ℕ) → least_reported reports qs k ≡ Some x → x ≤ k
+least_low reports [] k x is = let same : k ≡ x = cc in omega arith
+least_low reports (q ∷ qs) k x is = least_by (report_of reports q) (least_reported reports qs k) k x (λ n is. least_low reports qs k n is) is
+
+trims_leaves : (me : ℕ) (p : Part) (l : state.Leading) (x : ℕ) → x ≤ p.decided → RowLeaves p (trims me p l x)
+trims_leaves me p l x known =
+    by_test p (nat_lt p.trimmed x) (first (change.Trim x [] ∷ []) (to_each p.conf (others me p.members) (body.Trim x)) [] (nothing (Leading l))) (nothing (Leading l))
+    (λ more. let low : p.trimmed < x = ltb-true p.trimmed x more in record { applies = ((omega arith, known), tt); promises = tt; stops = tt })
+    (λ none. leads p l [])
+
+reported_leaves : (me : ℕ) (p : Part) (l : state.Leading) (o : Option ℕ) → ((x : ℕ) → o ≡ Some x → x ≤ p.decided) → RowLeaves p (trims_reported me p l o)
+reported_leaves me p l None low = leads p l []
+reported_leaves me p l (Some x) low = trims_leaves me p (without_reports l) x (low x refl)
+
+all_leaves : (me : ℕ) (p : Part) (l : state.Leading) → RowLeaves p (trims_if_all me p l)
+all_leaves me p l = reported_leaves me p l (least_reported l.reports (others me p.members) p.decided) (λ x is. least_low l.reports (others me p.members) p.decided x is)
+
+pub trim_now_leaves : (me : ℕ) (p : Part) (r : Role) → IsSound p r → RowLeaves p (trim_now me p r)
+trim_now_leaves me p Idle sound = record { applies = tt; promises = sound.promises; stops = sound.stops }
+trim_now_leaves me p (Preparing r) sound = record { applies = tt; promises = sound.promises; stops = sound.stops }
+trim_now_leaves me p (Leading l) sound =
+    let row : RowLeaves p (trims_if_all me p (without_reports l)) = all_leaves me p (without_reports l) in record { applies = row.applies; promises = row.promises; stops = row.stops }
+
+pub progress_leaves : (me : ℕ) (p : Part) (r : Role) (q : ℕ) (n : Ballot) (x : ℕ) → IsSound p r → RowLeaves p (on_progress me p r q n x)
+progress_leaves me p Idle q n x sound = says p Idle [] sound
+progress_leaves me p (Preparing r) q n x sound = says p (Preparing r) [] sound
+progress_leaves me p (Leading l) q n x sound =
+    by_test p (is_same_ballot n l.ballot) (trims_if_all me p (with_report l (record { from = q; decided = x }))) (nothing (Leading l))
+    (λ own. all_leaves me p (with_report l (record { from = q; decided = x }))) (λ other. leads p l [])
+
+pub trim_ask_leaves : (p : Part) (r : Role) (q : ℕ) (n : Ballot) → IsSound p r → RowLeaves p (on_trim_ask p r q n)
+trim_ask_leaves p r q n sound =
+    by_test p (is_same_ballot p.promised n) (saying r (message p.conf q (body.Progress n p.decided) ∷ [])) (nothing r) (λ own. says p r (message p.conf q (body.Progress n p.decided) ∷ []) sound) (λ other. says p r [] sound)
+
+pub trim_leaves : (p : Part) (r : Role) (x : ℕ) → IsSound p r → RowLeaves p (on_trim p r x)
+trim_leaves p r x sound =
+    by_test p (nat_lt p.trimmed x && nat_le x p.decided) (first (change.Trim x [] ∷ []) [] [] (nothing r)) (nothing r)
+    (λ here. let both = and_parts (nat_lt p.trimmed x) (nat_le x p.decided) here in
+    let low : p.trimmed < x = ltb-true p.trimmed x both.0 in
+    record { applies = ((omega arith, leb-true x p.decided both.1), tt); promises = sound.promises; stops = sound.stops })
+    (λ off. says p r [] sound)

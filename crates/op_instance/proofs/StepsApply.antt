@@ -1,22 +1,27 @@
 -- The batch of each step applies, and leaves a sound node.
-use Rattle.std.proofs.Common.{◌≡◌, ℕ, ◌+◌, ◌<◌, ◌≤◌, Bool, true, false, cond, not, ◌&&◌, ◌==◌, List, [], ◌∷◌, length, All, Option, Some, None, is_some, refl, sym, ap, ◌∙◌, subst, arith}
-use Rattle.std.proofs.lemmas.Bool.{ltb-true, leb-true, eq-eqb, and_parts, both_ways}
-use Rattle.std.proofs.lemmas.List.Elements.{All-nil, All-cons}
+use Rattle.std.proofs.Common.{◌≡◌, ℕ, ◌+◌, ◌^◌, ◌<◌, ◌≤◌, Bool, true, false, cond, not, ◌&&◌, ◌==◌, List, [], ◌∷◌, length, All, Option, Some, None, is_some, refl, sym, ap, ◌∙◌, subst, arith}
+use Rattle.std.proofs.lemmas.Bool.{ltb-true, leb-true, eq-eqb, and_parts, both_ways, not-true}
+use Rattle.std.proofs.lemmas.List.Elements.{All-nil, All-cons, All-head}
 use Rattle.std.specs.Set.{is_member}
 use Rattle.std.specs.Prelude.{nat_lt, nat_le, nat_eq}
-use Rattle.op_types.specs.Limits.{positions_end, last_conf}
+use Rattle.op_types.specs.Limits.{positions_end, last_conf, most_donors}
 use Rattle.op_types.specs.Ballots.{is_below}
-use Rattle.op_types.specs.Changes.{len_of, IsCommand}
-use Rattle.op_types.specs.Roles.{Role}
+use Rattle.op_types.specs.Changes.{len_of, IsCommand, Applies, durable_after}
+use Rattle.op_types.specs.Joinings.{donor_at}
+use Rattle.op_types.specs.Ranges.{IsMember}
+use Rattle.op_types.specs.Roles.{Role, Idle, Preparing, Leading}
+use Rattle.op_types.specs.declared.answers.Outcome.TheVariants as outcome
 use Rattle.op_types.specs.declared.answers.Refusal.{Refusal}
 use Rattle.op_types.specs.declared.answers.Refusal.TheVariants as refusal
 use Rattle.op_types.specs.declared.ballot.Ballot.{Ballot}
+use Rattle.op_types.specs.declared.changes.Change.{Change}
+use Rattle.op_types.specs.declared.changes.Change.TheVariants as change
 use Rattle.op_types.specs.declared.durable.Closed.{Closed}
+use Rattle.op_types.specs.declared.durable.Joining.{Joining}
 use Rattle.op_types.specs.declared.durable.Durable.{Durable}
 use Rattle.op_types.specs.declared.durable.Part.{Part}
 use Rattle.op_types.specs.declared.events.Input.{Input}
 use Rattle.op_types.specs.declared.events.Input.TheVariants as input
-use Rattle.op_types.specs.declared.log.Command.{Command}
 use Rattle.op_types.specs.declared.log.Entry.{Entry}
 use Rattle.op_types.specs.declared.log.Entry.TheVariants as entry
 use Rattle.op_types.specs.declared.messages.Body.{Body}
@@ -27,13 +32,17 @@ use Rattle.op_types.specs.declared.verdict.Verdict.TheVariants as verdict
 use Rattle.op_spec.specs.Machine.{stop_of}
 use Rattle.op_protocol.specs.Election.{round_end}
 use Rattle.op_protocol.specs.State.{Volatile, PartStep, with_effects}
-use Rattle.op_protocol.specs.Parts.{has_stop, is_admitted, is_admitted_body, pending, part_after, message, others, nothing, saying, first}
-use Rattle.op_protocol.specs.Leader.{lead}
-use Rattle.op_protocol.specs.Tick.{candidate_of, next_round_state, requests, remembering, with_floor_at, only_asks, elected, by_verdict}
-use Rattle.op_protocol.specs.Rows.{on_body, on_message, knows_no_leader, refusal_after, refusal_of, command_step, part_step, partless_step, step_at}
-use Rattle.op_instance.specs.Sound.{IsSound, IsSoundNode, AreOfOneConf, IsSoundStep, StopsFit}
-use Rattle.op_instance.proofs.Batches.{applied, part_of_after, fits_after, conf_after, members_after}
-use Rattle.op_instance.proofs.RowsApply.{Leaves, RowLeaves, MayGo, prepare_leaves, accept_leaves, accept_sync_leaves, decide_leaves, lead_leaves, promise_leaves, accepted_leaves, prepare_req_leaves, propose_leaves, forward_leaves, session_down_leaves}
+use Rattle.op_protocol.specs.Parts.{IsOfPart, has_stop, is_admitted, is_admitted_body, pending, part_after, message, others, nothing, saying, first}
+use Rattle.op_protocol.specs.Leader.{lead, propose, session_down}
+use Rattle.op_protocol.specs.Trimming.{trim_now}
+use Rattle.op_protocol.specs.Tick.{candidate_of, next_round_state, requests, remembering, with_floor_at, only_asks, elected, by_verdict, on_tick}
+use Rattle.op_protocol.specs.Configurations.{latest_of}
+use Rattle.op_protocol.specs.Joining.{storing, begins, is_new_donor, joins, on_next_conf, asks, gives_base, gives_segment}
+use Rattle.op_protocol.specs.Rows.{on_body, on_message, message_at, is_of_joining, may_be_above, on_older, on_newer, on_latest, message_step, knows_no_leader, entries_of, open_refusal, part_refusal, refusal_after, refusal_of, stop_for, answering, proposal_at, proposal_step, tick_at, trim_at, session_up, up_at, step_at}
+use Rattle.op_protocol.proofs.PartBatches.{part_batch, propose_of, session_down_of, session_up_of, trim_now_of, tick_of, message_of}
+use Rattle.op_instance.specs.Sound.{IsSound, IfSound, IsSoundNode, AreOfOneConf, IsSoundStep, StopsFit, BeginFits}
+use Rattle.op_instance.proofs.Batches.{with_part, applied, fits_after, log_after, conf_after, members_after}
+use Rattle.op_instance.proofs.RowsApply.{Leaves, RowLeaves, MayGo, prepare_leaves, accept_leaves, accept_sync_leaves, decide_leaves, lead_leaves, promise_leaves, accepted_leaves, prepare_req_leaves, propose_leaves, forward_leaves, session_down_leaves, trim_now_leaves, progress_leaves, trim_ask_leaves, trim_leaves}
 
 abbrev StepLeaves : Part → PartStep → Type 0
 StepLeaves p x = Leaves p x.batch x.volatile.role
@@ -83,28 +92,50 @@ body_leaves me p v q (body.Accepted n x) sound admitted = let row = accepted_lea
 body_leaves me p v q (body.Decide n x) sound admitted = let row = decide_leaves p v.role n x sound in record { applies = row.applies; promises = row.promises; stops = row.stops }
 body_leaves me p v q body.PrepareReq sound admitted = let row = prepare_req_leaves p v.role q sound in record { applies = row.applies; promises = row.promises; stops = row.stops }
 body_leaves me p v q (body.Refuse n b) sound admitted = record { applies = tt; promises = sound.promises; stops = sound.stops }
-body_leaves me p v q (body.Forward e) sound admitted = let row = forward_leaves me p v.role e sound (may_go p 0 (e ∷ []) admitted).stops in record { applies = row.applies; promises = row.promises; stops = row.stops }
+body_leaves me p v q (body.TrimAsk n) sound admitted = let row = trim_ask_leaves p v.role q n sound in record { applies = row.applies; promises = row.promises; stops = row.stops }
+body_leaves me p v q (body.Progress n x) sound admitted = let row = progress_leaves me p v.role q n x sound in record { applies = row.applies; promises = row.promises; stops = row.stops }
+body_leaves me p v q (body.Trim x) sound admitted = let row = trim_leaves p v.role x sound in record { applies = row.applies; promises = row.promises; stops = row.stops }
+body_leaves me p v q (body.NextConf members olds len trimmed) sound admitted = remembers p v [] sound
+body_leaves me p v q body.AskBase sound admitted = remembers p v [] sound
+body_leaves me p v q (body.BasePart at bytes) sound admitted = remembers p v [] sound
+body_leaves me p v q (body.AskSegment a b) sound admitted = remembers p v [] sound
+body_leaves me p v q (body.Segment at es) sound admitted = remembers p v [] sound
+body_leaves me p v q (body.Forwards es) sound admitted = let row = forward_leaves me p v.role es sound (λ last. commands es (not-true (has_stop es) admitted)) in record { applies = row.applies; promises = row.promises; stops = row.stops }
+body_leaves me p v q (body.Forward e) sound admitted = let row = forward_leaves me p v.role (e ∷ []) sound (may_go p 0 (e ∷ []) admitted).stops in record { applies = row.applies; promises = row.promises; stops = row.stops }
 
 message_leaves : (me : ℕ) (p : Part) (v : Volatile) (q : ℕ) (m : Msg) → IsSound p v.role → StepLeaves p (on_message me p v q m)
 message_leaves me p v q m sound =
     by_step p (m.conf == p.conf && is_admitted_body p m.body) (on_body me p v q m.body) (remembering v [])
     (λ here. body_leaves me p v q m.body sound (and_parts (m.conf == p.conf) (is_admitted_body p m.body) here).1) (λ other. remembers p v [] sound)
 
--- ---- commands
+-- ---- proposals
 
 open_by : (a b : Bool) (x y : Refusal) → cond a (Some x) (cond b None (Some y)) ≡ None → b ≡ true
 open_by true b x y none = cc
 open_by false true x y none = refl
 open_by false false x y none = cc
 
-not_refused : (me : ℕ) (r : Role) (p : Part) (o : Option ℕ) → refusal_after me r p o ≡ None → len_of p < positions_end
-not_refused me r p (Some pos) none = absurd (both_ways true (cc) refl)
-not_refused me r p None none = ltb-true (len_of p) positions_end (open_by (knows_no_leader me r p) (nat_lt (len_of p) positions_end) refusal.NoLeader refusal.PositionsEnd none)
+admitted_open : (me : ℕ) (r : Role) (p : Part) (es : List Entry) → open_refusal me r p es ≡ None → is_admitted p (len_of p) es ≡ true
+admitted_open me r p es none = open_by (knows_no_leader me r p) (is_admitted p (len_of p) es) refusal.NoLeader refusal.PositionsEnd none
 
-command_leaves : (me : ℕ) (p : Part) (v : Volatile) (c : Command) (o : Option Refusal) → IsSound p v.role → (o ≡ None → len_of p < positions_end) → StepLeaves p (command_step me p v c o)
-command_leaves me p v c (Some why) sound room = record { applies = tt; promises = sound.promises; stops = sound.stops }
-command_leaves me p v c None sound room =
-    let row = propose_leaves me p v.role (entry.Command c) sound (room refl) (λ last. All-cons IsCommand (entry.Command c) [] tt (All-nil IsCommand)) in record { applies = row.applies; promises = row.promises; stops = row.stops }
+admitted_by : (me : ℕ) (r : Role) (p : Part) (j : Option Joining) (es : List Entry) → part_refusal me r (Some p) j es ≡ None → is_admitted p (len_of p) es ≡ true
+admitted_by me r p None es none = admitted_open me r p es none
+admitted_by me r p (Some j) es none = absurd (both_ways true (cc) refl)
+
+admitted_after : (me : ℕ) (r : Role) (p : Part) (k : Option Closed) (j : Option Joining) (es : List Entry) (o : Option ℕ)
+    → (let d : Durable = record { part = Some p; closed = k; joining = j } in refusal_after me r d es o ≡ None) → is_admitted p (len_of p) es ≡ true
+admitted_after me r p k j es (Some pos) none = absurd (both_ways true (cc) refl)
+admitted_after me r p k j es None none = admitted_by me r p j es none
+
+proposal_leaves : (me : ℕ) (p : Part) (v : Volatile) (es : List Entry) (o : Option Refusal) → IsSound p v.role → (o ≡ None → is_admitted p (len_of p) es ≡ true) → StepLeaves p (proposal_at me (Some p) v es o)
+proposal_leaves me p v es (Some why) sound room = record { applies = tt; promises = sound.promises; stops = sound.stops }
+proposal_leaves me p v es None sound room =
+    let may = may_go p (len_of p) es (room refl) in
+    let row = propose_leaves me p v.role es sound may.small may.stops in record { applies = row.applies; promises = row.promises; stops = row.stops }
+
+proposal_is_of : (me : ℕ) (p : Part) (v : Volatile) (es : List Entry) (o : Option Refusal) → All IsOfPart (proposal_at me (Some p) v es o).batch
+proposal_is_of me p v es (Some why) = All-nil IsOfPart
+proposal_is_of me p v es None = (propose_of me p v.role es).changes
 
 -- ---- ticks
 
@@ -126,40 +157,213 @@ up_leaves : (me : ℕ) (p : Part) (v : Volatile) (q : ℕ) (b : Bool) → IsSoun
 up_leaves me p v q true sound = record { applies = tt; promises = sound.promises; stops = sound.stops }
 up_leaves me p v q false sound = record { applies = tt; promises = sound.promises; stops = sound.stops }
 
-step_leaves : (me : ℕ) (p : Part) (v : Volatile) (x : Input) → IsSound p v.role → StepLeaves p (part_step me p v x)
-step_leaves me p v input.Tick sound =
-    let e = round_end (candidate_of me p v) v.heard in verdict_leaves me p (next_round_state v e.after) e.verdict sound
-step_leaves me p v (input.Deliver q m) sound = message_leaves me p v q m sound
-step_leaves me p v (input.Command c) sound = command_leaves me p v c (refusal_of me v.role (Some p)) sound (λ none. not_refused me v.role p (pending p) none)
-step_leaves me p v (input.Up q) sound =
-    let row = up_leaves me p v q (is_member nat_eq (others me p.members) q) sound in record { applies = row.applies; promises = row.promises; stops = row.stops }
-step_leaves me p v (input.Down q) sound = let row = session_down_leaves p v.role q sound in record { applies = row.applies; promises = row.promises; stops = row.stops }
+-- ---- a node at its part
 
-partless : (k : Option Closed) (v : Volatile) (x : Input) → (let d : Durable = record { part = None; closed = k } in IsSoundStep d (partless_step v x))
-partless k v input.Tick = record { applies = tt; sound = tt; same = tt }
-partless k v (input.Deliver q m) = record { applies = tt; sound = tt; same = tt }
-partless k v (input.Command c) = record { applies = tt; sound = tt; same = tt }
-partless k v (input.Up q) = record { applies = tt; sound = tt; same = tt }
-partless k v (input.Down q) = record { applies = tt; sound = tt; same = tt }
+-- a step that changes the part alone
+module _ (me : ℕ) (d : Durable) (p : Part) (r : Role) (x : PartStep) where
+  pub at_part : IsSoundNode me (with_part d p) r → All IsOfPart x.batch → StepLeaves p x → IsSoundStep me (with_part d p) x
+  at_part sound of all =
+      let q : Part = part_after p x.batch in
+      let is : durable_after (with_part d p) x.batch ≡ with_part d q = part_batch d p x.batch of in
+      let after : IsSound q x.volatile.role =
+      record {
+        conf = subst (λ (n : ℕ). n ≤ last_conf) (sym (conf_after p x.batch)) sound.part.conf;
+        positions = fits_after p x.batch sound.part.positions all.applies;
+        members = subst (λ (ms : List ℕ). 0 < length ms) (sym (members_after p x.batch)) sound.part.members;
+        log = log_after p x.batch sound.part.log all.applies;
+        promises = all.promises;
+        stops = subst (λ (conf : ℕ). StopsFit conf x.volatile.role) (sym (conf_after p x.batch)) all.stops;
+      } in
+      let node : IsSoundNode me (with_part d q) x.volatile.role = record { part = after; closed = sound.closed; joining = sound.joining } in
+      record {
+        applies = applied d p x.batch of all.applies;
+        sound = subst (λ (e : Durable). IsSoundNode me e x.volatile.role) (sym is) node;
+        same = subst (λ (e : Durable). AreOfOneConf e.part (Some p)) (sym is) (conf_after p x.batch, members_after p x.batch);
+      }
 
--- at a part
-sound_after : (p : Part) (k : Option Closed) (r : Role) (x : PartStep) → IsSound p r → StepLeaves p x → (let d : Durable = record { part = Some p; closed = k } in IsSoundStep d x)
-sound_after p k r x sound all =
-    let q : Part = part_after p x.batch in
-    let is = part_of_after p k x.batch in
-    let after : IsSound q x.volatile.role =
+alike : (o : Option Part) → AreOfOneConf o o
+alike None = tt
+alike (Some p) = (refl, refl)
+
+-- a step that stores nothing, and keeps the role
+still : (me : ℕ) (d : Durable) (r : Role) (x : PartStep) → IsSoundNode me d r → x.batch ≡ [] → x.volatile.role ≡ r → IsSoundStep me d x
+still me d r x sound none same =
+    let here : IsSoundNode me d x.volatile.role = subst (IsSoundNode me d) (sym same) sound in
+    let all : (b : List Change) → b ≡ [] → (y : PartStep) → y.batch ≡ b → y.volatile.role ≡ r → IsSoundStep me d y = λ b is y of role.
     record {
-      positions = fits_after p x.batch sound.positions all.applies;
-      members = subst (λ (ms : List ℕ). 0 < length ms) (sym (members_after p x.batch)) sound.members;
-      promises = all.promises;
-      stops = subst (λ (conf : ℕ). StopsFit conf x.volatile.role) (sym (conf_after p x.batch)) all.stops;
+      applies = subst (Applies d) (sym (of ∙ is)) tt;
+      sound = subst (λ (c : List Change). IsSoundNode me (durable_after d c) y.volatile.role) (sym (of ∙ is)) (subst (IsSoundNode me d) (sym role) sound);
+      same = subst (λ (c : List Change). AreOfOneConf (durable_after d c).part d.part) (sym (of ∙ is)) (alike d.part);
     } in
+    all [] refl x none same
+
+-- by a test
+either : (me : ℕ) (d : Durable) (b : Bool) (x y : PartStep)
+    → (b ≡ true → All BeginFits x.batch → IsSoundStep me d x) → (b ≡ false → All BeginFits y.batch → IsSoundStep me d y) → All BeginFits (cond b x y).batch → IsSoundStep me d (cond b x y)
+either me d true x y so other begin = so refl begin
+either me d false x y so other begin = other refl begin
+
+-- ---- messages
+
+message_at_sound : (me : ℕ) (o : Option Part) (k : Option Closed) (j : Option Joining) (v : Volatile) (q : ℕ) (m : Msg)
+    → (let d : Durable = record { part = o; closed = k; joining = j } in IsSoundNode me d v.role → IsSoundStep me d (message_at me o v q m))
+message_at_sound me None k j v q m sound = let d : Durable = record { part = None; closed = k; joining = j } in still me d v.role (remembering v []) sound refl refl
+message_at_sound me (Some p) k j v q m sound =
+    let d : Durable = record { part = Some p; closed = k; joining = j } in
+    at_part me d p v.role (on_message me p v q m) sound (message_of me p v q m).changes (message_leaves me p v q m sound.part)
+
+-- a node begins to join a configuration
+module _ (me : ℕ) (d : Durable) (v : Volatile) (sound : IsSoundNode me d v.role) (q c : ℕ) (members olds : List ℕ) (len trimmed : ℕ) (named : IsMember members me) (above : 0 < c) where
+  begun : (b : Bool) → nat_le trimmed len ≡ b → All BeginFits (cond b (change.JoinBegin c members olds len ∷ change.JoinDonor q trimmed ∷ []) []) → IsSoundStep me d (storing v (cond b (change.JoinBegin c members olds len ∷ change.JoinDonor q trimmed ∷ []) []))
+  begun false is begin = still me d v.role (storing v []) sound refl refl
+  begun true is begin =
+      let fits : (c ≤ last_conf) × (len < 2 ^ 64) = All-head BeginFits (change.JoinBegin c members olds len) (change.JoinDonor q trimmed ∷ []) begin in
+      record {
+        applies = (tt, (record { within = leb-true trimmed len is; none = refl; few = omega arith }, tt));
+        sound = record { part = sound.part; closed = sound.closed; joining = record { number = above; last = fits.0; len = fits.1; member = named; base = tt } };
+        same = alike d.part;
+      }
+
+  pub begins_sound : All BeginFits (begins q c members olds len trimmed) → IsSoundStep me d (storing v (begins q c members olds len trimmed))
+  begins_sound begin = begun (nat_le trimmed len) refl begin
+
+no_donor : (x : Option ℕ) → is_some x ≡ false → x ≡ None
+no_donor None is = refl
+no_donor (Some n) is = absurd (both_ways true is refl)
+
+-- a node that joins has one donor more
+donor_sound : (me : ℕ) (o : Option Part) (k : Option Closed) (j : Joining) (v : Volatile) (q trimmed : ℕ)
+    → (let d : Durable = record { part = o; closed = k; joining = Some j } in IsSoundNode me d v.role → is_new_donor j q trimmed ≡ true → IsSoundStep me d (storing v (change.JoinDonor q trimmed ∷ [])))
+donor_sound me o k j v q trimmed sound new =
+    let first = and_parts (nat_le trimmed j.len) (not (is_some (donor_at j.donors q)) && nat_lt (length j.donors) most_donors) new in
+    let rest = and_parts (not (is_some (donor_at j.donors q))) (nat_lt (length j.donors) most_donors) first.1 in
     record {
-      applies = applied p k x.batch all.applies;
-      sound = subst (λ (o : Option Part). IsSoundNode o x.volatile.role) (sym is) after;
-      same = subst (λ (o : Option Part). AreOfOneConf o (Some p)) (sym is) (conf_after p x.batch, members_after p x.batch);
+      applies = (record { within = leb-true trimmed j.len first.0; none = no_donor (donor_at j.donors q) (not-true (is_some (donor_at j.donors q)) rest.0); few = ltb-true (length j.donors) most_donors rest.1 }, tt);
+      sound = record { part = sound.part; closed = sound.closed; joining = record { number = sound.joining.number; last = sound.joining.last; len = sound.joining.len; member = sound.joining.member; base = sound.joining.base } };
+      same = alike o;
     }
 
-pub sound_step : (me : ℕ) (o : Option Part) (k : Option Closed) (v : Volatile) (x : Input) → IsSoundNode o v.role → (let d : Durable = record { part = o; closed = k } in IsSoundStep d (step_at me o v x))
-sound_step me None k v x sound = partless k v x
-sound_step me (Some p) k v x sound = sound_after p k v.role (part_step me p v x) sound (step_leaves me p v x sound)
+by_batch : (me : ℕ) (d : Durable) (v : Volatile) (b : Bool) (x y : List Change)
+    → (All BeginFits x → IsSoundStep me d (storing v x)) → IsSoundStep me d (storing v y) → All BeginFits (cond b x y) → IsSoundStep me d (storing v (cond b x y))
+by_batch me d v true x y so other begin = so begin
+by_batch me d v false x y so other begin = other
+
+by_true : (me : ℕ) (d : Durable) (v : Volatile) (b : Bool) (x y : List Change) → (b ≡ true → IsSoundStep me d (storing v x)) → IsSoundStep me d (storing v y) → IsSoundStep me d (storing v (cond b x y))
+by_true me d v true x y so other = so refl
+by_true me d v false x y so other = other
+
+joins_sound : (me : ℕ) (o : Option Part) (k : Option Closed) (j : Option Joining) (v : Volatile) (q c : ℕ) (members olds : List ℕ) (len trimmed : ℕ)
+    → (let d : Durable = record { part = o; closed = k; joining = j } in IsSoundNode me d v.role → IsMember members me → 0 < c → All BeginFits (joins j q c members olds len trimmed) → IsSoundStep me d (storing v (joins j q c members olds len trimmed)))
+joins_sound me o k None v q c members olds len trimmed sound named above begin =
+    let d : Durable = record { part = o; closed = k; joining = None } in begins_sound me d v sound q c members olds len trimmed named above begin
+joins_sound me o k (Some j) v q c members olds len trimmed sound named above begin =
+    let d : Durable = record { part = o; closed = k; joining = Some j } in
+    by_batch me d v (nat_lt j.conf c) (begins q c members olds len trimmed) (cond (j.conf == c && is_new_donor j q trimmed) (change.JoinDonor q trimmed ∷ []) [])
+    (begins_sound me d v sound q c members olds len trimmed named above)
+    (by_true me d v (j.conf == c && is_new_donor j q trimmed) (change.JoinDonor q trimmed ∷ []) []
+    (λ new. donor_sound me o k j v q trimmed sound (and_parts (j.conf == c) (is_new_donor j q trimmed) new).1)
+    (still me d v.role (storing v []) sound refl refl))
+    begin
+
+news_sound : (me : ℕ) (o : Option Part) (k : Option Closed) (j : Option Joining) (v : Volatile) (q c : ℕ) (members olds : List ℕ) (len trimmed : ℕ)
+    → (let d : Durable = record { part = o; closed = k; joining = j } in IsSoundNode me d v.role → All BeginFits (on_next_conf me d v q c members olds len trimmed).batch → IsSoundStep me d (on_next_conf me d v q c members olds len trimmed))
+news_sound me o k j v q c members olds len trimmed sound begin =
+    let d : Durable = record { part = o; closed = k; joining = j } in
+    either me d (is_member nat_eq members me && nat_lt (latest_of d) c) (storing v (joins j q c members olds len trimmed)) (storing v [])
+    (λ here begin. let both = and_parts (is_member nat_eq members me) (nat_lt (latest_of d) c) here in
+    let above : latest_of d < c = ltb-true (latest_of d) c both.1 in
+    joins_sound me o k j v q c members olds len trimmed sound both.0 (omega arith) begin)
+    (λ off none. still me d v.role (storing v []) sound refl refl)
+    begin
+
+latest_sound : (me : ℕ) (o : Option Part) (k : Option Closed) (j : Option Joining) (v : Volatile) (q c : ℕ) (b : Body)
+    → (let d : Durable = record { part = o; closed = k; joining = j } in IsSoundNode me d v.role → All BeginFits (on_latest me d v q c b).batch → IsSoundStep me d (on_latest me d v q c b))
+latest_sound me o k j v q c (body.NextConf members olds len trimmed) sound begin = news_sound me o k j v q c members olds len trimmed sound begin
+latest_sound me o k j v q c body.AskBase sound begin = let d : Durable = record { part = o; closed = k; joining = j } in still me d v.role (remembering v (gives_base k q c)) sound refl refl
+latest_sound me o k j v q c (body.AskSegment a b) sound begin = let d : Durable = record { part = o; closed = k; joining = j } in still me d v.role (remembering v (gives_segment k q c a b)) sound refl refl
+latest_sound me o k j v q c b sound begin = message_at_sound me o k j v q (record { conf = c; body = b }) sound
+
+message_sound : (me : ℕ) (o : Option Part) (k : Option Closed) (j : Option Joining) (v : Volatile) (q : ℕ) (m : Msg)
+    → (let d : Durable = record { part = o; closed = k; joining = j } in IsSoundNode me d v.role → All BeginFits (message_step me d v q m).batch → IsSoundStep me d (message_step me d v q m))
+message_sound me o k j v q m sound begin =
+    let d : Durable = record { part = o; closed = k; joining = j } in
+    either me d (is_some j && not (is_of_joining m.body)) (remembering v []) _ (λ _ none. still me d v.role (remembering v []) sound refl refl)
+    (λ _. either me d (nat_lt m.conf (latest_of d)) (remembering v (on_older d k q)) _ (λ _ none. still me d v.role (remembering v (on_older d k q)) sound refl refl)
+    (λ _. either me d (nat_lt (latest_of d) m.conf && not (may_be_above m.body)) (remembering v (on_newer d q m.body)) (on_latest me d v q m.conf m.body) (λ _ none. still me d v.role (remembering v (on_newer d q m.body)) sound refl refl)
+    (λ _ rest. latest_sound me o k j v q m.conf m.body sound rest)))
+    begin
+
+-- ---- all inputs
+
+-- without a part nothing is stored, whatever the role
+bare : (me : ℕ) (k : Option Closed) (j : Option Joining) (x : PartStep) {r : Role} → (let d : Durable = record { part = None; closed = k; joining = j } in IsSoundNode me d r → x.batch ≡ [] → IsSoundStep me d x)
+bare me k j x sound none =
+    let d : Durable = record { part = None; closed = k; joining = j } in
+    record {
+      applies = subst (Applies d) (sym none) tt;
+      sound = subst (λ (c : List Change). IsSoundNode me (durable_after d c) x.volatile.role) (sym none) (record { part = tt; closed = sound.closed; joining = sound.joining });
+      same = subst (λ (c : List Change). AreOfOneConf (durable_after d c).part None) (sym none) tt;
+    }
+
+partless : (me : ℕ) (d : Durable) (v : Volatile) (es : List Entry) (o : Option Refusal) → IsSoundNode me d v.role → IsSoundStep me d (proposal_at me None v es o)
+partless me d v es (Some why) sound = still me d v.role (answering v (Some (outcome.Refused why))) sound refl refl
+partless me d v es None sound = still me d v.role (answering v (Some (outcome.Refused refusal.NoLeader))) sound refl refl
+
+proposal_sound : (me : ℕ) (o : Option Part) (k : Option Closed) (j : Option Joining) (v : Volatile) (es : List Entry)
+    → (let d : Durable = record { part = o; closed = k; joining = j } in IsSoundNode me d v.role → IsSoundStep me d (proposal_step me d v es))
+proposal_sound me None k j v es sound = let d : Durable = record { part = None; closed = k; joining = j } in partless me d v es (refusal_of me v.role d es) sound
+proposal_sound me (Some p) k j v es sound =
+    let d : Durable = record { part = Some p; closed = k; joining = j } in
+    let why : Option Refusal = refusal_of me v.role d es in
+    at_part me d p v.role (proposal_at me (Some p) v es why) sound (proposal_is_of me p v es why)
+    (proposal_leaves me p v es why sound.part (λ none. admitted_after me v.role p k j es (pending p) none))
+
+tick_sound : (me : ℕ) (o : Option Part) (k : Option Closed) (j : Option Joining) (v : Volatile)
+    → (let d : Durable = record { part = o; closed = k; joining = j } in IsSoundNode me d v.role → IsSoundStep me d (tick_at me o j v))
+tick_sound me o k (Some j) v sound = let d : Durable = record { part = o; closed = k; joining = Some j } in still me d v.role (remembering v (asks j)) sound refl refl
+tick_sound me None k None v sound = let d : Durable = record { part = None; closed = k; joining = None } in still me d v.role (remembering v []) sound refl refl
+tick_sound me (Some p) k None v sound =
+    let d : Durable = record { part = Some p; closed = k; joining = None } in
+    let e = round_end (candidate_of me p v) v.heard in
+    at_part me d p v.role (on_tick me p v) sound (tick_of me p v).changes (verdict_leaves me p (next_round_state v e.after) e.verdict sound.part)
+
+trim_sound : (me : ℕ) (o : Option Part) (k : Option Closed) (j : Option Joining) (v : Volatile)
+    → (let d : Durable = record { part = o; closed = k; joining = j } in IsSoundNode me d v.role → IsSoundStep me d (trim_at me o v))
+trim_sound me None k j v sound = let d : Durable = record { part = None; closed = k; joining = j } in still me d v.role (trim_at me None v) sound refl refl
+trim_sound me (Some p) k j v sound =
+    let d : Durable = record { part = Some p; closed = k; joining = j } in
+    let row = trim_now_leaves me p v.role sound.part in
+    at_part me d p v.role (with_effects v (trim_now me p v.role)) sound (trim_now_of me p v.role).changes (record { applies = row.applies; promises = row.promises; stops = row.stops })
+
+up_sound : (me : ℕ) (o : Option Part) (k : Option Closed) (j : Option Joining) (v : Volatile) (q : ℕ)
+    → (let d : Durable = record { part = o; closed = k; joining = j } in IsSoundNode me d v.role → IsSoundStep me d (up_at me o j v q))
+up_sound me None k j v q sound = let d : Durable = record { part = None; closed = k; joining = j } in still me d v.role (remembering v []) sound refl refl
+up_sound me (Some p) k (Some j) v q sound = let d : Durable = record { part = Some p; closed = k; joining = Some j } in still me d v.role (remembering v []) sound refl refl
+up_sound me (Some p) k None v q sound =
+    let d : Durable = record { part = Some p; closed = k; joining = None } in
+    let row = up_leaves me p v q (is_member nat_eq (others me p.members) q) sound.part in
+    at_part me d p v.role (with_effects v (session_up me p v.role q)) sound (session_up_of me p v.role q).changes (record { applies = row.applies; promises = row.promises; stops = row.stops })
+
+partless_down : (me : ℕ) (k : Option Closed) (j : Option Joining) (v : Volatile) (r : Role) (q : ℕ)
+    → (let d : Durable = record { part = None; closed = k; joining = j } in IsSoundNode me d v.role → IsSoundStep me d (with_effects v (session_down r q)))
+partless_down me k j v Idle q sound = bare me k j (with_effects v (session_down Idle q)) sound refl
+partless_down me k j v (Preparing r) q sound = bare me k j (with_effects v (session_down (Preparing r) q)) sound refl
+partless_down me k j v (Leading l) q sound = bare me k j (with_effects v (session_down (Leading l) q)) sound refl
+
+down_sound : (me : ℕ) (o : Option Part) (k : Option Closed) (j : Option Joining) (v : Volatile) (q : ℕ)
+    → (let d : Durable = record { part = o; closed = k; joining = j } in IsSoundNode me d v.role → IsSoundStep me d (with_effects v (session_down v.role q)))
+down_sound me None k j v q sound = partless_down me k j v v.role q sound
+down_sound me (Some p) k j v q sound =
+    let d : Durable = record { part = Some p; closed = k; joining = j } in
+    let row = session_down_leaves p v.role q sound.part in
+    at_part me d p v.role (with_effects v (session_down v.role q)) sound (session_down_of v.role q).changes (record { applies = row.applies; promises = row.promises; stops = row.stops })
+
+pub sound_step : (me : ℕ) (o : Option Part) (k : Option Closed) (j : Option Joining) (v : Volatile) (x : Input)
+    → (let d : Durable = record { part = o; closed = k; joining = j } in IsSoundNode me d v.role → All BeginFits (step_at me d v x).batch → IsSoundStep me d (step_at me d v x))
+sound_step me o k j v input.Tick sound begin = tick_sound me o k j v sound
+sound_step me o k j v (input.Deliver q m) sound begin = message_sound me o k j v q m sound begin
+sound_step me o k j v (input.Commands cs) sound begin = proposal_sound me o k j v (entries_of cs) sound
+sound_step me o k j v (input.Stop members) sound begin = proposal_sound me o k j v (entry.Stop (stop_for o members) ∷ []) sound
+sound_step me o k j v input.TrimNow sound begin = trim_sound me o k j v sound
+sound_step me o k j v (input.Up q) sound begin = up_sound me o k j v q sound
+sound_step me o k j v (input.Down q) sound begin = down_sound me o k j v q sound

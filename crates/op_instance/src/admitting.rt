@@ -41,12 +41,21 @@ pub(crate) fn is_admitted_body(part: &Part, body: &Body) -> bool
         Body::AcceptSync(_, start, entries) => is_admitted(part, *start, entries.as_slice()),
         Body::Accept(_, at, entries) => is_admitted(part, *at, entries.as_slice()),
         Body::Forward(entry) => is_admitted_entry(part, entry),
+        Body::Forwards(entries) => !has_stop(entries.as_slice()),
         Body::HeartbeatRequest(_)
         | Body::HeartbeatReply(_, _, _)
         | Body::Prepare(_, _, _, _)
         | Body::Accepted(_, _)
         | Body::Decide(_, _)
         | Body::PrepareReq
-        | Body::Refuse(_, _) => true,
+        | Body::Refuse(_, _)
+        | Body::TrimAsk(_)
+        | Body::Progress(_, _)
+        | Body::Trim(_)
+        | Body::NextConf(_, _, _, _)
+        | Body::AskBase
+        | Body::BasePart(_, _)
+        | Body::AskSegment(_, _)
+        | Body::Segment(_, _) => true,
     }
 }

@@ -2,96 +2,110 @@
 ghost use Rattle.std.specs.Prelude.{◌≡◌, nat_eq, IfOk};
 ghost use Rattle.std.specs.Set.{is_member};
 ghost use Rattle.op_protocol.specs.Parts.{others};
+ghost use Rattle.op_protocol.specs.Rows.{session_up, tick_at, trim_at, up_at, step_at};
 ghost use Rattle.op_types.specs.Effects.{effects_of};
 ghost use Rattle.op_types.specs.Roles.{role_of, HasRoom};
-ghost use Rattle.op_protocol.specs.State as steps;
-ghost use Rattle.op_instance.specs.declared.volatile.Volatile as kept;
-ghost use Rattle.op_protocol.specs.Rows.{session_up, partless_step, part_step, step_at};
 ghost use Rattle.op_instance.specs.Memory.{volatile_of, part_step_of, HasRoomIn};
-ghost use Rattle.op_instance.specs.Sound.{IsNodeOf, IsNode};
+ghost use Rattle.op_instance.specs.Sound.{IfNodeOf, IsNode};
 
-use crate::commanding::{command, refused};
 use crate::delivering::deliver;
+use crate::stored::Stored;
 use crate::ticking::tick;
 use crate::volatile::Volatile;
 use op_leader::session_down;
-use op_plans::saying;
-use op_types::{Body, Durable, Input, Part, Pid, Plan, Refusal, Role, is_among};
-use std::alloc::{AllocError as NoMemory, Global};
+use op_plans::Member;
+use op_trim::trim_now;
+use op_types::{Body, Input, NoMemory, Outcome, Pid, Plan, Role, is_among};
 
-/// What comes of a node's input. Nothing changes yet, but the room that the plan's turn needs.
-pub fn step(
-    alloc: Global,
-    me: Pid,
-    durable: &Durable,
-    volatile: &mut Volatile,
-    input: Input,
-) -> Result<Plan, NoMemory>
-    requires { IsNode me durable.now.part volatile.old }
-    ensures step { IfOk result (λ plan. part_step_of plan (volatile_of volatile.old)
-        ≡ step_at me durable.now.part (volatile_of volatile.old) input) }
-    ensures rest { volatile.new ≡ record volatile.old { role = volatile.new.role } }
-    ensures role { role_of volatile.new.role ≡ role_of volatile.old.role }
-    ensures room { IfOk result (λ plan. HasRoomIn plan.turn volatile.new) }
-{
-    match &durable.part {
-        None => Ok(partless(alloc, input)),
-        Some(part) => part_step(alloc, me, part, volatile, input),
+impl Stored<'_> {
+    /// What comes of an input, but for the base of what it trims, what it decides, and what it brings of a closed list.
+    /// Nothing changes yet, but the room that the plan's turn needs.
+    pub fn step(&self, volatile: &mut Volatile, input: Input) -> Result<Plan, NoMemory>
+        requires { IsNode self.now.me self.now.durable.now volatile.old }
+        ensures step { IfOk result (λ plan. part_step_of plan (volatile_of volatile.old)
+            ≡ step_at self.now.me self.now.durable.now (volatile_of volatile.old) input) }
+        ensures rest { volatile.new ≡ record volatile.old { role = volatile.new.role } }
+        ensures role { role_of volatile.new.role ≡ role_of volatile.old.role }
+        ensures room { IfOk result (λ plan. HasRoomIn plan.turn volatile.new) }
+    {
+        match input {
+            Input::Tick => self.tick(volatile),
+            Input::Deliver(from, message) => deliver(self, volatile, from, message),
+            Input::Commands(commands) => self.propose_commands(volatile, commands),
+            Input::Stop(members) => self.propose_stop(volatile, members),
+            Input::TrimNow => self.trim(volatile),
+            Input::Up(peer) => self.up(volatile, peer),
+            Input::Down(peer) => Ok(session_down(self.alloc, &volatile.role, peer)),
+        }
     }
-}
 
-/// Without a part a command is refused, and nothing else happens.
-fn partless(alloc: Global, input: Input) -> Plan
-    ensures step { (v : steps.Volatile) → part_step_of result v ≡ partless_step v input }
-    ensures room { (v : kept.Volatile) → HasRoomIn result.turn v }
-{
-    match input {
-        Input::Command(_) => refused(alloc, Refusal::NoLeader),
-        Input::Tick | Input::Deliver(_, _) | Input::Up(_) | Input::Down(_) => Plan::nothing(alloc),
+    /// A node that joins asks for what it lacks; another one ends its heartbeat round.
+    fn tick(&self, volatile: &Volatile) -> Result<Plan, NoMemory>
+        requires { IfNodeOf self.now.me self.now.durable.now.part volatile.now }
+        ensures step { IfOk result (λ plan. part_step_of plan (volatile_of volatile.now)
+            ≡ tick_at self.now.me self.now.durable.now.part self.now.durable.now.joining
+            (volatile_of volatile.now)) }
+        ensures room { IfOk result (λ plan. HasRoomIn plan.turn volatile.now) }
+    {
+        if let Some(joining) = &self.durable.joining {
+            return Ok(self.sending(op_segments::plan(self.alloc, joining)?));
+        }
+        match &self.durable.part {
+            Some(part) => tick(&self.at(part), volatile),
+            None => Ok(self.nothing()),
+        }
     }
-}
 
-/// The step at a part.
-fn part_step(
-    alloc: Global,
-    me: Pid,
-    part: &Part,
-    volatile: &mut Volatile,
-    input: Input,
-) -> Result<Plan, NoMemory>
-    requires { IsNodeOf me part.now volatile.old }
-    ensures step { IfOk result (λ plan. part_step_of plan (volatile_of volatile.old)
-        ≡ part_step me part.now (volatile_of volatile.old) input) }
-    ensures rest { volatile.new ≡ record volatile.old { role = volatile.new.role } }
-    ensures role { role_of volatile.new.role ≡ role_of volatile.old.role }
-    ensures room { IfOk result (λ plan. HasRoomIn plan.turn volatile.new) }
-{
-    match input {
-        Input::Tick => tick(alloc, me, part, volatile),
-        Input::Deliver(from, message) => deliver(alloc, me, part, volatile, from, message),
-        Input::Command(proposed) => command(alloc, me, part, &mut volatile.role, proposed),
-        Input::Up(peer) => session_up(alloc, me, part, &volatile.role, peer),
-        Input::Down(peer) => Ok(session_down(alloc, &volatile.role, peer)),
+    /// A client asks for trimming.
+    fn trim(&self, volatile: &Volatile) -> Result<Plan, NoMemory>
+        ensures step { IfOk result (λ plan. part_step_of plan (volatile_of volatile.now)
+            ≡ trim_at self.now.me self.now.durable.now.part (volatile_of volatile.now)) }
+        ensures room { IfOk result (λ plan. HasRoomIn plan.turn volatile.now) }
+    {
+        match &self.durable.part {
+            Some(part) => trim_now(&self.at(part), &volatile.role),
+            None => {
+                let mut plan = self.nothing();
+                plan.outcome = Some(Outcome::NotLeading);
+                Ok(plan)
+            }
+        }
+    }
+
+    /// A session with another server begins. A node that joins asks nobody.
+    fn up(&self, volatile: &Volatile, peer: Pid) -> Result<Plan, NoMemory>
+        ensures step { IfOk result (λ plan. part_step_of plan (volatile_of volatile.now)
+            ≡ up_at self.now.me self.now.durable.now.part self.now.durable.now.joining
+            (volatile_of volatile.now) peer) }
+        ensures room { IfOk result (λ plan. HasRoomIn plan.turn volatile.now) }
+    {
+        if self.durable.joining.is_some() {
+            return Ok(self.nothing());
+        }
+        match &self.durable.part {
+            Some(part) => session_up(&self.at(part), &volatile.role, peer),
+            None => Ok(self.nothing()),
+        }
     }
 }
 
 /// A session with another member begins: if it leads, it is to prepare this node.
-fn session_up(alloc: Global, me: Pid, part: &Part, role: &Role, peer: Pid) -> Result<Plan, NoMemory>
+fn session_up(member: &Member, role: &Role, peer: Pid) -> Result<Plan, NoMemory>
     ensures row { IfOk result (λ plan. effects_of role.now plan
-        ≡ session_up me part.now (role_of role.now) peer) }
+        ≡ session_up member.now.me member.now.part.now (role_of role.now) peer) }
     ensures room { IfOk result (λ plan. HasRoom plan.turn role.now) }
 {
-    if is_other(me, part, peer) {
-        saying(alloc, part, peer, Body::PrepareReq)
+    if is_other(member, peer) {
+        member.saying(peer, Body::PrepareReq)
     } else {
-        Ok(Plan::nothing(alloc))
+        Ok(member.nothing())
     }
 }
 
 #[tactic(auto, using(op_quorum::proofs::Meeting::member_passing))]
 /// Whether a server is another member.
-fn is_other(me: Pid, part: &Part, pid: Pid) -> bool
-    ensures { result ≡ is_member nat_eq (others me part.now.members) pid }
+fn is_other(member: &Member, pid: Pid) -> bool
+    ensures { result ≡ is_member nat_eq (others member.now.me member.now.part.now.members) pid }
 {
-    is_among(part.members.as_slice(), pid) && pid != me
+    is_among(member.part.members.as_slice(), pid) && pid != member.me
 }

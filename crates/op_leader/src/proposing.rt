@@ -1,5 +1,5 @@
-//! An entry is proposed, or was forwarded.
-ghost use Rattle.std.specs.Prelude.{◌≡◌, ◌<◌, ◌∷◌, [], length, IfOk, OnOk};
+//! Entries are proposed together, or were forwarded.
+ghost use Rattle.std.specs.Prelude.{◌≡◌, ◌<◌, ◌≤◌, ◌+◌, ◌++◌, length, IfOk, OnOk};
 ghost use Rattle.op_types.specs.Limits.{positions_end};
 ghost use Rattle.op_types.specs.Changes.{len_of};
 ghost use Rattle.op_types.specs.Effects.{effects_of, nothing_plan};
@@ -8,150 +8,173 @@ ghost use Rattle.op_types.specs.declared.messages.Body.TheVariants.{Accept};
 ghost use Rattle.op_types.specs.declared.role.Role.TheVariants as role;
 ghost use Rattle.op_types.specs.declared.turn.Turn.TheVariants.{Stay, Buffer};
 ghost use Rattle.op_protocol.specs.Parts.{to_each};
-ghost use Rattle.op_protocol.specs.Leader.{synced_others, extends, propose, on_forward};
+ghost use Rattle.op_protocol.specs.Leader.{synced_others, extends, propose, on_forward, forward_body, waiting_as};
 ghost use Rattle.op_plans.specs.Positions.{FitsPositions};
 
 use crate::counting::{count, synced_others};
-use op_plans::{first, log_len, one, pending, saying, send_each};
+use op_plans::{Member, first, one};
 use op_types::{
-    Body, Buffered, Change, Entry, Leading, Outcome, POSITIONS_END, Part, Pid, Plan, Preparing,
-    Replies, Role, Sends, Turn,
+    Ballot, Body, Buffer, Buffered, Change, Entries, Leading, Outcome, POSITIONS_END, Pid, Plan,
+    Preparing, Replies, Role, Sends, Turn, copy_entries,
 };
 use std::alloc::{AllocError as NoMemory, Global};
 
-/// An entry is added to the log, waits in the buffer, or goes to whom the node takes for the leader.
-pub fn propose(
-    alloc: Global,
-    me: Pid,
-    part: &Part,
-    role: &mut Role,
-    entry: Entry,
-) -> Result<Plan, NoMemory>
-    requires positions { FitsPositions part.now }
-    requires members { 0 < length part.now.members }
-    requires end { len_of part.now < positions_end }
-    ensures row { IfOk result (λ plan.
-        effects_of role.old plan ≡ propose me part.now (role_of role.old) entry) }
+/// Entries are added to the log, wait in the buffer, or go to whom the node takes for the leader, together.
+pub fn propose(member: &Member, role: &mut Role, entries: Entries) -> Result<Plan, NoMemory>
+    requires positions { FitsPositions member.now.part.now }
+    requires members { 0 < length member.now.part.now.members }
+    requires end { len_of member.now.part.now + length entries ≤ positions_end }
+    ensures row { IfOk result (λ plan. effects_of role.old plan
+        ≡ propose member.now.me member.now.part.now (role_of role.old) entries) }
     ensures role { role_of role.new ≡ role_of role.old }
     ensures room { IfOk result (λ plan. HasRoom plan.turn role.new) }
 {
     match role {
         Role::Idle => {
-            let mut plan = saying(alloc, part, part.promised.pid, Body::Forward(entry))?;
-            plan.outcome = Some(Outcome::Forwarded(part.promised.pid));
+            let leader = member.part.promised.pid;
+            let mut plan = member.saying(leader, forward(entries))?;
+            plan.outcome = Some(Outcome::Forwarded(leader));
             Ok(plan)
         }
         Role::Preparing(preparing) => {
-            let mut plan = buffers(alloc, preparing, entry, true)?;
+            let mut plan = buffers(member, preparing, entries, true)?;
             plan.outcome = Some(Outcome::Buffered);
             Ok(plan)
         }
         Role::Leading(leading) => {
-            let mut plan = extend(alloc, me, part, leading, entry)?;
-            plan.outcome = Some(Outcome::Appended(part.conf, log_len(part)));
+            let mut plan = extend(member, leading, entries)?;
+            plan.outcome = Some(Outcome::Appended(member.part.conf, member.log_len()));
             Ok(plan)
         }
     }
 }
 
-/// A proposal was forwarded: it is taken where the node leads or prepares.
-pub fn on_forward(
-    alloc: Global,
-    me: Pid,
-    part: &Part,
-    role: &mut Role,
-    entry: Entry,
-) -> Result<Plan, NoMemory>
-    requires positions { FitsPositions part.now }
-    requires members { 0 < length part.now.members }
+/// Proposals were forwarded together: they are taken where the node leads or prepares.
+pub fn on_forward(member: &Member, role: &mut Role, entries: Entries) -> Result<Plan, NoMemory>
+    requires positions { FitsPositions member.now.part.now }
+    requires members { 0 < length member.now.part.now.members }
     ensures row { IfOk result (λ plan. effects_of role.old plan
-        ≡ on_forward me part.now (role_of role.old) entry) }
+        ≡ on_forward member.now.me member.now.part.now (role_of role.old) entries) }
     ensures role { role_of role.new ≡ role_of role.old }
     ensures room { IfOk result (λ plan. HasRoom plan.turn role.new) }
 {
     match role {
-        Role::Idle => Ok(Plan::nothing(alloc)),
-        Role::Preparing(preparing) => buffers(alloc, preparing, entry, false),
+        Role::Idle => Ok(member.nothing()),
+        Role::Preparing(preparing) => buffers(member, preparing, entries, false),
         Role::Leading(leading) => {
-            if pending(part).is_some() {
-                return Ok(Plan::nothing(alloc));
+            if member.pending().is_some() {
+                return Ok(member.nothing());
             }
-            if log_len(part) == POSITIONS_END {
-                return Ok(Plan::nothing(alloc));
+            if POSITIONS_END - member.log_len() < entries.len() as u64 {
+                return Ok(member.nothing());
             }
-            extend(alloc, me, part, leading, entry)
+            extend(member, leading, entries)
         }
     }
 }
 
-/// An entry waits for the log to be adopted.
+/// Entries as a message for the leader: one alone, or several together.
+fn forward(entries: Entries) -> Body
+    ensures { result ≡ forward_body entries }
+{
+    let mut entries = entries.into_vec();
+    if entries.len() == 1 {
+        if let Some(entry) = entries.pop() {
+            return Body::Forward(entry);
+        }
+    }
+    Body::Forwards(Entries::from_vec(entries))
+}
+
+/// Entries wait for the log to be adopted.
 fn buffers(
-    alloc: Global,
+    member: &Member,
     preparing: &mut Preparing,
-    entry: Entry,
+    entries: Entries,
     is_own: bool,
 ) -> Result<Plan, NoMemory>
     ensures plan { IfOk result (λ plan. plan
-        ≡ record nothing_plan { turn = Buffer (record { entry = entry; is_own = is_own }) }) }
+        ≡ record nothing_plan { turn = Buffer (waiting_as is_own entries) }) }
     ensures role { preparing_of preparing.new ≡ preparing_of preparing.old }
-    ensures room { OnOk result (0 < preparing.new.buffer.room) }
+    ensures room { OnOk result (length entries ≤ preparing.new.buffer.room) }
 {
-    preparing.buffer.make_room(1)?;
-    let mut plan = Plan::nothing(alloc);
-    plan.turn = Turn::Buffer(Buffered { entry, is_own });
+    preparing.buffer.make_room(entries.len())?;
+    let mut plan = member.nothing();
+    plan.turn = Turn::Buffer(waiting(member.alloc, entries, is_own)?);
     Ok(plan)
 }
 
-/// A leader adds an entry to its log.
-fn extend(
-    alloc: Global,
-    me: Pid,
-    part: &Part,
-    leading: &Leading,
-    entry: Entry,
-) -> Result<Plan, NoMemory>
-    requires positions { FitsPositions part.now }
-    requires members { 0 < length part.now.members }
-    requires end { len_of part.now < positions_end }
+/// Entries as they wait in a buffer.
+fn waiting(alloc: Global, entries: Entries, is_own: bool) -> Result<Buffer, NoMemory>
+    ensures { IfOk result (λ all. all ≡ waiting_as is_own entries) }
+{
+    let mut all = Buffer::new(alloc);
+    for entry in entries.into_vec() {
+        all.push(Buffered { entry, is_own })?;
+    }
+    Ok(all)
+}
+
+/// A leader adds entries to its log.
+fn extend(member: &Member, leading: &Leading, entries: Entries) -> Result<Plan, NoMemory>
+    requires positions { FitsPositions member.now.part.now }
+    requires members { 0 < length member.now.part.now.members }
+    requires end { len_of member.now.part.now + length entries ≤ positions_end }
     ensures row { IfOk result (λ plan. effects_of (role.Leading leading.now) plan
-        ≡ extends me part.now (leading_of leading.now) entry) }
+        ≡ extends member.now.me member.now.part.now (leading_of leading.now) entries) }
     ensures turn { IfOk result (λ plan. plan.turn ≡ Stay) }
 {
-    let len = log_len(part);
-    let accepts = accept_sends(alloc, me, part, len, leading, &entry)?;
+    let len = member.log_len();
+    let more = entries.len() as u64;
+    let accepts = accept_sends(member, len, leading, &entries)?;
     let synced = leading.synced.as_slice();
     let acknowledged = leading.acknowledged.as_slice();
-    let none = Sends::new(alloc);
+    let none = Sends::new(member.alloc);
     let plan = count(
-        alloc,
-        me,
-        part,
-        len + 1,
+        member,
+        len + more,
         leading.ballot,
         synced,
         acknowledged,
         none,
     )?;
-    let append = one(alloc, Change::Append(one(alloc, entry)?))?;
-    first(append, accepts, Replies::new(alloc), plan)
+    let append = one(member.alloc, Change::Append(entries))?;
+    first(append, accepts, Replies::new(member.alloc), plan)
 }
 
-/// An entry that goes to the log's end goes to each synced follower.
+/// Entries that go to the log's end go to each synced follower: one copy for each.
 fn accept_sends(
-    alloc: Global,
-    me: Pid,
-    part: &Part,
+    member: &Member,
     len: u64,
     leading: &Leading,
-    entry: &Entry,
+    entries: &Entries,
 ) -> Result<Sends, NoMemory>
-    ensures { IfOk result (λ sends. sends
-        ≡ to_each part.now.conf (synced_others me part.now.members (leading_of leading.now))
-        (Accept leading.now.ballot len (entry.now ∷ []))) }
+    ensures { IfOk result (λ sends. sends ≡ to_each member.now.part.now.conf
+        (synced_others member.now.me member.now.part.now.members (leading_of leading.now))
+        (Accept leading.now.ballot len entries.now)) }
 {
-    let body = Body::Accept(leading.ballot, len, one(alloc, entry.copy(alloc)?)?);
-    let pids = synced_others(alloc, me, part, leading.synced.as_slice())?;
-    let mut sends = Sends::new(alloc);
-    send_each(alloc, &mut sends, part, pids.as_slice(), &body)?;
+    let pids = synced_others(member, leading.synced.as_slice())?;
+    let mut sends = Sends::new(member.alloc);
+    let ballot = leading.ballot;
+    send_accepts(member, &mut sends, pids.as_slice(), ballot, len, entries)?;
     Ok(sends)
+}
+
+/// The same entries go to each of these.
+fn send_accepts(
+    member: &Member,
+    sends: &mut Sends,
+    pids: &[Pid],
+    ballot: Ballot,
+    len: u64,
+    entries: &Entries,
+) -> Result<(), NoMemory>
+    ensures { OnOk result (sends.new ≡ sends.old
+        ++ to_each member.now.part.now.conf pids.now (Accept ballot len entries.now)) }
+{
+    for pid in pids {
+        let copied = copy_entries(member.alloc, entries.as_slice())?;
+        member.send(sends, *pid, Body::Accept(ballot, len, copied))?;
+    }
+    Ok(())
 }

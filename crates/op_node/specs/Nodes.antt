@@ -1,5 +1,6 @@
 -- A node as contracts see it, and what a step of it does.
 use Rattle.std.specs.Prelude.{◌≡◌, ℕ, List, [], Option, Some, None, Result, Ok, Err}
+use Rattle.op_types.specs.declared.answers.Outcome.{Outcome}
 use Rattle.op_types.specs.declared.answers.Outcome.TheVariants.{Refused}
 use Rattle.op_types.specs.declared.answers.Refusal.TheVariants.{StorageFailed}
 use Rattle.op_types.specs.declared.changes.Change.{Change}
@@ -39,11 +40,17 @@ IsRepresented state n = Represents state (node_of n).state.durable n.store
 abbrev pub given_of : Planned → Given
 given_of p = record { sends = p.sends; replies = p.replies; outcome = p.outcome }
 
--- a node that has failed refuses what is proposed, with the count that it keeps, and does nothing else
+-- an outcome alone is given out
+abbrev pub saying : Option Outcome → Given
+saying o = record { sends = []; replies = []; outcome = o }
+
+-- a node that has failed refuses what is proposed, and to trim, with the count that it keeps,
+-- and does nothing else
 abbrev pub refused_with : ℕ → Input → Given
-refused_with count (input.Command c) =
-    record { sends = []; replies = []; outcome = Some (Refused (StorageFailed count)) }
-refused_with count x = record { sends = []; replies = []; outcome = None }
+refused_with count (input.Commands cs) = saying (Some (Refused (StorageFailed count)))
+refused_with count (input.Stop members) = saying (Some (Refused (StorageFailed count)))
+refused_with count input.TrimNow = saying (Some (Refused (StorageFailed count)))
+refused_with count x = saying None
 
 -- what a step gives out
 abbrev pub gives : NodeState → Input → Given

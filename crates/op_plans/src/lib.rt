@@ -1,15 +1,13 @@
-//! Pieces of plans: a part's log and its changes, messages, and lists that are put together.
+//! Pieces of plans: a node at its part, the log and its changes, messages, and lists that are put together.
 #![tactic(auto)]
 
 mod dropping;
 mod joining;
 mod log;
+mod member;
 mod sends;
 
 pub use dropping::{given_up, push_dropped};
 pub use joining::{first, joined, one};
-pub use log::{
-    ends_with_stop, is_stop, log_from, log_len, pending, push_append, push_cut, suffix,
-    without_prefix,
-};
-pub use sends::{others, saying, send, send_each};
+pub use log::{ends_with_stop, is_stop, push_append, suffix, without_prefix};
+pub use member::Member;

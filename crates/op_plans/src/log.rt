@@ -5,16 +5,9 @@ ghost use Rattle.op_types.specs.Changes.{len_of};
 ghost use Rattle.op_protocol.specs.Parts.{log_from, pending, cutting, appending};
 ghost use Rattle.op_plans.specs.Positions.{FitsPositions};
 
-use op_types::{Batch, Change, Entries, Entry, Part, copy_entries};
+use crate::member::Member;
+use op_types::{Batch, Change, Entries, Entry, copy_entries};
 use std::alloc::{AllocError as NoMemory, Global};
-
-/// The length of a part's log.
-pub fn log_len(part: &Part) -> u64
-    requires { FitsPositions part.now }
-    ensures { result ≡ len_of part.now }
-{
-    part.trimmed + part.tail.len() as u64
-}
 
 /// Whether an entry is a stop-sign.
 pub fn is_stop(entry: &Entry) -> bool
@@ -33,18 +26,6 @@ pub fn ends_with_stop(entries: &[Entry]) -> bool
     match entries.last() {
         Some(entry) => is_stop(entry),
         None => false,
-    }
-}
-
-/// Where a stop-sign ends the log.
-pub fn pending(part: &Part) -> Option<u64>
-    requires { FitsPositions part.now }
-    ensures { result ≡ pending part.now }
-{
-    if ends_with_stop(part.tail.as_slice()) {
-        Some(log_len(part) - 1)
-    } else {
-        None
     }
 }
 
@@ -69,23 +50,45 @@ pub fn without_prefix(alloc: Global, entries: Entries, count: u64) -> Result<Ent
     copy_entries(alloc, suffix(entries.as_slice(), count))
 }
 
-/// A copy of the log from a position on.
-pub fn log_from(alloc: Global, part: &Part, at: u64) -> Result<Entries, NoMemory>
-    ensures { IfOk result (λ es. es ≡ log_from part.now at) }
-{
-    let count = at.saturating_sub(part.trimmed);
-    copy_entries(alloc, suffix(part.tail.as_slice(), count))
-}
-
-/// Adds the change that cuts the log to a length, where that cuts anything.
-pub fn push_cut(batch: &mut Batch, part: &Part, len: u64) -> Result<(), NoMemory>
-    requires { FitsPositions part.now }
-    ensures { OnOk result (batch.new ≡ batch.old ++ cutting part.now len) }
-{
-    if len < log_len(part) {
-        batch.push(Change::CutTo(len))?;
+impl Member<'_> {
+    /// The length of the log.
+    pub fn log_len(&self) -> u64
+        requires { FitsPositions self.now.part.now }
+        ensures { result ≡ len_of self.now.part.now }
+    {
+        self.part.trimmed + self.part.tail.len() as u64
     }
-    Ok(())
+
+    /// Where a stop-sign ends the log.
+    pub fn pending(&self) -> Option<u64>
+        requires { FitsPositions self.now.part.now }
+        ensures { result ≡ pending self.now.part.now }
+    {
+        if ends_with_stop(self.part.tail.as_slice()) {
+            Some(self.log_len() - 1)
+        } else {
+            None
+        }
+    }
+
+    /// A copy of the log from a position on.
+    pub fn log_from(&self, at: u64) -> Result<Entries, NoMemory>
+        ensures { IfOk result (λ es. es ≡ log_from self.now.part.now at) }
+    {
+        let count = at.saturating_sub(self.part.trimmed);
+        copy_entries(self.alloc, suffix(self.part.tail.as_slice(), count))
+    }
+
+    /// Adds the change that cuts the log to a length, where that cuts anything.
+    pub fn push_cut(&self, batch: &mut Batch, len: u64) -> Result<(), NoMemory>
+        requires { FitsPositions self.now.part.now }
+        ensures { OnOk result (batch.new ≡ batch.old ++ cutting self.now.part.now len) }
+    {
+        if len < self.log_len() {
+            batch.push(Change::CutTo(len))?;
+        }
+        Ok(())
+    }
 }
 
 /// Adds the change that adds entries, if there are any.

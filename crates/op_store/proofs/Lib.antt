@@ -1,9 +1,12 @@
 pub mod RecordsMakeStates
 pub mod UniqueState
 pub mod UniquePairs
+pub mod BatchesInRange
 pub mod MadeInRange
 pub mod PairRuns
+pub mod Bodies
 pub mod AreaDisks
+pub mod KeptDisks
 pub mod CommitCrashes
 pub mod CheckpointCrashes
 pub mod OpeningCalls

@@ -1,49 +1,54 @@
 -- What records make is in range, whatever the bytes are that they come from.
-use Rattle.std.proofs.Common.{◌≡◌, ◌+◌, ◌-◌, ℕ, List, [], ◌∷◌, ◌++◌, length, take, Option, Some, None, sym, subst, arith, length-append, All}
+use Rattle.std.proofs.Common.{◌≡◌, ℕ, List, [], ◌∷◌, Option, Some, None, refl, sym, subst, ap, ◌∙◌, All}
 use Rattle.std.specs.Prelude.{IfSome}
-use Rattle.std.proofs.lemmas.List.Elements.{All-head, All-tail, All-append, All-take}
-use Rattle.std.proofs.lemmas.List.{length-take-le}
-use Rattle.op_types.specs.Ranges.{EntryInRange}
-use Rattle.op_types.specs.Changes.{part_with, durable_with, durable_after, PartApplies, ChangeApplies, Applies}
+use Rattle.op_types.specs.Rooms.{part_room, joining_room, IsAtRest}
 use Rattle.op_types.specs.declared.durable.Part.{Part}
-use Rattle.op_types.specs.declared.durable.Closed.{Closed}
+use Rattle.op_types.specs.declared.durable.Joining.{Joining}
 use Rattle.op_types.specs.declared.durable.Durable.{Durable}
 use Rattle.op_types.specs.declared.changes.Change.{Change}
-use Rattle.op_types.specs.declared.changes.Change.TheVariants as change
-use Rattle.op_record.specs.Ranges.{PartInRange, DurableInRange, ChangeInRange}
+use Rattle.op_types.specs.declared.needs.Needs.{Needs}
+use Rattle.op_record.specs.Ranges.{PartInRange, ClosedInRange, JoiningInRange, DurableInRange, ChangeInRange, DurableFits, BatchFits}
 use Rattle.op_store.specs.Readings.{IsAreaFor}
 use Rattle.op_store.specs.Records.{Makes, AllMake}
+use Rattle.op_store.proofs.BatchesInRange.{batch_after}
 
-part_after : (p : Part) (c : Change) → PartInRange p → ChangeInRange c → PartApplies p c → PartInRange (part_with p c)
-part_after p (change.Promise b) r range applies =
-    record { conf = r.conf; members = r.members; promised = range; accepted = r.accepted; base = r.base; trimmed = r.trimmed; len = r.len; entries = r.entries; decided = r.decided; room = r.room }
-part_after p (change.Accept b) r range applies =
-    record { conf = r.conf; members = r.members; promised = r.promised; accepted = range; base = r.base; trimmed = r.trimmed; len = r.len; entries = r.entries; decided = r.decided; room = r.room }
-part_after p (change.CutTo n) r range applies =
-    let size : length (take (n - p.trimmed) p.tail.items) ≡ n - p.trimmed = length-take-le (n - p.trimmed) p.tail.items (omega (arith, applies.1)) in
-    record { conf = r.conf; members = r.members; promised = r.promised; accepted = r.accepted; base = r.base; trimmed = r.trimmed; len = omega (arith, size, applies.1, r.len); entries = All-take EntryInRange (n - p.trimmed) p.tail.items r.entries; decided = (r.decided.0, omega (arith, size, applies.0)); room = r.room }
-part_after p (change.Append es) r range applies =
-    let size : length (p.tail.items ++ es) ≡ length p.tail.items + length es = length-append p.tail.items es in
-    record { conf = r.conf; members = r.members; promised = r.promised; accepted = r.accepted; base = r.base; trimmed = r.trimmed; len = omega (arith, size, applies.0); entries = All-append EntryInRange p.tail.items es r.entries range.each; decided = (r.decided.0, omega (arith, size, r.decided)); room = r.room }
-part_after p (change.Decided x) r range applies =
-    record { conf = r.conf; members = r.members; promised = r.promised; accepted = r.accepted; base = r.base; trimmed = r.trimmed; len = r.len; entries = r.entries; decided = (omega (arith, r.decided, applies), applies.1); room = r.room }
+-- ---- what has an encoding is in range
 
--- a durable state with this part
-abbrev stored : Option Part → Option Closed → Durable
-stored o closed = record { part = o; closed = closed }
+some_first : {A : Type 0} (P Q : A → Type 0) (o : Option A) → IfSome o (λ x. P x × Q x) → IfSome o P
+some_first P Q None h = tt
+some_first P Q (Some x) h = h.0
 
-change_after : (o : Option Part) (k : Option Closed) (c : Change) → DurableInRange (stored o k) → ChangeInRange c → ChangeApplies o c → DurableInRange (durable_with (stored o k) c)
-change_after None k c r range applies = absurd applies
-change_after (Some p) k c r range applies = record { part = part_after p c r.part range applies; closed = r.closed }
+pub fitting_in_range : (d : Durable) → DurableFits d → DurableInRange d
+fitting_in_range d fit =
+    record {
+      part = some_first PartInRange _ d.part fit.part;
+      closed = some_first ClosedInRange _ d.closed fit.closed;
+      joining = some_first JoiningInRange _ d.joining fit.joining;
+    }
 
-pub batch_after : (d : Durable) (batch : List Change) → DurableInRange d → All ChangeInRange batch → Applies d batch → DurableInRange (durable_after d batch)
-batch_after d [] r range applies = r
-batch_after d (c ∷ batch) r range applies =
-    batch_after (durable_with d c) batch (change_after d.part d.closed c r (All-head ChangeInRange c batch range) applies.0) (All-tail ChangeInRange c batch range) applies.1
+pub each_in_range : (batch : List Change) → BatchFits batch → All ChangeInRange batch
+each_in_range batch fit = λ k x lt. (fit.each k x lt).0
 
-makes_in_range : (old : Option Durable) (bytes : List ℕ) (d : Durable) → IfSome old DurableInRange → Makes old bytes d → DurableInRange d
-makes_in_range None bytes d was makes = makes.0
-makes_in_range (Some old) bytes d was makes = subst DurableInRange (sym makes.3) (batch_after old makes.0 was makes.1.0.each makes.2)
+-- ---- what is in range keeps no room
+
+no_part_room : (o : Option Part) → IfSome o PartInRange → part_room o ≡ 0
+no_part_room None h = refl
+no_part_room (Some p) h = h.room
+
+no_joining_room : (o : Option Joining) → IfSome o JoiningInRange → joining_room o ≡ 0
+no_joining_room None h = refl
+no_joining_room (Some j) h = h.room
+
+pub range_rests : (d : Durable) → DurableInRange d → IsAtRest d
+range_rests d range =
+    ap (λ (n : ℕ). let x : Needs = record { entries = n; held = joining_room d.joining } in x) (no_part_room d.part range.part)
+    ∙ ap (λ (n : ℕ). let x : Needs = record { entries = 0; held = n } in x) (no_joining_room d.joining range.joining)
+
+-- ---- records
+
+pub makes_in_range : (old : Option Durable) (bytes : List ℕ) (d : Durable) → IfSome old DurableInRange → Makes old bytes d → DurableInRange d
+makes_in_range None bytes d was makes = fitting_in_range d makes.0
+makes_in_range (Some old) bytes d was makes = subst DurableInRange (sym makes.3) (batch_after old makes.0 was (each_in_range makes.0 makes.1.0) makes.2)
 
 pub made_in_range : (old : Option Durable) (bodies : List (List ℕ)) (d : Durable) → IfSome old DurableInRange → AllMake old bodies (Some d) → DurableInRange d
 made_in_range None [] d was all = absurd (cc)

@@ -4,7 +4,6 @@ use Rattle.std.specs.Prelude.{◌^◌, IsErr, IfOk, IfErr}
 use Rattle.op_types.specs.declared.durable.Durable.{Durable}
 use Rattle.op_outside.specs.Disks.{DiskState, MayLeave, IsAtRest, LeavesOnly, Counts, CountsUpTo, Costs}
 use Rattle.op_outside.proofs.Runs.{started, weaker}
-use Rattle.op_record.specs.Forms.{body}
 use Rattle.op_record.specs.declared.body.Rec.TheVariants.{Whole}
 use Rattle.std.specs.Int.{w64}
 use Rattle.op_fields.specs.Form.{encoded}
@@ -14,8 +13,9 @@ use Rattle.op_journal.specs.Appends.{Trims}
 use Rattle.op_journal.specs.Calls.{format_calls}
 use Rattle.op_journal.specs.Readings.{IsReading, IsNew, HasNoHeader}
 use Rattle.op_journal.specs.Openings.{IsReadFrom}
-use Rattle.op_journal.specs.Beginnings.{HasNone, IsFormattable, IsOldOrNone}
+use Rattle.op_journal.specs.Beginnings.{HasNone, IsFormattable, IsOldOrNone, Formats}
 use Rattle.op_journal.proofs.Headers.{length-header, header_long}
+use Rattle.op_store.specs.Records.{IsBodyOf}
 use Rattle.op_store.specs.Stored.{StandsAs, IsBelow, IsChosen, IsStored, StoreNothing, Disks, Obey, LeaveStill, HaveImages, len_at_format, chosen, other, chosen_disk, other_disk, rival_end}
 use Rattle.op_store.specs.Readings.{StopsAt, IsAreaFor, IsDamageOf, IsRead}
 use Rattle.op_store.specs.Failing.{IsDamageOrNoMemory, IsDamageOrStopped, IsUndamaged, IsFault}
@@ -30,7 +30,7 @@ use Rattle.op_store.proofs.MadeInRange.{found_in_range}
 use Rattle.op_store.proofs.UniquePairs.{stands_header, stored_of, stored_or_damage, nothing_or_damage, one_damage}
 use Rattle.op_store.proofs.PairRuns.{chosen_pairs_left, pairs_still, stored_at}
 use Rattle.op_store.proofs.OpeningCalls.{readings_stopped, reads_chosen, resumed_calls, unresumed_calls, trimmed, untrimmed, begun_calls, unbegun_calls}
-use Rattle.op_store.proofs.CheckpointCrashes.{settles_begun, stands_whole}
+use Rattle.op_store.proofs.CheckpointCrashes.{stands_whole}
 
 -- an area and its closed gate are within the bytes, and so was its first record
 area_room : (g : ℕ) (bodies : List (List ℕ)) (end : ℕ) (bytes : List ℕ) → IsArea g bodies end bytes → (end + 1 ≤ length bytes) × (len_at_format bodies ≤ length bytes)
@@ -314,7 +314,7 @@ module _ (fresh : Durable) (old mid : Disks) (still : LeaveStill old mid) where
         (uncut_calls new idle uncalled e fault (λ more. cut more obeys_there))
 
   -- no area is there, and the first one is begun
-  module _ (closed closed_other : Bool) (len : ℕ) (found : FindsAreas old mid (reading.New closed closed_other) len) (fits : body.fits (Whole fresh)) where
+  module _ (closed closed_other : Bool) (len : ℕ) (found : FindsAreas old mid (reading.New closed closed_other) len) where
     nothing : StoreNothing old.first.content old.second.content
     nothing = ((closed, found.found.0), (closed_other, found.found.1))
 
@@ -325,28 +325,25 @@ module _ (fresh : Durable) (old mid : Disks) (still : LeaveStill old mid) where
     pub formattable_there : IsFormattable mid.first.content closed
     formattable_there = subst (λ (l : List ℕ). IsFormattable l closed) (sym found.same_first) (formattable_new closed old.first.content found.found.0)
 
-    abbrev text : List ℕ
-    text = body.text (Whole fresh)
-
-    begin_keeps : (new : DiskState) → LeavesOnly (λ image. IsOldOrNone mid.first.content image ⊎ HoldsRecords 1 (text ∷ []) image) mid.first new → Keeps fresh old (record { first = new; second = mid.second })
+    begin_keeps : (new : DiskState) → LeavesOnly (λ image. IsOldOrNone mid.first.content image ⊎ StandsAs 1 fresh image) mid.first new → Keeps fresh old (record { first = new; second = mid.second })
     begin_keeps new leaves =
-        chosen_pairs_left (λ image. IsOldOrNone mid.first.content image ⊎ HoldsRecords 1 (text ∷ []) image) (λ image. ⊥) Left false old mid (record { first = new; second = mid.second })
+        chosen_pairs_left (λ image. IsOldOrNone mid.first.content image ⊎ StandsAs 1 fresh image) (λ image. ⊥) Left false old mid (record { first = new; second = mid.second })
         still.first still.second found.rests_first found.rests_second found.same_first found.same_second leaves (started (λ image. ⊥) mid.second)
         (λ x h. inr (
           nothing,
           ⊎_elim
               (λ before. inl (⊎_elim (λ same. subst HasNone (sym (same ∙ found.same_first)) nothing.0) (λ none. none) before, nothing.1))
-              (λ whole. inr (stored_at false 1 fresh x old.second.content (stands_whole fresh text (fits, refl) 1 x whole) (inl nothing.1))) h,
+              (λ stands. inr (stored_at false 1 fresh x old.second.content stands (inl nothing.1))) h,
         ))
         (λ y none. absurd none) (λ x y h none. absurd none)
 
-    begins_ok : (new : DiskState) (end : ℕ) → end ≡ 17 + 9 + length text → BeginsArea fresh mid.first new (Ok (begun_area fresh closed_other end)) → Counts (format_calls closed) mid.first.calls new.calls → OpensAreas fresh old (record { first = new; second = mid.second }) (Ok (begun_area fresh closed_other end))
-    begins_ok new end place begins calls =
+    begins_ok : (new : DiskState) (end : ℕ) → BeginsArea fresh mid.first new (Ok (begun_area fresh closed_other end)) → Counts (format_calls closed) mid.first.calls new.calls → OpensAreas fresh old (record { first = new; second = mid.second }) (Ok (begun_area fresh closed_other end))
+    begins_ok new end begins calls =
         record {
           opened = record {
             found = (nothing, refl);
             is_open = record {
-              settles = settles_begun fresh text (fits, refl) 1 end (end + 1) new begins.settled place refl;
+              settles = begins.settled;
               rests = found.rests_second;
               below = inl (closed_other, subst (λ (l : List ℕ). IsNew l closed_other) (sym found.same_second) found.found.1);
               formattable = subst (λ (l : List ℕ). IsFormattable l closed_other) (sym found.same_second) (formattable_new closed_other old.second.content found.found.1);
@@ -357,18 +354,26 @@ module _ (fresh : Durable) (old mid : Disks) (still : LeaveStill old mid) where
           refusal = tt;
           complete = tt;
           crash = begin_keeps new begins.crash;
-          images = (begins.settled.rests.only.itself, found.rests_second.only.itself);
+          images = (begins.settled.settled.rests.only.itself, found.rests_second.only.itself);
           calls = begun_calls old mid (record { first = new; second = mid.second }) closed found.found.0 found.calls refl end calls;
         }
 
-    pub opens_begun : (new : DiskState) (r : Result OpenArea StoreFail) → IfOk r (λ a. a ≡ begun_area fresh closed_other a.end) → IfOk r (λ a. a.end ≡ 17 + 9 + length text) → IfErr r IsUndamaged → BeginsArea fresh mid.first new r
+    pub opens_begun : (new : DiskState) (r : Result OpenArea StoreFail) → IfOk r (λ a. a ≡ begun_area fresh closed_other a.end) → IfErr r IsUndamaged → BeginsArea fresh mid.first new r
         → MayLeave new new.content → CountsBeginning closed mid.first.calls new.calls r → OpensAreas fresh old (record { first = new; second = mid.second }) r
-    opens_begun new (Ok a) is place none begins image calls =
+    opens_begun new (Ok a) is none begins image calls =
         subst (λ (m : OpenArea). OpensAreas fresh old (record { first = new; second = mid.second }) (Ok m)) (sym is)
-        (begins_ok new a.end place (subst (λ (m : OpenArea). BeginsArea fresh mid.first new (Ok m)) is begins) calls)
-    opens_begun new (Err e) is place none begins image calls =
+        (begins_ok new a.end (subst (λ (m : OpenArea). BeginsArea fresh mid.first new (Ok m)) is begins) calls)
+    opens_begun new (Err e) is none begins image calls =
         stops_undamaged fresh old (record { first = new; second = mid.second }) e none (begin_keeps new begins.crash) image found.rests_second.only.itself
         (unbegun_calls old mid (record { first = new; second = mid.second }) closed found.found.0 found.calls refl e calls)
+
+-- ---- a format begins an area that stands for what was laid out
+
+pub begins_whole : {E : Type 0} (fresh : Durable) (framed : List ℕ) → IsBodyOf (Whole fresh) framed → (old new : DiskState) (r : Result ℕ E) → IsAtRest old → Formats 1 framed old new r
+    → LeavesOnly (λ image. IsOldOrNone old.content image ⊎ StandsAs 1 fresh image) old new
+begins_whole fresh framed is old new r rests formats =
+    weaker (λ image. IsOldOrNone old.content image ⊎ HoldsRecords 1 (framed ∷ []) image) (λ image. IsOldOrNone old.content image ⊎ StandsAs 1 fresh image) old new (formats.crash rests)
+    (λ c h. ⊎_elim (λ before. inl before) (λ whole. inr (stands_whole fresh framed is 1 c whole)) h)
 
 -- ---- without memory no area is begun
 

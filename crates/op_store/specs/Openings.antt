@@ -4,11 +4,11 @@ use Rattle.op_outside.specs.Disks.{disk_end, DiskState, IsAtRest, LeavesOnly, Co
 use Rattle.op_record.specs.Ranges.{DurableInRange}
 use Rattle.op_record.specs.Forms.{body}
 use Rattle.op_record.specs.declared.body.Rec.TheVariants.{Whole}
-use Rattle.op_journal.specs.Areas.{IsGeneration, HoldsRecords, IsSettled}
+use Rattle.op_journal.specs.Areas.{IsGeneration}
 use Rattle.op_types.specs.declared.durable.Durable.{Durable}
 use Rattle.op_journal.specs.Calls.{synced_calls, reading_calls, most_reading_calls, format_calls, trim_calls}
 use Rattle.op_journal.specs.Beginnings.{IsOldOrNone, first_generation, new_area}
-use Rattle.op_store.specs.Stored.{IsStored, StoreNothing, Disks, disks_with, chosen, chosen_disk, other_disk, Obey, HaveImages, LeavesPairs, KeepBoth}
+use Rattle.op_store.specs.Stored.{StandsAs, Settles, IsStored, StoreNothing, Disks, disks_with, chosen, chosen_disk, other_disk, Obey, HaveImages, LeavesPairs, KeepBoth}
 use Rattle.op_store.specs.Readings.{IsRead, IsDamageOf}
 use Rattle.op_store.specs.Failing.{faults, IsFaultOf, IsDamageOrStopped}
 use Rattle.op_store.specs.Stores.{disks_of, IsOpen, Represents, IsReady}
@@ -184,10 +184,10 @@ begun_area fresh is_closed end =
 -- bytes from before, no area, or the whole new one.
 pub record BeginsArea (fresh : Durable) (old new : DiskState)
     (result : Result OpenArea StoreFail) : Type 0 where
-  pub settled : IfOk result (λ a. IsSettled first_generation (body.text (Whole fresh) ∷ []) a.end new)
+  pub settled : IfOk result (λ a. Settles fresh first_generation a.end a.base new)
   pub written : OnOk result (new.content ≡ new_area first_generation (body.text (Whole fresh)))
   pub crash : LeavesOnly (λ image. IsOldOrNone old.content image
-      ⊎ HoldsRecords first_generation (body.text (Whole fresh) ∷ []) image) old new
+      ⊎ StandsAs first_generation fresh image) old new
 
 -- ---- an opening
 

@@ -9,7 +9,7 @@ ghost use Rattle.op_journal.specs.Failing.{IfDamaged, IfFault};
 ghost use Rattle.op_store.specs.Records.{Makes};
 ghost use Rattle.op_store.specs.Readings.{IsRowFor, StopsAt, IsDamageOf, IsRead};
 ghost use Rattle.op_store.specs.Failing.{IsDamageOrNoMemory};
-ghost use Rattle.op_types.specs.Rooms.{room_of};
+ghost use Rattle.op_types.specs.Rooms.{IsAtRest};
 
 use crate::choosing::{Choice, choose, chosen_of};
 use crate::fail::{StoreFail, cause_of};
@@ -125,9 +125,9 @@ fn after_record(
     made: Option<Durable>,
     body: &[u8],
 ) -> Result<Option<Durable>, NoMemory>
-    requires { IfSome made (λ d. room_of d.part ≡ 0) }
+    requires { IfSome made IsAtRest }
     ensures makes { IfOk result (λ o. IfSome o (λ d. Makes made body.now d)) }
-    ensures room { IfOk result (λ o. IfSome o (λ d. room_of d.part ≡ 0)) }
+    ensures room { IfOk result (λ o. IfSome o IsAtRest) }
     ensures none { IfOk result (λ o. IfNone o ((d : Durable) → Makes made body.now d → ⊥)) }
 {
     let said = match take(alloc, body) {
@@ -154,10 +154,10 @@ fn whole_in(said: Rec) -> Option<Durable>
 
 /// What the step that a record says makes of a durable state, or none where it doesn't apply or the record says none.
 fn after_step(durable: Durable, said: Rec) -> Result<Option<Durable>, NoMemory>
-    requires { room_of durable.part ≡ 0 }
+    requires { IsAtRest durable }
     ensures applied { IfOk result (λ o. IfSome o (λ d. (batch : List Change) ×
         (said ≡ Step batch) × Applies durable batch × (d ≡ durable_after durable batch))) }
-    ensures room { IfOk result (λ o. IfSome o (λ d. room_of d.part ≡ 0)) }
+    ensures room { IfOk result (λ o. IfSome o IsAtRest) }
     ensures none { IfOk result (λ o. IfNone o ((batch : List Change) →
         said ≡ Step batch → Applies durable batch → ⊥)) }
 {

@@ -2,13 +2,12 @@ use Rattle.std.proofs.Common.{◌≡◌, false, rules, refl}
 use Rattle.std.specs.Prelude.{IfErr}
 use Rattle.op_outside.specs.Disks.{IsAtRest, LeavesOnly}
 use Rattle.op_outside.proofs.Runs.{started}
-use Rattle.op_record.specs.Forms.{body}
-use Rattle.op_record.specs.declared.body.Rec.TheVariants.{Whole}
 use Rattle.op_store.specs.Stored.{Disks, disks_with, chosen_disk, other_disk}
 use Rattle.op_store.specs.Openings.{FindsAreas, FindsNone}
 use Rattle.op_store.specs.declared.area.OpenArea.{OpenArea}
 use Rattle.op_store.specs.declared.reading.Reading.TheVariants as reading
 use Rattle.op_store.proofs.AreaDisks.{on_chosen, on_other}
+use Rattle.op_store.proofs.KeptDisks.{keep_both, kept_beside}
 use Rattle.op_store.proofs.OpeningOutcomes.{opens_none_of, opens_resumed, opens_begun, bodies, rests_there, rests_beside, formattable_there}
 use Rattle.op_store.proofs.area.open_areas.Goals as goal
 
@@ -56,8 +55,14 @@ returns-in-New-clause-opens g c obey =
     let still = c.read_areas.ensures.still obey in
     let f = c.in-New in
     let len = c.in_ok-found.len in
-    let fits : body.fits (Whole c.args.fresh) = search rules in
     let found : FindsAreas old mid (reading.New f.is_closed f.is_other_closed) len = search rules in
-    let formattable = formattable_there c.args.fresh old mid still f.is_closed f.is_other_closed len found fits in
-    opens_begun c.args.fresh old mid still f.is_closed f.is_other_closed len found fits (state c.begin.new.first) c.begin.result c.begin.ensures.area c.begin.ensures.end c.begin.ensures.undamaged
+    let formattable = formattable_there c.args.fresh old mid still f.is_closed f.is_other_closed len found in
+    opens_begun c.args.fresh old mid still f.is_closed f.is_other_closed len found (state c.begin.new.first) c.begin.result c.begin.ensures.area c.begin.ensures.undamaged
     (c.begin.ensures.begins formattable found.rests_first) (c.begin.ensures.kept.image found.rests_first.obeys found.rests_first.only.itself) (c.begin.ensures.calls found.rests_first.obeys)
+
+pub returns-in-Area-clause-kept : goal.returns-in-Area-clause-kept
+returns-in-Area-clause-kept g c =
+    let state = g.D.Disk.state in
+    let mid : Disks = disks_with state c.read_areas.new.first c.read_areas.new.second in
+    keep_both (disks_with state c.args.first.now c.args.second.now) mid (disks_with state c.resume.new.first c.resume.new.second) c.read_areas.ensures.kept
+    (kept_beside state c.in-Area.is_second c.resume.new.first c.resume.new.second c.read_areas.new.first c.read_areas.new.second c.resume.ensures.kept c.resume.ensures.uncalled)

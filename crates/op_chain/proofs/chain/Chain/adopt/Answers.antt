@@ -1,42 +1,57 @@
-use Rattle.std.proofs.Common.{◌≡◌, ℕ, List, refl, sym, ap, subst, ◌∙◌}
-use Rattle.op_types.specs.declared.log.Entry.{Entry}
-use Rattle.op_protocol.specs.State.{Waiting}
-use Rattle.op_kv.specs.Over.{answers_of}
-use Rattle.op_chain.specs.Answering.{Answers, decided_of, decided_from}
-use Rattle.op_chain.specs.Plans.{decided_by}
-use Rattle.op_chain.proofs.Steps.{decided_entries, plan_adopted}
+use Rattle.std.proofs.Common.{◌≡◌, ◌≤◌, ◌+◌, length, refl, ap, subst, ◌∙◌, arith}
+use Rattle.op_types.specs.Roomed.{Roomed}
+use Rattle.op_types.specs.declared.answers.Reply.{Reply}
+use Rattle.op_spec.specs.Service.{Service}
+use Rattle.op_protocol.specs.State.{Planned}
+use Rattle.op_chain.specs.Plans.{told_anew, service_by, Adopts}
+use Rattle.op_chain.specs.declared.chain.Chain.{Chain}
+use Rattle.op_chain.specs.declared.given.Given.{Given}
+use Rattle.op_chain.proofs.Adopted.{rows_few, all_told, Made, plan_adopted}
 use Rattle.op_chain.proofs.chain.Chain.adopt.Goals as goal
 
-pub answer-replies-requires-clause-answered : goal.answer-replies-requires-clause-answered
-answer-replies-requires-clause-answered c =
-    let old = c.args.self.now in
-    let service = old.service.service in
-    let newly : c.decided_from-entries.result.now ≡ decided_from (decided_of old.durable.part) c.adopt.new.self.part =
-    c.decided_from-entries.ensures ∙ ap (λ (n : ℕ). decided_from n c.adopt.new.self.part) c.decided_of-decided.ensures in
-    let entries : decided_by old c.args.plan ≡ c.decided_from-entries.result.now = decided_entries old.durable c.adopt.new.self c.args.plan.plan.batch c.adopt.ensures ∙ sym newly in
-    (service, c.requires.1.answers ∙ ap (λ (es : List Entry). answers_of service es) entries)
+pub add_all-requires : goal.add_all-requires
+add_all-requires c =
+    let plan = c.args.plan in
+    let room = c.requires.1.room in
+    let few : length c.give_up.new.told.items ≤ length plan.plan.replies =
+    rows_few c.let_wait.new.self c.give_up.new.waiting plan.room.told c.give_up.new.told c.args.self.now.waiting.next plan.plan.replies c.let_wait.ensures.waiting room.nobody_told c.give_up.ensures.told in
+    let same : length c.into_seq.result ≡ length c.give_up.new.told.items = ap length c.into_seq.ensures in
+    let gave : plan.room.replies.room ≤ c.give.new.given.room + length plan.replies = c.give.ensures.room in
+    let has : length plan.replies + length plan.plan.replies + length (told_anew plan.renewal) ≤ plan.room.replies.room = room.replies in
+    omega arith
+
+pub renew-requires : goal.renew-requires
+renew-requires c =
+    let plan = c.args.plan in
+    let room = c.requires.1.room in
+    let few : length c.give_up.new.told.items ≤ length plan.plan.replies =
+    rows_few c.let_wait.new.self c.give_up.new.waiting plan.room.told c.give_up.new.told c.args.self.now.waiting.next plan.plan.replies c.let_wait.ensures.waiting room.nobody_told c.give_up.ensures.told in
+    let same : length c.into_seq.result ≡ length c.give_up.new.told.items = ap length c.into_seq.ensures in
+    let gave : plan.room.replies.room ≤ c.give.new.given.room + length plan.replies = c.give.ensures.room in
+    let has : length plan.replies + length plan.plan.replies + length (told_anew plan.renewal) ≤ plan.room.replies.room = room.replies in
+    let left = ap (λ (r : Roomed Reply). r.room) c.add_all.ensures in
+    omega arith
 
 pub returns : goal.returns
 returns c x p =
     let old = c.args.self.now in
-    let service = old.service.service in
-    let newly : c.decided_from-entries.result.now ≡ decided_from (decided_of old.durable.part) c.adopt.new.self.part =
-    c.decided_from-entries.ensures ∙ ap (λ (n : ℕ). decided_from n c.adopt.new.self.part) c.decided_of-decided.ensures in
-    let entries : decided_by old c.args.plan ≡ c.decided_from-entries.result.now = decided_entries old.durable c.adopt.new.self c.args.plan.plan.batch c.adopt.ensures ∙ sym newly in
-    let answers = c.answer-replies.ensures service (p.answers ∙ ap (λ (es : List Entry). answers_of service es) entries) in
-    let given_up = c.args.plan.plan.replies in
-    let waiting = subst (λ (ws : Waiting). Answers service ws given_up c.decided_from-entries.result.now c.answer-replies.new.waiting.waiting c.answer-replies.result) c.let_wait.ensures.waiting answers in
-    plan_adopted old _ x c.args.plan _ p
-    (record {
-      me = refl;
-      durable = c.adopt.ensures;
-      volatile = c.adopt-2.ensures.turned;
+    let plan = c.args.plan in
+    let new = c.renew.new.self in
+    let given : Given = record { sends = plan.plan.sends; replies = c.into_seq-2.result; outcome = plan.plan.outcome } in
+    let made : Made old plan c.adopt-2.new.self new given = record {
+      me = ap (λ (n : Chain). n.me) c.renew.ensures.rest;
+      durable = ap (λ (n : Chain). n.durable) c.renew.ensures.rest ∙ c.adopt.ensures;
+      turned = c.adopt-2.ensures.turned;
       elector = c.adopt-2.ensures.elector;
       electors = c.adopt-2.ensures.electors;
       listener = c.adopt-2.ensures.listener;
       members = c.adopt-2.ensures.members;
-      service = c.adopt-3.ensures;
-      answers = subst (λ (es : List Entry). Answers service old.waiting.next given_up es c.answer-replies.new.waiting.waiting c.answer-replies.result) newly waiting;
+      volatile = ap (λ (n : Chain). n.volatile) c.renew.ensures.rest;
+      service = c.renew.ensures.service ∙ ap (λ (s : Service). service_by plan.renewal s) c.adopt-3.ensures;
+      told = all_told c.let_wait.new.self c.give_up.new.waiting plan.room.told c.give_up.new.told old.waiting.next plan.plan.replies c.let_wait.ensures.waiting p.room.nobody_told c.give_up.ensures.told
+          c.give.new.waiting plan.room.replies c.give.new.given plan.replies p.room.no_replies c.give.ensures.given
+          c.into_seq.result (told_anew plan.renewal) c.into_seq-2.result new.waiting c.add_all.new.self c.renew.new.given c.into_seq.ensures (ap (λ (r : Roomed Reply). r.items) c.add_all.ensures) c.renew.ensures.told c.into_seq-2.ensures;
       sends = refl;
       outcome = refl;
-    })
+    } in
+    subst (λ (t : Planned). Adopts old t new given) p.table (plan_adopted old new plan c.adopt-2.new.self given made p.sound p.after)

@@ -1,43 +1,64 @@
-use Rattle.std.proofs.Common.{◌≡◌, ℕ, length, sym, ap, subst, ◌∙◌}
-use Rattle.op_types.specs.Rooms.{needed, with_room}
+use Rattle.std.proofs.Common.{◌≡◌, List, sym, ap, subst, ◌∙◌}
+use Rattle.op_types.specs.Changes.{Applies}
+use Rattle.op_types.specs.Rooms.{no_needs, with_room, needed, IsPlain}
+use Rattle.op_types.specs.declared.changes.Change.{Change}
 use Rattle.op_types.specs.declared.durable.Durable.{Durable}
-use Rattle.op_protocol.specs.State.{Waiting}
-use Rattle.op_waiting.specs.Waiting.{with_waiter}
-use Rattle.op_chain.specs.Answering.{HasRoomFor}
+use Rattle.op_chain.specs.Chains.{IsSame}
 use Rattle.op_chain.specs.declared.chain.Chain.{Chain}
-use Rattle.op_chain.proofs.Steps.{batch_applies, same_served, same_roomed, plan_made}
+use Rattle.op_chain.proofs.Ready.{same_roomed, same_self, same_both, admits_same, roomed_rests, plans_ready}
 use Rattle.op_chain.proofs.chain.Chain.plan.Goals as goal
 
-pub make_room-requires : goal.make_room-requires
-make_room-requires c =
-    let stored = ap (λ (n : Chain). n.durable) c.serve_decided.ensures.rest ∙ ap (λ (n : Chain). n.durable) c.step.ensures.rest in
-    batch_applies c.args.self.now c.args.input c.in_ok-plan.plan c.serve_decided.new.self.durable c.requires.sound c.in_ok-plan.ensures.step stored
+-- the chain with this room
+roomed_is : (a : Chain) (d e : Durable) → d ≡ e → (let b : Chain = record a { durable = d } in let c : Chain = record a { durable = e } in b ≡ c)
+roomed_is a d e is = ap (λ (x : Durable). let b : Chain = record a { durable = x } in b) is
+
+pub prepare-requires-clause-admits : goal.prepare-requires-clause-admits
+prepare-requires-clause-admits c =
+    let a = c.args.self.now in
+    let b : Chain = record a { durable = c.leave_room.new.self } in
+    admits_same a b c.args.input (same_roomed a a b no_needs (same_self a c.requires.sound) (roomed_is a _ _ c.leave_room.ensures)) c.requires
+
+pub prepare-requires-clause-rested : goal.prepare-requires-clause-rested
+prepare-requires-clause-rested c =
+    let a = c.args.self.now in
+    let b : Chain = record a { durable = c.leave_room.new.self } in
+    roomed_rests a b (roomed_is a _ _ c.leave_room.ensures)
+
+pub room_for-requires : goal.room_for-requires
+room_for-requires c =
+    let a = c.args.self.now in
+    let b : Chain = record a { durable = c.leave_room.new.self } in
+    let d = c.prepare.new.self in
+    let batch = c.in_ok-plan.plan.plan.batch in
+    let bare : with_room no_needs d.durable ≡ d.durable = subst (λ (e : Durable). with_room no_needs e ≡ e) (sym c.prepare.ensures.rested) (roomed_rests a b (roomed_is a _ _ c.leave_room.ensures)) in
+    let here : Applies d.durable batch = subst (λ (e : Durable). Applies e batch) bare c.in_ok-plan.ensures.prepares.applies in
+    subst (λ (cs : List Change). Applies d.durable cs) (sym c.batch.ensures) here
+
+pub returns-in_err-room_for-clause-same : goal.returns-in_err-room_for-clause-same
+returns-in_err-room_for-clause-same c =
+    let a = c.args.self.now in
+    let b : Chain = record a { durable = c.leave_room.new.self } in
+    let d = c.prepare.new.self in
+    let same : IsSame a d = same_both a b d (same_roomed a a b no_needs (same_self a c.requires.sound) (roomed_is a _ _ c.leave_room.ensures)) c.prepare.ensures.same in
+    same_roomed a d _ no_needs same (roomed_is d _ _ c.in_err-room_for.ensures.err)
+
+pub returns-clause-same : goal.returns-clause-same
+returns-clause-same c =
+    let a = c.args.self.now in
+    let b : Chain = record a { durable = c.leave_room.new.self } in
+    let d = c.prepare.new.self in
+    let same : IsSame a d = same_both a b d (same_roomed a a b no_needs (same_self a c.requires.sound) (roomed_is a _ _ c.leave_room.ensures)) c.prepare.ensures.same in
+    same_roomed a d _ (needed c.batch.result.now) same (roomed_is d _ _ c.in_ok-room_for.ensures.ok)
 
 pub returns-clause-plans : goal.returns-clause-plans
 returns-clause-plans c =
-    let first = c.args.self.now in
-    let stepped = c.step.new.self in
-    let served = c.serve_decided.new.self in
-    let last = c.make_room.new.self in
+    let a = c.args.self.now in
+    let x = c.args.input in
+    let b : Chain = record a { durable = c.leave_room.new.self } in
+    let d = c.prepare.new.self in
     let plan = c.in_ok-plan.plan in
-    let serving = c.in_ok-answers.field-0 in
-    let waiter = c.waiter-waiter.result in
-    let stored = ap (λ (n : Chain). n.durable) c.serve_decided.ensures.rest ∙ ap (λ (n : Chain). n.durable) c.step.ensures.rest in
-    let waiting = ap (λ (n : Chain). n.waiting.waiting) c.serve_decided.ensures.rest ∙ ap (λ (n : Chain). n.waiting.waiting) c.step.ensures.rest in
-    let roomed : last.durable ≡ with_room (needed plan.batch) served.durable = c.in_ok-make_room.ensures.ok in
-    let same = same_served first stepped served c.step.ensures.same c.serve_decided.ensures.rest c.serve_decided.ensures.same in
-    plan_made first stepped served last c.args.input plan serving c.in_ok-room.room
-    (record {
-      admits = c.requires;
-      stepped = c.step.ensures.same;
-      same = same_roomed first served last (needed plan.batch) same c.make_room.ensures.rest c.make_room.ensures.same roomed;
-      row = c.in_ok-plan.ensures.step;
-      turn = c.in_ok-plan.ensures.room;
-      volatile = ap (λ (n : Chain). n.volatile) c.make_room.ensures.rest ∙ ap (λ (n : Chain). n.volatile) c.serve_decided.ensures.rest;
-      log = roomed ∙ ap (λ (d : Durable). with_room (needed plan.batch) d) stored;
-      settled = c.in_ok-answers.ensures.settled;
-      service = ap (λ (n : Chain). n.service) c.make_room.ensures.rest;
-      served = c.in_ok-answers.ensures.served;
-      waiting = c.in_ok-make_room.ensures.room ∙ ap (λ (ws : Waiting). with_waiter ws waiter) waiting ∙ sym c.waiter-waiter.ensures;
-      has = subst (λ (n : ℕ). HasRoomFor n (length plan.replies) c.in_ok-room.room) c.len.ensures (subst (λ (n : ℕ). HasRoomFor c.len.result n c.in_ok-room.room) c.len-2.ensures c.in_ok-room.ensures);
-    })
+    let first : IsSame a b = same_roomed a a b no_needs (same_self a c.requires.sound) (roomed_is a _ _ c.leave_room.ensures) in
+    let bare : with_room no_needs d.durable ≡ d.durable = subst (λ (e : Durable). with_room no_needs e ≡ e) (sym c.prepare.ensures.rested) (roomed_rests a b (roomed_is a _ _ c.leave_room.ensures)) in
+    let plain : IsPlain plan.plan.batch = subst (λ (cs : List Change). IsPlain cs) c.batch.ensures c.in_ok-room_for.ensures.plain in
+    let roomed_to : c.room_for.new.self ≡ with_room (needed plan.plan.batch) d.durable = c.in_ok-room_for.ensures.ok ∙ ap (λ (cs : List Change). with_room (needed cs) d.durable) c.batch.ensures in
+    plans_ready b d _ x plan (admits_same a b x first c.requires) c.in_ok-plan.ensures.same c.in_ok-plan.ensures.prepares bare plain (roomed_is d _ _ roomed_to)

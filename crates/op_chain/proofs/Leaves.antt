@@ -1,0 +1,166 @@
+-- What a node leaves that holds more of a closed list, and that goes on once it has all.
+use Rattle.std.proofs.Common.{◌≡◌, ℕ, zero, suc, ◌+◌, ◌-◌, ◌<◌, ◌≤◌, ◌^◌, Bool, true, false, cond, List, [], ◌∷◌, ◌++◌, length, All, Option, Some, None, refl, sym, ap, ◌∙◌, subst, arith}
+use Rattle.std.specs.Prelude.{IfSome, is_some}
+use Rattle.std.proofs.lemmas.List.Elements.{All-nil, All-cons, All-head, All-tail}
+use Rattle.op_types.specs.Limits.{last_conf}
+use Rattle.op_types.specs.Changes.{closed_joined, joining_with, durable_joined, durable_with, durable_after, Applies}
+use Rattle.op_types.specs.Joinings.{Held, Base, held_at, with_first, held_run, cover_of}
+use Rattle.op_types.specs.Roles.{Role}
+use Rattle.op_types.specs.declared.changes.Change.{Change}
+use Rattle.op_types.specs.declared.changes.Change.TheVariants as change
+use Rattle.op_types.specs.declared.durable.Closed.{Closed}
+use Rattle.op_types.specs.declared.durable.Durable.{Durable}
+use Rattle.op_types.specs.declared.durable.Joining.{Joining}
+use Rattle.op_types.specs.declared.durable.Part.{Part}
+use Rattle.op_types.specs.declared.log.Entry.{Entry}
+use Rattle.op_types.specs.declared.messages.Body.{Body}
+use Rattle.op_types.specs.declared.messages.Body.TheVariants as body
+use Rattle.op_protocol.specs.Joining.{new_entries, takes_base, takes_entries, brought_to}
+use Rattle.op_protocol.proofs.Plans as plans
+use Rattle.op_instance.specs.Sound.{IsSoundNode, ListFits, JoiningFits, IfJoiningFits, IsNode, AreOfOneConf}
+use Rattle.op_instance.specs.declared.volatile.Volatile.{Volatile}
+use Rattle.op_chain.specs.Bringing.{joining_after}
+use Rattle.op_chain.specs.Plans.{BeginsAnew}
+use Rattle.op_chain.proofs.Based.{of_parts}
+use Rattle.op_chain.proofs.Closes.{new_node}
+use Rattle.op_chain.proofs.Joined.{applies_both, brought_applies}
+use Rattle.op_chain.proofs.Steps.{same_members}
+
+-- ---- what is brought
+
+-- a change by which a node holds more
+abbrev Holds : Change → Type 0
+Holds (change.JoinBase at bytes) = Unit {0}
+Holds (change.JoinPart at es) = Unit {0}
+Holds c = ⊥
+
+by_test : {A : Type 0} (b : Bool) (x y : A) → cond b (Some x) None ≡ Some y → x ≡ y
+by_test true x y is = cc
+by_test false x y is = absurd cc
+
+new_hold : (at : ℕ) (es : List Entry) (b : Bool) → All Holds (cond b [] (change.JoinPart at es ∷ []))
+new_hold at es true = All-nil Holds
+new_hold at es false = All-cons Holds (change.JoinPart at es) [] tt (All-nil Holds)
+
+brought_holds : (j : Joining) (c : ℕ) (b : Body) (batch : List Change) → brought_to (Some j) c b ≡ Some batch → All Holds batch
+brought_holds j c (body.BasePart at bytes) batch is =
+    subst (λ (cs : List Change). All Holds cs) (by_test (takes_base j c at bytes) (change.JoinBase at bytes ∷ []) batch is) (All-cons Holds (change.JoinBase at bytes) [] tt (All-nil Holds))
+brought_holds j c (body.Segment at es) batch is =
+    subst (λ (cs : List Change). All Holds cs) (by_test (takes_entries j c at es) (new_entries j at es) batch is) (new_hold at es (is_some (held_run j.held.items at (length es))))
+brought_holds j c b batch is = absurd cc
+
+one_held : (o : Option Part) (k : Option Closed) (j : Joining) (c : Change) → Holds c → durable_with (of_parts o k (Some j)) c ≡ of_parts o k (Some (joining_with j c))
+one_held o k j (change.JoinBase at bytes) holds = refl
+one_held o k j (change.JoinPart at es) holds = refl
+one_held o k j _ holds = absurd holds
+
+all_held : (o : Option Part) (k : Option Closed) (j : Joining) (batch : List Change) → All Holds batch → durable_after (of_parts o k (Some j)) batch ≡ of_parts o k (Some (joining_after j batch))
+all_held o k j [] holds = refl
+all_held o k j (c ∷ batch) holds =
+    ap (λ (d : Durable). durable_after d batch) (one_held o k j c (All-head Holds c batch holds)) ∙ all_held o k (joining_with j c) batch (All-tail Holds c batch holds)
+
+fits_one : (me : ℕ) (o : Option Part) (k : Option Closed) (j : Joining) (c : Change) (batch : List Change) → Holds c → JoiningFits me j → Applies (of_parts o k (Some j)) (c ∷ batch) → JoiningFits me (joining_with j c)
+fits_one me o k j (change.JoinBase at bytes) batch holds fits all =
+    record { number = fits.number; last = fits.last; len = fits.len; member = fits.member; base = all.0.1 }
+fits_one me o k j (change.JoinPart at es) batch holds fits all =
+    record { number = fits.number; last = fits.last; len = fits.len; member = fits.member; base = fits.base }
+fits_one me o k j _ batch holds fits all = absurd holds
+
+rest_applies : (o : Option Part) (k : Option Closed) (j : Joining) (c : Change) (batch : List Change) → Holds c → Applies (of_parts o k (Some j)) (c ∷ batch) → Applies (of_parts o k (Some (joining_with j c))) batch
+rest_applies o k j c batch holds all = subst (λ (d : Durable). Applies d batch) (one_held o k j c holds) all.1
+
+fits_all : (me : ℕ) (o : Option Part) (k : Option Closed) (j : Joining) (batch : List Change) → All Holds batch → JoiningFits me j → Applies (of_parts o k (Some j)) batch → JoiningFits me (joining_after j batch)
+fits_all me o k j [] holds fits all = fits
+fits_all me o k j (c ∷ batch) holds fits all =
+    let one = All-head Holds c batch holds in
+    fits_all me o k (joining_with j c) batch (All-tail Holds c batch holds) (fits_one me o k j c batch one fits all) (rest_applies o k j c batch one all)
+
+-- ---- the list that is whole
+
+with_first_length : (n : ℕ) (e : Option Entry) (o : Option (List Entry)) (es : List Entry) → ((xs : List Entry) → o ≡ Some xs → length xs ≡ n) → with_first e o ≡ Some es → length es ≡ suc n
+with_first_length n None o es rest is = absurd cc
+with_first_length n (Some e) None es rest is = absurd cc
+with_first_length n (Some e) (Some xs) es rest is = let whole : e ∷ xs ≡ es = cc in sym (ap length whole) ∙ ap suc (rest xs refl)
+
+run_length : (held : Held) (at n : ℕ) (es : List Entry) → held_run held at n ≡ Some es → length es ≡ n
+run_length held at zero es is = let none : [] ≡ es = cc in sym (ap length none)
+run_length held at (suc n) es is = with_first_length n (held_at held at) (held_run held (at + 1) n) es (λ xs so. run_length held (at + 1) n xs so) is
+
+-- what is closed of a list that is whole
+joined_fits : (me : ℕ) (j : Joining) (b : Base) (es : List Entry) → JoiningFits me j → j.base ≡ Some b → cover_of j ≡ Some es → ListFits (closed_joined j b es)
+joined_fits me j b es fits is covers =
+    let run : held_run j.held.items b.0 (j.len - b.0) ≡ Some es = rw is at covers in
+    let count = run_length j.held.items b.0 (j.len - b.0) es run in
+    let within : b.0 ≤ j.len = subst (λ (o : Option Base). IfSome o (λ x. x.0 ≤ j.len)) is fits.base in
+    let low : 0 < j.conf = fits.number in
+    let high : j.conf ≤ last_conf = fits.last in
+    let short : j.len < 2 ^ 64 = fits.len in
+    record { number = omega arith; len = omega arith }
+
+-- ---- a node that joins
+
+module _ (me : ℕ) (d : Durable) (j : Joining) (is : d.joining ≡ Some j) (c : ℕ) (b : Body) (batch : List Change) (brings : brought_to d.joining c b ≡ Some batch) where
+  brought_here : brought_to (Some j) c b ≡ Some batch
+  brought_here = subst (λ (o : Option Joining). brought_to o c b ≡ Some batch) is brings
+
+  abbrev here : Durable
+  here = of_parts d.part d.closed (Some j)
+
+  here_is : d ≡ here
+  here_is = ap (λ (o : Option Joining). of_parts d.part d.closed o) is
+
+  holds : All Holds batch
+  holds = brought_holds j c b batch brought_here
+
+  pub hold_applies : Applies d batch
+  hold_applies = subst (λ (e : Durable). Applies e batch) (sym here_is) (brought_applies d.part d.closed j c b batch brought_here)
+
+  -- what it holds then, and nothing else changes
+  pub hold_leaves : durable_after d batch ≡ of_parts d.part d.closed (Some (joining_after j batch))
+  hold_leaves = ap (λ (e : Durable). durable_after e batch) here_is ∙ all_held d.part d.closed j batch holds
+
+  hold_fits : JoiningFits me j → JoiningFits me (joining_after j batch)
+  hold_fits fits = fits_all me d.part d.closed j batch holds fits (brought_applies d.part d.closed j c b batch brought_here)
+
+  alike : (o : Option Part) → AreOfOneConf o o
+  alike None = tt
+  alike (Some p) = (refl, refl)
+
+  fits_of : (r : Role) → IsSoundNode me d r → JoiningFits me j
+  fits_of r sound = subst (λ (o : Option Joining). IfJoiningFits me o) is sound.joining
+
+  pub hold_sound : (r : Role) → IsSoundNode me d r → IsSoundNode me (durable_after d batch) r
+  hold_sound r sound =
+      let after : IsSoundNode me (of_parts d.part d.closed (Some (joining_after j batch))) r = record { part = sound.part; closed = sound.closed; joining = hold_fits (fits_of r sound) } in
+      subst (λ (e : Durable). IsSoundNode me e r) (sym hold_leaves) after
+
+  pub hold_same : AreOfOneConf (durable_after d batch).part d.part
+  hold_same = subst (λ (e : Durable). AreOfOneConf e.part d.part) (sym hold_leaves) (alike d.part)
+
+  -- it goes on once it has all
+  module _ (base : List ℕ) (x : Base) (es : List Entry) (has : (joining_after j batch).base ≡ Some x) (covers : cover_of (joining_after j batch) ≡ Some es) where
+    abbrev whole : Joining
+    whole = joining_after j batch
+
+    pub go_applies : Applies d (batch ++ change.JoinDone base ∷ [])
+    go_applies =
+        let done : Applies (of_parts d.part d.closed (Some whole)) (change.JoinDone base ∷ []) = (ap is_some covers, tt) in
+        applies_both d batch (change.JoinDone base ∷ []) hold_applies (subst (λ (e : Durable). Applies e (change.JoinDone base ∷ [])) (sym hold_leaves) done)
+
+    gone : durable_after d (batch ++ change.JoinDone base ∷ []) ≡ durable_joined whole base (Some x) (Some es) (of_parts d.part d.closed (Some whole))
+    gone =
+        plans.after_both d batch (change.JoinDone base ∷ [])
+        ∙ ap (λ (e : Durable). durable_with e (change.JoinDone base)) hold_leaves
+        ∙ ap (λ (o : Option Base). durable_joined whole base o (cover_of whole) (of_parts d.part d.closed (Some whole))) has
+        ∙ ap (λ (o : Option (List Entry)). durable_joined whole base (Some x) o (of_parts d.part d.closed (Some whole))) covers
+
+    pub go_leaves : (r : Role) (v : Volatile) → IsSoundNode me d r → BeginsAnew me j.members v → IsNode me (durable_after d (batch ++ change.JoinDone base ∷ [])) v
+    go_leaves r v sound anew =
+        let fits : JoiningFits me whole = hold_fits (fits_of r sound) in
+        let begun : BeginsAnew me whole.members v = subst (λ (ms : List ℕ). BeginsAnew me ms v) (sym (same_members j batch)) anew in
+        let node : IsNode me (durable_joined whole base (Some x) (Some es) (of_parts d.part d.closed (Some whole))) v = record {
+          part = new_node whole.conf me whole.members base v fits.last fits.member begun;
+          closed = joined_fits me whole x es fits has covers;
+          joining = tt;
+        } in
+        subst (λ (e : Durable). IsNode me e v) (sym gone) node

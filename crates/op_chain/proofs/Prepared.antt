@@ -1,0 +1,415 @@
+-- A step that is made ready: what it does is what the step table plans, it applies, and it leaves a sound node.
+use Rattle.std.proofs.Common.{◌≡◌, ℕ, inl, inr, ◌∷◌, ◌++◌, List, [], All, Option, Some, None, Result, Ok, Err, IfOk, refl, sym, ap, ◌∙◌, subst, append-nil}
+use Rattle.std.specs.Prelude.{is_some, nat_eq}
+use Rattle.std.specs.Set.{is_member}
+use Rattle.std.proofs.lemmas.Bool.{cases_Bool}
+use Rattle.std.proofs.lemmas.List.Elements.{All-nil, All-cons, All-head, All-tail}
+use Rattle.op_types.specs.Changes.{closed_by, durable_after, Applies}
+use Rattle.op_types.specs.Effects.{nothing_plan}
+use Rattle.op_types.specs.Joinings.{Base, cover_of}
+use Rattle.op_types.specs.Roles.{Role, role_of}
+use Rattle.op_types.specs.Rooms.{no_needs, with_room}
+use Rattle.op_types.specs.Stops.{stop_at_end}
+use Rattle.op_types.specs.declared.answers.Outcome.{Outcome}
+use Rattle.op_types.specs.declared.answers.Reply.{Reply}
+use Rattle.op_types.specs.declared.changes.Change.{Change}
+use Rattle.op_types.specs.declared.changes.Change.TheVariants as change
+use Rattle.op_types.specs.declared.durable.Durable.{Durable}
+use Rattle.op_types.specs.declared.durable.Joining.{Joining}
+use Rattle.op_types.specs.declared.durable.Part.{Part}
+use Rattle.op_types.specs.declared.events.Input.{Input}
+use Rattle.op_types.specs.declared.log.Entry.{Entry}
+use Rattle.op_types.specs.declared.messages.Body.{Body}
+use Rattle.op_types.specs.declared.plan.Plan.{Plan}
+use Rattle.op_types.specs.declared.role.Role as role
+use Rattle.op_types.specs.declared.turn.Turn.{Turn}
+use Rattle.op_record.specs.Ranges.{ChangeInRange, BatchInRange}
+use Rattle.op_spec.specs.Service.{Service, base_bytes}
+use Rattle.op_protocol.specs.State as step
+use Rattle.op_protocol.specs.State.{State, PartStep, Planned, Waiting}
+use Rattle.op_protocol.specs.Parts.{part_after, decided_since}
+use Rattle.op_protocol.specs.Configurations.{closing}
+use Rattle.op_protocol.specs.Joining.{brought_to, holds_more}
+use Rattle.op_protocol.specs.Rows.{brought_by, step_at, waiting_at, based_batch, newly_decided, planned, plan_of, step_bringing, step_plan}
+use Rattle.op_protocol.proofs.StepBatches.{IsInside, step_inside, inside_all_based}
+use Rattle.op_kv.specs.Over.{Written, MapState, service_over}
+use Rattle.op_instance.specs.Memory.{volatile_of, part_step_of, HasRoomIn}
+use Rattle.op_instance.specs.Sound.{IsSound, IfSound, IsSoundNode, IsSoundStep, IfNodeOf, IsNode}
+use Rattle.op_instance.specs.declared.volatile.Volatile.{Volatile}
+use Rattle.op_instance.proofs.StepsApply.{sound_step}
+use Rattle.op_chain.specs.Answering.{IsServed}
+use Rattle.op_chain.specs.Bringing.{joining_after, joined, IfJoined}
+use Rattle.op_chain.specs.Chains.{state_of, HaveBases, IsSoundChain, IsSame, Admits}
+use Rattle.op_chain.specs.Plans.{renewed, planned_by, made_by, LeavesWith, HasRoomToTell, Prepares, waiters_of, waiting_by, based_step, IfMayClose, IfCloses, IfGoesOn}
+use Rattle.op_chain.specs.declared.chain.Chain.{Chain}
+use Rattle.op_chain.specs.declared.chain_plan.ChainPlan.{ChainPlan}
+use Rattle.op_chain.specs.declared.renewal.Renewal.{Renewal}
+use Rattle.op_chain.specs.declared.room.Room.{Room}
+use Rattle.op_chain.specs.declared.served.Served.{Served}
+use Rattle.op_chain.specs.Waiting.{WaitingSet}
+use Rattle.op_chain.proofs.Adopted.{state_with, state_is}
+use Rattle.op_chain.proofs.Based.{begins_fit, bases_after, based_sound}
+use Rattle.op_chain.proofs.Closes.{may_close, close_applies, close_leaves}
+use Rattle.op_chain.proofs.Leaves.{hold_applies, hold_leaves, hold_sound, hold_same, go_applies, go_leaves}
+use Rattle.op_chain.proofs.Steps.{chain_plan, step_table, storing_plan, join_table, waits_table}
+
+-- ---- words of lists and records
+
+first_all : {A : Type 0} (P : A → Type 0) (xs ys : List A) → All P (xs ++ ys) → All P xs
+first_all P [] ys all = All-nil P
+first_all P (x ∷ xs) ys all = All-cons P x xs (All-head P x (xs ++ ys) all) (first_all P xs ys (All-tail P x (xs ++ ys) all))
+
+-- what a plan stores doesn't hang on what begins anew
+renewed_batch : (o : Option Renewal) (x : Planned) → (renewed o x).batch ≡ x.batch
+renewed_batch None x = refl
+renewed_batch (Some r) x = refl
+
+pub batch_made : (ws : Waiting) (v : step.Volatile) (s : Service) (plan : ChainPlan) → (made_by ws v s plan).batch ≡ plan.plan.batch
+batch_made ws v s plan = renewed_batch plan.renewal _
+
+-- ---- the same node
+
+sound_part : (me : ℕ) (o : Option Part) (v : Volatile) → IfNodeOf me o v → IfSound o (role_of v.role)
+sound_part me None v node = tt
+sound_part me (Some p) v node = node.sound
+
+pub sound_of : (me : ℕ) (d : Durable) (v : Volatile) → IsNode me d v → IsSoundNode me d (role_of v.role)
+sound_of me d v node = record { part = sound_part me d.part v node.part; closed = node.closed; joining = node.joining }
+
+part_same : (me : ℕ) (o : Option Part) (v : Volatile) (r : role.Role) → role_of r ≡ role_of v.role → IfNodeOf me o v → (let w : Volatile = record v { role = r } in IfNodeOf me o w)
+part_same me None v r same node = tt
+part_same me (Some p) v r same node =
+    record {
+      sound = subst (λ (x : Role). IsSound p x) (sym same) node.sound;
+      kept = record { elector = node.kept.elector; electors = node.kept.electors; listener = node.kept.listener; members = node.kept.members };
+    }
+
+node_same : (me : ℕ) (d : Durable) (v : Volatile) (r : role.Role) → role_of r ≡ role_of v.role → IsNode me d v → (let w : Volatile = record v { role = r } in IsNode me d w)
+node_same me d v r same node = record { part = part_same me d.part v r same node.part; closed = node.closed; joining = node.joining }
+
+-- a chain with the same state, but for room
+pub record IsLike (a c : Chain) : Type 0 where
+  pub me : c.me ≡ a.me
+  pub durable : c.durable ≡ a.durable
+  pub volatile : (let v : Volatile = record a.volatile { role = c.volatile.role } in c.volatile ≡ v)
+  pub role : role_of c.volatile.role ≡ role_of a.volatile.role
+  pub service : c.service.service ≡ a.service.service
+  pub waiting : c.waiting.waiting ≡ a.waiting.waiting
+
+volatile_like : (a c : Chain) → IsLike a c → volatile_of c.volatile ≡ volatile_of a.volatile
+volatile_like a c like =
+    ap volatile_of like.volatile
+    ∙ ap (λ (r : Role). let v : step.Volatile = record (volatile_of a.volatile) { role = r } in v) like.role
+
+sound_like : (a c : Chain) → IsLike a c → IsSoundChain a → IsSoundChain c
+sound_like a c like sound =
+    let v : Volatile = record a.volatile { role = c.volatile.role } in
+    let here : IsNode a.me a.durable v = node_same a.me a.durable a.volatile c.volatile.role like.role sound.node in
+    let kept : IsNode a.me a.durable c.volatile = subst (λ (w : Volatile). IsNode a.me a.durable w) (sym like.volatile) here in
+    let stored : IsNode a.me c.durable c.volatile = subst (λ (d : Durable). IsNode a.me d c.volatile) (sym like.durable) kept in
+    record {
+      node = subst (λ (n : ℕ). IsNode n c.durable c.volatile) (sym like.me) stored;
+      bases = subst HaveBases (sym like.durable) sound.bases;
+    }
+
+pub same_like : (a c : Chain) → IsLike a c → IsSoundChain a → IsSame a c
+same_like a c like sound =
+    record {
+      me = like.me;
+      state = state_is (ap (λ (d : Durable). with_room no_needs d) like.durable) (volatile_like a c like) like.service like.waiting;
+      sound = sound_like a c like sound;
+    }
+
+-- the state of a chain whose log has no room
+abbrev pub state_at : Chain → State
+state_at a = state_with a.durable (volatile_of a.volatile) a.service.service a.waiting.waiting
+
+pub state_rested : (a : Chain) → with_room no_needs a.durable ≡ a.durable → state_of a ≡ state_at a
+state_rested a rested = state_is rested refl refl refl
+
+-- ---- a step that brings nothing of a closed list
+
+closing_more : (me : ℕ) (o : Option Part) (x : Planned) → (more : List Change) × ((closing me o x).batch ≡ x.batch ++ more)
+closing_more me None x = ([], sym (append-nil x.batch))
+closing_more me (Some p) x = elim (cases_Bool (is_some (stop_at_end (decided_since p (part_after p x.batch))))) [
+  | inl e ↦ rw e (_, refl)
+  | inr e ↦ rw e ([], sym (append-nil x.batch))
+]
+
+-- the step that an admitted input makes, where the log has no room
+module _ (a : Chain) (x : Input) (admits : Admits a x) (bare : with_room no_needs a.durable ≡ a.durable) (none : brought_by a.durable x ≡ None) where
+  -- what the step does at the part, with the bases of what it trims
+  abbrev stepped : PartStep
+  stepped = step_at a.me a.durable (volatile_of a.volatile) x
+
+  abbrev trimmed : PartStep
+  trimmed = based_step a.durable.part stepped
+
+  -- who waits then
+  abbrev waiting_then : Waiting
+  waiting_then = waiting_at a.me (state_at a) x
+
+  table_is : step_plan a.me (state_of a) x ≡ plan_of a.me (state_at a) waiting_then stepped
+  table_is =
+      ap (λ (s : State). step_plan a.me s x) (state_rested a bare)
+      ∙ ap (λ (o : Option (List Change)). step_bringing a.me (state_at a) x o) none
+
+  range_here : BatchInRange (plan_of a.me (state_at a) waiting_then stepped).batch
+  range_here = subst (λ (p : Planned). BatchInRange p.batch) table_is admits.range
+
+  -- what it stores but for a Close is in range
+  trims_in_range : All ChangeInRange trimmed.batch
+  trims_in_range =
+      let more = closing_more a.me a.durable.part (planned (state_at a) waiting_then stepped) in
+      first_all ChangeInRange trimmed.batch more.0 (subst (λ (b : List Change). All ChangeInRange b) more.1 range_here.each)
+
+  inside_step : All IsInside stepped.batch
+  inside_step = (step_inside a.me a.durable (volatile_of a.volatile) x).changes
+
+  inside_by : (o : Option Part) (b : List Change) → All IsInside b → All IsInside (based_batch o b)
+  inside_by None b all = all
+  inside_by (Some p) b all = inside_all_based p b all
+
+  pub inside_trimmed : All IsInside trimmed.batch
+  inside_trimmed = inside_by a.durable.part stepped.batch inside_step
+
+  pub trimmed_sound : IsSoundStep a.me a.durable trimmed
+  trimmed_sound =
+      based_sound a.me a.durable stepped
+      (sound_step a.me a.durable.part a.durable.closed a.durable.joining (volatile_of a.volatile) x (sound_of a.me a.durable a.volatile admits.sound.node) (begins_fit a.durable.part stepped.batch trims_in_range))
+      inside_step
+
+  -- the plan of this step
+  module _ (plan : Plan) (row : part_step_of plan (volatile_of a.volatile) ≡ trimmed) where
+    abbrev done : PartStep
+    done = part_step_of plan (volatile_of a.volatile)
+
+    done_sound : IsSoundStep a.me a.durable done
+    done_sound = subst (λ (z : PartStep). IsSoundStep a.me a.durable z) (sym row) trimmed_sound
+
+    done_inside : All IsInside plan.batch
+    done_inside = subst (λ (z : PartStep). All IsInside z.batch) (sym row) inside_trimmed
+
+    may_by : (o : Option Part) → a.durable.part ≡ o → IfMayClose o plan.batch
+    may_by None is = tt
+    may_by (Some p) is = may_close a.me a.durable p done is done_inside done_sound
+
+    -- it may be closed
+    pub may_be_closed : IfMayClose a.durable.part plan.batch
+    may_be_closed = may_by a.durable.part refl
+
+    module _ (c : Chain) (new : Plan) (served : Served) (r : Option Renewal) (room : Room) (like : IsLike a c)
+        (serves : IsServed a.service.service (newly_decided a.durable.part plan.batch) served)
+        (closes : IfCloses a.me a.durable.part (service_over a.service.service served.change) (role_of a.volatile.role) plan new r) where
+      -- the plan that is made ready
+      abbrev ready : ChainPlan
+      ready = chain_plan new served.change served.replies r room
+
+      keeps_by : (o : Option Part) (s : Service) (q : Role) (y : Option Renewal) → IfCloses a.me o s q plan new y → (new.turn ≡ plan.turn) × (new.outcome ≡ plan.outcome)
+      keeps_by None s q y k = (ap (λ (n : Plan). n.turn) k.0, ap (λ (n : Plan). n.outcome) k.0)
+      keeps_by (Some p) s q None k = (ap (λ (n : Plan). n.turn) k.0, ap (λ (n : Plan). n.outcome) k.0)
+      keeps_by (Some p) s q (Some y) k = (ap (λ (n : Plan). n.turn) k.0.plan, ap (λ (n : Plan). n.outcome) k.0.plan)
+
+      kept : (new.turn ≡ plan.turn) × (new.outcome ≡ plan.outcome)
+      kept = keeps_by a.durable.part (service_over a.service.service served.change) (role_of a.volatile.role) r closes
+
+      -- what adopting it makes is what the table plans
+      pub step_is : c.waiting.next ≡ waiting_by new.outcome a.waiting.waiting (waiters_of x) → planned_by c ready ≡ step_plan a.me (state_of a) x
+      step_is next =
+          let outcome : new.outcome ≡ stepped.outcome = kept.1 ∙ ap (λ (z : PartStep). z.outcome) row in
+          let waits : c.waiting.next ≡ waiting_then =
+          next ∙ ap (λ (o : Option Outcome). waiting_by o a.waiting.waiting (waiters_of x)) outcome ∙ waits_table a.me (state_at a) x in
+          ap (λ (ws : Waiting). made_by ws (volatile_of c.volatile) c.service.service ready) waits
+          ∙ ap (λ (v : step.Volatile). made_by waiting_then v c.service.service ready) (volatile_like a c like)
+          ∙ ap (λ (s : Service). made_by waiting_then (volatile_of a.volatile) s ready) like.service
+          ∙ step_table a.me waiting_then (volatile_of a.volatile) (state_at a) stepped plan new served.change served.replies r room row serves.change serves.replies closes
+          ∙ sym table_is
+
+      pub step_in_range : c.waiting.next ≡ waiting_by new.outcome a.waiting.waiting (waiters_of x) → BatchInRange new.batch
+      step_in_range next =
+          subst (λ (b : List Change). BatchInRange b) (batch_made c.waiting.next (volatile_of c.volatile) c.service.service ready)
+          (subst (λ (p : Planned). BatchInRange p.batch) (sym (step_is next)) admits.range)
+
+      -- where it applies, and what it leaves
+      stays : (y : Option Renewal) → new ≡ plan → y ≡ None → (Applies a.durable new.batch) × LeavesWith a.me a.durable new y c.volatile
+      stays y same over =
+          let v : step.Volatile = volatile_of c.volatile in
+          let here : IsSoundStep a.me a.durable (part_step_of new v) =
+          subst (λ (w : step.Volatile). IsSoundStep a.me a.durable (part_step_of new w)) (sym (volatile_like a c like))
+          (subst (λ (n : Plan). IsSoundStep a.me a.durable (part_step_of n (volatile_of a.volatile))) (sym same) done_sound) in
+          (here.applies, subst (λ (o : Option Renewal). LeavesWith a.me a.durable new o c.volatile) (sym over) here)
+
+      goes_by : (o : Option Part) → a.durable.part ≡ o → (y : Option Renewal) → IfCloses a.me o (service_over a.service.service served.change) (role_of a.volatile.role) plan new y
+          → (Applies a.durable new.batch) × LeavesWith a.me a.durable new y c.volatile
+      goes_by None is y k = stays y k.0 k.1
+      goes_by (Some p) is None k = stays None k.0 refl
+      goes_by (Some p) is (Some y) k =
+          let base : List ℕ = base_bytes (service_over a.service.service served.change) in
+          let batch : new.batch ≡ plan.batch ++ change.Close (is_member nat_eq (closed_by (part_after p plan.batch)).next a.me) base ∷ [] = ap (λ (n : Plan). n.batch) k.0.plan in (
+            subst (λ (b : List Change). Applies a.durable b) (sym batch) (close_applies a.me a.durable p done is done_inside done_sound base k.1),
+            subst (λ (b : List Change). IsNode a.me (durable_after a.durable b) y.volatile) (sym batch) (close_leaves a.me a.durable p done is done_inside done_sound base k.1 y.volatile k.0.anew),
+          )
+
+      pub step_goes : (Applies a.durable new.batch) × LeavesWith a.me a.durable new r c.volatile
+      step_goes = goes_by a.durable.part refl r closes
+
+      pub step_prepared : c.waiting.next ≡ waiting_by new.outcome a.waiting.waiting (waiters_of x) → HasRoomIn plan.turn c.volatile → c.service.waiting ≡ 0 → HasRoomToTell ready
+          → Prepares c (step_plan a.me (state_of a) x) ready
+      step_prepared next turn settled tells =
+          let stored : (state_of c).durable ≡ a.durable = ap (λ (d : Durable). with_room no_needs d) like.durable ∙ bare in
+          let bases : HaveBases (durable_after a.durable new.batch) = bases_after a.durable new.batch admits.sound.bases (step_in_range next).each in
+          let leaves : LeavesWith c.me a.durable new r c.volatile = subst (λ (n : ℕ). LeavesWith n a.durable new r c.volatile) (sym like.me) step_goes.1 in
+          record {
+            sound = sound_like a c like admits.sound;
+            table = step_is next;
+            applies = subst (λ (d : Durable). Applies d new.batch) (sym stored) step_goes.0;
+            turn = subst (λ (t : Turn). HasRoomIn t c.volatile) (sym kept.0) turn;
+            settled = settled;
+            after = record {
+              node = subst (λ (d : Durable). LeavesWith c.me d new r c.volatile) (sym stored) leaves;
+              bases = subst (λ (d : Durable). HaveBases (durable_after d new.batch)) (sym stored) bases;
+            };
+            room = tells;
+          }
+
+-- ---- a step that brings something of a closed list
+
+joined_parts : (s : Service) (b : Option Base) (es : Option (List Entry)) → Some s ≡ joined b es → (x : Base) × (xs : List Entry) × (b ≡ Some x) × (es ≡ Some xs)
+joined_parts s (Some x) (Some xs) is = (x, xs, refl, refl)
+joined_parts s (Some x) None is = absurd cc
+joined_parts s None es is = absurd cc
+
+module _ (a : Chain) (sound : IsSoundChain a) (bare : with_room no_needs a.durable ≡ a.durable) (at : ℕ) (b : Body) (batch : List Change) (brings : brought_to a.durable.joining at b ≡ Some batch)
+    (j : Joining) (is : a.durable.joining ≡ Some j) (m : Option MapState) (whole : IfJoined j batch m) (range : BatchInRange (holds_more a.me (state_of a) batch).batch) where
+  module _ (c : Chain) (new : Plan) (kv : Written) (r : Option Renewal) (room : Room) (like : IsLike a c) (same : service_over a.service.service kv ≡ a.service.service)
+      (goes : IfGoesOn a.me a.durable.joining m (role_of a.volatile.role) (storing_plan batch) new r) where
+    abbrev held : ChainPlan
+    held = chain_plan new kv [] r room
+
+    goes_here : IfGoesOn a.me (Some j) m (role_of a.volatile.role) (storing_plan batch) new r
+    goes_here = subst (λ (o : Option Joining). IfGoesOn a.me o m (role_of a.volatile.role) (storing_plan batch) new r) is goes
+
+    holds_then : (durable_after a.durable batch).joining ≡ Some (joining_after j batch)
+    holds_then = ap (λ (d : Durable). d.joining) (hold_leaves a.me a.durable j is at b batch brings)
+
+    pub join_is : c.waiting.next ≡ a.waiting.waiting → planned_by c held ≡ holds_more a.me (state_of a) batch
+    join_is next =
+        ap (λ (ws : Waiting). made_by ws (volatile_of c.volatile) c.service.service held) next
+        ∙ ap (λ (v : step.Volatile). made_by a.waiting.waiting v c.service.service held) (volatile_like a c like)
+        ∙ ap (λ (s : Service). made_by a.waiting.waiting (volatile_of a.volatile) s held) like.service
+        ∙ join_table a.me (state_at a) batch kv same room new j m r whole holds_then goes_here
+        ∙ sym (ap (λ (s : State). holds_more a.me s batch) (state_rested a bare))
+
+    node_sound : IsSoundNode a.me a.durable (role_of a.volatile.role)
+    node_sound = sound_of a.me a.durable a.volatile sound.node
+
+    joins_stay : (y : Option Renewal) → new ≡ storing_plan batch → y ≡ None → (Applies a.durable new.batch) × LeavesWith a.me a.durable new y c.volatile
+    joins_stay y is_plan over =
+        let here : IsSoundStep a.me a.durable (part_step_of (storing_plan batch) (volatile_of a.volatile)) = record {
+          applies = hold_applies a.me a.durable j is at b batch brings;
+          sound = hold_sound a.me a.durable j is at b batch brings (role_of a.volatile.role) node_sound;
+          same = hold_same a.me a.durable j is at b batch brings;
+        } in
+        let there : IsSoundStep a.me a.durable (part_step_of new (volatile_of c.volatile)) =
+        subst (λ (w : step.Volatile). IsSoundStep a.me a.durable (part_step_of new w)) (sym (volatile_like a c like))
+        (subst (λ (n : Plan). IsSoundStep a.me a.durable (part_step_of n (volatile_of a.volatile))) (sym is_plan) here) in
+        (there.applies, subst (λ (o : Option Renewal). LeavesWith a.me a.durable new o c.volatile) (sym over) there)
+
+    joins_by : (s : Option MapState) (y : Option Renewal) → IfJoined j batch s → IfGoesOn a.me (Some j) s (role_of a.volatile.role) (storing_plan batch) new y → (Applies a.durable new.batch) × LeavesWith a.me a.durable new y c.volatile
+    joins_by None y all k = joins_stay y k.0 k.1
+    joins_by (Some s) None all k = absurd k
+    joins_by (Some s) (Some y) all k =
+        let parts = joined_parts s.service (joining_after j batch).base (cover_of (joining_after j batch)) all in
+        let base : List ℕ = base_bytes s.service in
+        let stores : new.batch ≡ batch ++ change.JoinDone base ∷ [] = ap (λ (n : Plan). n.batch) k.plan in (
+          subst (λ (cs : List Change). Applies a.durable cs) (sym stores) (go_applies a.me a.durable j is at b batch brings base parts.0 parts.1 parts.2 parts.3),
+          subst (λ (cs : List Change). IsNode a.me (durable_after a.durable cs) y.volatile) (sym stores)
+              (go_leaves a.me a.durable j is at b batch brings base parts.0 parts.1 parts.2 parts.3 (role_of a.volatile.role) y.volatile node_sound k.anew),
+        )
+
+    join_goes : (Applies a.durable new.batch) × LeavesWith a.me a.durable new r c.volatile
+    join_goes = joins_by m r whole goes_here
+
+    turn_by : (s : Option MapState) (y : Option Renewal) → IfGoesOn a.me (Some j) s (role_of a.volatile.role) (storing_plan batch) new y → new.turn ≡ nothing_plan.turn
+    turn_by None y k = ap (λ (n : Plan). n.turn) k.0
+    turn_by (Some s) None k = absurd k
+    turn_by (Some s) (Some y) k = ap (λ (n : Plan). n.turn) k.plan
+
+    pub join_prepared : c.waiting.next ≡ a.waiting.waiting → c.service.waiting ≡ 0 → HasRoomToTell held → Prepares c (holds_more a.me (state_of a) batch) held
+    join_prepared next settled tells =
+        let stored : (state_of c).durable ≡ a.durable = ap (λ (d : Durable). with_room no_needs d) like.durable ∙ bare in
+        let fits : BatchInRange new.batch =
+        subst (λ (cs : List Change). BatchInRange cs) (batch_made c.waiting.next (volatile_of c.volatile) c.service.service held)
+        (subst (λ (p : Planned). BatchInRange p.batch) (sym (join_is next)) range) in
+        let bases : HaveBases (durable_after a.durable new.batch) = bases_after a.durable new.batch sound.bases fits.each in
+        let leaves : LeavesWith c.me a.durable new r c.volatile = subst (λ (n : ℕ). LeavesWith n a.durable new r c.volatile) (sym like.me) join_goes.1 in
+        record {
+          sound = sound_like a c like sound;
+          table = join_is next;
+          applies = subst (λ (d : Durable). Applies d new.batch) (sym stored) join_goes.0;
+          turn = subst (λ (t : Turn). HasRoomIn t c.volatile) (sym (turn_by m r goes_here)) tt;
+          settled = settled;
+          after = record {
+            node = subst (λ (d : Durable). LeavesWith c.me d new r c.volatile) (sym stored) leaves;
+            bases = subst (λ (d : Durable). HaveBases (durable_after d new.batch)) (sym stored) bases;
+          };
+          room = tells;
+        }
+
+-- ---- the pieces of a step
+
+-- a chain in whose memory a role has room
+pub like_stepped : (a b : Chain) → (let c : Chain = record a { volatile = record a.volatile { role = b.volatile.role } } in b ≡ c) → role_of b.volatile.role ≡ role_of a.volatile.role → IsLike a b
+like_stepped a b is same =
+    record {
+      me = ap (λ (n : Chain). n.me) is;
+      durable = ap (λ (n : Chain). n.durable) is;
+      volatile = ap (λ (n : Chain). n.volatile) is;
+      role = same;
+      service = ap (λ (n : Chain). n.service.service) is;
+      waiting = ap (λ (n : Chain). n.waiting.waiting) is;
+    }
+
+-- one whose service is settled
+pub like_served : (a b : Chain) (m : MapState) → IsLike a b → m.service ≡ b.service.service → (let c : Chain = record b { service = m } in IsLike a c)
+like_served a b m like same =
+    record { me = like.me; durable = like.durable; volatile = like.volatile; role = like.role; service = same ∙ like.service; waiting = like.waiting }
+
+-- one where others may wait
+pub like_waiting : (a b : Chain) (w : WaitingSet) → IsLike a b → w.waiting ≡ b.waiting.waiting → (let c : Chain = record b { waiting = w } in IsLike a c)
+like_waiting a b w like same =
+    record { me = like.me; durable = like.durable; volatile = like.volatile; role = like.role; service = like.service; waiting = same ∙ like.waiting }
+
+-- a chain is like itself
+pub like_self : (a : Chain) → IsLike a a
+like_self a = record { me = refl; durable = refl; volatile = refl; role = refl; service = refl; waiting = refl }
+
+-- equal chains are alike
+pub like_is : (a b c : Chain) → IsLike a b → c ≡ b → IsLike a c
+like_is a b c like is = subst (λ (n : Chain). IsLike a n) (sym is) like
+
+-- what is closed of the one is closed of the other
+pub closes_like : (a c : Chain) (kv : Written) (old new : Plan) (r : Option Renewal) → IsLike a c
+    → IfCloses c.me c.durable.part (service_over c.service.service kv) (role_of c.volatile.role) old new r
+    → IfCloses a.me a.durable.part (service_over a.service.service kv) (role_of a.volatile.role) old new r
+closes_like a c kv old new r like closes =
+    subst (λ (q : Role). IfCloses a.me a.durable.part (service_over a.service.service kv) q old new r) like.role
+    (subst (λ (s : Service). IfCloses a.me a.durable.part (service_over s kv) (role_of c.volatile.role) old new r) like.service
+    (subst (λ (d : Durable). IfCloses a.me d.part (service_over c.service.service kv) (role_of c.volatile.role) old new r) like.durable
+    (subst (λ (n : ℕ). IfCloses n c.durable.part (service_over c.service.service kv) (role_of c.volatile.role) old new r) like.me closes)))
+
+-- and so is what goes on
+pub goes_like : (a c : Chain) (m : Option MapState) (old new : Plan) (r : Option Renewal) → IsLike a c
+    → IfGoesOn c.me c.durable.joining m (role_of c.volatile.role) old new r → IfGoesOn a.me a.durable.joining m (role_of a.volatile.role) old new r
+goes_like a c m old new r like goes =
+    subst (λ (q : Role). IfGoesOn a.me a.durable.joining m q old new r) like.role
+    (subst (λ (d : Durable). IfGoesOn a.me d.joining m (role_of c.volatile.role) old new r) like.durable
+    (subst (λ (n : ℕ). IfGoesOn n c.durable.joining m (role_of c.volatile.role) old new r) like.me goes))
+
+-- the plan with its room
+pub ok_planned : {E : Type 0} (c : Chain) (t : Planned) (plan : Plan) (kv : Written) (replies : List Reply) (r : Option Renewal) (x : Result ChainPlan E)
+    → IfOk x (λ p. p ≡ chain_plan plan kv replies r p.room) → IfOk x HasRoomToTell
+    → ((room : Room) → HasRoomToTell (chain_plan plan kv replies r room) → Prepares c t (chain_plan plan kv replies r room)) → IfOk x (Prepares c t)
+ok_planned c t plan kv replies r (Ok p) is tells prepares =
+    subst (λ (q : ChainPlan). Prepares c t q) (sym is) (prepares p.room (subst HasRoomToTell is tells))
+ok_planned c t plan kv replies r (Err e) is tells prepares = tt

@@ -1,0 +1,62 @@
+//! The service at a position of a part's log, and the base of what a step trims.
+ghost use Rattle.std.specs.Prelude.{◌≡◌, Some, IfOk};
+ghost use Rattle.op_spec.specs.Service.{base_bytes};
+ghost use Rattle.op_kv.specs.Bases.{IsBase};
+ghost use Rattle.op_protocol.specs.Bases.{service_from, service_at};
+ghost use Rattle.op_protocol.specs.Rows.{based, based_batch};
+
+use crate::deciding::{between, index};
+use op_kv::Map;
+use op_types::{Batch, Blob, Change, Entry, NoMemory, Part};
+use std::alloc::Global;
+
+/// The service of a base, after entries that go on from it.
+pub(crate) fn service_from(alloc: Global, base: &[u8], entries: &[Entry]) -> Result<Map, NoMemory>
+    requires { IsBase base.now }
+    ensures { IfOk result (λ m. m.service ≡ service_from base.now entries.now) }
+{
+    let mut service = Map::from_base(alloc, base)?;
+    let (_, change) = service.plan(alloc, entries)?;
+    service.adopt(change);
+    Ok(service)
+}
+
+/// The service at a position of a part's log that isn't trimmed. It costs the base and the entries before the position.
+pub(crate) fn service_at(alloc: Global, part: &Part, at: u64) -> Result<Map, NoMemory>
+    requires { IsBase part.now.base }
+    ensures { IfOk result (λ m. m.service ≡ service_at part.now at) }
+{
+    let entries = between(part.tail.as_slice(), 0, index(part.trimmed, at));
+    service_from(alloc, part.base.as_slice(), entries)
+}
+
+/// A batch with the base of what it trims.
+pub(crate) fn based(alloc: Global, part: &Part, batch: Batch) -> Result<Batch, NoMemory>
+    requires { IsBase part.now.base }
+    ensures { IfOk result (λ b. b ≡ based_batch (Some part.now) batch) }
+{
+    let mut all = Batch::new(alloc);
+    'changes: for change in batch.into_vec() {
+        all.push(with_base(alloc, part, change)?)?;
+    }
+    Ok(all)
+}
+
+/// A change, with the base of what it trims.
+fn with_base(alloc: Global, part: &Part, change: Change) -> Result<Change, NoMemory>
+    requires { IsBase part.now.base }
+    ensures { IfOk result (λ c. c ≡ based part.now change) }
+{
+    match change {
+        Change::Trim(at, _) => Ok(Change::Trim(at, base_at(alloc, part, at)?)),
+        change => Ok(change),
+    }
+}
+
+/// The service's state at a position of a part's log that isn't trimmed, as bytes.
+fn base_at(alloc: Global, part: &Part, at: u64) -> Result<Blob, NoMemory>
+    requires { IsBase part.now.base }
+    ensures { IfOk result (λ bytes. bytes ≡ base_bytes (service_at part.now at)) }
+{
+    service_at(alloc, part, at)?.base_bytes(alloc)
+}
