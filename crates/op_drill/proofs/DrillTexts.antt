@@ -2,7 +2,7 @@
 use Rattle.std.proofs.Common.{◌≡◌, ◌++◌, ℕ, List, sym, ap, ◌∙◌, subst, arith}
 use Rattle.std.specs.List.{flat_map}
 use Rattle.op_types.specs.Ranges.{MembersInRange}
-use Rattle.op_types.specs.declared.summary.Summary.{Summary}
+use Rattle.op_runs.specs.declared.summary.Summary.{Summary}
 use Rattle.op_gen.specs.Links.{Links}
 use Rattle.op_gen.specs.Scenarios.{members_of, links_of}
 use Rattle.op_gen.specs.declared.scenario.Scenario.{Scenario}

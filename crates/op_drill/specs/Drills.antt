@@ -2,7 +2,7 @@
 use Rattle.std.specs.Prelude.{◌≡◌, ◌++◌, ℕ, List, codes, decimal}
 use Rattle.std.specs.List.{flat_map}
 use Rattle.std.specs.Io.KnownBytes.{Appends}
-use Rattle.op_types.specs.declared.summary.Summary.{Summary}
+use Rattle.op_runs.specs.declared.summary.Summary.{Summary}
 use Rattle.op_outside.specs.Causes.{FaultsRose}
 use Rattle.op_outside.specs.Seen.{StreamSeen}
 use Rattle.op_outside.specs.Streams.{AppendsPrefix}

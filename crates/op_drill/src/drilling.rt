@@ -7,9 +7,10 @@ ghost use Rattle.op_drill.specs.Drills.{DrillEnds, IsTextOf, first_line};
 
 use op_gen::Scenario;
 use op_outside::{Sink, write_all};
+use op_runs::{Lines, Lists, NodeLines, Summary};
 use op_sched::report;
 use op_status::Status;
-use op_types::{Lines, Lists, NoMemory, NodeLines, Summary};
+use op_types::NoMemory;
 use op_world::World;
 use std::alloc::Global;
 
@@ -43,7 +44,7 @@ fn drill_text(alloc: Global, scenario: Scenario, rounds: u64) -> Result<Vec<u8>,
 fn drilled(alloc: Global, scenario: Scenario, rounds: u64) -> Result<Summary, NoMemory>
     ensures { IfOk result (IsReportOfDrill (members_of scenario) (links_of scenario) rounds) }
 {
-    let members = scenario.members(alloc)?;
+    let members = scenario.members()?;
     let links = scenario.links();
     match World::lockstep(alloc, members, &links, rounds) {
         Ok(summary) => Ok(summary),

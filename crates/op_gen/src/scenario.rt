@@ -5,7 +5,6 @@ ghost use Rattle.op_gen.specs.declared.scenario.Scenario.{Scenario};
 
 use crate::pairs::Links;
 use op_types::{Members, NoMemory};
-use std::alloc::Global;
 
 /// What becomes of the links among members that all hear one another, so that the last of them leads.
 #[derive(Clone, Copy, Debug, PartialEq, Eq)]
@@ -43,15 +42,15 @@ impl Scenario {
         }
     }
 
-    /// Its members. `NoMemory` comes only where the allocator has none.
-    pub fn members(self, alloc: Global) -> Result<Members, NoMemory>
+    /// Its members. `NoMemory` comes only where a list of ids has no room for them.
+    pub fn members(self) -> Result<Members, NoMemory>
         ensures { IfOk result (λ members. members ≡ members_of self) }
     {
         let pids: &[u32] = match self {
             Scenario::Quorum | Scenario::Constrained => &[1, 2, 3, 4, 5],
             Scenario::Chained => &[1, 2, 3],
         };
-        Ok(Members::from_vec(pids.to_vec(alloc)?))
+        Members::from_slice(pids)
     }
 
     /// The links that are left.

@@ -1,5 +1,5 @@
 -- A step of a node: what it needs, and the world after it.
-use Rattle.std.proofs.Common.{◌≡◌, ℕ, Bool, List, [], ◌++◌, map, Option, refl, sym, ap, subst, ◌∙◌}
+use Rattle.std.proofs.Common.{◌≡◌, ℕ, Bool, List, [], ◌++◌, map, Option, Some, None, refl, sym, ap, subst, ◌∙◌}
 use Rattle.std.proofs.lemmas.List.{append-nil}
 use Rattle.op_types.specs.Changes.{Applies, durable_after}
 use Rattle.op_types.specs.Ranges.{IsMember}
@@ -9,18 +9,18 @@ use Rattle.op_types.specs.declared.changes.Change.{Change}
 use Rattle.op_types.specs.declared.durable.Durable.{Durable}
 use Rattle.op_types.specs.declared.events.Input.{Input}
 use Rattle.op_types.specs.declared.messages.Msg.{Msg}
-use Rattle.op_types.specs.declared.summary.Line.{Line}
-use Rattle.op_protocol.specs.State.{State, PartStep, Planned, state_after}
+use Rattle.op_runs.specs.declared.summary.Line.{Line}
+use Rattle.op_protocol.specs.State.{State, Planned, state_after}
 use Rattle.op_protocol.specs.Rows.{step_plan}
 use Rattle.op_chain.specs.Chains.{state_of, IsSame, Admits}
-use Rattle.op_chain.specs.Plans.{Plans, Adopts}
+use Rattle.op_chain.specs.Plans.{Plans, Adopts, planned_by, renewed}
+use Rattle.op_chain.specs.declared.renewal.Renewal.{Renewal}
 use Rattle.op_chain.specs.declared.chain.Chain.{Chain}
 use Rattle.op_chain.specs.declared.chain_plan.ChainPlan.{ChainPlan}
 use Rattle.op_chain.specs.declared.given.Given.{Given}
 use Rattle.op_runs.specs.World.{World, Sent, Node, NodeStatus, Down, Fate, Done, Stopped, Steps, with_node, sent_by, outcome_lines, answer_line, lines_of, world_by_status, world_by_fate}
 use Rattle.op_bounds.specs.States.{StateInRange}
 use Rattle.op_bounds.specs.Laws.{PlanInRange}
-use Rattle.op_bounds.proofs.Ballots.{member_ids}
 use Rattle.op_bounds.proofs.Steps.{steps_stay}
 use Rattle.op_pure.specs.declared.node.Status.TheVariants as status
 use Rattle.op_pure.specs.Nodes.{ShowsNode, CanDo, IsDoneAt, node_of}
@@ -28,11 +28,11 @@ use Rattle.op_pure.specs.Nodes.{ShowsNode, CanDo, IsDoneAt, node_of}
 -- ---- what a step needs
 
 -- the step of a node that is up is in range, as the node that is shown and what the step begins with are
-step_in_range : (pid : ℕ) (c : Chain) (x : Input) (can : CanDo (node_of pid (status.Up c)) (Steps x)) → PlanInRange (IsMember can.members) (state_of c) (step_plan c.me (state_of c) x)
+step_in_range : (pid : ℕ) (c : Chain) (x : Input) (can : CanDo (node_of pid (status.Up c)) (Steps x)) → PlanInRange (IsMember can.ids) (state_of c) (step_plan c.me (state_of c) x)
 step_in_range pid c x can =
-    let member : IsMember can.members c.me = subst (IsMember can.members) (can.shown.pid ∙ sym can.kept.0) can.range.pid in
-    let state : StateInRange (IsMember can.members) (state_of c) = subst (StateInRange (IsMember can.members)) can.shown.status.0 can.range.state in
-    steps_stay (IsMember can.members) (member_ids can.members can.members_are) c.me member (state_of c) state x can.doing
+    let member : IsMember can.ids c.me = subst (IsMember can.ids) (can.shown.pid ∙ sym can.kept.0) can.range.pid in
+    let state : StateInRange (IsMember can.ids) (state_of c) = subst (StateInRange (IsMember can.ids)) can.shown.status.0 can.range.state in
+    steps_stay (IsMember can.ids) can.are_ids c.me member (state_of c) state x can.doing
 
 pub admits : (pid : ℕ) (c : Chain) (x : Input) → CanDo (node_of pid (status.Up c)) (Steps x) → Admits c x
 admits pid c x can = record { sound = can.kept.1; range = (step_in_range pid c x can).batch }
@@ -44,8 +44,14 @@ plan_same : (pid : ℕ) (c e : Chain) (x : Input) (n : Node) → c.me ≡ pid �
 plan_same pid c e x n me same shown =
     ap (λ (k : ℕ). step_plan k n.state x) (shown.pid ∙ sym me ∙ sym same.me) ∙ ap (λ (s : State). step_plan e.me s x) (shown.status.0 ∙ sym same.state)
 
+renewed_batch : (o : Option Renewal) (x : Planned) → (renewed o x).batch ≡ x.batch
+renewed_batch None x = refl
+renewed_batch (Some r) x = refl
+
 batch_is : (e : Chain) (x : Input) (plan : ChainPlan) → Plans e x plan → plan.plan.batch ≡ (step_plan e.me (state_of e) x).batch
-batch_is e x plan plans = ap (λ (y : PartStep). y.batch) plans.step
+batch_is e x plan plans =
+    let made : (planned_by e plan).batch ≡ plan.plan.batch = renewed_batch plan.renewal _ in
+    sym made ∙ ap (λ (y : Planned). y.batch) plans.table
 
 -- nothing is sent or told
 pub quiet : (w : World) (x y : Node) → (let z : World = record { nodes = with_node w.nodes y; messages = w.messages; lines = w.lines } in z)

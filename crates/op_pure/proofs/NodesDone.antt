@@ -1,21 +1,24 @@
 -- What is done at a node but a step, as the world has it.
-use Rattle.std.proofs.Common.{◌≡◌, ℕ, Bool, true, false, cond, eqb, List, [], ◌∷◌, ◌++◌, Option, Some, None, Result, Ok, Err, refl, sym, ap, subst, ◌∙◌, lit≤}
-use Rattle.std.specs.Prelude.{IfOk, IfSome}
+use Rattle.std.proofs.Common.{◌≡◌, ℕ, Bool, true, false, cond, eqb, nat_eq, List, [], ◌∷◌, ◌++◌, Some, Result, Ok, Err, refl, sym, ap, subst, ◌∙◌}
+use Rattle.std.specs.Prelude.{IfOk}
+use Rattle.std.specs.Set.{is_member}
+use Rattle.std.proofs.lemmas.Bool.{cond-true, cond-false}
 use Rattle.std.proofs.lemmas.List.{append-nil}
-use Rattle.op_types.specs.Changes.{durable_after}
+use Rattle.op_types.specs.Changes.{empty_durable, durable_after}
 use Rattle.op_types.specs.Ranges.{IsMember}
-use Rattle.op_types.specs.Rooms.{room_of}
+use Rattle.op_types.specs.Rooms.{IsAtRest}
 use Rattle.op_types.specs.declared.changes.Change.{Change}
 use Rattle.op_types.specs.declared.durable.Durable.{Durable}
-use Rattle.op_types.specs.declared.durable.Part.{Part}
 use Rattle.op_types.specs.declared.messages.Msg.{Msg}
-use Rattle.op_types.specs.declared.summary.Line.{Line}
-use Rattle.op_record.specs.Ranges.{PartInRange}
+use Rattle.op_runs.specs.declared.summary.Line.{Line}
+use Rattle.op_record.specs.Ranges.{DurableInRange}
 use Rattle.op_protocol.specs.State.{State}
 use Rattle.op_protocol.specs.Starting.{state_after_restart, sends_after_restart}
-use Rattle.op_chain.specs.Chains.{state_of, IsSoundChain, IfPartFor, CanOpen}
+use Rattle.op_chain.proofs.Opened as opened
+use Rattle.op_chain.specs.Chains.{state_of, IsSoundChain, CanOpen}
 use Rattle.op_chain.specs.declared.chain.Chain.{Chain}
-use Rattle.op_runs.specs.World.{World, Sent, Node, NodeStatus, Up, Down, Fate, Done, Stopped, Told, Doing, Steps, Stops, Opens, Tells, Happening, first_durable, node_at, with_node, sent_by, told_lines, world_by_status, world_if_down, world_opening}
+use Rattle.op_runs.specs.World.{World, Sent, Node, NodeStatus, Up, Down, Fate, Done, Stopped, Told, Doing, Steps, Stops, Opens, Tells, Happening, first_durable, durable_at_start, node_at, with_node, sent_by, told_lines, world_by_status, world_if_down, world_opening}
+use Rattle.op_bounds.specs.States.{IsNamed}
 use Rattle.op_bounds.specs.Laws.{StatusInRange, FoundInRange}
 use Rattle.op_world.specs.Deeds.{told_of, doing_of}
 use Rattle.op_world.specs.declared.deed.Doing as deed
@@ -125,30 +128,20 @@ stopped_opening pid d batch finds_after line kept = record {
 -- ---- what an opening finds
 
 -- what it may find is in range: what is stored, and what was to be stored
-found_in_range : (pid : ℕ) (d : Durable) (batch : List Change) (x : Doing) (can : CanDo (node_of pid (status.Down d batch)) x) → FoundInRange can.members d × FoundInRange can.members (durable_after d batch)
-found_in_range pid d batch x can = (
-  subst (FoundInRange can.members) can.shown.status.0 (can.range.state.durable, can.range.of),
-  subst (StatusInRange can.members) can.shown.status.1 can.range.status,
-)
+found_in_range : (pid : ℕ) (d : Durable) (batch : List Change) (x : Doing) (can : CanDo (node_of pid (status.Down d batch)) x) → FoundInRange (IsMember can.ids) pid d × FoundInRange (IsMember can.ids) pid (durable_after d batch)
+found_in_range pid d batch x can =
+    let known : ℕ → Type 0 = IsMember can.ids in (
+      subst (λ (e : Durable). FoundInRange known pid e) can.shown.status.0 (subst (λ (q : ℕ). FoundInRange known q can.node.state.durable) can.shown.pid (can.range.state.durable, can.range.named)),
+      subst (λ (st : NodeStatus). StatusInRange known pid st) can.shown.status.1 (subst (λ (q : ℕ). StatusInRange known q can.node.status) can.shown.pid can.range.status),
+    )
 
-no_room : (o : Option Part) → IfSome o PartInRange → room_of o ≡ 0
-no_room None range = refl
-no_room (Some p) range = range.room
+-- a durable state in range can be opened by a server that it names
+can_open : (me : ℕ) (d : Durable) → DurableInRange d → IsNamed me d → CanOpen me d
+can_open me d range named = opened.can_open me d range (record { part = named.part; joining = named.joining })
 
 -- no room is left in it
-pub at_rest : (pid : ℕ) (d : Durable) (batch : List Change) (x : Doing) → CanDo (node_of pid (status.Down d batch)) x → room_of d.part ≡ 0
-at_rest pid d batch x can = no_room d.part (found_in_range pid d batch x can).0.0.range.part
-
-part_for : (members : List ℕ) (me : ℕ) (o : Option Part) → IsMember members me → IfSome o PartInRange → IfSome o (λ p. p.members ≡ members) → IfPartFor me o
-part_for members me None member range of = tt
-part_for members me (Some p) member range of = record {
-  member = subst (λ (ms : List ℕ). IsMember ms me) (sym of) member;
-  positions = record { trimmed = range.decided.0; decided = range.decided.1; small = range.len };
-  rest = range.room;
-}
-
-opens_with : (members : List ℕ) (me : ℕ) (d : Durable) → IsMember members me → FoundInRange members d → CanOpen me d
-opens_with members me d member found = part_for members me d.part member found.0.range.part found.1
+pub at_rest : (pid : ℕ) (d : Durable) (batch : List Change) (x : Doing) → CanDo (node_of pid (status.Down d batch)) x → IsAtRest d
+at_rest pid d batch x can = let found = (found_in_range pid d batch x can).0 in (can_open pid d (found.0).range found.1).rest
 
 found_by : (pid : ℕ) (b : Bool) (d e : Durable) → CanOpen pid d → CanOpen pid e → CanOpen pid (cond b e d)
 found_by pid true d e before after = after
@@ -157,24 +150,27 @@ found_by pid false d e before after = before
 -- it can be opened with that
 pub can_open_found : (pid : ℕ) (d e : Durable) (batch : List Change) (finds_after : Bool) (x : Doing) → CanDo (node_of pid (status.Down d batch)) x → e ≡ cond finds_after (durable_after d batch) d → CanOpen pid e
 can_open_found pid d e batch finds_after x can is =
-    let member : IsMember can.members pid = subst (IsMember can.members) can.shown.pid can.range.pid in
     let found = found_in_range pid d batch x can in
-    subst (CanOpen pid) (sym is) (found_by pid finds_after d (durable_after d batch) (opens_with can.members pid d member found.0) (opens_with can.members pid (durable_after d batch) member found.1))
+    subst (CanOpen pid) (sym is)
+    (found_by pid finds_after d (durable_after d batch) (can_open pid d (found.0.0).range found.0.1) (can_open pid (durable_after d batch) (found.1.0).range found.1.1))
 
--- so it can with what a member has stored at first
-pub can_open_first : (members : List ℕ) (me : ℕ) (d : Durable) → IsMember members me → d ≡ first_durable members → CanOpen me d
-can_open_first members me d member is =
-    subst (CanOpen me) (sym is) (record { member = member; positions = record { trimmed = lit≤ tt; decided = lit≤ tt; small = lit≤ tt }; rest = refl })
+-- so it can with what a server has stored at first
+pub can_open_first : (members : List ℕ) (me : ℕ) (d : Durable) → DurableInRange d → d ≡ durable_at_start members me → CanOpen me d
+can_open_first members me d range is = can_open me d range (subst (λ (e : Durable). IsNamed me e) (sym is) (by (is_member nat_eq members me) refl))
+  where
+    by : (b : Bool) → is_member nat_eq members me ≡ b → IsNamed me (durable_at_start members me)
+    by true h = subst (λ (e : Durable). IsNamed me e) (sym (cond-true (is_member nat_eq members me) (first_durable members) empty_durable h)) (record { part = h; joining = tt })
+    by false h = subst (λ (e : Durable). IsNamed me e) (sym (cond-false (is_member nat_eq members me) (first_durable members) empty_durable h)) (record { part = tt; joining = tt })
 
 pub opened_again : (pid : ℕ) (d e : Durable) (batch : List Change) (finds_after : Bool) (c : Chain) (sends : List (ℕ × Msg)) (told : List Line) → e ≡ cond finds_after (durable_after d batch) d
-    → sends ≡ sends_after_restart pid e.part → c.me ≡ pid → state_of c ≡ state_after_restart pid e → IsSoundChain c → told ≡ []
+    → sends ≡ sends_after_restart pid e → c.me ≡ pid → state_of c ≡ state_after_restart pid e → IsSoundChain c → told ≡ []
     → (line : ℕ) → IsDoneAt (node_of pid (status.Down d batch)) Opens Done finds_after line (node_of pid (status.Up c)) sends told
 opened_again pid d e batch finds_after c sends told is sends_are me state sound none line = record {
   after = λ x shown.
       let y : Node = record x { state = state_after_restart x.pid e; status = Up } in
       let found : cond finds_after (durable_after d batch) x.state.durable ≡ e =
       ap (λ (k : Durable). cond finds_after (durable_after d batch) k) shown.status.0 ∙ sym is in
-      let sends_be : sends_after_restart x.pid e.part ≡ sends = ap (λ (k : ℕ). sends_after_restart k e.part) shown.pid ∙ sym sends_are in (
+      let sends_be : sends_after_restart x.pid e ≡ sends = ap (λ (k : ℕ). sends_after_restart k e) shown.pid ∙ sym sends_are in (
         y,
         record { pid = shown.pid; status = (ap (λ (k : ℕ). state_after_restart k e) shown.pid ∙ sym state, refl) },
         record {

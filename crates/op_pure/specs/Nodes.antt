@@ -1,11 +1,12 @@
 -- A node of the plain program, as the definition has it.
 use Rattle.std.specs.Prelude.{◌≡◌, ℕ, Bool, List, ◌++◌, Some}
 use Rattle.op_types.specs.Changes.{Applies, durable_after}
-use Rattle.op_types.specs.Ranges.{MembersInRange}
+use Rattle.op_types.specs.Ranges.{IsMember}
 use Rattle.op_types.specs.declared.messages.Msg.{Msg}
-use Rattle.op_types.specs.declared.summary.Line.{Line}
+use Rattle.op_runs.specs.declared.summary.Line.{Line}
 use Rattle.op_chain.specs.Chains.{state_of, IsSoundChain}
 use Rattle.op_runs.specs.World.{World, Node, Up, Down, Doing, Fate, Happening, world_by_status, node_at, with_node, sent_by}
+use Rattle.op_bounds.specs.Messages.{AreIds}
 use Rattle.op_bounds.specs.Laws.{NodeInRange}
 use Rattle.op_world.specs.Worlds.{DoingInRange}
 use Rattle.op_pure.specs.declared.node.PureNode.{PureNode}
@@ -42,15 +43,16 @@ IsKept n = StatusKept n.pid n.status
 
 -- ---- what is done at a node
 
--- this can be done there: some members have a node that is shown, in range, and so is what it begins with
+-- this can be done there: where some ids are known, some node that is shown is in range, and so is what it
+-- begins with
 pub record CanDo (n : PureNode) (d : Doing) : Type 0 where
-  pub members : List ℕ
-  pub members_are : MembersInRange members
+  pub ids : List ℕ
+  pub are_ids : AreIds (IsMember ids)
   pub kept : IsKept n
   pub node : Node
   pub shown : ShowsNode n node
-  pub range : NodeInRange members node
-  pub doing : DoingInRange members d
+  pub range : NodeInRange (IsMember ids) node
+  pub doing : DoingInRange ids d
 
 -- What a world becomes by what is done at one of its nodes, in a happening of this fate, opening and line:
 -- this node takes its place, and these messages and lines come.

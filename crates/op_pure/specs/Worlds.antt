@@ -1,20 +1,24 @@
 -- Nodes without disks, as their world is.
 use Rattle.std.specs.Prelude.{◌≡◌, ◌==◌, ℕ, ◌+◌, Bool, List, [], ◌∷◌, map, All, Some, if◌then◌else◌}
-use Rattle.op_types.specs.Ranges.{MembersInRange}
-use Rattle.op_types.specs.declared.summary.Line.{Line}
-use Rattle.op_runs.specs.World.{World, Node, Sent, Happening, Fate, first_world, run_of, deed_of}
+use Rattle.op_runs.specs.declared.summary.Line.{Line}
+use Rattle.op_runs.specs.World.{World, Node, Sent, Happening, Fate, node_ids, first_world, run_of, deed_of}
+use Rattle.op_runs.specs.Possible.{proposals_in}
+use Rattle.op_types.specs.Ranges.{IsMember}
 use Rattle.op_bounds.specs.Laws.{HappeningInRange}
+use Rattle.op_laws.specs.Runs.{RunInRange}
 use Rattle.op_world.specs.Deeds.{deed_shown}
 use Rattle.op_world.specs.declared.deed.Deed as deed
 use Rattle.op_pure.specs.declared.node.PureNode.{PureNode}
 use Rattle.op_pure.specs.Nodes.{ShowsNode, IsKept}
 
--- the members, their nodes, all messages that were sent, and what the happenings gave to be reported
+-- the ids of all nodes, these, all messages that were sent, what the happenings gave to be reported, and how
+-- much was proposed
 pub record Parts : Type 0 where
-  pub members : List ℕ
+  pub ids : List ℕ
   pub nodes : List PureNode  -- rising by id
   pub messages : List Sent
   pub lines : List Line
+  pub proposed : ℕ
 
 -- ---- the world that is shown
 
@@ -33,14 +37,18 @@ pub record Shows (w : Parts) (x : World) : Type 0 where
 
 -- ---- what the code keeps
 
--- one of these members has a node for each, and shows the world of some run of them
+-- one has a node for each id, and shows the world of some run
 pub record IsWorld (w : Parts) : Type 0 where
-  pub range : MembersInRange w.members
-  pub pids : map (λ n. n.pid) w.nodes ≡ w.members
-  pub kept : All IsKept w.nodes
+  pub members : List ℕ
+  pub spares : List ℕ
   pub happenings : List Happening
-  pub happened : All HappeningInRange happenings
-  pub shows : Shows w (run_of (first_world w.members) happenings)
+  pub range : RunInRange members spares happenings
+  pub ids : w.ids ≡ node_ids members spares
+  pub known : All (HappeningInRange (IsMember w.ids)) happenings
+  pub pids : map (λ n. n.pid) w.nodes ≡ w.ids
+  pub proposed : w.proposed ≡ proposals_in happenings
+  pub kept : All IsKept w.nodes
+  pub shows : Shows w (run_of (first_world members spares) happenings)
 
 -- how many nodes stand before the one of this id
 abbrev pub place_of : List PureNode → ℕ → ℕ

@@ -1,4 +1,5 @@
-use op_types::{Event, Seq};
+use op_runs::Event;
+use op_types::Seq;
 
 /// What becomes of an event's step.
 #[derive(Clone, Copy, Debug, PartialEq, Eq)]

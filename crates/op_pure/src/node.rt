@@ -1,8 +1,9 @@
 //! A node of the plain program: how it runs, and what is done at it.
 ghost use Rattle.std.specs.Prelude.{◌≡◌, ℕ, Bool, [], if◌then◌else◌, IfOk};
 ghost use Rattle.op_types.specs.Changes.{Applies, durable_after};
-ghost use Rattle.op_types.specs.Ranges.{IsMember};
-ghost use Rattle.op_types.specs.Rooms.{room_of};
+ghost use Rattle.op_types.specs.Ranges.{MembersInRange};
+ghost use Rattle.op_types.specs.Rooms.{IsAtRest};
+ghost use Rattle.op_record.specs.Ranges.{DurableInRange};
 ghost use Rattle.op_chain.specs.Chains.{state_of};
 ghost use Rattle.op_runs.specs.World as runs;
 ghost use Rattle.op_pure.specs.declared.node.Status.TheVariants as status;
@@ -11,8 +12,9 @@ ghost use Rattle.op_pure.specs.Nodes.{ShowsNode, IsKept, CanDo, IsDoneAt, node_o
 ghost use Rattle.op_world.specs.Deeds.{told_of, doing_of};
 
 use crate::happening::Fate;
-use op_chain::{Chain, Given, first_durable, sends_after_restart};
-use op_types::{Batch, Durable, Input, Lines, Members, NoMemory, Pid, Sends};
+use op_chain::{Chain, Given, empty_durable, first_durable, sends_after_restart};
+use op_runs::Lines;
+use op_types::{Batch, Durable, Input, Members, NoMemory, Pid, Sends, is_among};
 use op_world::{Doing, Told, ballot_lines, pair_lines, step_lines};
 use std::alloc::Global;
 
@@ -60,14 +62,14 @@ impl NodeDone {
 }
 
 impl PureNode {
-    /// A member at its start.
+    /// A node at its start: a member of the first configuration, or a spare.
     pub fn first(alloc: Global, pid: Pid, members: &Members) -> Result<PureNode, NoMemory>
-        requires { IsMember members.now pid }
+        requires { MembersInRange members.now }
         ensures pid { IfOk result (λ n. n.pid ≡ pid) }
         ensures shows { IfOk result (λ n. ShowsNode n (runs.first_node members.now pid)) }
         ensures kept { IfOk result IsKept }
     {
-        let durable = first_durable(alloc, members)?;
+        let durable = durable_at_start(alloc, pid, members)?;
         let chain = Chain::first(alloc, pid, durable)?;
         Ok(PureNode {
             pid,
@@ -97,6 +99,18 @@ impl PureNode {
             }
         }
     }
+}
+
+/// What a node has stored at its start: a member of the first configuration has its part.
+fn durable_at_start(alloc: Global, pid: Pid, members: &Members) -> Result<Durable, NoMemory>
+    requires { MembersInRange members.now }
+    ensures durable { IfOk result (λ d. d ≡ runs.durable_at_start members.now pid) }
+    ensures range { IfOk result DurableInRange }
+{
+    if is_among(members.as_slice(), pid) {
+        return first_durable(alloc, members);
+    }
+    Ok(empty_durable())
 }
 
 /// Does this at a node that is up, where an opening does nothing.
@@ -259,7 +273,7 @@ fn done_opening(
 /// What an opening finds.
 fn found(durable: Durable, batch: Batch, finds_after: bool) -> Result<Durable, NoMemory>
     requires applies { Applies durable batch }
-    requires rest { room_of durable.part ≡ 0 }
+    requires rest { IsAtRest durable }
     ensures { IfOk result (λ d. d ≡ (if finds_after then durable_after durable batch else durable)) }
 {
     if finds_after {
@@ -272,7 +286,7 @@ fn found(durable: Durable, batch: Batch, finds_after: bool) -> Result<Durable, N
 /// A durable state once a batch is adopted.
 fn adopted(mut durable: Durable, batch: Batch) -> Result<Durable, NoMemory>
     requires applies { Applies durable batch }
-    requires rest { room_of durable.part ≡ 0 }
+    requires rest { IsAtRest durable }
     ensures { IfOk result (λ d. d ≡ durable_after durable batch) }
 {
     durable.room_for(&batch)?;

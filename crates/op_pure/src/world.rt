@@ -1,9 +1,10 @@
-ghost use Rattle.std.specs.Prelude.{◌≡◌, ◌≤◌, true, false, map, length, All, IfOk, OnOk};
-ghost use Rattle.op_types.specs.Ranges.{IsMember, MembersInRange, WhatInRange};
+ghost use Rattle.std.specs.Prelude.{◌≡◌, ◌≤◌, ◌<◌, ◌+◌, ◌^◌, true, false, map, length, All, IfOk, OnOk};
+ghost use Rattle.op_types.specs.Ranges.{IsMember, MembersInRange};
+ghost use Rattle.op_runs.specs.Possible.{is_possible, proposals_of, SparesInRange, WhatInRange};
 ghost use Rattle.op_bounds.specs.Laws.{HappeningInRange};
-ghost use Rattle.op_runs.specs.Possible.{is_possible};
 ghost use Rattle.op_runs.specs.World as runs;
 ghost use Rattle.op_world.specs.Failing.{IfBadEvent};
+ghost use Rattle.op_world.specs.Worlds.{IsPossibleDeed};
 ghost use Rattle.op_pure.specs.Happenings.{happening_of, happenings_of, fate_of, IsFirstBad};
 ghost use Rattle.op_pure.specs.Nodes.{IsKept};
 ghost use Rattle.op_pure.specs.Runs.{KeepsTheLaws};
@@ -11,19 +12,25 @@ ghost use Rattle.op_pure.specs.Worlds.{ShowNodes, Shows, Does, place_of};
 
 use crate::happening::{Fate, Happening, Happenings};
 use crate::node::{NodeDone, PureNode};
-use op_types::{Event, Line, Lines, Members, NoMemory, Pid};
-use op_world::{Deed, RunFail, Sent, deed_of, is_possible, send_all, tell_all};
+use op_runs::{Event, Line, Lines};
+use op_types::{Members, NoMemory, Pid};
+use op_world::{
+    Deed, RunFail, Sent, deed_of, is_possible, node_ids, proposals_of, send_all, tell_all,
+};
 use std::alloc::Global;
 use std::marker::Model;
 
-/// One to nine members without disks, all messages that were sent, and what the happenings gave to be reported.
+/// One to nine members and spares without disks, all messages that were sent, and what the happenings gave to be reported.
 #[derive(Drop)]
 pub struct PureWorld {
     alloc: Global,
-    members: Members,
+    /// The ids of all nodes, rising.
+    ids: Vec<Pid>,
     nodes: Vec<PureNode>,
     messages: Vec<Sent>,
     lines: Lines,
+    /// How many entries were proposed.
+    proposed: u64,
 }
 
 impl Model for PureWorld {
@@ -32,36 +39,40 @@ impl Model for PureWorld {
     ghost Value = { Parts };
 
     ghost view = { λ w. record {
-      members = w.members;
+      ids = w.ids.items;
       nodes = w.nodes.items;
       messages = w.messages.items;
       lines = w.lines;
+      proposed = w.proposed;
     } };
 
     ghost invariant = { λ w. IsWorld (record {
-      members = w.members;
+      ids = w.ids.items;
       nodes = w.nodes.items;
       messages = w.messages.items;
       lines = w.lines;
+      proposed = w.proposed;
     }) };
 }
 
 impl PureWorld {
-    /// Runs these happenings at these members, from their start on. It is refused exactly where an event names a server
-    /// that is no member or a message that wasn't sent: the first such event is told.
+    /// Runs these happenings at these members and spares, from their start on. It is refused exactly where an event names a
+    /// server that is neither or a message that wasn't sent: the first such event is told.
     pub fn run(
         alloc: Global,
         members: Members,
+        spares: Members,
         happenings: Happenings,
     ) -> Result<PureWorld, RunFail>
         requires members { MembersInRange members }
+        requires spares { SparesInRange members spares }
         requires happenings { All (λ h. WhatInRange h.event.what) happenings }
         ensures world { IfOk result (λ w.
-            Shows w (runs.run_of (runs.first_world members) (happenings_of happenings))) }
-        ensures laws { IfOk result (λ _. KeepsTheLaws members (happenings_of happenings)) }
-        ensures bad { IfBadEvent result (IsFirstBad members (happenings_of happenings)) }
+            Shows w (runs.run_of (runs.first_world members spares) (happenings_of happenings))) }
+        ensures laws { IfOk result (λ _. KeepsTheLaws members spares (happenings_of happenings)) }
+        ensures bad { IfBadEvent result (IsFirstBad members spares (happenings_of happenings)) }
     {
-        let mut world = PureWorld::new(alloc, members)?;
+        let mut world = PureWorld::new(alloc, &members, &spares)?;
         let mut index = 0;
         for happening in happenings.into_vec() {
             world = match world.happening(happening) {
@@ -81,68 +92,83 @@ impl PureWorld {
         self.lines.as_slice()
     }
 
-    /// These members at their start.
-    pub fn new(alloc: Global, members: Members) -> Result<PureWorld, NoMemory>
-        requires { MembersInRange members }
-        ensures shows { IfOk result (λ w. Shows w (runs.first_world members)) }
-        ensures members { IfOk result (λ w. w.members ≡ members) }
+    /// These members and spares at their start.
+    pub fn new(alloc: Global, members: &Members, spares: &Members) -> Result<PureWorld, NoMemory>
+        requires members { MembersInRange members.now }
+        requires spares { SparesInRange members.now spares.now }
+        ensures shows { IfOk result (λ w. Shows w (runs.first_world members.now spares.now)) }
+        ensures ids { IfOk result (λ w. w.ids ≡ runs.node_ids members.now spares.now) }
+        ensures proposed { IfOk result (λ w. w.proposed ≡ 0) }
     {
-        let nodes = first_nodes(alloc, &members)?;
+        let ids = node_ids(alloc, members, spares)?;
+        let nodes = first_nodes(alloc, members, &ids)?;
         Ok(PureWorld {
             alloc,
-            members,
+            ids,
             nodes,
             messages: Vec::new(alloc),
             lines: Lines::new(alloc),
+            proposed: 0,
         })
     }
 
     /// One event, with what becomes of it. It is refused, as the event of number 0, exactly where it names a node that is
-    /// absent or a message that wasn't sent. With a refusal no world is handed back.
+    /// absent or a message that wasn't sent. With a refusal no world is handed back. There is no memory for more proposals
+    /// than eight bytes count.
     pub fn happening(self, happening: Happening) -> Result<PureWorld, RunFail>
         requires { WhatInRange happening.event.what }
         ensures after { IfOk result (λ w. (x : runs.World) → Shows self x →
             Shows w (runs.world_after x (happening_of happening))) }
-        ensures members { IfOk result (λ w. w.members ≡ self.members) }
+        ensures ids { IfOk result (λ w. w.ids ≡ self.ids) }
+        ensures proposed { IfOk result (λ w.
+            (w.proposed ≡ self.proposed + proposals_of happening.event.what) × (w.proposed < 2 ^ 64)) }
         ensures possible { OnOk result
-            (is_possible self.members (length self.messages) happening.event.what ≡ true) }
+            (is_possible self.ids (length self.messages) happening.event.what ≡ true) }
         ensures bad { IfBadEvent result (λ index. (index ≡ 0)
-            × (is_possible self.members (length self.messages) happening.event.what ≡ false)) }
+            × (is_possible self.ids (length self.messages) happening.event.what ≡ false)) }
     {
         let Happening {
             event,
             fate,
             finds_after,
         } = happening;
-        if !is_possible(&self.members, self.messages.len() as u64, &event.what) {
+        if !is_possible(&self.ids, self.messages.len() as u64, &event.what) {
             return Err(RunFail::BadEvent { index: 0 });
         }
+        let Some(proposed) = self.proposed.checked_add(proposals_of(&event.what)) else {
+            return Err(RunFail::NoMemory);
+        };
         let Event { line, what } = event;
         let deed = deed_of(self.alloc, &self.messages, what)?;
-        Ok(self.done(line, fate, finds_after, deed)?)
+        Ok(self.done(line, fate, finds_after, deed, proposed)?)
     }
 
-    /// The world after what is done at a member, or what the member stopped in, said in this line of the schedule.
+    /// The world after what is done at a node, or what the node stopped in, said in this line of the schedule; so many entries
+    /// are proposed then.
     fn done(
         self,
         line: u64,
         fate: Fate,
         finds_after: bool,
         deed: Deed,
+        proposed: u64,
     ) -> Result<PureWorld, NoMemory>
-        requires member { IsMember self.members deed.pid }
-        requires happens { (h : runs.Happening) × HappeningInRange h
-            × Does self.messages h deed (fate_of fate) finds_after line }
+        requires possible { IsPossibleDeed self.ids deed }
+        requires happens { (h : runs.Happening) × HappeningInRange (IsMember self.ids) h
+            × Does self.messages h deed (fate_of fate) finds_after line
+            × (proposed ≡ self.proposed + proposals_of h.event.what) }
         ensures after { IfOk result (λ w. (x : runs.World) (h : runs.Happening) → Shows self x →
             Does x.messages h deed (fate_of fate) finds_after line → Shows w (runs.world_after x h)) }
-        ensures members { IfOk result (λ w. w.members ≡ self.members) }
+        ensures ids { IfOk result (λ w. w.ids ≡ self.ids) }
+        ensures proposed { IfOk result (λ w. w.proposed ≡ proposed) }
     {
         let PureWorld {
             alloc,
-            members,
+            ids,
             mut nodes,
             mut messages,
             mut lines,
+            ..
         } = self;
         let place = place_of(&nodes, deed.pid);
         let node = nodes.remove(place);
@@ -159,10 +185,11 @@ impl PureWorld {
         tell_all(&mut lines, told)?;
         Ok(PureWorld {
             alloc,
-            members,
+            ids,
             nodes,
             messages,
             lines,
+            proposed,
         })
     }
 }
@@ -184,16 +211,16 @@ fn place_of(nodes: &[PureNode], pid: Pid) -> usize
     }
 }
 
-/// All members at their start.
-fn first_nodes(alloc: Global, members: &Members) -> Result<Vec<PureNode>, NoMemory>
+/// All nodes at their start.
+fn first_nodes(alloc: Global, members: &Members, ids: &[Pid]) -> Result<Vec<PureNode>, NoMemory>
     requires { MembersInRange members.now }
     ensures shows { IfOk result (λ nodes.
-        ShowNodes nodes.items (map (runs.first_node members.now) members.now)) }
-    ensures pids { IfOk result (λ nodes. map (λ n. n.pid) nodes.items ≡ members.now) }
+        ShowNodes nodes.items (map (runs.first_node members.now) ids.now)) }
+    ensures pids { IfOk result (λ nodes. map (λ n. n.pid) nodes.items ≡ ids.now) }
     ensures kept { IfOk result (λ nodes. All IsKept nodes.items) }
 {
     let mut nodes = Vec::new(alloc);
-    'members: for pid in members.as_slice() {
+    'ids: for pid in ids {
         nodes.push(PureNode::first(alloc, *pid, members)?)?;
     }
     Ok(nodes)

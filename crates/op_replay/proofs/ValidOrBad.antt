@@ -16,7 +16,7 @@ use Rattle.op_status.specs.declared.status.Status.TheVariants as status
 pub not_bad : (input : List ℕ) (n : ℕ) → IsValid input → IsBadAt input n → ⊥
 not_bad input n v (inl bad) = schedules.no_bad_line input v.0 n v.1 bad
 not_bad input n v (inr bad) =
-    none_bad bad.0.members bad.0.events n (subst (λ (s : Schedule). ArePossible s.members s.events) (schedules.one_schedule input v.0 bad.0 v.1 bad.1) v.2) bad.2
+    none_bad bad.0.members bad.0.spares bad.0.events n (subst (λ (s : Schedule). ArePossible s.members s.spares s.events) (schedules.one_schedule input v.0 bad.0 v.1 bad.1) v.2) bad.2
 
 -- the bad line of an input is one
 pub one_bad : (input : List ℕ) (m n : ℕ) → IsBadAt input m → IsBadAt input n → m ≡ n
@@ -24,7 +24,7 @@ one_bad input m n (inl p) (inl q) = schedules.one_bad_line input m n p q
 one_bad input m n (inl p) (inr q) = absurd (schedules.no_bad_line input q.0 m q.1 p)
 one_bad input m n (inr p) (inl q) = absurd (schedules.no_bad_line input p.0 n p.1 q)
 one_bad input m n (inr p) (inr q) =
-    one_bad_line q.0.members q.0.events m n (subst (λ (s : Schedule). IsLineOfFirstBad s.members s.events m) (schedules.one_schedule input p.0 q.0 p.1 q.1) p.2) q.2
+    one_bad_line q.0.members q.0.spares q.0.events m n (subst (λ (s : Schedule). IsLineOfFirstBad s.members s.spares s.events m) (schedules.one_schedule input p.0 q.0 p.1 q.1) p.2) q.2
 
 valid_from : (input text : List ℕ) → Reports input text → IsValid input
 valid_from input text r = (r.0, r.1, r.2.present)

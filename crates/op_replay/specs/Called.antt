@@ -6,11 +6,9 @@ use Rattle.op_sched.specs.Text.{report_of}
 use Rattle.op_sched.specs.declared.schedule.Schedule.{Schedule}
 use Rattle.op_outside.specs.Streams.{AppendsPrefix}
 use Rattle.op_runs.specs.World.{all_done}
-use Rattle.op_runs.specs.Run.{Meets}
 use Rattle.op_runs.specs.Possible.{ArePossible}
-use Rattle.op_runs.specs.Replies.{RepliesAreServed}
 use Rattle.op_runs.specs.Summary.{run_summary}
-use Rattle.op_laws.specs.Exchange.{EachExchangeDecides}
+use Rattle.op_world.specs.Laws.{KeepsTheLaws}
 use Rattle.op_input.specs.Inputs.{input_limit}
 use Rattle.op_replay.specs.Replay.{IsLineOfFirstBad}
 
@@ -20,16 +18,13 @@ IsWithinLimit input = length input ≤ input_limit
 
 -- the text is the report of this schedule's run
 pub record IsReportOf (s : Schedule) (text : List ℕ) : Type 0 where
-  -- each event names members, and messages that were sent
-  pub present : ArePossible s.members s.events
+  -- each event names members or spares, and messages that were sent
+  pub present : ArePossible s.members s.spares s.events
   -- the text says what the run leaves
-  pub written : text ≡ report_of (run_summary s.members s.events)
-  -- the run meets the list machine
-  pub meets : Meets s.members (all_done s.events)
-  -- each client is answered by the lists that are reported
-  pub served : RepliesAreServed (run_summary s.members s.events)
-  -- each exchange of a leader with a majority decides, wherever it is in the run
-  pub exchanges : EachExchangeDecides s.members (all_done s.events)
+  pub written : text ≡ report_of (run_summary s.members s.spares s.events)
+  -- the run keeps the laws of every run: it meets the list machine, each client is answered by the lists that
+  -- are reported, and each exchange of a leader with a majority decides, wherever it is in the run
+  pub laws : KeepsTheLaws s.members s.spares (all_done s.events)
 
 -- the input is a schedule, and this text is the report of its run
 abbrev pub Reports : List ℕ → List ℕ → Type 0
@@ -45,15 +40,16 @@ IsReportedPrefix input old new =
     (text : List ℕ) × IsWithinLimit input × Reports input text × AppendsPrefix old new text
 
 -- line n is the first that isn't in the grammar or, where all are, that of the first event that names a
--- server that is no member, or a message that wasn't sent
+-- server that is neither member nor spare, or a message that wasn't sent
 abbrev pub IsBadAt : List ℕ → ℕ → Type 0
 IsBadAt input n =
-    IsFirstBadLine input n ⊎ ((s : Schedule) × IsSchedule input s × IsLineOfFirstBad s.members s.events n)
+    IsFirstBadLine input n
+    ⊎ ((s : Schedule) × IsSchedule input s × IsLineOfFirstBad s.members s.spares s.events n)
 
 -- the input isn't too long, and is refused at this line
 abbrev pub IsRefusedAt : List ℕ → ℕ → Type 0
 IsRefusedAt input n = IsWithinLimit input × IsBadAt input n
 
--- the input is a schedule, each event of which names members, and messages that were sent
+-- the input is a schedule, each event of which names members or spares, and messages that were sent
 abbrev pub IsValid : List ℕ → Type 0
-IsValid input = (s : Schedule) × IsSchedule input s × ArePossible s.members s.events
+IsValid input = (s : Schedule) × IsSchedule input s × ArePossible s.members s.spares s.events

@@ -1,14 +1,16 @@
 //! From a schedule's bytes to the report of its run.
 ghost use Rattle.std.specs.Prelude.{◌≡◌, map, IfOk};
 ghost use Rattle.op_types.specs.Ranges.{MembersInRange};
+ghost use Rattle.op_runs.specs.Possible.{SparesInRange};
 ghost use Rattle.op_sched.specs.Failing.{IfBadLine};
 ghost use Rattle.op_sched.specs.Grammar.{AreInRange};
 ghost use Rattle.op_world.specs.Runs.{IsReportOfRun};
 ghost use Rattle.op_replay.specs.Replay.{IsLineOfFirstBad};
 ghost use Rattle.op_replay.specs.Called.{Reports, IsBadAt};
 
-use op_sched::{SchedFail, Summary, read, report};
-use op_types::{Event, Events, Members};
+use op_runs::{Event, Events, Summary};
+use op_sched::{SchedFail, read, report};
+use op_types::Members;
 use op_world::{RunFail, World};
 use std::alloc::{AllocError, Global};
 
@@ -23,17 +25,23 @@ fn lines_of(alloc: Global, events: &[Event]) -> Result<Vec<u64>, AllocError>
     Ok(lines)
 }
 
-/// Runs the events at these members. A refusal tells the line of the first event that can't come.
-fn run(alloc: Global, members: Members, events: Events) -> Result<Summary, SchedFail>
+/// Runs the events at these members and spares. A refusal tells the line of the first event that can't come.
+fn run(
+    alloc: Global,
+    members: Members,
+    spares: Members,
+    events: Events,
+) -> Result<Summary, SchedFail>
     requires members { MembersInRange members }
+    requires spares { SparesInRange members spares }
     requires range { AreInRange events }
-    ensures report { IfOk result (IsReportOfRun members events) }
-    ensures bad { IfBadLine result (IsLineOfFirstBad members events) }
+    ensures report { IfOk result (IsReportOfRun members spares events) }
+    ensures bad { IfBadLine result (IsLineOfFirstBad members spares events) }
 {
     let Ok(lines) = lines_of(alloc, events.as_slice()) else {
         return Err(SchedFail::NoMemory);
     };
-    match World::run(alloc, members, events) {
+    match World::run(alloc, members, spares, events) {
         Ok(summary) => Ok(summary),
         Err(RunFail::BadEvent { index }) => Err(SchedFail::BadLine {
             line: lines[index as usize],
@@ -49,6 +57,6 @@ pub fn replayed(alloc: Global, bytes: Vec<u8>) -> Result<Vec<u8>, SchedFail>
 {
     let schedule = read(alloc, &bytes)?;
     drop(bytes);
-    let summary = run(alloc, schedule.members, schedule.events)?;
+    let summary = run(alloc, schedule.members, schedule.spares, schedule.events)?;
     Ok(report(alloc, &summary)?)
 }

@@ -1,5 +1,5 @@
 -- What is done at a node, as the world has it.
-use Rattle.std.proofs.Common.{◌≡◌, ℕ, Bool, true, false, cond, eqb, List, [], ◌∷◌, ◌++◌, map, Option, Some, None, Result, Ok, Err, refl, sym, ap, subst, ◌∙◌}
+use Rattle.std.proofs.Common.{◌≡◌, ℕ, Bool, true, false, cond, eqb, List, [], ◌∷◌, ◌++◌, map, Option, Some, None, Result, Ok, Err, refl, sym, ap, subst, ◌∙◌, inl, inr}
 use Rattle.std.specs.Prelude.{IfOk}
 use Rattle.std.proofs.lemmas.List.{append-nil}
 use Rattle.op_types.specs.Changes.{durable_after}
@@ -7,10 +7,10 @@ use Rattle.op_types.specs.declared.answers.Outcome.{Outcome}
 use Rattle.op_types.specs.declared.answers.Reply.{Reply}
 use Rattle.op_types.specs.declared.changes.Change.{Change}
 use Rattle.op_types.specs.declared.durable.Durable.{Durable}
-use Rattle.op_types.specs.declared.events.Event.{Event}
+use Rattle.op_runs.specs.declared.events.Event.{Event}
 use Rattle.op_types.specs.declared.events.Input.{Input}
 use Rattle.op_types.specs.declared.messages.Msg.{Msg}
-use Rattle.op_types.specs.declared.summary.Line.{Line}
+use Rattle.op_runs.specs.declared.summary.Line.{Line}
 use Rattle.op_record.specs.Ranges.{BatchInRange}
 use Rattle.op_protocol.specs.State.{State, state_after}
 use Rattle.op_protocol.specs.Rows.{step_plan}
@@ -22,12 +22,10 @@ use Rattle.op_chain.specs.declared.given.Given.{Given}
 use Rattle.op_node.specs.Nodes.{NodeState as Inner, node_of, given_of, gives, stores, after_input, IsSoundNode, AdmitsInput}
 use Rattle.op_node.specs.declared.node.Node as nodes
 use Rattle.op_runs.specs.World.{World, Sent, Node, NodeStatus, Up, Down, Told, Doing, Steps, Stops, Opens, Tells, node_at, with_node, sent_by, outcome_lines, answer_line, told_lines, lines_of, done_event, world_by_status}
-use Rattle.op_bounds.proofs.Ballots.{member_ids}
 use Rattle.op_bounds.proofs.Steps.{steps_stay}
 use Rattle.op_types.specs.Ranges.{IsMember}
-use Rattle.op_bounds.specs.Messages.{InputInRange}
 use Rattle.op_world.specs.Deeds.{told_of, doing_of}
-use Rattle.op_world.specs.Worlds.{RunsAs, NodeDone, IsDoneAt, IsInRange, DoingInRange, AdmitsDoing}
+use Rattle.op_world.specs.Worlds.{RunsAs, NodeDone, IsDoneAt, CanBeDone, AdmitsDoing}
 use Rattle.op_world.specs.declared.deed.Doing as deed
 use Rattle.op_world.specs.declared.deed.Doing.TheVariants as variant
 use Rattle.op_world.specs.declared.deed.Told as said
@@ -57,6 +55,7 @@ world_same w x told here =
 nothing_done : (x : Node) (d : Doing) (line : ℕ) (status : NodeStatus) → x.status ≡ status → ((w : World) (e : Event) → world_by_status status d (done_event e) w x ≡ w) → NodeDone x d line x [] []
 nothing_done x d line status is idle = record {
   pid = refl;
+  stored = inr refl;
   world = λ w e at here. ap (λ (st : NodeStatus). world_by_status st d (done_event e) w x) is ∙ idle w e
       ∙ ap (λ (ls : List Line). let y : World = record { nodes = w.nodes; messages = w.messages; lines = ls } in y) (sym (append-nil w.lines)) ∙ world_same w x [] here;
 }
@@ -87,6 +86,7 @@ tells_something me line n t told kept are = record {
     shown,
     record {
       pid = refl;
+      stored = inr refl;
       world = λ w e at here. ap (λ (st : NodeStatus). world_by_status st (Tells t) (done_event e) w x) shown.1
           ∙ ap (λ (ls : List Line). let y : World = record { nodes = w.nodes; messages = w.messages; lines = w.lines ++ ls } in y)
           (ap (λ (k : ℕ). told_lines t k x.state x.state.durable.part) pid ∙ ap (λ (s : State). told_lines t me s s.durable.part) shown.0 ∙ sym are)
@@ -112,6 +112,7 @@ stopped me line n first second stored = record {
         (subst (λ (s : State). IsStored s.durable (seen_of first) (seen_of second)) (sym shown.0) stored, refl),
         record {
           pid = refl;
+          stored = inr refl;
           world = λ w e at here. ap (λ (st : NodeStatus). world_by_status st Stops (done_event e) w x) shown.1
               ∙ ap (λ (ms : List Sent). let z : World = record { nodes = with_node w.nodes y; messages = ms; lines = w.lines } in z) (sym (append-nil w.messages))
               ∙ ap (λ (ls : List Line). let z : World = record { nodes = with_node w.nodes y; messages = w.messages ++ []; lines = ls } in z) (sym (append-nil w.lines));
@@ -137,21 +138,21 @@ goes_on : (n : Inner) (x : Input) → n.failed ≡ None → after_input n x ≡ 
 goes_on n x up = ap (λ (f : Option ℕ). let m : Inner = record { me = n.me; state = n.state; failed = f } in after_input m x) up
 
 -- a step from an input in range stores what is in range
-admits_input : (members : List ℕ) (me : ℕ) (n : nodes.Node MemDisk) (i : Input) → IsInRange members me (node.Up n) → InputInRange (IsMember members) i → AdmitsInput n i
-admits_input members me n i k fit =
+admits_input : (me : ℕ) (n : nodes.Node MemDisk) (i : Input) → CanBeDone me (node.Up n) (Steps i) → AdmitsInput n i
+admits_input me n i k =
     let x = k.node in
     let m : Inner = node_of n in
     let is : m.me ≡ x.pid = k.kept.me ∙ sym k.here in
-    let member : IsMember members m.me = subst (IsMember members) (sym is) k.range.pid in
-    let plan = steps_stay (IsMember members) (member_ids members k.members_are) m.me member x.state k.range.state i fit in
+    let member : IsMember k.ids m.me = subst (IsMember k.ids) (sym is) k.range.pid in
+    let plan = steps_stay (IsMember k.ids) k.are_ids m.me member x.state k.range.state i k.doing in
     let planned : (step_plan m.me x.state i).batch ≡ stores m i = ap (λ (s : State). (step_plan m.me s i).batch) k.shown.0 ∙ sym (stores_planned m i k.kept.failed) in
     record { sound = k.kept.sound; range = subst BatchInRange planned plan.batch }
 
-pub admits : (members : List ℕ) (me : ℕ) (n : nodes.Node MemDisk) (d : Doing) → IsInRange members me (node.Up n) → DoingInRange members d → AdmitsDoing n d
-admits members me n (Steps x) k fit = admits_input members me n x k fit
-admits members me n Stops k fit = tt
-admits members me n Opens k fit = tt
-admits members me n (Tells t) k fit = tt
+pub admits : (me : ℕ) (n : nodes.Node MemDisk) (d : Doing) → CanBeDone me (node.Up n) d → AdmitsDoing n d
+admits me n (Steps x) k = admits_input me n x k
+admits me n Stops k = tt
+admits me n Opens k = tt
+admits me n (Tells t) k = tt
 
 -- a node that did a step runs on
 pub runs_on : (me : ℕ) (n m : nodes.Node MemDisk) (x : Input) → RunsAs me n → node_of m ≡ after_input (node_of n) x → IsSoundNode m
@@ -187,6 +188,7 @@ stepped me line n m i g told old gives_is is told_is runs = record {
         (state, shown.1),
         record {
           pid = refl;
+          stored = inl shown.1;
           world = λ w e at here.
               let world : List (ℕ × Msg) → List Line → World = λ sends ls. record { nodes = with_node w.nodes y; messages = w.messages ++ sent_by x.pid sends; lines = w.lines ++ ls } in
               let lines : lines_of e.line x.pid plan ≡ told =

@@ -1,20 +1,24 @@
 -- Lockstep rounds of the code's world.
-use Rattle.std.proofs.Common.{◌≡◌, ℕ, suc, ◌+◌, ◌<◌, Bool, List, [], ◌∷◌, ◌++◌, length, map, take, get_or, All, refl, sym, ap, ◌∙◌, subst, arith}
+use Rattle.std.proofs.Common.{◌≡◌, ℕ, suc, ◌+◌, ◌<◌, ◌^◌, Bool, List, [], ◌∷◌, ◌++◌, length, map, take, get_or, All, sym, ap, ◌∙◌, subst, arith}
 use Rattle.std.proofs.lemmas.List.{map-append, take_more}
-use Rattle.std.proofs.lemmas.List.Elements.{All-nil, All-cons, All-append, All-tail}
-use Rattle.op_types.specs.Ranges.{MembersInRange, WhatInRange}
-use Rattle.op_types.specs.declared.events.Event.{Event}
-use Rattle.op_types.specs.declared.summary.Summary.{Summary}
+use Rattle.std.proofs.lemmas.List.Elements.{All-nil, All-cons, All-append, All-head, All-tail}
+use Rattle.op_types.specs.Ranges.{IsMember, IsPid, MembersInRange}
+use Rattle.op_runs.specs.declared.events.Event.{Event}
+use Rattle.op_runs.specs.declared.events.What.TheVariants as what
+use Rattle.op_runs.specs.declared.summary.Summary.{Summary}
 use Rattle.op_gen.specs.Links.{Links, all_links}
-use Rattle.op_runs.specs.World.{World, Sent, first_world, all_done}
-use Rattle.op_runs.specs.Possible.{ArePossibleFrom}
-use Rattle.op_runs.specs.Summary.{world_summary, run_summary}
-use Rattle.op_lockstep.specs.Lockstep.{after_events, ticks, ballots, deliveries, is_linked_request, is_sent_reply, ticked, asking, asked, answering, after_round, lockstep, linked_world, links_drill}
+use Rattle.op_runs.specs.World.{World, Sent, all_done}
+use Rattle.op_runs.specs.Run.{Execution, first_execution}
+use Rattle.op_runs.specs.Possible.{ArePossibleFrom, WhatInRange, SparesInRange, proposals_in}
+use Rattle.op_runs.specs.Summary.{run_summary, summary_of}
+use Rattle.op_lockstep.specs.Lockstep.{event_of, after_events, ticks, ballots, deliveries, is_linked_request, is_sent_reply, ticked, asking, asked, answering, round, lockstep, first_rounds, linked_world, links_drill}
+use Rattle.op_lockstep.proofs.Drills.{drill_quiet}
 use Rattle.op_lockstep.proofs.Reached.{every_lockstep_reaches}
-use Rattle.op_world.specs.Drills.{IsReportOfDrill}
-use Rattle.op_world.specs.Worlds.{Parts, Shows}
-use Rattle.op_world.proofs.LockstepEvents.{ticks_possible, ballots_possible, deliveries_possible, one_more_round, round_parts, drilled, drill_parts, drill_possible}
-use Rattle.op_world.proofs.Runs.{report_of, summary-run}
+use Rattle.op_world.specs.Drills.{IsReportOfDrill, followed}
+use Rattle.op_world.specs.Worlds.{Parts, IsWorld, Shows}
+use Rattle.op_world.proofs.Bounds.{member_ids, members_known}
+use Rattle.op_world.proofs.LockstepEvents.{followed_append, followed_world, ticks_possible, ballots_possible, deliveries_possible, one_more_round, drill_possible, drill_proposes_nothing}
+use Rattle.op_world.proofs.Runs.{report_of}
 
 -- ---- lists of events
 
@@ -29,6 +33,10 @@ more_in_range es new e before here more =
     let P : Event → Type 0 = λ x. WhatInRange x.what in
     subst (λ (l : List Event). All P l) (sym more) (All-append P es (e ∷ []) before (All-cons P e [] here (All-nil P)))
 
+mapped_ids : (f : ℕ → Event) → ((p : ℕ) → IsPid p → WhatInRange (f p).what) → (ps : List ℕ) → All IsPid ps → All (λ e. WhatInRange e.what) (map f ps)
+mapped_ids f h [] each = All-nil (λ e. WhatInRange e.what)
+mapped_ids f h (p ∷ ps) each = All-cons (λ e. WhatInRange e.what) (f p) (map f ps) (h p (All-head IsPid p ps each)) (mapped_ids f h ps (All-tail IsPid p ps each))
+
 -- those behind the first
 pub rest_in_range : (left rest : List Event) (e : Event) → left ≡ e ∷ rest → All (λ x. WhatInRange x.what) left → All (λ x. WhatInRange x.what) rest
 rest_in_range left rest e first all =
@@ -37,79 +45,153 @@ rest_in_range left rest e first all =
 
 -- ---- events that can come
 
-pub ticks_follow : (ms ns : List ℕ) (x : World) (es : List Event) → es ≡ ticks ns → ns ≡ ms → ArePossibleFrom ms x es
-ticks_follow ms ns x es are same = subst (λ (l : List Event). ArePossibleFrom ms x l) (sym (are ∙ ap (λ (ps : List ℕ). ticks ps) same)) (ticks_possible ms x)
+-- the members are among the ids
+pub all_known : (w : Parts) → IsWorld w → (p : ℕ) → IsMember w.members p → IsMember w.ids p
+all_known w i p h = subst (λ (ids : List ℕ). IsMember ids p) (sym i.ids) (members_known w.members i.spares (i.range).first (i.range).others p h)
 
-pub ballots_follow : (ms ns : List ℕ) (x : World) (es : List Event) → es ≡ ballots ns → ns ≡ ms → ArePossibleFrom ms x es
-ballots_follow ms ns x es are same = subst (λ (l : List Event). ArePossibleFrom ms x l) (sym (are ∙ ap (λ (ps : List ℕ). ballots ps) same)) (ballots_possible ms x)
+pub ticks_follow : (w v : Parts) → IsWorld w → (x : World) (es : List Event) (ms : List ℕ) → es ≡ ticks ms → ms ≡ w.members → v.ids ≡ w.ids → ArePossibleFrom v.ids x es
+ticks_follow w v i x es ms are same ids =
+    subst (λ (ps : List ℕ). ArePossibleFrom ps x es) (sym ids) (subst (λ (l : List Event). ArePossibleFrom w.ids x l) (sym (are ∙ ap (λ (ps : List ℕ). ticks ps) same)) (ticks_possible w.ids w.members (all_known w i) x))
 
-pub deliveries_follow : (ms : List ℕ) (x : World) (es : List Event) (test : Sent → Bool) (since : ℕ) (messages : List Sent) → es ≡ deliveries test since messages → x.messages ≡ messages → ArePossibleFrom ms x es
-deliveries_follow ms x es test since messages are same =
-    subst (λ (l : List Event). ArePossibleFrom ms x l) (sym (are ∙ ap (λ (l : List Sent). deliveries test since l) (sym same))) (deliveries_possible ms test since x)
+pub ballots_follow : (w v : Parts) → IsWorld w → (x : World) (es : List Event) (ms : List ℕ) → es ≡ ballots ms → ms ≡ w.members → v.ids ≡ w.ids → ArePossibleFrom v.ids x es
+ballots_follow w v i x es ms are same ids =
+    subst (λ (ps : List ℕ). ArePossibleFrom ps x es) (sym ids) (subst (λ (l : List Event). ArePossibleFrom w.ids x l) (sym (are ∙ ap (λ (ps : List ℕ). ballots ps) same)) (ballots_possible w.ids w.members (all_known w i) x))
+
+pub deliveries_follow : (ids : List ℕ) (x : World) (es : List Event) (test : Sent → Bool) (since : ℕ) (messages : List Sent) → es ≡ deliveries test since messages → x.messages ≡ messages → ArePossibleFrom ids x es
+deliveries_follow ids x es test since messages are same =
+    subst (λ (l : List Event). ArePossibleFrom ids x l) (sym (are ∙ ap (λ (l : List Sent). deliveries test since l) (sym same))) (deliveries_possible ids test since x)
+
+-- ---- a round
+
+abbrev InRange : Event → Type 0
+InRange e = WhatInRange e.what
+
+module _ (old mid late : Parts) (links : Links) (ts qs rs : List Event) (ms : List ℕ) (n m : ℕ)
+    (ts_are : ts ≡ ticks ms) (same : ms ≡ old.members)
+    (qs_are : qs ≡ deliveries (is_linked_request links) n mid.messages) (n_is : n ≡ length old.messages)
+    (rs_are : rs ≡ deliveries is_sent_reply m late.messages) (m_is : m ≡ length mid.messages)
+    (h1 : (t : Execution) → Shows old t → Shows mid (followed t ts))
+    (h2 : (t : Execution) → Shows mid t → Shows late (followed t qs))
+    (t : Execution) (s : Shows old t) where
+  e1 : ts ≡ ticks old.members
+  e1 = ts_are ∙ ap (λ (ps : List ℕ). ticks ps) same
+
+  abbrev t1 : Execution
+  t1 = followed t (ticks old.members)
+
+  w1 : t1.world ≡ ticked old.members t.world
+  w1 = followed_world t (ticks old.members)
+
+  s1 : Shows mid t1
+  s1 = subst (λ (es : List Event). Shows mid (followed t es)) e1 (h1 t s)
+
+  e2 : qs ≡ asking old.members links t.world
+  e2 =
+      qs_are
+      ∙ ap (λ (k : ℕ). deliveries (is_linked_request links) k mid.messages) (n_is ∙ ap (λ (l : List Sent). length l) (sym s.messages))
+      ∙ ap (λ (l : List Sent). deliveries (is_linked_request links) (length t.world.messages) l) (sym s1.messages)
+      ∙ ap (λ (u : World). deliveries (is_linked_request links) (length t.world.messages) u.messages) w1
+
+  abbrev t2 : Execution
+  t2 = followed t1 (asking old.members links t.world)
+
+  w2 : t2.world ≡ asked old.members links t.world
+  w2 = followed_world t1 (asking old.members links t.world) ∙ ap (λ (u : World). after_events u (asking old.members links t.world)) w1
+
+  s2 : Shows late t2
+  s2 = subst (λ (es : List Event). Shows late (followed t1 es)) e2 (h2 t1 s1)
+
+  e3 : rs ≡ answering old.members links t.world
+  e3 =
+      rs_are
+      ∙ ap (λ (k : ℕ). deliveries is_sent_reply k late.messages) (m_is ∙ ap (λ (l : List Sent). length l) (sym s1.messages) ∙ ap (λ (u : World). length u.messages) w1)
+      ∙ ap (λ (l : List Sent). deliveries is_sent_reply (length (ticked old.members t.world).messages) l) (sym s2.messages)
+      ∙ ap (λ (u : World). deliveries is_sent_reply (length (ticked old.members t.world).messages) u.messages) w2
+
+  pub round_shown : (new : Parts) → ((u : Execution) → Shows late u → Shows new (followed u rs)) → Shows new (followed t (round old.members links t.world))
+  round_shown new h3 =
+      let asks : List Event = asking old.members links t.world in
+      let replies : List Event = answering old.members links t.world in
+      let parts : followed t (round old.members links t.world) ≡ followed t2 replies = followed_append t (ticks old.members ++ asks) replies ∙ ap (λ (u : Execution). followed u replies) (followed_append t (ticks old.members) asks) in
+      subst (λ (u : Execution). Shows new u) (sym parts) (subst (λ (es : List Event). Shows new (followed t2 es)) e3 (h3 t2 s2))
+
+  pub round_range : All InRange ts → All InRange qs → All InRange rs → All InRange (round old.members links t.world)
+  round_range a b c =
+      All-append InRange (ticks old.members ++ asking old.members links t.world) (answering old.members links t.world)
+      (All-append InRange (ticks old.members) (asking old.members links t.world) (subst (All InRange) e1 a) (subst (All InRange) e2 b)) (subst (All InRange) e3 c)
 
 -- ---- rounds
 
-pub round_shown : (old mid late new : Parts) (links : Links) (ts qs rs : List Event) (ms : List ℕ) (n m : ℕ)
-    → ts ≡ ticks ms → ms ≡ old.members
-    → qs ≡ deliveries (is_linked_request links) n mid.messages → n ≡ length old.messages
-    → rs ≡ deliveries is_sent_reply m late.messages → m ≡ length mid.messages
-    → ((x : World) → Shows old x → Shows mid (after_events x ts))
-    → ((x : World) → Shows mid x → Shows late (after_events x qs))
-    → ((x : World) → Shows late x → Shows new (after_events x rs))
-    → (x : World) → Shows old x → Shows new (after_round old.members links x)
-round_shown old mid late new links ts qs rs ms n m ts_are same qs_are n_is rs_are m_is h1 h2 h3 x s =
-    let t : World = ticked old.members x in
-    let a : World = asked old.members links x in
-    let e1 : ts ≡ ticks old.members = ts_are ∙ ap (λ (ps : List ℕ). ticks ps) same in
-    let s1 : Shows mid t = subst (λ (es : List Event). Shows mid (after_events x es)) e1 (h1 x s) in
-    let n_seen : n ≡ length x.messages = n_is ∙ ap (λ (l : List Sent). length l) (sym s.messages) in
-    let e2 : qs ≡ asking old.members links x =
-    qs_are ∙ ap (λ (k : ℕ). deliveries (is_linked_request links) k mid.messages) n_seen ∙ ap (λ (l : List Sent). deliveries (is_linked_request links) (length x.messages) l) (sym s1.messages) in
-    let s2 : Shows late a = subst (λ (es : List Event). Shows late (after_events t es)) e2 (h2 t s1) in
-    let m_seen : m ≡ length t.messages = m_is ∙ ap (λ (l : List Sent). length l) (sym s1.messages) in
-    let e3 : rs ≡ answering old.members links x =
-    rs_are ∙ ap (λ (k : ℕ). deliveries is_sent_reply k late.messages) m_seen ∙ ap (λ (l : List Sent). deliveries is_sent_reply (length t.messages) l) (sym s2.messages) in
-    subst (λ (u : World). Shows new u) (round_parts old.members links x) (subst (λ (es : List Event). Shows new (after_events a es)) e3 (h3 a s2))
+-- so many rounds from here on, in range
+pub record AreDone (ms : List ℕ) (links : Links) (k : ℕ) (t : Execution) (w : Parts) : Type 0 where
+  pub shows : Shows w (followed t (lockstep ms links k t.world))
+  pub range : All InRange (lockstep ms links k t.world)
 
--- no round yet
-pub no_rounds : (ms : List ℕ) (links : Links) (x : World) (w : Parts) → Shows w x → Shows w (after_events x (lockstep ms links 0 x))
+pub no_rounds : (ms : List ℕ) (links : Links) (t : Execution) (w : Parts) → Shows w t → AreDone ms links 0 t w
 unfolding lockstep
-no_rounds ms links x w s = s
+no_rounds ms links t w s = record { shows = s; range = All-nil InRange }
 
--- one round more
-pub more_rounds : (ms ns : List ℕ) (links : Links) (k : ℕ) (x : World) (w : Parts) → ns ≡ ms → Shows w (after_round ns links (after_events x (lockstep ms links k x))) → Shows w (after_events x (lockstep ms links (k + 1) x))
-more_rounds ms ns links k x w same s =
+pub more_rounds : (ms ns : List ℕ) (links : Links) (k : ℕ) (t : Execution) (w v : Parts) → ns ≡ ms → AreDone ms links k t w
+    → ((u : Execution) → Shows w u → Shows v (followed u (round ns links u.world))) → ((u : Execution) → Shows w u → All InRange (round ns links u.world)) → AreDone ms links (k + 1) t v
+more_rounds ms ns links k t w v same done shows range =
+    let before : List Event = lockstep ms links k t.world in
+    let u : Execution = followed t before in
+    let world : u.world ≡ after_events t.world before = followed_world t before in
     let next : suc k ≡ k + 1 = omega arith in
-    subst (λ (i : ℕ). Shows w (after_events x (lockstep ms links i x))) next
-    (subst (λ (u : World). Shows w u) (ap (λ (ps : List ℕ). after_round ps links (after_events x (lockstep ms links k x))) same ∙ sym (one_more_round ms links k x)) s)
+    let all : lockstep ms links (k + 1) t.world ≡ before ++ round ms links u.world =
+    ap (λ (i : ℕ). lockstep ms links i t.world) (sym next) ∙ one_more_round ms links k t.world ∙ ap (λ (x : World). before ++ round ms links x) (sym world) in
+    let last : round ns links u.world ≡ round ms links u.world = ap (λ (ps : List ℕ). round ps links u.world) same in
+    record {
+      shows = subst (λ (es : List Event). Shows v (followed t es)) (sym all)
+          (subst (λ (x : Execution). Shows v x) (sym (followed_append t before (round ms links u.world))) (subst (λ (es : List Event). Shows v (followed u es)) last (shows u done.shows)));
+      range = subst (All InRange) (sym all) (All-append InRange before (round ms links u.world) done.range (subst (All InRange) last (range u done.shows)));
+    }
 
 -- ---- a drill
 
 pub drill_report : (members : List ℕ) → MembersInRange members → (links all : Links) (rounds : ℕ) (new linked late told : Parts) (s : Summary)
-    → Shows new (first_world members) → new.members ≡ members → all ≡ all_links members
-    → ((x : World) → Shows new x → Shows linked (after_events x (lockstep new.members all 3 x))) → linked.members ≡ new.members
-    → ((x : World) → Shows linked x → Shows late (after_events x (lockstep linked.members links rounds x))) → late.members ≡ linked.members
-    → ((x : World) → Shows late x → Shows told (after_events (after_events x (ticks late.members)) (ballots late.members))) → told.members ≡ late.members
-    → ((x : World) → Shows told x → s ≡ world_summary told.members x)
+    → Shows new (first_execution members []) → new.members ≡ members → all ≡ all_links members
+    → ((t : Execution) → Shows new t → AreDone new.members all 3 t linked) → linked.members ≡ new.members
+    → ((t : Execution) → Shows linked t → AreDone linked.members links rounds t late) → late.members ≡ linked.members
+    → ((t : Execution) → Shows late t → Shows told (followed (followed t (ticks late.members)) (ballots late.members))) → told.members ≡ late.members
+    → ((t : Execution) → Shows told t → s ≡ summary_of told.members t)
     → IsReportOfDrill members links rounds s
+unfolding links_drill
 drill_report members range links all rounds new linked late told s s0 m0 all_is h1 m1 h2 m2 h3 m3 h4 =
-    let first : World = first_world members in
-    let middle : World = linked_world members in
-    let end : World = drilled members links rounds in
+    let t0 : Execution = first_execution members [] in
     let events : List Event = links_drill members links rounds in
     let at_linked : linked.members ≡ members = m1 ∙ m0 in
     let at_late : late.members ≡ members = m2 ∙ at_linked in
     let at_told : told.members ≡ members = m3 ∙ at_late in
-    let s1 : Shows linked middle =
-    subst (λ (ms : List ℕ). Shows linked (after_events first (lockstep ms (all_links members) 3 first))) m0
-    (subst (λ (l : Links). Shows linked (after_events first (lockstep new.members l 3 first))) all_is (h1 first s0)) in
-    let s2 : Shows late end = subst (λ (ms : List ℕ). Shows late (after_events middle (lockstep ms links rounds middle))) at_linked (h2 middle s1) in
-    let s3 : Shows told (after_events (ticked members end) (ballots members)) =
-    subst (λ (ms : List ℕ). Shows told (after_events (after_events end (ticks ms)) (ballots ms))) at_late (h3 end s2) in
-    let s4 : Shows told (after_events first events) = subst (λ (u : World). Shows told u) (drill_parts members links rounds) s3 in
-    let left : s ≡ run_summary members events =
-    h4 (after_events first events) s4 ∙ ap (λ (ms : List ℕ). world_summary ms (after_events first events)) at_told ∙ summary-run members range events (after_events first events) refl in
+    let fs : List Event = first_rounds members in
+    let d1 : AreDone members (all_links members) 3 t0 linked =
+    subst (λ (ms : List ℕ). AreDone ms (all_links members) 3 t0 linked) m0 (subst (λ (l : Links). AreDone new.members l 3 t0 linked) all_is (h1 t0 s0)) in
+    let t1 : Execution = followed t0 fs in
+    let w1 : t1.world ≡ linked_world members = followed_world t0 fs in
+    let ls : List Event = lockstep members links rounds (linked_world members) in
+    let d2 : AreDone members links rounds t1 late = subst (λ (ms : List ℕ). AreDone ms links rounds t1 late) at_linked (h2 t1 d1.shows) in
+    let t2 : Execution = followed t1 ls in
+    let ls_are : lockstep members links rounds t1.world ≡ ls = ap (λ (x : World). lockstep members links rounds x) w1 in
+    let s2 : Shows late t2 = subst (λ (es : List Event). Shows late (followed t1 es)) ls_are d2.shows in
+    let s3 : Shows told (followed (followed t2 (ticks members)) (ballots members)) = subst (λ (ms : List ℕ). Shows told (followed (followed t2 (ticks ms)) (ballots ms))) at_late (h3 t2 s2) in
+    let parts : followed t0 events ≡ followed (followed t2 (ticks members)) (ballots members) =
+    followed_append t0 (fs ++ ls ++ ticks members) (ballots members)
+    ∙ ap (λ (u : Execution). followed u (ballots members)) (followed_append t0 (fs ++ ls) (ticks members) ∙ ap (λ (u : Execution). followed u (ticks members)) (followed_append t0 fs ls)) in
+    let left : s ≡ run_summary members [] events =
+    h4 (followed t0 events) (subst (λ (u : Execution). Shows told u) (sym parts) s3) ∙ ap (λ (ms : List ℕ). summary_of ms (followed t0 events)) at_told in
+    let ids = member_ids members range in
+    let each : All InRange events =
+    All-append InRange (fs ++ ls ++ ticks members) (ballots members)
+    (All-append InRange (fs ++ ls) (ticks members) (All-append InRange fs ls d1.range (subst (All InRange) ls_are d2.range)) (ids_mapped (λ p. event_of (what.Tick p)) members ids (λ p k. k)))
+    (ids_mapped (λ p. event_of (what.Ballots p)) members ids (λ p k. k)) in
+    let few : proposals_in (all_done events) < 2 ^ 64 = omega (arith, drill_proposes_nothing members links rounds) in
     record {
-      run = report_of members range events s (drill_possible members links rounds) left;
-      reaches = every_lockstep_reaches members range (all_done events);
+      run = report_of members [] range none_beside events s (drill_possible members links rounds) each few left;
+      reaches = every_lockstep_reaches members [] range (all_done events) (drill_quiet members links rounds);
     }
+  where
+    ids_mapped : (f : ℕ → Event) (ps : List ℕ) → All IsPid ps → ((p : ℕ) → IsPid p → InRange (f p)) → All InRange (map f ps)
+    ids_mapped f ps each h = mapped_ids f h ps each
+
+    none_beside : SparesInRange members []
+    none_beside = record { few = omega arith; rising = tt; apart = λ q h. absurd (cc) }

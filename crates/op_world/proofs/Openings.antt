@@ -1,13 +1,15 @@
 -- What an opening finds on disks, and what it makes of the node.
-use Rattle.std.proofs.Common.{◌≡◌, ℕ, Bool, true, false, nat_eq, List, [], ◌++◌, Option, Some, None, refl, sym, ap, subst, ◌∙◌, arith}
+use Rattle.std.proofs.Common.{◌≡◌, ℕ, Bool, true, false, nat_eq, List, [], ◌++◌, Option, Some, None, IfSome, refl, sym, ap, subst, ◌∙◌, arith, inl}
 use Rattle.std.specs.Set.{is_member}
-use Rattle.std.proofs.lemmas.Bool.{cond-true}
+use Rattle.std.proofs.lemmas.Bool.{cond-true, cond-false}
 use Rattle.std.proofs.lemmas.List.{append-nil}
 use Rattle.op_types.specs.Ranges.{IsMember}
 use Rattle.op_types.specs.declared.durable.Durable.{Durable}
 use Rattle.op_types.specs.declared.durable.Part.{Part}
+use Rattle.op_types.specs.declared.durable.Joining.{Joining}
+use Rattle.op_types.specs.Changes.{empty_durable}
 use Rattle.op_types.specs.declared.messages.Msg.{Msg}
-use Rattle.op_types.specs.declared.summary.Line.{Line}
+use Rattle.op_runs.specs.declared.summary.Line.{Line}
 use Rattle.op_memory.specs.MemDisks.{seen_of, known_disk}
 use Rattle.op_memory.specs.declared.disk.MemDisk.{MemDisk}
 use Rattle.op_protocol.specs.State.{State}
@@ -18,13 +20,13 @@ use Rattle.op_store.specs.Openings.{IsOpenedAs}
 use Rattle.op_store.proofs.UniquePairs.{one_stored, nothing_or_stored}
 use Rattle.op_chain.specs.Chains.{first_state}
 use Rattle.op_node.specs.Nodes.{NodeState as Inner, node_of}
-use Rattle.op_node.specs.Openings.{Opens, part_for, durable_for, fresh_for, opening_state, opening_sends}
+use Rattle.op_node.specs.Openings.{Opens, part_for, joining_for, durable_for, fresh_for, opening_state, opening_sends}
 use Rattle.op_node.specs.declared.node.Node as nodes
-use Rattle.op_runs.specs.World.{World, Node, NodeStatus, Up, with_node, sent_by, done_event, world_by_status, first_durable, first_node}
+use Rattle.op_runs.specs.World.{World, Node, NodeStatus, Up, Doing, with_node, sent_by, done_event, world_by_status, first_durable, first_node}
 use Rattle.op_runs.specs.World as runs
-use Rattle.op_bounds.specs.Laws.{IsOfMembers}
+use Rattle.op_bounds.specs.States.{IsNamed}
 use Rattle.op_world.specs.Deeds.{doing_of}
-use Rattle.op_world.specs.Worlds.{RunsAs, IsDoneAt, IsInRange}
+use Rattle.op_world.specs.Worlds.{RunsAs, IsDoneAt, CanBeDone}
 use Rattle.op_world.specs.declared.deed.Doing as deed
 use Rattle.op_world.specs.declared.deed.Doing.TheVariants as variant
 use Rattle.op_world.specs.declared.node_state.NodeState.TheVariants as node
@@ -49,23 +51,38 @@ found_fresh fresh d x y false one two found =
 
 -- ---- what a server takes of it
 
-part_kept : (members : List ℕ) (me : ℕ) (p : Part) → IsMember members me → p.members ≡ members → part_for me (Some p) ≡ Some p
-part_kept members me p member of = cond-true (is_member nat_eq p.members me) (Some p) None (ap (λ (ms : List ℕ). is_member nat_eq ms me) of ∙ member)
+part_taken : (me : ℕ) (o : Option Part) → IfSome o (λ p. IsMember p.members me) → part_for me o ≡ o
+part_taken me None named = refl
+part_taken me (Some p) named = cond-true (is_member nat_eq p.members me) (Some p) None named
 
-part_taken : (members : List ℕ) (me : ℕ) (d : Durable) (o : Option Part) → d.part ≡ o → IsMember members me → IsOfMembers members d → part_for me o ≡ o
-part_taken members me d None is member of = refl
-part_taken members me d (Some p) is member of = part_kept members me p member (let same : IsOfMembers members (record { part = Some p; closed = d.closed }) = subst (λ (x : Option Part). IsOfMembers members (record { part = x; closed = d.closed })) is of in same)
+joining_taken : (me : ℕ) (o : Option Joining) → IfSome o (λ j. IsMember j.members me) → joining_for me o ≡ o
+joining_taken me None named = refl
+joining_taken me (Some j) named = cond-true (is_member nat_eq j.members me) (Some j) None named
 
--- all of what is of its members
-taken : (members : List ℕ) (me : ℕ) (d : Durable) → IsMember members me → IsOfMembers members d → durable_for me d ≡ d
-taken members me d member of = ap (λ (o : Option Part). let e : Durable = record { part = o; closed = d.closed } in e) (part_taken members me d d.part refl member of)
+-- all of what names it
+taken : (me : ℕ) (d : Durable) → IsNamed me d → durable_for me d ≡ d
+taken me d named =
+    ap (λ (o : Option Part). let e : Durable = record { part = o; closed = d.closed; joining = joining_for me d.joining } in e) (part_taken me d.part named.part)
+    ∙ ap (λ (o : Option Joining). let e : Durable = record { part = d.part; closed = d.closed; joining = o } in e) (joining_taken me d.joining named.joining)
+
+-- what it begins with
+fresh_taken : (me : ℕ) (members : List ℕ) → durable_for me (fresh_for me members) ≡ fresh_for me members
+fresh_taken me members = by (is_member nat_eq members me) refl
+  where
+    by : (b : Bool) → is_member nat_eq members me ≡ b → durable_for me (fresh_for me members) ≡ fresh_for me members
+    by true h =
+        let is : fresh_for me members ≡ first_durable members = cond-true (is_member nat_eq members me) (first_durable members) empty_durable h in
+        ap (λ (d : Durable). durable_for me d) is ∙ taken me (first_durable members) (record { part = h; joining = tt }) ∙ sym is
+    by false h =
+        let is : fresh_for me members ≡ empty_durable = cond-false (is_member nat_eq members me) (first_durable members) empty_durable h in
+        ap (λ (d : Durable). durable_for me d) is ∙ sym is
 
 abbrev runs_in : ℕ → State → Inner
 runs_in me s = record { me = me; state = s; failed = None }
 
 -- ---- a node that is opened again
 
-module _ (members : List ℕ) (me : ℕ) (first second : MemDisk) (n : nodes.Node MemDisk) (sends : List (ℕ × Msg)) (k : IsInRange members me (node.Down first second))
+module _ (members : List ℕ) (me : ℕ) (first second : MemDisk) (n : nodes.Node MemDisk) (sends : List (ℕ × Msg)) (d : Doing) (k : CanBeDone me (node.Down first second) d)
     (o : Opens known_disk me members (record { first = known_disk first; second = known_disk second }) n sends) where
   found : IsOpenedAs (fresh_for me members) (seen_of first) (seen_of second) o.durable o.is_new
   found = o.opened.found (tt, tt)
@@ -76,13 +93,13 @@ module _ (members : List ℕ) (me : ℕ) (first second : MemDisk) (n : nodes.Nod
   takes : durable_for me o.durable ≡ o.durable
   takes =
       let same : o.durable ≡ k.node.state.durable = found_same (fresh_for me members) k.node.state.durable o.durable (seen_of first) (seen_of second) o.is_new found k.shown.0 in
-      taken members me o.durable (subst (IsMember members) k.here k.range.pid) (subst (IsOfMembers members) (sym same) k.range.of)
+      taken me o.durable (subst (λ (p : ℕ). IsNamed p o.durable) k.here (subst (λ (e : Durable). IsNamed k.node.pid e) (sym same) k.range.named))
 
   state_is : node_of n ≡ runs_in me (state_after_restart me o.durable)
   state_is = o.node ∙ ap (λ (b : Bool). runs_in me (opening_state me b o.durable)) is_old ∙ ap (λ (d : Durable). runs_in me (state_after_restart me d)) takes
 
-  sends_are : sends ≡ sends_after_restart me o.durable.part
-  sends_are = o.sends_are ∙ ap (λ (b : Bool). opening_sends me b o.durable) is_old ∙ ap (λ (d : Durable). sends_after_restart me d.part) takes
+  sends_are : sends ≡ sends_after_restart me o.durable
+  sends_are = o.sends_are ∙ ap (λ (b : Bool). opening_sends me b o.durable) is_old ∙ ap (λ (e : Durable). sends_after_restart me e) takes
 
   runs_again : RunsAs me n
   runs_again = record {
@@ -99,12 +116,13 @@ module _ (members : List ℕ) (me : ℕ) (first second : MemDisk) (n : nodes.Nod
         let y : Node = record x { state = state_after_restart x.pid x.state.durable; status = Up } in
         let is : y.state ≡ (node_of n).state =
         ap (λ (p : ℕ). state_after_restart p x.state.durable) pid ∙ ap (λ (d : Durable). state_after_restart me d) (sym same) ∙ ap (λ (i : Inner). i.state) (sym state_is) in
-        let sends_be : sends_after_restart x.pid x.state.durable.part ≡ sends =
-        ap (λ (p : ℕ). sends_after_restart p x.state.durable.part) pid ∙ ap (λ (d : Durable). sends_after_restart me d.part) (sym same) ∙ sym sends_are in (
+        let sends_be : sends_after_restart x.pid x.state.durable ≡ sends =
+        ap (λ (p : ℕ). sends_after_restart p x.state.durable) pid ∙ ap (λ (e : Durable). sends_after_restart me e) (sym same) ∙ sym sends_are in (
           y,
           (is, refl),
           record {
             pid = refl;
+            stored = inl refl;
             world = λ w e at here.
                 let world : List (ℕ × Msg) → List Line → World = λ ss ls. record { nodes = with_node w.nodes y; messages = w.messages ++ sent_by x.pid ss; lines = ls } in
                 ap (λ (st : NodeStatus). world_by_status st runs.Opens (done_event e) w x) shown.1
@@ -115,30 +133,27 @@ module _ (members : List ℕ) (me : ℕ) (first second : MemDisk) (n : nodes.Nod
     kept = runs_again;
   }
 
-  pub opens_again : (line : ℕ) (told : List Line) (d : deed.Doing) → told ≡ [] → d ≡ variant.Opens → IsDoneAt me (node.Down first second) (doing_of d) line (node.Up n) sends told
-  opens_again line told d none is = subst (λ (y : deed.Doing). IsDoneAt me (node.Down first second) (doing_of y) line (node.Up n) sends told) (sym is) (opened_again line told none)
+  pub opens_again : (line : ℕ) (told : List Line) (did : deed.Doing) → told ≡ [] → did ≡ variant.Opens → IsDoneAt me (node.Down first second) (doing_of did) line (node.Up n) sends told
+  opens_again line told did none is = subst (λ (y : deed.Doing). IsDoneAt me (node.Down first second) (doing_of y) line (node.Up n) sends told) (sym is) (opened_again line told none)
 
 -- ---- a node at its first start
 
-module _ (members : List ℕ) (me : ℕ) (first second : MemDisk) (n : nodes.Node MemDisk) (sends : List (ℕ × Msg)) (member : IsMember members me) (empty : seen_of first ≡ []) (empty_second : seen_of second ≡ [])
+module _ (members : List ℕ) (me : ℕ) (first second : MemDisk) (n : nodes.Node MemDisk) (sends : List (ℕ × Msg)) (empty : seen_of first ≡ []) (empty_second : seen_of second ≡ [])
     (o : Opens known_disk me members (record { first = known_disk first; second = known_disk second }) n sends) where
   is_fresh : (o.is_new ≡ true) × (o.durable ≡ fresh_for me members)
   is_fresh = found_fresh (fresh_for me members) o.durable (seen_of first) (seen_of second) o.is_new empty empty_second (o.opened.found (tt, tt))
-
-  begins : o.durable ≡ first_durable members
-  begins = is_fresh.1 ∙ cond-true (is_member nat_eq members me) (first_durable members) _ member
 
   pub first_is : node_of n ≡ runs_in me (first_node members me).state
   first_is =
       o.node
       ∙ ap (λ (b : Bool). runs_in me (opening_state me b o.durable)) is_fresh.0
-      ∙ ap (λ (d : Durable). runs_in me (first_state me (durable_for me d))) begins
-      ∙ ap (λ (d : Durable). runs_in me (first_state me d)) (taken members me (first_durable members) member refl)
+      ∙ ap (λ (d : Durable). runs_in me (first_state me (durable_for me d))) is_fresh.1
+      ∙ ap (λ (d : Durable). runs_in me (first_state me d)) (fresh_taken me members)
 
   pub first_runs : RunsAs me n
   first_runs = record {
     me = ap (λ (i : Inner). i.me) first_is;
     failed = ap (λ (i : Inner). i.failed) first_is;
     sound = o.sound;
-    stored = subst (λ (d : Durable). Represents known_disk d n.store) (begins ∙ ap (λ (i : Inner). i.state.durable) (sym first_is)) (o.opened.stored (tt, tt));
+    stored = subst (λ (d : Durable). Represents known_disk d n.store) (is_fresh.1 ∙ ap (λ (i : Inner). i.state.durable) (sym first_is)) (o.opened.stored (tt, tt));
   }

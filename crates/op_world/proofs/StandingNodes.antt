@@ -1,79 +1,101 @@
 -- Where the nodes stand: what has been gathered of some of them, and what is left to gather.
-use Rattle.std.proofs.Common.{◌≡◌, ℕ, List, [], ◌∷◌, ◌++◌, map, None, Result, Ok, Err, All, sym, ap, subst, ◌∙◌, append_assoc}
+use Rattle.std.proofs.Common.{◌≡◌, ℕ, List, [], ◌∷◌, ◌++◌, length, map, max, Option, Some, None, IfSome, Result, Ok, Err, All, refl, sym, ap, subst, ◌∙◌, append_assoc}
 use Rattle.std.proofs.lemmas.List.{append-nil}
 use Rattle.std.proofs.lemmas.List.Elements.{All-nil, All-cons, All-head, All-tail}
 use Rattle.std.specs.Prelude.{fold, OnOk}
+use Rattle.op_types.specs.Ranges.{IsMember}
+use Rattle.op_types.specs.Rooms.{no_needs, with_room, part_option_with_room, joining_option_with_room}
+use Rattle.op_types.specs.declared.durable.Closed.{Closed}
 use Rattle.op_types.specs.declared.durable.Durable.{Durable}
+use Rattle.op_types.specs.declared.durable.Joining.{Joining}
+use Rattle.op_types.specs.declared.durable.Part.{Part}
+use Rattle.op_memory.specs.MemDisks.{seen_of}
+use Rattle.op_memory.specs.declared.disk.MemDisk.{MemDisk}
+use Rattle.op_store.specs.Stored.{IsStored}
+use Rattle.op_node.specs.Nodes.{node_of}
+use Rattle.op_node.specs.declared.node.Node as nodes
+use Rattle.op_record.specs.Ranges.{ClosedInRange}
+use Rattle.op_protocol.specs.Configurations.{latest_of, latest_in}
+use Rattle.op_protocol.specs.State.{State}
+use Rattle.op_runs.specs.declared.summary.NodeLine.{NodeLine}
+use Rattle.op_runs.specs.declared.summary.Running.{Running}
+use Rattle.op_runs.specs.declared.summary.Running.TheVariants as running
 use Rattle.op_types.specs.declared.log.Entry.{Entry}
-use Rattle.op_types.specs.declared.summary.NodeLine.{NodeLine}
-use Rattle.op_types.specs.declared.summary.Running.{Running}
-use Rattle.op_types.specs.declared.summary.Running.TheVariants as running
-use Rattle.op_runs.specs.World.{World, Node, first_world, run_of}
-use Rattle.op_runs.specs.Summary.{longer, decided_log, longest_decided, node_line, running_of}
+use Rattle.op_runs.specs.World.{World, Node, Sent, NodeStatus, Up, Down}
+use Rattle.op_runs.specs.Run.{Execution}
+use Rattle.op_runs.specs.declared.summary.Line.{Line}
+use Rattle.op_runs.specs.declared.summary.Listed.{Listed}
+use Rattle.op_runs.specs.declared.summary.Summary.{Summary}
+use Rattle.op_runs.specs.Summary.{greatest_conf, joining_conf, listed_from, listed_of, node_line, running_of, stands_at, summary_of}
 use Rattle.op_bounds.specs.Laws.{NodeInRange}
-use Rattle.op_world.specs.Worlds.{Parts, IsWorld, ShowsNode, ShowNodes, line_of}
+use Rattle.op_world.specs.Worlds.{Parts, IsWorld, IsShown, Shows, ShowsNode, ShowNodes, line_of}
+use Rattle.op_world.specs.Ledgers.{list_at}
+use Rattle.std.proofs.Math.Path.{fun_ext}
+use Rattle.op_world.specs.declared.node_state.NodeState.{NodeState}
+use Rattle.op_world.specs.declared.node_state.NodeState.TheVariants as node
 use Rattle.op_world.specs.declared.node_state.WorldNode.{WorldNode}
-use Rattle.op_world.proofs.Deeds.{in_range}
+use Rattle.op_world.proofs.Deeds.{run_kept, in_range}
 
--- no configuration is closed yet
+-- its closed list is in range, if it has one
 abbrev pub IsOpen : Node → Type 0
-IsOpen x = x.state.durable.closed ≡ None
+IsOpen x = IfSome x.state.durable.closed ClosedInRange
 
--- the nodes show some in which none is closed
+-- the nodes show some of which that holds
 pub record AreOpen (nodes : List WorldNode) : Type 0 where
   pub xs : List Node
   pub shown : ShowNodes nodes xs
   pub each : All IsOpen xs
 
-all_open : (members : List ℕ) (xs : List Node) → All (NodeInRange members) xs → All IsOpen xs
-all_open members [] each = All-nil IsOpen
-all_open members (x ∷ xs) each = All-cons IsOpen x xs (All-head (NodeInRange members) x xs each).state.durable.range.closed (all_open members xs (All-tail (NodeInRange members) x xs each))
+all_open : (ids : List ℕ) (xs : List Node) → All (NodeInRange (IsMember ids)) xs → All IsOpen xs
+all_open ids [] each = All-nil IsOpen
+all_open ids (x ∷ xs) each =
+    All-cons IsOpen x xs ((((All-head (NodeInRange (IsMember ids)) x xs each).state).durable).range).closed (all_open ids xs (All-tail (NodeInRange (IsMember ids)) x xs each))
 
 -- so it is in a world
 pub world_open : (w : Parts) → IsWorld w → (xs : List Node) × ShowNodes w.nodes xs × All IsOpen xs
-world_open w i = let x : World = run_of (first_world w.members) i.happenings in (x.nodes, i.shows.nodes, all_open w.members x.nodes (in_range w i).nodes)
+world_open w i = let x : World = (run_kept w i).world in (x.nodes, i.shows.nodes, all_open w.ids x.nodes (in_range w i).nodes)
 
 -- ---- one after the other
 
--- the longest list of these and those that some of the nodes have decided
-abbrev pub longest_from : List Entry → List Node → List Entry
-longest_from longest xs = fold (λ es x. longer es (decided_log x.state.durable.part)) longest xs
+-- the greatest of this configuration and those that some of the nodes know
+abbrev pub greatest_from : ℕ → List Node → ℕ
+greatest_from latest xs = fold (λ c n. max c (latest_of n.state.durable)) latest xs
 
 -- the nodes that are left, shown, make the rest of the report
-pub record Rest (left : List WorldNode) (longest : List Entry) (lines : List NodeLine) (xs : List Node) : Type 0 where
+pub record Rest (left : List WorldNode) (latest : ℕ) (lines : List NodeLine) (xs : List Node) : Type 0 where
   pub rest : List Node
   pub shown : ShowNodes left rest
-  pub longest_is : longest_from longest rest ≡ longest_decided xs
+  pub latest_is : greatest_from latest rest ≡ greatest_conf xs
   pub lines_are : lines ++ map node_line rest ≡ map node_line xs
 
 -- so far this was gathered of the nodes, and these are left
-pub record Gathers (nodes left : List WorldNode) (longest : List Entry) (lines : List NodeLine) : Type 0 where
+pub record Gathers (nodes left : List WorldNode) (latest : ℕ) (lines : List NodeLine) : Type 0 where
   pub open_ones : AreOpen left
-  pub whole : (xs : List Node) → ShowNodes nodes xs → Rest left longest lines xs
+  pub whole : (xs : List Node) → ShowNodes nodes xs → Rest left latest lines xs
 
-pub gathers_first : (nodes left : List WorldNode) (longest : List Entry) (lines : List NodeLine) → nodes ≡ left → longest ≡ [] → lines ≡ [] → (xs : List Node) × ShowNodes nodes xs × All IsOpen xs → Gathers nodes left longest lines
-gathers_first nodes left longest lines same none no_lines o = record {
+pub gathers_first : (nodes left : List WorldNode) (latest : ℕ) (lines : List NodeLine) → nodes ≡ left → latest ≡ 0 → lines ≡ [] → (xs : List Node) × ShowNodes nodes xs × All IsOpen xs → Gathers nodes left latest lines
+gathers_first nodes left latest lines same none no_lines o = record {
   open_ones = subst AreOpen same (record { xs = o.0; shown = o.1; each = o.2 });
   whole = λ xs shown. record {
     rest = xs;
     shown = subst (λ (ns : List WorldNode). ShowNodes ns xs) same shown;
-    longest_is = ap (λ (es : List Entry). longest_from es xs) none;
+    latest_is = ap (λ (c : ℕ). greatest_from c xs) none;
     lines_are = ap (λ (ls : List NodeLine). ls ++ map node_line xs) no_lines;
   };
 }
 
 -- the node was added
-pub record Adds (n : WorldNode) (longest longest' : List Entry) (lines lines' : List NodeLine) : Type 0 where
-  pub longest_is : (x : Node) → ShowsNode n x → longest' ≡ longer longest (decided_log x.state.durable.part)
+pub record Adds (n : WorldNode) (latest latest' : ℕ) (lines lines' : List NodeLine) : Type 0 where
+  pub latest_is : (x : Node) → ShowsNode n x → latest' ≡ max latest (latest_of x.state.durable)
   pub lines_are : (x : Node) → ShowsNode n x → lines' ≡ lines ++ node_line x ∷ []
 
-rest_next : (n : WorldNode) (more : List WorldNode) (longest longest' : List Entry) (lines lines' : List NodeLine) (xs rest : List Node) → ShowNodes (n ∷ more) rest
-    → longest_from longest rest ≡ longest_decided xs → lines ++ map node_line rest ≡ map node_line xs → Adds n longest longest' lines lines' → Rest more longest' lines' xs
-rest_next n more longest longest' lines lines' xs [] shown is are adds = absurd shown
-rest_next n more longest longest' lines lines' xs (x ∷ rest) shown is are adds = record {
+rest_next : (n : WorldNode) (more : List WorldNode) (latest latest' : ℕ) (lines lines' : List NodeLine) (xs rest : List Node) → ShowNodes (n ∷ more) rest
+    → greatest_from latest rest ≡ greatest_conf xs → lines ++ map node_line rest ≡ map node_line xs → Adds n latest latest' lines lines' → Rest more latest' lines' xs
+rest_next n more latest latest' lines lines' xs [] shown is are adds = absurd shown
+rest_next n more latest latest' lines lines' xs (x ∷ rest) shown is are adds = record {
   rest = rest;
   shown = shown.1;
-  longest_is = ap (λ (es : List Entry). longest_from es rest) (adds.longest_is x shown.0) ∙ is;
+  latest_is = ap (λ (c : ℕ). greatest_from c rest) (adds.latest_is x shown.0) ∙ is;
   lines_are = ap (λ (ls : List NodeLine). ls ++ map node_line rest) (adds.lines_are x shown.0) ∙ append_assoc lines (node_line x ∷ []) (map node_line rest) ∙ are;
 }
 
@@ -86,46 +108,116 @@ open_head n more [] shown each = absurd shown
 open_head n more (x ∷ xs) shown each = (x, shown.0, All-head IsOpen x xs each)
 
 -- one node more
-pub gathers_next : (nodes left more : List WorldNode) (n : WorldNode) (longest longest' : List Entry) (lines lines' : List NodeLine) → Gathers nodes left longest lines → left ≡ n ∷ more
-    → Adds n longest longest' lines lines' → Gathers nodes more longest' lines'
-gathers_next nodes left more n longest longest' lines lines' g is adds =
+pub gathers_next : (nodes left more : List WorldNode) (n : WorldNode) (latest latest' : ℕ) (lines lines' : List NodeLine) → Gathers nodes left latest lines → left ≡ n ∷ more
+    → Adds n latest latest' lines lines' → Gathers nodes more latest' lines'
+gathers_next nodes left more n latest latest' lines lines' g is adds =
     let o = subst AreOpen is g.open_ones in
     record {
       open_ones = open_tail n more o.xs o.shown o.each;
       whole = λ xs shown.
           let r = g.whole xs shown in
-          rest_next n more longest longest' lines lines' xs r.rest (subst (λ (ns : List WorldNode). ShowNodes ns r.rest) is r.shown) r.longest_is r.lines_are adds;
+          rest_next n more latest latest' lines lines' xs r.rest (subst (λ (ns : List WorldNode). ShowNodes ns r.rest) is r.shown) r.latest_is r.lines_are adds;
     }
 
 -- the one that is taken
-pub next_open : (nodes left more : List WorldNode) (n : WorldNode) (longest : List Entry) (lines : List NodeLine) → Gathers nodes left longest lines → left ≡ n ∷ more → (x : Node) × ShowsNode n x × IsOpen x
-next_open nodes left more n longest lines g is = let o = subst AreOpen is g.open_ones in open_head n more o.xs o.shown o.each
+pub next_open : (nodes left more : List WorldNode) (n : WorldNode) (latest : ℕ) (lines : List NodeLine) → Gathers nodes left latest lines → left ≡ n ∷ more → (x : Node) × ShowsNode n x × IsOpen x
+next_open nodes left more n latest lines g is = let o = subst AreOpen is g.open_ones in open_head n more o.xs o.shown o.each
 
-all_gathered : (rest xs : List Node) (longest : List Entry) (lines : List NodeLine) → ShowNodes [] rest → longest_from longest rest ≡ longest_decided xs → lines ++ map node_line rest ≡ map node_line xs
-    → (longest ≡ longest_decided xs) × (lines ≡ map node_line xs)
-all_gathered [] xs longest lines shown is are = (is, sym (append-nil lines) ∙ are)
-all_gathered (x ∷ rest) xs longest lines shown is are = absurd shown
+all_gathered : (rest xs : List Node) (latest : ℕ) (lines : List NodeLine) → ShowNodes [] rest → greatest_from latest rest ≡ greatest_conf xs → lines ++ map node_line rest ≡ map node_line xs
+    → (latest ≡ greatest_conf xs) × (lines ≡ map node_line xs)
+all_gathered [] xs latest lines shown is are = (is, sym (append-nil lines) ∙ are)
+all_gathered (x ∷ rest) xs latest lines shown is are = absurd shown
 
 -- none is left
-pub gathers_all : (nodes left : List WorldNode) (longest : List Entry) (lines : List NodeLine) → Gathers nodes left longest lines → left ≡ [] → (xs : List Node) → ShowNodes nodes xs → (longest ≡ longest_decided xs) × (lines ≡ map node_line xs)
-gathers_all nodes left longest lines g none xs shown =
+pub gathers_all : (nodes left : List WorldNode) (latest : ℕ) (lines : List NodeLine) → Gathers nodes left latest lines → left ≡ [] → (xs : List Node) → ShowNodes nodes xs → (latest ≡ greatest_conf xs) × (lines ≡ map node_line xs)
+gathers_all nodes left latest lines g none xs shown =
     let r = g.whole xs shown in
-    all_gathered r.rest xs longest lines (subst (λ (ns : List WorldNode). ShowNodes ns r.rest) none r.shown) r.longest_is r.lines_are
+    all_gathered r.rest xs latest lines (subst (λ (ns : List WorldNode). ShowNodes ns r.rest) none r.shown) r.latest_is r.lines_are
 
 -- ---- one node
 
--- what was added of a node that is down, whose disks store this, was added of whatever it shows
-pub down_decided : {T E : Type 0} (r : Result T E) (n : WorldNode) (d : Durable) (longest longest' : List Entry) → ((x : Node) → ShowsNode n x → d ≡ x.state.durable) → OnOk r (longest' ≡ longer longest (decided_log d.part))
-    → OnOk r ((x : Node) → ShowsNode n x → longest' ≡ longer longest (decided_log x.state.durable.part))
-down_decided (Ok v) n d longest longest' same is = λ x shown. is ∙ ap (λ (e : Durable). longer longest (decided_log e.part)) (same x shown)
-down_decided (Err e) n d longest longest' same is = tt
+-- room changes nothing of what is reported
+room_latest : (o : Option Part) (l : Option Closed) → latest_in (part_option_with_room 0 o) l ≡ latest_in o l
+room_latest None l = refl
+room_latest (Some p) l = refl
 
-pub down_line : {T E : Type 0} (r : Result T E) (n : WorldNode) (d : Durable) (lines lines' : List NodeLine) → ((x : Node) → ShowsNode n x → (d ≡ x.state.durable) × (running_of x.status ≡ running.Down))
-    → OnOk r (lines' ≡ lines ++ line_of n.pid running.Down d ∷ []) → OnOk r ((x : Node) → ShowsNode n x → lines' ≡ lines ++ node_line x ∷ [])
-down_line (Ok v) n d lines lines' same is = λ x shown.
-    let added : ℕ → Running → Durable → List NodeLine = λ pid r e. lines ++ line_of pid r e ∷ [] in
-    is
-    ∙ ap (λ (pid : ℕ). added pid running.Down d) (sym shown.pid)
-    ∙ ap (λ (e : Durable). added x.pid running.Down e) (same x shown).0
-    ∙ ap (λ (r : Running). added x.pid r x.state.durable) (sym (same x shown).1)
-down_line (Err e) n d lines lines' same is = tt
+room_stands : (o : Option Part) (l : Option Closed) → stands_at (part_option_with_room 0 o) l ≡ stands_at o l
+room_stands None l = refl
+room_stands (Some p) l = refl
+
+room_joining : (o : Option Joining) → joining_conf (joining_option_with_room 0 o) ≡ joining_conf o
+room_joining None = refl
+room_joining (Some j) = refl
+
+abbrev line_at : ℕ → Running → Option (ℕ × ℕ × ℕ) → Option ℕ → NodeLine
+line_at pid r at j = record { pid = pid; at = at; joining = j; running = r }
+
+-- what was added was added of whatever the node shows
+pub added_latest : {T E : Type 0} (r : Result T E) (n : WorldNode) (d : Durable) (latest latest' : ℕ) → ((x : Node) → ShowsNode n x → latest_of d ≡ latest_of x.state.durable) → OnOk r (latest' ≡ max latest (latest_of d))
+    → OnOk r ((x : Node) → ShowsNode n x → latest' ≡ max latest (latest_of x.state.durable))
+added_latest (Ok v) n d latest latest' same is = λ x shown. is ∙ ap (λ (c : ℕ). max latest c) (same x shown)
+added_latest (Err e) n d latest latest' same is = tt
+
+pub added_line : {T E : Type 0} (r : Result T E) (n : WorldNode) (d : Durable) (how : Running) (lines lines' : List NodeLine) → ((x : Node) → ShowsNode n x → line_of n.pid how d ≡ node_line x)
+    → OnOk r (lines' ≡ lines ++ line_of n.pid how d ∷ []) → OnOk r ((x : Node) → ShowsNode n x → lines' ≡ lines ++ node_line x ∷ [])
+added_line (Ok v) n d how lines lines' same is = λ x shown. is ∙ ap (λ (l : NodeLine). lines ++ l ∷ []) (same x shown)
+added_line (Err e) n d how lines lines' same is = tt
+
+-- a node that is up, which has stored this with room for more
+module _ (n : WorldNode) (z : nodes.Node MemDisk) (d : Durable) (up : n.state ≡ node.Up z) (stored : with_room no_needs d ≡ (node_of z).state.durable) where
+  up_there : (x : Node) → ShowsNode n x → (x.state ≡ (node_of z).state) × (x.status ≡ Up)
+  up_there x shown = subst (λ (s : NodeState). IsShown s x.state x.status) up shown.state
+
+  up_has : (x : Node) → ShowsNode n x → with_room no_needs d ≡ x.state.durable
+  up_has x shown = stored ∙ ap (λ (s : State). s.durable) (sym (up_there x shown).0)
+
+  pub up_latest : (x : Node) → ShowsNode n x → latest_of d ≡ latest_of x.state.durable
+  up_latest x shown = sym (room_latest d.part d.closed) ∙ ap (λ (e : Durable). latest_of e) (up_has x shown)
+
+  pub up_line : (x : Node) → ShowsNode n x → line_of n.pid running.Up d ≡ node_line x
+  up_line x shown =
+      ap (λ (at : Option (ℕ × ℕ × ℕ)). line_at n.pid running.Up at (joining_conf d.joining)) (sym (room_stands d.part d.closed))
+      ∙ ap (λ (j : Option ℕ). line_at n.pid running.Up (stands_at (part_option_with_room 0 d.part) d.closed) j) (sym (room_joining d.joining))
+      ∙ ap (λ (e : Durable). line_of n.pid running.Up e) (up_has x shown)
+      ∙ ap (λ (pid : ℕ). line_of pid running.Up x.state.durable) (sym shown.pid)
+      ∙ ap (λ (s : NodeStatus). line_of x.pid (running_of s) x.state.durable) (sym (up_there x shown).1)
+
+  -- its closed list is in range
+  pub up_open : (x : Node) → ShowsNode n x → IsOpen x → IfSome d.closed ClosedInRange
+  up_open x shown is = subst (λ (e : Durable). IfSome e.closed ClosedInRange) (sym (up_has x shown)) is
+
+-- a node that is down, whose disks store this
+module _ (n : WorldNode) (d : Durable) (first second : MemDisk) (down : n.state ≡ node.Down first second) (stored : (e : Durable) → IsStored e (seen_of first) (seen_of second) → d ≡ e) where
+  down_there : (x : Node) → ShowsNode n x → IsStored x.state.durable (seen_of first) (seen_of second) × (x.status ≡ Down x.state.durable)
+  down_there x shown = subst (λ (s : NodeState). IsShown s x.state x.status) down shown.state
+
+  down_has : (x : Node) → ShowsNode n x → d ≡ x.state.durable
+  down_has x shown = stored x.state.durable (down_there x shown).0
+
+  pub down_latest : (x : Node) → ShowsNode n x → latest_of d ≡ latest_of x.state.durable
+  down_latest x shown = ap (λ (e : Durable). latest_of e) (down_has x shown)
+
+  pub down_line : (x : Node) → ShowsNode n x → line_of n.pid running.Down d ≡ node_line x
+  down_line x shown =
+      ap (λ (e : Durable). line_of n.pid running.Down e) (down_has x shown)
+      ∙ ap (λ (pid : ℕ). line_of pid running.Down x.state.durable) (sym shown.pid)
+      ∙ ap (λ (s : NodeStatus). line_of x.pid (running_of s) x.state.durable) (sym (down_there x shown).1)
+
+  pub down_open : (x : Node) → ShowsNode n x → IsOpen x → IfSome d.closed ClosedInRange
+  down_open x shown is = subst (λ (e : Durable). IfSome e.closed ClosedInRange) (sym (down_has x shown)) is
+
+-- ---- a report
+
+abbrev summary : List Line → List Listed → List NodeLine → ℕ → Summary
+summary lines lists nodes sent = record { lines = lines; lists = lists; nodes = nodes; sent = sent }
+
+-- what is reported of what a world shows
+pub reported : (w : Parts) (t : Execution) → Shows w t → (latest : ℕ) (lists : List Listed) (lines : List NodeLine) (sent : ℕ) → ((xs : List Node) → ShowNodes w.nodes xs → (latest ≡ greatest_conf xs) × (lines ≡ map node_line xs))
+    → lists ≡ listed_from (list_at w.lists) latest 1 (Some w.members) → sent ≡ length w.messages → summary w.lines lists lines sent ≡ summary_of w.members t
+reported w t show latest lists lines sent nodes_are lists_are sent_is =
+    let are = nodes_are t.world.nodes show.nodes in
+    let same : list_at w.lists ≡ t.machine.lists = fun_ext (λ conf. sym (show.lists conf)) in
+    ap (λ (ls : List Line). summary ls lists lines sent) (sym show.lines)
+    ∙ ap (λ (ls : List Listed). summary t.world.lines ls lines sent) (lists_are ∙ ap (λ (f : ℕ → List Entry). listed_from f latest 1 (Some w.members)) same ∙ ap (λ (c : ℕ). listed_from t.machine.lists c 1 (Some w.members)) are.0)
+    ∙ ap (λ (ls : List NodeLine). summary t.world.lines (listed_of w.members t) ls sent) are.1
+    ∙ ap (λ (n : ℕ). summary t.world.lines (listed_of w.members t) (map node_line t.world.nodes) n) (sent_is ∙ ap (λ (ms : List Sent). length ms) (sym show.messages))

@@ -1,7 +1,7 @@
 -- What a node tells of its state.
 use Rattle.std.proofs.Common.{◌≡◌, ℕ, List, Result, Ok, Err, sym, ap, ◌∙◌}
 use Rattle.std.specs.Prelude.{IfOk}
-use Rattle.op_types.specs.declared.summary.Line.{Line}
+use Rattle.op_runs.specs.declared.summary.Line.{Line}
 use Rattle.op_protocol.specs.State.{State}
 use Rattle.op_runs.specs.World.{Told, told_lines}
 use Rattle.op_world.specs.Deeds.{told_of}

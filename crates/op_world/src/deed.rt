@@ -5,7 +5,8 @@ ghost use Rattle.op_runs.specs.World as runs;
 ghost use Rattle.op_world.specs.Deeds.{told_of, deed_shown};
 
 use crate::sent::Sent;
-use op_types::{Input, Msg, NoMemory, Pid, What};
+use op_runs::What;
+use op_types::{Input, Msg, NoMemory, Pid};
 use std::alloc::Global;
 
 /// What a node tells.
@@ -41,12 +42,14 @@ pub struct Deed {
 
 /// What an event does that is possible where these messages were sent. A message that is delivered is copied.
 pub fn deed_of(alloc: Global, messages: &[Sent], what: What) -> Result<Deed, NoMemory>
-    requires { (members : List ℕ) × (is_possible members (length messages.now) what ≡ true) }
+    requires { (nodes : List ℕ) × (is_possible nodes (length messages.now) what ≡ true) }
     ensures { IfOk result (λ deed. runs.deed_of messages.now what ≡ Some (deed_shown deed)) }
 {
     Ok(match what {
         What::Tick(pid) => stepping(pid, Input::Tick),
-        What::Command(pid, command) => stepping(pid, Input::Command(command)),
+        What::Commands(pid, commands) => stepping(pid, Input::Commands(commands)),
+        What::Stop(pid, members) => stepping(pid, Input::Stop(members)),
+        What::Trim(pid) => stepping(pid, Input::TrimNow),
         What::Deliver(number) => delivery(alloc, messages, number as usize)?,
         What::Up(pid, peer) => stepping(pid, Input::Up(peer)),
         What::Down(pid, peer) => stepping(pid, Input::Down(peer)),

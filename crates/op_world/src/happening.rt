@@ -1,17 +1,19 @@
 //! What is done at a node.
 ghost use Rattle.std.specs.Prelude.{◌≡◌, ℕ, [], IfOk};
+ghost use Rattle.op_types.specs.Ranges.{MembersInRange};
 ghost use Rattle.op_node.specs.Nodes.{node_of, AdmitsInput};
 ghost use Rattle.op_runs.specs.World as runs;
 ghost use Rattle.op_world.specs.declared.node_state.NodeState.TheVariants as states;
 ghost use Rattle.op_world.specs.Deeds.{told_of, doing_of};
-ghost use Rattle.op_world.specs.Worlds.{IsInRange, IsDoneAt, DoingInRange, AdmitsDoing, RunsAs};
+ghost use Rattle.op_world.specs.Worlds.{CanBeDone, IsDoneAt, AdmitsDoing, RunsAs};
 
 use crate::deed::{Doing, Told};
 use crate::node_state::{NodeState, forgetting, left_of_node, opened};
 use crate::telling::{ballot_lines, pair_lines, step_lines};
 use op_memory::MemDisk;
 use op_node::{Given, Node};
-use op_types::{Input, Lines, Members, NoMemory, Pid, Sends};
+use op_runs::Lines;
+use op_types::{Input, Members, NoMemory, Pid, Sends};
 use std::alloc::Global;
 
 /// What was done at a node.
@@ -38,7 +40,7 @@ impl NodeDone {
     }
 }
 
-/// Does this at the node of a member, said in this line of the schedule.
+/// Does this at a node of a world of these members, said in this line of the schedule.
 pub fn done(
     alloc: Global,
     me: Pid,
@@ -47,8 +49,8 @@ pub fn done(
     doing: Doing,
     line: u64,
 ) -> Result<NodeDone, NoMemory>
-    requires node { IsInRange members.now me state }
-    requires doing { DoingInRange members.now (doing_of doing) }
+    requires members { MembersInRange members.now }
+    requires can { CanBeDone me state (doing_of doing) }
     ensures { IfOk result (λ r. IsDoneAt me state (doing_of doing) line r.state r.sends r.told) }
 {
     match state {
@@ -141,7 +143,8 @@ fn done_while_down(
     second: MemDisk,
     doing: Doing,
 ) -> Result<NodeDone, NoMemory>
-    requires { IsInRange members.now me (states.Down first second) }
+    requires members { MembersInRange members.now }
+    requires can { CanBeDone me (states.Down first second) (doing_of doing) }
     ensures { IfOk result (λ r. (line : ℕ) →
         IsDoneAt me (states.Down first second) (doing_of doing) line r.state r.sends r.told) }
 {

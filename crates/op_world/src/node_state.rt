@@ -10,6 +10,7 @@ ghost use Rattle.op_node.specs.Nodes.{node_of};
 ghost use Rattle.op_node.specs.Openings.{Opens};
 ghost use Rattle.op_world.specs.Worlds.{RunsAs, place_of};
 
+use op_chain::empty_durable;
 use op_memory::MemDisk;
 use op_node::Node;
 use op_store::Store;
@@ -64,11 +65,7 @@ pub fn stored(alloc: Global, first: MemDisk, second: MemDisk) -> Result<Durable,
     ensures { IfOk result (λ d. (e : durables.Durable) →
         IsStored e (seen_of first) (seen_of second) → d ≡ e) }
 {
-    let fresh = Durable {
-        part: None,
-        closed: None,
-    };
-    match Store::open(alloc, fresh, first, second) {
+    match Store::open(alloc, empty_durable(), first, second) {
         Ok((_store, durable, _)) => Ok(durable),
         Err(_) => Err(NoMemory),
     }

@@ -1,24 +1,49 @@
-//! Which events can come.
+//! Which events can come, and how much they propose.
 ghost use Rattle.std.specs.Prelude.{◌≡◌};
-ghost use Rattle.op_runs.specs.Possible.{is_possible};
+ghost use Rattle.op_runs.specs.Possible.{are_nodes, is_possible, proposals_of};
 
-use op_types::{Members, What, is_among};
+use op_runs::What;
+use op_types::{Pid, is_among};
 
-/// Whether the nodes that an event names are these members, and the message that it names is one of so many.
-pub fn is_possible(members: &Members, sent: u64, what: &What) -> bool
-    ensures { result ≡ is_possible members.now sent what.now }
+/// Whether the servers that an event names are among these nodes, and the message that it names is one of so many.
+pub fn is_possible(nodes: &[Pid], sent: u64, what: &What) -> bool
+    ensures { result ≡ is_possible nodes.now sent what.now }
 {
-    let members = members.as_slice();
     match what {
         What::Tick(pid)
+        | What::Commands(pid, _)
+        | What::Trim(pid)
         | What::Crash(pid)
         | What::Start(pid)
         | What::Show(pid)
-        | What::Ballots(pid) => is_among(members, *pid),
-        What::Command(pid, _) => is_among(members, *pid),
+        | What::Ballots(pid) => is_among(nodes, *pid),
+        What::Stop(pid, members) => {
+            is_among(nodes, *pid) && are_nodes(nodes, members.as_slice())
+        }
         What::Deliver(number) => *number < sent,
         What::Up(pid, peer) | What::Down(pid, peer) => {
-            is_among(members, *pid) && is_among(members, *peer)
+            is_among(nodes, *pid) && is_among(nodes, *peer)
         }
+    }
+}
+
+/// Whether all of these are among the nodes.
+fn are_nodes(nodes: &[Pid], pids: &[Pid]) -> bool
+    ensures { result ≡ are_nodes nodes.now pids.now }
+{
+    match pids {
+        [] => true,
+        [first, rest @ ..] => is_among(nodes, *first) && are_nodes(nodes, rest),
+    }
+}
+
+/// How many entries an event proposes.
+pub fn proposals_of(what: &What) -> u64
+    ensures { result ≡ proposals_of what.now }
+{
+    match what {
+        What::Commands(_, commands) => commands.len() as u64,
+        What::Stop(..) => 1,
+        _ => 0,
     }
 }

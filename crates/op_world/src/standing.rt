@@ -1,19 +1,20 @@
-ghost use Rattle.std.specs.Prelude.{◌≡◌, ◌++◌, ◌∷◌, [], List, map, All, None, IfOk, OnOk};
+ghost use Rattle.std.specs.Prelude.{◌≡◌, ◌++◌, ◌∷◌, [], List, map, max, All, IfSome, IfOk, OnOk};
+ghost use Rattle.op_record.specs.Ranges.{ClosedInRange};
+ghost use Rattle.op_protocol.specs.Configurations.{latest_of};
 ghost use Rattle.op_runs.specs.World as runs;
-ghost use Rattle.op_runs.specs.Summary.{longest_decided, longer, decided_log, stands_at, node_line};
+ghost use Rattle.op_runs.specs.Summary.{greatest_conf, stands_at, joining_conf, node_line};
 ghost use Rattle.op_world.specs.Worlds.{ShowsNode, ShowNodes, line_of};
 
 use crate::node_state::{NodeState, WorldNode, stored};
-use op_types::{
-    ConfNo, Durable, Entries, Entry, NoMemory, NodeLine, NodeLines, Pid, Running, copy_entries,
-};
+use op_runs::{NodeLine, NodeLines, Running};
+use op_types::{ConfNo, Durable, NoMemory, Pid};
 use std::alloc::Global;
 
-/// What nodes leave to be reported.
+/// What nodes leave to be reported of themselves.
 #[derive(Drop)]
 pub struct Standing {
-    /// The longest list that one of them has decided.
-    pub longest: Entries,
+    /// The greatest configuration that one of them knows.
+    pub latest: ConfNo,
     /// Where each of them stands.
     pub lines: NodeLines,
 }
@@ -22,12 +23,12 @@ impl Standing {
     /// Where these nodes stand.
     pub fn of_nodes(alloc: Global, nodes: Vec<WorldNode>) -> Result<Standing, NoMemory>
         requires { (xs : List runs.Node) × ShowNodes nodes.items xs
-            × All (λ x. x.state.durable.closed ≡ None) xs }
+            × All (λ x. IfSome x.state.durable.closed ClosedInRange) xs }
         ensures { IfOk result (λ s. (xs : List runs.Node) → ShowNodes nodes.items xs →
-            (s.longest ≡ longest_decided xs) × (s.lines ≡ map node_line xs)) }
+            (s.latest ≡ greatest_conf xs) × (s.lines ≡ map node_line xs)) }
     {
         let mut standing = Standing {
-            longest: Entries::new(alloc),
+            latest: 0,
             lines: NodeLines::new(alloc),
         };
         'nodes: for node in nodes {
@@ -38,67 +39,74 @@ impl Standing {
 
     /// Adds a node. The disks of one that is down are read.
     fn add_node(&mut self, alloc: Global, node: WorldNode) -> Result<(), NoMemory>
-        requires { (x : runs.Node) × ShowsNode node x × (x.state.durable.closed ≡ None) }
-        ensures longest { OnOk result ((x : runs.Node) → ShowsNode node x →
-            self.new.longest ≡ longer self.old.longest (decided_log x.state.durable.part)) }
+        requires { (x : runs.Node) × ShowsNode node x × IfSome x.state.durable.closed ClosedInRange }
+        ensures latest { OnOk result ((x : runs.Node) → ShowsNode node x →
+            self.new.latest ≡ max self.old.latest (latest_of x.state.durable)) }
         ensures lines { OnOk result ((x : runs.Node) → ShowsNode node x →
             self.new.lines ≡ self.old.lines ++ node_line x ∷ []) }
     {
         let WorldNode { pid, state } = node;
         match state {
-            NodeState::Up(node) => self.add(alloc, pid, Running::Up, node.shown()),
+            NodeState::Up(node) => self.add(pid, Running::Up, node.shown()),
             NodeState::Down(first, second) => {
                 let durable = stored(alloc, first, second)?;
-                self.add(alloc, pid, Running::Down, &durable)
+                self.add(pid, Running::Down, &durable)
             }
         }
     }
 
     /// Adds a node that runs so and has stored this.
-    fn add(
-        &mut self,
-        alloc: Global,
-        pid: Pid,
-        running: Running,
-        durable: &Durable,
-    ) -> Result<(), NoMemory>
-        requires { durable.now.closed ≡ None }
-        ensures longest { OnOk result
-            (self.new.longest ≡ longer self.old.longest (decided_log durable.now.part)) }
+    fn add(&mut self, pid: Pid, running: Running, durable: &Durable) -> Result<(), NoMemory>
+        requires { IfSome durable.now.closed ClosedInRange }
+        ensures latest { OnOk result
+            (self.new.latest ≡ max self.old.latest (latest_of durable.now)) }
         ensures lines { OnOk result
             (self.new.lines ≡ self.old.lines ++ line_of pid running durable.now ∷ []) }
     {
-        let decided = decided(durable);
-        if self.longest.len() < decided.len() {
-            self.longest = copy_entries(alloc, decided)?;
-        }
+        self.latest = self.latest.max(latest(durable));
         self.lines.push(NodeLine {
             pid,
             at: place(durable),
-            joining: None,
+            joining: joining_conf(durable),
             running,
         })?;
         Ok(())
     }
 }
 
-/// What is decided; nothing is trimmed yet, so that all of it is in the log.
-fn decided(durable: &Durable) -> &[Entry]
-    ensures { result.now ≡ decided_log durable.now.part }
+/// The latest configuration that a node knows that has stored this; 0 at a spare.
+fn latest(durable: &Durable) -> ConfNo
+    requires { IfSome durable.now.closed ClosedInRange }
+    ensures { result ≡ latest_of durable.now }
 {
-    let Some(part) = &durable.part else {
-        return &[];
-    };
-    let log = part.tail.as_slice();
-    let end = (part.decided.saturating_sub(part.trimmed) as usize).min(log.len());
-    &log[..end]
+    match (&durable.part, &durable.closed) {
+        (Some(part), _) => part.conf,
+        (None, Some(closed)) => closed.conf + 1,
+        (None, None) => 0,
+    }
 }
 
-/// The configuration, how much of it is decided, and how much is trimmed; none is closed yet.
+/// The configuration of its part, or else of its closed list, with what is decided and trimmed there.
 fn place(durable: &Durable) -> Option<(ConfNo, u64, u64)>
-    requires { durable.now.closed ≡ None }
+    requires { IfSome durable.now.closed ClosedInRange }
     ensures { result ≡ stands_at durable.now.part durable.now.closed }
 {
-    let part = durable.part.as_ref()?;
-    Some((part.conf, part.decided, part.trimmed))
+    match (&durable.part, &durable.closed) {
+        (Some(part), _) => Some((part.conf, part.decided, part.trimmed)),
+        (None, Some(closed)) => {
+            let len = closed.trimmed + closed.tail.len() as u64;
+            Some((closed.conf, len, closed.trimmed))
+        }
+        (None, None) => None,
+    }
+}
+
+/// The configuration that it joins.
+fn joining_conf(durable: &Durable) -> Option<ConfNo>
+    ensures { result ≡ joining_conf durable.now.joining }
+{
+    match &durable.joining {
+        Some(joining) => Some(joining.conf),
+        None => None,
+    }
 }

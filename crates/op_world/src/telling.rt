@@ -5,7 +5,8 @@ ghost use Rattle.op_protocol.specs.State.{State};
 ghost use Rattle.op_runs.specs.World.{ThePairs, TheBallots, answer_line, outcome_lines, pair_lines, told_lines};
 
 use op_node::{Map, Pairs};
-use op_types::{Answer, Ballot, Line, Lines, NoMemory, Outcome, Pid, Replies, Reply};
+use op_runs::{Line, Lines};
+use op_types::{Answer, Ballot, NoMemory, Outcome, Pid, Replies, Reply};
 use std::alloc::Global;
 
 /// The line of what a client is answered at a node.

@@ -1,10 +1,11 @@
 //! Lockstep rounds of a world over fixed links.
 ghost use Rattle.std.specs.Prelude.{◌≡◌, All, IfOk};
-ghost use Rattle.op_types.specs.Ranges.{MembersInRange, WhatInRange};
-ghost use Rattle.op_runs.specs.Possible.{ArePossibleFrom};
-ghost use Rattle.op_runs.specs.World as runs;
-ghost use Rattle.op_lockstep.specs.Lockstep.{after_events, after_round, ballots, deliveries, lockstep, ticks};
-ghost use Rattle.op_world.specs.Drills.{IsReportOfDrill, is_delivered};
+ghost use Rattle.op_types.specs.Ranges.{MembersInRange};
+ghost use Rattle.op_runs.specs.Possible.{ArePossibleFrom, WhatInRange};
+ghost use Rattle.op_runs.specs.Run.{Execution};
+ghost use Rattle.op_lockstep.specs.Lockstep as rounds;
+ghost use Rattle.op_lockstep.specs.Lockstep.{ballots, deliveries, lockstep, ticks};
+ghost use Rattle.op_world.specs.Drills.{IsReportOfDrill, followed, is_delivered};
 ghost use Rattle.op_world.specs.Failing.{IfBadEvent};
 ghost use Rattle.op_world.specs.Worlds.{Shows};
 
@@ -12,7 +13,8 @@ use super::World;
 use crate::fail::RunFail;
 use crate::sent::Sent;
 use op_gen::{Links, all_links};
-use op_types::{Body, Event, Events, Members, NoMemory, Summary, What};
+use op_runs::{Event, Events, Summary, What};
+use op_types::{Body, Members, NoMemory};
 use std::alloc::Global;
 
 /// How many rounds over all links a drill begins with.
@@ -90,17 +92,19 @@ impl World {
     {
         let pairs = all_links(alloc, members.as_slice())?;
         let all = Links { pairs: &pairs };
-        let linked = World::new(alloc, members)?.rounds(&all, FIRST_ROUNDS)?;
+        let linked = World::new(alloc, members, &Members::new())?.rounds(&all, FIRST_ROUNDS)?;
         let drilled = linked.rounds(links, rounds)?;
         Ok(drilled.tell_ballots()?.summary()?)
     }
 
     /// So many lockstep rounds over these links.
     fn rounds(self, links: &Links<'_>, count: u64) -> Result<World, RunFail>
-        ensures after { IfOk result (λ w. (x : runs.World) → Shows self x →
-            Shows w (after_events x (lockstep self.members links.now.pairs.now count x))) }
+        ensures after { IfOk result (λ w. (t : Execution) → Shows self t →
+            Shows w (followed t (lockstep self.members links.now.pairs.now count t.world))) }
+        ensures range { IfOk result (λ _. (t : Execution) → Shows self t → All (λ e. WhatInRange e.what)
+            (lockstep self.members links.now.pairs.now count t.world)) }
         ensures members { IfOk result (λ w. w.members ≡ self.members) }
-        ensures bad { IfBadEvent result (λ _. (x : runs.World) → Shows self x → ⊥) }
+        ensures bad { IfBadEvent result (λ _. (t : Execution) → Shows self t → ⊥) }
     {
         let mut world = self;
         for _number in 0..count {
@@ -111,10 +115,12 @@ impl World {
 
     /// A lockstep round over these links.
     fn round(self, links: &Links<'_>) -> Result<World, RunFail>
-        ensures after { IfOk result (λ w. (x : runs.World) → Shows self x →
-            Shows w (after_round self.members links.now.pairs.now x)) }
+        ensures after { IfOk result (λ w. (t : Execution) → Shows self t →
+            Shows w (followed t (rounds.round self.members links.now.pairs.now t.world))) }
+        ensures range { IfOk result (λ _. (t : Execution) → Shows self t → All (λ e. WhatInRange e.what)
+            (rounds.round self.members links.now.pairs.now t.world)) }
         ensures members { IfOk result (λ w. w.members ≡ self.members) }
-        ensures bad { IfBadEvent result (λ _. (x : runs.World) → Shows self x → ⊥) }
+        ensures bad { IfBadEvent result (λ _. (t : Execution) → Shows self t → ⊥) }
     {
         let asked_since = self.messages.len();
         let ticks = ticks(self.alloc, &self.members)?;
@@ -128,10 +134,10 @@ impl World {
 
     /// Each member ticks, and then each tells its ballots.
     fn tell_ballots(self) -> Result<World, RunFail>
-        ensures after { IfOk result (λ w. (x : runs.World) → Shows self x →
-            Shows w (after_events (after_events x (ticks self.members)) (ballots self.members))) }
+        ensures after { IfOk result (λ w. (t : Execution) → Shows self t →
+            Shows w (followed (followed t (ticks self.members)) (ballots self.members))) }
         ensures members { IfOk result (λ w. w.members ≡ self.members) }
-        ensures bad { IfBadEvent result (λ _. (x : runs.World) → Shows self x → ⊥) }
+        ensures bad { IfBadEvent result (λ _. (t : Execution) → Shows self t → ⊥) }
     {
         let ticks = ticks(self.alloc, &self.members)?;
         let ballots = ballots(self.alloc, &self.members)?;
@@ -156,11 +162,11 @@ impl World {
     /// These events, in order, each of which can come.
     fn follow(self, events: Events) -> Result<World, RunFail>
         requires range { All (λ e. WhatInRange e.what) events }
-        requires possible { (x : runs.World) → Shows self x → ArePossibleFrom self.members x events }
-        ensures after { IfOk result (λ w. (x : runs.World) → Shows self x →
-            Shows w (after_events x events)) }
+        requires possible { (t : Execution) → Shows self t → ArePossibleFrom self.ids t.world events }
+        ensures after { IfOk result (λ w. (t : Execution) → Shows self t → Shows w (followed t events)) }
         ensures members { IfOk result (λ w. w.members ≡ self.members) }
-        ensures bad { IfBadEvent result (λ _. (x : runs.World) → Shows self x → ⊥) }
+        ensures ids { IfOk result (λ w. w.ids ≡ self.ids) }
+        ensures bad { IfBadEvent result (λ _. (t : Execution) → Shows self t → ⊥) }
     {
         let mut world = self;
         for event in events.into_vec() {

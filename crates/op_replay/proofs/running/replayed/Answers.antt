@@ -1,9 +1,7 @@
-use Rattle.std.proofs.Common.{ap, subst, ◌∙◌}
-use Rattle.op_types.specs.declared.summary.Summary.{Summary}
-use Rattle.op_runs.specs.Replies.{RepliesAreServed}
+use Rattle.std.proofs.Common.{ap, ◌∙◌}
 use Rattle.op_sched.specs.Grammar.{IsSchedule}
 use Rattle.op_sched.specs.Text.{report_of}
-use Rattle.op_sched.proofs.UnambiguousSchedules.{members_in_range, events_in_range}
+use Rattle.op_sched.proofs.UnambiguousSchedules.{members_in_range, spares_in_range, events_in_range}
 use Rattle.op_replay.proofs.running.replayed.Goals as goal
 
 pub returns-clause-reports : goal.returns-clause-reports
@@ -16,14 +14,15 @@ returns-clause-reports c =
       record {
         present = run.possible;
         written = c.in_ok-report.ensures ∙ ap report_of run.left;
-        meets = run.meets;
-        served = subst (λ (x : Summary). RepliesAreServed x) run.left run.served;
-        exchanges = run.exchanges;
+        laws = run.laws;
       },
     )
 
 pub run-requires-clause-members : goal.run-requires-clause-members
 run-requires-clause-members c = members_in_range c.args.bytes.items c.in_ok-schedule.schedule (rw c.deref.ensures.value at c.in_ok-schedule.ensures.found)
+
+pub run-requires-clause-spares : goal.run-requires-clause-spares
+run-requires-clause-spares c = spares_in_range c.args.bytes.items c.in_ok-schedule.schedule (rw c.deref.ensures.value at c.in_ok-schedule.ensures.found)
 
 pub run-requires-clause-range : goal.run-requires-clause-range
 run-requires-clause-range c = events_in_range c.args.bytes.items c.in_ok-schedule.schedule (rw c.deref.ensures.value at c.in_ok-schedule.ensures.found)

@@ -4,13 +4,10 @@ use Rattle.op_world.proofs.Happenings.{only_done, idle_down}
 use Rattle.op_world.proofs.Openings.{opens_again}
 use Rattle.op_world.proofs.happening.done_while_down.Goals as goal
 
-pub opened-requires : goal.opened-requires
-opened-requires c = c.requires.members_are
-
 pub returns-in-Opens : goal.returns-in-Opens
 returns-in-Opens c line =
     let o = c.in_ok-node in
-    opens_again c.args.members.now c.args.me c.args.first c.args.second o.node o.sends c.requires o.ensures line c.new.result c.args.doing c.new.ensures c.in-Opens.is
+    opens_again c.args.members.now c.args.me c.args.first c.args.second o.node o.sends (doing_of c.args.doing) c.requires.can o.ensures line c.new.result c.args.doing c.new.ensures c.in-Opens.is
 
 pub returns : goal.returns
 returns c line =

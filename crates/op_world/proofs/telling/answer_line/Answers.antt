@@ -2,7 +2,7 @@ use Rattle.std.proofs.Common.{◌≡◌, ℕ, refl}
 use Rattle.op_types.specs.declared.answers.Answer.{Answer}
 use Rattle.op_types.specs.declared.answers.Answer.TheVariants as answer
 use Rattle.op_types.specs.declared.answers.Cause.{Cause}
-use Rattle.op_types.specs.declared.summary.Line.TheVariants as line
+use Rattle.op_runs.specs.declared.summary.Line.TheVariants as line
 use Rattle.op_runs.specs.World.{answer_line}
 use Rattle.op_world.proofs.telling.answer_line.Goals as goal
 

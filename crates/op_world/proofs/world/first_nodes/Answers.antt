@@ -1,16 +1,10 @@
-use Rattle.std.proofs.Common.{◌≡◌, ℕ, ◌<◌, List, length, get_or, sym, ap, subst, ◌∙◌}
-use Rattle.op_runs.specs.World as runs
-use Rattle.op_world.specs.Worlds.{ShowsNode, IsKept}
+use Rattle.std.proofs.Common.{ℕ, sym, subst}
+use Rattle.op_world.specs.Worlds.{IsKept}
 use Rattle.op_world.proofs.WorldsStart.{have_more}
 use Rattle.op_world.proofs.world.first_nodes.Goals as goal
 
-pub members-preserved : goal.members-preserved
-members-preserved c =
-    let k = c.members.pid-index in
+pub ids-preserved : goal.ids-preserved
+ids-preserved c =
     let n = c.in_ok-first_node.field-0 in
-    let members = c.args.members.now in
-    let same : get_or c.as_slice-pid-items.result.now k 0 ≡ get_or members k 0 = ap (λ (ms : List ℕ). get_or ms k 0) c.as_slice-pid-items.ensures in
-    let there : k < length members = subst (λ (ms : List ℕ). k < length ms) c.as_slice-pid-items.ensures c.members-test.true in
-    have_more members c.members.nodes.items _ n k c.members.invariant there c.in_ok-push.ensures.items (c.in_ok-first_node.ensures.pid ∙ same)
-    (subst (λ (id : ℕ). ShowsNode n (runs.first_node members id)) same c.in_ok-first_node.ensures.shows)
+    have_more c.args.members.now c.args.ids.now c.ids.nodes.items _ n c.ids.pid-index c.ids.invariant c.ids-test.true c.in_ok-push.ensures.items c.in_ok-first_node.ensures.pid c.in_ok-first_node.ensures.shows
     (subst (λ (id : ℕ). IsKept id n.state) (sym c.in_ok-first_node.ensures.pid) c.in_ok-first_node.ensures.kept)

@@ -7,4 +7,5 @@ use Rattle.op_pure.proofs.world.PureWorld.run.Given as goal
 
 abbrev pub invariant-loop-happening : goal.invariant-loop-happening
 invariant-loop-happening l =
-    (x : runs.World) × Shows l.world x × Continues l.fn.members x (into_iter_items l.happening-iterator) l.fn.happenings l.index × (l.world.members ≡ l.fn.members) × (length l.fn.happenings < 2 ^ 63)
+    (x : runs.World) × Shows l.world x × Continues l.fn.members l.fn.spares x (into_iter_items l.happening-iterator) l.fn.happenings l.index l.world.proposed
+    × (l.world.ids ≡ runs.node_ids l.fn.members l.fn.spares) × (length l.fn.happenings < 2 ^ 63)

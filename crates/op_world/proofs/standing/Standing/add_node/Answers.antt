@@ -1,27 +1,28 @@
-use Rattle.std.proofs.Common.{ap, subst, ◌∙◌}
-use Rattle.op_types.specs.declared.durable.Durable.{Durable}
-use Rattle.op_runs.specs.Summary.{running_of}
-use Rattle.op_runs.specs.World.{NodeStatus}
-use Rattle.op_world.specs.Worlds.{IsShown}
-use Rattle.op_world.specs.declared.node_state.NodeState.{NodeState}
-use Rattle.op_world.proofs.StandingNodes.{down_decided, down_line}
+use Rattle.op_world.proofs.StandingNodes.{added_latest, added_line, up_latest, up_line, up_open, down_latest, down_line, down_open}
+use Rattle.op_runs.specs.declared.summary.Running.TheVariants as running
 use Rattle.op_world.proofs.standing.Standing.add_node.Goals as goal
+
+pub add-requires : goal.add-requires
+add-requires c = up_open c.args.node c.in-Up.node c.shown.result.now c.in-Up.is c.shown.ensures c.requires.0 c.requires.1 c.requires.2
 
 pub add-requires-in-Down : goal.add-requires-in-Down
 add-requires-in-Down c =
-    let x = c.requires.0 in
-    let here = subst (λ (s : NodeState). IsShown s x.state x.status) c.in-Down.is c.requires.1.state in
-    ap (λ (d : Durable). d.closed) (c.in_ok-durable-in-Down.ensures x.state.durable here.0) ∙ c.requires.2
+    down_open c.args.node c.in_ok-durable-in-Down.durable c.in-Down.first c.in-Down.second c.in-Down.is c.in_ok-durable-in-Down.ensures c.requires.0 c.requires.1 c.requires.2
 
-pub returns-in_ok-durable-in-Down-clause-longest : goal.returns-in_ok-durable-in-Down-clause-longest
-returns-in_ok-durable-in-Down-clause-longest c =
-    down_decided c.add-in-Down.result c.args.node c.in_ok-durable-in-Down.durable c.args.self.now.longest c.add-in-Down.new.self.longest
-    (λ x shown. c.in_ok-durable-in-Down.ensures x.state.durable (subst (λ (s : NodeState). IsShown s x.state x.status) c.in-Down.is shown.state).0) c.add-in-Down.ensures.longest
+pub returns-in-Up-clause-latest : goal.returns-in-Up-clause-latest
+returns-in-Up-clause-latest c =
+    added_latest c.add.result c.args.node c.shown.result.now c.args.self.now.latest c.add.new.self.latest (up_latest c.args.node c.in-Up.node c.shown.result.now c.in-Up.is c.shown.ensures) c.add.ensures.latest
+
+pub returns-in-Up-clause-lines : goal.returns-in-Up-clause-lines
+returns-in-Up-clause-lines c =
+    added_line c.add.result c.args.node c.shown.result.now running.Up c.args.self.now.lines c.add.new.self.lines (up_line c.args.node c.in-Up.node c.shown.result.now c.in-Up.is c.shown.ensures) c.add.ensures.lines
+
+pub returns-in_ok-durable-in-Down-clause-latest : goal.returns-in_ok-durable-in-Down-clause-latest
+returns-in_ok-durable-in-Down-clause-latest c =
+    let d = c.in_ok-durable-in-Down in
+    added_latest c.add-in-Down.result c.args.node d.durable c.args.self.now.latest c.add-in-Down.new.self.latest (down_latest c.args.node d.durable c.in-Down.first c.in-Down.second c.in-Down.is d.ensures) c.add-in-Down.ensures.latest
 
 pub returns-in_ok-durable-in-Down-clause-lines : goal.returns-in_ok-durable-in-Down-clause-lines
 returns-in_ok-durable-in-Down-clause-lines c =
-    down_line c.add-in-Down.result c.args.node c.in_ok-durable-in-Down.durable c.args.self.now.lines c.add-in-Down.new.self.lines
-    (λ x shown.
-    let here = subst (λ (s : NodeState). IsShown s x.state x.status) c.in-Down.is shown.state in
-    (c.in_ok-durable-in-Down.ensures x.state.durable here.0, ap (λ (s : NodeStatus). running_of s) here.1))
-    c.add-in-Down.ensures.lines
+    let d = c.in_ok-durable-in-Down in
+    added_line c.add-in-Down.result c.args.node d.durable running.Down c.args.self.now.lines c.add-in-Down.new.self.lines (down_line c.args.node d.durable c.in-Down.first c.in-Down.second c.in-Down.is d.ensures) c.add-in-Down.ensures.lines

@@ -4,14 +4,14 @@ use Rattle.op_world.proofs.StandingNodes.{gathers_next, gathers_all, next_open}
 use Rattle.op_world.proofs.standing.Standing.of_nodes.Goals as goal
 
 pub add_node-requires : goal.add_node-requires
-add_node-requires c = next_open c.args.nodes.items _ _ c.in-Some.node c.nodes.standing.longest c.nodes.standing.lines c.nodes.invariant c.in-Some.ensures.steps.0
+add_node-requires c = next_open c.args.nodes.items _ _ c.in-Some.node c.nodes.standing.latest c.nodes.standing.lines c.nodes.invariant c.in-Some.ensures.steps.0
 
 pub nodes-preserved : goal.nodes-preserved
 nodes-preserved c =
-    gathers_next c.args.nodes.items _ _ c.in-Some.node c.nodes.standing.longest c.add_node.new.self.longest c.nodes.standing.lines c.add_node.new.self.lines
-    c.nodes.invariant c.in-Some.ensures.steps.0 (record { longest_is = c.in_ok-add_node.ensures.longest; lines_are = c.in_ok-add_node.ensures.lines })
+    gathers_next c.args.nodes.items _ _ c.in-Some.node c.nodes.standing.latest c.add_node.new.self.latest c.nodes.standing.lines c.add_node.new.self.lines
+    c.nodes.invariant c.in-Some.ensures.steps.0 (record { latest_is = c.in_ok-add_node.ensures.latest; lines_are = c.in_ok-add_node.ensures.lines })
 
 pub returns : goal.returns
 returns c =
-    gathers_all c.args.nodes.items _ c.nodes.standing.longest c.nodes.standing.lines c.nodes.invariant
+    gathers_all c.args.nodes.items _ c.nodes.standing.latest c.nodes.standing.lines c.nodes.invariant
     (nil_from_length c.nodes.node-iterator.rest.items (omega (arith, c.nodes.node-iterator.rest.ok.0, c.in-None.ensures.steps.0)))

@@ -1,5 +1,5 @@
 use Rattle.std.proofs.Common.{◌≡◌, ◌++◌, All}
-use Rattle.op_types.specs.Ranges.{WhatInRange}
+use Rattle.op_runs.specs.Possible.{WhatInRange}
 use Rattle.op_lockstep.specs.Lockstep.{deliveries}
 use Rattle.op_world.specs.Drills.{is_delivered}
 use Rattle.op_world.proofs.world.World.deliveries.Given as goal

@@ -1,5 +1,5 @@
 use Rattle.std.proofs.Common.{◌≡◌, All, take}
-use Rattle.op_types.specs.Ranges.{WhatInRange}
+use Rattle.op_runs.specs.Possible.{WhatInRange}
 use Rattle.op_lockstep.specs.Lockstep.{ballots}
 use Rattle.op_world.proofs.world.lockstep.ballots.Given as goal
 

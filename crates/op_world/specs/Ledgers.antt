@@ -1,0 +1,22 @@
+-- The list of each configuration, as the code keeps it, and what a node's stored state adds to it.
+use Rattle.std.specs.Prelude.{◌≡◌, ℕ, List, [], ◌++◌, length, get_or}
+use Rattle.op_types.specs.declared.durable.Durable.{Durable}
+use Rattle.op_types.specs.declared.log.Entry.{Entry}
+use Rattle.op_spec.specs.Ledger.{decided_entries}
+use Rattle.op_node.specs.Nodes.{node_of}
+use Rattle.op_world.specs.declared.node_state.NodeState.{NodeState}
+use Rattle.op_world.specs.declared.node_state.NodeState.TheVariants as node
+
+-- the list of a configuration, which stands at its number; it is empty where none is kept
+abbrev pub list_at : List (List Entry) → ℕ → List Entry
+list_at lists conf = get_or lists conf []
+
+-- a stored state is shown: each list that it has decided more of gets its entries from the list's end on
+abbrev pub ShowsMore : List (List Entry) → Durable → List (List Entry) → Type 0
+ShowsMore old d new =
+    (conf : ℕ) → list_at new conf ≡ list_at old conf ++ decided_entries d conf (length (list_at old conf))
+
+-- a node shows what it has stored, if it is up
+abbrev pub NodeShowsMore : List (List Entry) → NodeState → List (List Entry) → Type 0
+NodeShowsMore old (node.Up n) new = ShowsMore old (node_of n).state.durable new
+NodeShowsMore old (node.Down first second) new = new ≡ old
