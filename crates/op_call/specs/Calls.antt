@@ -9,7 +9,7 @@ use Rattle.op_outside.specs.declared.net.Addr.{Addr}
 use Rattle.op_command.specs.declared.reply.ClientReply.{ClientReply}
 use Rattle.op_command.specs.declared.said.Said.{Said}
 use Rattle.op_command.specs.declared.said.Said.TheVariants as said
-use Rattle.op_sched.specs.Text.{answer_text, outcome_text}
+use Rattle.op_text.specs.Answers.{answer_text, outcome_text}
 use Rattle.op_client.specs.Called.{Calls}
 use Rattle.op_client.specs.declared.call_fail.CallFail.{CallFail}
 use Rattle.op_client.specs.declared.call_fail.CallFail.TheVariants as fail

@@ -2,7 +2,7 @@ ghost use Rattle.std.specs.Prelude.{◌≡◌, ◌++◌, IfOk, codes, decimal};
 ghost use Rattle.op_call.specs.Calls.{said_line};
 
 use op_command::Said;
-use op_sched::{answer_text, outcome_text};
+use op_text::{answer_text, outcome_text};
 use op_types::NoMemory;
 use std::alloc::Global;
 

@@ -1,5 +1,5 @@
 -- What is left as it was by what the loop does with its sessions, askers and marks: each changes one part of what it keeps.
-use Rattle.std.proofs.Common.{◌≡◌, ℕ, List, nat_lt, Option, Some, None, refl, ap, length, inl, inr}
+use Rattle.std.proofs.Common.{◌≡◌, ◌∙◌, ℕ, List, [], ◌∷◌, nat_lt, Option, Some, None, refl, ap, length, inl, inr}
 use Rattle.std.proofs.lemmas.Bool.{cases_Bool}
 use Rattle.op_types.specs.declared.answers.Outcome.{Outcome}
 use Rattle.op_types.specs.declared.answers.Refusal.{Refusal}
@@ -10,7 +10,7 @@ use Rattle.op_sessions.specs.declared.kind.Kind.{Kind}
 use Rattle.op_sessions.specs.declared.kind.Kind.TheVariants.{Unknown, Peer, Client}
 use Rattle.op_sessions.specs.declared.session.Session.{Session}
 use Rattle.op_sessions.specs.State.{Loop, most_marks, find, marked, unlinked, admitted, joined, asked}
-use Rattle.op_loop.specs.Rules.{refusal_of, waits_for_answer, waits_unless}
+use Rattle.op_loop.specs.Rules.{refusal_of, asked_each, waits_for_answer, waits_unless}
 
 -- a mark
 pub marked_keeps : (conn : Option ℕ) (s : Loop) → marked conn s ≡ record s { lost = (marked conn s).lost }
@@ -37,13 +37,21 @@ asked_keeps : (key : ℕ × ℕ) (o : Option Session) (c : ℕ) (s : Loop) → a
 asked_keeps key None c s = refl
 asked_keeps key (Some x) c s = refl
 
-unless_keeps : (w : Option Refusal) (c : ℕ) (x : Command) (s : Loop) → waits_unless w c x s ≡ record s { askers = (waits_unless w c x s).askers }
-unless_keeps None c x s = asked_keeps (x.client, x.seq) (find c s.sessions) c s
-unless_keeps (Some w) c x s = refl
+each_keeps : (c : ℕ) (cs : List Command) (s : Loop) → asked_each c cs s ≡ record s { askers = (asked_each c cs s).askers }
+each_keeps c [] s = refl
+each_keeps c (x ∷ xs) s =
+    let t : Loop = asked (x.client, x.seq) (find c s.sessions) c s in
+    each_keeps c xs t ∙ ap (λ (y : Loop). let z : Loop = record y { askers = (asked_each c xs t).askers } in z) (asked_keeps (x.client, x.seq) (find c s.sessions) c s)
+
+unless_keeps : (w : Option Refusal) (c : ℕ) (cs : List Command) (s : Loop) → waits_unless w c cs s ≡ record s { askers = (waits_unless w c cs s).askers }
+unless_keeps None c cs s = each_keeps c cs s
+unless_keeps (Some w) c cs s = refl
 
 pub waits_keeps : (who : Option ℕ) (i : Input) (o : Option Outcome) (s : Loop) → waits_for_answer who i o s ≡ record s { askers = (waits_for_answer who i o s).askers }
 waits_keeps None i o s = refl
-waits_keeps (Some c) (input.Command x) o s = unless_keeps (refusal_of o) c x s
+waits_keeps (Some c) (input.Commands cs) o s = unless_keeps (refusal_of o) c cs s
+waits_keeps (Some c) (input.Stop members) o s = refl
+waits_keeps (Some c) input.TrimNow o s = refl
 waits_keeps (Some c) input.Tick o s = refl
 waits_keeps (Some c) (input.Deliver q m) o s = refl
 waits_keeps (Some c) (input.Up q) o s = refl

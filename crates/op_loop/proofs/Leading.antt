@@ -2,7 +2,9 @@
 use Rattle.std.proofs.Common.{◌≡◌, ℕ, List, [], ◌∷◌, ◌++◌, Bool, true, false, ◌&&◌, ◌==◌, Result, Ok, Err, Option, Some, None, refl, map, inl, inr}
 use Rattle.std.proofs.lemmas.Bool.{cases_Bool}
 use Rattle.op_types.specs.declared.answers.Outcome.{Outcome}
+use Rattle.op_types.specs.declared.answers.Outcome.TheVariants.{Refused}
 use Rattle.op_types.specs.declared.answers.Refusal.{Refusal}
+use Rattle.op_types.specs.declared.answers.Refusal.TheVariants.{StorageFailed}
 use Rattle.op_types.specs.declared.answers.Reply.{Reply}
 use Rattle.op_types.specs.declared.events.Input.{Input}
 use Rattle.op_types.specs.declared.events.Input.TheVariants as input
@@ -11,11 +13,13 @@ use Rattle.op_types.specs.declared.events.Request.TheVariants as request
 use Rattle.op_types.specs.declared.log.Command.{Command}
 use Rattle.op_types.specs.declared.messages.Msg.{Msg}
 use Rattle.op_command.specs.declared.reply.ClientReply.{ClientReply}
+use Rattle.op_command.specs.declared.said.Said.{Said}
+use Rattle.op_command.specs.declared.said.Said.TheVariants as said
 use Rattle.op_chain.specs.declared.given.Given.{Given}
 use Rattle.op_sessions.specs.declared.kind.Kind.{Kind}
 use Rattle.op_sessions.specs.declared.kind.Kind.TheVariants.{Unknown, Peer, Client}
 use Rattle.op_sessions.specs.Wire.{message_in, request_in}
-use Rattle.op_loop.specs.Rules.{Task, give, send, reply, answer, status, finish, close, meet, of_given, of_outcome, of_refusal, refusal_of, of_fault, of_loss, of_asker, of_end, of_body, of_message, of_request, replaced}
+use Rattle.op_loop.specs.Rules.{Task, give, send, reply, answer, status, finish, close, meet, of_given, of_outcome, of_refusal, refusal_of, answer_each, told_at_once, of_fault, of_loss, of_asker, of_end, of_body, of_message, of_request, replaced}
 
 -- a task of an input: what it hands out, and the sessions that end
 abbrev pub hands : Task → Bool
@@ -45,13 +49,23 @@ hands_replies : (xs : List Reply) → Hands (map reply xs)
 hands_replies [] = tt
 hands_replies (x ∷ xs) = (refl, hands_replies xs)
 
-hands_refusal : (c : ℕ) (x : Command) (w : Option Refusal) → Hands (of_refusal c x w)
-hands_refusal c x None = tt
-hands_refusal c x (Some w) = (refl, tt)
+hands_each : (c : ℕ) (cs : List Command) (told : Said) → Hands (answer_each c cs told)
+hands_each c [] told = tt
+hands_each c (x ∷ xs) told = (refl, hands_each c xs told)
+
+hands_refusal : (c : ℕ) (cs : List Command) (w : Option Refusal) → Hands (of_refusal c cs w)
+hands_refusal c cs None = tt
+hands_refusal c cs (Some w) = hands_each c cs (said.Outcome (Refused w))
+
+hands_told : (c : ℕ) (o : Option Outcome) → Hands (told_at_once c o)
+hands_told c None = tt
+hands_told c (Some o) = (refl, tt)
 
 hands_outcome : (who : Option ℕ) (i : Input) (o : Option Outcome) → Hands (of_outcome who i o)
 hands_outcome None i o = tt
-hands_outcome (Some c) (input.Command x) o = hands_refusal c x (refusal_of o)
+hands_outcome (Some c) (input.Commands cs) o = hands_refusal c cs (refusal_of o)
+hands_outcome (Some c) (input.Stop members) o = hands_told c o
+hands_outcome (Some c) input.TrimNow o = hands_told c o
 hands_outcome (Some c) input.Tick o = tt
 hands_outcome (Some c) (input.Deliver q m) o = tt
 hands_outcome (Some c) (input.Up q) o = tt
@@ -59,11 +73,23 @@ hands_outcome (Some c) (input.Down q) o = tt
 
 pub hands_fault : (who : Option ℕ) (i : Input) (k : ℕ) → Hands (of_fault who i k)
 hands_fault None i k = tt
-hands_fault (Some c) i k = (refl, tt)
+hands_fault (Some c) (input.Commands cs) k = hands_each c cs (said.Outcome (Refused (StorageFailed k)))
+hands_fault (Some c) (input.Stop members) k = (refl, tt)
+hands_fault (Some c) input.TrimNow k = (refl, tt)
+hands_fault (Some c) input.Tick k = tt
+hands_fault (Some c) (input.Deliver q m) k = tt
+hands_fault (Some c) (input.Up q) k = tt
+hands_fault (Some c) (input.Down q) k = tt
 
 pub hands_loss : (who : Option ℕ) (i : Input) → Hands (of_loss who i)
 hands_loss None i = tt
-hands_loss (Some c) i = (refl, tt)
+hands_loss (Some c) (input.Commands cs) = hands_each c cs said.RefusedMemory
+hands_loss (Some c) (input.Stop members) = (refl, tt)
+hands_loss (Some c) input.TrimNow = tt
+hands_loss (Some c) input.Tick = tt
+hands_loss (Some c) (input.Deliver q m) = tt
+hands_loss (Some c) (input.Up q) = tt
+hands_loss (Some c) (input.Down q) = tt
 
 pub hands_asker : (who : Option ℕ) (x : ClientReply) → Hands (of_asker who x)
 hands_asker None x = tt
@@ -117,6 +143,8 @@ leads_request : (c : ℕ) (r : Result Request ℕ) → Leads (of_request c r)
 unfolding Leads leads
 leads_request c (Err at) = (refl, tt)
 leads_request c (Ok (request.Command x)) = (refl, tt)
+leads_request c (Ok (request.Stop members)) = (refl, tt)
+leads_request c (Ok request.Trim) = (refl, tt)
 leads_request c (Ok request.Status) = (refl, tt)
 leads_request c (Ok request.End) = (refl, tt)
 

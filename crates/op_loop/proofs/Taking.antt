@@ -24,7 +24,7 @@ use Rattle.op_sessions.specs.Wire.{peer_head, peer_frame, client_frame}
 use Rattle.op_sessions.specs.State.{peer_limit, Loop, Table, fresh, put, most_marks, marked, unlinked, find, entry_changed, with_session, admitted, joined, asked, is_open, at_happening, forgotten, noted_at, hello, hello_len, hello_left, hello_rest, hello_less, counted, frame_counted, told, goes_to, asker_of, goes_down, goes_up, kind_at, left_by, waits_for, has_taken, hungry, holding, no_stream, stream_for, of_this_kind}
 use Rattle.op_loop.specs.Cores.{Standing, gives}
 use Rattle.op_loop.specs.Looks.{begun}
-use Rattle.op_loop.specs.Rules.{Task, Moment, at, Step, Event, status_of, ended, net, turns, dial, ask, admit, join, read, frames, settle, close, drop as drop_conn, answered, of_given, of_peer, of_frame, unless_full, of_happening, if_open, refusal_of, of_fault, of_loss, of_asker, of_end, of_hello, waits_for_answer, waits_unless, goes_on, waits, waits_failing, is_early, is_due, is_above, is_met, dials, dials_in_vain, dials_failing, is_there, is_noted, is_turned_away, is_admitted, is_turned_out, drops, asks, has_asked, reads, reads_nothing, reads_end, reads_failing, feeds, feeds_not, has_no_frame, is_refused, is_client, is_peer_of, has_frame, has_no_room, meets, counts, gives_done, gives_faulted, gives_lost, sends, sends_hungry, sends_to_none, replies, answers, answers_hungry, tells_status, tells_no_status, finishes, finishes_not, has_settled, settles, closes, has_written, writes_next, has_greeted, has_no_hello, greets, greets_no_more, greets_end, greets_failing, has_poured, pours, pours_no_more, pours_end, pours_failing}
+use Rattle.op_loop.specs.Rules.{Task, Moment, at, Step, Event, status_of, ended, net, turns, dial, ask, admit, join, read, frames, settle, close, drop as drop_conn, answered, of_given, of_peer, of_frame, unless_full, of_happening, if_open, refusal_of, of_fault, of_loss, of_asker, of_end, of_hello, asked_each, waits_for_answer, waits_unless, goes_on, waits, waits_failing, is_early, is_due, is_above, is_met, dials, dials_in_vain, dials_failing, is_there, is_noted, is_turned_away, is_admitted, is_turned_out, drops, asks, has_asked, reads, reads_nothing, reads_end, reads_failing, feeds, feeds_not, has_no_frame, is_refused, is_client, is_peer_of, has_frame, has_no_room, meets, counts, gives_done, gives_faulted, gives_lost, sends, sends_hungry, sends_to_none, replies, answers, answers_hungry, tells_status, tells_no_status, finishes, finishes_not, has_settled, settles, closes, has_written, writes_next, has_greeted, has_no_hello, greets, greets_no_more, greets_end, greets_failing, has_poured, pours, pours_no_more, pours_end, pours_failing}
 use Rattle.op_loop.specs.Run.{Run, none, more}
 use Rattle.op_loop.specs.Serving.{knowing, started}
 use Rattle.op_loop.specs.Taking.{Traffic, at_joining, and_then, traffic_from, no_traffic, traffic, TakesInOrder}
@@ -143,13 +143,19 @@ module _ (me c : ℕ) where
   kept_asked key None d s k = k
   kept_asked key (Some x) d s k = k
 
-  kept_unless : {t : Traffic} (w : Option Refusal) (d : ℕ) (x : Command) (s : Loop) → Keeps me c t s → Keeps me c t (waits_unless w d x s)
-  kept_unless None d x s k = kept_asked (x.client, x.seq) (find d s.sessions) d s k
-  kept_unless (Some w) d x s k = k
+  kept_each : {t : Traffic} (d : ℕ) (cs : List Command) (s : Loop) → Keeps me c t s → Keeps me c t (asked_each d cs s)
+  kept_each d [] s k = k
+  kept_each d (x ∷ xs) s k = kept_each d xs (asked (x.client, x.seq) (find d s.sessions) d s) (kept_asked (x.client, x.seq) (find d s.sessions) d s k)
+
+  kept_unless : {t : Traffic} (w : Option Refusal) (d : ℕ) (cs : List Command) (s : Loop) → Keeps me c t s → Keeps me c t (waits_unless w d cs s)
+  kept_unless None d cs s k = kept_each d cs s k
+  kept_unless (Some w) d cs s k = k
 
   kept_waiting : {t : Traffic} (who : Option ℕ) (i : Input) (o : Option Outcome) (s : Loop) → Keeps me c t s → Keeps me c t (waits_for_answer who i o s)
   kept_waiting None i o s k = k
-  kept_waiting (Some d) (input.Command x) o s k = kept_unless (refusal_of o) d x s k
+  kept_waiting (Some d) (input.Commands cs) o s k = kept_unless (refusal_of o) d cs s k
+  kept_waiting (Some d) (input.Stop members) o s k = k
+  kept_waiting (Some d) input.TrimNow o s k = k
   kept_waiting (Some d) input.Tick o s k = k
   kept_waiting (Some d) (input.Deliver q m) o s k = k
   kept_waiting (Some d) (input.Up q) o s k = k

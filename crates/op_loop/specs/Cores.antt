@@ -1,18 +1,18 @@
 -- A node as the loop sees it: its state, how often its disks have failed, and what is in range.
 use Rattle.std.specs.Prelude.{◌≡◌, ◌-◌, ℕ, List, length, take, Option, Some, None, Result, Ok, Err, All, IfSome}
-use Rattle.op_types.specs.Ranges.{IsPid, IsNumber, CommandInRange}
+use Rattle.op_types.specs.Ranges.{IsPid, MembersInRange, AreCommands}
 use Rattle.op_types.specs.declared.answers.Reply.{Reply}
 use Rattle.op_types.specs.declared.events.Input.{Input}
 use Rattle.op_types.specs.declared.events.Input.TheVariants as input
 use Rattle.op_types.specs.declared.messages.Msg.{Msg}
-use Rattle.op_types.specs.declared.summary.NodeLine.{NodeLine}
-use Rattle.op_types.specs.declared.summary.Running.{Running}
-use Rattle.op_types.specs.declared.summary.Running.TheVariants as running
+use Rattle.op_runs.specs.declared.summary.NodeLine.{NodeLine}
+use Rattle.op_runs.specs.declared.summary.Running.{Running}
+use Rattle.op_runs.specs.declared.summary.Running.TheVariants as running
 use Rattle.op_outside.specs.Causes.{Rises}
 use Rattle.op_msg.specs.Ranges.{MsgInRange}
-use Rattle.op_command.specs.Ranges.{AnswerInRange, OutcomeInRange}
-use Rattle.op_runs.specs.Summary.{stands_at}
-use Rattle.op_sched.specs.Text.{node_text}
+use Rattle.op_command.specs.Ranges.{IsAsked, AnswerInRange, OutcomeInRange}
+use Rattle.op_runs.specs.Summary.{stands_at, joining_conf}
+use Rattle.op_text.specs.Nodes.{node_text}
 use Rattle.op_chain.specs.declared.given.Given.{Given}
 use Rattle.op_node.specs.declared.fail.StepFail.{StepFail}
 use Rattle.op_node.specs.declared.fail.StepFail.TheVariants as fails
@@ -59,7 +59,7 @@ abbrev pub standing_line : NodeState → NodeLine
 standing_line n = record {
   pid = n.me;
   at = stands_at n.state.durable.part n.state.durable.closed;
-  joining = None;
+  joining = joining_conf n.state.durable.joining;
   running = running_of n.failed;
 }
 
@@ -73,7 +73,9 @@ status_text n = without_last (node_text (standing_line n))
 abbrev pub InputInRange : Input → Type 0
 InputInRange input.Tick = Unit {0}
 InputInRange (input.Deliver q m) = IsPid q × MsgInRange m
-InputInRange (input.Command c) = CommandInRange c
+InputInRange (input.Commands cs) = AreCommands cs
+InputInRange (input.Stop members) = MembersInRange members
+InputInRange input.TrimNow = Unit {0}
 InputInRange (input.Up q) = IsPid q
 InputInRange (input.Down q) = IsPid q
 
@@ -81,10 +83,9 @@ InputInRange (input.Down q) = IsPid q
 abbrev pub SendInRange : ℕ × Msg → Type 0
 SendInRange s = IsPid s.0 × MsgInRange s.1
 
--- an answer to a command
+-- an answer to a command; client and number are 0 where a buffered stop-sign is given up
 pub record ReplyInRange (r : Reply) : Type 0 where
-  pub client : IsNumber r.client
-  pub seq : IsNumber r.seq
+  pub asked : IsAsked r.client r.seq
   pub answer : AnswerInRange r.answer
 
 -- what a node gives out, so that it can be encoded

@@ -122,7 +122,9 @@ ended = no_command said.Ended
 -- what a client asks
 abbrev pub of_request : ℕ → Result Request ℕ → List Task
 of_request c (Err at) = answer c (no_command (said.BadRequest at)) ∷ []
-of_request c (Ok (request.Command x)) = give (Some c) (input.Command x) ∷ []
+of_request c (Ok (request.Command x)) = give (Some c) (input.Commands (x ∷ [])) ∷ []
+of_request c (Ok (request.Stop members)) = give (Some c) (input.Stop members) ∷ []
+of_request c (Ok request.Trim) = give (Some c) input.TrimNow ∷ []
 of_request c (Ok request.Status) = status c ∷ []
 of_request c (Ok request.End) = finish c ∷ []
 
@@ -136,49 +138,67 @@ of_body me c Client body = of_request c (request_in body)
 abbrev pub of_command : Command → Said → ClientReply
 of_command x told = record { client = x.client; seq = x.seq; said = told }
 
--- the command that an input is, and what its client is told of it
-abbrev pub about : Input → Said → ClientReply
-about (input.Command x) told = of_command x told
-about _ told = no_command told
+-- each of these commands is told this at a connection
+abbrev pub answer_each : ℕ → List Command → Said → List Task
+answer_each c cs told = map (λ x. answer c (of_command x told)) cs
+
+-- a stop-sign or a trim is told this
+abbrev pub answer_one : ℕ → Said → List Task
+answer_one c told = answer c (no_command told) ∷ []
 
 -- why a proposal is refused, if it is
 abbrev pub refusal_of : Option Outcome → Option Refusal
 refusal_of (Some (Refused why)) = Some why
 refusal_of _ = None
 
--- a refused command is told so at once
-abbrev pub of_refusal : ℕ → Command → Option Refusal → List Task
-of_refusal c x None = []
-of_refusal c x (Some why) = answer c (of_command x (said.Outcome (Refused why))) ∷ []
+-- refused commands are told so at once
+abbrev pub of_refusal : ℕ → List Command → Option Refusal → List Task
+of_refusal c cs None = []
+of_refusal c cs (Some why) = answer_each c cs (said.Outcome (Refused why))
 
--- what a client is told of an outcome at once: of a command only a refusal
+-- what becomes of a stop-sign or a trim is told at once
+abbrev pub told_at_once : ℕ → Option Outcome → List Task
+told_at_once c None = []
+told_at_once c (Some o) = answer_one c (said.Outcome o)
+
+-- what a client is told of an outcome at once: of commands only a refusal
 abbrev pub of_outcome : Option ℕ → Input → Option Outcome → List Task
-of_outcome (Some c) (input.Command x) o = of_refusal c x (refusal_of o)
+of_outcome (Some c) (input.Commands cs) o = of_refusal c cs (refusal_of o)
+of_outcome (Some c) (input.Stop members) o = told_at_once c o
+of_outcome (Some c) input.TrimNow o = told_at_once c o
 of_outcome _ _ o = []
 
 -- what is handed out of a step
 abbrev pub of_given : Option ℕ → Input → Given → List Task
 of_given who i given = of_outcome who i given.outcome ++ (map send given.sends ++ map reply given.replies)
 
--- a command waits for its answer, unless it is refused
-abbrev pub waits_unless : Option Refusal → ℕ → Command → Loop → Loop
-waits_unless None c x s = asked (x.client, x.seq) (find c s.sessions) c s
-waits_unless (Some why) c x s = s
+-- these commands wait for their answers
+abbrev pub asked_each : ℕ → List Command → Loop → Loop
+asked_each c [] s = s
+asked_each c (x ∷ xs) s = asked_each c xs (asked (x.client, x.seq) (find c s.sessions) c s)
+
+-- commands wait for their answers, unless they are refused
+abbrev pub waits_unless : Option Refusal → ℕ → List Command → Loop → Loop
+waits_unless None c cs s = asked_each c cs s
+waits_unless (Some why) c cs s = s
 
 -- the same of any input
 abbrev pub waits_for_answer : Option ℕ → Input → Option Outcome → Loop → Loop
-waits_for_answer (Some c) (input.Command x) o s = waits_unless (refusal_of o) c x s
+waits_for_answer (Some c) (input.Commands cs) o s = waits_unless (refusal_of o) c cs s
 waits_for_answer _ _ o s = s
 
--- a proposal is refused where the disk failed in its step
+-- what a client asked for is refused where the disk failed in its step
 abbrev pub of_fault : Option ℕ → Input → ℕ → List Task
-of_fault (Some c) i k = answer c (about i (said.Outcome (Refused (StorageFailed k)))) ∷ []
-of_fault None i k = []
+of_fault (Some c) (input.Commands cs) k = answer_each c cs (said.Outcome (Refused (StorageFailed k)))
+of_fault (Some c) (input.Stop members) k = answer_one c (said.Outcome (Refused (StorageFailed k)))
+of_fault (Some c) input.TrimNow k = answer_one c (said.Outcome (Refused (StorageFailed k)))
+of_fault _ _ k = []
 
--- a proposal that is lost is refused
+-- a proposal that is lost is refused; a trim that is lost is told nothing
 abbrev pub of_loss : Option ℕ → Input → List Task
-of_loss (Some c) i = answer c (about i said.RefusedMemory) ∷ []
-of_loss None i = []
+of_loss (Some c) (input.Commands cs) = answer_each c cs said.RefusedMemory
+of_loss (Some c) (input.Stop members) = answer_one c said.RefusedMemory
+of_loss _ _ = []
 
 -- whoever asked last is answered
 abbrev pub of_asker : Option ℕ → ClientReply → List Task

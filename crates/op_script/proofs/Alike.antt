@@ -21,7 +21,7 @@ use Rattle.op_sessions.specs.State.{Loop, Table, most_marks, find, without, entr
 use Rattle.op_loop.specs.Cores.{Standing, gives}
 use Rattle.op_loop.specs.Following.{Answer, became, found, answer_of}
 use Rattle.op_loop.specs.Looks.{nothing}
-use Rattle.op_loop.specs.Rules.{Task, Moment, Event, Step, done, faults, lost, at, give, send, reply, answer, status, close, meet, starved, of_asker, answered, of_end, of_loss, status_of, met, refusal_of, waits_unless, waits_for_answer}
+use Rattle.op_loop.specs.Rules.{Task, Moment, Event, Step, done, faults, lost, at, give, send, reply, answer, status, close, meet, starved, of_asker, answered, of_end, of_loss, status_of, met, refusal_of, asked_each, waits_unless, waits_for_answer}
 use Rattle.op_loop.specs.Run.{input_of, call_of}
 use Rattle.op_loop.proofs.Follows.{Sees, next_of, of_queued, of_sent, of_fate, step_next}
 
@@ -417,17 +417,33 @@ asked_blind : (key : ℕ × ℕ) (o : Option Session) (c : ℕ) (s : Loop) → b
 asked_blind key None c s = refl
 asked_blind key (Some x) c s = refl
 
-unless_still : (w : Option Refusal) (c : ℕ) (x : Command) (s : Loop) → Still (waits_unless w c x s) s
-unless_still None c x s = asked_still (x.client, x.seq) (find c s.sessions) c s
-unless_still (Some w) c x s = record { sessions = refl; queues = refl }
+each_still : (c : ℕ) (cs : List Command) (s : Loop) → Still (asked_each c cs s) s
+each_still c [] s = record { sessions = refl; queues = refl }
+each_still c (x ∷ xs) s =
+    let t : Loop = asked (x.client, x.seq) (find c s.sessions) c s in
+    let one : Still t s = asked_still (x.client, x.seq) (find c s.sessions) c s in
+    let all : Still (asked_each c xs t) t = each_still c xs t in
+    record { sessions = all.sessions ∙ one.sessions; queues = all.queues ∙ one.queues }
 
-unless_blind : (w : Option Refusal) (c : ℕ) (x : Command) (s : Loop) → blind (waits_unless w c x s) ≡ waits_unless w c x (blind s)
-unless_blind None c x s = asked_blind (x.client, x.seq) (find c s.sessions) c s ∙ ap (λ y. asked (x.client, x.seq) y c (blind s)) (sym (found_blind c s))
-unless_blind (Some w) c x s = refl
+each_blind : (c : ℕ) (cs : List Command) (s : Loop) → blind (asked_each c cs s) ≡ asked_each c cs (blind s)
+each_blind c [] s = refl
+each_blind c (x ∷ xs) s =
+    each_blind c xs (asked (x.client, x.seq) (find c s.sessions) c s)
+    ∙ ap (asked_each c xs) (asked_blind (x.client, x.seq) (find c s.sessions) c s ∙ ap (λ y. asked (x.client, x.seq) y c (blind s)) (sym (found_blind c s)))
+
+unless_still : (w : Option Refusal) (c : ℕ) (cs : List Command) (s : Loop) → Still (waits_unless w c cs s) s
+unless_still None c cs s = each_still c cs s
+unless_still (Some w) c cs s = record { sessions = refl; queues = refl }
+
+unless_blind : (w : Option Refusal) (c : ℕ) (cs : List Command) (s : Loop) → blind (waits_unless w c cs s) ≡ waits_unless w c cs (blind s)
+unless_blind None c cs s = each_blind c cs s
+unless_blind (Some w) c cs s = refl
 
 waiting_still : (who : Option ℕ) (i : Input) (o : Option Outcome) (s : Loop) → Still (waits_for_answer who i o s) s
 waiting_still None i o s = record { sessions = refl; queues = refl }
-waiting_still (Some c) (input.Command x) o s = unless_still (refusal_of o) c x s
+waiting_still (Some c) (input.Commands cs) o s = unless_still (refusal_of o) c cs s
+waiting_still (Some c) (input.Stop members) o s = record { sessions = refl; queues = refl }
+waiting_still (Some c) input.TrimNow o s = record { sessions = refl; queues = refl }
 waiting_still (Some c) input.Tick o s = record { sessions = refl; queues = refl }
 waiting_still (Some c) (input.Deliver q m) o s = record { sessions = refl; queues = refl }
 waiting_still (Some c) (input.Up q) o s = record { sessions = refl; queues = refl }
@@ -435,7 +451,9 @@ waiting_still (Some c) (input.Down q) o s = record { sessions = refl; queues = r
 
 waiting_blind : (who : Option ℕ) (i : Input) (o : Option Outcome) (s : Loop) → blind (waits_for_answer who i o s) ≡ waits_for_answer who i o (blind s)
 waiting_blind None i o s = refl
-waiting_blind (Some c) (input.Command x) o s = unless_blind (refusal_of o) c x s
+waiting_blind (Some c) (input.Commands cs) o s = unless_blind (refusal_of o) c cs s
+waiting_blind (Some c) (input.Stop members) o s = refl
+waiting_blind (Some c) input.TrimNow o s = refl
 waiting_blind (Some c) input.Tick o s = refl
 waiting_blind (Some c) (input.Deliver q m) o s = refl
 waiting_blind (Some c) (input.Up q) o s = refl

@@ -102,6 +102,8 @@ module _ {o : Settings} {end : ServeEnd} {marks : List Mark} {n : Standing} wher
         let t = waits_for d (client_frame (no_command (said.BadRequest bad))) s in
         queues_lag r t i k y c d g (answer_step g.step) calm (due_like c s t refl refl due) kind calm few due
     request_lag (Ok (request.Command x)) kind rest = absurd (moving_none c rest refl due)
+    request_lag (Ok (request.Stop members)) kind rest = absurd (moving_none c rest refl due)
+    request_lag (Ok request.Trim) kind rest = absurd (moving_none c rest refl due)
     request_lag (Ok request.Status) kind rest =
         let g = goes refl rest in
         let t = waits_for d (client_frame (status_of n)) s in

@@ -98,6 +98,8 @@ request_ends : (c : ℕ) (x : Result Request ℕ) → Unended (of_request c x) �
 unfolding Unended has_finish
 request_ends c (Err bad) = inl refl
 request_ends c (Ok (request.Command x)) = inl refl
+request_ends c (Ok (request.Stop members)) = inl refl
+request_ends c (Ok request.Trim) = inl refl
 request_ends c (Ok request.Status) = inl refl
 request_ends c (Ok request.End) = inr refl
 

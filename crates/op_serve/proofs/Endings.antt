@@ -18,6 +18,7 @@ use Rattle.op_store.specs.Stores.{Represents, disks_of}
 use Rattle.op_store.specs.declared.store.Store.{Store}
 use Rattle.op_store.proofs.CommitCrashes.{open_stored, rests_first, rests_second}
 use Rattle.op_store.proofs.PairRuns.{pairs_same}
+use Rattle.op_store.proofs.KeptDisks.{keep_same}
 use Rattle.op_store.specs.declared.fail.Returned.{Returned}
 use Rattle.op_store.specs.declared.fail.StoreFail.{StoreFail}
 use Rattle.op_store.specs.declared.fail.StoreFail.TheVariants as refusals
@@ -86,7 +87,7 @@ module _ {D : Type 0} (state : D → DiskState) where
     uncalled_keeps =
         record {
           only_disks = refl;
-          kept = record { model = ((λ x. x, λ x. x), (λ x. x, λ x. x)); mark = (refl, refl) };
+          kept = keep_same (disks_with state first second);
           later = omega arith;
           crash = λ obey. pairs_same (Remains (fresh_for id members) (state first).content (state second).content) (disks_with state first second);
           images = λ obey had. had;

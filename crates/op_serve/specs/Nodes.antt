@@ -123,7 +123,7 @@ module _ {D : Type 0} (state : D → DiskState) where
     pub crash : ObeyIn old → Keeps (fresh_for id members) (disks_in old) (disks_in new)
     pub images : ObeyIn old → HaveImages (disks_in old) → HaveImages (disks_in new)
 
-  -- an area is damaged at this place, and nothing was cut or written
+  -- an area is damaged at this place, and a read of each disk gives what it gave before
   pub record IsDamaged (old new : Around D) (area at : ℕ) : Type 0 where
     pub damage : IsDamageOf (state old.first).content (state old.second).content area at
     pub same_first : (state new.first).content ≡ (state old.first).content

@@ -9,7 +9,7 @@ ghost use Rattle.op_serve.specs.Nodes.{Ends, Goes, IsHeard, IsNodeOf, around, re
 
 use crate::ending::Ending;
 use itoa::Buffer;
-use op_loop::{ServeEnd, serve};
+use op_loop::{ServeEnd, opened_nodes_can_be_served, serve};
 use op_node::Node;
 use op_outside::{Addr, Clock, Disk, Net, Sink, WriteFail};
 use op_parts::write_parts;
@@ -38,6 +38,7 @@ pub(crate) fn serve_node<D: Disk, N: Net, C: Clock, K: Sink>(
         (K.held out.new, K.fault_count out.new))
         result.status result.lost.items }
 {
+    opened_nodes_can_be_served::<D>();
     match Node::open(alloc, id, &settings.members, first, second) {
         Ok((node, _)) => serve_opened(alloc, id, settings, node, net, clock, out),
         Err(refused) => {

@@ -5,13 +5,13 @@ use Rattle.op_types.specs.Ranges.{IsKey, IsNumber, IsValue}
 use Rattle.op_types.specs.declared.log.Command.{Command}
 use Rattle.op_types.specs.declared.log.Op.TheVariants.{Put, Del, Get, Cas}
 use Rattle.op_types.specs.declared.events.Request.TheVariants as request
-use Rattle.op_sched.specs.Grammar.{op_name, operands}
-use Rattle.op_sched.proofs.EventWords.{after_first}
-use Rattle.op_sched.specs.Operands.{AreOperandsOf}
-use Rattle.op_sched.specs.Percent.{IsEncoded, encoded}
+use Rattle.op_text.specs.Operations.{op_name, operands}
+use Rattle.op_text.proofs.Operations.{after_first}
+use Rattle.op_text.specs.Operations.{AreOperandsOf}
+use Rattle.op_text.specs.Percent.{IsEncoded, encoded}
 use Rattle.op_setup.specs.Tasks.{IsRequest}
 use Rattle.op_setup.proofs.Words.{one_word}
-use Rattle.op_setup.specs.Requests.{AreOperands, AreSomeKeyOnly, IsCommand, IsCommandOf}
+use Rattle.op_setup.specs.Requests.{AreMembers, AreOperands, AreSomeKeyOnly, IsCommand, IsCommandOf}
 
 -- ---- operands
 
@@ -111,3 +111,13 @@ no_short_command now name ws short c h =
 -- a command's words are a request's
 pub command_request : (words : List (List ℕ)) → IsCommand words → IsRequest words
 command_request words (c, h) = (request.Command c, record { in_range = (h.in_range, h.of_bytes); written = h.written })
+
+-- members' ids behind `stop` are a request's words
+pub stop_request : (words : List (List ℕ)) → AreMembers words → IsRequest (codes "stop" ∷ words)
+stop_request words (members, h) = (
+  request.Stop members,
+  record {
+    in_range = h.in_range;
+    written = ap (λ (more : List (List ℕ)). codes "stop" ∷ more) h.written;
+  },
+)

@@ -9,7 +9,10 @@ use Rattle.std.proofs.lemmas.Str.Parse.{digit_from_value}
 use Rattle.std.specs.Str.Parse.{IsNumeral}
 use Rattle.clap.specs.Lexer.{long_of, short_of}
 use Rattle.op_outside.specs.declared.net.Addr.{Addr}
-use Rattle.op_sched.specs.Percent.{encoded, encoded_byte, escaped, is_plain}
+use Rattle.op_types.specs.declared.log.Op.{Op}
+use Rattle.op_types.specs.declared.log.Op.TheVariants.{Put, Del, Get, Cas}
+use Rattle.op_text.specs.Operations.{op_name}
+use Rattle.op_text.specs.Percent.{encoded, encoded_byte, escaped, is_plain}
 use Rattle.op_setup.specs.Addresses.{addr_text}
 use Rattle.op_setup.specs.Tasks.{is_flag}
 use Rattle.op_setup.proofs.AddressTexts.{host_bytes}
@@ -75,3 +78,9 @@ encoded_begins (b ∷ bytes) = begins_more (encoded_byte b) (flat_map encoded_by
 
 pub plain_encoded : (bytes : List ℕ) → IsPlainWord (encoded bytes)
 plain_encoded bytes = plain_from (encoded bytes) (encoded_begins bytes)
+
+pub plain_op_name : (op : Op) → IsPlainWord (op_name op)
+plain_op_name (Put key value) = plain_from (codes "put") refl
+plain_op_name (Del key) = plain_from (codes "del") refl
+plain_op_name (Get key) = plain_from (codes "get") refl
+plain_op_name (Cas key old new) = plain_from (codes "cas") refl

@@ -1,6 +1,7 @@
 -- What clap makes of the words of a task.
-use Rattle.std.proofs.Common.{refl, sym, ap, ap₂, ◌∙◌, List, [], ◌∷◌, ℕ, ◌≡◌, true, Option, None, Some, option_map, codes, decimal, arith}
+use Rattle.std.proofs.Common.{refl, sym, ap, ap₂, ◌∙◌, List, [], ◌∷◌, length, map, ℕ, ◌≤◌, ◌≡◌, true, Option, None, Some, option_map, codes, decimal, arith}
 use Rattle.std.specs.Prelude.{slice_get}
+use Rattle.std.proofs.lemmas.List.{length-map}
 use Rattle.clap.specs.Words.{App, HasMatchesOf, takes, is_simple, subcommand_of, subcommand_name_of, subcommand_rows_of}
 use Rattle.clap.specs.declared.parser.matches.ArgMatches.{ArgMatches}
 use Rattle.clap.specs.declared.parser.matches.ArgMatches.TheViews.{out-ArgMatches}
@@ -9,14 +10,15 @@ use Rattle.op_setup.specs.declared.tasks.Task.{Task}
 use Rattle.op_setup.specs.declared.tasks.Task.TheVariants.{Node, Replay, Call, Cluster, DrillLinks}
 use Rattle.op_types.specs.declared.log.Op.{Op}
 use Rattle.op_types.specs.declared.log.Op.TheVariants.{Put, Del, Get, Cas}
+use Rattle.op_types.specs.declared.events.Request.{Request}
 use Rattle.op_types.specs.declared.events.Request.TheVariants as request
 use Rattle.op_gen.specs.Scenarios.{name_of}
 use Rattle.op_gen.specs.declared.scenario.Scenario.{Scenario}
 use Rattle.op_gen.specs.declared.scenario.Scenario.TheVariants.{Quorum, Constrained, Chained}
-use Rattle.op_sched.specs.Percent.{encoded}
+use Rattle.op_text.specs.Operations.{op_name, operands}
 use Rattle.op_setup.specs.Addresses.{addr_text}
-use Rattle.op_setup.specs.Tasks.{op_words, task_words, IsTask, TaskInRange}
-use Rattle.op_setup.proofs.Flags.{IsPlainWord, plain_addr, plain_decimal}
+use Rattle.op_setup.specs.Tasks.{request_words, task_words, IsTask, RequestInRange, TaskInRange}
+use Rattle.op_setup.proofs.Flags.{IsPlainWord, plain_addr, plain_decimal, plain_op_name}
 use Rattle.op_setup.specs.Commands.{omni_app}
 
 node_taken : (id : List ℕ) → IsPlainWord id → takes omni_app (codes "node" ∷ id ∷ []) ≡ true
@@ -37,38 +39,73 @@ drill_taken Quorum rounds h = rw (h.long, h.short, h.bare) refl
 drill_taken Constrained rounds h = rw (h.long, h.short, h.bare) refl
 drill_taken Chained rounds h = rw (h.long, h.short, h.bare) refl
 
-status_taken : (addr : List ℕ) → IsPlainWord addr → takes omni_app (codes "call" ∷ addr ∷ codes "status" ∷ []) ≡ true
+-- a call of a plain name and up to nine words more, of which clap reads none
+words_taken : (addr name : List ℕ) (more : List (List ℕ)) → IsPlainWord addr → IsPlainWord name → length more ≤ 9 → takes omni_app (codes "call" ∷ addr ∷ name ∷ more) ≡ true
 unfolding clap_on_literals
-status_taken addr h = rw (h.long, h.short, h.bare) refl
+words_taken addr name [] h n few = rw (h.long, h.short, h.bare, n.long, n.short, n.bare) refl
+words_taken addr name (a ∷ []) h n few = rw (h.long, h.short, h.bare, n.long, n.short, n.bare) refl
+words_taken addr name (a ∷ b ∷ []) h n few = rw (h.long, h.short, h.bare, n.long, n.short, n.bare) refl
+words_taken addr name (a ∷ b ∷ c ∷ []) h n few = rw (h.long, h.short, h.bare, n.long, n.short, n.bare) refl
+words_taken addr name (a ∷ b ∷ c ∷ d ∷ []) h n few = rw (h.long, h.short, h.bare, n.long, n.short, n.bare) refl
+words_taken addr name (a ∷ b ∷ c ∷ d ∷ e ∷ []) h n few = rw (h.long, h.short, h.bare, n.long, n.short, n.bare) refl
+words_taken addr name (a ∷ b ∷ c ∷ d ∷ e ∷ i ∷ []) h n few = rw (h.long, h.short, h.bare, n.long, n.short, n.bare) refl
+words_taken addr name (a ∷ b ∷ c ∷ d ∷ e ∷ i ∷ j ∷ []) h n few = rw (h.long, h.short, h.bare, n.long, n.short, n.bare) refl
+words_taken addr name (a ∷ b ∷ c ∷ d ∷ e ∷ i ∷ j ∷ k ∷ []) h n few = rw (h.long, h.short, h.bare, n.long, n.short, n.bare) refl
+words_taken addr name (a ∷ b ∷ c ∷ d ∷ e ∷ i ∷ j ∷ k ∷ l ∷ []) h n few = rw (h.long, h.short, h.bare, n.long, n.short, n.bare) refl
+words_taken addr name (a ∷ b ∷ c ∷ d ∷ e ∷ i ∷ j ∷ k ∷ l ∷ m ∷ more) h n few = absurd (omega (arith, few))
 
-end_taken : (addr : List ℕ) → IsPlainWord addr → takes omni_app (codes "call" ∷ addr ∷ codes "end" ∷ []) ≡ true
-unfolding clap_on_literals
-end_taken addr h = rw (h.long, h.short, h.bare) refl
+-- the names of requests
+abbrev request_name : Request → List ℕ
+request_name (request.Command c) = op_name c.op
+request_name (request.Stop members) = codes "stop"
+request_name request.Trim = codes "trim"
+request_name request.Status = codes "status"
+request_name request.End = codes "end"
 
-key_taken : (addr name client seq key : List ℕ) → IsPlainWord addr → IsPlainWord name → takes omni_app (codes "call" ∷ addr ∷ name ∷ client ∷ seq ∷ key ∷ []) ≡ true
-unfolding clap_on_literals
-key_taken addr name client seq key h n = rw (h.long, h.short, h.bare, n.long, n.short, n.bare) refl
+-- what stands after the name
+abbrev after_name : Request → List (List ℕ)
+after_name (request.Command c) = decimal c.client ∷ decimal c.seq ∷ operands c.op
+after_name (request.Stop members) = map decimal members
+after_name request.Trim = []
+after_name request.Status = []
+after_name request.End = []
 
-value_taken : (addr name client seq key value : List ℕ) → IsPlainWord addr → IsPlainWord name → takes omni_app (codes "call" ∷ addr ∷ name ∷ client ∷ seq ∷ key ∷ value ∷ []) ≡ true
-unfolding clap_on_literals
-value_taken addr name client seq key value h n = rw (h.long, h.short, h.bare, n.long, n.short, n.bare) refl
+name_first : (r : Request) → request_words r ≡ request_name r ∷ after_name r
+name_first (request.Command c) = refl
+name_first (request.Stop members) = refl
+name_first request.Trim = refl
+name_first request.Status = refl
+name_first request.End = refl
 
-values_taken : (addr name client seq key old new : List ℕ) → IsPlainWord addr → IsPlainWord name → takes omni_app (codes "call" ∷ addr ∷ name ∷ client ∷ seq ∷ key ∷ old ∷ new ∷ []) ≡ true
-unfolding clap_on_literals
-values_taken addr name client seq key old new h n = rw (h.long, h.short, h.bare, n.long, n.short, n.bare) refl
+plain_name : (r : Request) → IsPlainWord (request_name r)
+plain_name (request.Command c) = plain_op_name c.op
+plain_name (request.Stop members) = record { flag = refl; long = refl; short = refl; bare = refl }
+plain_name request.Trim = record { flag = refl; long = refl; short = refl; bare = refl }
+plain_name request.Status = record { flag = refl; long = refl; short = refl; bare = refl }
+plain_name request.End = record { flag = refl; long = refl; short = refl; bare = refl }
 
-op_taken : (addr : List ℕ) (client seq : ℕ) (op : Op) → IsPlainWord addr → takes omni_app (codes "call" ∷ addr ∷ op_words client seq op) ≡ true
-op_taken addr client seq (Put key value) h = value_taken addr (codes "put") (decimal client) (decimal seq) (encoded key) (encoded value) h (record { flag = refl; long = refl; short = refl; bare = refl })
-op_taken addr client seq (Del key) h = key_taken addr (codes "del") (decimal client) (decimal seq) (encoded key) h (record { flag = refl; long = refl; short = refl; bare = refl })
-op_taken addr client seq (Get key) h = key_taken addr (codes "get") (decimal client) (decimal seq) (encoded key) h (record { flag = refl; long = refl; short = refl; bare = refl })
-op_taken addr client seq (Cas key old new) h = values_taken addr (codes "cas") (decimal client) (decimal seq) (encoded key) (encoded old) (encoded new) h (record { flag = refl; long = refl; short = refl; bare = refl })
+few_operands : (op : Op) → length (operands op) ≤ 3
+few_operands (Put key value) = omega arith
+few_operands (Del key) = omega arith
+few_operands (Get key) = omega arith
+few_operands (Cas key old new) = omega arith
+
+few_after : (r : Request) → RequestInRange r → length (after_name r) ≤ 9
+few_after (request.Command c) h = omega (arith, few_operands c.op)
+few_after (request.Stop members) h = omega (arith, length-map members decimal, h.few)
+few_after request.Trim h = omega arith
+few_after request.Status h = omega arith
+few_after request.End h = omega arith
+
+call_taken : (addr : List ℕ) (r : Request) → IsPlainWord addr → RequestInRange r → takes omni_app (codes "call" ∷ addr ∷ request_words r) ≡ true
+call_taken addr r plain h =
+    ap (λ (words : List (List ℕ)). takes omni_app (codes "call" ∷ addr ∷ words)) (name_first r)
+    ∙ words_taken addr (request_name r) (after_name r) plain (plain_name r) (few_after r h)
 
 taken : (t : Task) → TaskInRange t → takes omni_app (task_words t) ≡ true
 taken (Node id) h = node_taken (decimal id) (plain_decimal id (omega (arith, h.1)))
 taken Replay h = replay_taken
-taken (Call addr (request.Command c)) h = op_taken (addr_text addr) c.client c.seq c.op (plain_addr addr)
-taken (Call addr request.Status) h = status_taken (addr_text addr) (plain_addr addr)
-taken (Call addr request.End) h = end_taken (addr_text addr) (plain_addr addr)
+taken (Call addr r) h = call_taken (addr_text addr) r (plain_addr addr) h.1
 taken Cluster h = cluster_taken
 taken (DrillLinks scenario rounds) h = drill_taken scenario (decimal rounds) (plain_decimal rounds (omega (arith, h.1)))
 
@@ -98,34 +135,27 @@ drill_found Quorum rounds = refl
 drill_found Constrained rounds = refl
 drill_found Chained rounds = refl
 
-call_found : (addr word : List ℕ) → name_found (codes "call" ∷ addr ∷ word ∷ []) ≡ Some (codes "call")
+call_found : (addr name : List ℕ) (more : List (List ℕ)) → length more ≤ 9 → name_found (codes "call" ∷ addr ∷ name ∷ more) ≡ Some (codes "call")
 unfolding clap_on_literals
-call_found addr word = refl
+call_found addr name [] few = refl
+call_found addr name (a ∷ []) few = refl
+call_found addr name (a ∷ b ∷ []) few = refl
+call_found addr name (a ∷ b ∷ c ∷ []) few = refl
+call_found addr name (a ∷ b ∷ c ∷ d ∷ []) few = refl
+call_found addr name (a ∷ b ∷ c ∷ d ∷ e ∷ []) few = refl
+call_found addr name (a ∷ b ∷ c ∷ d ∷ e ∷ i ∷ []) few = refl
+call_found addr name (a ∷ b ∷ c ∷ d ∷ e ∷ i ∷ j ∷ []) few = refl
+call_found addr name (a ∷ b ∷ c ∷ d ∷ e ∷ i ∷ j ∷ k ∷ []) few = refl
+call_found addr name (a ∷ b ∷ c ∷ d ∷ e ∷ i ∷ j ∷ k ∷ l ∷ []) few = refl
+call_found addr name (a ∷ b ∷ c ∷ d ∷ e ∷ i ∷ j ∷ k ∷ l ∷ m ∷ more) few = absurd (omega (arith, few))
 
-key_found : (addr name client seq key : List ℕ) → name_found (codes "call" ∷ addr ∷ name ∷ client ∷ seq ∷ key ∷ []) ≡ Some (codes "call")
-unfolding clap_on_literals
-key_found addr name client seq key = refl
-
-value_found : (addr name client seq key value : List ℕ) → name_found (codes "call" ∷ addr ∷ name ∷ client ∷ seq ∷ key ∷ value ∷ []) ≡ Some (codes "call")
-unfolding clap_on_literals
-value_found addr name client seq key value = refl
-
-values_found : (addr name client seq key old new : List ℕ) → name_found (codes "call" ∷ addr ∷ name ∷ client ∷ seq ∷ key ∷ old ∷ new ∷ []) ≡ Some (codes "call")
-unfolding clap_on_literals
-values_found addr name client seq key old new = refl
-
-op_found : (addr : List ℕ) (client seq : ℕ) (op : Op) → name_found (codes "call" ∷ addr ∷ op_words client seq op) ≡ Some (codes "call")
-op_found addr client seq (Put key value) = value_found addr (codes "put") (decimal client) (decimal seq) (encoded key) (encoded value)
-op_found addr client seq (Del key) = key_found addr (codes "del") (decimal client) (decimal seq) (encoded key)
-op_found addr client seq (Get key) = key_found addr (codes "get") (decimal client) (decimal seq) (encoded key)
-op_found addr client seq (Cas key old new) = values_found addr (codes "cas") (decimal client) (decimal seq) (encoded key) (encoded old) (encoded new)
+request_found : (addr : List ℕ) (r : Request) → RequestInRange r → name_found (codes "call" ∷ addr ∷ request_words r) ≡ Some (codes "call")
+request_found addr r h = ap (λ (words : List (List ℕ)). name_found (codes "call" ∷ addr ∷ words)) (name_first r) ∙ call_found addr (request_name r) (after_name r) (few_after r h)
 
 found : (t : Task) → TaskInRange t → name_found (task_words t) ≡ slice_get (task_words t) 0
 found (Node id) h = node_found (decimal id)
 found Replay h = replay_found
-found (Call addr (request.Command c)) h = op_found (addr_text addr) c.client c.seq c.op
-found (Call addr request.Status) h = call_found (addr_text addr) (codes "status")
-found (Call addr request.End) h = call_found (addr_text addr) (codes "end")
+found (Call addr r) h = request_found (addr_text addr) r h.1
 found Cluster h = cluster_found
 found (DrillLinks scenario rounds) h = drill_found scenario (decimal rounds)
 

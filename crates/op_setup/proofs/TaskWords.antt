@@ -1,10 +1,10 @@
 -- The words of tasks: none begins with `-`, and no two tasks have the same.
-use Rattle.std.proofs.Common.{◌≡◌, ◌≤◌, ◌<◌, length, get_or, map, ℕ, Bool, true, List, [], ◌∷◌, refl, sym, ap, ◌∙◌, arith, false, IsTrue, codes, decimal}
+use Rattle.std.proofs.Common.{◌≡◌, ◌≤◌, ◌<◌, length, get_or, map, ℕ, Bool, true, List, [], ◌∷◌, refl, sym, ap, ◌∙◌, subst, arith, false, IsTrue, codes, decimal}
 use Rattle.std.proofs.lemmas.Bool.{false≢true}
 use Rattle.std.proofs.lemmas.Fmt.{decimal_injective}
 use Rattle.std.proofs.lemmas.Slice.Eq.{bytes_eq-Decides}
 use Rattle.op_outside.specs.declared.net.Addr.{Addr}
-use Rattle.op_types.specs.Ranges.{IsNumber}
+use Rattle.op_types.specs.Ranges.{AreRising, IsNumber}
 use Rattle.op_types.specs.declared.events.Request.{Request}
 use Rattle.op_types.specs.declared.events.Request.TheVariants as request
 use Rattle.op_types.specs.declared.log.Op.{Op}
@@ -12,10 +12,9 @@ use Rattle.op_types.specs.declared.log.Op.TheVariants.{Put, Del, Get, Cas}
 use Rattle.op_gen.specs.Scenarios.{name_of}
 use Rattle.op_gen.specs.declared.scenario.Scenario.{Scenario}
 use Rattle.op_gen.specs.declared.scenario.Scenario.TheVariants.{Quorum, Constrained, Chained}
-use Rattle.op_sched.proofs.EventWords.{no_op}
-use Rattle.op_sched.proofs.UnambiguousSchedules.{one_command}
-use Rattle.op_sched.specs.Grammar.{op_name, operands}
-use Rattle.op_sched.specs.Percent.{encoded}
+use Rattle.op_text.proofs.Operations.{no_op, one_command}
+use Rattle.op_text.specs.Operations.{op_name, operands}
+use Rattle.op_text.specs.Percent.{encoded}
 use Rattle.op_setup.specs.Addresses.{addr_text}
 use Rattle.op_setup.specs.Tasks.{has_flag, is_flag, most_rounds, op_words, request_words, task_words, DrillsLinks, IsRequest, IsTask, IsTaskOf, RequestInRange, TaskInRange}
 use Rattle.op_setup.specs.declared.tasks.Task.{Task}
@@ -23,7 +22,8 @@ use Rattle.op_setup.specs.declared.tasks.Task.TheVariants.{Node, Replay, Call, C
 use Rattle.op_setup.specs.Addresses.{IsAddr}
 use Rattle.op_setup.proofs.AddressTexts.{one_addr}
 use Rattle.op_setup.proofs.CommandWords.{three_words}
-use Rattle.op_setup.proofs.Flags.{plain_addr, plain_decimal, plain_encoded}
+use Rattle.op_setup.proofs.RisingIds.{decimal_tells}
+use Rattle.op_setup.proofs.Flags.{plain_addr, plain_decimal, plain_encoded, plain_op_name}
 
 -- ---- no flag
 
@@ -35,12 +35,6 @@ one_flag name word hn hw = rw (hn, hw) refl
 
 call_flag : (addr word : List ℕ) → is_flag addr ≡ false → is_flag word ≡ false → has_flag (codes "call" ∷ addr ∷ word ∷ []) ≡ false
 call_flag addr word ha hw = rw (ha, hw) refl
-
-name_flag : (op : Op) → is_flag (op_name op) ≡ false
-name_flag (Put key value) = refl
-name_flag (Del key) = refl
-name_flag (Get key) = refl
-name_flag (Cas key old new) = refl
 
 operands_flag : (op : Op) → has_flag (operands op) ≡ false
 operands_flag (Put key value) = one_flag (encoded key) (encoded value) (plain_encoded key).flag (plain_encoded value).flag
@@ -56,13 +50,22 @@ op_flag : (addr : List ℕ) (client seq : ℕ) (op : Op) → is_flag addr ≡ fa
 op_flag addr client seq op ha hc hs =
     let c = plain_decimal client (omega (arith, hc.1)) in
     let s = plain_decimal seq (omega (arith, hs.1)) in
-    words_flag addr (op_name op) (decimal client) (decimal seq) (operands op) ha (name_flag op) c.flag s.flag (operands_flag op)
+    words_flag addr (op_name op) (decimal client) (decimal seq) (operands op) ha (plain_op_name op).flag c.flag s.flag (operands_flag op)
+
+ids_flag : (low : ℕ) (ids : List ℕ) → AreRising low ids → has_flag (map decimal ids) ≡ false
+ids_flag low [] h = refl
+ids_flag low (id ∷ ids) h = rw ((plain_decimal id (omega (arith, h.1))).flag, ids_flag id ids h.2) refl
+
+stop_flag : (addr : List ℕ) (ids : List (List ℕ)) → is_flag addr ≡ false → has_flag ids ≡ false → has_flag (codes "call" ∷ addr ∷ codes "stop" ∷ ids) ≡ false
+stop_flag addr ids ha hw = rw (ha, hw) refl
 
 -- the task has no such word, or drills links
 flag_of : (t : Task) → TaskInRange t → has_flag (task_words t) ≡ true → DrillsLinks t
 flag_of (Node id) h flag = no_flag (one_flag (codes "node") (decimal id) refl (plain_decimal id (omega (arith, h.1))).flag) flag
 flag_of Replay h flag = no_flag refl flag
 flag_of (Call addr (request.Command c)) h flag = no_flag (op_flag (addr_text addr) c.client c.seq c.op (plain_addr addr).flag h.1.0.client h.1.0.seq) flag
+flag_of (Call addr (request.Stop members)) h flag = no_flag (stop_flag (addr_text addr) (map decimal members) (plain_addr addr).flag (ids_flag 0 members h.1.rising)) flag
+flag_of (Call addr request.Trim) h flag = no_flag (call_flag (addr_text addr) (codes "trim") (plain_addr addr).flag refl) flag
 flag_of (Call addr request.Status) h flag = no_flag (call_flag (addr_text addr) (codes "status") (plain_addr addr).flag refl) flag
 flag_of (Call addr request.End) h flag = no_flag (call_flag (addr_text addr) (codes "end") (plain_addr addr).flag refl) flag
 flag_of Cluster h flag = no_flag refl flag
@@ -83,6 +86,17 @@ abbrev after_first : List (List ℕ) → List (List ℕ)
 after_first [] = []
 after_first (a ∷ more) = more
 
+one_members : (low : ℕ) (ms ns : List ℕ) → AreRising low ms → AreRising low ns → map decimal ms ≡ map decimal ns → ms ≡ ns
+one_members low [] [] hm hn e = refl
+one_members low [] (n ∷ ns) hm hn e = absurd cc
+one_members low (m ∷ ms) [] hm hn e = absurd cc
+one_members low (m ∷ ms) (n ∷ ns) hm hn e =
+    let same : m ≡ n = decimal_tells m n hm.1 hn.1 cc in
+    let more : map decimal ms ≡ map decimal ns = cc in
+    let P : ℕ → Type 0 = λ x. AreRising x ns in
+    let rest = one_members m ms ns hm.2 (subst P (sym same) hn.2) more in
+    cc (same, rest)
+
 one_request : (r s : Request) → RequestInRange r → RequestInRange s → request_words r ≡ request_words s → r ≡ s
 one_request (request.Command c) (request.Command d) hr hs e =
     let name : op_name c.op ≡ op_name d.op = cc in
@@ -90,6 +104,8 @@ one_request (request.Command c) (request.Command d) hr hs e =
     let seq : decimal c.seq ≡ decimal d.seq = cc in
     let words : operands c.op ≡ operands d.op = cc in
     ap request.Command (one_command c d hr.0 hs.0 hr.1 hs.1 name client seq words)
+one_request (request.Stop ms) (request.Stop ns) hr hs e = ap request.Stop (one_members 0 ms ns hr.rising hs.rising cc)
+one_request request.Trim request.Trim hr hs e = refl
 one_request request.Status request.Status hr hs e = refl
 one_request request.End request.End hr hs e = refl
 one_request (request.Command c) s hr hs e = absurd (no_op c.op (first (request_words s)) refl (ap first e))

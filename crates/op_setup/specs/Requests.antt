@@ -1,10 +1,9 @@
--- The commands that requests propose. Only what is inside the crate speaks of this.
-use Rattle.std.specs.Prelude.{◌≡◌, ℕ, List}
-use Rattle.op_types.specs.Ranges.{CommandInRange}
+-- The commands and members that requests propose. Only what is inside the crate speaks of this.
+use Rattle.std.specs.Prelude.{◌≡◌, ℕ, List, map, decimal}
+use Rattle.op_types.specs.Ranges.{CommandInRange, MembersInRange}
 use Rattle.op_types.specs.declared.log.Op.{Op}
 use Rattle.op_types.specs.declared.log.Command.{Command}
-use Rattle.op_sched.specs.Grammar.{OpIsOfBytes}
-use Rattle.op_sched.specs.Operands.{AreKeyOnly, AreOperandsOf}
+use Rattle.op_text.specs.Operations.{AreKeyOnly, AreOperandsOf, OpIsOfBytes}
 use Rattle.op_setup.specs.Tasks.{op_words}
 
 -- the words are this command's
@@ -24,3 +23,12 @@ AreOperands name words = (op : Op) × AreOperandsOf name words op
 -- the words are some key alone
 abbrev pub AreSomeKeyOnly : List (List ℕ) → Type 0
 AreSomeKeyOnly words = (key : List ℕ) × AreKeyOnly words key
+
+-- the words are these members' ids
+pub record AreMembersOf (words : List (List ℕ)) (members : List ℕ) : Type 0 where
+  pub in_range : MembersInRange members
+  pub written : words ≡ map decimal members
+
+-- the words are the ids of some members
+abbrev pub AreMembers : List (List ℕ) → Type 0
+AreMembers words = (members : List ℕ) × AreMembersOf words members

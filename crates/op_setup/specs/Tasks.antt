@@ -1,12 +1,12 @@
 -- What the words of the command line ask.
-use Rattle.std.specs.Prelude.{◌≡◌, ◌≤◌, ℕ, List, [], ◌∷◌, codes, decimal, nat_eq, Bool}
+use Rattle.std.specs.Prelude.{◌≡◌, ◌≤◌, ℕ, List, [], ◌∷◌, map, codes, decimal, nat_eq, Bool}
 use Rattle.std.specs.List.{starts_with, list_any}
-use Rattle.op_types.specs.Ranges.{CommandInRange, IsPid}
+use Rattle.op_types.specs.Ranges.{CommandInRange, IsPid, MembersInRange}
 use Rattle.op_types.specs.declared.log.Op.{Op}
 use Rattle.op_types.specs.declared.events.Request.{Request}
 use Rattle.op_types.specs.declared.events.Request.TheVariants as request
 use Rattle.op_gen.specs.Scenarios.{name_of}
-use Rattle.op_sched.specs.Grammar.{OpIsOfBytes, op_name, operands}
+use Rattle.op_text.specs.Operations.{OpIsOfBytes, op_name, operands}
 use Rattle.op_setup.specs.Addresses.{AddrInRange, addr_text}
 use Rattle.op_setup.specs.declared.tasks.Task.{Task}
 use Rattle.op_setup.specs.declared.tasks.Task.TheVariants.{Node, Replay, Call, Cluster, DrillLinks}
@@ -18,6 +18,8 @@ op_words client seq op = op_name op ∷ decimal client ∷ decimal seq ∷ opera
 -- the words of a request
 abbrev pub request_words : Request → List (List ℕ)
 request_words (request.Command c) = op_words c.client c.seq c.op
+request_words (request.Stop members) = codes "stop" ∷ map decimal members
+request_words request.Trim = codes "trim" ∷ []
 request_words request.Status = codes "status" ∷ []
 request_words request.End = codes "end" ∷ []
 
@@ -37,6 +39,8 @@ task_words (DrillLinks scenario rounds) =
 -- the request's parts are in range
 abbrev pub RequestInRange : Request → Type 0
 RequestInRange (request.Command c) = CommandInRange c × OpIsOfBytes c.op
+RequestInRange (request.Stop members) = MembersInRange members
+RequestInRange request.Trim = Unit {0}
 RequestInRange request.Status = Unit {0}
 RequestInRange request.End = Unit {0}
 

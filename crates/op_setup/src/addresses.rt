@@ -1,10 +1,10 @@
 //! Addresses as text.
 ghost use Rattle.std.specs.Prelude.{◌≡◌, ◌∷◌, ◌++◌, ℕ, List, Some, option_map};
-ghost use Rattle.op_sched.specs.Found.{IsFound};
+ghost use Rattle.op_text.specs.Found.{IsFound};
 ghost use Rattle.op_setup.specs.Addresses.{HasNoColon, IsAddr, IsSocketText, colon};
 
 use op_outside::Addr;
-use op_sched::number;
+use op_text::number;
 use std::net::SocketAddrV4;
 
 /// The address of a text. No memory is taken.

@@ -8,6 +8,7 @@ mod config;
 mod config_cause;
 mod fail;
 mod laws;
+mod member_ids;
 mod operations;
 mod reading;
 mod requests;

@@ -1,11 +1,11 @@
 //! A client's operations. Each reads the words after its command's number, and takes memory only where they are its own.
 ghost use Rattle.std.specs.Prelude.{map, codes, string_bytes, IfOk, IfErr};
-ghost use Rattle.op_sched.specs.Found.{IsFound};
-ghost use Rattle.op_sched.specs.Operands.{AreKeyOnly, AreOperandsOf};
+ghost use Rattle.op_text.specs.Found.{IsFound};
+ghost use Rattle.op_text.specs.Operations.{AreKeyOnly, AreOperandsOf};
 ghost use Rattle.op_setup.specs.Requests.{AreOperands, AreSomeKeyOnly};
 
 use crate::arguments::bytes;
-use op_sched::{is_key, is_value, key, value};
+use op_text::{is_key, is_value, key, value};
 use op_types::{Blob, NoMemory, Op};
 use std::alloc::Global;
 

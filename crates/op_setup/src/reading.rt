@@ -1,6 +1,6 @@
 //! The task that words ask for.
 ghost use Rattle.std.specs.Prelude.{◌≡◌, ◌≤◌, ◌∷◌, ◌↔◌, map, codes, decimal, string_bytes, slice_get, Some, IfOk, IfErr, IsTrue, Err};
-ghost use Rattle.op_sched.specs.Found.{IsFound};
+ghost use Rattle.op_text.specs.Found.{IsFound};
 ghost use Rattle.op_setup.specs.Commands.{NamesFirst};
 ghost use Rattle.op_setup.specs.Tasks.{task_words, most_rounds, IsTask, IsTaskOf, TaskInRange};
 
@@ -12,7 +12,7 @@ use crate::requests::request;
 use crate::tasks::{MOST_ROUNDS, Task};
 use clap::ArgMatches;
 use op_gen::Scenario;
-use op_sched::{number, pid};
+use op_text::{number, pid};
 use op_types::NoMemory;
 use std::alloc::Global;
 

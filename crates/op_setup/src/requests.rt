@@ -1,12 +1,13 @@
 //! The request that words ask for.
-ghost use Rattle.std.specs.Prelude.{◌∷◌, map, string_bytes, IfOk, IfErr};
-ghost use Rattle.op_sched.specs.Found.{IsFound};
+ghost use Rattle.std.specs.Prelude.{◌∷◌, map, codes, string_bytes, IfOk, IfErr};
+ghost use Rattle.op_text.specs.Found.{IsFound};
 ghost use Rattle.op_setup.specs.Requests.{IsCommand, IsCommandOf};
 ghost use Rattle.op_setup.specs.Tasks.{IsRequest, IsRequestOf};
 
 use crate::arguments::bytes;
+use crate::member_ids::members;
 use crate::operations::operation;
-use op_sched::client_number;
+use op_text::client_number;
 use op_types::{Command, NoMemory, Request};
 use std::alloc::Global;
 
@@ -30,6 +31,17 @@ fn command(alloc: Global, name: &str, words: &[String]) -> Result<Option<Command
     Ok(Some(Command { client, seq, op }))
 }
 
+/// `stop`: the members of the next configuration.
+fn stop(words: &[String]) -> Result<Option<Request>, NoMemory>
+    ensures found { IfOk result (IsFound (IsRequestOf (codes "stop" ∷ map string_bytes words.now))) }
+    ensures memory { IfErr result (λ _. IsRequest (codes "stop" ∷ map string_bytes words.now)) }
+{
+    match members(words)? {
+        Some(members) => Ok(Some(Request::Stop(members))),
+        None => Ok(None),
+    }
+}
+
 /// The request that words ask for. Memory is taken only for words that are a request's.
 pub fn request(alloc: Global, words: &[String]) -> Result<Option<Request>, NoMemory>
     ensures found { IfOk result (IsFound (IsRequestOf (map string_bytes words.now))) }
@@ -39,6 +51,8 @@ pub fn request(alloc: Global, words: &[String]) -> Result<Option<Request>, NoMem
         return Ok(None);
     };
     match name.as_str() {
+        "stop" => stop(words),
+        "trim" if words.is_empty() => Ok(Some(Request::Trim)),
         "status" if words.is_empty() => Ok(Some(Request::Status)),
         "end" if words.is_empty() => Ok(Some(Request::End)),
         name => match command(alloc, name, words)? {

@@ -55,7 +55,7 @@ fn set(alloc: Global, table: &Table, id: Option<Pid>) -> Result<Settings, Settin
     let Some(turns) = numbers::turns(table) else {
         return Err(bad(ConfigCause::Turns));
     };
-    let Some(members) = members::members(alloc, table)? else {
+    let Some(members) = members::members(table)? else {
         return Err(bad(ConfigCause::Members));
     };
     let Some(peers) = peers::peers(alloc, table, members.as_slice())? else {

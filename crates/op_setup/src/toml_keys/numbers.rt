@@ -1,7 +1,7 @@
 //! The settings that are numbers.
 ghost use Rattle.std.specs.Prelude.{◌≡◌, ◌≤◌, pos};
 ghost use Rattle.toml.specs.View.{table_view};
-ghost use Rattle.op_sched.specs.Found.{IsFound};
+ghost use Rattle.op_text.specs.Found.{IsFound};
 ghost use Rattle.op_setup.specs.Settings.{HasNumber, SetsTickMs, SetsTurns};
 
 use crate::config::{MOST_TICK_MS, MOST_TURNS};

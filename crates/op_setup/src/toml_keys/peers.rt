@@ -4,7 +4,7 @@ ghost use Rattle.std.specs.List.{list_all, list_any};
 ghost use Rattle.std.specs.Map.{keys_of};
 ghost use Rattle.toml.specs.Data.{string};
 ghost use Rattle.toml.specs.View.{table_view, view};
-ghost use Rattle.op_sched.specs.Found.{IsFound};
+ghost use Rattle.op_text.specs.Found.{IsFound};
 ghost use Rattle.op_setup.specs.Addresses.{AddrInRange, addr_text};
 ghost use Rattle.op_setup.specs.Settings.{AreRows, IsAmong, IsRow, Peer, SetsPeers, most_peers};
 
@@ -12,7 +12,7 @@ use crate::addresses::addr;
 use crate::config::{MOST_PEERS, Peers};
 use crate::toml_keys::values::table_at;
 use op_outside::Addr;
-use op_sched::pid;
+use op_text::pid;
 use op_types::{NoMemory, Pid};
 use std::alloc::Global;
 use std::collections::BTreeMap;

@@ -1,7 +1,7 @@
 use Rattle.std.proofs.Common.{rules, tests, ◌≡◌, ◌+◌, Some, length, sym, ap, ◌∙◌}
 use Rattle.std.proofs.lemmas.Iterator.{YieldsList-from_slice}
 use Rattle.std.proofs.lemmas.Iterator.Search.{position_from_yields_List}
-use Rattle.op_sched.proofs.LineEnds.{rest_of}
+use Rattle.op_text.proofs.Rests.{rest_of}
 use Rattle.op_setup.proofs.AddressTexts.{colon_at, colon_after, port_after}
 use Rattle.op_setup.proofs.addresses.after_colon.Goals as goal
 

@@ -3,7 +3,7 @@ use Rattle.toml.specs.Data.{Data, array, get_member}
 use Rattle.toml.specs.View.{view, items_of, table_view}
 use Rattle.op_types.specs.Ranges.{MembersInRange}
 use Rattle.op_setup.specs.Settings.{SetsMembers, id_data}
-use Rattle.op_sched.proofs.FoundAlike.{ok_found_as}
+use Rattle.op_text.proofs.FoundAlike.{ok_found_as}
 use Rattle.op_setup.proofs.KeyValues.{array_from, same_array}
 use Rattle.op_setup.proofs.toml_keys.members.members.Goals as goal
 

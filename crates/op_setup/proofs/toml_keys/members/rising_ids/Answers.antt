@@ -2,7 +2,7 @@ use Rattle.std.proofs.Common.{◌≡◌, ◌+◌, ◌<◌, ◌∷◌, ◌++◌, 
 use Rattle.std.proofs.lemmas.List.{drop_more}
 use Rattle.toml.specs.View.{view}
 use Rattle.op_setup.specs.Settings.{id_data}
-use Rattle.op_setup.proofs.RisingIds.{last_of, last_of-push, rising-push, no_ids, map_push}
+use Rattle.op_setup.proofs.RisingIds.{data_tells, last_of, last_of-push, rising-push, no_ids, map_push}
 use Rattle.op_setup.proofs.toml_keys.members.rising_ids.Goals as goal
 
 pub returns-in_default : goal.returns-in_default
@@ -13,7 +13,7 @@ returns-in_default c = λ ids h.
     let split = ap (λ ds. map id_data c.loop-value.ids ++ ds) (sym here) ∙ c.loop-value.invariant.so_far in
     let none = rw c.in_default.is at c.id_above.ensures in
     let last : last_of 0 c.loop-value.ids ≡ c.loop-value.last = c.loop-value.invariant.last in
-    no_ids c.loop-value.ids (view c.value-item.result) _ _ split (λ id p. none id (p.0, (let Q : ℕ → Type 0 = λ n. n < id in subst Q last p.1), p.2)) ids h.0 h.1.rising
+    no_ids id_data data_tells c.loop-value.ids (view c.value-item.result) _ _ split c.loop-value.invariant.rising (λ id p. none id (p.0, (let Q : ℕ → Type 0 = λ n. n < id in subst Q last p.1), p.2)) ids h.0 h.1.rising
 
 pub loop-value-preserved : goal.loop-value-preserved
 loop-value-preserved c =
@@ -25,7 +25,7 @@ loop-value-preserved c =
     let pushed = c.in_ok-push.ensures.ok in
     let last : last_of 0 c.loop-value.ids ≡ c.loop-value.last = c.loop-value.invariant.last in
     rw pushed (record {
-      so_far = map_push c.loop-value.ids c.in-Some.id (view c.value-item.result) _ _ row.0 split;
+      so_far = map_push id_data c.loop-value.ids c.in-Some.id (view c.value-item.result) _ _ row.0 split;
       rising = rising-push 0 c.loop-value.ids c.in-Some.id c.loop-value.invariant.rising (let Q : ℕ → Type 0 = λ n. n < c.in-Some.id in subst Q (sym last) row.1) row.2;
       last = last_of-push 0 c.loop-value.ids c.in-Some.id;
     })
