@@ -89,6 +89,18 @@ class Cluster:
         self.sent += 1
         return self.sent - 1
 
+    def trim(self):
+        """A wish to trim at the leader: a TrimAsk to each follower."""
+        self.add('trim 1')
+        self.sent += 2
+        return self.sent - 2, self.sent - 1
+
+    def report(self, ask):
+        """A TrimAsk at its follower, which sends its Progress."""
+        self.deliver(ask)
+        self.sent += 1
+        return self.sent - 1
+
     def put_and_deliver(self):
         """A put that is decided at all three."""
         accepted = [self.accept(accept) for accept in self.put()]

@@ -101,24 +101,30 @@ fn a_checkpoint_that_opens_the_gate_stops(rt: HostRuntime) -> Result<(), Fail> {
     check_checkpoint_stops(&rt, &[(8, 0), (8, 0xA5), (9, 0), (9, 1)])
 }
 
-/// The first disk's opening makes three calls, and the tick and the put four each.
-#[test]
-fn a_stop_before_it_leaves_the_put_or_none_of_it(rt: HostRuntime) -> Result<(), Fail> {
+/// The first disk stops at each of these calls, and this image of it has so much decided.
+fn check_put_stops(
+    rt: &(impl Abort + Alloc<A = Global>),
+    stops: &[(u64, u8, u64)],
+) -> Result<(), Fail> {
     let before = after_puts(rt.alloc(), PUT - 1)?;
-    let stops = [
-        (8, 1, PUT - 1),
-        (9, 1, PUT - 1),
-        (10, 0, PUT - 1),
-        (10, 1, PUT),
-        (11, 0, PUT - 1),
-        (11, 1, PUT),
-    ];
-    for (call, image, wanted) in stops {
+    for (call, image, wanted) in stops.iter() {
         let stop = Stop {
             is_second: false,
-            call,
+            call: *call,
         };
-        check_stop(&rt, &before, stop, image, wanted)?;
+        check_stop(rt, &before, stop, *image, *wanted)?;
     }
     Ok(())
+}
+
+// The first disk's opening makes three calls, and the tick and the put four each.
+
+#[test]
+fn a_stop_that_writes_the_put_leaves_none_of_it(rt: HostRuntime) -> Result<(), Fail> {
+    check_put_stops(&rt, &[(8, 1, PUT - 1), (9, 1, PUT - 1), (10, 0, PUT - 1)])
+}
+
+#[test]
+fn a_stop_that_opens_its_gate_leaves_the_put_or_none_of_it(rt: HostRuntime) -> Result<(), Fail> {
+    check_put_stops(&rt, &[(10, 1, PUT), (11, 0, PUT - 1), (11, 1, PUT)])
 }

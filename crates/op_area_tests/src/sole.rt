@@ -7,7 +7,7 @@ ghost use Rattle.op_loop.specs.NodeCores.{IsServable};
 use op_loop::{Core, opened_nodes_can_be_served};
 use op_memory::MemDisk;
 use op_node::Node;
-use op_types::{Blob, Command, Durable, Input, Members, NoMemory, Op};
+use op_types::{Blob, Command, Commands, Durable, Input, Members, NoMemory, Op};
 use std::alloc::{AllocError, Global};
 use std::test::Fail;
 
@@ -42,17 +42,20 @@ fn put(alloc: Global, seq: u64) -> Result<Input, NoMemory>
 {
     let mut value = Vec::new(alloc);
     value.resize(VALUE_LEN, b'v')?;
-    Ok(Input::Command(Command {
+    let mut commands = Commands::new(alloc);
+    commands.push(Command {
         client: CLIENT,
         seq,
         op: Op::Put(Blob::from_slice(alloc, b"a")?, Blob::from_vec(value)),
-    }))
+    })?;
+    Ok(Input::Commands(commands))
 }
 
-fn sole(alloc: Global) -> Result<Members, NoMemory>
+/// The first configuration.
+pub fn sole() -> Result<Members, NoMemory>
     ensures { IfOk result MembersInRange }
 {
-    Ok(Members::from_vec(Vec::from_slice(alloc, &[1])?))
+    Members::from_slice(&[1])
 }
 
 /// Its node over these disks.
@@ -60,7 +63,7 @@ pub fn opened(alloc: Global, first: MemDisk, second: MemDisk) -> Result<Node<Mem
     ensures { IfOk result IsServable }
 {
     opened_nodes_can_be_served::<MemDisk>();
-    let members = sole(alloc)?;
+    let members = sole()?;
     match Node::open(alloc, 1, &members, first, second) {
         Ok((node, _)) => Ok(node),
         Err(returned) => Err(returned.cause.into()),

@@ -1,12 +1,14 @@
 //! Runs one library at the size that the words say, so that a script can time it: `frames COUNT PIECE`, `service COMMANDS KEYS`,
-//! `map COMMANDS KEYS`, `appends COUNT SIZE`, `serve PUTS PUTS_IN_A_READ` (the last two with the files `op_bench.first`
-//! and `op_bench.second` of the current folder). Prints how much was done.
+//! `map COMMANDS KEYS`, `log ENTRIES 0`, `trim ENTRIES TRIMMED`, `close ENTRIES TRIMMED`, `appends COUNT SIZE`,
+//! `serve PUTS PUTS_IN_A_READ` (the last two with the files `op_bench.first` and `op_bench.second` of the current folder). Prints
+//! how much was done.
 #![tactic(auto)]
 
 mod appends;
 mod frames;
 mod service;
 mod serving;
+mod trimming;
 
 use op_edge::FileDisk;
 use std::env;
@@ -59,6 +61,9 @@ fn done(rt: &HostRuntime, what: &str, count: u64, size: u64) -> Option<u64> {
         }
         "service" => service::served(alloc, count, size),
         "map" => service::inserted(alloc, count, size),
+        "log" => trimming::made(alloc, count),
+        "trim" => trimming::trimmed(alloc, count, size),
+        "close" => trimming::closed(alloc, count, size),
         _ => None,
     }
 }

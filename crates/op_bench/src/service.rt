@@ -38,7 +38,7 @@ fn puts(alloc: Global, first: u64, keys: u64) -> Option<Entries> {
 }
 
 /// A put by its number.
-fn put(alloc: Global, number: u64, keys: u64) -> Option<Entry> {
+pub fn put(alloc: Global, number: u64, keys: u64) -> Option<Entry> {
     let key = key(alloc, number, keys)?;
     let value = Blob::from_slice(alloc, b"value").ok()?;
     Some(Entry::Command(Command {

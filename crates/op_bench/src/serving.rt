@@ -55,7 +55,7 @@ fn opened<D: Disk>(alloc: Global, first: D, second: D) -> Option<Node<D>>
     ensures { IfSome result IsServable }
 {
     opened_nodes_can_be_served::<D>();
-    let members = sole(alloc)?;
+    let members = sole()?;
     match Node::open(alloc, ID, &members, first, second) {
         Ok((node, _)) => Some(node),
         Err(_) => None,
@@ -86,16 +86,16 @@ fn settings(alloc: Global, turns: u64) -> Option<Settings>
     Some(Settings {
         tick_ms: TICK_MS,
         turns,
-        members: sole(alloc)?,
+        members: sole()?,
         peers: Peers::from_vec(peers),
     })
 }
 
 /// The only member.
-fn sole(alloc: Global) -> Option<Members>
+fn sole() -> Option<Members>
     ensures { IfSome result MembersInRange }
 {
-    Some(Members::from_vec(Vec::from_slice(alloc, &[ID]).ok()?))
+    Members::from_slice(&[ID]).ok()
 }
 
 /// A client comes, and each turn reads some puts.

@@ -3,8 +3,8 @@ ghost use Rattle.op_command.specs.Ranges.{RequestInRange};
 
 use crate::puts::one_put;
 use crate::taking::is_bad;
-use op_command::{Request, Said, put_reply, put_request, take_reply, take_request};
-use op_types::{Answer, Ballot, Cause, Entry, NoMemory, Outcome, Refusal};
+use op_command::{Said, put_reply, put_request, take_reply, take_request};
+use op_types::{Answer, Ballot, Cause, Entry, NoMemory, Outcome, Refusal, Request};
 use std::alloc::Global;
 use std::test::Fail;
 
@@ -41,6 +41,7 @@ fn put_is_written(alloc: Global) -> Result<bool, NoMemory> {
 #[test]
 fn requests_are_written_as_their_bytes(rt: HostRuntime) -> Result<(), Fail> {
     assert!(rt; put_is_written(rt.alloc())?);
+    assert!(rt; is_written(rt.alloc(), &Request::Trim, &[3]));
     assert!(rt; is_written(rt.alloc(), &Request::Status, &[4]));
     assert!(rt; is_written(rt.alloc(), &Request::End, &[5]));
     Ok(())
@@ -73,6 +74,17 @@ fn each_operation_is_asked(rt: HostRuntime) -> Result<(), Fail> {
     for bytes in REQUESTS {
         assert!(rt; is_request(rt.alloc(), bytes), "{bytes:?}");
     }
+    Ok(())
+}
+
+/// To end the configuration, with the members 1, 2 and 5 in the next one.
+const STOP: &[u8] = &[2, 3, 0, 0, 0, 1, 0, 0, 0, 2, 0, 0, 0, 5];
+
+#[test]
+fn the_next_members_are_asked(rt: HostRuntime) -> Result<(), Fail> {
+    let asked = take_request(rt.alloc(), STOP);
+    assert!(rt; matches!(&asked, Ok(Request::Stop(ids)) if ids.as_slice() == [1, 2, 5].as_slice()));
+    assert!(rt; is_request(rt.alloc(), STOP));
     Ok(())
 }
 
@@ -189,6 +201,8 @@ const OUTCOMES: &[(&[u8], Wanted<'static>)] = &[
     ),
     (&[8], Wanted::Outcome(Outcome::Buffered)),
     (&[9, 0, 0, 3, 231], Wanted::Outcome(Outcome::Forwarded(999))),
+    (&[10], Wanted::Outcome(Outcome::Asked)),
+    (&[11], Wanted::Outcome(Outcome::NotLeading)),
 ];
 
 /// What else is said, and its bytes after the client and the number.
@@ -208,11 +222,15 @@ fn replies_are_read_from_their_bytes(rt: HostRuntime) -> Result<(), Fail> {
 }
 
 /// Bytes that are no request, and the place at which they are bad.
-const NO_REQUESTS: [(&[u8], usize); 7] = [
+const NO_REQUESTS: [(&[u8], usize); 11] = [
     (b"", 0),
     (&[0, 0, 0, 0], 0),
-    (&[2, 1, 0, 0, 0, 1], 0),
-    (&[3], 0),
+    (&[6], 0),
+    (&[2, 0], 1),
+    (&[2, 10, 0, 0, 0, 1], 1),
+    (&[2, 2, 0, 0, 0, 5, 0, 0, 0, 5], 6),
+    (&[2, 1, 0, 0, 0, 1, 0], 6),
+    (&[3, 0], 1),
     (&[4, 0], 1),
     (&[1, 0, 0, 0, 0, 0, 0, 0, 7, 0, 0, 0, 0, 0, 0, 0, 0, 1], 9),
     (
@@ -222,10 +240,11 @@ const NO_REQUESTS: [(&[u8], usize); 7] = [
 ];
 
 /// Bytes that are no reply, and the place at which they are bad.
-const NO_REPLIES: [(&[u8], usize); 8] = [
+const NO_REPLIES: [(&[u8], usize); 9] = [
     (&[0, 0, 0, 0, 0, 0, 0, 7, 0, 0, 0, 0, 0, 0, 0, 0, 1], 8),
     (&[0, 0, 0, 0, 0, 0, 0, 0, 0, 0, 0, 0, 0, 0, 0, 1, 1], 8),
-    (&[0, 0, 0, 0, 0, 0, 0, 0, 0, 0, 0, 0, 0, 0, 0, 0, 10], 16),
+    (&[0, 0, 0, 0, 0, 0, 0, 0, 0, 0, 0, 0, 0, 0, 0, 0, 15], 16),
+    (&[0, 0, 0, 0, 0, 0, 0, 0, 0, 0, 0, 0, 0, 0, 0, 0, 10, 0], 17),
     (
         &[0, 0, 0, 0, 0, 0, 0, 0, 0, 0, 0, 0, 0, 0, 0, 0, 2, 16, 1],
         17,

@@ -103,10 +103,33 @@ fn a_cas_is_read_from_its_bytes(rt: HostRuntime) -> Result<(), Fail> {
     Ok(())
 }
 
+/// The stop-sign of configuration 1: servers 1 and 999 are the members of the next one.
+const STOP: &[u8] = &[2, 0, 0, 0, 2, 2, 0, 0, 0, 1, 0, 0, 3, 231];
+
+/// Whether the entry is that stop-sign.
+fn is_stop(entry: &Option<Entry>) -> bool {
+    match entry {
+        Some(Entry::Stop(stop)) => {
+            stop.next == 2 && stop.members.as_slice() == [1, 999].as_slice()
+        }
+        _ => false,
+    }
+}
+
+#[test]
+fn a_stop_sign_is_read_from_its_bytes(rt: HostRuntime) -> Result<(), Fail> {
+    let entry = entry_in(rt.alloc(), STOP);
+    assert!(rt; is_stop(&entry));
+    Ok(())
+}
+
 /// Bytes, and the place at which they are bad.
-const BAD: [(&[u8], usize); 6] = [
+const BAD: [(&[u8], usize); 9] = [
     (b"", 0),
-    (&[2, 0, 0, 0, 2, 1, 0, 0, 0, 1], 0),
+    (&[3, 0, 0, 0, 2, 1, 0, 0, 0, 1], 0),
+    (&[2, 0, 0, 0, 2, 0], 5),
+    (&[2, 0, 0, 0, 2, 10, 0, 0, 0, 1], 5),
+    (&[2, 0, 0, 0, 2, 2, 0, 0, 0, 1, 0, 0, 0, 1], 10),
     (&[1, 0, 0, 0, 0, 0, 0, 0, 0, 0], 1),
     (
         &[

@@ -2,6 +2,8 @@
 #![tactic(auto)]
 
 #[cfg(test)]
+mod changes;
+#[cfg(test)]
 mod clients;
 #[cfg(test)]
 mod entries;
@@ -9,6 +11,10 @@ mod entries;
 mod frames;
 #[cfg(test)]
 mod messages;
+#[cfg(test)]
+mod news;
+#[cfg(test)]
+mod pieces;
 #[cfg(test)]
 mod puts;
 #[cfg(test)]

@@ -128,14 +128,17 @@ fn a_promise_is_written_and_read(rt: HostRuntime) -> Result<(), Fail> {
 }
 
 /// Places in the promise and bytes put there, and the place that is then named.
-const CHANGED: [(usize, u8, usize); 8] = [
+const CHANGED: [(usize, u8, usize); 11] = [
     (3, 0, 0),
     (6, 4, 4),
-    (8, 12, 8),
+    (8, 12, 25),
+    (8, 20, 8),
+    (8, 28, 21),
     (24, 0, 21),
     (37, 64, 37),
     (61, 65, 61),
-    (69, 2, 69),
+    (69, 2, 74),
+    (69, 3, 69),
     (87, 0, 87),
 ];
 
@@ -143,7 +146,10 @@ const CHANGED: [(usize, u8, usize); 8] = [
 fn first_misnamed(alloc: Global) -> Option<usize> {
     for (at, byte, place) in CHANGED {
         let mut bytes = PROMISE;
-        bytes[at] = byte;
+        let Some(changed) = bytes.get_mut(at) else {
+            return Some(at);
+        };
+        *changed = byte;
         if !is_bad(take(alloc, &bytes), place) {
             return Some(at);
         }

@@ -30,3 +30,19 @@ pub fn is_one_put(entry: &Entry) -> bool {
         && key.as_slice() == b"a".as_slice()
         && value.as_slice() == b"x".as_slice()
 }
+
+/// The bytes of that entry, twice.
+pub const TWO_PUTS: [u8; 46] = [
+    1, 0, 0, 0, 0, 0, 0, 0, 7, 0, 0, 0, 0, 0, 0, 0, 1, 1, 1, b'a', 0, 1, b'x', 1, 0, 0, 0, 0, 0, 0,
+    0, 7, 0, 0, 0, 0, 0, 0, 0, 1, 1, 1, b'a', 0, 1, b'x',
+];
+
+/// Whether these entries are that one, so many times.
+pub fn are_puts(entries: &[Entry], count: usize) -> bool {
+    for entry in entries {
+        if !is_one_put(entry) {
+            return false;
+        }
+    }
+    entries.len() == count
+}

@@ -4,7 +4,7 @@ ghost use Rattle.op_record.specs.Ranges.{RecInRange};
 use crate::puts::{is_one_put, one_put};
 use crate::taking::is_bad;
 use op_record::{Rec, put, take};
-use op_types::{Ballot, Blob, Change, Durable, NoMemory, Part, Reserved, Seq};
+use op_types::{Ballot, Blob, Change, Durable, Members, NoMemory, Part, Reserved, Seq};
 use std::alloc::Global;
 use std::test::Fail;
 
@@ -27,7 +27,7 @@ const FIRST: [u8; 85] = [
 fn first(alloc: Global) -> Result<Rec, NoMemory>
     ensures { IfOk result RecInRange }
 {
-    let mut members = Seq::new(alloc);
+    let mut members = Members::new();
     members.push(1)?;
     let part = Part {
         conf: 1,
@@ -42,6 +42,7 @@ fn first(alloc: Global) -> Result<Rec, NoMemory>
     Ok(Rec::Whole(Durable {
         part: Some(part),
         closed: None,
+        joining: None,
     }))
 }
 

@@ -64,7 +64,7 @@ fn damage_is_told_at_its_place(rt: HostRuntime) -> Result<(), Fail> {
     let (whole, step) = (&WHOLE, &FIRST_STEP);
     let areas: [(&[&[u8]], u64); 6] = [
         // The first change has no change's tag.
-        (&[whole, &step[..11], &[6], &step[12..], &[0]], 111),
+        (&[whole, &step[..11], &[13], &step[12..], &[0]], 111),
         // More is decided than there are entries.
         (&[whole, &step[..51], &[2], &[0]], 111),
         // A second whole durable state.
@@ -75,6 +75,35 @@ fn damage_is_told_at_its_place(rt: HostRuntime) -> Result<(), Fail> {
         (&[&whole[..8], &[9], &whole[9..], step, &[0]], 0),
         // No gate stands after the record.
         (&[whole], 111),
+    ];
+    for (parts, at) in areas {
+        check_damage(&rt, parts, at)?;
+    }
+    Ok(())
+}
+
+/// The records of steps with one change, up to its base: a trim to position 1.
+const TRIM: [u8; 20] = [
+    0xA5, 0, 0, 0, 0, 0, 0, 0, 35, 2, 1, 6, 0, 0, 0, 0, 0, 0, 0, 1,
+];
+
+/// A close by a stop-sign that names the node.
+const CLOSE: [u8; 13] = [0xA5, 0, 0, 0, 0, 0, 0, 0, 28, 2, 1, 7, 1];
+
+/// The end of a joining.
+const JOIN_DONE: [u8; 12] = [0xA5, 0, 0, 0, 0, 0, 0, 0, 27, 2, 1, 12];
+
+#[test]
+fn a_step_that_does_not_apply_is_damage(rt: HostRuntime) -> Result<(), Fail> {
+    let (whole, step, base) = (&WHOLE, &FIRST_STEP, &WHOLE[61..85]);
+    let areas: [(&[&[u8]], u64); 4] = [
+        // No entry is decided.
+        (&[whole, &TRIM, base, &[0]], 111),
+        // No stop-sign is decided, neither at first nor last.
+        (&[whole, &CLOSE, base, &[0]], 111),
+        (&[whole, step, &CLOSE, base, &[0]], 163),
+        // The node isn't joining.
+        (&[whole, &JOIN_DONE, base, &[0]], 111),
     ];
     for (parts, at) in areas {
         check_damage(&rt, parts, at)?;

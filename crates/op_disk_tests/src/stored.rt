@@ -3,7 +3,7 @@ ghost use Rattle.std.specs.Prelude.{IfOk};
 ghost use Rattle.op_record.specs.Ranges.{DurableInRange};
 
 use op_journal::Framed;
-use op_types::{Ballot, Blob, Command, Durable, Entry, Members, NoMemory, Op, Part, Reserved};
+use op_types::{Ballot, Command, Durable, Entry, Members, NoMemory, Op, Part};
 use std::alloc::Global;
 use std::test::Fail;
 
@@ -52,22 +52,7 @@ pub const SECOND_STEP: [u8; 52] = [
 pub fn first_durable(alloc: Global) -> Result<Durable, NoMemory>
     ensures { IfOk result DurableInRange }
 {
-    let mut members = Members::new(alloc);
-    members.push(1)?;
-    let part = Part {
-        conf: 1,
-        members,
-        promised: Ballot::NONE,
-        accepted: Ballot::NONE,
-        base: Blob::from_slice(alloc, [0u8; 16].as_slice())?,
-        trimmed: 0,
-        tail: Reserved::new(alloc),
-        decided: 0,
-    };
-    Ok(Durable {
-        part: Some(part),
-        closed: None,
-    })
+    op_chain::first_durable(alloc, &Members::from_slice(&[1])?)
 }
 
 /// A step whose record is this, laid out.
@@ -80,9 +65,14 @@ pub fn step(alloc: Global, record: &[u8; 52]) -> Result<Framed, Fail> {
 /// This state is what the steps of these commands leave.
 pub fn is_left_by(durable: &Durable, seqs: &[u64]) -> bool {
     match &durable.part {
-        Some(part) => durable.closed.is_none() && is_first_but_its_log(part) && has_log(part, seqs),
+        Some(part) => has_no_list(durable) && is_first_but_its_log(part) && has_log(part, seqs),
         None => false,
     }
+}
+
+/// There is no closed list, and none is joined.
+fn has_no_list(durable: &Durable) -> bool {
+    durable.closed.is_none() && durable.joining.is_none()
 }
 
 /// All but the log and what is decided of it is as at first.

@@ -7,7 +7,8 @@ ghost use Rattle.op_loop.specs.Cores.{GivenInRange};
 
 use op_loop::Core;
 use op_node::{Given, StepFail};
-use op_types::{Input, NodeLine, Outcome, Pid, Refusal, Replies, Running, Sends};
+use op_runs::{NodeLine, Running};
+use op_types::{Input, Outcome, Pid, Refusal, Replies, Sends};
 use std::alloc::Global;
 
 /// A spare's node that has failed: it refuses what is proposed, and does nothing else.
@@ -29,7 +30,7 @@ impl Core for FailedNode {
       node = record {
         me = n.me;
         state = record {
-          durable = record { part = None; closed = None };
+          durable = record { part = None; closed = None; joining = None };
           volatile = first_volatile n.me;
           service = new_service;
           waiting = [];
@@ -68,7 +69,9 @@ fn refused(alloc: Global, count: u64, input: &Input) -> Given
     ensures range { GivenInRange result }
 {
     let outcome = match input {
-        Input::Command(_) => Some(Outcome::Refused(Refusal::StorageFailed { count })),
+        Input::Commands(_) | Input::Stop(_) | Input::TrimNow => {
+            Some(Outcome::Refused(Refusal::StorageFailed { count }))
+        }
         Input::Tick | Input::Deliver(..) | Input::Up(_) | Input::Down(_) => None,
     };
     Given {

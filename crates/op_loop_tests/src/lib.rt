@@ -14,6 +14,8 @@ mod ends;
 #[cfg(test)]
 mod peers;
 #[cfg(test)]
+mod requests;
+#[cfg(test)]
 mod scripts;
 #[cfg(test)]
 mod strangers;

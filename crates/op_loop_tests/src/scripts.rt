@@ -42,16 +42,16 @@ fn settings(alloc: Global, turns: u64) -> Result<Settings, NoMemory>
     Ok(Settings {
         tick_ms: 10,
         turns,
-        members: sole(alloc)?,
+        members: sole()?,
         peers: Peers::from_vec(peers),
     })
 }
 
 /// The only member.
-fn sole(alloc: Global) -> Result<Members, NoMemory>
+fn sole() -> Result<Members, NoMemory>
     ensures { IfOk result MembersInRange }
 {
-    Ok(Members::from_vec(Vec::from_slice(alloc, &[1])?))
+    Members::from_slice(&[1])
 }
 
 /// What a script does next.
@@ -142,7 +142,7 @@ fn opened(alloc: Global) -> Result<Node<MemDisk>, Fail>
     opened_nodes_can_be_served::<MemDisk>();
     let first = MemDisk::new(alloc, Vec::new(alloc))?;
     let second = MemDisk::new(alloc, Vec::new(alloc))?;
-    match Node::open(alloc, 1, &sole(alloc)?, first, second) {
+    match Node::open(alloc, 1, &sole()?, first, second) {
         Ok((node, _sends)) => Ok(node),
         Err(_) => Err("it is not opened".into()),
     }

@@ -1,17 +1,19 @@
 //! Runs of the plain program, in which a step stops inside.
 ghost use Rattle.std.specs.Prelude.{All, IfOk};
-ghost use Rattle.op_types.specs.Ranges.{MembersInRange, WhatInRange};
+ghost use Rattle.op_types.specs.Ranges.{MembersInRange};
+ghost use Rattle.op_runs.specs.Possible.{WhatInRange};
 
 use op_pure::{Fate, Happening, Happenings, PureWorld};
-use op_types::{Blob, Command, Event, Line, Members, NoMemory, Op, Outcome, What};
+use op_runs::{Event, Line, What};
+use op_types::{Blob, Command, Commands, Members, NoMemory, Op, Outcome};
 use op_world::RunFail;
 use std::alloc::Global;
 use std::test::Fail;
 
-fn sole(alloc: Global) -> Result<Members, NoMemory>
+fn sole() -> Result<Members, NoMemory>
     ensures { IfOk result MembersInRange }
 {
-    Ok(Members::from_vec(Vec::from_slice(alloc, &[1])?))
+    Members::from_slice(&[1])
 }
 
 /// At server 1, client 7 proposes its command number 1.
@@ -21,14 +23,13 @@ fn put(alloc: Global) -> Result<What, NoMemory>
     let key = Blob::from_slice(alloc, b"a")?;
     let value = Blob::from_slice(alloc, b"x")?;
     let op = Op::Put(key, value);
-    Ok(What::Command(
-        1,
-        Command {
-            client: 7,
-            seq: 1,
-            op,
-        },
-    ))
+    let mut commands = Commands::new(alloc);
+    commands.push(Command {
+        client: 7,
+        seq: 1,
+        op,
+    })?;
+    Ok(What::Commands(1, commands))
 }
 
 /// Adds a happening, said in this line.
@@ -67,7 +68,7 @@ fn stops_in_a_put(alloc: Global, finds_after: bool) -> Result<Happenings, NoMemo
 /// Where the put that is sent last is appended, if the run ends and tells that line and its reply.
 fn appended_at(alloc: Global, finds_after: bool) -> Result<Option<u64>, NoMemory> {
     let happenings = stops_in_a_put(alloc, finds_after)?;
-    let Ok(world) = PureWorld::run(alloc, sole(alloc)?, happenings) else {
+    let Ok(world) = PureWorld::run(alloc, sole()?, Members::new(), happenings) else {
         return Ok(None);
     };
     Ok(match world.lines() {
@@ -100,7 +101,7 @@ fn two_ticks(alloc: Global) -> Result<Happenings, NoMemory>
 fn refusal(alloc: Global, happenings: Happenings) -> Result<Option<RunFail>, NoMemory>
     requires { All (λ h. WhatInRange h.event.what) happenings }
 {
-    Ok(PureWorld::run(alloc, sole(alloc)?, happenings).err())
+    Ok(PureWorld::run(alloc, sole()?, Members::new(), happenings).err())
 }
 
 #[test]

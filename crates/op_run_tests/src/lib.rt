@@ -14,4 +14,6 @@ mod replays;
 #[cfg(test)]
 mod runs;
 #[cfg(test)]
+mod stops;
+#[cfg(test)]
 mod talks;

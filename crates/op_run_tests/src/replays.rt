@@ -1,7 +1,7 @@
 use crate::letters::Letters;
 use crate::runs::{Sinks, ended_over, sink, source};
 use op_outside::Source;
-use op_sched::bytes_of;
+use op_text::bytes_of;
 use op_top::Status;
 use std::alloc::{AllocError, Global};
 use std::test::Fail;

@@ -26,7 +26,7 @@ const REPLIES: [(Pid, u64, u64, bool); 6] = [
 
 /// Before the first round, at server 1 of three.
 fn rounds(alloc: Global) -> Result<Rounds, NoMemory> {
-    let members = Members::from_vec(Vec::from_slice(alloc, &[1, 2, 3])?);
+    let members = Members::from_slice(&[1, 2, 3])?;
     Rounds::new(alloc, 1, &members)
 }
 

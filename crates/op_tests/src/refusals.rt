@@ -1,21 +1,28 @@
-ghost use Rattle.std.specs.Prelude.{◌≤◌, ◌^◌, IfOk};
+ghost use Rattle.std.specs.Prelude.{◌≡◌, ◌≤◌, ◌^◌, ◌∷◌, [], IfOk};
 ghost use Rattle.op_plans.specs.Positions.{FitsPositions};
+ghost use Rattle.op_instance.specs.Sound.{IsNode};
 
-use op_instance::refusal;
-use op_types::{Ballot, Blob, Leading, Members, POSITIONS_END, Part, Refusal, Reserved, Role};
+use op_instance::{Stored, Volatile, first_volatile};
+use op_types::{
+    Ballot, Blob, Command, Commands, Durable, Input, Leading, Members, Op, Outcome, POSITIONS_END,
+    Part, Refusal, Reserved, Role,
+};
 use std::alloc::{AllocError, Global};
 use std::test::Fail;
 
-/// The part of a sole member that has decided and trimmed so many entries.
-fn part(alloc: Global, ballot: Ballot, trimmed: u64) -> Result<Part, AllocError>
+/// The ballot that server 1 leads.
+const OWN: Ballot = Ballot { number: 1, pid: 1 };
+
+/// The part of the sole member 1 that has decided and trimmed so many entries.
+fn part(alloc: Global, trimmed: u64) -> Result<Part, AllocError>
     requires { trimmed ≤ 2 ^ 62 }
-    ensures { IfOk result FitsPositions }
+    ensures { IfOk result (λ p. FitsPositions p × (p.members ≡ 1 ∷ []) × (p.conf ≡ 1) × (p.tail.items ≡ [])) }
 {
     Ok(Part {
         conf: 1,
-        members: Members::from_vec(Vec::from_slice(alloc, &[1])?),
-        promised: ballot,
-        accepted: ballot,
+        members: Members::from_slice(&[1])?,
+        promised: OWN,
+        accepted: OWN,
         base: Blob::from_vec(Vec::new(alloc)),
         trimmed,
         tail: Reserved::new(alloc),
@@ -23,31 +30,59 @@ fn part(alloc: Global, ballot: Ballot, trimmed: u64) -> Result<Part, AllocError>
     })
 }
 
-fn leading(alloc: Global, ballot: Ballot, adopted_len: u64) -> Role {
-    Role::Leading(Leading {
-        ballot,
-        adopted_round: ballot,
-        adopted_len,
+/// What it stores, and what it keeps in memory while it leads.
+fn leader(alloc: Global, trimmed: u64) -> Result<(Durable, Volatile), AllocError>
+    requires { trimmed ≤ 2 ^ 62 }
+    ensures { IfOk result (λ x. IsNode 1 x.0 x.1) }
+{
+    let part = part(alloc, trimmed)?;
+    let mut volatile = first_volatile(alloc, 1, &part.members)?;
+    volatile.role = Role::Leading(Leading {
+        ballot: OWN,
+        adopted_round: OWN,
+        adopted_len: 0,
         synced: Reserved::new(alloc),
         acknowledged: Reserved::new(alloc),
-    })
+        reports: Reserved::new(alloc),
+    });
+    let durable = Durable {
+        part: Some(part),
+        closed: None,
+        joining: None,
+    };
+    Ok((durable, volatile))
 }
 
-/// Why the leader of a log of so many entries, all trimmed, refuses a command.
-fn refused(alloc: Global, len: u64) -> Result<Option<Refusal>, AllocError>
+/// Client 7's command 1, to delete `a`.
+fn command(alloc: Global) -> Result<Commands, AllocError> {
+    let mut commands = Commands::new(alloc);
+    commands.push(Command {
+        client: 7,
+        seq: 1,
+        op: Op::Del(Blob::from_slice(alloc, b"a")?),
+    })?;
+    Ok(commands)
+}
+
+/// What the leader of a log of so many entries, all trimmed, answers a command.
+fn outcome(alloc: Global, len: u64) -> Result<Option<Outcome>, AllocError>
     requires { len ≤ 2 ^ 62 }
 {
-    let ballot = Ballot { number: 1, pid: 1 };
-    let part = part(alloc, ballot, len)?;
-    Ok(refusal(1, &part, &leading(alloc, ballot, POSITIONS_END)))
+    let (durable, mut volatile) = leader(alloc, len)?;
+    let stored = Stored {
+        alloc,
+        me: 1,
+        durable: &durable,
+    };
+    let plan = stored.step(&mut volatile, Input::Commands(command(alloc)?))?;
+    Ok(plan.outcome)
 }
 
 #[test]
 fn a_log_takes_no_command_at_the_end_of_positions(rt: HostRuntime) -> Result<(), Fail> {
-    assert_eq!(rt;
-        refused(rt.alloc(), POSITIONS_END)?,
-        Some(Refusal::PositionsEnd)
-    );
-    assert_eq!(rt; refused(rt.alloc(), POSITIONS_END - 1)?, None);
+    let end = Outcome::Refused(Refusal::PositionsEnd);
+    assert_eq!(rt; outcome(rt.alloc(), POSITIONS_END)?, Some(end));
+    let last = Outcome::Appended(1, POSITIONS_END - 1);
+    assert_eq!(rt; outcome(rt.alloc(), POSITIONS_END - 1)?, Some(last));
     Ok(())
 }

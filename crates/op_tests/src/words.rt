@@ -21,20 +21,45 @@ const ADDR: Addr = Addr {
 
 /// What words ask for.
 #[derive(Clone, Copy)]
-enum Wanted {
+enum Wanted<'a> {
     Replay,
     Cluster,
     Node(Pid),
+    /// The members of the next configuration.
+    Stop(Addr, &'a [Pid]),
+    Trim(Addr),
     Status(Addr),
     End(Addr),
     DrillLinks(Scenario, u64),
 }
 
 /// Words, each with what they ask for.
-const TASKS: [(&[&str], Wanted); 7] = [
+const TASKS: [(&[&str], Wanted<'static>); 10] = [
     (&["replay"], Wanted::Replay),
     (&["cluster"], Wanted::Cluster),
     (&["node", "999"], Wanted::Node(999)),
+    (
+        &["call", "10.0.0.2:7000", "stop", "999"],
+        Wanted::Stop(ADDR, &[999]),
+    ),
+    (
+        &[
+            "call",
+            "10.0.0.2:7000",
+            "stop",
+            "1",
+            "2",
+            "3",
+            "4",
+            "5",
+            "6",
+            "7",
+            "8",
+            "10",
+        ],
+        Wanted::Stop(ADDR, &[1, 2, 3, 4, 5, 6, 7, 8, 10]),
+    ),
+    (&["call", "10.0.0.2:7000", "trim"], Wanted::Trim(ADDR)),
     (&["call", "10.0.0.2:7000", "status"], Wanted::Status(ADDR)),
     (&["call", "10.0.0.2:7000", "end"], Wanted::End(ADDR)),
     (
@@ -51,6 +76,10 @@ fn is_wanted(task: &Task, asked: Wanted) -> bool {
     match (task, asked) {
         (Task::Replay, Wanted::Replay) | (Task::Cluster, Wanted::Cluster) => true,
         (Task::Node(id), Wanted::Node(expected)) => *id == expected,
+        (Task::Call(addr, Request::Stop(members)), Wanted::Stop(expected, ids)) => {
+            *addr == expected && members.as_slice() == ids
+        }
+        (Task::Call(addr, Request::Trim), Wanted::Trim(expected)) => *addr == expected,
         (Task::Call(addr, Request::Status), Wanted::Status(expected)) => *addr == expected,
         (Task::Call(addr, Request::End), Wanted::End(expected)) => *addr == expected,
         (Task::DrillLinks(scenario, rounds), Wanted::DrillLinks(expected, count)) => {
@@ -134,7 +163,7 @@ fn other_words_are_refused(rt: HostRuntime) -> Result<(), Fail> {
 /// So are words of a call that are no request's, of an address that is none, and of an operation that isn't served yet.
 #[test]
 fn other_calls_are_refused(rt: HostRuntime) -> Result<(), Fail> {
-    let rows: [&[&str]; 14] = [
+    let rows: [&[&str]; 22] = [
         &["call"],
         &["call", "10.0.0.2:7000"],
         &["call", "10.0.0.2:07000", "status"],
@@ -149,6 +178,28 @@ fn other_calls_are_refused(rt: HostRuntime) -> Result<(), Fail> {
         &["call", "10.0.0.2:7000", "del", "7", "1"],
         &["call", "10.0.0.2:7000", "get", "7", "1", "a", "x"],
         &["call", "10.0.0.2:7000", "cas", "7", "1", "a", "x"],
+        &["call", "10.0.0.2:7000", "trim", "1"],
+        &["call", "10.0.0.2:7000", "stop"],
+        &["call", "10.0.0.2:7000", "stop", "0"],
+        &["call", "10.0.0.2:7000", "stop", "1000"],
+        &["call", "10.0.0.2:7000", "stop", "01"],
+        &["call", "10.0.0.2:7000", "stop", "2", "1"],
+        &["call", "10.0.0.2:7000", "stop", "1", "1"],
+        &[
+            "call",
+            "10.0.0.2:7000",
+            "stop",
+            "1",
+            "2",
+            "3",
+            "4",
+            "5",
+            "6",
+            "7",
+            "8",
+            "9",
+            "10",
+        ],
     ];
     for texts in rows.iter() {
         assert!(rt; is_usage(rt.alloc(), texts)?);
