@@ -4,7 +4,7 @@ use Rattle.std.specs.Prelude.{IfSome}
 use Rattle.std.proofs.lemmas.Bool.{cond_both}
 use Rattle.std.proofs.lemmas.List.Elements.{All-nil, All-cons, All-head, All-tail, All-append, All-map, All-weaker}
 use Rattle.op_runs.specs.Possible.{WhatInRange}
-use Rattle.op_types.specs.Changes.{durable_after}
+use Rattle.op_types.specs.declared.events.Input.{Input}
 use Rattle.op_types.specs.declared.durable.Durable.{Durable}
 use Rattle.op_runs.specs.declared.events.What.{What}
 use Rattle.op_runs.specs.declared.events.What.TheVariants as what
@@ -12,7 +12,7 @@ use Rattle.op_types.specs.declared.messages.Msg.{Msg}
 use Rattle.op_protocol.specs.State.{Planned, state_after}
 use Rattle.op_protocol.specs.Rows.{step_plan}
 use Rattle.op_protocol.specs.Starting.{state_after_restart, sends_after_restart}
-use Rattle.op_runs.specs.World.{Sent, Node, NodeStatus, Up, Down, World, Fate, Done, Stopped, Happening, Doing, Steps, Stops, Opens, Tells, Deed, first_world, delivery, deed_of, node_at, with_node, sent_by, world_by_fate, world_if_up, world_opening, world_if_down, world_by_status, world_at_node, world_with, world_after, run_of}
+use Rattle.op_runs.specs.World.{Sent, Node, NodeStatus, Up, Down, Failed, World, Fate, Done, Stopped, Faulted, Happening, Doing, Steps, Stops, Opens, Tells, Deed, first_world, delivery, deed_of, node_at, with_node, world_with_node, sent_by, stored_by, world_by_fate, world_if_up, state_after_reopening, world_opening, world_if_down, world_reopening, world_if_failed, world_by_status, world_at_node, world_with, world_after, run_of}
 use Rattle.op_bounds.specs.Messages.{AreIds, SendInRange, InputInRange}
 use Rattle.op_bounds.specs.States.{DurableOf, IsNamed}
 use Rattle.op_bounds.specs.Laws.{PlanInRange, OpeningInRange, SentInRange, FoundInRange, StatusInRange, NodeInRange, WorldInRange, WhatNamesKnown, HappeningInRange, HappeningsStayInRange, RunsStayInRange}
@@ -79,22 +79,26 @@ module _ (Known : ℕ → Type 0) (ids : AreIds Known) where
   node_now : (w : World) (n : Node) → WorldInRange Known w → NodeInRange Known n → All (NodeInRange Known) (with_node w.nodes n)
   node_now w n k one = nodes_with Known w.nodes n k.nodes one
 
-  by_fate : (f : Fate) (at : ℕ) (w : World) (n : Node) (p : Planned) → WorldInRange Known w → NodeInRange Known n → PlanInRange Known n.state p → IsNamed n.pid (durable_after n.state.durable p.batch) → WorldInRange Known (world_by_fate f at w n p)
-  by_fate Done at w n p k one plan named =
+  -- a node whose status is in range
+  restatused : (w : World) (n : Node) (status : NodeStatus) → WorldInRange Known w → NodeInRange Known n → StatusInRange Known n.pid status → WorldInRange Known (world_with_node w (record n { status = status }))
+  restatused w n status k one fit =
+      record { nodes = node_now w (record n { status = status }) k (record { pid = one.pid; state = one.state; named = one.named; status = fit }); messages = k.messages }
+
+  by_fate : (f : Fate) (at : ℕ) (w : World) (n : Node) (x : Input) → WorldInRange Known w → NodeInRange Known n → PlanInRange Known n.state (step_plan n.pid n.state x) → IsNamed n.pid (stored_by n x) → WorldInRange Known (world_by_fate f at w n x)
+  by_fate Done at w n x k one plan named =
+      let p : Planned = step_plan n.pid n.state x in
       record {
         nodes = node_now w (record n { state = state_after n.state p }) k (record { pid = one.pid; state = plan.after; named = named; status = one.status });
         messages = All-append (SentInRange Known) w.messages (sent_by n.pid p.sends) k.messages (sent_in Known n.pid p.sends one.pid plan.sends);
       }
-  by_fate Stopped at w n p k one plan named =
-      record {
-        nodes = node_now w (record n { status = Down (durable_after n.state.durable p.batch) }) k
-            (record { pid = one.pid; state = one.state; named = one.named; status = (plan.after.durable, named) });
-        messages = k.messages;
-      }
+  by_fate Stopped at w n x k one plan named = restatused w n (Down (stored_by n x)) k one (plan.after.durable, named)
+  by_fate (Faulted count) at w n x k one plan named =
+      let r = restatused w n (Failed count (stored_by n x)) k one (plan.after.durable, named) in
+      record { nodes = r.nodes; messages = r.messages }
 
   if_up : (d : Doing) (f : Fate) (at : ℕ) (w : World) (n : Node) → WorldInRange Known w → NodeInRange Known n → DoingInRange Known d → WorldInRange Known (world_if_up d f at w n)
-  if_up (Steps x) f at w n k one fit = by_fate f at w n (step_plan n.pid n.state x) k one (steps_stay Known ids n.pid one.pid n.state one.state x fit) (steps_name Known ids n.pid one.pid n.state one.state x fit one.named)
-  if_up Stops f at w n k one fit = record { nodes = node_now w (record n { status = Down n.state.durable }) k (record { pid = one.pid; state = one.state; named = one.named; status = (one.state.durable, one.named) }); messages = k.messages }
+  if_up (Steps x) f at w n k one fit = by_fate f at w n x k one (steps_stay Known ids n.pid one.pid n.state one.state x fit) (steps_name Known ids n.pid one.pid n.state one.state x fit one.named)
+  if_up Stops f at w n k one fit = restatused w n (Down n.state.durable) k one (one.state.durable, one.named)
   if_up Opens f at w n k one fit = k
   if_up (Tells told) f at w n k one fit = record { nodes = k.nodes; messages = k.messages }
 
@@ -109,17 +113,42 @@ module _ (Known : ℕ → Type 0) (ids : AreIds Known) where
             (sent_in Known n.pid (sends_after_restart n.pid found) one.pid (opened n found one d.0).sends);
       }
   opening Stopped w n found k one d = k
+  opening (Faulted count) w n found k one d = k
+
+  -- of who waits nothing is asked
+  reopening : (f : Fate) (after : Durable) (w : World) (n : Node) (found : Durable) → WorldInRange Known w → NodeInRange Known n → FoundInRange Known n.pid after → FoundInRange Known n.pid found → WorldInRange Known (world_reopening f after w n found)
+  reopening Done after w n found k one fit d =
+      let s = (opened n found one d.0).state in
+      record {
+        nodes = node_now w (record n { state = state_after_reopening n.pid n.state found; status = Up }) k
+            (record { pid = one.pid; state = record { durable = s.durable; volatile = s.volatile; stops = s.stops; service = s.service; order = s.order }; named = d.1; status = tt });
+        messages = All-append (SentInRange Known) w.messages (sent_by n.pid (sends_after_restart n.pid found)) k.messages
+            (sent_in Known n.pid (sends_after_restart n.pid found) one.pid (opened n found one d.0).sends);
+      }
+  reopening Stopped after w n found k one fit d = restatused w n (Down after) k one fit
+  reopening (Faulted count) after w n found k one fit d = restatused w n (Failed count after) k one fit
+
+  -- either state that is found is in range
+  found_in : (finds_after : Bool) (after : Durable) (n : Node) → NodeInRange Known n → FoundInRange Known n.pid after → FoundInRange Known n.pid (cond finds_after after n.state.durable)
+  found_in finds_after after n one fit = cond_both finds_after after n.state.durable (FoundInRange Known n.pid) (λ _. fit) (λ _. (one.state.durable, one.named))
 
   if_down : (d : Doing) (f : Fate) (finds_after : Bool) (after : Durable) (w : World) (n : Node) → WorldInRange Known w → NodeInRange Known n → FoundInRange Known n.pid after → WorldInRange Known (world_if_down d f finds_after after w n)
   if_down (Steps x) f finds_after after w n k one fit = k
   if_down Stops f finds_after after w n k one fit = k
   if_down Opens f finds_after after w n k one fit =
-      opening f w n (cond finds_after after n.state.durable) k one (cond_both finds_after after n.state.durable (FoundInRange Known n.pid) (λ _. fit) (λ _. (one.state.durable, one.named)))
+      opening f w n (cond finds_after after n.state.durable) k one (found_in finds_after after n one fit)
   if_down (Tells told) f finds_after after w n k one fit = k
+
+  if_failed : (d : Doing) (h : Happening) (count : ℕ) (after : Durable) (w : World) (n : Node) → WorldInRange Known w → NodeInRange Known n → FoundInRange Known n.pid after → WorldInRange Known (world_if_failed d h count after w n)
+  if_failed (Steps x) h count after w n k one fit = record { nodes = k.nodes; messages = k.messages }
+  if_failed Stops h count after w n k one fit = restatused w n (Down after) k one fit
+  if_failed Opens h count after w n k one fit = reopening h.fate after w n (cond h.finds_after after n.state.durable) k one fit (found_in h.finds_after after n one fit)
+  if_failed (Tells told) h count after w n k one fit = record { nodes = k.nodes; messages = k.messages }
 
   by_status : (s : NodeStatus) (d : Doing) (h : Happening) (w : World) (n : Node) → WorldInRange Known w → NodeInRange Known n → StatusInRange Known n.pid s → DoingInRange Known d → WorldInRange Known (world_by_status s d h w n)
   by_status Up d h w n k one found fit = if_up d h.fate h.event.line w n k one fit
   by_status (Down after) d h w n k one found fit = if_down d h.fate h.finds_after after w n k one found
+  by_status (Failed count after) d h w n k one found fit = if_failed d h count after w n k one found
 
   at_node : (o : Option Node) (d : Doing) (h : Happening) (w : World) → WorldInRange Known w → IfSome o (NodeInRange Known) → DoingInRange Known d → WorldInRange Known (world_at_node o d h w)
   at_node None d h w k one fit = k

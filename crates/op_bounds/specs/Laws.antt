@@ -11,7 +11,7 @@ use Rattle.op_record.specs.Ranges.{BatchInRange}
 use Rattle.op_protocol.specs.State.{State, Planned, state_after}
 use Rattle.op_protocol.specs.Rows.{step_plan}
 use Rattle.op_protocol.specs.Starting.{state_after_restart, sends_after_restart}
-use Rattle.op_runs.specs.World.{Sent, Node, NodeStatus, Up, Down, World, Happening, node_ids, first_world, world_after, run_of}
+use Rattle.op_runs.specs.World.{Sent, Node, NodeStatus, Up, Down, Failed, World, Happening, node_ids, first_world, world_after, run_of}
 use Rattle.op_bounds.specs.Messages.{AreIds, MembersOf, MsgInRange, NamesConf, SendInRange, ReplyInRange, OutcomeInRange, InputInRange}
 use Rattle.op_bounds.specs.States.{DurableOf, IsNamed, StateInRange}
 
@@ -59,10 +59,11 @@ pub record SentInRange (Known : ℕ → Type 0) (m : Sent) : Type 0 where
 abbrev pub FoundInRange : (ℕ → Type 0) → ℕ → Durable → Type 0
 FoundInRange Known me d = DurableOf Known d × IsNamed me d
 
--- what the next opening of a node that is down may find
+-- what the next opening of a node that is down, or has failed, may find
 abbrev pub StatusInRange : (ℕ → Type 0) → ℕ → NodeStatus → Type 0
 StatusInRange Known me Up = Unit {0}
 StatusInRange Known me (Down after) = FoundInRange Known me after
+StatusInRange Known me (Failed count after) = FoundInRange Known me after
 
 -- a node of a known id
 pub record NodeInRange (Known : ℕ → Type 0) (n : Node) : Type 0 where

@@ -17,8 +17,8 @@ pub fn openings_stay_in_range()
 {}
 
 /// Whichever servers' ids may be named: one to nine members and the spares start in range, each happening in range whose
-/// stop-sign names such ids keeps them so, and so does each run: every node is in range, with what one that is down may find when
-/// it is opened, each is a member of the configuration whose part it has and of the one that it joins, and so is every message
+/// stop-sign names such ids keeps them so, and so does each run: every node is in range, with what one that is down or has failed may find
+/// when it is opened, each is a member of the configuration whose part it has and of the one that it joins, and so is every message
 /// that was ever sent in range. So it is where stop-signs name nodes of the world, from members and spares in range on, and then
 /// each message goes from a node to a node; and so is every run, whomever its stop-signs name.
 pub fn runs_stay_in_range()

@@ -22,7 +22,7 @@ use Rattle.op_spec.specs.Ledger.{machine_showing, machine_proposing}
 use Rattle.op_protocol.specs.State.{State}
 use Rattle.op_protocol.specs.Parts.{has_stop, is_admitted, is_admitted_body}
 use Rattle.op_protocol.specs.Rows.{knows_no_leader, part_refusal, pending_at, refusal_after, refusal_of, stop_for, entries_of}
-use Rattle.op_runs.specs.World.{Node, NodeStatus, Up, Down, Sent, Happening, Doing, Steps, Stops, Opens, Tells, Deed, deed_of, node_at, world_after}
+use Rattle.op_runs.specs.World.{Node, NodeStatus, Up, Down, Failed, Sent, Happening, Doing, Steps, Stops, Opens, Tells, Deed, deed_of, node_at, world_after}
 use Rattle.op_runs.specs.Run.{Execution, first_execution, execution_with, execution_of, machine_showing_all, machine_proposing_in, machine_proposing_entries, machine_proposing_input, machine_proposing_doing, machine_proposing_if, machine_proposing_at, machine_proposing_by}
 use Rattle.op_paxos.specs.Messages.{packet}
 use Rattle.op_paxos.proofs.Updates.{upd_both}
@@ -135,6 +135,7 @@ module _ (m : Machine) (h : NoStops m) where
   of_status : (z : NodeStatus) (me : ℕ) (s : State) (d : Doing) → NoStops (machine_proposing_if z m me s d)
   of_status Up me s d = of_doing me s d
   of_status (Down after) me s d = h
+  of_status (Failed count after) me s d = h
 
   of_node : (o : Option Node) (d : Doing) → NoStops (machine_proposing_at m o d)
   of_node None d = h

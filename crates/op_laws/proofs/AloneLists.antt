@@ -62,7 +62,7 @@ module _ (first : List ℕ) (ks late : List worlds.Happening) (t : Execution) (h
       let deed : deed_of t.world.messages h.event.what ≡ Some (record { pid = n.pid; doing = Steps z }) = ap (deed_of t.world.messages) x.comes in
       ap (λ (o : Option Deed). node_at (world_with o h t.world).nodes n.pid) deed ∙ ap (λ (o : Option Node). node_at (world_at_node o (Steps z) h t.world).nodes n.pid) x.is
       ∙ ap (λ (q : NodeStatus). node_at (world_by_status q (Steps z) h t.world n).nodes n.pid) x.up
-      ∙ ap (λ (f : Fate). node_at (world_by_fate f h.event.line t.world n (step_plan n.pid n.state z)).nodes n.pid) x.done ∙ node_at-here t.world.nodes m n x.is
+      ∙ ap (λ (f : Fate). node_at (world_by_fate f h.event.line t.world n z).nodes n.pid) x.done ∙ node_at-here t.world.nodes m n x.is
 
   rel : NodeRel first ks t.world.messages n
   rel = (subst (λ (o : Option Node). IfThere (NodeRel first ks t.world.messages) n.pid o) x.is (found (NodeRel first ks t.world.messages) t.world.nodes b.nodes n.pid)).1

@@ -168,7 +168,7 @@ module _ (t : Execution) (h : Happening) (commands : List Command) (x : TakesAlo
   lines_are =
       let deed : deed_of t.world.messages h.event.what ≡ Some (record { pid = n.pid; doing = Steps z }) = ap (deed_of t.world.messages) x.comes in
       ap (λ (o : Option Deed). (world_with o h t.world).lines) deed ∙ ap (λ (o : Option Node). (world_at_node o (Steps z) h t.world).lines) x.is
-      ∙ ap (λ (q : NodeStatus). (world_by_status q (Steps z) h t.world n).lines) x.up ∙ ap (λ (f : Fate). (world_by_fate f h.event.line t.world n plan).lines) x.done
+      ∙ ap (λ (q : NodeStatus). (world_by_status q (Steps z) h t.world n).lines) x.up ∙ ap (λ (f : Fate). (world_by_fate f h.event.line t.world n z).lines) x.done
       ∙ ap (λ (o : Option Outcome). t.world.lines ++ (outcome_lines h.event.line o ++ told_lines)) outcome_is
 
   pub replies_are : plan.replies ≡ (serving s.service ws es).replies

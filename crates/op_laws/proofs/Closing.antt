@@ -32,7 +32,7 @@ use Rattle.op_protocol.specs.Joining.{brought_to}
 use Rattle.op_protocol.specs.Rows.{based_batch, planned, message_at, message_step, step_at, step_bringing, step_plan, waiting_at}
 use Rattle.op_protocol.proofs.Plans.{after_both}
 use Rattle.op_types.specs.Effects.{Effects}
-use Rattle.op_runs.specs.World.{World, Node, NodeStatus, Down, Happening, Steps, Deed, Fate, Done, Stopped, delivery, deed_of, node_at, with_node, world_by_fate, world_by_status, world_at_node, world_with, world_after}
+use Rattle.op_runs.specs.World.{World, Node, NodeStatus, Down, Failed, Happening, Steps, Deed, Fate, Done, Stopped, Faulted, delivery, deed_of, node_at, with_node, world_by_fate, world_by_status, world_at_node, world_with, world_after}
 use Rattle.op_runs.specs.Run.{Execution, first_execution, execution_with, execution_of}
 use Rattle.op_paxos.specs.Logs.{is_stop, has_stop}
 use Rattle.op_paxos.proofs.Tidy.{Tidy, tidy_take}
@@ -201,7 +201,7 @@ module _ (first : List ℕ) (ks late : List worlds.Happening) (t : Execution) (h
   of_row : step_plan n.pid s z ≡ cond ends closed plan
   of_row = ap (λ o. step_bringing n.pid s z o) (nothing_brought s.durable.joining (ltb p.conf (latest_of s.durable)) p.conf x.ballot x.size) ∙ moves.plan_is n.pid s z above p x.has ws
 
-  world_is : world_after t.world h ≡ world_by_fate h.fate h.event.line t.world n (step_plan n.pid s z)
+  world_is : world_after t.world h ≡ world_by_fate h.fate h.event.line t.world n z
   world_is =
       let deed : deed_of t.world.messages h.event.what ≡ Some (record { pid = n.pid; doing = Steps z }) = ap (deed_of t.world.messages) x.delivers ∙ ap delivery x.message in
       ap (λ (o : Option Deed). world_with o h t.world) deed ∙ ap (λ (o : Option Node). world_at_node o (Steps z) h t.world) x.is ∙ ap (λ (q : NodeStatus). world_by_status q (Steps z) h t.world n) x.up
@@ -210,17 +210,23 @@ module _ (first : List ℕ) (ks late : List worlds.Happening) (t : Execution) (h
   stored : (x.after).state.durable ≡ durable_after s.durable (step_plan n.pid s z).batch
   stored = by h.fate refl
     where
-      placed : (k : Node) → k.pid ≡ n.pid → (world_by_fate h.fate h.event.line t.world n (step_plan n.pid s z)).nodes ≡ with_node t.world.nodes k → k ≡ x.after
+      placed : (k : Node) → k.pid ≡ n.pid → (world_by_fate h.fate h.event.line t.world n z).nodes ≡ with_node t.world.nodes k → k ≡ x.after
       placed k same e =
           some_same k x.after (sym (subst (λ (q : ℕ). node_at (with_node t.world.nodes k) q ≡ Some k) same (node_at-here t.world.nodes k n (ap (node_at t.world.nodes) same ∙ x.is)))
           ∙ ap (λ (ns : List Node). node_at ns n.pid) (sym e) ∙ ap (λ (w : World). node_at w.nodes n.pid) (sym world_is) ∙ x.then)
 
-      by : (f : Fate) → h.fate ≡ f → (x.after).state.durable ≡ durable_after s.durable (step_plan n.pid s z).batch
-      by Done f = ap (λ (k : Node). k.state.durable) (sym (placed (record n { state = state_after s (step_plan n.pid s z) }) refl (ap (λ (g : Fate). (world_by_fate g h.event.line t.world n (step_plan n.pid s z)).nodes) f)))
-      by Stopped f =
-          let k : Node = record n { status = Down (durable_after s.durable (step_plan n.pid s z).batch) } in
-          let same : k ≡ x.after = placed k refl (ap (λ (g : Fate). (world_by_fate g h.event.line t.world n (step_plan n.pid s z)).nodes) f) in
+      -- one that stopped or failed would be in the configuration still
+      halted : (status : NodeStatus) → (world_by_fate h.fate h.event.line t.world n z).nodes ≡ with_node t.world.nodes (record n { status = status }) → (x.after).state.durable ≡ durable_after s.durable (step_plan n.pid s z).batch
+      halted status e =
+          let same : record n { status = status } ≡ x.after = placed (record n { status = status }) refl e in
           absurd (omega (arith, x.later, latest_here, ap (λ (w : Node). latest_of w.state.durable) same))
+
+      by : (f : Fate) → h.fate ≡ f → (x.after).state.durable ≡ durable_after s.durable (step_plan n.pid s z).batch
+      by Done f = ap (λ (k : Node). k.state.durable) (sym (placed (record n { state = state_after s (step_plan n.pid s z) }) refl (ap (λ (g : Fate). (world_by_fate g h.event.line t.world n z).nodes) f)))
+      by Stopped f =
+          halted (Down (durable_after s.durable (step_plan n.pid s z).batch)) (ap (λ (g : Fate). (world_by_fate g h.event.line t.world n z).nodes) f)
+      by (Faulted count) f =
+          halted (Failed count (durable_after s.durable (step_plan n.pid s z).batch)) (ap (λ (g : Fate). (world_by_fate g h.event.line t.world n z).nodes) f)
 
   -- the step closes the configuration
   closes : ends ≡ true

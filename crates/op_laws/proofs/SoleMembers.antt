@@ -22,7 +22,7 @@ use Rattle.op_protocol.specs.Rows.{refusal_of, stop_for, entries_of}
 use Rattle.op_runs.specs.Possible.{WhatInRange}
 use Rattle.op_runs.specs.declared.events.What.{What}
 use Rattle.op_runs.specs.declared.events.What.TheVariants as what
-use Rattle.op_runs.specs.World.{Node, NodeStatus, Up, Down, Sent, Happening, Doing, Steps, Stops, Opens, Tells, Deed, delivery, deed_of, node_at, world_after}
+use Rattle.op_runs.specs.World.{Node, NodeStatus, Up, Down, Failed, Sent, Happening, Doing, Steps, Stops, Opens, Tells, Deed, delivery, deed_of, node_at, world_after}
 use Rattle.op_runs.specs.Run.{Execution, first_execution, execution_with, execution_of, machine_proposing_in, machine_proposing_input, machine_proposing_if, machine_proposing_at, machine_proposing_by}
 use Rattle.op_paxos.proofs.Updates.{upd_both}
 use Rattle.op_paxos.proofs.Membership.{in_append}
@@ -121,6 +121,7 @@ module _ (m : Machine) (h : StopsRise m.proposed) where
   of_status Up me s Opens k = h
   of_status Up me s (Tells y) k = h
   of_status (Down after) me s d k = h
+  of_status (Failed count after) me s d k = h
 
   of_node : (o : Option Node) (d : Doing) → DoingRises d → StopsRise (machine_proposing_at m o d).proposed
   of_node None d k = h

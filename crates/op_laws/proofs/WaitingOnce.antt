@@ -29,7 +29,7 @@ use Rattle.op_protocol.specs.Parts.{part_after}
 use Rattle.op_protocol.specs.Rows.{entries_of, refusal_of, newly_decided, waiting_each, waiting_for, waiting_at, planned, step_at, step_bringing, brought_by, step_plan}
 use Rattle.op_protocol.specs.Serving.{waiting_cmp, waits, without_waiting, waiting_with, Served, serving_command, serving_entry, Dropping, is_of_stop, dropping_reply, dropping}
 use Rattle.op_protocol.specs.Starting.{state_after_restart}
-use Rattle.op_runs.specs.World.{World, Node, NodeStatus, Up, Down, Fate, Done, Stopped, Happening, Doing, Steps, Stops, Opens, Tells, Deed, deed_of, node_at, first_node, first_world, node_ids, world_by_fate, world_opening, world_by_status, world_at_node, world_with, world_after, run_of}
+use Rattle.op_runs.specs.World.{World, Node, NodeStatus, Up, Down, Failed, Fate, Done, Stopped, Faulted, Happening, Doing, Steps, Stops, Opens, Tells, Deed, deed_of, node_at, first_node, first_world, node_ids, state_after_reopening, stored_by, world_by_fate, world_opening, world_reopening, world_by_status, world_at_node, world_with, world_after, run_of}
 use Rattle.op_refinement.proofs.NodeLists.{IfThere, found}
 use Rattle.op_refinement.proofs.View.{Each}
 use Rattle.op_laws.proofs.Elections.{each_unit, replaced}
@@ -190,13 +190,21 @@ IfRises None = Unit {0}
 IfRises (Some n) = Rises n.state.waiting
 
 module _ (pid : ℕ) where
-  fated : (w : World) (n : Node) (x : Input) (line : ℕ) (f : Fate) → node_at w.nodes n.pid ≡ Some n → IfRises (node_at w.nodes pid) → IfRises (node_at (world_by_fate f line w n (step_plan n.pid n.state x)).nodes pid)
+  fated : (w : World) (n : Node) (x : Input) (line : ℕ) (f : Fate) → node_at w.nodes n.pid ≡ Some n → IfRises (node_at w.nodes pid) → IfRises (node_at (world_by_fate f line w n x).nodes pid)
   fated w n x line Done at k = replaced IfRises w.nodes n (record n { state = state_after n.state (step_plan n.pid n.state x) }) pid at refl (λ e r. step_rises n.pid n.state r x) k
-  fated w n x line Stopped at k = replaced IfRises w.nodes n (record n { status = Down (durable_after n.state.durable (step_plan n.pid n.state x).batch) }) pid at refl (λ e r. r) k
+  fated w n x line Stopped at k = replaced IfRises w.nodes n (record n { status = Down (stored_by n x) }) pid at refl (λ e r. r) k
+  fated w n x line (Faulted count) at k = replaced IfRises w.nodes n (record n { status = Failed count (stored_by n x) }) pid at refl (λ e r. r) k
 
   opened : (w : World) (n : Node) (d : Durable) (f : Fate) → node_at w.nodes n.pid ≡ Some n → IfRises (node_at w.nodes pid) → IfRises (node_at (world_opening f w n d).nodes pid)
   opened w n d Done at k = replaced IfRises w.nodes n (record n { state = state_after_restart n.pid d; status = Up }) pid at refl (λ e r. tt) k
   opened w n d Stopped at k = k
+  opened w n d (Faulted count) at k = k
+
+  -- a node that failed keeps who waits
+  reopened : (w : World) (n : Node) (after d : Durable) (f : Fate) → node_at w.nodes n.pid ≡ Some n → IfRises (node_at w.nodes pid) → IfRises (node_at (world_reopening f after w n d).nodes pid)
+  reopened w n after d Done at k = replaced IfRises w.nodes n (record n { state = state_after_reopening n.pid n.state d; status = Up }) pid at refl (λ e r. r) k
+  reopened w n after d Stopped at k = replaced IfRises w.nodes n (record n { status = Down after }) pid at refl (λ e r. r) k
+  reopened w n after d (Faulted count) at k = replaced IfRises w.nodes n (record n { status = Failed count after }) pid at refl (λ e r. r) k
 
   by_status : (w : World) (n : Node) (d : Doing) (h : Happening) (s : NodeStatus) → node_at w.nodes n.pid ≡ Some n → IfRises (node_at w.nodes pid) → IfRises (node_at (world_by_status s d h w n).nodes pid)
   by_status w n (Steps x) h Up at k = fated w n x h.event.line h.fate at k
@@ -207,6 +215,10 @@ module _ (pid : ℕ) where
   by_status w n Stops h (Down after) at k = k
   by_status w n Opens h (Down after) at k = opened w n (cond h.finds_after after n.state.durable) h.fate at k
   by_status w n (Tells told) h (Down after) at k = k
+  by_status w n (Steps x) h (Failed count after) at k = k
+  by_status w n Stops h (Failed count after) at k = replaced IfRises w.nodes n (record n { status = Down after }) pid at refl (λ e r. r) k
+  by_status w n Opens h (Failed count after) at k = reopened w n after (cond h.finds_after after n.state.durable) h.fate at k
+  by_status w n (Tells told) h (Failed count after) at k = k
 
   there : (w : World) (q : ℕ) (d : Doing) (h : Happening) (o : Option Node) → node_at w.nodes q ≡ o → IfThere (λ n. Unit {0}) q o → IfRises (node_at w.nodes pid) → IfRises (node_at (world_at_node o d h w).nodes pid)
   there w q d h None at is k = k

@@ -13,7 +13,7 @@ use Rattle.op_types.specs.declared.messages.Msg.{Msg}
 use Rattle.op_protocol.specs.State.{State, Volatile, PartStep, Planned, state_after}
 use Rattle.op_protocol.specs.Parts.{part_after, decided_since}
 use Rattle.op_protocol.specs.Rows.{planned, step_at, waiting_at}
-use Rattle.op_runs.specs.World.{World, Node, NodeStatus, Up, Done, Happening, Steps, Deed, deed_of, node_at, with_node, sent_by, world_by_fate, world_by_status, world_at_node, world_with, world_after, done_event}
+use Rattle.op_runs.specs.World.{World, Node, NodeStatus, Up, Happening, Steps, Deed, deed_of, node_at, with_node, sent_by, world_stepped, world_by_status, world_at_node, world_with, world_after, done_event}
 use Rattle.op_lockstep.specs.Lockstep.{event_of}
 use Rattle.op_lockstep.proofs.Lists.{Each, by_test}
 use Rattle.op_lockstep.proofs.Batches.{IsLight, StoresPart, stores_after, plan_is}
@@ -89,9 +89,9 @@ stepped w e p x a v y deed is light ends s =
     ap (λ (k : ℕ). step_at k st.durable st.volatile x) s.pid ∙ ap (λ (u : Volatile). step_at p st.durable u x) s.volatile ∙ is st.durable s.part s.stays in
     let plan = plan_is n.pid st x a y s.part s.stays step_is light ends in
     let m : Node = record n { state = state_after st pl } in
-    let world_is : world_after w h ≡ world_by_fate Done 0 w n pl =
+    let world_is : world_after w h ≡ world_stepped 0 w n pl =
     ap (λ (o : Option Deed). world_with o h w) deed ∙ ap (λ (o : Option Node). world_at_node o (Steps x) h w) s.at ∙ ap (λ (t : NodeStatus). world_by_status t (Steps x) h w n) s.up
-    ∙ ap (λ (k : Planned). world_by_fate Done 0 w n k) plan.0 in
+    ∙ ap (λ (k : Planned). world_stepped 0 w n k) plan.0 in
     let stored : StoresPart st.durable (part_after a y.batch) (durable_after st.durable pl.batch) =
     subst (λ (b : List Change). StoresPart st.durable (part_after a y.batch) (durable_after st.durable b)) (sym plan.1) (stores_after st.durable a y.batch light s.part) in
     record {

@@ -8,7 +8,7 @@ use Rattle.op_runs.specs.declared.summary.Line.{Line}
 use Rattle.op_spec.specs.Machine.{Machine}
 use Rattle.op_protocol.specs.State as table
 use Rattle.op_protocol.specs.Rows.{step_plan}
-use Rattle.op_runs.specs.World.{Node, NodeStatus, Up, Down, Sent, with_node}
+use Rattle.op_runs.specs.World.{Node, NodeStatus, Up, Down, Failed, Sent, with_node}
 use Rattle.op_runs.specs.Run.{Execution}
 use Rattle.op_configurations.specs.Servers.{Letter}
 use Rattle.op_configurations.specs.Worlds as worlds
@@ -29,15 +29,16 @@ abbrev pub IfSent : List Sent → List Letter → ℕ → ℕ → Letter → Inp
 IfSent messages soup me n m (input.Deliver q msg) = (slice_get messages n ≡ Some (record { from = q; to = me; message = msg })) × (slice_get soup n ≡ Some m)
 IfSent messages soup me n m _ = Unit {0}
 
--- how a node that is down stopped: between two steps, or inside the step of this input
+-- how a node that is down stopped, or one that failed did: between two steps, or inside the step of this input
 pub data StoppedAs (messages : List Sent) (soup : List Letter) (me : ℕ) (s : table.State) (after : Durable) (life : Life) : Type 0 where
   Between : life ≡ worlds.Down None → after ≡ s.durable → StoppedAs messages soup me s after life
   Inside : (x : Input) (n : ℕ) (m : Letter) → life ≡ worlds.Down (event_of me s n m x) → after ≡ durable_after s.durable (step_plan me s x).batch → IfSent messages soup me n m x → StoppedAs messages soup me s after life
 
--- a node that is up runs; one that is down is found as that says
+-- a node that is up runs; one that is down, or has failed, is found as that says: its server is down
 abbrev pub IfStatus : List Sent → List Letter → ℕ → table.State → NodeStatus → Life → Type 0
 IfStatus messages soup me s Up life = life ≡ Running
 IfStatus messages soup me s (Down after) life = StoppedAs messages soup me s after life
+IfStatus messages soup me s (Failed count after) life = StoppedAs messages soup me s after life
 
 -- a node is the server of its id
 pub record NodeRel (first : List ℕ) (ks : List Happening) (messages : List Sent) (n : Node) : Type 0 where
@@ -71,10 +72,14 @@ sent_more messages more soup letters me n m input.TrimNow k = tt
 sent_more messages more soup letters me n m (input.Up q) k = tt
 sent_more messages more soup letters me n m (input.Down q) k = tt
 
+stopped_more : (messages more : List Sent) (soup letters : List Letter) (me : ℕ) (s : table.State) (after : Durable) (life : Life) → StoppedAs messages soup me s after life → StoppedAs (messages ++ more) (soup ++ letters) me s after life
+stopped_more messages more soup letters me s after life (Between a b) = Between a b
+stopped_more messages more soup letters me s after life (Inside x n m a b c) = Inside x n m a b (sent_more messages more soup letters me n m x c)
+
 status_more : (messages more : List Sent) (soup letters : List Letter) (me : ℕ) (s : table.State) (status : NodeStatus) (life : Life) → IfStatus messages soup me s status life → IfStatus (messages ++ more) (soup ++ letters) me s status life
 status_more messages more soup letters me s Up life k = k
-status_more messages more soup letters me s (Down after) life (Between a b) = Between a b
-status_more messages more soup letters me s (Down after) life (Inside x n m a b c) = Inside x n m a b (sent_more messages more soup letters me n m x c)
+status_more messages more soup letters me s (Down after) life k = stopped_more messages more soup letters me s after life k
+status_more messages more soup letters me s (Failed count after) life k = stopped_more messages more soup letters me s after life k
 
 module _ (first : List ℕ) (ks late : List Happening) (p : ℕ) (g : Goes first ks late p) where
   -- another node stays beside its server

@@ -12,12 +12,13 @@ use Rattle.op_types.specs.declared.log.StopSign.{StopSign}
 use Rattle.op_types.specs.declared.answers.Refusal.{Refusal}
 use Rattle.op_runs.specs.declared.summary.Line.{Line}
 use Rattle.op_spec.specs.Machine.{Machine}
+use Rattle.op_protocol.specs.State.{Waiting}
 use Rattle.op_protocol.specs.Rows.{step_plan, refusal_of, stop_for, entries_of}
 use Rattle.op_runs.specs.Possible.{proposals_of}
 use Rattle.op_refinement.proofs.Proposed.{proposal, proposals, proposals-length}
 use Rattle.op_protocol.specs.Starting.{state_after_restart, sends_after_restart}
 use Rattle.op_runs.specs.World as product
-use Rattle.op_runs.specs.World.{Node, NodeStatus, Up, Down, Sent, sent_by, node_at, with_node, Deed, Doing, Steps, Stops, Opens, Tells, Told, deed_of, delivery, world_with, world_at_node, world_by_status, world_if_up, world_if_down, world_by_fate, world_opening}
+use Rattle.op_runs.specs.World.{Node, NodeStatus, Up, Down, Failed, Sent, sent_by, node_at, with_node, Deed, Doing, Steps, Stops, Opens, Tells, Told, deed_of, delivery, world_with, world_at_node, world_by_status, world_if_up, world_if_down, world_if_failed, world_by_fate, world_opening, world_reopening}
 use Rattle.op_runs.specs.Run.{Execution, execution_with, machine_showing_all, machine_proposing_by, machine_proposing_at, machine_proposing_if, machine_proposing_input}
 use Rattle.op_configurations.specs.Servers as server
 use Rattle.op_configurations.specs.Servers.{State, Letter, Fate, Done, Stopped, Event, letter}
@@ -31,8 +32,8 @@ use Rattle.op_refinement.proofs.Steps.{AllRead, StepsGo}
 use Rattle.op_refinement.proofs.Worlds.{lists_of, world_of, state_of, state_on, serves_on, facts_of}
 use Rattle.op_refinement.proofs.Beside.{IfSent, IfStatus, StoppedAs, Between, NodeRel, IsBeside, Goes, beside_moved}
 use Rattle.op_refinement.proofs.NodeLists.{IfThere, found, with-kept}
-use Rattle.op_refinement.proofs.PureMoves.{GoesTo, late_of, happening_of, IfReads, stopped_goes}
-use Rattle.op_refinement.proofs.NodeSteps.{done_to, done_said, done_rel, stopped_to, stopped_rel}
+use Rattle.op_refinement.proofs.PureMoves.{GoesTo, late_of, happening_of, IfReads, goes_none, stopped_goes}
+use Rattle.op_refinement.proofs.NodeSteps.{storing, IsHalted, done_to, done_said, done_rel, stopped_to, stopped_rel}
 use Rattle.op_refinement.proofs.Openings.{open_goes, open_said, open_rel}
 use Rattle.op_refinement.proofs.Finds.{Found, finds_before, finds_after}
 use Rattle.op_refinement.proofs.Machines.{all_same, moved_same, moved_shows}
@@ -109,10 +110,14 @@ tells_steps y x e = cc
 up_down : (d : Durable) → Up ≡ Down d → ⊥
 up_down d e = cc
 
--- a fate there
+up_failed : (count : ℕ) (d : Durable) → Up ≡ Failed count d → ⊥
+up_failed count d e = cc
+
+-- a fate there: a server whose node fails stops
 abbrev pub fate_there : product.Fate → Fate
 fate_there product.Done = Done
 fate_there product.Stopped = Stopped
+fate_there (product.Faulted count) = Stopped
 
 -- any letter
 abbrev some_letter : Letter
@@ -331,15 +336,16 @@ module _ (go : StepsGo) (Fine : Entry → Type 0) (reads : FineRuns Fine) (first
           (done_said go first ks t.world.messages (b.beside).letters n k running x i l sent read)
           (done_rel go first ks t.world.messages (b.beside).letters n k running x i l sent read (t.world.messages ++ sent_by p (step_plan p n.state x).sends)) lines
 
-      pub step_stopped : By (late Stopped) → (lines : List Line)
+      -- the node stops or fails inside it
+      pub step_stopped : (status : NodeStatus) → IsHalted go first ks t.world.messages (b.beside).letters n k running x i l sent status → By (late Stopped) → (lines : List Line)
           → After ph (record {
-            world = record { nodes = with_node t.world.nodes (Rattle.op_refinement.proofs.NodeSteps.stopped go first ks t.world.messages (b.beside).letters n k running x i l sent); messages = t.world.messages ++ []; lines = lines };
-            machine = machine_showing_all (machine_proposing_input t.machine p n.state x) (with_node t.world.nodes (Rattle.op_refinement.proofs.NodeSteps.stopped go first ks t.world.messages (b.beside).letters n k running x i l sent));
+            world = record { nodes = with_node t.world.nodes (record n { status = status }); messages = t.world.messages ++ []; lines = lines };
+            machine = machine_showing_all (machine_proposing_input t.machine p n.state x) (with_node t.world.nodes (record n { status = status }));
           })
-      step_stopped by lines =
+      step_stopped status halted by lines =
           moves (late Stopped) (one Stopped) by _ _ (stopped_to go first ks t.world.messages (b.beside).letters n k running x i l sent) _ (proposes Stopped) _ refl [] tt
-          (subst (λ (ms : List Sent). NodeRel first (ks ++ late Stopped) ms (Rattle.op_refinement.proofs.NodeSteps.stopped go first ks t.world.messages (b.beside).letters n k running x i l sent)) (sym (append-nil t.world.messages))
-          (stopped_rel go first ks t.world.messages (b.beside).letters n k running x i l sent)) lines
+          (subst (λ (ms : List Sent). NodeRel first (ks ++ late Stopped) ms (record n { status = status })) (sym (append-nil t.world.messages))
+          (stopped_rel go first ks t.world.messages (b.beside).letters n k running x i l sent status halted)) lines
 
     -- ---- a crash
     pub crashed : ((world_of first ks).servers p).life ≡ Running → By (worlds.Stops p ∷ []) → (lines : List Line)
@@ -359,25 +365,38 @@ module _ (go : StepsGo) (Fine : Entry → Type 0) (reads : FineRuns Fine) (first
           status = Between (ap (λ (sv : Server). sv.life) g.here) refl;
         }) lines
 
-    -- ---- an opening
-    opened_with : (c : Bool) (d : Durable) → Found first ks p c d → By (worlds.Opens p c ∷ []) → (lines : List Line)
+    -- ---- another status, of a node whose server is down and stays so
+    pub restatused : (status : NodeStatus) → IfStatus t.world.messages (world_of first ks).soup p n.state status ((world_of first ks).servers p).life → By [] → (lines : List Line)
         → After ph (record {
-          world = record { nodes = with_node t.world.nodes (record n { state = state_after_restart p d; status = Up }); messages = t.world.messages ++ sent_by p (sends_after_restart p d); lines = lines };
-          machine = machine_showing_all t.machine (with_node t.world.nodes (record n { state = state_after_restart p d; status = Up }));
+          world = record { nodes = with_node t.world.nodes (record n { status = status }); messages = t.world.messages ++ []; lines = lines };
+          machine = machine_showing_all t.machine (with_node t.world.nodes (record n { status = status }));
         })
-    opened_with c d y by lines =
+    restatused status is by lines =
+        let new : Node = record n { status = status } in
+        let rel : NodeRel first ks t.world.messages new = record { low = k.low; rel = k.rel; serves = k.serves; status = is } in
+        moves [] tt by _ _ (goes_none first ks p) t.machine machine_is new refl [] tt
+        (subst (λ (hs : List Happening). NodeRel first hs (t.world.messages ++ []) new) (sym (append-nil ks))
+        (subst (λ (ms : List Sent). NodeRel first ks ms new) (sym (append-nil t.world.messages)) rel)) lines
+
+    -- ---- an opening, after which these wait
+    opened_with : (c : Bool) (d : Durable) → Found first ks p c d → (waiting : Waiting) → By (worlds.Opens p c ∷ []) → (lines : List Line)
+        → After ph (record {
+          world = record { nodes = with_node t.world.nodes (record n { state = record (state_after_restart p d) { waiting = waiting }; status = Up }); messages = t.world.messages ++ sent_by p (sends_after_restart p d); lines = lines };
+          machine = machine_showing_all t.machine (with_node t.world.nodes (record n { state = record (state_after_restart p d) { waiting = waiting }; status = Up }));
+        })
+    opened_with c d y waiting by lines =
         let h : Happening = worlds.Opens p c in
         let read : AllRead (lists_of first (ks ++ h ∷ [])) = read_late (h ∷ []) (refl, tt, omega arith) in
-        moves (h ∷ []) (refl, tt, omega arith) by _ _ (open_goes first ks p c y.event y.down) t.machine machine_is (record n { state = state_after_restart p d; status = Up }) refl (sent_by p (sends_after_restart p d))
-        (open_said first ks p c y.event y.down d y.role y.rel read k.low) (open_rel first ks p c y.event y.down d y.role y.rel read k.low n refl (t.world.messages ++ sent_by p (sends_after_restart p d))) lines
+        moves (h ∷ []) (refl, tt, omega arith) by _ _ (open_goes first ks p c y.event y.down) t.machine machine_is (record n { state = record (state_after_restart p d) { waiting = waiting }; status = Up }) refl (sent_by p (sends_after_restart p d))
+        (open_said first ks p c y.event y.down d y.role y.rel read k.low) (open_rel first ks p c y.event y.down d y.role y.rel read k.low n refl (t.world.messages ++ sent_by p (sends_after_restart p d)) waiting) lines
 
-    pub opened : (after : Durable) → StoppedAs t.world.messages (world_of first ks).soup p n.state after ((world_of first ks).servers p).life → (c : Bool) → By (worlds.Opens p c ∷ []) → (lines : List Line)
+    pub opened : (after : Durable) → StoppedAs t.world.messages (world_of first ks).soup p n.state after ((world_of first ks).servers p).life → (c : Bool) (waiting : Waiting) → By (worlds.Opens p c ∷ []) → (lines : List Line)
         → After ph (record {
-          world = record { nodes = with_node t.world.nodes (record n { state = state_after_restart p (cond c after n.state.durable); status = Up }); messages = t.world.messages ++ sent_by p (sends_after_restart p (cond c after n.state.durable)); lines = lines };
-          machine = machine_showing_all t.machine (with_node t.world.nodes (record n { state = state_after_restart p (cond c after n.state.durable); status = Up }));
+          world = record { nodes = with_node t.world.nodes (record n { state = record (state_after_restart p (cond c after n.state.durable)) { waiting = waiting }; status = Up }); messages = t.world.messages ++ sent_by p (sends_after_restart p (cond c after n.state.durable)); lines = lines };
+          machine = machine_showing_all t.machine (with_node t.world.nodes (record n { state = record (state_after_restart p (cond c after n.state.durable)) { waiting = waiting }; status = Up }));
         })
-    opened after s true by lines = opened_with true after (finds_after go first ks t.world.messages (b.beside).letters n k after s (read_late (worlds.Opens p true ∷ []) (refl, tt, omega arith))) by lines
-    opened after s false by lines = opened_with false n.state.durable (finds_before go first ks t.world.messages (b.beside).letters n k after s) by lines
+    opened after s true waiting by lines = opened_with true after (finds_after go first ks t.world.messages (b.beside).letters n k after s (read_late (worlds.Opens p true ∷ []) (refl, tt, omega arith))) waiting by lines
+    opened after s false waiting by lines = opened_with false n.state.durable (finds_before go first ks t.world.messages (b.beside).letters n k after s) waiting by lines
 
     -- ---- whatever is done at the node
 
@@ -451,15 +470,21 @@ module _ (go : StepsGo) (Fine : Entry → Type 0) (reads : FineRuns Fine) (first
           is = ap (λ (g : product.Fate). late running x y.fine y.number y.as_letter y.sent (fate_there g)) (sym fate);
         })
 
+    -- a step inside which the node stops or fails
+    step_by : (running : ((world_of first ks).servers p).life ≡ Running) (x : Input) → Is (Steps x) → (y : Sending x) (f : product.Fate) → ph.fate ≡ f → fate_there f ≡ Stopped → By (late running x y.fine y.number y.as_letter y.sent Stopped)
+    step_by running x is y f fate stops =
+        by_with (Steps x) is (late running x y.fine y.number y.as_letter y.sent Stopped) (one_acts _ (one running x y.fine y.number y.as_letter y.sent Stopped))
+        (λ z e up. subst (λ (g : Fate). StepLate first ks t.world.messages n ph.fate z (late running x y.fine y.number y.as_letter y.sent g)) stops (step_late running x is y f fate z e)) (λ up k. absurd k)
+
     stepped : ((world_of first ks).servers p).life ≡ Running → (x : Input) → Is (Steps x) → Sending x → (f : product.Fate) → ph.fate ≡ f → (at_line : ℕ)
-        → Goes_on (world_by_fate f at_line t.world (record n { status = Up }) (step_plan p n.state x)) (machine_proposing_input t.machine p n.state x)
+        → Goes_on (world_by_fate f at_line t.world (record n { status = Up }) x) (machine_proposing_input t.machine p n.state x)
     stepped running x is y product.Done fate at_line =
         step_done running x y.fine y.number y.as_letter y.sent
         (by_with (Steps x) is (late running x y.fine y.number y.as_letter y.sent Done) (one_acts _ (one running x y.fine y.number y.as_letter y.sent Done)) (λ z e up. step_late running x is y product.Done fate z e) (λ up k. absurd k)) _
     stepped running x is y product.Stopped fate at_line =
-        nothing_sent _ _ _
-        (step_stopped running x y.fine y.number y.as_letter y.sent
-        (by_with (Steps x) is (late running x y.fine y.number y.as_letter y.sent Stopped) (one_acts _ (one running x y.fine y.number y.as_letter y.sent Stopped)) (λ z e up. step_late running x is y product.Stopped fate z e) (λ up k. absurd k)) t.world.lines)
+        nothing_sent _ _ _ (step_stopped running x y.fine y.number y.as_letter y.sent (Down (storing go first ks t.world.messages (b.beside).letters n k running x y.number y.as_letter y.sent)) (λ s. s) (step_by running x is y product.Stopped fate refl) t.world.lines)
+    stepped running x is y (product.Faulted count) fate at_line =
+        nothing_sent _ _ _ (step_stopped running x y.fine y.number y.as_letter y.sent (Failed count (storing go first ks t.world.messages (b.beside).letters n k running x y.number y.as_letter y.sent)) (λ s. s) (step_by running x is y (product.Faulted count) fate refl) _)
 
     pub by_status : (s : NodeStatus) → n.status ≡ s → IfStatus t.world.messages (world_of first ks).soup p n.state s ((world_of first ks).servers p).life → (d : Doing) → Is d → DoingIs Fine size t.world.messages p d
         → Goes_on (world_by_status s d ph t.world (record n { status = s })) (machine_proposing_if s t.machine p n.state d)
@@ -473,8 +498,18 @@ module _ (go : StepsGo) (Fine : Entry → Type 0) (reads : FineRuns Fine) (first
     by_status (Down after) down s Opens is f = by ph.fate
       where
         by : (y : product.Fate) → Goes_on (world_opening y t.world (record n { status = Down after }) (cond ph.finds_after after n.state.durable)) t.machine
-        by product.Done = opened after s ph.finds_after (by_with Opens is (worlds.Opens p ph.finds_after ∷ []) (one_acts _ (refl, tt, omega arith)) (λ x e u. absurd (opens_steps x e)) (λ u k. absurd (up_down after (sym u ∙ down)))) t.world.lines
+        by product.Done = opened after s ph.finds_after [] (by_with Opens is (worlds.Opens p ph.finds_after ∷ []) (one_acts _ (refl, tt, omega arith)) (λ x e u. absurd (opens_steps x e)) (λ u k. absurd (up_down after (sym u ∙ down)))) t.world.lines
         by product.Stopped = stays ph (by_none Opens is (λ x e u. opens_steps x e)) t.world.lines t.machine refl
+        by (product.Faulted count) = stays ph (by_none Opens is (λ x e u. opens_steps x e)) t.world.lines t.machine refl
+    by_status (Failed count after) failed s (Steps x) is f = stays ph (by_none (Steps x) is (λ x e u. up_failed count after (sym u ∙ failed))) _ t.machine refl
+    by_status (Failed count after) failed s Stops is f = nothing_sent _ _ _ (restatused (Down after) s (by_none Stops is (λ x e u. stops_steps x e)) t.world.lines)
+    by_status (Failed count after) failed s (Tells y) is f = stays ph (by_none (Tells y) is (λ x e u. tells_steps y x e)) _ t.machine refl
+    by_status (Failed count after) failed s Opens is f = by ph.fate
+      where
+        by : (y : product.Fate) → Goes_on (world_reopening y after t.world (record n { status = Failed count after }) (cond ph.finds_after after n.state.durable)) t.machine
+        by product.Done = opened after s ph.finds_after n.state.waiting (by_with Opens is (worlds.Opens p ph.finds_after ∷ []) (one_acts _ (refl, tt, omega arith)) (λ x e u. absurd (opens_steps x e)) (λ u k. absurd (up_failed count after (sym u ∙ failed)))) t.world.lines
+        by product.Stopped = nothing_sent _ _ _ (restatused (Down after) s (by_none Opens is (λ x e u. opens_steps x e)) t.world.lines)
+        by (product.Faulted more) = nothing_sent _ _ _ (restatused (Failed more after) s (by_none Opens is (λ x e u. opens_steps x e)) t.world.lines)
 
   -- ---- whatever happens
 

@@ -1,6 +1,7 @@
 -- A step of a node that is up: the node stays beside its server.
 use Rattle.std.proofs.Common.{◌≡◌, ℕ, Bool, true, false, cond, List, [], ◌∷◌, ◌++◌, Option, Some, None, refl, sym, ap, ◌∙◌, subst, slice_get, append-nil}
 use Rattle.op_types.specs.Changes.{durable_after}
+use Rattle.op_types.specs.declared.durable.Durable.{Durable}
 use Rattle.op_types.specs.Roles.{Role}
 use Rattle.op_types.specs.declared.answers.Refusal.{Refusal}
 use Rattle.op_types.specs.declared.events.Input.{Input}
@@ -9,7 +10,7 @@ use Rattle.op_types.specs.declared.log.Entry.{Entry}
 use Rattle.op_types.specs.declared.messages.Msg.{Msg}
 use Rattle.op_protocol.specs.State.{Planned, state_after}
 use Rattle.op_protocol.specs.Rows.{step_plan, refusal_of, stop_for}
-use Rattle.op_runs.specs.World.{Node, Up, Down, Sent, sent_by}
+use Rattle.op_runs.specs.World.{Node, NodeStatus, Up, Sent, sent_by}
 use Rattle.op_configurations.specs.Servers as server
 use Rattle.op_configurations.specs.Servers.{State, Letter, Fate, Done, Stopped, Stepped, Event}
 use Rattle.op_configurations.specs.Worlds as worlds
@@ -22,7 +23,7 @@ use Rattle.op_refinement.proofs.Letters.{IfLetter, letter_at}
 use Rattle.op_refinement.proofs.Inputs.{event_of, step_by, is_past, proposal_event}
 use Rattle.op_refinement.proofs.Steps.{IfComes, AllRead, StepsGo}
 use Rattle.op_refinement.proofs.Worlds.{lists_of, world_of, state_of, letters_on, facts_of}
-use Rattle.op_refinement.proofs.Beside.{IfSent, Inside, NodeRel}
+use Rattle.op_refinement.proofs.Beside.{IfSent, IfStatus, StoppedAs, Inside, NodeRel}
 use Rattle.op_refinement.proofs.PureMoves.{GoesTo, late_of, IfReads, done_goes, stopped_goes}
 
 module _ (go : StepsGo) (first : List ℕ) (ks : List Happening) (messages : List Sent) (letters : AreLetters (lists_of first ks) messages (world_of first ks).soup)
@@ -127,9 +128,10 @@ module _ (go : StepsGo) (first : List ℕ) (ks : List Happening) (messages : Lis
       status = ap (λ (sv : Server). sv.life) done_to.here;
     }
 
-  -- ---- the node stops inside it
-  abbrev pub stopped : Node
-  stopped = record n { status = Down (durable_after n.state.durable planned.batch) }
+  -- ---- the node stops or fails inside it: its server stops
+  -- what the step was to store
+  abbrev pub storing : Durable
+  storing = durable_after n.state.durable planned.batch
 
   abbrev stopped_late : List Happening
   stopped_late = late_of first ks own running Stopped seen
@@ -137,8 +139,14 @@ module _ (go : StepsGo) (first : List ℕ) (ks : List Happening) (messages : Lis
   pub stopped_to : GoesTo first ks stopped_late own (record { state = state_of first ks own; life = worlds.Down seen }) []
   stopped_to = stopped_goes first ks own running seen reads_sent
 
-  pub stopped_rel : NodeRel first (ks ++ stopped_late) messages stopped
-  stopped_rel =
+  -- how the node then runs, where it is found as one that stopped inside this step
+  abbrev pub IsHalted : NodeStatus → Type 0
+  IsHalted status =
+      StoppedAs messages (world_of first (ks ++ stopped_late)).soup own n.state storing ((world_of first (ks ++ stopped_late)).servers own).life
+      → IfStatus messages (world_of first (ks ++ stopped_late)).soup own n.state status ((world_of first (ks ++ stopped_late)).servers own).life
+
+  pub stopped_rel : (status : NodeStatus) → IsHalted status → NodeRel first (ks ++ stopped_late) messages (record n { status = status })
+  stopped_rel status halted =
       let same : state_of first (ks ++ stopped_late) own ≡ state_of first ks own = ap (λ (sv : Server). sv.state) stopped_to.here in
       let none : (world_of first (ks ++ stopped_late)).soup ≡ (world_of first ks).soup =
       (stopped_to.goes).soup ∙ ap (λ (ms : List Letter). (world_of first ks).soup ++ ms) stopped_to.is ∙ append-nil (world_of first ks).soup in
@@ -146,5 +154,5 @@ module _ (go : StepsGo) (first : List ℕ) (ks : List Happening) (messages : Lis
         low = k.low;
         rel = subst (λ (st : State). StateRel (lists_of first (ks ++ stopped_late)) n.state.durable n.state.volatile.role st) (sym same) (Rattle.op_refinement.proofs.Worlds.state_on first ks stopped_late own n.state.durable n.state.volatile.role k.rel);
         serves = subst (λ (st : State). IfServes (lists_of first (ks ++ stopped_late)) n.state.service st.part) (sym same) (Rattle.op_refinement.proofs.Worlds.serves_on first ks stopped_late own n.state.service k.serves);
-        status = Inside x i m (ap (λ (sv : Server). sv.life) stopped_to.here) refl (subst (λ (soup : List Letter). IfSent messages soup own i m x) (sym none) sent);
+        status = halted (Inside x i m (ap (λ (sv : Server). sv.life) stopped_to.here) refl (subst (λ (soup : List Letter). IfSent messages soup own i m x) (sym none) sent));
       }

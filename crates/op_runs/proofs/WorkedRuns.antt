@@ -14,7 +14,10 @@ use Rattle.op_runs.specs.declared.summary.Line.{Line}
 use Rattle.op_runs.specs.declared.summary.Line.TheVariants as line
 use Rattle.op_spec.specs.Ledger.{decided_in}
 use Rattle.op_kv.specs.Rising.{rising_read}
-use Rattle.op_runs.specs.World.{Fate, Done, Stopped, Happening}
+use Rattle.op_runs.specs.declared.summary.Running.{Running}
+use Rattle.op_runs.specs.declared.summary.Running.TheVariants as running
+use Rattle.op_runs.specs.Summary.{running_of}
+use Rattle.op_runs.specs.World.{Fate, Done, Stopped, Faulted, Happening}
 use Rattle.op_runs.specs.Run.{Execution, first_execution, execution_of}
 
 abbrev pub put : ℕ → ℕ → ℕ → ℕ → Command
@@ -223,6 +226,110 @@ a_sole_member_starts_again :
     (2 ∷ [])
 unfolding done rising_read
 a_sole_member_starts_again = record { lines_are = refl; list_is = refl; decided_are = refl }
+
+-- a disk fails inside a step: the proposal is refused with the count of faults, and so is the next one, until an
+-- opening, which finds what was stored before; the node then leads again
+a_failed_node_refuses :
+    Gives
+    (run (1 ∷ []) (done 2 (what.Tick 1 ∷ []) ++ happens 4 (Faulted 1) false (what.Commands 1 (put 7 1 97 120 ∷ [])) ∷ done 5 (what.Commands 1 (put 7 1 97 120 ∷ []) ∷ what.Start 1 ∷ what.Tick 1 ∷ what.Commands 1 (put 7 1 97 120 ∷ []) ∷ [])))
+    (line.Answer 4 (outcome.Refused (refusal.StorageFailed 1)) ∷ line.Answer 5 (outcome.Refused (refusal.StorageFailed 1)) ∷ line.Answer 8 (outcome.Appended 1 0) ∷ line.Reply 1 7 1 answer.Done ∷ [])
+    (entry.Command (put 7 1 97 120) ∷ [])
+    (1 ∷ [])
+unfolding done rising_read
+a_failed_node_refuses = record { lines_are = refl; list_is = refl; decided_are = refl }
+
+-- an opening finds what the step was to store: the refused command is decided, and when it is sent again its client is
+-- given the kept answer
+a_failed_step_is_found_done :
+    Gives
+    (run (1 ∷ []) (done 2 (what.Tick 1 ∷ []) ++ happens 4 (Faulted 1) false (what.Commands 1 (put 7 1 97 120 ∷ [])) ∷ happens 5 Done true (what.Start 1) ∷ done 6 (what.Tick 1 ∷ what.Commands 1 (put 7 1 97 120 ∷ []) ∷ [])))
+    (line.Answer 4 (outcome.Refused (refusal.StorageFailed 1)) ∷ line.Answer 7 (outcome.Appended 1 1) ∷ line.Reply 1 7 1 answer.Done ∷ [])
+    (entry.Command (put 7 1 97 120) ∷ entry.Command (put 7 1 97 120) ∷ [])
+    (2 ∷ [])
+unfolding done rising_read
+a_failed_step_is_found_done = record { lines_are = refl; list_is = refl; decided_are = refl }
+
+-- a node that failed stops inside its opening: the next opening finds it down
+a_failed_node_stops :
+    Gives
+    (run (1 ∷ []) (done 2 (what.Tick 1 ∷ []) ++ happens 4 (Faulted 1) false (what.Commands 1 (put 7 1 97 120 ∷ [])) ∷ happens 6 Stopped false (what.Start 1) ∷ done 7 (what.Start 1 ∷ what.Tick 1 ∷ what.Commands 1 (put 7 1 97 120 ∷ []) ∷ [])))
+    (line.Answer 4 (outcome.Refused (refusal.StorageFailed 1)) ∷ line.Answer 9 (outcome.Appended 1 0) ∷ line.Reply 1 7 1 answer.Done ∷ [])
+    (entry.Command (put 7 1 97 120) ∷ [])
+    (1 ∷ [])
+unfolding done rising_read
+a_failed_node_stops = record { lines_are = refl; list_is = refl; decided_are = refl }
+
+-- a node that failed refuses to trim, tells its state of before, and neither ticks nor reads a message; an opening that
+-- fails leaves it failed with the new count
+a_failed_node_tells :
+    Gives
+    (run (1 ∷ []) (done 2 (what.Tick 1 ∷ what.Commands 1 (put 7 1 97 120 ∷ []) ∷ []) ++ happens 4 (Faulted 1) false (what.Commands 1 (put 7 2 98 121 ∷ [])) ∷ done 5 (what.Tick 1 ∷ what.Trim 1 ∷ what.Show 1 ∷ what.Ballots 1 ∷ [])
+    ++ happens 9 (Faulted 3) true (what.Start 1) ∷ done 10 (what.Stop 1 (1 ∷ []) ∷ [])))
+    (line.Answer 3 (outcome.Appended 1 0) ∷ line.Reply 1 7 1 answer.Done ∷ line.Answer 4 (outcome.Refused (refusal.StorageFailed 1)) ∷ line.Answer 6 (outcome.Refused (refusal.StorageFailed 1)) ∷ line.Pair 1 (97 ∷ []) (120 ∷ [])
+    ∷ line.Ballots 1 (record { number = 1; pid = 1 }) (record { number = 1; pid = 1 }) (record { number = 1; pid = 1 }) ∷ line.Answer 10 (outcome.Refused (refusal.StorageFailed 3)) ∷ [])
+    (entry.Command (put 7 1 97 120) ∷ [])
+    (1 ∷ [])
+unfolding done rising_read
+a_failed_node_tells = record { lines_are = refl; list_is = refl; decided_are = refl }
+
+-- a command is forwarded, and its client waits at the follower, when this comes there by the message that decides it
+abbrev decided_elsewhere : Happening → List What → List Happening
+decided_elsewhere h late =
+    done 2 (elected ++ what.Deliver 8 ∷ what.Commands 2 (put 7 1 97 120 ∷ []) ∷ what.Deliver 10 ∷ what.Deliver 11 ∷ what.Deliver 12 ∷ []) ++ h ∷ done 14 late
+
+-- a node that fails keeps who waits
+a_failed_node_keeps_who_waits :
+    Gives
+    (run three (decided_elsewhere (happens 13 (Faulted 1) false (what.Deliver 13)) (what.Start 2 ∷ what.Deliver 13 ∷ [])))
+    (line.Answer 9 (outcome.Forwarded 1) ∷ line.Reply 2 7 1 answer.Done ∷ [])
+    (entry.Command (put 7 1 97 120) ∷ [])
+    (1 ∷ 1 ∷ 0 ∷ [])
+unfolding done rising_read
+a_failed_node_keeps_who_waits = record { lines_are = refl; list_is = refl; decided_are = refl }
+
+-- one that stops loses them
+a_stopped_node_loses_who_waits :
+    Gives
+    (run three (decided_elsewhere (happens 13 Stopped false (what.Deliver 13)) (what.Start 2 ∷ what.Deliver 13 ∷ [])))
+    (line.Answer 9 (outcome.Forwarded 1) ∷ [])
+    (entry.Command (put 7 1 97 120) ∷ [])
+    (1 ∷ 1 ∷ 0 ∷ [])
+unfolding done rising_read
+a_stopped_node_loses_who_waits = record { lines_are = refl; list_is = refl; decided_are = refl }
+
+-- and so does one that failed and then stops
+a_failed_node_that_stops_loses_who_waits :
+    Gives
+    (run three (decided_elsewhere (happens 13 (Faulted 1) false (what.Deliver 13)) (what.Crash 2 ∷ what.Start 2 ∷ what.Deliver 13 ∷ [])))
+    (line.Answer 9 (outcome.Forwarded 1) ∷ [])
+    (entry.Command (put 7 1 97 120) ∷ [])
+    (1 ∷ 1 ∷ 0 ∷ [])
+unfolding done rising_read
+a_failed_node_that_stops_loses_who_waits = record { lines_are = refl; list_is = refl; decided_are = refl }
+
+-- how the nodes run after a run
+abbrev running_after : Execution → List Running
+running_after t = map (λ n. running_of n.status) t.world.nodes
+
+-- a node that is down stays so where its opening fails, and one more opening finds it
+an_opening_fails :
+    running_after (run (1 ∷ []) (done 2 (what.Tick 1 ∷ what.Commands 1 (put 7 1 97 120 ∷ []) ∷ what.Crash 1 ∷ []) ++ happens 6 (Faulted 1) false (what.Start 1) ∷ []))
+    ≡ running.Down ∷ []
+unfolding done rising_read
+an_opening_fails = refl
+
+an_opening_is_tried_again :
+    running_after (run (1 ∷ []) (done 2 (what.Tick 1 ∷ what.Commands 1 (put 7 1 97 120 ∷ []) ∷ what.Crash 1 ∷ []) ++ happens 6 (Faulted 1) false (what.Start 1) ∷ done 7 (what.Start 1 ∷ [])))
+    ≡ running.Up ∷ []
+unfolding done rising_read
+an_opening_is_tried_again = refl
+
+-- one that failed is shown so, until an opening is done
+a_failed_node_is_shown :
+    running_after (run (1 ∷ 2 ∷ []) (happens 2 (Faulted 1) false (what.Tick 1) ∷ happens 3 (Faulted 1) false (what.Tick 2) ∷ happens 4 (Faulted 2) false (what.Start 1) ∷ done 5 (what.Start 2 ∷ [])))
+    ≡ running.Failed ∷ running.Up ∷ []
+unfolding done
+a_failed_node_is_shown = refl
 
 -- a command that waits for its leader to lead is dropped when that gives up its ballot
 a_buffered_command_is_dropped :

@@ -14,7 +14,7 @@ use Rattle.op_spec.specs.Stands.{Stands, prefix_of}
 use Rattle.op_protocol.specs.State.{State}
 use Rattle.op_protocol.specs.Configurations.{latest_of}
 use Rattle.op_protocol.specs.Rows.{refusal_of, stop_for, entries_of}
-use Rattle.op_runs.specs.World.{World, Node, NodeStatus, Up, Down, Happening, Doing, Steps, Stops, Opens, Tells, Deed, first_world, world_after, node_at, deed_of}
+use Rattle.op_runs.specs.World.{World, Node, NodeStatus, Up, Down, Failed, Happening, Doing, Steps, Stops, Opens, Tells, Deed, first_world, world_after, node_at, deed_of}
 
 -- a run so far: its world, and the list machine's state that it shows
 pub record Execution : Type 0 where
@@ -54,6 +54,7 @@ machine_proposing_doing m me s (Tells t) = m
 abbrev pub machine_proposing_if : NodeStatus → Machine → ℕ → State → Doing → Machine
 machine_proposing_if Up m me s d = machine_proposing_doing m me s d
 machine_proposing_if (Down after) m me s d = m
+machine_proposing_if (Failed count after) m me s d = m
 
 -- the same, where the node is there
 abbrev pub machine_proposing_at : Machine → Option Node → Doing → Machine

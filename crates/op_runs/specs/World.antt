@@ -14,6 +14,8 @@ use Rattle.op_types.specs.declared.events.Input.TheVariants as input
 use Rattle.op_types.specs.declared.answers.Answer.{Answer}
 use Rattle.op_types.specs.declared.answers.Answer.TheVariants as answer
 use Rattle.op_types.specs.declared.answers.Outcome.{Outcome}
+use Rattle.op_types.specs.declared.answers.Outcome.TheVariants as outcome
+use Rattle.op_types.specs.declared.answers.Refusal.TheVariants as refusal
 use Rattle.op_runs.specs.declared.summary.Line.{Line}
 use Rattle.op_runs.specs.declared.summary.Line.TheVariants as line
 use Rattle.op_spec.specs.Service.{Pairs, new_service, base_bytes}
@@ -22,11 +24,13 @@ use Rattle.op_protocol.specs.State.{State, Planned, state_after}
 use Rattle.op_protocol.specs.Rows.{step_plan}
 use Rattle.op_protocol.specs.Starting.{first_volatile, state_after_restart, sends_after_restart}
 
--- how a node runs: when it is down,
--- its next opening finds what it stored before the step in which it stopped, or this
+-- How a node runs. One that stopped is down; one of which a disk failed has failed, and keeps the count of
+-- its disks' faults. The next opening of either finds what was stored before the step in which that came, or
+-- what this was to store.
 pub data NodeStatus : Type 0 where
   Up : NodeStatus
   Down : (after : Durable) → NodeStatus
+  Failed : (count : ℕ) → (after : Durable) → NodeStatus
 
 -- a message, from one node to another
 pub record Sent : Type 0 where
@@ -46,16 +50,18 @@ pub record World : Type 0 where
   pub messages : List Sent  -- every message that was ever sent, by number
   pub lines : List Line  -- what the events gave, to be reported
 
--- what becomes of an event's step: it is done, or the node stops inside it and nothing is given out
+-- What becomes of an event's step, or of an opening: it is done; or the node stops inside it, and nothing is
+-- given out; or a disk fails inside it, and this is the count of its disks' faults then. Any count may come.
 pub data Fate : Type 0 where
   Done : Fate
   Stopped : Fate
+  Faulted : (count : ℕ) → Fate
 
 -- an event, what becomes of its step, and which state an opening finds
 pub record Happening : Type 0 where
   pub event : Event
   pub fate : Fate
-  pub finds_after : Bool  -- what the step in which the node stopped was to store
+  pub finds_after : Bool  -- what the step in which the node stopped or failed was to store
 
 -- ---- the start
 
@@ -177,34 +183,62 @@ told_lines t pid s (Some p) = part_lines t pid s p
 abbrev pub world_with_node : World → Node → World
 world_with_node w n = record w { nodes = with_node w.nodes n }
 
--- the world after a node's step, by its fate
-abbrev pub world_by_fate : Fate → ℕ → World → Node → Planned → World
-world_by_fate Done at w n p =
+-- the world after a node's step that is done
+abbrev pub world_stepped : ℕ → World → Node → Planned → World
+world_stepped at w n p =
     record {
       nodes = with_node w.nodes (record n { state = state_after n.state p });
       messages = w.messages ++ sent_by n.pid p.sends;
       lines = w.lines ++ lines_of at n.pid p;
     }
-world_by_fate Stopped at w n p =
-    world_with_node w (record n { status = Down (durable_after n.state.durable p.batch) })
+
+-- what is answered where disks have failed so often: proposals and wishes to trim are refused
+abbrev pub failed_outcome : ℕ → Input → Option Outcome
+failed_outcome count (input.Commands cs) = Some (outcome.Refused (refusal.StorageFailed count))
+failed_outcome count (input.Stop members) = Some (outcome.Refused (refusal.StorageFailed count))
+failed_outcome count input.TrimNow = Some (outcome.Refused (refusal.StorageFailed count))
+failed_outcome count _ = None
+
+-- the world after an input that is answered so, and does nothing else
+abbrev pub world_refusing : ℕ → ℕ → World → Input → World
+world_refusing at count w x = record w { lines = w.lines ++ outcome_lines at (failed_outcome count x) }
+
+-- what a node's step is to store
+abbrev pub stored_by : Node → Input → Durable
+stored_by n x = durable_after n.state.durable (step_plan n.pid n.state x).batch
+
+-- the world after a node's step, by its fate
+abbrev pub world_by_fate : Fate → ℕ → World → Node → Input → World
+world_by_fate Done at w n x = world_stepped at w n (step_plan n.pid n.state x)
+world_by_fate Stopped at w n x = world_with_node w (record n { status = Down (stored_by n x) })
+world_by_fate (Faulted count) at w n x =
+    world_refusing at count (world_with_node w (record n { status = Failed count (stored_by n x) })) x
+
+-- the world after a node told something
+abbrev pub world_telling : Told → World → Node → World
+world_telling t w n = record w { lines = w.lines ++ told_lines t n.pid n.state n.state.durable.part }
 
 -- what happens at a node that is up, where an opening does nothing
 abbrev pub world_if_up : Doing → Fate → ℕ → World → Node → World
-world_if_up (Steps x) f at w n = world_by_fate f at w n (step_plan n.pid n.state x)
+world_if_up (Steps x) f at w n = world_by_fate f at w n x
 world_if_up Stops f at w n = world_with_node w (record n { status = Down n.state.durable })
 world_if_up Opens f at w n = w
-world_if_up (Tells t) f at w n =
-    record w { lines = w.lines ++ told_lines t n.pid n.state n.state.durable.part }
+world_if_up (Tells t) f at w n = world_telling t w n
 
--- the node opened again, unless it stops in its opening; waiting clients are lost
-abbrev pub world_opening : Fate → World → Node → Durable → World
-world_opening Done w n found =
+-- the world in which a node is opened again, in this state
+abbrev pub world_opened : World → Node → State → World
+world_opened w n s =
     record {
-      nodes = with_node w.nodes (record n { state = state_after_restart n.pid found; status = Up });
-      messages = w.messages ++ sent_by n.pid (sends_after_restart n.pid found);
+      nodes = with_node w.nodes (record n { state = s; status = Up });
+      messages = w.messages ++ sent_by n.pid (sends_after_restart n.pid s.durable);
       lines = w.lines;
     }
+
+-- the opening of a node that is down: unless it is done the node stays down, and waiting clients are lost
+abbrev pub world_opening : Fate → World → Node → Durable → World
+world_opening Done w n found = world_opened w n (state_after_restart n.pid found)
 world_opening Stopped w n found = w
+world_opening (Faulted count) w n found = w
 
 -- what happens at a node that is down: only an opening has an effect
 abbrev pub world_if_down : Doing → Fate → Bool → Durable → World → Node → World
@@ -214,10 +248,31 @@ world_if_down Opens f finds_after after w n =
     world_opening f w n (if finds_after then after else n.state.durable)
 world_if_down (Tells t) f finds_after after w n = w
 
+-- a node that failed is opened again, and finds this: its clients wait still
+abbrev pub state_after_reopening : ℕ → State → Durable → State
+state_after_reopening me s found = record (state_after_restart me found) { waiting = s.waiting }
+
+-- the opening of a node that failed: where it isn't done, the next one finds what this one could have found
+abbrev pub world_reopening : Fate → Durable → World → Node → Durable → World
+world_reopening Done after w n found = world_opened w n (state_after_reopening n.pid n.state found)
+world_reopening Stopped after w n found = world_with_node w (record n { status = Down after })
+world_reopening (Faulted count) after w n found =
+    world_with_node w (record n { status = Failed count after })
+
+-- what happens at a node that failed: it refuses what is proposed, and to trim, a stop takes it down, and it
+-- tells its state of before
+abbrev pub world_if_failed : Doing → Happening → ℕ → Durable → World → Node → World
+world_if_failed (Steps x) h count after w n = world_refusing h.event.line count w x
+world_if_failed Stops h count after w n = world_with_node w (record n { status = Down after })
+world_if_failed Opens h count after w n =
+    world_reopening h.fate after w n (if h.finds_after then after else n.state.durable)
+world_if_failed (Tells t) h count after w n = world_telling t w n
+
 -- what happens at a node, by how it runs
 abbrev pub world_by_status : NodeStatus → Doing → Happening → World → Node → World
 world_by_status Up d h w n = world_if_up d h.fate h.event.line w n
 world_by_status (Down after) d h w n = world_if_down d h.fate h.finds_after after w n
+world_by_status (Failed count after) d h w n = world_if_failed d h count after w n
 
 -- the same, where the node is there
 abbrev pub world_at_node : Option Node → Doing → Happening → World → World

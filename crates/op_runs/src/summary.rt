@@ -33,7 +33,7 @@ pub enum Running {
     Up,
     /// It is down, and a start opens it again.
     Down,
-    /// It has failed; a replay has none so far.
+    /// A disk of it failed, and a start opens it again.
     Failed,
 }
 
