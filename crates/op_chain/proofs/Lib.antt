@@ -16,3 +16,4 @@ pub mod Rooms
 pub mod Slices
 pub mod Steps
 pub mod Stored
+pub mod Trims

@@ -1,5 +1,5 @@
 -- A step that is made ready: what it does is what the step table plans, it applies, and it leaves a sound node.
-use Rattle.std.proofs.Common.{◌≡◌, ℕ, inl, inr, ◌∷◌, ◌++◌, List, [], All, Option, Some, None, Result, Ok, Err, IfOk, refl, sym, ap, ◌∙◌, subst, append-nil}
+use Rattle.std.proofs.Common.{◌≡◌, ◌+◌, ℕ, inl, inr, ◌∷◌, ◌++◌, List, [], All, Option, Some, None, Result, Ok, Err, IfOk, refl, sym, ap, ◌∙◌, subst, append-nil, length}
 use Rattle.std.specs.Prelude.{is_some, nat_eq}
 use Rattle.std.specs.Set.{is_member}
 use Rattle.std.proofs.lemmas.Bool.{cases_Bool}
@@ -37,15 +37,16 @@ use Rattle.op_instance.specs.Memory.{volatile_of, part_step_of, HasRoomIn}
 use Rattle.op_instance.specs.Sound.{IsSound, IfSound, IsSoundNode, IsSoundStep, IfNodeOf, IsNode}
 use Rattle.op_instance.specs.declared.volatile.Volatile.{Volatile}
 use Rattle.op_instance.proofs.StepsApply.{sound_step}
-use Rattle.op_chain.specs.Answering.{IsServed}
+use Rattle.op_chain.specs.Answering.{IsServed, HasRoomFor}
 use Rattle.op_chain.specs.Bringing.{joining_after, joined, IfJoined}
 use Rattle.op_chain.specs.Chains.{state_of, HaveBases, IsSoundChain, IsSame, Admits}
-use Rattle.op_chain.specs.Plans.{renewed, planned_by, made_by, LeavesWith, HasRoomToTell, Prepares, waiters_of, waiting_by, based_step, IfMayClose, IfCloses, IfGoesOn}
+use Rattle.op_chain.specs.Plans.{renewed, planned_by, made_by, LeavesWith, HasRoomToTell, Prepares, waiters_of, waiting_by, based_step, told_anew, IfMayClose, IfCloses, IfGoesOn, Serves}
 use Rattle.op_chain.specs.declared.chain.Chain.{Chain}
 use Rattle.op_chain.specs.declared.chain_plan.ChainPlan.{ChainPlan}
 use Rattle.op_chain.specs.declared.renewal.Renewal.{Renewal}
 use Rattle.op_chain.specs.declared.room.Room.{Room}
 use Rattle.op_chain.specs.declared.served.Served.{Served}
+use Rattle.op_chain.specs.declared.serving.Serving.{Serving}
 use Rattle.op_chain.specs.Waiting.{WaitingSet}
 use Rattle.op_chain.proofs.Adopted.{state_with, state_is}
 use Rattle.op_chain.proofs.Based.{begins_fit, bases_after, based_sound}
@@ -406,10 +407,14 @@ goes_like a c m old new r like goes =
     (subst (λ (d : Durable). IfGoesOn a.me d.joining m (role_of c.volatile.role) old new r) like.durable
     (subst (λ (n : ℕ). IfGoesOn n c.durable.joining m (role_of c.volatile.role) old new r) like.me goes))
 
--- the plan with its room
-pub ok_planned : {E : Type 0} (c : Chain) (t : Planned) (plan : Plan) (kv : Written) (replies : List Reply) (r : Option Renewal) (x : Result ChainPlan E)
-    → IfOk x (λ p. p ≡ chain_plan plan kv replies r p.room) → IfOk x HasRoomToTell
-    → ((room : Room) → HasRoomToTell (chain_plan plan kv replies r room) → Prepares c t (chain_plan plan kv replies r room)) → IfOk x (Prepares c t)
-ok_planned c t plan kv replies r (Ok p) is tells prepares =
-    subst (λ (q : ChainPlan). Prepares c t q) (sym is) (prepares p.room (subst HasRoomToTell is tells))
-ok_planned c t plan kv replies r (Err e) is tells prepares = tt
+-- what is served, with its room
+abbrev pub serving_with : Written → List Reply → Option Renewal → Room → Serving
+serving_with kv replies r room = record { service = kv; replies = replies; renewal = r; room = room }
+
+pub ok_serves : {E : Type 0} (a : Chain) (old : Plan) (ws : List (ℕ × ℕ)) (c : Chain) (new : Plan) (kv : Written) (replies : List Reply) (r : Option Renewal) (x : Result Serving E)
+    → IfOk x (λ s. s ≡ serving_with kv replies r s.room)
+    → IfOk x (λ s. HasRoomFor (length replies + length new.replies + length (told_anew r)) (length new.replies) s.room)
+    → ((room : Room) → HasRoomFor (length replies + length new.replies + length (told_anew r)) (length new.replies) room → Serves a old ws c new (serving_with kv replies r room))
+    → IfOk x (Serves a old ws c new)
+ok_serves a old ws c new kv replies r (Ok s) is tells serves = subst (λ (q : Serving). Serves a old ws c new q) (sym is) (serves s.room tells)
+ok_serves a old ws c new kv replies r (Err e) is tells serves = tt

@@ -3,3 +3,4 @@ pub mod Bringing
 pub mod Chains
 pub mod Plans
 pub mod Waiting
+pub mod Trimming

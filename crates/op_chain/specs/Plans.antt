@@ -5,7 +5,7 @@ use Rattle.op_types.specs.Limits.{last_conf}
 use Rattle.op_types.specs.Stops.{stop_at_end}
 use Rattle.op_types.specs.Changes.{closed_by, Applies, durable_after}
 use Rattle.op_types.specs.Ranges.{IsMember}
-use Rattle.op_types.specs.Roles.{Role, turned}
+use Rattle.op_types.specs.Roles.{Role, role_of, turned}
 use Rattle.op_types.specs.Rooms.{HasRoomFor}
 use Rattle.op_types.specs.declared.answers.Cause.TheVariants as cause
 use Rattle.op_types.specs.declared.answers.Outcome.{Outcome}
@@ -19,6 +19,7 @@ use Rattle.op_types.specs.declared.durable.Part.{Part}
 use Rattle.op_types.specs.declared.events.Input.{Input}
 use Rattle.op_types.specs.declared.events.Input.TheVariants as input
 use Rattle.op_types.specs.declared.messages.Body.TheVariants as body
+use Rattle.op_types.specs.declared.log.StopSign.{StopSign}
 use Rattle.op_types.specs.declared.plan.Plan.{Plan}
 use Rattle.op_record.specs.Ranges.{BatchInRange}
 use Rattle.op_spec.specs.Service.{Service, base_bytes}
@@ -29,7 +30,7 @@ use Rattle.op_protocol.specs.Leader.{given_up_by}
 use Rattle.op_protocol.specs.Configurations.{news_of}
 use Rattle.op_protocol.specs.Serving.{dropping}
 use Rattle.op_protocol.specs.Starting.{first_volatile}
-use Rattle.op_protocol.specs.Rows.{based_batch, step_plan}
+use Rattle.op_protocol.specs.Rows.{based_batch, newly_decided, step_plan}
 use Rattle.op_plans.specs.Positions.{FitsPositions}
 use Rattle.op_kv.specs.Over.{MapState, service_over}
 use Rattle.op_instance.specs.Memory.{volatile_of, turned_in, part_step_of, IsKeptBy, HasRoomIn}
@@ -42,6 +43,7 @@ use Rattle.op_chain.specs.Chains.{state_of, HaveBases, IsSoundChain}
 use Rattle.op_chain.specs.declared.chain.Chain.{Chain}
 use Rattle.op_chain.specs.declared.chain_plan.ChainPlan.{ChainPlan}
 use Rattle.op_chain.specs.declared.renewal.Renewal.{Renewal}
+use Rattle.op_chain.specs.declared.serving.Serving.{Serving}
 use Rattle.op_chain.specs.declared.given.Given.{Given}
 
 -- ---- what adopting a plan makes
@@ -232,3 +234,18 @@ abbrev pub IfGoesOn : ℕ → Option Joining → Option MapState → Role → Pl
 IfGoesOn me (Some j) (Some s) r old new (Some x) = GoesOn me j s r old new x
 IfGoesOn me (Some j) (Some s) r old new None = ⊥
 IfGoesOn me j s r old new x = (new ≡ old) × (x ≡ None)
+
+-- what the plan does at the service, and what begins anew with it: of this chain, where the other one has
+-- room for those that are to wait
+pub record Serves (a : Chain) (old : Plan) (waiters : List (ℕ × ℕ)) (c : Chain) (new : Plan) (x : Serving) : Type 0 where
+  pub settled : c.service.waiting ≡ 0
+  pub served : (stop : Option StopSign) ×
+      answering.IsServed a.service.service (newly_decided a.durable.part old.batch)
+      (record { change = x.service; replies = x.replies; stop = stop })
+  pub closes :
+      IfCloses a.me a.durable.part (service_over a.service.service x.service) (role_of a.volatile.role)
+      old new x.renewal
+  pub waits : c.waiting.next ≡ waiting_by new.outcome a.waiting.waiting waiters
+  pub room :
+      answering.HasRoomFor (length x.replies + length new.replies + length (told_anew x.renewal))
+      (length new.replies) x.room

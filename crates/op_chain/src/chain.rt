@@ -17,7 +17,7 @@ ghost use Rattle.op_chain.specs.Answering.{dropped_of};
 ghost use Rattle.op_chain.specs.Bringing.{IfJoined};
 ghost use Rattle.op_chain.specs.Chains.{state_of, first_state, ballots_in, pairs_in, IsSoundChain, IsSame, Admits, CanOpen};
 ghost use Rattle.op_chain.specs.Plans.{Plans, Prepares, Adopts, HasRoomToTell};
-ghost use Rattle.op_chain.specs.Plans.{waiters_of, waiting_by, based_step, IfMayClose, IfCloses, IfGoesOn};
+ghost use Rattle.op_chain.specs.Plans.{waiters_of, waiting_by, based_step, Serves, IfMayClose, IfCloses, IfGoesOn};
 ghost use Rattle.op_chain.specs.Plans.{told_anew, volatile_anew, service_by};
 
 use crate::answering::{give, give_up};
@@ -27,10 +27,11 @@ use crate::closing::{given_up_after, push_news};
 use crate::deciding::{decided_after, serve_decided};
 use crate::given::Given;
 use crate::joining::bringing;
-use crate::renewal::{Renewal, begin, push_requests};
+use crate::renewal::{Anew, Renewal, begin, push_requests};
 use crate::room::Room;
 use crate::served::Served;
-use crate::trimming::{based, service_at};
+use crate::serving::Serving;
+use crate::trimming::{add_bases, service_at};
 use crate::waiting_set::{Waiter, WaitingSet};
 use op_instance::{Stored, Volatile, first_volatile, spare_volatile, volatile_after_restart};
 use op_kv::{KvChange, Map};
@@ -119,6 +120,22 @@ impl Chain {
         ensures prepares { IfOk result
             (Prepares self.new (step_plan self.old.me (state_of self.old) input)) }
     {
+        if self.durable.joining.is_none() {
+            self.plan_step(input)
+        } else {
+            self.plan_brought(input)
+        }
+    }
+
+    /// The same, of a node that joins: an input may bring something of the closed list.
+    fn plan_brought(&mut self, input: Input) -> Result<ChainPlan, NoMemory>
+        requires admits { Admits self.old input }
+        requires rested { with_room no_needs self.old.durable ≡ self.old.durable }
+        ensures same { IsSame self.old self.new }
+        ensures rested { self.new.durable ≡ self.old.durable }
+        ensures prepares { IfOk result
+            (Prepares self.new (step_plan self.old.me (state_of self.old) input)) }
+    {
         let latest = self.stored().latest();
         match bringing(self.alloc, latest, &self.durable.joining, input)? {
             Brought::Nothing(input) => self.plan_step(input),
@@ -150,15 +167,31 @@ impl Chain {
     {
         let waiters = waiters_of(self.alloc, &input)?;
         let mut plan = self.step(input)?;
+        let serving = self.serve(&mut plan, waiters.as_slice())?;
+        Ok(serving.into_plan(plan))
+    }
+
+    /// What the plan decides is served, and its part closed where it decides a stop-sign. There is room then for those that
+    /// are to wait, and for all who are told.
+    fn serve(&mut self, plan: &mut Plan, waiters: &[Waiter]) -> Result<Serving, NoMemory>
+        requires { IfMayClose self.old.durable.part plan.old.batch }
+        ensures rest { self.new ≡ record self.old {
+          service = self.new.service;
+          waiting = self.new.waiting;
+        } }
+        ensures service { self.new.service.service ≡ self.old.service.service }
+        ensures waiting { self.new.waiting.waiting ≡ self.old.waiting.waiting }
+        ensures served { IfOk result (Serves self.old plan.old waiters.now self.new plan.new) }
+    {
         let served = serve_decided(
             self.alloc,
             &mut self.service,
             &self.durable.part,
             plan.batch.as_slice(),
         )?;
-        let renewal = self.close(&mut plan, &served)?;
-        self.make_waiters_room(&plan.outcome, waiters.as_slice())?;
-        planned(self.alloc, plan, served.change, served.replies, renewal)
+        let renewal = self.close(plan, &served)?;
+        self.make_waiters_room(&plan.outcome, waiters)?;
+        Serving::new(self.alloc, plan, served.change, served.replies, renewal)
     }
 
     /// The plan of changes by which a node that joins holds more: it goes on in the new configuration with this service, if
@@ -181,7 +214,9 @@ impl Chain {
         plan.batch = batch;
         let renewal = self.go_on(&mut plan, service)?;
         self.waiting.make_room(&[])?;
-        planned(self.alloc, plan, change, Replies::new(self.alloc), renewal)
+        let replies = Replies::new(self.alloc);
+        let serving = Serving::new(self.alloc, &plan, change, replies, renewal)?;
+        Ok(serving.into_plan(plan))
     }
 
     /// What the input does in the configurations, with the base of what it trims. Nothing changes yet, but the room that the
@@ -202,13 +237,14 @@ impl Chain {
             me: self.me,
             durable: &self.durable,
         };
-        let plan = stored.step(&mut self.volatile, input)?;
-        with_bases(self.alloc, &self.durable.part, plan)
+        let mut plan = stored.step(&mut self.volatile, input)?;
+        add_bases(self.alloc, &self.durable.part, &mut plan.batch)?;
+        Ok(plan)
     }
 
     /// Where a plan decides its part's stop-sign, the part is closed: the new members hear of the next configuration, and
     /// all that is kept in memory of the part begins anew.
-    fn close(&self, plan: &mut Plan, served: &Served) -> Result<Option<Renewal>, NoMemory>
+    fn close(&self, plan: &mut Plan, served: &Served) -> Result<Anew, NoMemory>
         requires settled { self.now.service.waiting ≡ 0 }
         requires may { IfMayClose self.now.durable.part plan.old.batch }
         requires stop { served.now.stop ≡ stop_at_end (newly_decided self.now.durable.part plan.old.batch) }
@@ -217,10 +253,10 @@ impl Chain {
             (role_of self.now.volatile.role) plan.old plan.new) }
     {
         let Some(part) = &self.durable.part else {
-            return Ok(None);
+            return Ok(Anew::nothing());
         };
         let Some(stop) = &served.stop else {
-            return Ok(None);
+            return Ok(Anew::nothing());
         };
         let named = is_among(stop.members.as_slice(), self.me);
         let cause = Cause::Stop(decided_after(part, plan.batch.as_slice()).saturating_sub(1));
@@ -228,35 +264,37 @@ impl Chain {
         let base = self.service.base_bytes_after(self.alloc, &served.change)?;
         plan.batch.push(Change::Close(named, base))?;
         let given_up = given_up_after(self.alloc, &plan.turn, &self.volatile.role, cause)?;
-        Ok(Some(Renewal {
+        let renewal = Renewal {
             volatile: begin(self.alloc, self.me, &stop.members)?,
             service: None,
             given_up,
-        }))
+        };
+        Anew::from_renewal(self.alloc, renewal)
     }
 
     /// Where a node that joins has all, so that this is its service, it goes on in the new configuration: whoever leads is
     /// asked to prepare it.
-    fn go_on(&self, plan: &mut Plan, service: Option<Map>) -> Result<Option<Renewal>, NoMemory>
+    fn go_on(&self, plan: &mut Plan, service: Option<Map>) -> Result<Anew, NoMemory>
         ensures { IfOk result (IfGoesOn self.now.me self.now.durable.joining service
             (role_of self.now.volatile.role) plan.old plan.new) }
     {
         let Some(joining) = &self.durable.joining else {
-            return Ok(None);
+            return Ok(Anew::nothing());
         };
         let Some(service) = service else {
-            return Ok(None);
+            return Ok(Anew::nothing());
         };
         plan.batch
             .push(Change::JoinDone(service.base_bytes(self.alloc)?))?;
         push_requests(&mut plan.sends, self.me, joining)?;
         let cause = Cause::Stop(joining.len.saturating_sub(1));
         let given_up = given_up_after(self.alloc, &plan.turn, &self.volatile.role, cause)?;
-        Ok(Some(Renewal {
+        let renewal = Renewal {
             volatile: begin(self.alloc, self.me, &joining.members)?,
             service: Some(service),
             given_up,
-        }))
+        };
+        Anew::from_renewal(self.alloc, renewal)
     }
 
     /// Room for those that are to wait: the clients of commands that weren't refused.
@@ -316,16 +354,33 @@ impl Chain {
     }
 
     /// What begins anew takes its place, and those are told whose proposals are given up with it.
-    fn renew(&mut self, given: &mut Reserved<Reply>, renewal: Option<Renewal>)
-        requires { length (told_anew renewal) ≤ given.old.room }
+    fn renew(&mut self, given: &mut Reserved<Reply>, anew: Anew)
+        requires { length (told_anew anew) ≤ given.old.room }
         ensures rest { self.new ≡ record self.old {
-          volatile = volatile_anew renewal self.old.volatile;
+          volatile = volatile_anew anew self.old.volatile;
           service = self.new.service;
           waiting = self.new.waiting;
         } }
-        ensures service { self.new.service.service ≡ service_by renewal self.old.service.service }
+        ensures service { self.new.service.service ≡ service_by anew self.old.service.service }
         ensures told { dropped_of self.new.waiting given.new
-            ≡ fold dropping_reply (dropped_of self.old.waiting given.old) (told_anew renewal) }
+            ≡ fold dropping_reply (dropped_of self.old.waiting given.old) (told_anew anew) }
+    {
+        if anew.is_some() {
+            self.begin_anew(given, anew);
+        }
+    }
+
+    /// The same, where something begins anew.
+    fn begin_anew(&mut self, given: &mut Reserved<Reply>, anew: Anew)
+        requires { length (told_anew anew) ≤ given.old.room }
+        ensures rest { self.new ≡ record self.old {
+          volatile = volatile_anew anew self.old.volatile;
+          service = self.new.service;
+          waiting = self.new.waiting;
+        } }
+        ensures service { self.new.service.service ≡ service_by anew self.old.service.service }
+        ensures told { dropped_of self.new.waiting given.new
+            ≡ fold dropping_reply (dropped_of self.old.waiting given.old) (told_anew anew) }
     {
         let Some(
             Renewal {
@@ -333,7 +388,7 @@ impl Chain {
                 service,
                 given_up: dropped,
             },
-        ) = renewal
+        ) = anew.into_renewal()
         else {
             return;
         };
@@ -418,66 +473,4 @@ fn service_of(alloc: Global, part: &Option<Part>) -> Result<Map, NoMemory>
         Some(part) => service_at(alloc, part, part.decided),
         None => Ok(Map::new(alloc)),
     }
-}
-
-/// The plan, with the base of what it trims of a part.
-fn with_bases(alloc: Global, part: &Option<Part>, plan: Plan) -> Result<Plan, NoMemory>
-    requires { IfSome part.now (λ p. IsBase p.base) }
-    ensures { IfOk result (λ p. p ≡ record plan { batch = based_batch part.now plan.batch }) }
-{
-    let Some(part) = part else {
-        return Ok(plan);
-    };
-    let Plan {
-        batch,
-        turn,
-        sends,
-        replies,
-        outcome,
-    } = plan;
-    Ok(Plan {
-        batch: based(alloc, part, batch)?,
-        turn,
-        sends,
-        replies,
-        outcome,
-    })
-}
-
-/// The plan with room for its replies.
-fn planned(
-    alloc: Global,
-    plan: Plan,
-    service: KvChange,
-    replies: Replies,
-    renewal: Option<Renewal>,
-) -> Result<ChainPlan, NoMemory>
-    ensures plan { IfOk result (λ p. p ≡ record {
-      plan = plan;
-      service = service;
-      replies = replies;
-      renewal = renewal;
-      room = p.room;
-    }) }
-    ensures room { IfOk result HasRoomToTell }
-{
-    let given_up = plan.replies.len();
-    let renewed = match &renewal {
-        Some(renewal) => renewal.given_up.len(),
-        None => 0,
-    };
-    let Some(all) = replies
-        .len()
-        .checked_add(given_up)
-        .and_then(|n| n.checked_add(renewed))
-    else {
-        return Err(NoMemory);
-    };
-    Ok(ChainPlan {
-        plan,
-        service,
-        replies,
-        renewal,
-        room: Room::new(alloc, all, given_up)?,
-    })
 }

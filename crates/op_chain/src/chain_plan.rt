@@ -1,6 +1,6 @@
 ghost use Rattle.std.specs.Prelude.{◌≡◌};
 
-use crate::renewal::Renewal;
+use crate::renewal::Anew;
 use crate::room::Room;
 use op_kv::KvChange;
 use op_types::{Batch, Plan, Replies};
@@ -15,7 +15,7 @@ pub struct ChainPlan {
     /// The replies to these, each for whoever waits for it.
     pub(crate) replies: Replies,
     /// What begins anew, where the node goes on in another configuration or in none.
-    pub(crate) renewal: Option<Renewal>,
+    pub(crate) renewal: Anew,
     pub(crate) room: Room,
 }
 

@@ -14,6 +14,7 @@ mod renewal;
 mod room;
 mod served;
 mod service_plan;
+mod serving;
 mod starting;
 mod trimming;
 mod waiting_set;

@@ -1,4 +1,4 @@
-ghost use Rattle.std.specs.Prelude.{IfOk};
+ghost use Rattle.std.specs.Prelude.{◌+◌, IfOk};
 ghost use Rattle.op_chain.specs.Answering.{HasRoomFor};
 
 use op_types::{NoMemory, Reply, Reserved};
@@ -14,10 +14,21 @@ pub(crate) struct Room {
 }
 
 impl Room {
-    /// Room for so many replies, of which so many are to proposals that a row gives up.
-    pub(crate) fn new(alloc: Global, all: usize, given_up: usize) -> Result<Room, NoMemory>
-        ensures { IfOk result (HasRoomFor all given_up) }
+    /// Room for so many replies: to those who are served, given up by a row, and told by what begins anew.
+    pub(crate) fn new(
+        alloc: Global,
+        served: usize,
+        given_up: usize,
+        renewed: usize,
+    ) -> Result<Room, NoMemory>
+        ensures { IfOk result (HasRoomFor (served + given_up + renewed) given_up) }
     {
+        let Some(all) = served
+            .checked_add(given_up)
+            .and_then(|n| n.checked_add(renewed))
+        else {
+            return Err(NoMemory);
+        };
         let mut replies = Reserved::new(alloc);
         replies.make_room(all)?;
         let mut told = Reserved::new(alloc);

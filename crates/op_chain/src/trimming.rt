@@ -1,14 +1,16 @@
 //! The service at a position of a part's log, and the base of what a step trims.
-ghost use Rattle.std.specs.Prelude.{◌≡◌, Some, IfOk};
+ghost use Rattle.std.specs.Prelude.{◌≡◌, Some, IfOk, OnOk, IfSome};
 ghost use Rattle.op_spec.specs.Service.{base_bytes};
 ghost use Rattle.op_kv.specs.Bases.{IsBase};
 ghost use Rattle.op_protocol.specs.Bases.{service_from, service_at};
 ghost use Rattle.op_protocol.specs.Rows.{based, based_batch};
+ghost use Rattle.op_chain.specs.Trimming.{is_trim, trims};
 
 use crate::deciding::{between, index};
 use op_kv::Map;
 use op_types::{Batch, Blob, Change, Entry, NoMemory, Part};
 use std::alloc::Global;
+use std::mem;
 
 /// The service of a base, after entries that go on from it.
 pub(crate) fn service_from(alloc: Global, base: &[u8], entries: &[Entry]) -> Result<Map, NoMemory>
@@ -30,8 +32,45 @@ pub(crate) fn service_at(alloc: Global, part: &Part, at: u64) -> Result<Map, NoM
     service_from(alloc, part.base.as_slice(), entries)
 }
 
+/// Gives a batch the bases of what it trims of a part. One that trims nothing is left as it is.
+pub(crate) fn add_bases(
+    alloc: Global,
+    part: &Option<Part>,
+    batch: &mut Batch,
+) -> Result<(), NoMemory>
+    requires { IfSome part.now (λ p. IsBase p.base) }
+    ensures { OnOk result (batch.new ≡ based_batch part.now batch.old) }
+{
+    if let Some(part) = part {
+        if trims(batch.as_slice()) {
+            *batch = based(alloc, part, mem::replace(batch, Batch::new(alloc)))?;
+        }
+    }
+    Ok(())
+}
+
+/// Whether a batch trims something.
+fn trims(batch: &[Change]) -> bool
+    ensures { result ≡ trims batch.now }
+{
+    match batch {
+        [] => false,
+        [first, rest @ ..] => is_trim(first) || trims(rest),
+    }
+}
+
+/// Whether a change trims something.
+fn is_trim(change: &Change) -> bool
+    ensures { result ≡ is_trim change.now }
+{
+    match change {
+        Change::Trim(_, _) => true,
+        _ => false,
+    }
+}
+
 /// A batch with the base of what it trims.
-pub(crate) fn based(alloc: Global, part: &Part, batch: Batch) -> Result<Batch, NoMemory>
+fn based(alloc: Global, part: &Part, batch: Batch) -> Result<Batch, NoMemory>
     requires { IsBase part.now.base }
     ensures { IfOk result (λ b. b ≡ based_batch (Some part.now) batch) }
 {

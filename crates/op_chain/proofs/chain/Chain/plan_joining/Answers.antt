@@ -1,4 +1,4 @@
-use Rattle.std.proofs.Common.{List, [], sym, subst}
+use Rattle.std.proofs.Common.{◌≡◌, List, [], sym, ap, subst, ◌∙◌}
 use Rattle.op_types.specs.Roles.{role_of}
 use Rattle.op_types.specs.declared.answers.Reply.{Reply}
 use Rattle.op_types.specs.declared.plan.Plan.{Plan}
@@ -7,8 +7,10 @@ use Rattle.op_protocol.specs.Joining.{holds_more}
 use Rattle.op_chain.specs.Chains.{state_of}
 use Rattle.op_chain.specs.Plans.{HasRoomToTell, Prepares, IfGoesOn}
 use Rattle.op_chain.specs.declared.chain.Chain.{Chain}
+use Rattle.op_chain.specs.declared.chain_plan.ChainPlan.{ChainPlan}
 use Rattle.op_chain.specs.declared.room.Room.{Room}
-use Rattle.op_chain.proofs.Prepared.{IsLike, join_prepared, like_self, like_served, like_waiting, ok_planned}
+use Rattle.op_chain.specs.declared.serving.Serving.{Serving}
+use Rattle.op_chain.proofs.Prepared.{IsLike, join_prepared, like_self, like_served, like_waiting}
 use Rattle.op_chain.proofs.Steps.{chain_plan}
 use Rattle.op_chain.proofs.chain.Chain.plan_joining.Goals as goal
 
@@ -28,5 +30,10 @@ returns-clause-prepares c =
     let made : (room : Room) → HasRoomToTell (chain_plan new kv [] r room) → Prepares last t (chain_plan new kv [] r room) = λ room tells.
     join_prepared a c.requires.sound c.requires.rested c.requires.brought.0 c.requires.brought.1 batch c.requires.brought.2 c.requires.served.0 c.requires.served.1 m c.requires.served.2 c.requires.range
     last new kv r room like c.in_ok-change.ensures.change goes c.in_ok-make_room.ensures.room c.in_ok-change.ensures.ready tells in
-    ok_planned last t new kv c.new.result r c.planned.result c.planned.ensures.plan c.planned.ensures.room
-    (subst (λ (rs : List Reply). (room : Room) → HasRoomToTell (chain_plan new kv rs r room) → Prepares last t (chain_plan new kv rs r room)) (sym c.new.ensures) made)
+    let replies = c.new-replies.result in
+    let here : (room : Room) → HasRoomToTell (chain_plan new kv replies r room) → Prepares last t (chain_plan new kv replies r room) =
+    subst (λ (rs : List Reply). (room : Room) → HasRoomToTell (chain_plan new kv rs r room) → Prepares last t (chain_plan new kv rs r room)) (sym c.new-replies.ensures) made in
+    let x = c.in_ok-serving.serving in
+    let whole : c.into_plan.result ≡ chain_plan new kv replies r x.room =
+    c.into_plan.ensures ∙ ap (λ (s : Serving). chain_plan new s.service s.replies s.renewal s.room) c.in_ok-serving.ensures.is in
+    subst (λ (p : ChainPlan). Prepares last t p) (sym whole) (here x.room c.in_ok-serving.ensures.room)

@@ -1,5 +1,5 @@
 use Rattle.op_chain.proofs.Inputs.{brought_parts}
-use Rattle.op_chain.proofs.chain.Chain.prepare.Goals as goal
+use Rattle.op_chain.proofs.chain.Chain.plan_brought.Goals as goal
 
 pub plan_joining-requires-clause-brought : goal.plan_joining-requires-clause-brought
 plan_joining-requires-clause-brought c =
