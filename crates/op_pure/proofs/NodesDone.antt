@@ -1,5 +1,5 @@
 -- What is done at a node but a step, as the world has it.
-use Rattle.std.proofs.Common.{◌≡◌, ℕ, Bool, true, false, cond, eqb, nat_eq, List, [], ◌∷◌, ◌++◌, Some, Result, Ok, Err, refl, sym, ap, subst, ◌∙◌}
+use Rattle.std.proofs.Common.{◌≡◌, ℕ, Bool, true, false, cond, eqb, nat_eq, List, [], ◌∷◌, ◌++◌, Some, Result, Ok, Err, refl, sym, ap, subst, ◌∙◌, inl, inr}
 use Rattle.std.specs.Prelude.{IfOk}
 use Rattle.std.specs.Set.{is_member}
 use Rattle.std.proofs.lemmas.Bool.{cond-true, cond-false}
@@ -20,13 +20,17 @@ use Rattle.op_chain.specs.declared.chain.Chain.{Chain}
 use Rattle.op_runs.specs.World.{World, Sent, Node, NodeStatus, Up, Down, Fate, Done, Stopped, Told, Doing, Steps, Stops, Opens, Tells, Happening, first_durable, durable_at_start, node_at, with_node, sent_by, told_lines, world_by_status, world_if_down, world_opening}
 use Rattle.op_bounds.specs.States.{IsNamed}
 use Rattle.op_bounds.specs.Laws.{StatusInRange, FoundInRange}
-use Rattle.op_world.specs.Deeds.{told_of, doing_of}
-use Rattle.op_world.specs.declared.deed.Doing as deed
-use Rattle.op_world.specs.declared.deed.Doing.TheVariants as variant
-use Rattle.op_pure.specs.declared.node.NodeDone as done
+use Rattle.op_executions.specs.Deeds.{told_of, doing_of}
+use Rattle.op_executions.specs.declared.deed.Doing as deed
+use Rattle.op_executions.specs.declared.deed.Doing.TheVariants as variant
+use Rattle.op_executions.specs.declared.server.Done as given
+use Rattle.op_pure.specs.declared.happening.Foretold.{Foretold}
 use Rattle.op_pure.specs.declared.node.PureNode.{PureNode}
+use Rattle.op_pure.specs.Happenings.{fate_of}
+use Rattle.op_pure.specs.declared.node.Status.{Status}
 use Rattle.op_pure.specs.declared.node.Status.TheVariants as status
-use Rattle.op_pure.specs.Nodes.{IsKept, CanDo, IsNodeDone, IsDoneAt, node_of}
+use Rattle.op_executions.specs.Servers.{CanDo, IsNodeDone, IsDoneAt}
+use Rattle.op_pure.specs.Nodes.{IsKept, HasDone, IsStopped, StatusStopped, node_of, pure_nodes}
 use Rattle.op_pure.proofs.NodeSteps.{quiet}
 
 -- ---- a node that stays as it is
@@ -51,6 +55,7 @@ world_same w x told here =
 nothing_done : (x : Node) (d : Doing) (fate : Fate) (finds_after : Bool) (line : ℕ) (st : NodeStatus) → x.status ≡ st → ((w : World) (h : Happening) → h.fate ≡ fate → world_by_status st d h w x ≡ w) → IsNodeDone x d fate finds_after line x [] []
 nothing_done x d fate finds_after line st is idle = record {
   pid = refl;
+  stored = inr refl;
   world = λ w h f finds at here. ap (λ (s : NodeStatus). world_by_status s d h w x) is ∙ idle w h f
       ∙ ap (λ (ls : List Line). let y : World = record { nodes = w.nodes; messages = w.messages; lines = ls } in y) (sym (append-nil w.lines)) ∙ world_same w x [] here;
 }
@@ -58,22 +63,23 @@ nothing_done x d fate finds_after line st is idle = record {
 -- ---- a node that is up
 
 -- it is open already
-pub open_already : (pid : ℕ) (c : Chain) (fate : Fate) (finds_after : Bool) (line : ℕ) → IsKept (node_of pid (status.Up c)) → IsDoneAt (node_of pid (status.Up c)) Opens fate finds_after line (node_of pid (status.Up c)) [] []
+pub open_already : (pid : ℕ) (c : Chain) (fate : Fate) (finds_after : Bool) (line : ℕ) → IsKept (node_of pid (status.Up c)) → HasDone (node_of pid (status.Up c)) Opens fate finds_after line (node_of pid (status.Up c)) [] []
 open_already pid c fate finds_after line kept =
-    record { after = λ x shown. (x, shown, nothing_done x Opens fate finds_after line Up shown.status.1 (λ w h f. refl)); pid = refl; kept = kept }
+    record { after = λ x shown. (x, shown, nothing_done x Opens fate finds_after line Up shown.state.1 (λ w h f. refl)); pid = refl; kept = kept }
 
 -- it tells something
 pub tells : (pid : ℕ) (c : Chain) (t : Told) (fate : Fate) (finds_after : Bool) (line : ℕ) (told : List Line) → IsKept (node_of pid (status.Up c)) → told ≡ told_lines t pid (state_of c) (state_of c).durable.part
-    → IsDoneAt (node_of pid (status.Up c)) (Tells t) fate finds_after line (node_of pid (status.Up c)) [] told
+    → HasDone (node_of pid (status.Up c)) (Tells t) fate finds_after line (node_of pid (status.Up c)) [] told
 tells pid c t fate finds_after line told kept are = record {
   after = λ x shown. (
     x,
     shown,
     record {
       pid = refl;
-      world = λ w h f finds at here. ap (λ (st : NodeStatus). world_by_status st (Tells t) h w x) shown.status.1
+      stored = inr refl;
+      world = λ w h f finds at here. ap (λ (st : NodeStatus). world_by_status st (Tells t) h w x) shown.state.1
           ∙ ap (λ (ls : List Line). let y : World = record { nodes = w.nodes; messages = w.messages; lines = w.lines ++ ls } in y)
-          (ap (λ (k : ℕ). told_lines t k x.state x.state.durable.part) shown.pid ∙ ap (λ (s : State). told_lines t pid s s.durable.part) shown.status.0 ∙ sym are)
+          (ap (λ (k : ℕ). told_lines t k x.state x.state.durable.part) shown.pid ∙ ap (λ (s : State). told_lines t pid s s.durable.part) shown.state.0 ∙ sym are)
           ∙ world_same w x told here;
     },
   );
@@ -83,16 +89,16 @@ tells pid c t fate finds_after line told kept are = record {
 
 -- it stops between two steps, with nothing to store
 pub stopped : (pid : ℕ) (c : Chain) (d : Durable) (batch : List Change) (fate : Fate) (finds_after : Bool) (line : ℕ) → d ≡ (state_of c).durable → batch ≡ []
-    → IsDoneAt (node_of pid (status.Up c)) Stops fate finds_after line (node_of pid (status.Down d batch)) [] []
+    → HasDone (node_of pid (status.Up c)) Stops fate finds_after line (node_of pid (status.Down d batch)) [] []
 stopped pid c d batch fate finds_after line is none =
-    subst (λ (b : List Change). IsDoneAt (node_of pid (status.Up c)) Stops fate finds_after line (node_of pid (status.Down d b)) [] []) (sym none)
+    subst (λ (b : List Change). HasDone (node_of pid (status.Up c)) Stops fate finds_after line (node_of pid (status.Down d b)) [] []) (sym none)
     (record {
       after = λ x shown.
           let y : Node = record x { status = Down x.state.durable } in
-          let here : x.state.durable ≡ d = ap (λ (s : State). s.durable) shown.status.0 ∙ sym is in (
+          let here : x.state.durable ≡ d = ap (λ (s : State). s.durable) shown.state.0 ∙ sym is in (
             y,
-            record { pid = shown.pid; status = (here, ap (λ (k : Durable). Down k) here) },
-            record { pid = refl; world = λ w h f finds at there. ap (λ (st : NodeStatus). world_by_status st Stops h w x) shown.status.1 ∙ quiet w x y },
+            record { pid = shown.pid; state = (here, ap (λ (k : Durable). Down k) here) },
+            record { pid = refl; stored = inr refl; world = λ w h f finds at there. ap (λ (st : NodeStatus). world_by_status st Stops h w x) shown.state.1 ∙ quiet w x y },
           );
       pid = refl;
       kept = tt;
@@ -102,23 +108,23 @@ stopped pid c d batch fate finds_after line is none =
 
 -- nothing happens there but an opening
 pub idle_down : (pid : ℕ) (d : Durable) (batch : List Change) (x : deed.Doing) (fate : Fate) (finds_after : Bool) (line : ℕ) → IsKept (node_of pid (status.Down d batch)) → (x ≡ variant.Opens → ⊥)
-    → IsDoneAt (node_of pid (status.Down d batch)) (doing_of x) fate finds_after line (node_of pid (status.Down d batch)) [] []
+    → HasDone (node_of pid (status.Down d batch)) (doing_of x) fate finds_after line (node_of pid (status.Down d batch)) [] []
 idle_down pid d batch (variant.Steps i) fate finds_after line kept closed =
-    record { after = λ x shown. (x, shown, nothing_done x (Steps i) fate finds_after line (Down (durable_after d batch)) shown.status.1 (λ w h f. refl)); pid = refl; kept = kept }
+    record { after = λ x shown. (x, shown, nothing_done x (Steps i) fate finds_after line (Down (durable_after d batch)) shown.state.1 (λ w h f. refl)); pid = refl; kept = kept }
 idle_down pid d batch variant.Stops fate finds_after line kept closed =
-    record { after = λ x shown. (x, shown, nothing_done x Stops fate finds_after line (Down (durable_after d batch)) shown.status.1 (λ w h f. refl)); pid = refl; kept = kept }
+    record { after = λ x shown. (x, shown, nothing_done x Stops fate finds_after line (Down (durable_after d batch)) shown.state.1 (λ w h f. refl)); pid = refl; kept = kept }
 idle_down pid d batch variant.Opens fate finds_after line kept closed = absurd (closed refl)
 idle_down pid d batch (variant.Tells t) fate finds_after line kept closed =
-    record { after = λ x shown. (x, shown, nothing_done x (Tells (told_of t)) fate finds_after line (Down (durable_after d batch)) shown.status.1 (λ w h f. refl)); pid = refl; kept = kept }
+    record { after = λ x shown. (x, shown, nothing_done x (Tells (told_of t)) fate finds_after line (Down (durable_after d batch)) shown.state.1 (λ w h f. refl)); pid = refl; kept = kept }
 
 -- an opening that stops changes nothing
 pub stopped_opening : (pid : ℕ) (d : Durable) (batch : List Change) (finds_after : Bool) (line : ℕ) → IsKept (node_of pid (status.Down d batch))
-    → IsDoneAt (node_of pid (status.Down d batch)) Opens Stopped finds_after line (node_of pid (status.Down d batch)) [] []
+    → HasDone (node_of pid (status.Down d batch)) Opens Stopped finds_after line (node_of pid (status.Down d batch)) [] []
 stopped_opening pid d batch finds_after line kept = record {
   after = λ x shown. (
     x,
     shown,
-    nothing_done x Opens Stopped finds_after line (Down (durable_after d batch)) shown.status.1
+    nothing_done x Opens Stopped finds_after line (Down (durable_after d batch)) shown.state.1
         (λ w h f. ap (λ (k : Fate). world_if_down Opens k h.finds_after (durable_after d batch) w x) f),
   );
   pid = refl;
@@ -128,11 +134,11 @@ stopped_opening pid d batch finds_after line kept = record {
 -- ---- what an opening finds
 
 -- what it may find is in range: what is stored, and what was to be stored
-found_in_range : (pid : ℕ) (d : Durable) (batch : List Change) (x : Doing) (can : CanDo (node_of pid (status.Down d batch)) x) → FoundInRange (IsMember can.ids) pid d × FoundInRange (IsMember can.ids) pid (durable_after d batch)
+found_in_range : (pid : ℕ) (d : Durable) (batch : List Change) (x : Doing) (can : CanDo pure_nodes (node_of pid (status.Down d batch)) x) → FoundInRange (IsMember can.ids) pid d × FoundInRange (IsMember can.ids) pid (durable_after d batch)
 found_in_range pid d batch x can =
     let known : ℕ → Type 0 = IsMember can.ids in (
-      subst (λ (e : Durable). FoundInRange known pid e) can.shown.status.0 (subst (λ (q : ℕ). FoundInRange known q can.node.state.durable) can.shown.pid (can.range.state.durable, can.range.named)),
-      subst (λ (st : NodeStatus). StatusInRange known pid st) can.shown.status.1 (subst (λ (q : ℕ). StatusInRange known q can.node.status) can.shown.pid can.range.status),
+      subst (λ (e : Durable). FoundInRange known pid e) can.shown.state.0 (subst (λ (q : ℕ). FoundInRange known q can.node.state.durable) can.shown.pid (can.range.state.durable, can.range.named)),
+      subst (λ (st : NodeStatus). StatusInRange known pid st) can.shown.state.1 (subst (λ (q : ℕ). StatusInRange known q can.node.status) can.shown.pid can.range.status),
     )
 
 -- a durable state in range can be opened by a server that it names
@@ -140,7 +146,7 @@ can_open : (me : ℕ) (d : Durable) → DurableInRange d → IsNamed me d → Ca
 can_open me d range named = opened.can_open me d range (record { part = named.part; joining = named.joining })
 
 -- no room is left in it
-pub at_rest : (pid : ℕ) (d : Durable) (batch : List Change) (x : Doing) → CanDo (node_of pid (status.Down d batch)) x → IsAtRest d
+pub at_rest : (pid : ℕ) (d : Durable) (batch : List Change) (x : Doing) → CanDo pure_nodes (node_of pid (status.Down d batch)) x → IsAtRest d
 at_rest pid d batch x can = let found = (found_in_range pid d batch x can).0 in (can_open pid d (found.0).range found.1).rest
 
 found_by : (pid : ℕ) (b : Bool) (d e : Durable) → CanOpen pid d → CanOpen pid e → CanOpen pid (cond b e d)
@@ -148,7 +154,7 @@ found_by pid true d e before after = after
 found_by pid false d e before after = before
 
 -- it can be opened with that
-pub can_open_found : (pid : ℕ) (d e : Durable) (batch : List Change) (finds_after : Bool) (x : Doing) → CanDo (node_of pid (status.Down d batch)) x → e ≡ cond finds_after (durable_after d batch) d → CanOpen pid e
+pub can_open_found : (pid : ℕ) (d e : Durable) (batch : List Change) (finds_after : Bool) (x : Doing) → CanDo pure_nodes (node_of pid (status.Down d batch)) x → e ≡ cond finds_after (durable_after d batch) d → CanOpen pid e
 can_open_found pid d e batch finds_after x can is =
     let found = found_in_range pid d batch x can in
     subst (CanOpen pid) (sym is)
@@ -164,20 +170,21 @@ can_open_first members me d range is = can_open me d range (subst (λ (e : Durab
 
 pub opened_again : (pid : ℕ) (d e : Durable) (batch : List Change) (finds_after : Bool) (c : Chain) (sends : List (ℕ × Msg)) (told : List Line) → e ≡ cond finds_after (durable_after d batch) d
     → sends ≡ sends_after_restart pid e → c.me ≡ pid → state_of c ≡ state_after_restart pid e → IsSoundChain c → told ≡ []
-    → (line : ℕ) → IsDoneAt (node_of pid (status.Down d batch)) Opens Done finds_after line (node_of pid (status.Up c)) sends told
+    → (line : ℕ) → HasDone (node_of pid (status.Down d batch)) Opens Done finds_after line (node_of pid (status.Up c)) sends told
 opened_again pid d e batch finds_after c sends told is sends_are me state sound none line = record {
   after = λ x shown.
       let y : Node = record x { state = state_after_restart x.pid e; status = Up } in
       let found : cond finds_after (durable_after d batch) x.state.durable ≡ e =
-      ap (λ (k : Durable). cond finds_after (durable_after d batch) k) shown.status.0 ∙ sym is in
+      ap (λ (k : Durable). cond finds_after (durable_after d batch) k) shown.state.0 ∙ sym is in
       let sends_be : sends_after_restart x.pid e ≡ sends = ap (λ (k : ℕ). sends_after_restart k e) shown.pid ∙ sym sends_are in (
         y,
-        record { pid = shown.pid; status = (ap (λ (k : ℕ). state_after_restart k e) shown.pid ∙ sym state, refl) },
+        record { pid = shown.pid; state = (ap (λ (k : ℕ). state_after_restart k e) shown.pid ∙ sym state, refl) },
         record {
           pid = refl;
+          stored = inl refl;
           world = λ w h fate finds at here.
               let world : List (ℕ × Msg) → List Line → World = λ ss ls. record { nodes = with_node w.nodes y; messages = w.messages ++ sent_by x.pid ss; lines = ls } in
-              ap (λ (st : NodeStatus). world_by_status st Opens h w x) shown.status.1
+              ap (λ (st : NodeStatus). world_by_status st Opens h w x) shown.state.1
               ∙ ap (λ (f : Fate). world_if_down Opens f h.finds_after (durable_after d batch) w x) fate
               ∙ ap (λ (b : Bool). world_if_down Opens Done b (durable_after d batch) w x) finds
               ∙ ap (λ (k : Durable). world_opening Done w x k) found
@@ -191,30 +198,73 @@ opened_again pid d e batch finds_after c sends told is sends_are me state sound 
 
 -- ---- what is handed on
 
--- nothing but a node
-pub only_done : (r : done.NodeDone) (old new : PureNode) (d : Doing) (fate : Fate) (finds_after : Bool) (line : ℕ) → r ≡ record { node = new; sends = []; told = [] } → IsDoneAt old d fate finds_after line new [] []
-    → IsDoneAt old d fate finds_after line r.node r.sends r.told
-only_done r old new d fate finds_after line is did = subst (λ (x : done.NodeDone). IsDoneAt old d fate finds_after line x.node x.sends x.told) (sym is) did
+-- what is done by what was said of the happening
+pub done_at : (f : Foretold) (old : PureNode) (d : Doing) (line : ℕ) (new : PureNode) (sends : List (ℕ × Msg)) (told : List Line) → HasDone old d (fate_of f.fate) f.finds_after line new sends told → IsDoneAt pure_nodes f old d line new sends told
+done_at f old d line new sends told did = record {
+  after = λ x shown.
+      let y = did.after x shown in
+      record { fate = fate_of f.fate; finds_after = f.finds_after; lets = (refl, refl); node = y.0; shows = y.1; done = y.2 };
+  pid = did.pid;
+  kept = did.kept;
+}
 
--- the same, with lines to be reported
-pub only_told : (r : done.NodeDone) (old new : PureNode) (d : Doing) (fate : Fate) (finds_after : Bool) (line : ℕ) (told : List Line) → r ≡ record { node = new; sends = []; told = [] } → IsDoneAt old d fate finds_after line new [] told
-    → IsDoneAt old d fate finds_after line r.node r.sends told
-only_told r old new d fate finds_after line told is did = subst (λ (x : done.NodeDone). IsDoneAt old d fate finds_after line x.node x.sends told) (sym is) did
+-- ---- the deeds, each at a node
 
--- what is done whatever an opening finds
-pub any_opening : {E : Type 0} (r : Result done.NodeDone E) (old : PureNode) (d : Doing) (fate : Fate) (line : ℕ) → IfOk r (λ x. (finds_after : Bool) → IsDoneAt old d fate finds_after line x.node x.sends x.told)
-    → (finds_after : Bool) → IfOk r (λ x. IsDoneAt old d fate finds_after line x.node x.sends x.told)
-any_opening (Ok x) old d fate line all finds_after = all finds_after
-any_opening (Err e) old d fate line all finds_after = tt
+is_down : (s : Status) → ((c : Chain) → s ≡ status.Up c → ⊥) → (d : Durable) × (batch : List Change) × (s ≡ status.Down d batch)
+is_down (status.Up c) other = absurd (other c refl)
+is_down (status.Down d batch) other = (d, batch, refl)
 
--- what is done in any line
-pub any_line : {E : Type 0} (r : Result done.NodeDone E) (old : PureNode) (d : Doing) (fate : Fate) (finds_after : Bool) → IfOk r (λ x. (line : ℕ) → IsDoneAt old d fate finds_after line x.node x.sends x.told)
-    → (line : ℕ) → IfOk r (λ x. IsDoneAt old d fate finds_after line x.node x.sends x.told)
-any_line (Ok x) old d fate finds_after all line = all line
-any_line (Err e) old d fate finds_after all line = tt
+-- at a node that is down nothing happens but an opening
+pub nothing_down : (old : PureNode) (x : deed.Doing) (fate : Fate) (finds_after : Bool) (line : ℕ) → IsKept old → ((c : Chain) → old.status ≡ status.Up c → ⊥) → (x ≡ variant.Opens → ⊥) → HasDone old (doing_of x) fate finds_after line old [] []
+nothing_down old x fate finds_after line kept other closed =
+    let s = is_down old.status other in
+    let here : old ≡ node_of old.pid (status.Down s.0 s.1) = ap (λ (z : Status). node_of old.pid z) s.2 in
+    subst (λ (n : PureNode). HasDone n (doing_of x) fate finds_after line n [] []) (sym here) (idle_down old.pid s.0 s.1 x fate finds_after line (subst IsKept here kept) closed)
 
--- what is done in any line, whatever an opening finds
-pub any_stop : {E : Type 0} (r : Result done.NodeDone E) (old : PureNode) (d : Doing) (fate : Fate) → IfOk r (λ x. (finds_after : Bool) → (line : ℕ) → IsDoneAt old d fate finds_after line x.node x.sends x.told)
-    → (line : ℕ) → IfOk r (λ x. (finds_after : Bool) → IsDoneAt old d fate finds_after line x.node x.sends x.told)
-any_stop (Ok x) old d fate all line = λ finds_after. all finds_after line
-any_stop (Err e) old d fate all line = tt
+-- a stop between two steps
+pub did_stop : (old new : PureNode) (batch : List Change) (fate : Fate) (finds_after : Bool) (line : ℕ) → batch ≡ [] → IsKept old → IsStopped old batch new → HasDone old Stops fate finds_after line new [] []
+did_stop old new batch fate finds_after line none kept stops = by old.status kept stops
+  where
+    by : (s : Status) → IsKept (node_of old.pid s) → StatusStopped old.pid s batch new → HasDone (node_of old.pid s) Stops fate finds_after line new [] []
+    by (status.Up c) k is = subst (λ (n : PureNode). HasDone (node_of old.pid (status.Up c)) Stops fate finds_after line n [] []) (sym is) (stopped old.pid c (state_of c).durable batch fate finds_after line refl none)
+    by (status.Down d b) k is =
+        subst (λ (n : PureNode). HasDone (node_of old.pid (status.Down d b)) Stops fate finds_after line n [] []) (sym is)
+        (idle_down old.pid d b variant.Stops fate finds_after line k (λ e. let no : variant.Stops ≡ variant.Opens = e in cc))
+
+-- an opening that stops
+pub did_not_open : (old : PureNode) (finds_after : Bool) (line : ℕ) → IsKept old → HasDone old Opens Stopped finds_after line old [] []
+did_not_open old finds_after line kept = by old.status kept
+  where
+    by : (s : Status) → IsKept (node_of old.pid s) → HasDone (node_of old.pid s) Opens Stopped finds_after line (node_of old.pid s) [] []
+    by (status.Up c) k = open_already old.pid c Stopped finds_after line k
+    by (status.Down d batch) k = stopped_opening old.pid d batch finds_after line k
+
+-- ---- what is handed on to the world
+
+-- what is done of this fate, whatever an opening finds, is done as it was foretold
+pub handed : {E : Type 0} (r : Result given.Done E) (f : Foretold) (fate : Fate) (old new : PureNode) (x y : deed.Doing) (line : ℕ) → x ≡ y → fate_of f.fate ≡ fate → IfOk r (λ d. HasDone old (doing_of y) fate f.finds_after line new d.sends d.told)
+    → IfOk r (λ d. IsDoneAt pure_nodes f old (doing_of x) line new d.sends d.told)
+handed (Ok d) f fate old new x y line is fated did =
+    done_at f old (doing_of x) line new d.sends d.told
+    (subst (λ (k : Fate). HasDone old (doing_of x) k f.finds_after line new d.sends d.told) (sym fated) (subst (λ (z : deed.Doing). HasDone old (doing_of z) fate f.finds_after line new d.sends d.told) (sym is) did))
+handed (Err e) f fate old new x y line is fated did = tt
+
+pub any_finding : {E : Type 0} (r : Result given.Done E) (old new : PureNode) (x : Doing) (fate : Fate) (finds_after : Bool) (line : ℕ) → IfOk r (λ d. (b : Bool) → HasDone old x fate b line new d.sends d.told) → IfOk r (λ d. HasDone old x fate finds_after line new d.sends d.told)
+any_finding (Ok d) old new x fate finds_after line did = did finds_after
+any_finding (Err e) old new x fate finds_after line did = tt
+
+pub any_line : {E : Type 0} (r : Result given.Done E) (old new : PureNode) (x : Doing) (fate : Fate) (finds_after : Bool) (line : ℕ) → IfOk r (λ d. (at : ℕ) → HasDone old x fate finds_after at new d.sends d.told) → IfOk r (λ d. HasDone old x fate finds_after line new d.sends d.told)
+any_line (Ok d) old new x fate finds_after line did = did line
+any_line (Err e) old new x fate finds_after line did = tt
+
+pub any_stop : {E : Type 0} (r : Result given.Done E) (old new : PureNode) (x : Doing) (fate : Fate) (finds_after : Bool) (line : ℕ) → IfOk r (λ d. (b : Bool) → (at : ℕ) → HasDone old x fate b at new d.sends d.told) → IfOk r (λ d. HasDone old x fate finds_after line new d.sends d.told)
+any_stop (Ok d) old new x fate finds_after line did = did finds_after line
+any_stop (Err e) old new x fate finds_after line did = tt
+
+pub any_tell : {E : Type 0} (r : Result given.Done E) (old new : PureNode) (x : Doing) (fate : Fate) (finds_after : Bool) (line : ℕ) → IfOk r (λ d. (f : Fate) → (b : Bool) → (at : ℕ) → HasDone old x f b at new d.sends d.told) → IfOk r (λ d. HasDone old x fate finds_after line new d.sends d.told)
+any_tell (Ok d) old new x fate finds_after line did = did fate finds_after line
+any_tell (Err e) old new x fate finds_after line did = tt
+
+-- nothing was sent or told
+pub only : (r : given.Done) (old new : PureNode) (x : Doing) (fate : Fate) (finds_after : Bool) (line : ℕ) → r ≡ record { sends = []; told = [] } → HasDone old x fate finds_after line new [] [] → HasDone old x fate finds_after line new r.sends r.told
+only r old new x fate finds_after line is did = subst (λ (d : given.Done). HasDone old x fate finds_after line new d.sends d.told) (sym is) did

@@ -4,14 +4,19 @@ use Rattle.std.proofs.lemmas.List.Elements.{All-nil, All-cons, All-head, All-tai
 use Rattle.op_types.specs.Ranges.{MembersInRange}
 use Rattle.op_runs.specs.declared.events.Event.{Event}
 use Rattle.op_runs.specs.Possible.{is_possible, is_possible_in, proposals_in, proposals_of, SparesInRange, WhatInRange}
-use Rattle.op_runs.specs.World.{World, Sent, node_ids, first_world, world_after, run_of}
+use Rattle.op_runs.specs.World.{World, Sent, Fate, node_ids, first_world, world_after, run_of}
+use Rattle.op_runs.specs.World as runs
 use Rattle.op_laws.specs.Runs.{RunInRange}
 use Rattle.op_lockstep.proofs.Reached.{every_lockstep_reaches}
-use Rattle.op_world.proofs.Laws as every
+use Rattle.op_executions.proofs.Laws as every
+use Rattle.op_pure.specs.declared.happening.Foretold.{Foretold}
 use Rattle.op_pure.specs.declared.happening.Happening.{Happening}
-use Rattle.op_pure.specs.Happenings.{happening_of, happenings_of, CanHappenFrom, IsFirstBadFrom, CanHappen, IsFirstBad}
+use Rattle.op_pure.specs.Happenings.{fate_of, happening_of, happenings_of, CanHappenFrom, IsFirstBadFrom, CanHappen, IsFirstBad}
 use Rattle.op_pure.specs.Runs.{KeepsTheLaws}
-use Rattle.op_pure.specs.Worlds.{Parts, Shows}
+use Rattle.op_executions.specs.Worlds.{Shows, Happened}
+use Rattle.op_executions.specs.declared.world.ServerWorld.{ServerWorld}
+use Rattle.op_pure.specs.declared.node.PureNode.{PureNode}
+use Rattle.op_pure.specs.Nodes.{pure_nodes}
 
 -- ---- the happenings that are left
 
@@ -90,6 +95,16 @@ keeps_the_laws members spares m s w left all index proposed range c none =
     }
 
 -- whether an event can come, as the code's world tells it
-pub possible_seen : (ids : List ℕ) (w : Parts) (x : World) (e : Event) (b : Bool) → Shows w x → w.ids ≡ ids → is_possible w.ids (length w.messages) e.what ≡ b → is_possible_in ids x e ≡ b
+pub possible_seen : (ids : List ℕ) (w : ServerWorld PureNode) (x : World) (e : Event) (b : Bool) → Shows pure_nodes w x → w.ids.items ≡ ids → is_possible w.ids.items (length w.messages.items) e.what ≡ b → is_possible_in ids x e ≡ b
 possible_seen ids w x e b show same is =
-    ap (λ (ms : List Sent). is_possible ids (length ms) e.what) show.messages ∙ ap (λ (ms : List ℕ). is_possible ms (length w.messages) e.what) (sym same) ∙ is
+    ap (λ (ms : List Sent). is_possible ids (length ms) e.what) show.messages ∙ ap (λ (ms : List ℕ). is_possible ms (length w.messages.items) e.what) (sym same) ∙ is
+
+-- what happened is what was foretold
+pub happened_as : (x : World) (e : Event) (f : Foretold) (k : ℕ) (new : ServerWorld PureNode) (h : Happened pure_nodes x e f k new) → h.happening ≡ record { event = e; fate = fate_of f.fate; finds_after = f.finds_after }
+happened_as x e f k new h =
+    ap (λ (z : Event). let g : runs.Happening = record { event = z; fate = h.happening.fate; finds_after = h.happening.finds_after } in g) h.event
+    ∙ ap (λ (z : Fate). let g : runs.Happening = record { event = e; fate = z; finds_after = h.happening.finds_after } in g) h.lets.0
+    ∙ ap (λ (b : Bool). let g : runs.Happening = record { event = e; fate = fate_of f.fate; finds_after = b } in g) h.lets.1
+
+pub shows_after : (x : World) (e : Event) (f : Foretold) (k : ℕ) (new : ServerWorld PureNode) → Happened pure_nodes x e f k new → Shows pure_nodes new (world_after x (record { event = e; fate = fate_of f.fate; finds_after = f.finds_after }))
+shows_after x e f k new h = subst (λ (g : runs.Happening). Shows pure_nodes new (world_after x g)) (happened_as x e f k new h) h.shows

@@ -1,14 +1,14 @@
 -- A node of the plain program, as the definition has it.
-use Rattle.std.specs.Prelude.{◌≡◌, ℕ, Bool, List, ◌++◌, Some}
+use Rattle.std.specs.Prelude.{◌≡◌, ℕ, Bool, List}
 use Rattle.op_types.specs.Changes.{Applies, durable_after}
-use Rattle.op_types.specs.Ranges.{IsMember}
+use Rattle.op_types.specs.declared.changes.Change.{Change}
 use Rattle.op_types.specs.declared.messages.Msg.{Msg}
 use Rattle.op_runs.specs.declared.summary.Line.{Line}
 use Rattle.op_chain.specs.Chains.{state_of, IsSoundChain}
-use Rattle.op_runs.specs.World.{World, Node, Up, Down, Doing, Fate, Happening, world_by_status, node_at, with_node, sent_by}
-use Rattle.op_bounds.specs.Messages.{AreIds}
-use Rattle.op_bounds.specs.Laws.{NodeInRange}
-use Rattle.op_world.specs.Worlds.{DoingInRange}
+use Rattle.op_runs.specs.World.{Node, Up, Down, Doing, Fate}
+use Rattle.op_executions.specs.Servers.{Kind, ShowsNode, IsNodeDone}
+use Rattle.op_pure.specs.Happenings.{fate_of}
+use Rattle.op_pure.specs.declared.happening.Foretold.{Foretold}
 use Rattle.op_pure.specs.declared.node.PureNode.{PureNode}
 use Rattle.op_pure.specs.declared.node.Status.{Status}
 use Rattle.op_pure.specs.declared.node.Status.TheVariants as status
@@ -17,20 +17,11 @@ use Rattle.op_pure.specs.declared.node.Status.TheVariants as status
 abbrev pub node_of : ℕ → Status → PureNode
 node_of pid status = record { pid = pid; status = status }
 
--- ---- the node that is shown
-
 -- the state and how it runs; of a node that is down,
 -- what it has stored and was to store is kept, and all memory is lost
 abbrev pub StatusShown : Status → Node → Type 0
 StatusShown (status.Up c) x = (x.state ≡ state_of c) × (x.status ≡ Up)
 StatusShown (status.Down d batch) x = (x.state.durable ≡ d) × (x.status ≡ Down (durable_after d batch))
-
--- the node is this one
-pub record ShowsNode (n : PureNode) (x : Node) : Type 0 where
-  pub pid : x.pid ≡ n.pid
-  pub status : StatusShown n.status x
-
--- ---- what the code keeps
 
 -- a node that is up is this server's sound chain; what one that is down was to store applies
 abbrev pub StatusKept : ℕ → Status → Type 0
@@ -41,36 +32,32 @@ StatusKept pid (status.Down d batch) = Applies d batch
 abbrev pub IsKept : PureNode → Type 0
 IsKept n = StatusKept n.pid n.status
 
+-- what is said of a happening beforehand is what becomes of it
+abbrev pub pure_nodes : Kind PureNode Foretold
+pure_nodes =
+    record {
+      pid_of = λ n. n.pid;
+      is_shown = λ n x. StatusShown n.status x;
+      is_kept = IsKept;
+      lets = λ f fate finds_after. (fate ≡ fate_of f.fate) × (finds_after ≡ f.finds_after);
+    }
+
 -- ---- what is done at a node
 
--- this can be done there: where some ids are known, some node that is shown is in range, and so is what it
--- begins with
-pub record CanDo (n : PureNode) (d : Doing) : Type 0 where
-  pub ids : List ℕ
-  pub are_ids : AreIds (IsMember ids)
-  pub kept : IsKept n
-  pub node : Node
-  pub shown : ShowsNode n node
-  pub range : NodeInRange (IsMember ids) node
-  pub doing : DoingInRange ids d
-
--- What a world becomes by what is done at one of its nodes, in a happening of this fate, opening and line:
--- this node takes its place, and these messages and lines come.
-pub record IsNodeDone (x : Node) (d : Doing) (fate : Fate) (finds_after : Bool) (line : ℕ)
-    (y : Node) (sends : List (ℕ × Msg)) (told : List Line) : Type 0 where
-  pub pid : y.pid ≡ x.pid
-  pub world : (w : World) (h : Happening) → h.fate ≡ fate → h.finds_after ≡ finds_after → h.event.line ≡ line
-      → node_at w.nodes x.pid ≡ Some x → world_by_status x.status d h w x
-      ≡ record {
-        nodes = with_node w.nodes y;
-        messages = w.messages ++ sent_by x.pid sends;
-        lines = w.lines ++ told;
-      }
-
--- what is done at a node: it shows the node after it, with these messages and lines
-pub record IsDoneAt (old : PureNode) (d : Doing) (fate : Fate) (finds_after : Bool) (line : ℕ)
+-- what is done at a node in a happening of this fate and opening: it shows the node after it, with these
+-- messages and lines
+pub record HasDone (old : PureNode) (d : Doing) (fate : Fate) (finds_after : Bool) (line : ℕ)
     (new : PureNode) (sends : List (ℕ × Msg)) (told : List Line) : Type 0 where
-  pub after : (x : Node) → ShowsNode old x
-      → (y : Node) × ShowsNode new y × IsNodeDone x d fate finds_after line y sends told
+  pub after : (x : Node) → ShowsNode pure_nodes old x
+      → (y : Node) × ShowsNode pure_nodes new y × IsNodeDone x d fate finds_after line y sends told
   pub pid : new.pid ≡ old.pid
   pub kept : IsKept new
+
+-- one that is up stops with what it has stored, and this batch that it was to store
+abbrev pub StatusStopped : ℕ → Status → List Change → PureNode → Type 0
+StatusStopped pid (status.Up c) batch n = n ≡ node_of pid (status.Down (state_of c).durable batch)
+StatusStopped pid (status.Down d kept) batch n = n ≡ node_of pid (status.Down d kept)
+
+-- the same of a node
+abbrev pub IsStopped : PureNode → List Change → PureNode → Type 0
+IsStopped old batch new = StatusStopped old.pid old.status batch new

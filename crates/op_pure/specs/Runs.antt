@@ -2,7 +2,7 @@
 use Rattle.std.specs.Prelude.{ℕ, List}
 use Rattle.op_runs.specs.World.{Happening}
 use Rattle.op_lockstep.specs.Reach.{EachLockstepReaches, ProposeNoStop}
-use Rattle.op_world.specs.Laws as every
+use Rattle.op_executions.specs.Laws as every
 use Rattle.op_pure.specs.Happenings.{CanHappen}
 
 -- the laws of the run of these members and spares over these happenings

@@ -10,6 +10,15 @@ pub enum Fate {
     Stopped,
 }
 
+/// What is said of a happening beforehand.
+#[derive(Clone, Copy, Debug, PartialEq, Eq)]
+pub struct Foretold {
+    /// What becomes of its step.
+    pub fate: Fate,
+    /// Whether an opening finds the state after the step in which the node stopped, or the one before.
+    pub finds_after: bool,
+}
+
 /// An event, and what becomes of it.
 #[derive(Drop)]
 pub struct Happening {

@@ -5,5 +5,5 @@ mod happening;
 mod node;
 mod world;
 
-pub use happening::{Fate, Happening, Happenings};
+pub use happening::{Fate, Foretold, Happening, Happenings};
 pub use world::PureWorld;

@@ -6,17 +6,18 @@ ghost use Rattle.op_types.specs.Rooms.{IsAtRest};
 ghost use Rattle.op_record.specs.Ranges.{DurableInRange};
 ghost use Rattle.op_chain.specs.Chains.{state_of};
 ghost use Rattle.op_runs.specs.World as runs;
-ghost use Rattle.op_pure.specs.declared.node.Status.TheVariants as status;
+ghost use Rattle.op_executions.specs.Deeds.{told_of, doing_of};
+ghost use Rattle.op_executions.specs.Servers.{CanDo};
 ghost use Rattle.op_pure.specs.Happenings.{fate_of};
-ghost use Rattle.op_pure.specs.Nodes.{ShowsNode, IsKept, CanDo, IsDoneAt, node_of};
-ghost use Rattle.op_world.specs.Deeds.{told_of, doing_of};
+ghost use Rattle.op_pure.specs.Nodes.{pure_nodes, HasDone, IsStopped};
 
-use crate::happening::Fate;
+use crate::happening::{Fate, Foretold};
 use op_chain::{Chain, Given, empty_durable, first_durable, sends_after_restart};
+use op_executions::{Doing, Done, Server, Told, ballot_lines, pair_lines, step_lines};
 use op_runs::Lines;
-use op_types::{Batch, Durable, Input, Members, NoMemory, Pid, Sends, is_among};
-use op_world::{Doing, Told, ballot_lines, pair_lines, step_lines};
+use op_types::{Batch, Durable, Input, Members, NoMemory, Pid, is_among};
 use std::alloc::Global;
+use std::mem::replace;
 
 /// A node.
 #[derive(Drop)]
@@ -37,38 +38,12 @@ pub enum Status {
     Down(Durable, Batch),
 }
 
-/// What was done at a node.
-#[derive(Drop)]
-pub struct NodeDone {
-    /// The node, as it is then.
-    pub node: PureNode,
-    /// Messages, each to a node.
-    pub sends: Sends,
-    /// Lines to be reported.
-    pub told: Lines,
-}
+impl Server for PureNode {
+    type Fate = Foretold;
 
-impl NodeDone {
-    /// Nothing but this node.
-    fn only(alloc: Global, pid: Pid, status: Status) -> NodeDone
-        ensures { result ≡ record { node = node_of pid status; sends = []; told = [] } }
-    {
-        NodeDone {
-            node: PureNode { pid, status },
-            sends: Sends::new(alloc),
-            told: Lines::new(alloc),
-        }
-    }
-}
+    ghost kind = { pure_nodes };
 
-impl PureNode {
-    /// A node at its start: a member of the first configuration, or a spare.
-    pub fn first(alloc: Global, pid: Pid, members: &Members) -> Result<PureNode, NoMemory>
-        requires { MembersInRange members.now }
-        ensures pid { IfOk result (λ n. n.pid ≡ pid) }
-        ensures shows { IfOk result (λ n. ShowsNode n (runs.first_node members.now pid)) }
-        ensures kept { IfOk result IsKept }
-    {
+    fn first(alloc: Global, pid: Pid, members: &Members) -> Result<PureNode, NoMemory> {
         let durable = durable_at_start(alloc, pid, members)?;
         let chain = Chain::first(alloc, pid, durable)?;
         Ok(PureNode {
@@ -77,26 +52,115 @@ impl PureNode {
         })
     }
 
-    /// Does this here, with this fate, said in this line of the schedule: an opening finds what a stopped step was to
-    /// store, or what was stored before it. Without memory no node is handed back.
-    pub fn happens(
-        self,
+    /// An opening finds what a stopped step was to store, or what was stored before it.
+    fn happens(
+        &mut self,
         alloc: Global,
+        _members: &Members,
         doing: Doing,
-        fate: Fate,
-        finds_after: bool,
+        fate: Foretold,
         line: u64,
-    ) -> Result<NodeDone, NoMemory>
-        requires { CanDo self (doing_of doing) }
-        ensures { IfOk result (λ r.
-            IsDoneAt self (doing_of doing) (fate_of fate) finds_after line r.node r.sends r.told) }
-    {
-        let PureNode { pid, status } = self;
-        match status {
-            Status::Up(chain) => happens_up(alloc, pid, chain, doing, fate, line),
-            Status::Down(durable, batch) => {
-                happens_down(alloc, pid, durable, batch, doing, fate, finds_after)
+    ) -> Result<Done, NoMemory> {
+        match doing {
+            Doing::Steps(input) => match fate.fate {
+                Fate::Done => self.step(alloc, input, line),
+                Fate::Stopped => self.stop_in_step(alloc, input),
+            },
+            Doing::Stops => {
+                self.stop(alloc, Batch::new(alloc));
+                Ok(Done::nothing(alloc))
             }
+            Doing::Opens => match fate.fate {
+                Fate::Done => self.open(alloc, fate.finds_after),
+                Fate::Stopped => Ok(Done::nothing(alloc)),
+            },
+            Doing::Tells(told) => self.tell(alloc, told),
+        }
+    }
+}
+
+impl PureNode {
+    /// A step, if it is up.
+    fn step(&mut self, alloc: Global, input: Input, line: u64) -> Result<Done, NoMemory>
+        requires { CanDo pure_nodes self.old (runs.Steps input) }
+        ensures { IfOk result (λ r. (finds_after : Bool) → HasDone self.old (runs.Steps input)
+            runs.Done finds_after line self.new r.sends r.told) }
+    {
+        let Status::Up(chain) = &mut self.status else {
+            return Ok(Done::nothing(alloc));
+        };
+        let plan = chain.plan(input)?;
+        let Given {
+            sends,
+            replies,
+            outcome,
+        } = chain.adopt(plan);
+        let told = step_lines(alloc, line, self.pid, outcome, replies)?;
+        Ok(Done { sends, told })
+    }
+
+    /// A step in which it stops, if it is up: what it was to store is kept, and all memory is lost.
+    fn stop_in_step(&mut self, alloc: Global, input: Input) -> Result<Done, NoMemory>
+        requires { CanDo pure_nodes self.old (runs.Steps input) }
+        ensures { IfOk result (λ r. (finds_after : Bool) → (line : ℕ) → HasDone self.old
+            (runs.Steps input) runs.Stopped finds_after line self.new r.sends r.told) }
+    {
+        if let Status::Up(chain) = &mut self.status {
+            let plan = chain.plan(input)?;
+            self.stop(alloc, plan.into_batch());
+        }
+        Ok(Done::nothing(alloc))
+    }
+
+    /// Stops, if it is up, with this batch that it was to store.
+    fn stop(&mut self, alloc: Global, batch: Batch)
+        ensures { IsStopped self.old batch self.new }
+    {
+        let nothing = Status::Down(empty_durable(), Batch::new(alloc));
+        self.status = match replace(&mut self.status, nothing) {
+            Status::Up(chain) => Status::Down(chain.into_durable(), batch),
+            Status::Down(durable, batch) => Status::Down(durable, batch),
+        };
+    }
+
+    /// Is opened again, if it is down, and asks to be prepared.
+    fn open(&mut self, alloc: Global, finds_after: bool) -> Result<Done, NoMemory>
+        requires { CanDo pure_nodes self.old runs.Opens }
+        ensures { IfOk result (λ r. (line : ℕ) → HasDone self.old runs.Opens
+            runs.Done finds_after line self.new r.sends r.told) }
+    {
+        let nothing = Status::Down(empty_durable(), Batch::new(alloc));
+        match replace(&mut self.status, nothing) {
+            Status::Up(chain) => {
+                self.status = Status::Up(chain);
+                Ok(Done::nothing(alloc))
+            }
+            Status::Down(durable, batch) => {
+                let durable = found(durable, batch, finds_after)?;
+                let sends = sends_after_restart(alloc, self.pid, &durable)?;
+                let chain = Chain::again(alloc, self.pid, durable)?;
+                self.status = Status::Up(chain);
+                Ok(Done {
+                    sends,
+                    told: Lines::new(alloc),
+                })
+            }
+        }
+    }
+
+    /// Tells this, if it is up.
+    fn tell(&self, alloc: Global, told: Told) -> Result<Done, NoMemory>
+        requires { pure_nodes.is_kept self.now }
+        ensures { IfOk result (λ r. (fate : runs.Fate) → (finds_after : Bool) → (line : ℕ) → HasDone self.now
+            (runs.Tells (told_of told)) fate finds_after line self.now r.sends r.told) }
+    {
+        match &self.status {
+            Status::Up(chain) => {
+                let mut done = Done::nothing(alloc);
+                done.told = told_lines(alloc, self.pid, chain, told)?;
+                Ok(done)
+            }
+            Status::Down(..) => Ok(Done::nothing(alloc)),
         }
     }
 }
@@ -113,38 +177,6 @@ fn durable_at_start(alloc: Global, pid: Pid, members: &Members) -> Result<Durabl
     Ok(empty_durable())
 }
 
-/// Does this at a node that is up, where an opening does nothing.
-fn happens_up(
-    alloc: Global,
-    pid: Pid,
-    chain: Chain,
-    doing: Doing,
-    fate: Fate,
-    line: u64,
-) -> Result<NodeDone, NoMemory>
-    requires { CanDo (node_of pid (status.Up chain)) (doing_of doing) }
-    ensures { IfOk result (λ r. (finds_after : Bool) → IsDoneAt (node_of pid (status.Up chain))
-        (doing_of doing) (fate_of fate) finds_after line r.node r.sends r.told) }
-{
-    match doing {
-        Doing::Steps(input) => match fate {
-            Fate::Done => done_step(alloc, pid, chain, input, line),
-            Fate::Stopped => stopped_step(alloc, pid, chain, input),
-        },
-        Doing::Stops => {
-            let stopped = Status::Down(chain.into_durable(), Batch::new(alloc));
-            Ok(NodeDone::only(alloc, pid, stopped))
-        }
-        Doing::Opens => Ok(NodeDone::only(alloc, pid, Status::Up(chain))),
-        Doing::Tells(told) => {
-            let told = told_lines(alloc, pid, &chain, told)?;
-            let mut done = NodeDone::only(alloc, pid, Status::Up(chain));
-            done.told = told;
-            Ok(done)
-        }
-    }
-}
-
 /// The lines of what a node tells.
 fn told_lines(alloc: Global, pid: Pid, chain: &Chain, told: Told) -> Result<Lines, NoMemory>
     ensures { IfOk result (λ lines. let s = state_of chain.now in
@@ -154,120 +186,6 @@ fn told_lines(alloc: Global, pid: Pid, chain: &Chain, told: Told) -> Result<Line
         Told::Pairs => pair_lines(alloc, pid, chain.pairs()),
         Told::Ballots => ballot_lines(alloc, pid, chain.ballots()),
     }
-}
-
-/// Does this at a node that is down, where only an opening that is done does something.
-fn happens_down(
-    alloc: Global,
-    pid: Pid,
-    durable: Durable,
-    batch: Batch,
-    doing: Doing,
-    fate: Fate,
-    finds_after: bool,
-) -> Result<NodeDone, NoMemory>
-    requires { CanDo (node_of pid (status.Down durable batch)) (doing_of doing) }
-    ensures { IfOk result (λ r. (line : ℕ) → IsDoneAt (node_of pid (status.Down durable batch))
-        (doing_of doing) (fate_of fate) finds_after line r.node r.sends r.told) }
-{
-    if let Doing::Opens = doing {
-        return opens(alloc, pid, durable, batch, fate, finds_after);
-    }
-    let stopped = Status::Down(durable, batch);
-    Ok(NodeDone::only(alloc, pid, stopped))
-}
-
-/// A step in which a node that is up stops: what it was to store is kept, and all memory is lost.
-fn stopped_step(
-    alloc: Global,
-    pid: Pid,
-    mut chain: Chain,
-    input: Input,
-) -> Result<NodeDone, NoMemory>
-    requires { CanDo (node_of pid (status.Up chain)) (runs.Steps input) }
-    ensures { IfOk result (λ r. (finds_after : Bool) → (line : ℕ) → IsDoneAt
-        (node_of pid (status.Up chain)) (runs.Steps input) runs.Stopped finds_after line
-        r.node r.sends r.told) }
-{
-    let plan = chain.plan(input)?;
-    let stopped = Status::Down(chain.into_durable(), plan.into_batch());
-    Ok(NodeDone::only(alloc, pid, stopped))
-}
-
-/// A step of a node that is up.
-fn done_step(
-    alloc: Global,
-    pid: Pid,
-    mut chain: Chain,
-    input: Input,
-    line: u64,
-) -> Result<NodeDone, NoMemory>
-    requires { CanDo (node_of pid (status.Up chain)) (runs.Steps input) }
-    ensures { IfOk result (λ r. (finds_after : Bool) → IsDoneAt (node_of pid (status.Up chain))
-        (runs.Steps input) runs.Done finds_after line r.node r.sends r.told) }
-{
-    let plan = chain.plan(input)?;
-    let Given {
-        sends,
-        replies,
-        outcome,
-    } = chain.adopt(plan);
-    let told = step_lines(alloc, line, pid, outcome, replies)?;
-    Ok(NodeDone {
-        node: PureNode {
-            pid,
-            status: Status::Up(chain),
-        },
-        sends,
-        told,
-    })
-}
-
-/// An opening of a node that is down: one that stops changes nothing.
-fn opens(
-    alloc: Global,
-    pid: Pid,
-    durable: Durable,
-    batch: Batch,
-    fate: Fate,
-    finds_after: bool,
-) -> Result<NodeDone, NoMemory>
-    requires { CanDo (node_of pid (status.Down durable batch)) runs.Opens }
-    ensures { IfOk result (λ r. (line : ℕ) → IsDoneAt (node_of pid (status.Down durable batch))
-        runs.Opens (fate_of fate) finds_after line r.node r.sends r.told) }
-{
-    match fate {
-        Fate::Done => done_opening(alloc, pid, durable, batch, finds_after),
-        Fate::Stopped => {
-            let stopped = Status::Down(durable, batch);
-            Ok(NodeDone::only(alloc, pid, stopped))
-        }
-    }
-}
-
-/// A node that is down is opened again, and asks to be prepared.
-fn done_opening(
-    alloc: Global,
-    pid: Pid,
-    durable: Durable,
-    batch: Batch,
-    finds_after: bool,
-) -> Result<NodeDone, NoMemory>
-    requires { CanDo (node_of pid (status.Down durable batch)) runs.Opens }
-    ensures { IfOk result (λ r. (line : ℕ) → IsDoneAt (node_of pid (status.Down durable batch))
-        runs.Opens runs.Done finds_after line r.node r.sends r.told) }
-{
-    let durable = found(durable, batch, finds_after)?;
-    let sends = sends_after_restart(alloc, pid, &durable)?;
-    let chain = Chain::again(alloc, pid, durable)?;
-    Ok(NodeDone {
-        node: PureNode {
-            pid,
-            status: Status::Up(chain),
-        },
-        sends,
-        told: Lines::new(alloc),
-    })
 }
 
 /// What an opening finds.

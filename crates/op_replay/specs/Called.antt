@@ -8,7 +8,7 @@ use Rattle.op_outside.specs.Streams.{AppendsPrefix}
 use Rattle.op_runs.specs.World.{all_done}
 use Rattle.op_runs.specs.Possible.{ArePossible}
 use Rattle.op_runs.specs.Summary.{run_summary}
-use Rattle.op_world.specs.Laws.{KeepsTheLaws}
+use Rattle.op_executions.specs.Laws.{KeepsTheLaws}
 use Rattle.op_input.specs.Inputs.{input_limit}
 use Rattle.op_replay.specs.Replay.{IsLineOfFirstBad}
 

@@ -16,7 +16,7 @@ use Rattle.op_spec.specs.Machine.{Machine}
 use Rattle.op_spec.specs.Stands.{Stands, IfPartStands, IfClosedStands}
 use Rattle.op_protocol.specs.Rows.{entries_of, refusal_of, stop_for}
 use Rattle.op_protocol.specs.State.{State}
-use Rattle.op_runs.specs.World.{Node, NodeStatus, Up, Down, Happening, Doing, Steps, Stops, Opens, Tells, Deed, node_at, with_node}
+use Rattle.op_runs.specs.World.{Node, NodeStatus, Up, Down, Failed, Happening, Doing, Steps, Stops, Opens, Tells, Deed, node_at, with_node}
 use Rattle.op_runs.specs.Run.{Execution, IsSound, MeetsFrom, execution_with, execution_of, machine_showing_all, machine_proposing_in, machine_proposing_input, machine_proposing_doing, machine_proposing_if, machine_proposing_at, machine_proposing_by}
 
 -- ---- what is proposed changes no list
@@ -49,6 +49,7 @@ doing_lists m me s (Tells t) = refl
 status_lists : (z : NodeStatus) (m : Machine) (me : ℕ) (s : State) (d : Doing) → (machine_proposing_if z m me s d).lists ≡ m.lists
 status_lists Up m me s d = doing_lists m me s d
 status_lists (Down after) m me s d = refl
+status_lists (Failed count after) m me s d = refl
 
 at_lists : (m : Machine) (o : Option Node) (d : Doing) → (machine_proposing_at m o d).lists ≡ m.lists
 at_lists m None d = refl

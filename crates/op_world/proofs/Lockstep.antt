@@ -16,7 +16,7 @@ use Rattle.op_lockstep.proofs.Drills.{drill_quiet}
 use Rattle.op_lockstep.proofs.Reached.{every_lockstep_reaches}
 use Rattle.op_world.specs.Drills.{IsReportOfDrill, followed}
 use Rattle.op_world.specs.Worlds.{Parts, IsWorld, Shows}
-use Rattle.op_world.proofs.Bounds.{member_ids, members_known}
+use Rattle.op_executions.proofs.Bounds.{member_ids, members_known}
 use Rattle.op_world.proofs.LockstepEvents.{followed_append, followed_world, ticks_possible, ballots_possible, deliveries_possible, one_more_round, drill_possible, drill_proposes_nothing}
 use Rattle.op_world.proofs.Runs.{report_of}
 

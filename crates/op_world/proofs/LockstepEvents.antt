@@ -11,7 +11,7 @@ use Rattle.op_runs.specs.World.{World, Sent, Happening, first_world, world_after
 use Rattle.op_runs.specs.Run.{Execution, execution_with, execution_of}
 use Rattle.op_runs.specs.Possible.{is_possible_in, ArePossible, ArePossibleFrom, proposals_of, proposals_in}
 use Rattle.op_laws.proofs.Reached.{world_of_run, execution_append}
-use Rattle.op_world.proofs.Messages.{no_fewer}
+use Rattle.op_executions.proofs.Messages.{no_fewer}
 use Rattle.op_gen.specs.Links.{Links, all_links}
 use Rattle.op_lockstep.proofs.Rounds.{after_append}
 use Rattle.op_world.specs.Drills.{followed}

@@ -25,11 +25,12 @@ use Rattle.op_node.specs.declared.node.Node as nodes
 use Rattle.op_runs.specs.World.{World, Node, NodeStatus, Up, Doing, with_node, sent_by, done_event, world_by_status, first_durable, first_node}
 use Rattle.op_runs.specs.World as runs
 use Rattle.op_bounds.specs.States.{IsNamed}
-use Rattle.op_world.specs.Deeds.{doing_of}
-use Rattle.op_world.specs.Worlds.{RunsAs, IsDoneAt, CanBeDone}
-use Rattle.op_world.specs.declared.deed.Doing as deed
-use Rattle.op_world.specs.declared.deed.Doing.TheVariants as variant
+use Rattle.op_executions.specs.Servers.{CanDo}
+use Rattle.op_world.specs.Worlds.{disk_nodes, HasDone, IsShown, RunsAs}
+use Rattle.op_world.proofs.Happenings.{IsDoneOf, has_done}
+use Rattle.op_world.specs.declared.node_state.NodeState.{NodeState}
 use Rattle.op_world.specs.declared.node_state.NodeState.TheVariants as node
+use Rattle.op_world.specs.declared.node_state.WorldNode.{WorldNode}
 
 -- ---- what is found
 
@@ -82,18 +83,22 @@ runs_in me s = record { me = me; state = s; failed = None }
 
 -- ---- a node that is opened again
 
-module _ (members : List ℕ) (me : ℕ) (first second : MemDisk) (n : nodes.Node MemDisk) (sends : List (ℕ × Msg)) (d : Doing) (k : CanBeDone me (node.Down first second) d)
+module _ (members : List ℕ) (me : ℕ) (first second : MemDisk) (n : nodes.Node MemDisk) (sends : List (ℕ × Msg)) (old : WorldNode) (here : old.pid ≡ me) (down : old.state ≡ node.Down first second) (d : Doing) (k : CanDo disk_nodes old d)
     (o : Opens known_disk me members (record { first = known_disk first; second = known_disk second }) n sends) where
   found : IsOpenedAs (fresh_for me members) (seen_of first) (seen_of second) o.durable o.is_new
   found = o.opened.found (tt, tt)
 
+  -- the node that it shows has stored this
+  stored_there : IsStored k.node.state.durable (seen_of first) (seen_of second)
+  stored_there = (subst (λ (s : NodeState). IsShown s k.node.state k.node.status) down k.shown.state).0
+
   is_old : o.is_new ≡ false
-  is_old = found_old (fresh_for me members) k.node.state.durable o.durable (seen_of first) (seen_of second) o.is_new found k.shown.0
+  is_old = found_old (fresh_for me members) k.node.state.durable o.durable (seen_of first) (seen_of second) o.is_new found stored_there
 
   takes : durable_for me o.durable ≡ o.durable
   takes =
-      let same : o.durable ≡ k.node.state.durable = found_same (fresh_for me members) k.node.state.durable o.durable (seen_of first) (seen_of second) o.is_new found k.shown.0 in
-      taken me o.durable (subst (λ (p : ℕ). IsNamed p o.durable) k.here (subst (λ (e : Durable). IsNamed k.node.pid e) (sym same) k.range.named))
+      let same : o.durable ≡ k.node.state.durable = found_same (fresh_for me members) k.node.state.durable o.durable (seen_of first) (seen_of second) o.is_new found stored_there in
+      taken me o.durable (subst (λ (p : ℕ). IsNamed p o.durable) (k.shown.pid ∙ here) (subst (λ (e : Durable). IsNamed k.node.pid e) (sym same) k.range.named))
 
   state_is : node_of n ≡ runs_in me (state_after_restart me o.durable)
   state_is = o.node ∙ ap (λ (b : Bool). runs_in me (opening_state me b o.durable)) is_old ∙ ap (λ (d : Durable). runs_in me (state_after_restart me d)) takes
@@ -109,7 +114,7 @@ module _ (members : List ℕ) (me : ℕ) (first second : MemDisk) (n : nodes.Nod
     stored = subst (λ (d : Durable). Represents known_disk d n.store) (ap (λ (i : Inner). i.state.durable) (sym state_is)) (o.opened.stored (tt, tt));
   }
 
-  pub opened_again : (line : ℕ) (told : List Line) → told ≡ [] → IsDoneAt me (node.Down first second) runs.Opens line (node.Up n) sends told
+  pub opened_again : (line : ℕ) (told : List Line) → told ≡ [] → IsDoneOf me (node.Down first second) runs.Opens line (node.Up n) sends told
   opened_again line told none = record {
     after = λ x pid shown.
         let same : o.durable ≡ x.state.durable = found_same (fresh_for me members) x.state.durable o.durable (seen_of first) (seen_of second) o.is_new found shown.0 in
@@ -133,8 +138,12 @@ module _ (members : List ℕ) (me : ℕ) (first second : MemDisk) (n : nodes.Nod
     kept = runs_again;
   }
 
-  pub opens_again : (line : ℕ) (told : List Line) (did : deed.Doing) → told ≡ [] → did ≡ variant.Opens → IsDoneAt me (node.Down first second) (doing_of did) line (node.Up n) sends told
-  opens_again line told did none is = subst (λ (y : deed.Doing). IsDoneAt me (node.Down first second) (doing_of y) line (node.Up n) sends told) (sym is) (opened_again line told none)
+  pub did_open_again : (new : WorldNode) (line : ℕ) (told : List Line) → told ≡ [] → new.pid ≡ old.pid → new.state ≡ node.Up n → HasDone old runs.Opens line new sends told
+  did_open_again new line told none pid up =
+      has_done old new runs.Opens line sends told pid
+      (subst (λ (p : ℕ). IsDoneOf p old.state runs.Opens line new.state sends told) (sym here)
+      (subst (λ (s : NodeState). IsDoneOf me s runs.Opens line new.state sends told) (sym down)
+      (subst (λ (s : NodeState). IsDoneOf me (node.Down first second) runs.Opens line s sends told) (sym up) (opened_again line told none))))
 
 -- ---- a node at its first start
 

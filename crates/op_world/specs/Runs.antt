@@ -5,7 +5,7 @@ use Rattle.op_runs.specs.declared.summary.Summary.{Summary}
 use Rattle.op_runs.specs.World.{all_done}
 use Rattle.op_runs.specs.Possible.{ArePossible}
 use Rattle.op_runs.specs.Summary.{run_summary}
-use Rattle.op_world.specs.Laws.{KeepsTheLaws}
+use Rattle.op_executions.specs.Laws.{KeepsTheLaws}
 
 -- this is reported of the events' run at these members and spares
 pub record IsReportOfRun (members spares : List ℕ) (events : List Event) (s : Summary) : Type 0 where

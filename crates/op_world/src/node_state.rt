@@ -1,5 +1,5 @@
 //! A node, which has its disks in memory: up or down.
-ghost use Rattle.std.specs.Prelude.{◌≡◌, ◌≤◌, [], ℕ, length, IfOk};
+ghost use Rattle.std.specs.Prelude.{◌≡◌, [], ℕ, IfOk};
 ghost use Rattle.op_types.specs.Ranges.{MembersInRange};
 ghost use Rattle.op_types.specs.declared.durable.Durable as durables;
 ghost use Rattle.op_outside.specs.Disks.{MayLeave};
@@ -8,7 +8,7 @@ ghost use Rattle.op_store.specs.Stored.{IsStored};
 ghost use Rattle.op_store.specs.Stores.{Represents};
 ghost use Rattle.op_node.specs.Nodes.{node_of};
 ghost use Rattle.op_node.specs.Openings.{Opens};
-ghost use Rattle.op_world.specs.Worlds.{RunsAs, place_of};
+ghost use Rattle.op_world.specs.Worlds.{RunsAs};
 
 use op_chain::empty_durable;
 use op_memory::MemDisk;
@@ -24,6 +24,8 @@ pub struct WorldNode {
     pub pid: Pid,
     /// Whether it is up or down, with its disks.
     pub state: NodeState,
+    /// How many steps its disks keep the calls of.
+    pub kept_steps: u8,
 }
 
 /// How a node is.
@@ -99,21 +101,4 @@ pub fn forgetting(node: Node<MemDisk>) -> Result<Node<MemDisk>, NoMemory>
     let first = first.forget()?;
     let second = second.forget()?;
     Ok(Node::resume(rest, first, second))
-}
-
-/// The nodes' place of an id: how many nodes stand before it, or how many there are where none has it.
-pub fn place_of(nodes: &[WorldNode], pid: Pid) -> usize
-    ensures place { result ≡ place_of nodes.now pid }
-    ensures most { result ≤ length nodes.now }
-{
-    match nodes {
-        [] => 0,
-        [first, rest @ ..] => {
-            if first.pid == pid {
-                0
-            } else {
-                1 + place_of(rest, pid)
-            }
-        }
-    }
 }

@@ -45,7 +45,7 @@ impl Standing {
         ensures lines { OnOk result ((x : runs.Node) → ShowsNode node x →
             self.new.lines ≡ self.old.lines ++ node_line x ∷ []) }
     {
-        let WorldNode { pid, state } = node;
+        let WorldNode { pid, state, .. } = node;
         match state {
             NodeState::Up(node) => self.add(pid, Running::Up, node.shown()),
             NodeState::Down(first, second) => {

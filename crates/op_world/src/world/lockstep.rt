@@ -6,12 +6,11 @@ ghost use Rattle.op_runs.specs.Run.{Execution};
 ghost use Rattle.op_lockstep.specs.Lockstep as rounds;
 ghost use Rattle.op_lockstep.specs.Lockstep.{ballots, deliveries, lockstep, ticks};
 ghost use Rattle.op_world.specs.Drills.{IsReportOfDrill, followed, is_delivered};
-ghost use Rattle.op_world.specs.Failing.{IfBadEvent};
+ghost use Rattle.op_executions.specs.Failing.{IfBadEvent};
 ghost use Rattle.op_world.specs.Worlds.{Shows};
 
 use super::World;
-use crate::fail::RunFail;
-use crate::sent::Sent;
+use op_executions::{RunFail, Sent};
 use op_gen::{Links, all_links};
 use op_runs::{Event, Events, Summary, What};
 use op_types::{Body, Members, NoMemory};
@@ -122,10 +121,10 @@ impl World {
         ensures members { IfOk result (λ w. w.members ≡ self.members) }
         ensures bad { IfBadEvent result (λ _. (t : Execution) → Shows self t → ⊥) }
     {
-        let asked_since = self.messages.len();
-        let ticks = ticks(self.alloc, &self.members)?;
+        let asked_since = self.world.messages.len();
+        let ticks = ticks(self.world.alloc, &self.world.members)?;
         let ticked = self.follow(ticks)?;
-        let answered_since = ticked.messages.len();
+        let answered_since = ticked.world.messages.len();
         let requests = ticked.deliveries(asked_since, Delivered::Requests(links))?;
         let asked = ticked.follow(requests)?;
         let replies = asked.deliveries(answered_since, Delivered::Replies)?;
@@ -139,8 +138,8 @@ impl World {
         ensures members { IfOk result (λ w. w.members ≡ self.members) }
         ensures bad { IfBadEvent result (λ _. (t : Execution) → Shows self t → ⊥) }
     {
-        let ticks = ticks(self.alloc, &self.members)?;
-        let ballots = ballots(self.alloc, &self.members)?;
+        let ticks = ticks(self.world.alloc, &self.world.members)?;
+        let ballots = ballots(self.world.alloc, &self.world.members)?;
         self.follow(ticks)?.follow(ballots)
     }
 
@@ -150,9 +149,9 @@ impl World {
             events ≡ deliveries (is_delivered delivered.entry) since self.now.messages) }
         ensures range { IfOk result (λ events. All (λ e. WhatInRange e.what) events) }
     {
-        let mut events = Events::new(self.alloc);
-        for number in since..self.messages.len() {
-            if delivered.has(&self.messages[number]) {
+        let mut events = Events::new(self.world.alloc);
+        for number in since..self.world.messages.len() {
+            if delivered.has(&self.world.messages[number]) {
                 events.push(event_of(What::Deliver(number as u64)))?;
             }
         }

@@ -1,8 +1,8 @@
 use Rattle.std.proofs.Common.{ap}
 use Rattle.op_chain.specs.Chains.{state_of, ballots_in, pairs_in}
 use Rattle.op_runs.specs.World.{ThePairs, TheBallots}
-use Rattle.op_world.specs.Deeds.{told_of}
-use Rattle.op_world.proofs.ToldLines.{lines_of_state}
+use Rattle.op_executions.specs.Deeds.{told_of}
+use Rattle.op_executions.proofs.ToldLines.{lines_of_state}
 use Rattle.op_pure.proofs.node.told_lines.Goals as goal
 
 pub returns-in-Pairs : goal.returns-in-Pairs

@@ -2,8 +2,8 @@ use Rattle.std.proofs.Common.{ap}
 use Rattle.op_chain.specs.Chains.{ballots_in, pairs_in}
 use Rattle.op_node.specs.Nodes.{node_of}
 use Rattle.op_runs.specs.World.{ThePairs, TheBallots}
-use Rattle.op_world.specs.Deeds.{told_of}
-use Rattle.op_world.proofs.ToldLines.{lines_of_state}
+use Rattle.op_executions.specs.Deeds.{told_of}
+use Rattle.op_executions.proofs.ToldLines.{lines_of_state}
 use Rattle.op_world.proofs.happening.told_lines.Goals as goal
 
 pub returns-in-Pairs : goal.returns-in-Pairs

@@ -1,10 +1,32 @@
-use Rattle.std.proofs.Common.{false, true, subst, ◌∙◌, arith}
+use Rattle.std.proofs.Common.{◌≡◌, ℕ, List, [], false, true, ap, subst, ◌∙◌, arith, rules}
 use Rattle.std.proofs.lemmas.List.{nil_from_length}
+use Rattle.std.specs.Vec.Iter.{into_iter_items}
 use Rattle.op_runs.specs.World as runs
+use Rattle.op_executions.specs.Worlds.{Shows}
+use Rattle.op_executions.proofs.Worlds.{runs_on}
 use Rattle.op_pure.specs.Happenings.{happening_of}
-use Rattle.op_pure.specs.Worlds.{Shows}
-use Rattle.op_pure.proofs.Runs.{continues_next, bad_here, ran_all, keeps_the_laws, possible_seen}
+use Rattle.op_pure.specs.Nodes.{pure_nodes}
+use Rattle.op_pure.specs.declared.happening.Foretold.{Foretold}
+use Rattle.op_pure.proofs.Runs.{continues_first, continues_next, bad_here, ran_all, keeps_the_laws, possible_seen, range_next, shows_after}
 use Rattle.op_pure.proofs.world.PureWorld.run.Goals as goal
+
+pub loop-happening-init : goal.loop-happening-init
+loop-happening-init c =
+    let w = c.in_ok-world.world in
+    let members = c.args.members in
+    let run = c.in_ok-world.ensures.run in
+    let given : into_iter_items c.into_iter-happening-iterator.result ≡ c.into_vec-happening-items.result.items = c.into_iter-happening-iterator.ensures.into_iter_gives.0 in
+    let all = given ∙ c.into_vec-happening-items.ensures in (
+      runs.first_world members c.args.spares,
+      subst (λ (ms : List ℕ). Shows pure_nodes w (runs.first_world ms c.args.spares)) c.in_ok-world.ensures.members run.shows,
+      continues_first members c.args.spares _ c.args.happenings w.proposed all c.requires.happenings run.proposed,
+      run.ids ∙ ap (λ (ms : List ℕ). runs.node_ids ms c.args.spares) c.in_ok-world.ensures.members,
+      first_of (search rules, omega arith),
+      record { spares = c.args.spares; happenings = []; run = run },
+    )
+
+pub event-requires-clause-run : goal.event-requires-clause-run
+event-requires-clause-run c = c.loop-happening.invariant.5
 
 pub returns-in-Err-BadEvent-clause-bad : goal.returns-in-Err-BadEvent-clause-bad
 returns-in-Err-BadEvent-clause-bad c =
@@ -16,22 +38,29 @@ returns-in-Err-BadEvent-clause-bad c =
 pub loop-happening-preserved : goal.loop-happening-preserved
 loop-happening-preserved c =
     let old = c.loop-happening.invariant in
-    let w = c.in-Ok.ensures in (
-      runs.world_after old.0 (happening_of c.in-Some.happening),
-      w.after old.0 old.1,
-      continues_next c.args.members c.args.spares old.0 _ _ c.args.happenings c.in-Some.happening c.loop-happening.index c.loop-happening.world.proposed c.in-Ok.world.proposed old.2 c.in-Some.ensures.steps.0
-          (possible_seen (runs.node_ids c.args.members c.args.spares) c.loop-happening.world old.0 c.in-Some.happening.event true old.1 old.3 w.possible) w.proposed.0 w.proposed.1,
-      w.ids ∙ old.3,
+    let did = c.in-Ok.ensures in
+    let h = c.in-Some.happening in
+    let w = c.loop-happening.world in
+    let new = c.event.new.self in
+    let f : Foretold = record { fate = h.fate; finds_after = h.finds_after } in
+    let fit = range_next c.args.members c.args.spares old.0 _ _ c.args.happenings h c.loop-happening.index w.proposed old.2 c.in-Some.ensures.steps.0 in (
+      runs.world_after old.0 (happening_of h),
+      shows_after old.0 h.event f c.in-Ok.field-0 new (did.happened old.0 old.1),
+      continues_next c.args.members c.args.spares old.0 _ _ c.args.happenings h c.loop-happening.index w.proposed new.proposed old.2 c.in-Some.ensures.steps.0
+          (possible_seen (runs.node_ids c.args.members c.args.spares) w old.0 h.event true old.1 old.3 did.possible) did.proposed.0 did.proposed.1,
+      ap (λ v. v.items) did.same.1 ∙ old.3,
       old.4,
+      runs_on pure_nodes w new h.event f c.in-Ok.field-0 old.5 fit did.possible did.happened did.servers did.same.0 did.same.1 did.proposed.0 did.proposed.1,
     )
 
 pub returns-clause-world : goal.returns-clause-world
 returns-clause-world c =
     let old = c.loop-happening.invariant in
-    subst (λ (x : runs.World). Shows c.loop-happening.world x)
+    let shows : Shows pure_nodes c.loop-happening.world _ = subst (λ (x : runs.World). Shows pure_nodes c.loop-happening.world x)
     (ran_all c.args.members c.args.spares old.0 _ c.args.happenings c.loop-happening.index c.loop-happening.world.proposed old.2
     (nil_from_length c.loop-happening.happening-iterator.rest.items (omega (arith, c.loop-happening.happening-iterator.rest.ok.0, c.in-None.ensures.steps.0))))
-    old.1
+    old.1 in
+    record { nodes = shows.nodes; messages = shows.messages; lines = shows.lines }
 
 pub returns-clause-laws : goal.returns-clause-laws
 returns-clause-laws c =

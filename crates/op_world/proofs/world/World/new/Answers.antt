@@ -1,14 +1,21 @@
-use Rattle.std.proofs.Common.{List, ℕ, subst, map, refl, ◌∙◌}
-use Rattle.op_runs.specs.World.{first_node}
-use Rattle.op_world.specs.Worlds.{Parts, Shows, ShowNodes}
+use Rattle.std.proofs.Common.{List, ℕ, ap, subst, ◌∙◌}
 use Rattle.op_runs.specs.Run.{first_execution}
-use Rattle.op_world.proofs.WorldsStart.{first_kept, starts}
+use Rattle.op_runs.specs.World.{node_ids}
+use Rattle.op_world.specs.Worlds.{Shows}
+use Rattle.op_world.proofs.Deeds.{parts_of, first_kept, first_shows}
 use Rattle.op_world.proofs.world.World.new.Goals as goal
 
 pub invariant_of-result : goal.invariant_of-result
-invariant_of-result c =
-    let w : Parts = record { members = c.args.members; ids = c.in_ok-ids.ids.items; nodes = c.in_ok-nodes.nodes.items; messages = c.new.result.items; lines = c.new-2.result; lists = c.new-3.result; proposed = 0 } in
-    let are = c.in_ok-nodes.ensures in
-    let nodes : ShowNodes w.nodes (map (first_node w.members) w.ids) = subst (λ (ids : List ℕ). ShowNodes w.nodes (map (first_node w.members) ids)) c.deref.ensures.value are.shows in
-    let shows : Shows w (first_execution w.members c.args.spares.now) = starts w c.args.spares.now nodes c.in_ok-ids.ensures c.new.ensures.items c.new-2.ensures c.new-3.ensures in
-    first_kept w c.args.spares.now c.requires.members c.requires.spares shows c.in_ok-ids.ensures refl are.kept (are.pids ∙ c.deref.ensures.value)
+invariant_of-result c = first_kept c.in_ok-world.world c.new-2.result c.args.spares.now c.in_ok-world.ensures.run c.new-2.ensures
+
+pub returns-clause-shows : goal.returns-clause-shows
+returns-clause-shows c =
+    let w = c.in_ok-world.world in
+    subst (λ (ms : List ℕ). Shows (parts_of w c.new-2.result) (first_execution ms c.args.spares.now)) c.in_ok-world.ensures.members
+    (first_shows w c.new-2.result c.args.spares.now c.in_ok-world.ensures.run c.new-2.ensures)
+
+pub returns-clause-ids : goal.returns-clause-ids
+returns-clause-ids c = c.in_ok-world.ensures.run.ids ∙ ap (λ (ms : List ℕ). node_ids ms c.args.spares.now) c.in_ok-world.ensures.members
+
+pub returns-clause-proposed : goal.returns-clause-proposed
+returns-clause-proposed c = c.in_ok-world.ensures.run.proposed

@@ -3,7 +3,7 @@ use Rattle.std.proofs.lemmas.List.{nil_from_length}
 use Rattle.op_runs.specs.Run.{execution_with}
 use Rattle.op_runs.specs.World.{node_ids, done_event}
 use Rattle.op_runs.specs.Summary.{summary_of}
-use Rattle.op_world.proofs.Runs.{continues_next, bad_here, report_end, possible_seen}
+use Rattle.op_world.proofs.Runs.{continues_next, bad_here, goes_end, possible_seen}
 use Rattle.op_world.proofs.world.World.run.Goals as goal
 
 pub returns-in-Err-BadEvent-clause-bad : goal.returns-in-Err-BadEvent-clause-bad
@@ -29,6 +29,6 @@ loop-event-preserved c =
 pub returns-clause-report : goal.returns-clause-report
 returns-clause-report c =
     let old = c.loop-event.invariant in
-    report_end c.args.members c.args.spares c.requires.members c.requires.spares old.0 _ c.args.events c.loop-event.index c.loop-event.world.proposed c.in_ok-summary.field-0 c.requires.events old.2
+    goes_end c.args.members c.args.spares c.requires.members c.requires.spares old.0 _ c.args.events c.loop-event.world.proposed c.in_ok-summary.field-0 (old.2).goes
     (nil_from_length c.loop-event.event-iterator.rest.items (omega (arith, c.loop-event.event-iterator.rest.ok.0, c.in-None.ensures.steps.0)))
     (c.in_ok-summary.ensures old.0 old.1 ∙ ap (λ (ms : List ℕ). summary_of ms old.0) old.3)

@@ -1,6 +1,7 @@
 use Rattle.std.proofs.Common.{◌≡◌, length, sym, ap, subst, ◌∙◌, rules}
 use Rattle.op_runs.specs.Summary.{summary_of}
 use Rattle.op_world.specs.Worlds.{Parts, Shows}
+use Rattle.op_world.proofs.Deeds.{parts_of}
 use Rattle.op_world.proofs.StandingNodes.{world_open, reported}
 use Rattle.op_world.proofs.world.World.summary.Goals as goal
 
@@ -9,8 +10,7 @@ of_nodes-requires c = world_open _ c.self.invariant
 
 pub returns : goal.returns
 returns c t show =
-    let i = c.self.inside in
-    let w : Parts = record { members = i.members; ids = i.ids.items; nodes = i.nodes.items; messages = i.messages.items; lines = i.lines; lists = i.ledger; proposed = i.proposed } in
+    let w : Parts = parts_of c.self.inside.world c.self.inside.ledger in
     let sent : c.len-sent.result ≡ length w.messages = first_of (search rules, cc) in
     reported w t (subst (λ (z : Parts). Shows z t) (sym c.self.view_is) show) c.in_ok-standing.standing.latest c.in_ok-lists.lists c.in_ok-standing.standing.lines c.len-sent.result c.in_ok-standing.ensures c.in_ok-lists.ensures sent
     ∙ ap (λ (z : Parts). summary_of z.members t) c.self.view_is

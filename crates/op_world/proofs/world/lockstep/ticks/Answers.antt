@@ -2,7 +2,7 @@ use Rattle.std.proofs.Common.{◌<◌, length, arith}
 use Rattle.op_runs.specs.declared.events.What.TheVariants as what
 use Rattle.op_lockstep.specs.Lockstep.{event_of}
 use Rattle.op_world.proofs.Lockstep.{more_events, more_in_range}
-use Rattle.op_world.proofs.Bounds.{member_ids}
+use Rattle.op_executions.proofs.Bounds.{member_ids}
 use Rattle.op_world.proofs.world.lockstep.ticks.Goals as goal
 
 pub loop-pid-preserved : goal.loop-pid-preserved

@@ -1,0 +1,6 @@
+pub mod Deeds
+pub mod Failing
+pub mod Ids
+pub mod Laws
+pub mod Servers
+pub mod Worlds

@@ -1,0 +1,18 @@
+//! A world of servers, event by event, over any kind of server.
+#![tactic(auto)]
+
+mod deed;
+mod fail;
+mod ids;
+mod possible;
+mod sent;
+mod server;
+mod telling;
+mod world;
+
+pub use deed::{Deed, Doing, Told};
+pub use fail::RunFail;
+pub use sent::Sent;
+pub use server::{Done, Server};
+pub use telling::{ballot_lines, pair_lines, step_lines};
+pub use world::ServerWorld;

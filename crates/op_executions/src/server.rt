@@ -1,0 +1,60 @@
+ghost use Rattle.std.specs.Prelude.{◌≡◌, [], IfOk};
+ghost use Rattle.op_types.specs.Ranges.{MembersInRange};
+ghost use Rattle.op_runs.specs.World as runs;
+ghost use Rattle.op_executions.specs.Deeds.{doing_of};
+ghost use Rattle.op_executions.specs.Servers.{Kind, ShowsNode, CanDo, IsDoneAt};
+
+use crate::deed::Doing;
+use op_runs::Lines;
+use op_types::{Members, NoMemory, Pid, Sends};
+use std::alloc::Global;
+
+/// What was done at a server.
+#[derive(Drop)]
+pub struct Done {
+    /// Messages, each to a server.
+    pub sends: Sends,
+    /// Lines to be reported.
+    pub told: Lines,
+}
+
+impl Done {
+    /// Nothing was sent or told.
+    pub fn nothing(alloc: Global) -> Done
+        ensures { result ≡ record { sends = []; told = [] } }
+    {
+        Done {
+            sends: Sends::new(alloc),
+            told: Lines::new(alloc),
+        }
+    }
+}
+
+/// A server of a world: one of the definitions' nodes, over disks or without.
+pub trait Server: Drop {
+    /// What is said of a happening beforehand.
+    type Fate: Drop;
+
+    ghost kind: { Kind Self Self.Fate };
+
+    /// A server at its start: a member of the first configuration, or a spare.
+    fn first(alloc: Global, pid: Pid, members: &Members) -> Result<Self, NoMemory>
+        requires { MembersInRange members.now }
+        ensures shows { IfOk result (λ s. ShowsNode kind s (runs.first_node members.now pid)) }
+        ensures kept { IfOk result (λ s. kind.is_kept s) };
+
+    /// Does this here, in a world of these first members, with this fate, said in this line of the schedule. Without memory the
+    /// server is lost.
+    fn happens(
+        &mut self,
+        alloc: Global,
+        members: &Members,
+        doing: Doing,
+        fate: Self::Fate,
+        line: u64,
+    ) -> Result<Done, NoMemory>
+        requires members { MembersInRange members.now }
+        requires can { CanDo kind self.old (doing_of doing) }
+        ensures { IfOk result (λ r.
+            IsDoneAt kind fate self.old (doing_of doing) line self.new r.sends r.told) };
+}

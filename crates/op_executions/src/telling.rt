@@ -1,0 +1,105 @@
+//! The lines that are reported of what is done at a node.
+ghost use Rattle.std.specs.Prelude.{◌≡◌, ◌++◌, map, IfOk, OnOk, option_map};
+ghost use Rattle.op_chain.specs.Chains.{ballots_in, pairs_in};
+ghost use Rattle.op_protocol.specs.State.{State};
+ghost use Rattle.op_runs.specs.World.{ThePairs, TheBallots, answer_line, outcome_lines, pair_lines, told_lines};
+
+use op_chain::{Map, Pairs};
+use op_runs::{Line, Lines};
+use op_types::{Answer, Ballot, NoMemory, Outcome, Pid, Replies, Reply};
+use std::alloc::Global;
+
+/// The line of what a client is answered at a node.
+fn answer_line(pid: Pid, reply: Reply) -> Line
+    ensures { result ≡ answer_line pid reply.client reply.seq reply.answer }
+{
+    let Reply {
+        client,
+        seq,
+        answer,
+    } = reply;
+    match answer {
+        Answer::Dropped(cause) => Line::Dropped(pid, client, seq, cause),
+        answer => Line::Reply(pid, client, seq, answer),
+    }
+}
+
+/// The lines of a step at a node, said in this line of the schedule: what a proposal is answered at once, and then what
+/// clients are answered.
+pub fn step_lines(
+    alloc: Global,
+    line: u64,
+    pid: Pid,
+    outcome: Option<Outcome>,
+    replies: Replies,
+) -> Result<Lines, NoMemory>
+    ensures { IfOk result (λ lines. lines ≡ outcome_lines line outcome
+        ++ map (λ r. answer_line pid r.client r.seq r.answer) replies) }
+{
+    let mut lines = Lines::new(alloc);
+    if let Some(outcome) = outcome {
+        lines.push(Line::Answer(line, outcome))?;
+    }
+    push_answers(&mut lines, pid, replies)?;
+    Ok(lines)
+}
+
+/// Adds the lines of what clients are answered.
+fn push_answers(lines: &mut Lines, pid: Pid, replies: Replies) -> Result<(), NoMemory>
+    ensures { OnOk result (lines.new ≡ lines.old
+        ++ map (λ r. answer_line pid r.client r.seq r.answer) replies) }
+{
+    'replies: for reply in replies.into_vec() {
+        lines.push(answer_line(pid, reply))?;
+    }
+    Ok(())
+}
+
+/// The lines of the pairs of a node's service, if it has a part.
+pub fn pair_lines(alloc: Global, pid: Pid, service: Option<&Map>) -> Result<Lines, NoMemory>
+    ensures { IfOk result (λ lines. (s : State) →
+        option_map (λ m. m.now.service.pairs) service.entry ≡ pairs_in s.service s.durable.part →
+        lines ≡ told_lines ThePairs pid s s.durable.part) }
+{
+    let mut lines = Lines::new(alloc);
+    if let Some(service) = service {
+        push_pairs(&mut lines, pid, service.pairs(alloc)?)?;
+    }
+    Ok(lines)
+}
+
+/// Adds the lines of these pairs.
+fn push_pairs(lines: &mut Lines, pid: Pid, pairs: Pairs) -> Result<(), NoMemory>
+    ensures { OnOk result (lines.new ≡ lines.old ++ pair_lines pid pairs) }
+{
+    'pairs: for (key, value) in pairs.into_vec() {
+        lines.push(Line::Pair(pid, key, value))?;
+    }
+    Ok(())
+}
+
+/// The line of a node's ballots, if it has a part: its own, the leader's, and the promised one.
+pub fn ballot_lines(
+    alloc: Global,
+    pid: Pid,
+    ballots: Option<(Ballot, Ballot, Ballot)>,
+) -> Result<Lines, NoMemory>
+    ensures { IfOk result (λ lines. (s : State) → ballots ≡ ballots_in s.volatile s.durable.part →
+        lines ≡ told_lines TheBallots pid s s.durable.part) }
+{
+    let mut lines = Lines::new(alloc);
+    if let Some((own, leader, promised)) = ballots {
+        lines.push(Line::Ballots(pid, own, leader, promised))?;
+    }
+    Ok(lines)
+}
+
+/// Adds lines.
+pub fn tell_all(lines: &mut Lines, told: Lines) -> Result<(), NoMemory>
+    ensures { OnOk result (lines.new ≡ lines.old ++ told) }
+{
+    'told: for line in told.into_vec() {
+        lines.push(line)?;
+    }
+    Ok(())
+}

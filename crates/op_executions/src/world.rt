@@ -1,0 +1,133 @@
+ghost use Rattle.std.specs.Prelude.{◌≡◌, ◌+◌, ◌<◌, ◌≤◌, ◌^◌, [], map, true, false, length, All, IfOk, OnOk};
+ghost use Rattle.op_types.specs.Ranges.{MembersInRange};
+ghost use Rattle.op_runs.specs.Possible.{is_possible, proposals_of, SparesInRange, WhatInRange};
+ghost use Rattle.op_runs.specs.World as runs;
+ghost use Rattle.op_executions.specs.Failing.{IfBadEvent};
+ghost use Rattle.op_executions.specs.Worlds.{place_of, Happened, HasRun, IsRun, KeepsServers, Shows, ShowNodes};
+
+use crate::deed::{Deed, deed_of};
+use crate::fail::RunFail;
+use crate::ids::node_ids;
+use crate::possible::{is_possible, proposals_of};
+use crate::sent::{Sent, send_all};
+use crate::server::{Done, Server};
+use crate::telling::tell_all;
+use op_runs::{Event, Lines};
+use op_types::{Members, NoMemory, Pid};
+use std::alloc::Global;
+
+/// One to nine members and spares, all messages that were sent, and what the events gave to be reported.
+#[derive(Drop)]
+pub struct ServerWorld<S> {
+    /// The allocator.
+    pub alloc: Global,
+    /// The members of the first configuration.
+    pub members: Members,
+    /// The ids of all servers, rising.
+    pub ids: Vec<Pid>,
+    /// The server of each id.
+    pub servers: Vec<S>,
+    /// Every message that was sent, by number.
+    pub messages: Vec<Sent>,
+    /// What is reported.
+    pub lines: Lines,
+    /// How many entries were proposed.
+    pub proposed: u64,
+}
+
+impl<S: Server> ServerWorld<S> {
+    /// These members and spares at their start.
+    pub fn new(
+        alloc: Global,
+        members: Members,
+        spares: &Members,
+    ) -> Result<ServerWorld<S>, NoMemory>
+        requires members { MembersInRange members }
+        requires spares { SparesInRange members spares.now }
+        ensures run { IfOk result (λ w. HasRun S.kind w spares.now []) }
+        ensures members { IfOk result (λ w. w.members ≡ members) }
+    {
+        let ids = node_ids(alloc, &members, spares)?;
+        let servers = first_servers(alloc, &members, &ids)?;
+        Ok(ServerWorld {
+            alloc,
+            members,
+            ids,
+            servers,
+            messages: Vec::new(alloc),
+            lines: Lines::new(alloc),
+            proposed: 0,
+        })
+    }
+
+    /// One event, with what is said of it beforehand. It is refused, as the event of number 0, exactly where it names a server
+    /// that is absent or a message that wasn't sent. Gives the place of the server where something was done. There is no memory
+    /// for more proposals than eight bytes count.
+    pub fn event(&mut self, event: Event, fate: S::Fate) -> Result<usize, RunFail>
+        requires range { WhatInRange event.what }
+        requires run { IsRun S.kind self.old }
+        ensures happened { IfOk result (λ place. (x : runs.World) → Shows S.kind self.old x →
+            Happened S.kind x event fate place self.new) }
+        ensures place { IfOk result (λ place. place < length self.new.servers.items) }
+        ensures servers { OnOk result (KeepsServers S.kind self.new) }
+        ensures same { OnOk result ((self.new.members ≡ self.old.members) × (self.new.ids ≡ self.old.ids)) }
+        ensures proposed { OnOk result ((self.new.proposed ≡ self.old.proposed + proposals_of event.what)
+            × (self.new.proposed < 2 ^ 64)) }
+        ensures possible { OnOk result
+            (is_possible self.old.ids.items (length self.old.messages.items) event.what ≡ true) }
+        ensures bad { IfBadEvent result (λ index. (index ≡ 0)
+            × (is_possible self.old.ids.items (length self.old.messages.items) event.what ≡ false)) }
+    {
+        if !is_possible(&self.ids, self.messages.len() as u64, &event.what) {
+            return Err(RunFail::BadEvent { index: 0 });
+        }
+        let Some(proposed) = self.proposed.checked_add(proposals_of(&event.what)) else {
+            return Err(RunFail::NoMemory);
+        };
+        let Event { line, what } = event;
+        let Deed { pid, doing } = deed_of(self.alloc, &self.messages, what)?;
+        let place = place_of(&self.ids, pid);
+        let server = &mut self.servers[place];
+        let Done { sends, told } = server.happens(self.alloc, &self.members, doing, fate, line)?;
+        send_all(&mut self.messages, pid, sends)?;
+        tell_all(&mut self.lines, told)?;
+        self.proposed = proposed;
+        Ok(place)
+    }
+}
+
+/// The place of an id: how many stand before it, or how many there are where it is none of them.
+fn place_of(ids: &[Pid], pid: Pid) -> usize
+    ensures place { result ≡ place_of ids.now pid }
+    ensures most { result ≤ length ids.now }
+{
+    match ids {
+        [] => 0,
+        [first, rest @ ..] => {
+            if *first == pid {
+                0
+            } else {
+                1 + place_of(rest, pid)
+            }
+        }
+    }
+}
+
+/// All servers at their start.
+fn first_servers<S: Server>(
+    alloc: Global,
+    members: &Members,
+    ids: &[Pid],
+) -> Result<Vec<S>, NoMemory>
+    requires { MembersInRange members.now }
+    ensures shows { IfOk result (λ servers.
+        ShowNodes S.kind servers.items (map (runs.first_node members.now) ids.now)) }
+    ensures pids { IfOk result (λ servers. map S.kind.pid_of servers.items ≡ ids.now) }
+    ensures kept { IfOk result (λ servers. All S.kind.is_kept servers.items) }
+{
+    let mut servers = Vec::new(alloc);
+    'ids: for pid in ids {
+        servers.push(S::first(alloc, *pid, members)?)?;
+    }
+    Ok(servers)
+}
