@@ -2,6 +2,7 @@
 use Rattle.std.proofs.Common.{◌≡◌, ◌++◌, ℕ, List, sym, ap, ◌∙◌, subst, arith}
 use Rattle.std.specs.List.{flat_map}
 use Rattle.op_types.specs.Ranges.{MembersInRange}
+use Rattle.op_outside.specs.Seen.{StreamSeen}
 use Rattle.op_runs.specs.declared.summary.Summary.{Summary}
 use Rattle.op_gen.specs.Links.{Links}
 use Rattle.op_gen.specs.Scenarios.{members_of, links_of}
@@ -9,7 +10,8 @@ use Rattle.op_gen.specs.declared.scenario.Scenario.{Scenario}
 use Rattle.op_gen.specs.declared.scenario.Scenario.TheVariants.{Quorum, Constrained, Chained}
 use Rattle.op_sched.specs.Text.{line_text}
 use Rattle.op_world.specs.Drills.{IsReportOfDrill}
-use Rattle.op_drill.specs.Drills.{IsTextOf, first_line}
+use Rattle.op_drill.specs.Drills.{IsTextOf, TextEnds, first_line, is_told, is_cut, has_no_memory}
+use Rattle.op_status.specs.declared.status.Status.{Status}
 
 -- the members of a scenario are in range
 five : MembersInRange (members_of Quorum)
@@ -40,3 +42,9 @@ text_of s rounds sum text first lines report first_is lines_are text_is =
       report = report;
       written = text_is ∙ ap (λ (t : List ℕ). t ++ lines) first_is ∙ ap (λ (t : List ℕ). first_line s rounds ++ t) lines_are;
     }
+
+-- what ends so with one kind of text does with another, where each text of the one is of the other
+pub ends_as : {P Q : List ℕ → Type 0} (out0 out1 : StreamSeen) (s : Status) → ((t : List ℕ) → P t → Q t) → TextEnds P out0 out1 s → TextEnds Q out0 out1 s
+ends_as out0 out1 s f (is_told text written ended) = is_told (f _ text) written ended
+ends_as out0 out1 s f (is_cut text prefix rose) = is_cut (f _ text) prefix rose
+ends_as out0 out1 s f (has_no_memory same) = has_no_memory same

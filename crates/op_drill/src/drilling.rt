@@ -1,3 +1,4 @@
+//! A drill of links.
 ghost use Rattle.std.specs.Prelude.{◌≡◌, IfOk};
 ghost use Rattle.std.specs.List.{flat_map};
 ghost use Rattle.op_sched.specs.Text.{line_text};
@@ -5,8 +6,9 @@ ghost use Rattle.op_gen.specs.Scenarios.{links_of, members_of};
 ghost use Rattle.op_world.specs.Drills.{IsReportOfDrill};
 ghost use Rattle.op_drill.specs.Drills.{DrillEnds, IsTextOf, first_line};
 
+use crate::telling::tell;
 use op_gen::Scenario;
-use op_outside::{Sink, write_all};
+use op_outside::Sink;
 use op_runs::{Lines, Lists, NodeLines, Summary};
 use op_sched::report;
 use op_status::Status;
@@ -20,12 +22,9 @@ pub fn drill_links<K: Sink>(alloc: Global, scenario: Scenario, rounds: u64, out:
     ensures { DrillEnds scenario rounds
         (K.held out.old, K.fault_count out.old) (K.held out.new, K.fault_count out.new) result }
 {
-    let Ok(text) = drill_text(alloc, scenario, rounds) else {
-        return Status::NoMemory;
-    };
-    match write_all(out, &text) {
-        Ok(()) => Status::Ended,
-        Err(_) => Status::WriteFault,
+    match drill_text(alloc, scenario, rounds) {
+        Ok(text) => tell(&text, out),
+        Err(NoMemory) => Status::NoMemory,
     }
 }
 

@@ -21,7 +21,7 @@ type Row = (
     &'static str,
 );
 
-const ROWS: [Row; 14] = [
+const ROWS: [Row; 16] = [
     (
         &["node", "1"],
         SOLE,
@@ -120,6 +120,25 @@ const ROWS: [Row; 14] = [
         },
         "",
         "bad config tick_ms\n",
+    ),
+    (
+        &["drill", "42", "1"],
+        "",
+        &[],
+        &[],
+        Status::Ended,
+        "drill 42 1\nconfig 1 length 0\nnode 1 config 1 decided 0 trimmed 0\nnode 2 config 1 decided 0 trimmed 0\nnode 3 config 1 decided 0 trimmed 0\nnode 4 spare\nnode 5 spare\nsent 2\n",
+        "",
+    ),
+    // The events are `tick 1`, `trim 5` and `deliver 0`.
+    (
+        &["drill", "42", "3"],
+        "",
+        &[],
+        &[],
+        Status::Ended,
+        "drill 42 3\nconfig 1 length 0\nnode 1 config 1 decided 0 trimmed 0\nnode 2 config 1 decided 0 trimmed 0\nnode 3 config 1 decided 0 trimmed 0\nnode 4 spare\nnode 5 spare\nsent 3\n",
+        "",
     ),
     // Who alone hears a majority raises its ballot, and takes itself for the leader after the third round.
     (
@@ -240,6 +259,22 @@ fn one_visitor(alloc: Global, bytes: &[u8]) -> Result<NetScript, AllocError> {
     add_wait(alloc, &mut script, Happening::Accepted(5))?;
     add_read(alloc, &mut script, bytes)?;
     Ok(script)
+}
+
+/// A drill draws the same events again, and writes the same.
+#[test]
+fn a_drill_goes_as_before(rt: HostRuntime) -> Result<(), Fail> {
+    let alloc = rt.alloc();
+    let words: &[&str] = &["drill", "1", "1000"];
+    let mut sinks = Sinks::new(alloc, 100, 100)?;
+    let mut again = Sinks::new(alloc, 100, 100)?;
+    let things = failing(alloc, &[], &[])?;
+    let status = ended_as(alloc, words, things, source(alloc, "", 1, &[])?, &mut sinks)?;
+    assert!(rt; status == Status::Ended && !sinks.out.bytes.is_empty());
+    let things = failing(alloc, &[], &[])?;
+    let status = ended_as(alloc, words, things, source(alloc, "", 1, &[])?, &mut again)?;
+    assert!(rt; status == Status::Ended && again.hold(&sinks.out.bytes, b""));
+    Ok(())
 }
 
 /// A drill whose write fails ends so, and leaves what was written.

@@ -1,4 +1,5 @@
 pub mod Failing
 pub mod Forms
 pub mod Grammar
+pub mod Summaries
 pub mod Text

@@ -9,5 +9,5 @@ mod schedule;
 pub use laws::schedule_is_unambiguous;
 pub use op_runs::{Line, Lines, Listed, Lists, NodeLine, NodeLines, Running, Summary};
 pub use reading::read;
-pub use reporting::report;
+pub use reporting::{report, summary_text};
 pub use schedule::{SchedFail, Schedule};

@@ -15,7 +15,7 @@ use Rattle.op_setup.specs.Requests.{AreMembers, AreOperands, AreSomeKeyOnly, IsC
 
 -- ---- operands
 
-two_words : {A : Type 0} (now : A → List ℕ) (ws : List A) (d0 d1 : A) (x0 x1 : List ℕ) → 2 ≤ length ws → length ws < 3
+pub two_words : {A : Type 0} (now : A → List ℕ) (ws : List A) (d0 d1 : A) (x0 x1 : List ℕ) → 2 ≤ length ws → length ws < 3
     → now (get_or ws 0 d0) ≡ x0 → now (get_or ws 1 d1) ≡ x1 → map now ws ≡ x0 ∷ x1 ∷ []
 two_words now (a ∷ b ∷ []) d0 d1 x0 x1 low high h0 h1 = cc
 two_words now [] d0 d1 x0 x1 low high h0 h1 = absurd (omega arith)

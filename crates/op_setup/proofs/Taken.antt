@@ -7,7 +7,7 @@ use Rattle.clap.specs.declared.parser.matches.ArgMatches.{ArgMatches}
 use Rattle.clap.specs.declared.parser.matches.ArgMatches.TheViews.{out-ArgMatches}
 use Rattle.clap.proofs.OnLiterals.{clap_on_literals}
 use Rattle.op_setup.specs.declared.tasks.Task.{Task}
-use Rattle.op_setup.specs.declared.tasks.Task.TheVariants.{Node, Replay, Call, Cluster, DrillLinks}
+use Rattle.op_setup.specs.declared.tasks.Task.TheVariants.{Node, Replay, Call, Cluster, Drill, DrillLinks}
 use Rattle.op_types.specs.declared.log.Op.{Op}
 use Rattle.op_types.specs.declared.log.Op.TheVariants.{Put, Del, Get, Cas}
 use Rattle.op_types.specs.declared.events.Request.{Request}
@@ -38,6 +38,10 @@ unfolding clap_on_literals
 drill_taken Quorum rounds h = rw (h.long, h.short, h.bare) refl
 drill_taken Constrained rounds h = rw (h.long, h.short, h.bare) refl
 drill_taken Chained rounds h = rw (h.long, h.short, h.bare) refl
+
+numbers_taken : (seed events : List ℕ) → IsPlainWord seed → IsPlainWord events → takes omni_app (codes "drill" ∷ seed ∷ events ∷ []) ≡ true
+unfolding clap_on_literals
+numbers_taken seed events h k = rw (h.long, h.short, h.bare, k.long, k.short, k.bare) refl
 
 -- a call of a plain name and up to nine words more, of which clap reads none
 words_taken : (addr name : List ℕ) (more : List (List ℕ)) → IsPlainWord addr → IsPlainWord name → length more ≤ 9 → takes omni_app (codes "call" ∷ addr ∷ name ∷ more) ≡ true
@@ -107,6 +111,7 @@ taken (Node id) h = node_taken (decimal id) (plain_decimal id (omega (arith, h.1
 taken Replay h = replay_taken
 taken (Call addr r) h = call_taken (addr_text addr) r (plain_addr addr) h.1
 taken Cluster h = cluster_taken
+taken (Drill seed events) h = numbers_taken (decimal seed) (decimal events) (plain_decimal seed h.0) (plain_decimal events (omega (arith, h.2)))
 taken (DrillLinks scenario rounds) h = drill_taken scenario (decimal rounds) (plain_decimal rounds (omega (arith, h.1)))
 
 simple : is_simple omni_app ≡ true
@@ -135,6 +140,10 @@ drill_found Quorum rounds = refl
 drill_found Constrained rounds = refl
 drill_found Chained rounds = refl
 
+numbers_found : (seed events : List ℕ) → name_found (codes "drill" ∷ seed ∷ events ∷ []) ≡ Some (codes "drill")
+unfolding clap_on_literals
+numbers_found seed events = refl
+
 call_found : (addr name : List ℕ) (more : List (List ℕ)) → length more ≤ 9 → name_found (codes "call" ∷ addr ∷ name ∷ more) ≡ Some (codes "call")
 unfolding clap_on_literals
 call_found addr name [] few = refl
@@ -157,6 +166,7 @@ found (Node id) h = node_found (decimal id)
 found Replay h = replay_found
 found (Call addr r) h = request_found (addr_text addr) r h.1
 found Cluster h = cluster_found
+found (Drill seed events) h = numbers_found (decimal seed) (decimal events)
 found (DrillLinks scenario rounds) h = drill_found scenario (decimal rounds)
 
 mapped_twice : {A B C : Type 0} (f : A → B) (g : B → C) (o : Option A) → option_map g (option_map f o) ≡ option_map (λ x. g (f x)) o

@@ -1,5 +1,5 @@
 -- The words of tasks: none begins with `-`, and no two tasks have the same.
-use Rattle.std.proofs.Common.{◌≡◌, ◌≤◌, ◌<◌, length, get_or, map, ℕ, Bool, true, List, [], ◌∷◌, refl, sym, ap, ◌∙◌, subst, arith, false, IsTrue, codes, decimal}
+use Rattle.std.proofs.Common.{◌≡◌, ◌≤◌, ◌<◌, ◌^◌, length, get_or, map, ℕ, Bool, true, List, [], ◌∷◌, refl, sym, ap, ◌∙◌, subst, arith, false, IsTrue, codes, decimal}
 use Rattle.std.proofs.lemmas.Bool.{false≢true}
 use Rattle.std.proofs.lemmas.Fmt.{decimal_injective}
 use Rattle.std.proofs.lemmas.Slice.Eq.{bytes_eq-Decides}
@@ -16,12 +16,12 @@ use Rattle.op_text.proofs.Operations.{no_op, one_command}
 use Rattle.op_text.specs.Operations.{op_name, operands}
 use Rattle.op_text.specs.Percent.{encoded}
 use Rattle.op_setup.specs.Addresses.{addr_text}
-use Rattle.op_setup.specs.Tasks.{has_flag, is_flag, most_rounds, op_words, request_words, task_words, DrillsLinks, IsRequest, IsTask, IsTaskOf, RequestInRange, TaskInRange}
+use Rattle.op_setup.specs.Tasks.{has_flag, is_flag, most_events, most_rounds, op_words, request_words, task_words, DrillsLinks, IsRequest, IsTask, IsTaskOf, RequestInRange, TaskInRange}
 use Rattle.op_setup.specs.declared.tasks.Task.{Task}
-use Rattle.op_setup.specs.declared.tasks.Task.TheVariants.{Node, Replay, Call, Cluster, DrillLinks}
+use Rattle.op_setup.specs.declared.tasks.Task.TheVariants.{Node, Replay, Call, Cluster, Drill, DrillLinks}
 use Rattle.op_setup.specs.Addresses.{IsAddr}
 use Rattle.op_setup.proofs.AddressTexts.{one_addr}
-use Rattle.op_setup.proofs.CommandWords.{three_words}
+use Rattle.op_setup.proofs.CommandWords.{two_words, three_words}
 use Rattle.op_setup.proofs.RisingIds.{decimal_tells}
 use Rattle.op_setup.proofs.Flags.{plain_addr, plain_decimal, plain_encoded, plain_op_name}
 
@@ -59,6 +59,9 @@ ids_flag low (id ∷ ids) h = rw ((plain_decimal id (omega (arith, h.1))).flag, 
 stop_flag : (addr : List ℕ) (ids : List (List ℕ)) → is_flag addr ≡ false → has_flag ids ≡ false → has_flag (codes "call" ∷ addr ∷ codes "stop" ∷ ids) ≡ false
 stop_flag addr ids ha hw = rw (ha, hw) refl
 
+numbers_flag : (seed events : ℕ) → seed < 2 ^ 64 → events < 2 ^ 64 → has_flag (codes "drill" ∷ decimal seed ∷ decimal events ∷ []) ≡ false
+numbers_flag seed events hs he = rw ((plain_decimal seed hs).flag, (plain_decimal events he).flag) refl
+
 -- the task has no such word, or drills links
 flag_of : (t : Task) → TaskInRange t → has_flag (task_words t) ≡ true → DrillsLinks t
 flag_of (Node id) h flag = no_flag (one_flag (codes "node") (decimal id) refl (plain_decimal id (omega (arith, h.1))).flag) flag
@@ -69,6 +72,7 @@ flag_of (Call addr request.Trim) h flag = no_flag (call_flag (addr_text addr) (c
 flag_of (Call addr request.Status) h flag = no_flag (call_flag (addr_text addr) (codes "status") (plain_addr addr).flag refl) flag
 flag_of (Call addr request.End) h flag = no_flag (call_flag (addr_text addr) (codes "end") (plain_addr addr).flag refl) flag
 flag_of Cluster h flag = no_flag refl flag
+flag_of (Drill seed events) h flag = no_flag (numbers_flag seed events h.0 (omega (arith, h.2))) flag
 flag_of (DrillLinks scenario rounds) h flag = tt
 
 -- words one of which begins with `-` are no other task's
@@ -114,6 +118,10 @@ one_request r s hr hs e = absurd (false≢true ((bytes_eq-Decides (first (reques
 
 -- ---- one task
 
+-- the second word
+abbrev second : List (List ℕ) → List ℕ
+second words = first (after_first words)
+
 -- no two scenarios have the same name
 one_scenario : (s t : Scenario) → name_of s ≡ name_of t → s ≡ t
 one_scenario Quorum Quorum e = refl
@@ -127,6 +135,7 @@ task_name (Node id) = codes "node"
 task_name Replay = codes "replay"
 task_name (Call addr request) = codes "call"
 task_name Cluster = codes "cluster"
+task_name (Drill seed events) = codes "drill"
 task_name (DrillLinks scenario rounds) = codes "drill"
 
 named : (t : Task) → first (task_words t) ≡ task_name t
@@ -134,6 +143,7 @@ named (Node id) = refl
 named Replay = refl
 named (Call addr request) = refl
 named Cluster = refl
+named (Drill seed events) = refl
 named (DrillLinks scenario rounds) = refl
 
 one_of : (s t : Task) → TaskInRange s → TaskInRange t → task_words s ≡ task_words t → s ≡ t
@@ -145,6 +155,12 @@ one_of (Call a r) (Call b s) hs ht e =
     let request = one_request r s hs.1 ht.1 (ap after_first rest) in
     cc (addr, request)
 one_of Cluster Cluster hs ht e = refl
+one_of (Drill s m) (Drill t n) hs ht e =
+    let seed : s ≡ t = decimal_injective s t hs.0 ht.0 cc in
+    let events : m ≡ n = decimal_injective m n (omega (arith, hs.2)) (omega (arith, ht.2)) cc in
+    cc
+one_of (Drill s m) (DrillLinks t n) hs ht e = no_flag (plain_decimal s hs.0).flag (ap is_flag (ap second e))
+one_of (DrillLinks s m) (Drill t n) hs ht e = no_flag (plain_decimal t ht.0).flag (ap is_flag (sym (ap second e)))
 one_of (DrillLinks s m) (DrillLinks t n) hs ht e =
     let name : name_of s ≡ name_of t = cc in
     let scenario = one_scenario s t name in
@@ -169,6 +185,13 @@ call_is_task word rest addr ha hr = (
 )
 
 -- ---- a drill
+
+-- a seed and a number of events after `drill` are a task's
+pub numbers_are_task : {A : Type 0} (now : A → List ℕ) (ws : List A) (d0 d1 : A) (seed events : ℕ) → 2 ≤ length ws → length ws < 3
+    → now (get_or ws 0 d0) ≡ decimal seed → now (get_or ws 1 d1) ≡ decimal events → seed < 2 ^ 64 → (1 ≤ events) × (events ≤ most_events) → IsTaskOf (codes "drill" ∷ map now ws) (Drill seed events)
+numbers_are_task now ws d0 d1 seed events low high first_is second_is fits range =
+    let words = two_words now ws d0 d1 (decimal seed) (decimal events) low high first_is second_is in
+    record { in_range = (fits, range.0, range.1); written = ap (λ (more : List (List ℕ)). codes "drill" ∷ more) words }
 
 -- the flag, a scenario's name and a number of rounds after `drill` are a task's
 pub drill_is_task : {A : Type 0} (now : A → List ℕ) (ws : List A) (d0 d1 d2 : A) (scenario : Scenario) (rounds : ℕ) → 3 ≤ length ws → length ws < 4

@@ -9,6 +9,10 @@ use Rattle.clap.specs.declared.parser.matches.ArgMatches.{ArgMatches}
 abbrev pub needed : List ℕ → Rule
 needed id = record (new_rule id) { required = true; action = Some Set }
 
+-- a word that may be there
+abbrev pub optional : List ℕ → Rule
+optional id = record (new_rule id) { action = Some Set }
+
 -- one word or more, to the last one
 abbrev pub several : List ℕ → Rule
 several id = record (new_rule id) {
@@ -34,12 +38,14 @@ call_app = with_rule (with_rule (new_app (codes "call")) (needed (codes "addr"))
 abbrev pub cluster_app : App
 cluster_app = new_app (codes "cluster")
 
--- `drill --links NAME ROUNDS`
+-- `drill SEED EVENTS`, or `drill --links NAME ROUNDS`
 abbrev pub drill_app : App
 drill_app =
     with_rule
-    (with_rule (new_app (codes "drill")) (record (needed (codes "links")) { long = Some (codes "links") }))
-    (needed (codes "rounds"))
+    (with_rule
+    (with_rule (new_app (codes "drill")) (record (optional (codes "links")) { long = Some (codes "links") }))
+    (needed (codes "number")))
+    (optional (codes "events"))
 
 -- the program, whose words come without its own name
 abbrev pub program_app : App

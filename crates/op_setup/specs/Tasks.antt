@@ -1,5 +1,5 @@
 -- What the words of the command line ask.
-use Rattle.std.specs.Prelude.{◌≡◌, ◌≤◌, ℕ, List, [], ◌∷◌, map, codes, decimal, nat_eq, Bool}
+use Rattle.std.specs.Prelude.{◌≡◌, ◌≤◌, ◌<◌, ◌^◌, ℕ, List, [], ◌∷◌, map, codes, decimal, nat_eq, Bool}
 use Rattle.std.specs.List.{starts_with, list_any}
 use Rattle.op_types.specs.Ranges.{CommandInRange, IsPid, MembersInRange}
 use Rattle.op_types.specs.declared.log.Op.{Op}
@@ -9,7 +9,7 @@ use Rattle.op_gen.specs.Scenarios.{name_of}
 use Rattle.op_text.specs.Operations.{OpIsOfBytes, op_name, operands}
 use Rattle.op_setup.specs.Addresses.{AddrInRange, addr_text}
 use Rattle.op_setup.specs.declared.tasks.Task.{Task}
-use Rattle.op_setup.specs.declared.tasks.Task.TheVariants.{Node, Replay, Call, Cluster, DrillLinks}
+use Rattle.op_setup.specs.declared.tasks.Task.TheVariants.{Node, Replay, Call, Cluster, Drill, DrillLinks}
 
 -- the words of a client's operation, as in a schedule but for the server
 abbrev pub op_words : ℕ → ℕ → Op → List (List ℕ)
@@ -23,7 +23,11 @@ request_words request.Trim = codes "trim" ∷ []
 request_words request.Status = codes "status" ∷ []
 request_words request.End = codes "end" ∷ []
 
--- the greatest number of rounds of a drill
+-- the greatest number of events of a drill
+abbrev pub most_events : ℕ
+most_events = 1000000
+
+-- the greatest number of rounds of a drill of links
 abbrev pub most_rounds : ℕ
 most_rounds = 1000
 
@@ -33,6 +37,7 @@ task_words (Node id) = codes "node" ∷ decimal id ∷ []
 task_words Replay = codes "replay" ∷ []
 task_words (Call addr request) = codes "call" ∷ addr_text addr ∷ request_words request
 task_words Cluster = codes "cluster" ∷ []
+task_words (Drill seed events) = codes "drill" ∷ decimal seed ∷ decimal events ∷ []
 task_words (DrillLinks scenario rounds) =
     codes "drill" ∷ codes "--links" ∷ name_of scenario ∷ decimal rounds ∷ []
 
@@ -50,6 +55,7 @@ TaskInRange (Node id) = IsPid id
 TaskInRange Replay = Unit {0}
 TaskInRange (Call addr request) = AddrInRange addr × RequestInRange request
 TaskInRange Cluster = Unit {0}
+TaskInRange (Drill seed events) = (seed < 2 ^ 64) × (1 ≤ events) × (events ≤ most_events)
 TaskInRange (DrillLinks scenario rounds) = (1 ≤ rounds) × (rounds ≤ most_rounds)
 
 -- the words are this request's

@@ -2,7 +2,7 @@
 ghost use Rattle.std.specs.Prelude.{◌≡◌, IfOk, false};
 ghost use Rattle.clap.specs.Words.{app_of, rule_of};
 ghost use Rattle.clap.specs.declared.builder.command.Command.TheViews.{out-Command as fields_of};
-ghost use Rattle.op_setup.specs.Commands.{call_app, cluster_app, drill_app, needed, node_app, omni_app, program_app, replay_app, several};
+ghost use Rattle.op_setup.specs.Commands.{call_app, cluster_app, drill_app, needed, node_app, omni_app, optional, program_app, replay_app, several};
 
 use clap::{Arg, ArgAction, Command};
 use std::alloc::{AllocError, Global};
@@ -13,6 +13,14 @@ fn needed<'a>(alloc: Global, id: &'a str) -> Arg<'a>
     ensures local { result.global ≡ false }
 {
     Arg::new(alloc, id).required(true).action(ArgAction::Set)
+}
+
+/// A word that may be there.
+fn optional<'a>(alloc: Global, id: &'a str) -> Arg<'a>
+    ensures rule { rule_of result ≡ optional id.entry.now }
+    ensures local { result.global ≡ false }
+{
+    Arg::new(alloc, id).action(ArgAction::Set)
 }
 
 /// One word or more, to the last one.
@@ -61,14 +69,15 @@ fn cluster<'a>(alloc: Global) -> Command<'a>
     Command::new(alloc, "cluster")
 }
 
-/// The command `drill`, with the flag `--links`, a scenario's name and a number of rounds.
+/// The command `drill`, with a seed and a number of events, or the flag `--links`, a scenario's name and a number of rounds.
 fn drill<'a>(alloc: Global) -> Result<Command<'a>, AllocError>
     ensures app { IfOk result (λ c. app_of c ≡ drill_app) }
     ensures local { IfOk result (λ c. (fields_of c).has_globals ≡ false) }
 {
     Command::new(alloc, "drill")
-        .arg(needed(alloc, "links").long("links"))?
-        .arg(needed(alloc, "rounds"))
+        .arg(optional(alloc, "links").long("links"))?
+        .arg(needed(alloc, "number"))?
+        .arg(optional(alloc, "events"))
 }
 
 /// The program, whose words come without its own name.

@@ -22,5 +22,5 @@ pub use fail::TaskFail;
 pub use laws::{settings_are_unambiguous, words_are_unambiguous};
 pub use reading::task;
 pub use settings_fail::SettingsFail;
-pub use tasks::{MOST_ROUNDS, Task};
+pub use tasks::{MOST_EVENTS, MOST_ROUNDS, Task};
 pub use toml_keys::settings;

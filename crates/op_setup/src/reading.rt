@@ -2,14 +2,14 @@
 ghost use Rattle.std.specs.Prelude.{◌≡◌, ◌≤◌, ◌∷◌, ◌↔◌, map, codes, decimal, string_bytes, slice_get, Some, IfOk, IfErr, IsTrue, Err};
 ghost use Rattle.op_text.specs.Found.{IsFound};
 ghost use Rattle.op_setup.specs.Commands.{NamesFirst};
-ghost use Rattle.op_setup.specs.Tasks.{task_words, most_rounds, IsTask, IsTaskOf, TaskInRange};
+ghost use Rattle.op_setup.specs.Tasks.{task_words, IsTask, IsTaskOf, TaskInRange};
 
 use crate::addresses::addr;
 use crate::arguments::bytes;
 use crate::commands::omni;
 use crate::fail::TaskFail;
 use crate::requests::request;
-use crate::tasks::{MOST_ROUNDS, Task};
+use crate::tasks::{MOST_EVENTS, MOST_ROUNDS, Task};
 use clap::ArgMatches;
 use op_gen::Scenario;
 use op_text::{number, pid};
@@ -26,30 +26,30 @@ fn node(words: &[String]) -> Option<Task>
     }
 }
 
-/// `drill`: the flag `--links`, a scenario's name, and how many rounds.
+/// `drill`: a seed and how many events, or the flag `--links`, a scenario's name, and how many rounds.
 fn drill(words: &[String]) -> Option<Task>
     ensures { IsFound (IsTaskOf (codes "drill" ∷ map string_bytes words.now)) result }
 {
     match words {
+        [seed, count] => {
+            let seed = number(bytes(seed))?;
+            Some(Task::Drill(seed, number_to(bytes(count), MOST_EVENTS)?))
+        }
         [flag, name, count] if flag.as_str() == "--links" => {
             let scenario = Scenario::named(name.as_str())?;
-            Some(Task::DrillLinks(scenario, rounds(bytes(count))?))
+            Some(Task::DrillLinks(scenario, number_to(bytes(count), MOST_ROUNDS)?))
         }
         _ => None,
     }
 }
 
-/// The number of rounds that a word writes.
+/// The number from 1 to this one that a word writes.
 #[tactic(auto, using(std::proofs::lemmas::Fmt::decimal_injective))]
-fn rounds(word: &[u8]) -> Option<u64>
-    ensures { IsFound (λ n. (1 ≤ n) × (n ≤ most_rounds) × (word.now ≡ decimal n)) result }
+fn number_to(word: &[u8], most: u64) -> Option<u64>
+    ensures { IsFound (λ n. (1 ≤ n) × (n ≤ most) × (word.now ≡ decimal n)) result }
 {
     let n = number(word)?;
-    if 1 <= n && n <= MOST_ROUNDS {
-        Some(n)
-    } else {
-        None
-    }
+    if 1 <= n && n <= most { Some(n) } else { None }
 }
 
 /// `call`: an address, and a request's words.

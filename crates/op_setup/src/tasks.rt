@@ -4,7 +4,10 @@ use op_gen::Scenario;
 use op_outside::Addr;
 use op_types::{Pid, Request};
 
-/// The greatest number of rounds of a drill.
+/// The greatest number of events of a drill.
+pub const MOST_EVENTS: u64 = 1_000_000;
+
+/// The greatest number of rounds of a drill of links.
 pub const MOST_ROUNDS: u64 = 1000;
 
 /// What the program is asked to do.
@@ -18,6 +21,8 @@ pub enum Task {
     Call(Addr, Request),
     /// To run each node of the settings as a program of its own.
     Cluster,
+    /// To run so many events that this seed draws, 1 to 1,000,000.
+    Drill(u64, u64),
     /// To drill this scenario of partial links for so many lockstep rounds, 1 to 1,000.
     DrillLinks(Scenario, u64),
 }

@@ -4,6 +4,8 @@
 #[cfg(test)]
 mod connections;
 #[cfg(test)]
+mod draws;
+#[cfg(test)]
 mod edges;
 #[cfg(test)]
 mod elections;

@@ -30,11 +30,12 @@ enum Wanted<'a> {
     Trim(Addr),
     Status(Addr),
     End(Addr),
+    Drill(u64, u64),
     DrillLinks(Scenario, u64),
 }
 
 /// Words, each with what they ask for.
-const TASKS: [(&[&str], Wanted<'static>); 10] = [
+const TASKS: [(&[&str], Wanted<'static>); 12] = [
     (&["replay"], Wanted::Replay),
     (&["cluster"], Wanted::Cluster),
     (&["node", "999"], Wanted::Node(999)),
@@ -62,6 +63,11 @@ const TASKS: [(&[&str], Wanted<'static>); 10] = [
     (&["call", "10.0.0.2:7000", "trim"], Wanted::Trim(ADDR)),
     (&["call", "10.0.0.2:7000", "status"], Wanted::Status(ADDR)),
     (&["call", "10.0.0.2:7000", "end"], Wanted::End(ADDR)),
+    (&["drill", "0", "1"], Wanted::Drill(0, 1)),
+    (
+        &["drill", "18446744073709551615", "1000000"],
+        Wanted::Drill(18_446_744_073_709_551_615, 1_000_000),
+    ),
     (
         &["drill", "--links", "quorum", "1"],
         Wanted::DrillLinks(Scenario::Quorum, 1),
@@ -82,6 +88,9 @@ fn is_wanted(task: &Task, asked: Wanted) -> bool {
         (Task::Call(addr, Request::Trim), Wanted::Trim(expected)) => *addr == expected,
         (Task::Call(addr, Request::Status), Wanted::Status(expected)) => *addr == expected,
         (Task::Call(addr, Request::End), Wanted::End(expected)) => *addr == expected,
+        (Task::Drill(seed, events), Wanted::Drill(expected, count)) => {
+            *seed == expected && *events == count
+        }
         (Task::DrillLinks(scenario, rounds), Wanted::DrillLinks(expected, count)) => {
             *scenario == expected && *rounds == count
         }
@@ -207,12 +216,20 @@ fn other_calls_are_refused(rt: HostRuntime) -> Result<(), Fail> {
     Ok(())
 }
 
-/// So are words of a drill that name no scenario, or no number of rounds from 1 to 1,000.
+/// So are words of a drill that name no seed below 2^64, no number of events from 1 to 1,000,000, no scenario, or no number of rounds
+/// from 1 to 1,000.
 #[test]
 fn other_drills_are_refused(rt: HostRuntime) -> Result<(), Fail> {
-    let rows: [&[&str]; 10] = [
+    let rows: [&[&str]; 17] = [
         &["drill"],
-        &["drill", "1", "2"],
+        &["drill", "1"],
+        &["drill", "1", "0"],
+        &["drill", "1", "1000001"],
+        &["drill", "01", "2"],
+        &["drill", "1", "2", "3"],
+        &["drill", "18446744073709551616", "2"],
+        &["drill", "--links", "1", "2"],
+        &["drill", "quorum", "--links", "3"],
         &["drill", "--links", "quorum"],
         &["drill", "quorum", "3"],
         &["drill", "--links", "quorum", "0"],

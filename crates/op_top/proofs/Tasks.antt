@@ -3,7 +3,7 @@ use Rattle.std.proofs.Common.{◌≡◌, ℕ, List, [], Option, Some, None, Err,
 use Rattle.op_outside.specs.Disks.{DiskState}
 use Rattle.op_setup.specs.Tasks.{IsTask, IsTaskOf, TaskInRange, task_words}
 use Rattle.op_setup.specs.declared.tasks.Task.{Task}
-use Rattle.op_setup.specs.declared.tasks.Task.TheVariants.{Node, Replay, Call, Cluster, DrillLinks}
+use Rattle.op_setup.specs.declared.tasks.Task.TheVariants.{Node, Replay, Call, Cluster, Drill, DrillLinks}
 use Rattle.op_setup.proofs.TaskWords.{one_task}
 use Rattle.op_setup.specs.declared.config.Settings.{Settings}
 use Rattle.op_sessions.specs.declared.mark.Mark.{Mark}
@@ -102,7 +102,7 @@ call_ends net0 net1 out0 out1 s (call.is_cut a b c) = tt
 call_ends net0 net1 out0 out1 s (call.is_untold a b) = tt
 call_ends net0 net1 out0 out1 s (call.has_no_reply {why} a b) = failed why
 
-drill_ends : {scenario : Scenario} {rounds : ℕ} (out0 out1 : StreamSeen) (s : Status) → drill.DrillEnds scenario rounds out0 out1 s → IsNoUsage s
+drill_ends : {IsText : List ℕ → Type 0} (out0 out1 : StreamSeen) (s : Status) → drill.TextEnds IsText out0 out1 s → IsNoUsage s
 drill_ends out0 out1 s (drill.is_told a b c) = tt
 drill_ends out0 out1 s (drill.is_cut a b c) = tt
 drill_ends out0 out1 s (drill.has_no_memory a) = tt
@@ -145,6 +145,7 @@ module _ {D : Type 0} (state : D → DiskState) (words : List (List ℕ)) (old n
   task_ends (Node id) h = node_serves state id old.input new.input (around_node old) (around_node new) s lost h.0
   task_ends (Call addr request) h = call_ends old.net new.net old.output new.output s h.0
   task_ends Cluster h = cluster_runs old.input new.input old.output new.output old.children new.children s h.0
+  task_ends (Drill seed events) h = drill_ends old.output new.output s h.0
   task_ends (DrillLinks scenario rounds) h = drill_ends old.output new.output s h.0
 
   -- these words ask for this task, and it was done
@@ -186,6 +187,13 @@ module _ {D : Type 0} (state : D → DiskState) (words : List (List ℕ)) (first
   does_call addr request net0 net1 clock input out0 out1 children of did =
       rw (at_first, at_second, is, no_loss)
       (does_task state words (outside first second net0 clock input out0 children) (outside first second net1 clock input out1 children) r [] (Call addr request) of (did, refl, refl))
+
+  pub does_random_drill : (seed events : ℕ) (net : NetSeen) (clock : Option (List ℕ)) (input out0 out1 : StreamSeen) (children : SpawnerSeen)
+      → IsTaskOf words (Drill seed events) → drill.RandomDrillEnds seed events out0 out1 r
+      → Does state words (outside first second net clock input out0 children) (outside a b net clock input out1 children) s lost
+  does_random_drill seed events net clock input out0 out1 children of did =
+      rw (at_first, at_second, is, no_loss)
+      (does_task state words (outside first second net clock input out0 children) (outside first second net clock input out1 children) r [] (Drill seed events) of (did, refl, refl))
 
   pub does_drill : (scenario : Scenario) (rounds : ℕ) (net : NetSeen) (clock : Option (List ℕ)) (input out0 out1 : StreamSeen) (children : SpawnerSeen)
       → IsTaskOf words (DrillLinks scenario rounds) → drill.DrillEnds scenario rounds out0 out1 r

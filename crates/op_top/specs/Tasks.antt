@@ -4,7 +4,7 @@ use Rattle.op_outside.specs.Disks.{DiskState}
 use Rattle.op_outside.specs.Seen.{NetSeen, StreamSeen, SpawnerSeen}
 use Rattle.op_setup.specs.Tasks.{IsTask, IsTaskOf}
 use Rattle.op_setup.specs.declared.tasks.Task.{Task}
-use Rattle.op_setup.specs.declared.tasks.Task.TheVariants.{Node, Replay, Call, Cluster, DrillLinks}
+use Rattle.op_setup.specs.declared.tasks.Task.TheVariants.{Node, Replay, Call, Cluster, Drill, DrillLinks}
 use Rattle.op_sessions.specs.declared.mark.Mark.{Mark}
 use Rattle.op_status.specs.declared.status.Status.{Status}
 use Rattle.op_status.specs.declared.status.Status.TheVariants as status
@@ -12,7 +12,7 @@ use Rattle.op_replay.specs.Answers.{Replays}
 use Rattle.op_serve.specs.Nodes.{Around, around}
 use Rattle.op_serve.specs.Nodes as node
 use Rattle.op_call.specs.Calls.{CallEnds}
-use Rattle.op_drill.specs.Drills.{DrillEnds}
+use Rattle.op_drill.specs.Drills.{DrillEnds, RandomDrillEnds}
 use Rattle.op_top.specs.Clusters.{RunsCluster}
 
 -- all that is outside the program but its standard error: its disks, and what net, clock, input, output and
@@ -62,6 +62,9 @@ module _ {D : Type 0} (state : D → DiskState) where
   DoesTask Cluster old new s lost =
       RunsCluster old.input new.input old.output new.output old.children new.children s
       × (new ≡ record old { input = new.input; output = new.output; children = new.children }) × (lost ≡ [])
+  DoesTask (Drill seed events) old new s lost =
+      RandomDrillEnds seed events old.output new.output s
+      × (new ≡ record old { output = new.output }) × (lost ≡ [])
   DoesTask (DrillLinks scenario rounds) old new s lost =
       DrillEnds scenario rounds old.output new.output s
       × (new ≡ record old { output = new.output }) × (lost ≡ [])

@@ -5,7 +5,7 @@ ghost use Rattle.op_top.specs.Tasks.{Does, outside};
 
 use crate::clusters::run_cluster;
 use op_call::call_node;
-use op_drill::drill_links;
+use op_drill::{drill, drill_links};
 use op_outside::{Clock, Disk, Net, Sink, Source, Spawner};
 use op_replay::replay;
 use op_serve::{Ending, serve_as};
@@ -75,6 +75,10 @@ fn done<D: Disk, N: Net, C: Clock, S: Source, K: Sink, P: Spawner>(
         }
         Ok(Task::Cluster) => {
             let status = run_cluster(alloc, input, out, children);
+            Ending::early(alloc, status, first, second)
+        }
+        Ok(Task::Drill(seed, events)) => {
+            let status = drill(alloc, seed, events, out);
             Ending::early(alloc, status, first, second)
         }
         Ok(Task::DrillLinks(scenario, rounds)) => {

@@ -6,6 +6,7 @@ ghost use Rattle.op_sched.specs.Text.{line_text, entries_text, listed_text, repo
 
 mod display_entry;
 mod display_line;
+mod summary;
 
 use display_entry::{EntryLine, PidsText};
 use display_line::LineText;
@@ -14,6 +15,7 @@ use op_text::NodeText;
 use op_types::{ConfNo, Entry, NoMemory};
 use std::alloc::Global;
 use std::fmt::Write;
+pub use summary::summary_text;
 
 /// The report of a run. `NoMemory` comes only where the allocator has none.
 pub fn report(alloc: Global, summary: &Summary) -> Result<Vec<u8>, NoMemory>

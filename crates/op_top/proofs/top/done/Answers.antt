@@ -1,4 +1,4 @@
-use Rattle.op_top.proofs.Tasks.{task_of, does_replay, does_node, does_call, does_drill}
+use Rattle.op_top.proofs.Tasks.{task_of, does_replay, does_node, does_call, does_random_drill, does_drill}
 use Rattle.op_top.proofs.top.done.Goals as goal
 
 pub returns-in-Ok-Replay : goal.returns-in-Ok-Replay
@@ -35,3 +35,10 @@ returns-in-Ok-DrillLinks g c =
     let early = c.early-in-Ok-DrillLinks.ensures in
     does_drill _ _ _ _ _ _ _ _ _ early.first early.second early.status early.lost _ _ _ _ _ _ _ _
     (task_of _ _ _ c.in-Ok-DrillLinks.field-0-is asked.found asked.in_range) c.drill_links-status.ensures
+
+pub returns-in-Ok-Drill : goal.returns-in-Ok-Drill
+returns-in-Ok-Drill g c =
+    let asked = c.in-Ok-Drill.ensures in
+    let early = c.early-in-Ok-Drill.ensures in
+    does_random_drill _ _ _ _ _ _ _ _ _ early.first early.second early.status early.lost _ _ _ _ _ _ _ _
+    (task_of _ _ _ c.in-Ok-Drill.field-0-is asked.found asked.in_range) c.drill-status.ensures
