@@ -237,7 +237,8 @@ IfGoesOn me j s r old new x = (new ≡ old) × (x ≡ None)
 
 -- what the plan does at the service, and what begins anew with it: of this chain, where the other one has
 -- room for those that are to wait
-pub record Serves (a : Chain) (old : Plan) (waiters : List (ℕ × ℕ)) (c : Chain) (new : Plan) (x : Serving) : Type 0 where
+pub record Serves (a : Chain) (old : Plan) (waiters : List (ℕ × ℕ))
+    (c : Chain) (new : Plan) (x : Serving) : Type 0 where
   pub settled : c.service.waiting ≡ 0
   pub served : (stop : Option StopSign) ×
       answering.IsServed a.service.service (newly_decided a.durable.part old.batch)
