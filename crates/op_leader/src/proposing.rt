@@ -1,21 +1,22 @@
 //! Entries are proposed together, or were forwarded.
-ghost use Rattle.std.specs.Prelude.{◌≡◌, ◌<◌, ◌≤◌, ◌+◌, ◌++◌, length, IfOk, OnOk};
+ghost use Rattle.std.specs.Prelude.{◌≡◌, ◌<◌, ◌≤◌, ◌+◌, ◌++◌, ◌∷◌, [], Some, length, IfOk, OnOk};
 ghost use Rattle.op_types.specs.Limits.{positions_end};
 ghost use Rattle.op_types.specs.Changes.{len_of};
 ghost use Rattle.op_types.specs.Effects.{effects_of, nothing_plan};
 ghost use Rattle.op_types.specs.Roles.{role_of, preparing_of, leading_of, HasRoom};
+ghost use Rattle.op_types.specs.declared.answers.Outcome.TheVariants.{Appended, Forwarded};
 ghost use Rattle.op_types.specs.declared.messages.Body.TheVariants.{Accept};
 ghost use Rattle.op_types.specs.declared.role.Role.TheVariants as role;
 ghost use Rattle.op_types.specs.declared.turn.Turn.TheVariants.{Stay, Buffer};
-ghost use Rattle.op_protocol.specs.Parts.{to_each};
+ghost use Rattle.op_protocol.specs.Parts.{answered, message, to_each};
 ghost use Rattle.op_protocol.specs.Leader.{synced_others, extends, propose, on_forward, forward_body, waiting_as};
 ghost use Rattle.op_plans.specs.Positions.{FitsPositions};
 
-use crate::counting::{count, synced_others};
-use op_plans::{Member, first, one};
+use crate::counting::{count_behind, synced_others};
+use op_plans::Member;
 use op_types::{
     Ballot, Body, Buffer, Buffered, Change, Entries, Leading, Outcome, POSITIONS_END, Pid, Plan,
-    Preparing, Replies, Role, Sends, Turn, copy_entries,
+    Preparing, Role, Sends, Turn, copy_entries,
 };
 use std::alloc::{AllocError as NoMemory, Global};
 
@@ -30,23 +31,46 @@ pub fn propose(member: &Member, role: &mut Role, entries: Entries) -> Result<Pla
     ensures room { IfOk result (λ plan. HasRoom plan.turn role.new) }
 {
     match role {
-        Role::Idle => {
-            let leader = member.part.promised.pid;
-            let mut plan = member.saying(leader, forward(entries))?;
-            plan.outcome = Some(Outcome::Forwarded(leader));
-            Ok(plan)
-        }
-        Role::Preparing(preparing) => {
-            let mut plan = buffers(member, preparing, entries, true)?;
-            plan.outcome = Some(Outcome::Buffered);
-            Ok(plan)
-        }
-        Role::Leading(leading) => {
-            let mut plan = extend(member, leading, entries)?;
-            plan.outcome = Some(Outcome::Appended(member.part.conf, member.log_len()));
-            Ok(plan)
-        }
+        Role::Idle => forwards(member, entries),
+        Role::Preparing(preparing) => buffers(
+            member,
+            preparing,
+            entries,
+            true,
+            Some(Outcome::Buffered),
+        ),
+        Role::Leading(leading) => appends(member, leading, entries),
     }
+}
+
+/// A node that follows forwards entries to whom it takes for the leader.
+fn forwards(member: &Member, entries: Entries) -> Result<Plan, NoMemory>
+    ensures { IfOk result (λ plan. let leader = member.now.part.now.promised.pid in plan
+        ≡ record nothing_plan {
+          sends = message member.now.part.now.conf leader (forward_body entries) ∷ [];
+          outcome = Some (Forwarded leader);
+        }) }
+{
+    let leader = member.part.promised.pid;
+    let mut plan = member.saying(leader, forward(entries))?;
+    plan.outcome = Some(Outcome::Forwarded(leader));
+    Ok(plan)
+}
+
+/// A leader adds entries that were proposed at it.
+fn appends(member: &Member, leading: &Leading, entries: Entries) -> Result<Plan, NoMemory>
+    requires positions { FitsPositions member.now.part.now }
+    requires members { 0 < length member.now.part.now.members }
+    requires end { len_of member.now.part.now + length entries ≤ positions_end }
+    ensures row { IfOk result (λ plan. effects_of (role.Leading leading.now) plan
+        ≡ answered (Appended member.now.part.now.conf (len_of member.now.part.now))
+        (extends member.now.me member.now.part.now (leading_of leading.now) entries)) }
+    ensures turn { IfOk result (λ plan. plan.turn ≡ Stay) }
+{
+    let mut plan = member.nothing();
+    append(member, leading, entries, &mut plan)?;
+    plan.outcome = Some(Outcome::Appended(member.part.conf, member.log_len()));
+    Ok(plan)
 }
 
 /// Proposals were forwarded together: they are taken where the node leads or prepares.
@@ -60,7 +84,7 @@ pub fn on_forward(member: &Member, role: &mut Role, entries: Entries) -> Result<
 {
     match role {
         Role::Idle => Ok(member.nothing()),
-        Role::Preparing(preparing) => buffers(member, preparing, entries, false),
+        Role::Preparing(preparing) => buffers(member, preparing, entries, false, None),
         Role::Leading(leading) => {
             if member.pending().is_some() {
                 return Ok(member.nothing());
@@ -92,15 +116,17 @@ fn buffers(
     preparing: &mut Preparing,
     entries: Entries,
     is_own: bool,
+    outcome: Option<Outcome>,
 ) -> Result<Plan, NoMemory>
     ensures plan { IfOk result (λ plan. plan
-        ≡ record nothing_plan { turn = Buffer (waiting_as is_own entries) }) }
+        ≡ record nothing_plan { turn = Buffer (waiting_as is_own entries); outcome = outcome }) }
     ensures role { preparing_of preparing.new ≡ preparing_of preparing.old }
     ensures room { OnOk result (length entries ≤ preparing.new.buffer.room) }
 {
     preparing.buffer.make_room(entries.len())?;
     let mut plan = member.nothing();
     plan.turn = Turn::Buffer(waiting(member.alloc, entries, is_own)?);
+    plan.outcome = outcome;
     Ok(plan)
 }
 
@@ -115,7 +141,7 @@ fn waiting(alloc: Global, entries: Entries, is_own: bool) -> Result<Buffer, NoMe
     Ok(all)
 }
 
-/// A leader adds entries to its log.
+/// A leader adds entries that were forwarded.
 fn extend(member: &Member, leading: &Leading, entries: Entries) -> Result<Plan, NoMemory>
     requires positions { FitsPositions member.now.part.now }
     requires members { 0 < length member.now.part.now.members }
@@ -124,40 +150,57 @@ fn extend(member: &Member, leading: &Leading, entries: Entries) -> Result<Plan, 
         ≡ extends member.now.me member.now.part.now (leading_of leading.now) entries) }
     ensures turn { IfOk result (λ plan. plan.turn ≡ Stay) }
 {
+    let mut plan = member.nothing();
+    append(member, leading, entries, &mut plan)?;
+    Ok(plan)
+}
+
+/// Entries go to a leader's log and to its followers, by a plan in which nothing happens yet.
+fn append(
+    member: &Member,
+    leading: &Leading,
+    entries: Entries,
+    plan: &mut Plan,
+) -> Result<(), NoMemory>
+    requires positions { FitsPositions member.now.part.now }
+    requires members { 0 < length member.now.part.now.members }
+    requires end { len_of member.now.part.now + length entries ≤ positions_end }
+    requires nothing { plan.old ≡ nothing_plan }
+    ensures row { OnOk result (effects_of (role.Leading leading.now) plan.new
+        ≡ extends member.now.me member.now.part.now (leading_of leading.now) entries) }
+    ensures turn { OnOk result (plan.new.turn ≡ Stay) }
+{
     let len = member.log_len();
     let more = entries.len() as u64;
-    let accepts = accept_sends(member, len, leading, &entries)?;
+    send_to_synced(member, &mut plan.sends, leading, len, &entries)?;
+    plan.batch.push(Change::Append(entries))?;
     let synced = leading.synced.as_slice();
     let acknowledged = leading.acknowledged.as_slice();
-    let none = Sends::new(member.alloc);
-    let plan = count(
+    count_behind(
         member,
         len + more,
         leading.ballot,
         synced,
         acknowledged,
-        none,
+        plan,
     )?;
-    let append = one(member.alloc, Change::Append(entries))?;
-    first(append, accepts, Replies::new(member.alloc), plan)
+    Ok(())
 }
 
 /// Entries that go to the log's end go to each synced follower: one copy for each.
-fn accept_sends(
+fn send_to_synced(
     member: &Member,
-    len: u64,
+    sends: &mut Sends,
     leading: &Leading,
+    len: u64,
     entries: &Entries,
-) -> Result<Sends, NoMemory>
-    ensures { IfOk result (λ sends. sends ≡ to_each member.now.part.now.conf
+) -> Result<(), NoMemory>
+    ensures { OnOk result (sends.new ≡ sends.old ++ to_each member.now.part.now.conf
         (synced_others member.now.me member.now.part.now.members (leading_of leading.now))
         (Accept leading.now.ballot len entries.now)) }
 {
     let pids = synced_others(member, leading.synced.as_slice())?;
-    let mut sends = Sends::new(member.alloc);
-    let ballot = leading.ballot;
-    send_accepts(member, &mut sends, pids.as_slice(), ballot, len, entries)?;
-    Ok(sends)
+    send_accepts(member, sends, pids.as_slice(), leading.ballot, len, entries)
 }
 
 /// The same entries go to each of these.
