@@ -20,6 +20,8 @@ ghost use Rattle.op_chain.specs.Plans.{Plans, Prepares, Adopts, HasRoomToTell};
 ghost use Rattle.op_chain.specs.Plans.{waiters_of, waiting_by, based_step, Serves, IfMayClose, IfCloses, IfGoesOn};
 ghost use Rattle.op_chain.specs.Plans.{told_anew, volatile_anew, service_by};
 
+mod reopening;
+
 use crate::answering::{give, give_up};
 use crate::brought::Brought;
 use crate::chain_plan::ChainPlan;

@@ -1,14 +1,12 @@
 -- A node as contracts see it, and what a step of it does.
 use Rattle.std.specs.Prelude.{◌≡◌, ℕ, List, [], Option, Some, None, Result, Ok, Err}
 use Rattle.op_types.specs.declared.answers.Outcome.{Outcome}
-use Rattle.op_types.specs.declared.answers.Outcome.TheVariants.{Refused}
-use Rattle.op_types.specs.declared.answers.Refusal.TheVariants.{StorageFailed}
 use Rattle.op_types.specs.declared.changes.Change.{Change}
 use Rattle.op_types.specs.declared.events.Input.{Input}
-use Rattle.op_types.specs.declared.events.Input.TheVariants as input
 use Rattle.op_record.specs.Ranges.{BatchInRange, DurableInRange}
 use Rattle.op_protocol.specs.State.{State, Planned, state_after}
 use Rattle.op_protocol.specs.Rows.{step_plan}
+use Rattle.op_runs.specs.World.{failed_outcome}
 use Rattle.op_outside.specs.Disks.{DiskState}
 use Rattle.op_store.specs.Stores.{Represents, IsReady, detached_of}
 use Rattle.op_chain.specs.Chains.{state_of, IsSoundChain}
@@ -47,10 +45,7 @@ saying o = record { sends = []; replies = []; outcome = o }
 -- a node that has failed refuses what is proposed, and to trim, with the count that it keeps,
 -- and does nothing else
 abbrev pub refused_with : ℕ → Input → Given
-refused_with count (input.Commands cs) = saying (Some (Refused (StorageFailed count)))
-refused_with count (input.Stop members) = saying (Some (Refused (StorageFailed count)))
-refused_with count input.TrimNow = saying (Some (Refused (StorageFailed count)))
-refused_with count x = saying None
+refused_with count x = saying (failed_outcome count x)
 
 -- what a step gives out
 abbrev pub gives : NodeState → Input → Given

@@ -223,6 +223,10 @@ pub record Opened {D : Type 0} (state : D → DiskState) (fresh : Durable) (old 
 abbrev pub handed_back : {D : Type 0} → (D → DiskState) → Returned D → Disks
 handed_back state e = disks_with state e.first e.second
 
+-- this store's disks, with the cause why it was not opened
+abbrev pub refused_by : {D : Type 0} → Store D → StoreFail → Returned D
+refused_by s cause = record { cause = cause; first = s.first; second = s.second }
+
 -- An opening that is refused: a fault is told where the count of a disk rose, and nowhere else.
 -- Damage is told wherever there is some, unless a disk failed or there was no memory.
 -- What a read of the disks gives then is one of their images.

@@ -1,4 +1,4 @@
-ghost use Rattle.std.specs.Prelude.{◌≡◌, ◌≤◌, ◌<◌, ◌*◌, ◌↔◌, max, true, IsTrue, ℕ, List, IfOk, IfErr};
+ghost use Rattle.std.specs.Prelude.{◌≡◌, ◌≤◌, ◌<◌, ◌*◌, ◌↔◌, max, true, IsTrue, ℕ, List, IfOk, IfErr, OnErr};
 ghost use Rattle.op_outside.specs.Disks.{disk_end, LeavesOnly};
 ghost use Rattle.op_types.specs.Changes.{Applies};
 ghost use Rattle.op_types.specs.declared.durable.Durable.{Durable};
@@ -24,10 +24,10 @@ ghost use Rattle.op_store.specs.Stores.{
   disks_of,
   detached_of,
 };
-ghost use Rattle.op_store.specs.Openings.{Opened, Refused};
+ghost use Rattle.op_store.specs.Openings.{Opened, Refused, refused_by};
 
 use crate::area::open_areas;
-use crate::fail::{Returned, faults};
+use crate::fail::{Returned, StoreFail, faults};
 use crate::writing::{append, format};
 use op_journal::{DiskFault, Framed};
 use op_outside::Disk;
@@ -85,8 +85,8 @@ impl<D: Disk> Store<D> {
     pub fn open(
         alloc: Global,
         fresh: Durable,
-        mut first: D,
-        mut second: D,
+        first: D,
+        second: D,
     ) -> Result<(Store<D>, Durable, bool), Returned<D>>
         requires { DurableInRange fresh }
         ensures opened { IfOk result
@@ -95,25 +95,63 @@ impl<D: Disk> Store<D> {
         // What is found is in range, whatever a disk gives that doesn't obey the model.
         ensures range { IfOk result (λ o. DurableInRange o.1) }
     {
-        match open_areas(alloc, fresh, &mut first, &mut second) {
-            Ok(area) => {
-                let store = Store {
+        let mut store = Store::unopened(first, second);
+        match store.reopen(alloc, fresh) {
+            Ok((durable, is_new)) => Ok((store, durable, is_new)),
+            Err(cause) => {
+                let (first, second) = store.into_disks();
+                Err(Returned {
+                    cause,
                     first,
                     second,
-                    is_second: area.is_second,
-                    generation: area.generation,
-                    end: area.end,
-                    base: area.base,
-                    is_closed: area.is_closed,
-                    is_failed: false,
-                };
-                Ok((store, area.durable, area.is_new))
+                })
             }
-            Err(cause) => Err(Returned {
-                cause,
-                first,
-                second,
-            }),
+        }
+    }
+
+    /// A store over disks that are still to be opened.
+    fn unopened(first: D, second: D) -> Self
+        ensures first { result.first ≡ first }
+        ensures second { result.second ≡ second }
+    {
+        Store {
+            first,
+            second,
+            is_second: false,
+            generation: 0,
+            end: 0,
+            base: 0,
+            is_closed: false,
+            is_failed: true,
+        }
+    }
+
+    /// Opens the disks again, in place, as they are after a call of one of them failed. Gives what an opening does. After a
+    /// refusal the store has failed, and can be opened again.
+    pub fn reopen(&mut self, alloc: Global, fresh: Durable) -> Result<(Durable, bool), StoreFail>
+        requires { DurableInRange fresh }
+        ensures opened { IfOk result
+            (λ o. Opened D.state fresh (disks_of D.state self.old) self.new o.0 o.1) }
+        ensures refused { IfErr result
+            (λ cause. Refused D.state fresh (disks_of D.state self.old) (refused_by self.new cause)) }
+        ensures failed { OnErr result
+            (detached_of self.new ≡ record (detached_of self.old) { is_failed = true }) }
+        ensures range { IfOk result (λ o. DurableInRange o.0) }
+    {
+        match open_areas(alloc, fresh, &mut self.first, &mut self.second) {
+            Ok(area) => {
+                self.is_second = area.is_second;
+                self.generation = area.generation;
+                self.end = area.end;
+                self.base = area.base;
+                self.is_closed = area.is_closed;
+                self.is_failed = false;
+                Ok((area.durable, area.is_new))
+            }
+            Err(cause) => {
+                self.is_failed = true;
+                Err(cause)
+            }
         }
     }
 
