@@ -43,12 +43,12 @@ fn stopped(alloc: Global, before: &Images, stop: Stop) -> Result<(MemDisk, MemDi
     } else {
         first.stop_at(stop.call);
     }
-    let mut node = opened(alloc, first, second)?;
-    ticks(&mut node)?;
-    if puts(alloc, &mut node, PUT)? {
+    let mut core = opened(alloc, first, second)?;
+    ticks(&mut core)?;
+    if puts(alloc, &mut core, PUT)? {
         return Err("it doesn't stop".into());
     }
-    let (_, first, second) = node.park();
+    let (_, first, second) = core.node.park();
     Ok((first, second))
 }
 

@@ -1,13 +1,14 @@
 //! The only member over two disks in memory, and its puts.
 ghost use Rattle.std.specs.Prelude.{◌<◌, IfOk};
 ghost use Rattle.op_types.specs.Ranges.{IsNumber, MembersInRange};
-ghost use Rattle.op_loop.specs.Cores.{InputInRange};
-ghost use Rattle.op_loop.specs.NodeCores.{IsServable};
+ghost use Rattle.op_core.specs.NodeCores.{IsServable};
+ghost use Rattle.op_serving.specs.Ranges.{InputInRange};
 
-use op_loop::{Core, opened_nodes_can_be_served};
+use op_core::{NodeCore, opened_nodes_can_be_served, reopened_nodes_can_be_served};
 use op_memory::MemDisk;
 use op_node::Node;
-use op_types::{Blob, Command, Commands, Durable, Input, Members, NoMemory, Op};
+use op_serving::Core;
+use op_types::{Blob, Command, Commands, Input, Members, NoMemory, Op};
 use std::alloc::{AllocError, Global};
 use std::test::Fail;
 
@@ -59,36 +60,48 @@ pub fn sole() -> Result<Members, NoMemory>
 }
 
 /// Its node over these disks.
-pub fn opened(alloc: Global, first: MemDisk, second: MemDisk) -> Result<Node<MemDisk>, Fail>
-    ensures { IfOk result IsServable }
+pub fn opened(alloc: Global, first: MemDisk, second: MemDisk) -> Result<NodeCore<MemDisk>, Fail>
+    ensures { IfOk result (λ core. IsServable core.node) }
 {
     opened_nodes_can_be_served::<MemDisk>();
     let members = sole()?;
     match Node::open(alloc, 1, &members, first, second) {
-        Ok((node, _)) => Ok(node),
+        Ok((node, _)) => Ok(NodeCore { node }),
         Err(returned) => Err(returned.cause.into()),
     }
 }
 
 /// Whether this put is stored.
-pub fn puts(alloc: Global, node: &mut Node<MemDisk>, seq: u64) -> Result<bool, Fail>
-    requires ready { IsServable node.old }
+pub fn puts(alloc: Global, core: &mut NodeCore<MemDisk>, seq: u64) -> Result<bool, Fail>
+    requires ready { IsServable core.old.node }
     requires number { IsNumber seq }
-    ensures { IsServable node.new }
+    ensures { IsServable core.new.node }
 {
     let input = put(alloc, seq)?;
-    Ok(Core::step(node, input).is_ok())
+    Ok(core.step(input).is_ok())
 }
 
 /// It leads after a tick.
-pub fn ticks(node: &mut Node<MemDisk>) -> Result<(), Fail>
-    requires { IsServable node.old }
-    ensures { IsServable node.new }
+pub fn ticks(core: &mut NodeCore<MemDisk>) -> Result<(), Fail>
+    requires { IsServable core.old.node }
+    ensures { IsServable core.new.node }
 {
-    match Core::step(node, Input::Tick) {
+    match core.step(Input::Tick) {
         Ok(_) => Ok(()),
         Err(_) => Err("a tick isn't stored".into()),
     }
+}
+
+/// Whether a node that failed is opened again.
+pub fn reopens(core: &mut NodeCore<MemDisk>) -> Result<bool, Fail>
+    requires { IsServable core.old.node }
+    ensures { IsServable core.new.node }
+{
+    reopened_nodes_can_be_served::<MemDisk>();
+    if core.node.failed().is_none() {
+        return Err("it hasn't failed".into());
+    }
+    Ok(core.node.reopen().is_ok())
 }
 
 /// What its disks hold after so many puts.
@@ -97,14 +110,19 @@ pub fn after_puts(alloc: Global, count: u64) -> Result<Images, Fail>
 {
     let first = MemDisk::new(alloc, Vec::new(alloc))?;
     let second = MemDisk::new(alloc, Vec::new(alloc))?;
-    let mut node = opened(alloc, first, second)?;
-    ticks(&mut node)?;
+    let mut core = opened(alloc, first, second)?;
+    ticks(&mut core)?;
     'puts: for seq in 1..count + 1 {
-        if !puts(alloc, &mut node, seq)? {
+        if !puts(alloc, &mut core, seq)? {
             return Err("a put isn't stored".into());
         }
     }
-    let (_, first, second) = node.park();
+    stored_by(alloc, core)
+}
+
+/// What the disks of a node hold.
+pub fn stored_by(alloc: Global, core: NodeCore<MemDisk>) -> Result<Images, Fail> {
+    let (_, first, second) = core.node.park();
     Ok(Images {
         first: first.bytes().to_vec(alloc)?,
         second: second.bytes().to_vec(alloc)?,
@@ -113,12 +131,13 @@ pub fn after_puts(alloc: Global, count: u64) -> Result<Images, Fail>
 
 /// How much a node has decided that is opened over these disks.
 pub fn decided(alloc: Global, first: MemDisk, second: MemDisk) -> Result<u64, Fail> {
-    let node = opened(alloc, first, second)?;
-    Ok(decided_in(node.shown()))
+    let core = opened(alloc, first, second)?;
+    Ok(decided_by(&core))
 }
 
-fn decided_in(durable: &Durable) -> u64 {
-    match &durable.part {
+/// How much a node shows as decided.
+pub fn decided_by(core: &NodeCore<MemDisk>) -> u64 {
+    match &core.node.shown().part {
         Some(part) => part.decided,
         None => 0,
     }

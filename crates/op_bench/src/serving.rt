@@ -1,16 +1,18 @@
 //! Puts to the node of a sole member, which is served over a net in memory.
 ghost use Rattle.std.specs.Prelude.{IfSome};
 ghost use Rattle.op_types.specs.Ranges.{MembersInRange};
-ghost use Rattle.op_loop.specs.NodeCores.{IsServable};
-ghost use Rattle.op_loop.specs.Serving.{PeersInRange};
+ghost use Rattle.op_core.specs.NodeCores.{IsServable};
+ghost use Rattle.op_pump.specs.Counts.{IsLimited};
+ghost use Rattle.op_pump.specs.Moments.{PeersInRange};
 
 use crate::frames::taken;
+use op_core::{NodeCore, opened_nodes_can_be_served};
 use op_frame::Frames;
-use op_loop::{opened_nodes_can_be_served, serve};
 use op_memory::{FakeClock, Incoming, KeptCall, NetScript, ScriptNet};
 use op_node::Node;
 use op_outside::{Addr, Conn, Disk, Happening};
-use op_setup::{Peers, Settings};
+use op_pump::serve;
+use op_setup::{MOST_TURNS, Peers, Settings};
 use op_types::{Members, Pid};
 use std::alloc::Global;
 use std::collections::VecDeque;
@@ -46,8 +48,8 @@ pub fn answered<D: Disk>(
     puts: u64,
     in_read: u64,
 ) -> Option<u64> {
-    let mut node = opened(alloc, first, second)?;
-    answered_by(alloc, &mut node, puts, in_read)
+    let node = opened(alloc, first, second)?;
+    answered_by(alloc, node, puts, in_read)
 }
 
 /// The node of the only member.
@@ -63,20 +65,22 @@ fn opened<D: Disk>(alloc: Global, first: D, second: D) -> Option<Node<D>>
 }
 
 /// How many answers this node writes to so many puts.
-fn answered_by<D: Disk>(alloc: Global, node: &mut Node<D>, puts: u64, in_read: u64) -> Option<u64>
-    requires { IsServable node.old }
+fn answered_by<D: Disk>(alloc: Global, node: Node<D>, puts: u64, in_read: u64) -> Option<u64>
+    requires { IsServable node }
 {
     let reads = puts.checked_div(in_read)?;
     let settings = settings(alloc, reads.saturating_add(TURNS_BEFORE))?;
     let mut net = ScriptNet::new(alloc, script(alloc, reads, in_read)?);
     let mut clock = FakeClock::new(alloc, VecDeque::new(alloc), 1);
-    serve(alloc, node, &mut net, &mut clock, &settings).ok()?;
+    let served = serve(alloc, NodeCore { node }, &mut net, &mut clock, &settings);
+    served.end.ok()?;
     answers(alloc, &net)
 }
 
 /// The node is the only peer.
 fn settings(alloc: Global, turns: u64) -> Option<Settings>
-    ensures { IfSome result PeersInRange }
+    ensures peers { IfSome result PeersInRange }
+    ensures limits { IfSome result IsLimited }
 {
     let addr = Addr {
         host: 0,
@@ -85,7 +89,7 @@ fn settings(alloc: Global, turns: u64) -> Option<Settings>
     let peers = Vec::from_slice(alloc, &[(ID, addr)]).ok()?;
     Some(Settings {
         tick_ms: TICK_MS,
-        turns,
+        turns: turns.min(MOST_TURNS),
         members: sole()?,
         peers: Peers::from_vec(peers),
     })

@@ -1,4 +1,4 @@
-ghost use Rattle.std.specs.Prelude.{◌≡◌, ◌<◌, ◌≤◌, [], length, drop, IfOk, IfErr, IfSome, None, OnOk, OnErr};
+ghost use Rattle.std.specs.Prelude.{◌≡◌, ◌<◌, ◌≤◌, ◌+◌, [], length, drop, IfOk, IfErr, IfSome, None, OnOk, OnErr};
 ghost use Rattle.op_frame.specs.Framing.{stream_of, IsHead, BeginsWith, Stops, Tells, IsWhole, fed, left};
 
 use op_fields::{NoMemory, take_u32, take_u64};
@@ -87,6 +87,26 @@ impl Frames {
         let body = Vec::from_slice(alloc, &self.held()[head..head + len])?;
         self.skip(head + len);
         Ok(body)
+    }
+
+    /// The body of the next frame, which stays. This takes no memory.
+    pub fn peek(&self) -> Result<&[u8], NextFail>
+        ensures body { IfOk result (λ body. BeginsWith self.now body.now
+            (drop (self.now.head + length body.now) self.now.held)) }
+        ensures err { IfErr result (λ e. Stops self.now e) }
+        ensures head { IsHead self.now.head }
+    {
+        let head = self.head as usize;
+        let len = self.body_len()?;
+        Ok(&self.held()[head..head + len])
+    }
+
+    /// Lets go of the next frame, whose body has so many bytes.
+    pub fn pass(&mut self, len: usize)
+        requires { self.old.head + len ≤ length self.old.held }
+        ensures { self.new ≡ left self.old (drop (self.old.head + len) self.old.held) }
+    {
+        self.skip(self.head as usize + len);
     }
 
     /// Goes on after so many bytes, as a stream whose heads have 4 or 8 bytes, and whose bodies have up to `limit` bytes.

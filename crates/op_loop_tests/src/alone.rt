@@ -1,7 +1,7 @@
 //! A node that is the only member, on disks in memory.
 use crate::scripts::{Conduct, Step, Wrote, seen_of, served_alone};
-use op_loop::ServeEnd;
 use op_outside::Happening;
+use op_pump::ServeEnd;
 use std::test::Fail;
 
 /// Session 6 begins a request. Session 5 sends a body of zeros in two reads, and then the head of a longer

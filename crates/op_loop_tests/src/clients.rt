@@ -1,6 +1,6 @@
 use crate::scripts::{Conduct, Step, Wrote, seen_of, served};
-use op_loop::ServeEnd;
 use op_outside::Happening;
+use op_pump::ServeEnd;
 use std::test::Fail;
 
 /// Session 5 sends a body of zeros in two reads, and then the head of a longer one; session 6 a request in

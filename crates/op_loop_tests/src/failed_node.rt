@@ -2,13 +2,13 @@ ghost use Rattle.std.specs.Prelude.{◌≡◌, [], Some, None};
 ghost use Rattle.op_types.specs.Ranges.{IsPid};
 ghost use Rattle.op_protocol.specs.Starting.{first_volatile};
 ghost use Rattle.op_spec.specs.Service.{new_service};
-ghost use Rattle.op_node.specs.Nodes.{refused_with};
-ghost use Rattle.op_loop.specs.Cores.{GivenInRange};
+ghost use Rattle.op_serving.specs.Cores.{refused_with};
+ghost use Rattle.op_serving.specs.Ranges.{GivenInRange};
 
-use op_loop::Core;
-use op_node::{Given, StepFail};
+use op_core::short_line;
 use op_runs::{NodeLine, Running};
-use op_types::{Input, Outcome, Pid, Refusal, Replies, Sends};
+use op_serving::{Core, Given, StepFail};
+use op_types::{Blob, Input, NoMemory, Outcome, Pid, Refusal, Replies, Sends};
 use std::alloc::Global;
 
 /// A spare's node that has failed: it refuses what is proposed, and does nothing else.
@@ -17,6 +17,8 @@ pub struct FailedNode {
     pub me: Pid,
     /// How often its disks have failed.
     pub count: u64,
+    /// Whether it finds no memory for commands.
+    pub is_scarce: bool,
     pub alloc: Global,
 }
 
@@ -25,18 +27,17 @@ impl Core for FailedNode {
     ghost use Rattle.op_types.specs.Ranges.{IsPid};
     ghost use Rattle.op_protocol.specs.Starting.{first_volatile};
     ghost use Rattle.op_spec.specs.Service.{new_service};
+    ghost use Rattle.op_core.specs.NodeCores.{status_line};
 
     ghost standing = { λ n. record {
-      node = record {
-        me = n.me;
-        state = record {
-          durable = record { part = None; closed = None; joining = None };
-          volatile = first_volatile n.me;
-          service = new_service;
-          waiting = [];
-        };
-        failed = Some n.count;
+      me = n.me;
+      state = record {
+        durable = record { part = None; closed = None; joining = None };
+        volatile = first_volatile n.me;
+        service = new_service;
+        waiting = [];
       };
+      failed = Some n.count;
       faults = n.count;
     } };
 
@@ -44,22 +45,28 @@ impl Core for FailedNode {
 
     ghost stored = { λ _ _. Unit {0} };
 
-    #[tactic(auto, unfolding(op_loop::specs::Cores::gives, op_loop::specs::Cores::after_input))]
+    ghost line = { status_line };
+
+    #[tactic(auto, unfolding(op_serving::specs::Cores::gives, op_serving::specs::Cores::after_input))]
     fn step(&mut self, input: Input) -> Result<Given, StepFail> {
-        Ok(refused(self.alloc, self.count, &input))
+        match input {
+            Input::Commands(_) if self.is_scarce => Err(StepFail::NoMemory),
+            other => Ok(refused(self.alloc, self.count, &other)),
+        }
     }
 
     fn me(&self) -> Pid {
         self.me
     }
 
-    fn line(&self) -> NodeLine {
-        NodeLine {
+    fn status(&self, alloc: Global) -> Result<Blob, NoMemory> {
+        let line = NodeLine {
             pid: self.me,
             at: None,
             joining: None,
             running: Running::Failed,
-        }
+        };
+        short_line(alloc, &line)
     }
 }
 

@@ -10,6 +10,8 @@ mod alone;
 #[cfg(test)]
 mod clients;
 #[cfg(test)]
+mod commands;
+#[cfg(test)]
 mod ends;
 #[cfg(test)]
 mod peers;

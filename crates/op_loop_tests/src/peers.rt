@@ -1,7 +1,7 @@
 //! Peers that a node dials.
 use crate::scripts::{Step, Wrote, seen_of, served_by};
-use op_loop::ServeEnd;
 use op_outside::Happening;
+use op_pump::ServeEnd;
 use std::test::Fail;
 
 /// The turn of the first tick, at which peers are dialled.

@@ -1,7 +1,7 @@
 //! Requests for a stop-sign and for trimming, each told at once what becomes of it.
 use crate::scripts::{Conduct, Step, Wrote, seen_of, served, served_alone};
-use op_loop::ServeEnd;
 use op_outside::Happening;
+use op_pump::ServeEnd;
 use std::test::Fail;
 
 /// After so many turns there is a tick, at which the only member leads.

@@ -1,15 +1,17 @@
 //! What the tests share.
 ghost use Rattle.std.specs.Prelude.{IfOk};
 ghost use Rattle.op_types.specs.Ranges.{IsPid, MembersInRange};
-ghost use Rattle.op_loop.specs.NodeCores.{IsServable};
-ghost use Rattle.op_loop.specs.Serving.{PeersInRange};
+ghost use Rattle.op_core.specs.NodeCores.{IsServable};
+ghost use Rattle.op_pump.specs.Counts.{IsLimited};
+ghost use Rattle.op_pump.specs.Moments.{PeersInRange};
 
 use crate::FailedNode;
-use op_loop::{ServeEnd, opened_nodes_can_be_served, serve, serve_core};
+use op_core::{NodeCore, opened_nodes_can_be_served};
 use op_memory::{FakeClock, Incoming, KeptCall, MemDisk, NetScript, ScriptNet};
 use op_node::Node;
 use op_outside::{Addr, Conn, Happening};
-use op_setup::{Peers, Settings};
+use op_pump::{ServeEnd, Served, serve};
+use op_setup::{MOST_TURNS, Peers, Settings};
 use op_types::{Members, NoMemory, Pid};
 use std::alloc::Global;
 use std::collections::VecDeque;
@@ -30,9 +32,32 @@ fn most_of_the_longest(alloc: Global) -> Result<Vec<u8>, NoMemory> {
     Ok(bytes)
 }
 
+/// A client's first byte, and so many puts of `x` at `a`.
+fn puts(alloc: Global, count: u64) -> Result<Vec<u8>, NoMemory> {
+    let mut bytes = Vec::from_slice(alloc, b"C")?;
+    for seq in 0..count {
+        bytes.extend_from_slice(b"\0\0\0\x17\x01\0\0\0\0\0\0\0\x07")?;
+        bytes.extend_from_slice(&(seq + 1).to_be_bytes())?;
+        bytes.extend_from_slice(b"\x01\x01a\0\x01x")?;
+    }
+    Ok(bytes)
+}
+
+/// That each of these is done.
+fn dones(alloc: Global, count: u64) -> Result<Vec<u8>, NoMemory> {
+    let mut bytes = Vec::new(alloc);
+    for seq in 0..count {
+        bytes.extend_from_slice(b"\0\0\0\x11\0\0\0\0\0\0\0\x07")?;
+        bytes.extend_from_slice(&(seq + 1).to_be_bytes())?;
+        bytes.push(1)?;
+    }
+    Ok(bytes)
+}
+
 /// Nodes 1 to 3, of which 1 is the only member, and so many turns.
 fn settings(alloc: Global, turns: u64) -> Result<Settings, NoMemory>
-    ensures { IfOk result PeersInRange }
+    ensures peers { IfOk result PeersInRange }
+    ensures limits { IfOk result IsLimited }
 {
     let addr = Addr {
         host: 0,
@@ -41,7 +66,7 @@ fn settings(alloc: Global, turns: u64) -> Result<Settings, NoMemory>
     let peers = Vec::from_slice(alloc, &[(1, addr), (2, addr), (3, addr)])?;
     Ok(Settings {
         tick_ms: 10,
-        turns,
+        turns: turns.min(MOST_TURNS),
         members: sole()?,
         peers: Peers::from_vec(peers),
     })
@@ -65,6 +90,8 @@ pub enum Step<'a> {
     Comes(&'a [u8]),
     /// A read gives `most_of_the_longest`.
     ComesMostOfTheLongest,
+    /// A read gives a client's first byte and so many puts, of client 7 and numbers from 1.
+    ComesPuts(u64),
     /// A dial gives this connection.
     Dials(Conn),
     /// This call fails.
@@ -85,6 +112,7 @@ fn add(script: &mut NetScript, alloc: Global, step: Step) -> Result<(), NoMemory
         Step::Idles(count) => idles(script, alloc, count),
         Step::Comes(bytes) => comes(script, Vec::from_slice(alloc, bytes)?),
         Step::ComesMostOfTheLongest => comes(script, most_of_the_longest(alloc)?),
+        Step::ComesPuts(count) => comes(script, puts(alloc, count)?),
         Step::Dials(conn) => Ok(script.dials.push_back(Some(conn))?),
         Step::Fails(call) => Ok(script.fails.push(call)?),
     }
@@ -123,15 +151,34 @@ pub fn served(alloc: Global, steps: &[Step], turns: u64) -> Result<Run, NoMemory
 pub fn served_by(alloc: Global, me: Pid, steps: &[Step], turns: u64) -> Result<Run, NoMemory>
     requires { IsPid me }
 {
+    served_as(alloc, me, false, steps, turns)
+}
+
+/// The same with a node 1 that finds no memory for commands.
+pub fn served_scarce(alloc: Global, steps: &[Step], turns: u64) -> Result<Run, NoMemory> {
+    served_as(alloc, 1, true, steps, turns)
+}
+
+fn served_as(
+    alloc: Global,
+    me: Pid,
+    is_scarce: bool,
+    steps: &[Step],
+    turns: u64,
+) -> Result<Run, NoMemory>
+    requires { IsPid me }
+{
     let settings = settings(alloc, turns)?;
     let mut net = ScriptNet::new(alloc, script_of(alloc, steps)?);
     let mut clock = FakeClock::new(alloc, VecDeque::new(alloc), 1);
-    let mut node = FailedNode {
+    let node = FailedNode {
         me,
         count: FAULTS,
+        is_scarce,
         alloc,
     };
-    let (end, lost) = serve_core(alloc, &mut node, &mut net, &mut clock, &settings)?;
+    let Served { end, .. } = serve(alloc, node, &mut net, &mut clock, &settings);
+    let (end, lost) = end?;
     Ok((end, lost.len(), net))
 }
 
@@ -153,8 +200,9 @@ pub fn served_alone(alloc: Global, steps: &[Step], turns: u64) -> Result<Run, Fa
     let settings = settings(alloc, turns)?;
     let mut net = ScriptNet::new(alloc, script_of(alloc, steps)?);
     let mut clock = FakeClock::new(alloc, VecDeque::new(alloc), 1);
-    let mut node = opened(alloc)?;
-    let (end, lost) = serve(alloc, &mut node, &mut net, &mut clock, &settings)?;
+    let node = opened(alloc)?;
+    let Served { end, .. } = serve(alloc, NodeCore { node }, &mut net, &mut clock, &settings);
+    let (end, lost) = end?;
     Ok((end, lost.len(), net))
 }
 
@@ -164,6 +212,8 @@ pub enum Wrote<'a> {
     Bytes(&'a [u8]),
     /// A reply that is of no command, and what it says.
     Reply(&'a [u8]),
+    /// That so many puts are done, of client 7 and numbers from 1.
+    Dones(u64),
     Something,
     /// Something or nothing.
     Any,
@@ -210,6 +260,7 @@ fn is_written(alloc: Global, net: &ScriptNet, conn: Conn, wrote: Wrote) -> Resul
     Ok(match wrote {
         Wrote::Bytes(wanted) => bytes.as_slice() == wanted,
         Wrote::Reply(said) => bytes.as_slice() == reply(alloc, said)?.as_slice(),
+        Wrote::Dones(count) => bytes.as_slice() == dones(alloc, count)?.as_slice(),
         Wrote::Something => !bytes.is_empty(),
         Wrote::Any => true,
     })

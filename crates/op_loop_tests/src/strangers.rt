@@ -1,6 +1,6 @@
 use crate::scripts::{Conduct, Step, Wrote, seen_of, served, served_alone};
-use op_loop::ServeEnd;
 use op_outside::Happening;
+use op_pump::ServeEnd;
 use std::test::Fail;
 
 /// Sessions 3 to 8 send another first byte, an unknown id, the own id, a frame that is no message, one to

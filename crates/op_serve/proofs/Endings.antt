@@ -27,10 +27,10 @@ use Rattle.op_node.specs.Openings.{Opens, RefusesNode, disks_with, fresh_for}
 use Rattle.op_node.specs.declared.node.Node.{Node}
 use Rattle.op_node.proofs.Refusals.{refusal_tells}
 use Rattle.op_node.proofs.Represented.{opened_represented}
-use Rattle.op_loop.specs.NodeCores.{standing_of, IsStoredWhileUp}
-use Rattle.op_loop.specs.Serving as loop
-use Rattle.op_loop.specs.declared.serve_end.ServeEnd.{ServeEnd}
-use Rattle.op_sessions.specs.declared.mark.Mark.{Mark}
+use Rattle.op_core.specs.NodeCores.{standing_at, standing_of, status_line, IsStoredWhileUp}
+use Rattle.op_pump.specs.Serving as loop
+use Rattle.op_serving.specs.declared.serve_end.ServeEnd.{ServeEnd}
+use Rattle.op_serving.specs.declared.mark.Mark.{Mark}
 use Rattle.op_status.specs.declared.status.Status.{Status}
 use Rattle.op_status.specs.declared.status.Status.TheVariants as status
 use Rattle.op_input.specs.Inputs.{IsMisconfigured, input_limit}
@@ -181,7 +181,7 @@ module _ {D : Type 0} (state : D → DiskState) where
   pub goes_served : (id : ℕ) (o : Settings) (n : NodeState) (stood : Type 0) (first second : D) (k : Node D) (end : ServeEnd) (net0 mid net1 : NetSeen) (clock0 clock1 : Option (List ℕ)) (out0 out1 : StreamSeen)
       (a b : D) (s : Status) (lost : List Mark)
       → IsReady id o net0 mid out0 out1
-      → loop.Serves o end lost (record { node = n; faults = faults (disks_with state first second) }) (standing_of state k) mid net1 clock0 clock1
+      → loop.Serves o status_line end lost (standing_at n (faults (disks_with state first second))) (standing_of state k) mid net1 clock0 clock1
       → KeepBoth (disks_with state first second) (disks_of state k.store)
       → (stood → IsStoredWhileUp state k) → a ≡ k.store.first → b ≡ k.store.second → s ≡ status_of end
       → Goes state id o n stood (around first second net0 clock0 out0) (around a b net1 clock1 out1) s lost
@@ -199,6 +199,7 @@ node_of_settings id text o one s =
       server = one;
       members = s.2.members.in_range;
       peers = All-weaker (HasPeer rows.0) (λ p. IsPid p.0) (λ p row. row.3.id) o.peers rows.2.each;
+      limits = record { turns = s.2.turns.greatest; peers = s.2.peers.few };
       own = s.2.own;
     }
 

@@ -20,11 +20,13 @@ use Rattle.op_store.specs.declared.fail.StoreFail.{StoreFail}
 use Rattle.op_store.specs.declared.fail.StoreFail.TheVariants as refusals
 use Rattle.op_node.specs.Nodes.{NodeState}
 use Rattle.op_node.specs.Openings.{disks_with, durable_for, fresh_for, opening_state}
-use Rattle.op_loop.specs.Serving as loop
-use Rattle.op_loop.specs.Serving.{PeersInRange}
-use Rattle.op_loop.specs.declared.serve_end.ServeEnd.{ServeEnd}
-use Rattle.op_loop.specs.declared.serve_end.ServeEnd.TheVariants as ends
-use Rattle.op_sessions.specs.declared.mark.Mark.{Mark}
+use Rattle.op_core.specs.NodeCores.{standing_at, status_line}
+use Rattle.op_pump.specs.Counts.{IsLimited}
+use Rattle.op_pump.specs.Moments.{PeersInRange}
+use Rattle.op_pump.specs.Serving as loop
+use Rattle.op_serving.specs.declared.serve_end.ServeEnd.{ServeEnd}
+use Rattle.op_serving.specs.declared.serve_end.ServeEnd.TheVariants as ends
+use Rattle.op_serving.specs.declared.mark.Mark.{Mark}
 use Rattle.op_input.specs.Inputs.{IsConfigured, IsMisconfigured, input_limit}
 use Rattle.op_status.specs.declared.status.Status.{Status}
 use Rattle.op_status.specs.declared.status.Status.TheVariants as status
@@ -34,6 +36,7 @@ pub record IsNodeOf (id : ℕ) (o : Settings) : Type 0 where
   pub server : IsPid id
   pub members : MembersInRange o.members
   pub peers : PeersInRange o
+  pub limits : IsLimited o
   pub own : IsAmong o.peers (Some id)
 
 -- ---- a node is heard
@@ -158,8 +161,8 @@ module _ {D : Type 0} (state : D → DiskState) where
         → Goes id o n stood old new status.NoMemory []
     has_served : {m : NodeState} {end : ServeEnd} {lost : List Mark} (net : NetSeen)
         → IsReady id o old.net net old.output new.output
-        → loop.Serves o end lost (record { node = n; faults = faults_of old })
-        (record { node = m; faults = faults_of new }) net new.net old.clock new.clock
+        → loop.Serves o status_line end lost (standing_at n (faults_of old)) (standing_at m (faults_of new))
+        net new.net old.clock new.clock
         → KeepBoth (disks_in old) (disks_in new)
         → (stood → m.failed ≡ None → Holds new m.state.durable)
         → Goes id o n stood old new (status_of end) lost

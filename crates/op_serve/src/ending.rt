@@ -1,6 +1,6 @@
 ghost use Rattle.std.specs.Prelude.{◌≡◌, []};
 
-use op_sessions::Mark;
+use op_serving::Mark;
 use op_status::Status;
 use std::alloc::Global;
 

@@ -4,15 +4,16 @@ ghost use Rattle.op_outside.specs.Causes.{FailsOnlyOnFault};
 ghost use Rattle.op_outside.specs.Streams.{AppendsPrefix};
 ghost use Rattle.op_setup.specs.Settings.{IsAmong};
 ghost use Rattle.op_node.specs.Nodes.{node_of, IsRepresented};
-ghost use Rattle.op_loop.specs.NodeCores.{IsServable};
+ghost use Rattle.op_core.specs.NodeCores.{IsServable};
 ghost use Rattle.op_serve.specs.Nodes.{Ends, Goes, IsHeard, IsNodeOf, around, ready_line, status_of, status_of_refusal};
 
 use crate::ending::Ending;
 use itoa::Buffer;
-use op_loop::{ServeEnd, opened_nodes_can_be_served, serve};
+use op_core::{NodeCore, opened_nodes_can_be_served};
 use op_node::Node;
 use op_outside::{Addr, Clock, Disk, Net, Sink, WriteFail};
 use op_parts::write_parts;
+use op_pump::{ServeEnd, Served, serve};
 use op_setup::Settings;
 use op_status::Status;
 use op_store::StoreFail;
@@ -67,13 +68,13 @@ fn serve_opened<D: Disk, N: Net, C: Clock, K: Sink>(
         (K.held out.new, K.fault_count out.new))
         result.status result.lost.items }
 {
-    let mut node = node;
     if let Err(status) = listen(id, settings, net, out) {
         return handed_back(alloc, status, node);
     }
-    match serve(alloc, &mut node, net, clock, settings) {
+    let Served { core, end } = serve(alloc, NodeCore { node }, net, clock, settings);
+    match end {
         Ok((end, lost)) => {
-            let (_, first, second) = node.park();
+            let (_, first, second) = core.node.park();
             Ending {
                 status: status_of(end),
                 first,
@@ -81,7 +82,7 @@ fn serve_opened<D: Disk, N: Net, C: Clock, K: Sink>(
                 lost,
             }
         }
-        Err(_) => handed_back(alloc, Status::NoMemory, node),
+        Err(_) => handed_back(alloc, Status::NoMemory, core.node),
     }
 }
 

@@ -6,12 +6,12 @@ use Rattle.op_setup.specs.declared.tasks.Task.{Task}
 use Rattle.op_setup.specs.declared.tasks.Task.TheVariants.{Node, Replay, Call, Cluster, Drill, DrillLinks}
 use Rattle.op_setup.proofs.TaskWords.{one_task}
 use Rattle.op_setup.specs.declared.config.Settings.{Settings}
-use Rattle.op_sessions.specs.declared.mark.Mark.{Mark}
+use Rattle.op_serving.specs.declared.mark.Mark.{Mark}
 use Rattle.op_client.specs.declared.call_fail.CallFail.{CallFail}
 use Rattle.op_client.specs.declared.call_fail.CallFail.TheVariants as fail
 use Rattle.op_node.specs.Nodes.{NodeState}
-use Rattle.op_loop.specs.declared.serve_end.ServeEnd.{ServeEnd}
-use Rattle.op_loop.specs.declared.serve_end.ServeEnd.TheVariants as ends
+use Rattle.op_serving.specs.declared.serve_end.ServeEnd.{ServeEnd}
+use Rattle.op_serving.specs.declared.serve_end.ServeEnd.TheVariants as ends
 use Rattle.op_status.specs.declared.status.Status.{Status}
 use Rattle.op_status.specs.declared.status.Status.TheVariants as status
 use Rattle.op_input.specs.Inputs.{IsMisconfigured}

@@ -2,7 +2,7 @@
 use Rattle.std.specs.Prelude.{◌≡◌, ℕ, List}
 use Rattle.op_outside.specs.Disks.{DiskState}
 use Rattle.op_outside.specs.Seen.{StreamSeen, Tells}
-use Rattle.op_sessions.specs.declared.mark.Mark.{Mark}
+use Rattle.op_serving.specs.declared.mark.Mark.{Mark}
 use Rattle.op_status.specs.Statuses.{status_line}
 use Rattle.op_status.specs.declared.status.Status.{Status}
 use Rattle.op_status.specs.declared.status.Status.TheVariants as status

@@ -5,7 +5,7 @@ use Rattle.op_outside.specs.Seen.{NetSeen, StreamSeen, SpawnerSeen}
 use Rattle.op_setup.specs.Tasks.{IsTask, IsTaskOf}
 use Rattle.op_setup.specs.declared.tasks.Task.{Task}
 use Rattle.op_setup.specs.declared.tasks.Task.TheVariants.{Node, Replay, Call, Cluster, Drill, DrillLinks}
-use Rattle.op_sessions.specs.declared.mark.Mark.{Mark}
+use Rattle.op_serving.specs.declared.mark.Mark.{Mark}
 use Rattle.op_status.specs.declared.status.Status.{Status}
 use Rattle.op_status.specs.declared.status.Status.TheVariants as status
 use Rattle.op_replay.specs.Answers.{Replays}

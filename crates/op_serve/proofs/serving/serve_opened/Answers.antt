@@ -1,4 +1,6 @@
 use Rattle.std.proofs.Common.{ap, ◌∙◌}
+use Rattle.op_core.specs.declared.node_core.NodeCore.{NodeCore}
+use Rattle.op_core.proofs.NodeCores.{stays_same}
 use Rattle.op_serve.proofs.Endings.{goes_unheard, goes_unserved, goes_served}
 use Rattle.op_serve.proofs.serving.serve_opened.Goals as goal
 
@@ -9,13 +11,15 @@ returns-in-Err g c =
 
 pub returns-in-Ok : goal.returns-in-Ok
 returns-in-Ok g c =
-    goes_served _ _ _ _ _ _ _ c.serve.new.node _ _ _ _ _ _ _ _ _ _ _ _ c.in_default.ensures c.in-Ok.ensures.serves
-    c.in-Ok.ensures.stored.kept (λ before. c.in-Ok.ensures.stored.stored (λ _. before)) c.park-first.ensures.first c.park-first.ensures.second c.status_of.ensures
+    let serves = rw c.in-Ok.is at c.serve-core.ensures.serves in
+    let stays = c.serve-core.ensures.stored (record { node = c.args.node }) (stays_same g.D.Disk.state c.args.node) in
+    goes_served _ _ _ _ _ _ _ c.serve-core.result.core.node _ _ _ _ _ _ _ _ _ _ _ _ c.in_default.ensures serves
+    stays.kept (λ before. stays.stored (λ _. before)) c.park-first.ensures.first c.park-first.ensures.second c.status_of.ensures
 
-pub returns-in-Err-serve : goal.returns-in-Err-serve
-returns-in-Err-serve g c =
-    let back = c.handed_back-in-Err-serve.ensures in
-    let unserved = c.in-Err-serve.ensures.unserved in
+pub returns-in-Err-end : goal.returns-in-Err-end
+returns-in-Err-end g c =
+    let back = c.handed_back-in-Err-end.ensures in
+    let unserved = rw c.in-Err-end.is at c.serve-core.ensures.unserved in
     goes_unserved _ _ _ _ _ _ _ _ _ _ _ _ _ _ _ _ _ _ _ c.in_default.ensures
     (ap (λ x. (g.N.Net.told x, g.N.Net.fault_count x)) unserved.net) unserved.clock.1
-    (back.first ∙ ap (λ n. n.store.first) unserved.node) (back.second ∙ ap (λ n. n.store.second) unserved.node) back.status back.lost
+    (back.first ∙ ap (λ (n : NodeCore _). n.node.store.first) unserved.node) (back.second ∙ ap (λ (n : NodeCore _). n.node.store.second) unserved.node) back.status back.lost

@@ -1,0 +1,61 @@
+-- In the writes: an Up has at most a frame for its own peer, a Down has none, and no other session changes.
+use Rattle.std.proofs.Common.{◌≡◌, ◌++◌, [], ℕ, List, Option, Some, None, if◌then◌else◌, refl, sym, ◌∙◌, ap, subst, inl, inr}
+use Rattle.std.proofs.lemmas.Bool.{ne_eqb}
+use Rattle.op_types.specs.declared.events.Input.TheVariants as input
+use Rattle.op_types.specs.declared.messages.Msg.{Msg}
+use Rattle.op_serving.specs.declared.node.Given.{Given}
+use Rattle.op_serving.specs.Cores.{Standing, gives}
+use Rattle.op_serving.specs.Wire.{peer_frame}
+use Rattle.op_serving.specs.State.{Loop, find, left_by, session_of, counted}
+use Rattle.op_serving.specs.Handing.{frame_at, frames_handed}
+use Rattle.op_serving.specs.Inputs.{State, Luck, Fate, done, faults, lost, frames_after, calm, enter, give, drained, given_together, leaves, over}
+use Rattle.op_connections.proofs.Queueing.{bytes_for}
+use Rattle.op_connections.proofs.Walking.{Falls, drained_holds}
+use Rattle.op_connections.proofs.Fading.{Stays, stays_then, stays_left, stays_calm, stays_enter}
+use Rattle.op_connections.proofs.Uppings.{Upping, ups, downs}
+
+-- nothing is handed out
+handed_none : (g : Given) (s : Loop) → g.sends ≡ [] → g.replies ≡ [] → frames_handed g s ≡ []
+handed_none g s sends replies = rw (sends, replies) refl
+
+-- but one message at most, to a peer whose session is another's
+handed_other : (c q : ℕ) (g : Given) (s : Loop) → Upping q g → (session_of q s ≡ Some c → ⊥) → bytes_for c (frames_handed g s) ≡ []
+handed_other c q g s u other = elim u.sends [
+  | inl none ↦ ap (bytes_for c) (handed_none g s none u.replies)
+  | inr one ↦ rw (one.1, u.replies) (at_other (session_of q s) refl one.0)
+]
+  where
+    at_other : (o : Option ℕ) → session_of q s ≡ o → (m : Msg) → bytes_for c ((frame_at o (peer_frame s.me q m) ++ []) ++ []) ≡ []
+    at_other None e m = refl
+    at_other (Some d) e m = ap (λ b. (if b then peer_frame s.me q m else []) ++ []) (ne_eqb d c (λ k. other (e ∙ ap Some k)))
+
+up_quiet : (c q : ℕ) (n : Standing) (s : Loop) → (session_of q s ≡ Some c → ⊥) → (f : Fate) → bytes_for c (frames_after None (input.Up q) f n s) ≡ []
+up_quiet c q n s other done = handed_other c q (gives n (input.Up q)) (counted s) (ups n q) other
+up_quiet c q n s other (faults k) = refl
+up_quiet c q n s other lost = refl
+
+down_quiet : (c q : ℕ) (n : Standing) (s : Loop) (f : Fate) → bytes_for c (frames_after None (input.Down q) f n s) ≡ []
+down_quiet c q n s done = let d = downs n q in ap (bytes_for c) (handed_none (gives n (input.Down q)) (counted s) d.sends d.replies)
+down_quiet c q n s (faults k) = refl
+down_quiet c q n s lost = refl
+
+-- what losses and Downs leave
+staying : (c : ℕ) (l : Luck) (start : Loop) → Falls l (λ s. Stays c start s.loop)
+staying c l start = record {
+  moves = λ s t u h. stays_then c start s.loop t h (inr (ap (find c) u.sessions));
+  calms = λ s h. stays_then c start s.loop (calm l s).loop h (stays_calm c l s);
+  downs = λ q s h. stays_then c start s.loop (enter l [] (input.Down q) s).loop h (stays_enter c l [] (input.Down q) s (λ f. down_quiet c q s.node s.loop f));
+}
+
+stays_drained : (c : ℕ) (l : Luck) (start : Loop) (s : State) → Stays c start s.loop → Stays c start (drained l s).loop
+stays_drained c l start s h = drained_holds l (λ v. Stays c start v.loop) (staying c l start) s h
+
+-- a peer goes up
+pub stays_up : (c q : ℕ) (l : Luck) (s : State) → (session_of q s.loop ≡ Some c → ⊥) → Stays c s.loop (give l [] (input.Up q) s).loop
+stays_up c q l s other = stays_drained c l s.loop (enter l [] (input.Up q) s) (stays_enter c l [] (input.Up q) s (λ f. up_quiet c q s.node s.loop other f))
+
+-- a session is over, where nothing was gathered
+pub stays_gone : (c d : ℕ) (l : Luck) (s : State) → s.loop.gathered ≡ [] → Stays c s.loop (over l d s).loop
+stays_gone c d l s none =
+    subst (λ (ps : List (ℕ × _)). Stays c s.loop (leaves l d (given_together l ps s)).loop) (sym none)
+    (stays_drained c l s.loop (record s { loop = left_by d s.loop }) (stays_left c d s.loop))

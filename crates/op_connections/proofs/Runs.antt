@@ -1,0 +1,145 @@
+-- A run keeps what each connection is promised, and the node is the fold of its step.
+use Rattle.std.proofs.Common.{Bool, true, false, is_some, option_map, ◌⊎◌, ◌≡◌, ◌<◌, ◌++◌, [], ℕ, List, length, Option, Some, None, refl, sym, ◌∙◌, ap, subst, inl, inr, arith}
+use Rattle.op_serving.specs.Cores.{Standing}
+use Rattle.op_serving.specs.State.{find}
+use Rattle.op_serving.specs.Inputs.{State, Luck}
+use Rattle.op_serving.specs.declared.kind.Kind.TheVariants.{Unknown, Peer}
+use Rattle.op_serving.specs.declared.session.Session.{Session}
+use Rattle.std.specs.Map.{keys_of}
+use Rattle.std.proofs.lemmas.List.{append-nil}
+use Rattle.op_connections.proofs.Tables.{Rising}
+use Rattle.op_serving.specs.Losses.{most_marks}
+use Rattle.op_serving.specs.Inputs.{kept}
+use Rattle.op_serving.specs.declared.serve_end.ServeEnd.TheVariants as ends
+use Rattle.op_serving.specs.Pump.{Settings, Stage, turn, time, dials, asks, reads, writes, stop, Pump, Answer, after, calls}
+use Rattle.op_serving.specs.Answers.{Answers}
+use Rattle.op_serving.specs.Promise.{newborn, life, at_conn, KeepsClosed, KeepsOpen, KeepsAt, Keeps, folded}
+use Rattle.op_connections.specs.Runs.{Begins, inputs, luck_of, IsRun, calls_of}
+use Rattle.op_connections.proofs.Keeping.{kept_promise}
+use Rattle.op_connections.proofs.Dealing.{AllKept}
+use Rattle.op_connections.proofs.Folding.{Folds, folds_none, folds_closed}
+use Rattle.op_connections.proofs.Pumping.{Goes, run_kept}
+use Rattle.op_connections.proofs.Promises.{promises_closed}
+use Rattle.op_connections.proofs.Registering.{Registered}
+use Rattle.op_connections.specs.Hearing.{HearsAll}
+use Rattle.op_connections.proofs.Fading.{front_in}
+use Rattle.op_connections.proofs.Heeding.{AllAwait, Heeds, heeds_closed}
+use Rattle.op_connections.proofs.Turns.{Known, between, known_run}
+use Rattle.op_connections.proofs.Writing.{AllTaken}
+use Rattle.op_connections.specs.Taking.{is_full, IsBetween, IsDone}
+
+-- ---- from the start
+
+closed_before : (me : ℕ) → KeepsClosed me (newborn []) []
+closed_before me = record {
+  kind = Unknown;
+  dealt = [];
+  rest = [];
+  split = refl;
+  hears = (refl, refl);
+  none = refl;
+  waits = [];
+  said = refl;
+}
+
+kept_before : (s : State) → Begins s → AllKept s.loop.me s
+kept_before s b c = record {
+  at = rw (b.sessions, b.gathered, b.deeds) (closed_before s.loop.me);
+  spent = λ full. b.sessions;
+  me_is = refl;
+}
+
+registered_before : (s : State) → Begins s → Registered s.loop
+registered_before s b = record {
+  rising = subst (λ t. Rising (keys_of t)) (sym b.sessions) tt;
+  named = λ q c h e. absurd (let bad : Some (Peer q h) ≡ None = sym e ∙ ap (λ t. option_map (λ (x : Session). x.kind) (find c t)) b.sessions in cc);
+}
+
+few_before : (s : State) → Begins s → length s.loop.lost < most_marks
+few_before s b = rw b.lost (omega arith)
+
+module _ (o : Settings) (l : Luck) (line : Standing → List ℕ) (given : List Answer) (p : Pump) (b : Begins p.driver) (is : Answers o l line given p) where
+  pub all_kept : AllKept p.driver.loop.me (after o l line given p).driver
+  all_kept =
+      let g : Goes o l line (AllKept p.driver.loop.me) (promises_closed p.driver.loop.me l line) p = record { holds = kept_before p.driver b; runs = inr (few_before p.driver b) } in
+      (run_kept o l line (AllKept p.driver.loop.me) (promises_closed p.driver.loop.me l line) given p is g).holds
+
+  pub keeps : Keeps (after o l line given p).driver
+  keeps c =
+      let t : State = (after o l line given p).driver in
+      let k = all_kept c in
+      subst (λ (me : ℕ). KeepsAt me (life c t.deeds) (at_conn c t.loop.gathered) (find c t.loop.sessions)) (sym k.me_is)
+      (kept_promise p.driver.loop.me (life c t.deeds) (at_conn c t.loop.gathered) (find c t.loop.sessions) k.at)
+
+  pub folds : (after o l line given p).driver.node ≡ folded p.driver.node (after o l line given p).driver.deeds
+  folds =
+      let g : Goes o l line (Folds p.driver) (folds_closed l p.driver line) p = record { holds = folds_none p.driver p.driver refl refl; runs = inr (few_before p.driver b) } in
+      let f = (run_kept o l line (Folds p.driver) (folds_closed l p.driver line) given p is g).holds in
+      f.node ∙ ap (folded p.driver.node) (sym (f.deeds ∙ ap (λ ds. ds ++ f.added) b.deeds))
+
+-- ---- two runs
+
+pub follow : (o : Settings) (line : Standing → List ℕ) (given : List Answer) (p end other : Pump) → IsRun o line given p end → IsRun o line given p other
+    → end.driver.loop.lost ≡ other.driver.loop.lost → kept end.driver.deeds ≡ kept other.driver.deeds
+    → (inputs end.driver.deeds ≡ inputs other.driver.deeds) × (calls_of o line given p end ≡ calls_of o line given p other) × (end ≡ other)
+follow o line given p end other one two marks fates =
+    let luck : luck_of end.driver ≡ luck_of other.driver = ap (λ m. record (luck_of end.driver) { marks = m }) marks ∙ ap (λ f. record (luck_of other.driver) { fates = f }) fates in
+    let same : end ≡ other = one ∙ ap (λ l. after o l line given p) luck ∙ sym two in
+    (ap (λ (e : Pump). inputs e.driver.deeds) same, ap (λ l. calls o l line given p) luck, same)
+
+-- ---- once the writes of a turn are over
+
+known_before : (full : ℕ → Bool) (st : Stage) (s : State) → Begins s → Known full st s.loop
+known_before full st s b = by_stage st
+  where
+    none : (d : ℕ) (y : Session) → find d s.loop.sessions ≡ Some y → ⊥
+    none d y there = let bad : Some y ≡ None = sym there ∙ ap (find d) b.sessions in cc
+
+    by_stage : (e : Stage) → Known full e s.loop
+    by_stage turn = (b.gathered, λ d y there. absurd (none d y there))
+    by_stage (time n) = tt
+    by_stage (dials ps n) = tt
+    by_stage (asks i n) = tt
+    by_stage (reads c i n) = tt
+    by_stage (writes low) = (b.gathered, λ d y lt there. absurd (none d y there))
+    by_stage (stop ends.Ended) = (b.gathered, λ d y there. absurd (none d y there))
+    by_stage (stop ends.TurnsOver) = (b.gathered, λ d y there. absurd (none d y there))
+    by_stage (stop ends.NetFault) = tt
+    by_stage (stop ends.Starved) = (b.gathered, λ d y there. absurd (none d y there))
+
+module _ (o : Settings) (l : Luck) (line : Standing → List ℕ) (given : List Answer) (p : Pump) (b : Begins p.driver) (is : Answers o l line given p) where
+  pub done : IsBetween (after o l line given p).at → IsDone (calls o l line given p) (after o l line given p).driver
+  done here = record { given = k.0; taken = λ c is_there. taken c (find c t.loop.sessions) refl is_there }
+    where
+      t : State
+      t = (after o l line given p).driver
+
+      full : ℕ → Bool
+      full = λ c. is_full c (calls o l line given p)
+
+      k : (t.loop.gathered ≡ []) × AllTaken full t.loop
+      k = between full (after o l line given p).at t.loop here (known_run o l line p.driver.loop.me given p (λ c. false) is
+          (record { holds = kept_before p.driver b; runs = inr (few_before p.driver b) })
+          (record { holds = registered_before p.driver b; runs = inr (few_before p.driver b) })
+          (known_before (λ c. false) p.at p.driver b))
+
+      taken : (c : ℕ) (s : Option Session) → find c t.loop.sessions ≡ s → is_some s ≡ true → ((life c t.deeds).said ≡ (life c t.deeds).taken) ⊎ (full c ≡ true)
+      taken c None e open_there = absurd cc
+      taken c (Some y) e open_there =
+          let own : KeepsOpen t.loop.me (life c t.deeds) (at_conn c t.loop.gathered) y = subst (λ (s : Option Session). KeepsAt t.loop.me (life c t.deeds) (at_conn c t.loop.gathered) s) e (keeps o l line given p b is c) in
+          elim (k.1 c y e) [
+            | inl empty ↦ inl (own.said ∙ ap (λ q. (life c t.deeds).taken ++ q) empty ∙ append-nil (life c t.deeds).taken)
+            | inr last ↦ inr last
+          ]
+
+-- ---- whole frames
+
+awaits_before : (s : State) → Begins s → AllAwait s
+awaits_before s b c k x e = absurd (let bad : None ≡ Some (k, x) = sym (ap (λ t. front_in (find c t)) b.sessions) ∙ e in cc)
+
+module _ (o : Settings) (l : Luck) (line : Standing → List ℕ) (given : List Answer) (p : Pump) (b : Begins p.driver) (is : Answers o l line given p) where
+  pub heeds : HearsAll (after o l line given p).driver
+  heeds c y there =
+      let me : ℕ = p.driver.loop.me in
+      let g : Goes o l line (Heeds me) (heeds_closed me l line) p = record { holds = record { kept = kept_before p.driver b; awaits = awaits_before p.driver b }; runs = inr (few_before p.driver b) } in
+      (run_kept o l line (Heeds me) (heeds_closed me l line) given p is g).holds.awaits c y.kind y.frames (ap front_in there)

@@ -1,0 +1,115 @@
+-- What an Up and a Down give out: an Up at most messages to its peer, a Down nothing.
+use Rattle.std.proofs.Common.{nat_eq, ◌≡◌, ◌-◌, ◌++◌, ◌∷◌, ◌⊎◌, inl, inr, [], ℕ, Bool, true, false, List, take, Option, Some, None, refl, arith, if◌then◌else◌}
+use Rattle.std.proofs.lemmas.List.{length-take, drop_all}
+use Rattle.op_types.specs.declared.durable.Part.{Part}
+use Rattle.op_types.specs.declared.durable.Joining.{Joining}
+use Rattle.op_types.specs.declared.events.Input.TheVariants as input
+use Rattle.op_types.specs.declared.messages.Msg.{Msg}
+use Rattle.op_types.specs.Roles.{Role, Idle, Preparing, Leading}
+use Rattle.op_types.specs.RoleStates.{without_synced}
+use Rattle.std.specs.Set.{is_member}
+use Rattle.op_types.specs.declared.log.Entry.{Entry}
+use Rattle.op_types.specs.declared.messages.Body.TheVariants as body
+use Rattle.op_protocol.specs.State.{State, Volatile, PartStep, Planned, with_effects}
+use Rattle.op_protocol.specs.Parts.{decided_since, others, message, nothing, saying}
+use Rattle.op_protocol.specs.Leader.{session_down}
+use Rattle.op_protocol.specs.Serving.{Served, serving}
+use Rattle.op_protocol.specs.Configurations.{closing}
+use Rattle.op_protocol.specs.Rows.{based_batch, newly_decided, plan_of, step_plan, up_at}
+use Rattle.op_serving.specs.declared.node.Given.{Given}
+use Rattle.op_serving.specs.Cores.{Standing, gives, given_of, refused_with}
+
+-- ---- a plan that changes nothing that is stored, and answers nobody
+
+nothing_decided : (p : Part) → decided_since p p ≡ []
+nothing_decided p = drop_all (p.decided - p.trimmed) (take (p.decided - p.trimmed) p.tail.items) (omega (arith, length-take (p.decided - p.trimmed) p.tail.items))
+
+module _ (me : ℕ) (s : State) (v : Volatile) (sends : List (ℕ × Msg)) where
+  abbrev quietly : PartStep
+  quietly = record { batch = []; volatile = v; sends = sends; replies = []; outcome = None }
+
+  abbrev served : List Entry → Served
+  served entries = serving s.service s.waiting entries
+
+  -- with this part
+  abbrev plan_with : Option Part → Planned
+  plan_with o = closing me o (record {
+    batch = based_batch o [];
+    volatile = v;
+    service = (served (newly_decided o [])).service;
+    waiting = (served (newly_decided o [])).waiting;
+    sends = sends;
+    replies = (served (newly_decided o [])).replies ++ [];
+    outcome = None;
+  })
+
+  quiet_with : (o : Option Part) → ((plan_with o).sends ≡ sends) × ((plan_with o).replies ≡ [])
+  quiet_with None = (refl, refl)
+  quiet_with (Some p) = rw (nothing_decided p) (refl, refl)
+
+  quiet_plan : ((plan_of me s s.waiting quietly).sends ≡ sends) × ((plan_of me s s.waiting quietly).replies ≡ [])
+  quiet_plan = quiet_with s.durable.part
+
+-- ---- Ups and Downs
+
+-- nobody is answered, and at most one message is sent, to this peer
+pub record Upping (q : ℕ) (g : Given) : Type 0 where
+  pub sends : (g.sends ≡ []) ⊎ ((m : Msg) × (g.sends ≡ (q, m) ∷ []))
+  pub replies : g.replies ≡ []
+
+abbrev of_plan : ℕ → State → Volatile → List (ℕ × Msg) → Given
+of_plan me s v sends = given_of (plan_of me s s.waiting (quietly me s v sends))
+
+upping_none : (me q : ℕ) (s : State) (v : Volatile) → Upping q (of_plan me s v [])
+upping_none me q s v = let quiet = quiet_plan me s v [] in record { sends = inl quiet.0; replies = quiet.1 }
+
+upping_one : (me q : ℕ) (s : State) (v : Volatile) (m : Msg) → Upping q (of_plan me s v ((q, m) ∷ []))
+upping_one me q s v m = let quiet = quiet_plan me s v ((q, m) ∷ []) in record { sends = inr (m, quiet.0); replies = quiet.1 }
+
+up_plan : (me q : ℕ) (s : State) → Upping q (given_of (step_plan me s (input.Up q)))
+up_plan me q s = by_part s.durable.part s.durable.joining
+  where
+    v : Volatile
+    v = s.volatile
+
+    by_member : (p : Part) (b : Bool) → Upping q (given_of (plan_of me s s.waiting (with_effects v (if b then saying v.role (message p.conf q body.PrepareReq ∷ []) else nothing v.role))))
+    by_member p true = upping_one me q s (record v { role = v.role }) (record { conf = p.conf; body = body.PrepareReq })
+    by_member p false = upping_none me q s (record v { role = v.role })
+
+    by_part : (o : Option Part) (j : Option Joining) → Upping q (given_of (plan_of me s s.waiting (up_at me o j v q)))
+    by_part (Some p) None = by_member p (is_member nat_eq (others me p.members) q)
+    by_part (Some p) (Some j) = upping_none me q s v
+    by_part None None = upping_none me q s v
+    by_part None (Some j) = upping_none me q s v
+
+-- a Down gives out nothing
+pub record Silent (g : Given) : Type 0 where
+  pub sends : g.sends ≡ []
+  pub replies : g.replies ≡ []
+
+down_plan : (me q : ℕ) (s : State) → Silent (given_of (step_plan me s (input.Down q)))
+down_plan me q s = by_role s.volatile.role
+  where
+    silent : (r : Role) → Silent (of_plan me s (record s.volatile { role = r }) [])
+    silent r = let quiet = quiet_plan me s (record s.volatile { role = r }) [] in record { sends = quiet.0; replies = quiet.1 }
+
+    by_role : (r : Role) → Silent (given_of (plan_of me s s.waiting (with_effects s.volatile (session_down r q))))
+    by_role Idle = silent Idle
+    by_role (Preparing x) = silent (Preparing x)
+    by_role (Leading x) = silent (Leading (without_synced x q))
+
+pub ups : (n : Standing) (q : ℕ) → Upping q (gives n (input.Up q))
+unfolding gives
+ups n q = by_failed n.failed
+  where
+    by_failed : (f : Option ℕ) → Upping q (elim f [ None ↦ given_of (step_plan n.me n.state (input.Up q)) | Some count ↦ refused_with count (input.Up q) ])
+    by_failed None = up_plan n.me q n.state
+    by_failed (Some count) = record { sends = inl refl; replies = refl }
+
+pub downs : (n : Standing) (q : ℕ) → Silent (gives n (input.Down q))
+unfolding gives
+downs n q = by_failed n.failed
+  where
+    by_failed : (f : Option ℕ) → Silent (elim f [ None ↦ given_of (step_plan n.me n.state (input.Down q)) | Some count ↦ refused_with count (input.Down q) ])
+    by_failed None = down_plan n.me q n.state
+    by_failed (Some count) = record { sends = refl; replies = refl }

@@ -1,0 +1,48 @@
+ghost use Rattle.std.specs.Prelude.{◌≡◌, ℕ, List};
+ghost use Rattle.op_serving.specs.Cores.{Standing};
+ghost use Rattle.op_serving.specs.Inputs.{Luck, kept};
+ghost use Rattle.op_serving.specs.Pump.{Settings, Pump, Answer, after, calls};
+ghost use Rattle.op_serving.specs.Answers.{Answers};
+ghost use Rattle.op_serving.specs.Promise.{Keeps, folded};
+ghost use Rattle.op_connections.specs.Runs.{Begins, IsRun, inputs, calls_of};
+ghost use Rattle.op_connections.specs.Hearing.{HearsAll};
+ghost use Rattle.op_connections.specs.Taking.{IsBetween, IsDone};
+
+/// Whatever net and clock answer, and wherever memory is wanting: the inputs of each connection are those of the frames of the
+/// bytes that it read, in order, each command for its own connection, and no whole frame of an open one is left; the bytes that it
+/// took are the first of its hello and of the frames for it, and while it is open the others wait.
+pub fn connections_keep()
+    ensures keeps { (o : Settings) (l : Luck) (line : Standing → List ℕ) (answers : List Answer) (p : Pump)
+        → Begins p.driver → Answers o l line answers p → Keeps (after o l line answers p).driver }
+    ensures hears { (o : Settings) (l : Luck) (line : Standing → List ℕ) (answers : List Answer) (p : Pump)
+        → Begins p.driver → Answers o l line answers p → HearsAll (after o l line answers p).driver }
+{}
+
+/// Between two turns, and at each end for which no fault of the net is the cause, no command waits to be given, and what an open
+/// connection took is all that was said for it, unless its last write took nothing.
+pub fn turns_take_all()
+    ensures { (o : Settings) (l : Luck) (line : Standing → List ℕ) (answers : List Answer) (p : Pump)
+        → Begins p.driver → Answers o l line answers p → IsBetween (after o l line answers p).at
+        → IsDone (calls o l line answers p) (after o l line answers p).driver }
+{}
+
+/// The node is the fold of its step over all inputs of the run.
+pub fn nodes_fold()
+    ensures { (o : Settings) (l : Luck) (line : Standing → List ℕ) (answers : List Answer) (p : Pump)
+        → Begins p.driver → Answers o l line answers p
+        → (after o l line answers p).driver.node
+        ≡ folded p.driver.node (after o l line answers p).driver.deeds }
+{}
+
+/// What a run does is a function of what net and clock answered, of the marks of what was lost for want of memory, and of what
+/// came of the inputs that were not lost: two runs from one start with the same of these have the same inputs, lost ones too
+/// with what came of each, make the same calls of the net, and end in the same way and in the same state. Where else memory was
+/// wanting doesn't matter.
+pub fn runs_follow_answers()
+    ensures { (o : Settings) (line : Standing → List ℕ) (answers : List Answer) (p end other : Pump)
+        → IsRun o line answers p end → IsRun o line answers p other
+        → end.driver.loop.lost ≡ other.driver.loop.lost
+        → kept end.driver.deeds ≡ kept other.driver.deeds
+        → (inputs end.driver.deeds ≡ inputs other.driver.deeds)
+        × (calls_of o line answers p end ≡ calls_of o line answers p other) × (end ≡ other) }
+{}

@@ -1,0 +1,372 @@
+-- A node in range does each step that the loop gives it, and stays in range; so is one that is opened.
+use Rattle.std.specs.Set.{is_member}
+use Rattle.std.proofs.Common.{◌≡◌, ◌≤◌, ℕ, nat_eq, if◌then◌else◌, ap₂, Bool, true, false, List, Option, Some, None, Result, Ok, Err, All, IfSome, IfOk, get_or, refl, sym, ap, subst, ◌∙◌, arith}
+use Rattle.std.proofs.lemmas.List.Elements.{All-nil, All-weaker}
+use Rattle.op_types.specs.Limits.{positions_end}
+use Rattle.op_types.specs.Changes.{IsCommand, empty_durable}
+use Rattle.op_types.specs.Ranges.{IsPid, EntryInRange, EntriesInRange}
+use Rattle.op_types.specs.declared.answers.Answer.{Answer}
+use Rattle.op_types.specs.declared.answers.Answer.TheVariants as answer
+use Rattle.op_types.specs.declared.answers.Cause.TheVariants as cause
+use Rattle.op_types.specs.declared.answers.Reply.{Reply}
+use Rattle.op_types.specs.declared.durable.Durable.{Durable}
+use Rattle.op_types.specs.declared.durable.Part.{Part}
+use Rattle.op_types.specs.declared.durable.Joining.{Joining}
+use Rattle.op_types.specs.declared.log.Entry.{Entry}
+use Rattle.op_types.specs.declared.events.Input.{Input}
+use Rattle.op_types.specs.declared.events.Input.TheVariants as input
+use Rattle.op_types.specs.declared.messages.Body.{Body}
+use Rattle.op_types.specs.declared.messages.Body.TheVariants as body
+use Rattle.op_types.specs.declared.messages.Msg.{Msg}
+use Rattle.op_record.specs.Ranges.{BatchInRange, ChangeInRange, PartInRange, JoiningInRange, DurableInRange}
+use Rattle.op_msg.specs.Ranges.{BodyInRange, ForwardedInRange, ForwardsInRange, least_conf_of}
+use Rattle.op_command.specs.Ranges.{AnswerInRange, OutcomeInRange}
+use Rattle.op_protocol.specs.State.{State}
+use Rattle.op_protocol.specs.Rows.{step_plan}
+use Rattle.op_bounds.specs.Messages.{EntryOf, EntriesOf}
+use Rattle.op_bounds.specs.Messages as known
+use Rattle.op_bounds.specs.States.{RoleEndsNowhere, StateInRange}
+use Rattle.op_types.specs.Roles.{Idle}
+use Rattle.op_bounds.specs.Laws.{PlanInRange, OpeningInRange}
+use Rattle.op_bounds.proofs.Steps.{steps_stay}
+use Rattle.op_bounds.proofs.Starts.{openings_stay}
+use Rattle.op_bounds.proofs.Known.{servers, ballot_any, members_any, entry_any, entries_any, durable_any}
+use Rattle.op_bounds.proofs.ReadBases.{base_if_read}
+use Rattle.op_chain.specs.declared.given.Given.{Given}
+use Rattle.op_node.specs.Nodes as node
+use Rattle.op_node.specs.Nodes.{NodeState, node_of, stores, Stepped, AdmitsInput, IsSoundNode}
+use Rattle.op_node.specs.Openings.{Opens, durable_for, part_for, joining_for, opening_state}
+use Rattle.op_outside.specs.Causes.{FaultsRose}
+use Rattle.op_outside.specs.Disks.{DiskState}
+use Rattle.op_runs.specs.World.{state_after_reopening}
+use Rattle.op_store.specs.declared.fail.StoreFail.{StoreFail}
+use Rattle.op_store.specs.Failing.{faults}
+use Rattle.op_store.specs.Stored.{Disks}
+use Rattle.op_store.proofs.KeptDisks.{keep_same, keep_both}
+use Rattle.op_store.specs.Stores.{Represents, disks_of}
+use Rattle.op_node.specs.Failing.{TellsStep}
+use Rattle.op_node.specs.Reopenings.{Reopens, RefusesAgain}
+use Rattle.op_node.specs.Steps.{Steps}
+use Rattle.op_node.specs.declared.node.Node.{Node}
+use Rattle.op_node.specs.declared.fail.StepFail.{StepFail}
+use Rattle.op_node.specs.declared.fail.StepFail.TheVariants as fails
+use Rattle.op_node.proofs.Represented.{stepped_represented}
+use Rattle.op_serving.specs.Cores as cores
+use Rattle.op_serving.specs.Cores.{Standing}
+use Rattle.op_serving.specs.Ranges.{InputInRange, SendInRange, ReplyInRange, GivenInRange}
+use Rattle.op_core.specs.NodeCores.{BringsBytes, IsOfBytes, handed, handed_of, standing_at, standing_of, IsServable, IsStoredWhileUp, StaysStored}
+
+-- ---- from one form of range to the other
+
+entry_is : (e : Entry) → EntryOf IsPid e → EntryInRange e
+entry_is e r = r.0
+
+entries_is : (es : List Entry) → EntriesOf IsPid es → EntriesInRange positions_end es
+entries_is es r = record { few = r.few; each = All-weaker (EntryOf IsPid) EntryInRange entry_is es r.each }
+
+forwards_of : (es : List Entry) → ForwardsInRange es → known.ForwardsInRange IsPid es
+forwards_of es r =
+    record {
+      several = r.several;
+      few = r.few;
+      each = All-weaker ForwardedInRange (EntryOf IsPid) (λ e f. entry_any e f.0) es r.each;
+      commands = All-weaker ForwardedInRange IsCommand (λ e f. f.1) es r.each;
+    }
+
+both : (es : List Entry) → All (EntryOf IsPid) es → All IsCommand es → All ForwardedInRange es
+both es r f k d lt = (entry_is (get_or es k d) (r k d lt), f k d lt)
+
+forwards_is : (es : List Entry) → known.ForwardsInRange IsPid es → ForwardsInRange es
+forwards_is es r = record { several = r.several; few = r.few; each = both es r.each r.commands }
+
+least_of : (b : Body) (c : ℕ) → least_conf_of b ≤ c → known.least_conf_of b ≤ c
+least_of (body.NextConf members olds len trimmed) c h = h
+least_of _ c h = h
+
+least_is : (b : Body) (c : ℕ) → known.least_conf_of b ≤ c → least_conf_of b ≤ c
+least_is (body.NextConf members olds len trimmed) c h = h
+least_is _ c h = h
+
+body_of : (b : Body) → BodyInRange b → BringsBytes b → known.BodyInRange IsPid b
+body_of (body.HeartbeatRequest round) r w = r
+body_of (body.HeartbeatReply round b flag) r w = (r.0, ballot_any b r.1)
+body_of (body.Prepare n na nl nd) r w = (ballot_any n r.0, ballot_any na r.1, r.2, r.3)
+body_of (body.Promise n fa fl fd s es) r w = (ballot_any n r.0, ballot_any fa r.1, r.2, r.3, r.4, entries_any es r.5)
+body_of (body.AcceptSync n x es) r w = (ballot_any n r.0, r.1, entries_any es r.2)
+body_of (body.Accept n at es) r w = (ballot_any n r.0, r.1, entries_any es r.2)
+body_of (body.Accepted n x) r w = (ballot_any n r.0, r.1)
+body_of (body.Decide n x) r w = (ballot_any n r.0, r.1)
+body_of body.PrepareReq r w = tt
+body_of (body.Refuse n b) r w = (ballot_any n r.0, ballot_any b r.1)
+body_of (body.Forward e) r w = entry_any e r
+body_of (body.Forwards es) r w = forwards_of es r
+body_of (body.TrimAsk n) r w = ballot_any n r
+body_of (body.Progress n x) r w = (ballot_any n r.0, r.1)
+body_of (body.Trim x) r w = r
+body_of (body.NextConf members olds len trimmed) r w = (members_any members r.0, members_any olds r.1, r.2, r.3)
+body_of body.AskBase r w = tt
+body_of (body.BasePart at bytes) r w = (r, base_if_read bytes w)
+body_of (body.AskSegment from to) r w = r
+body_of (body.Segment at es) r w = (r.0, entries_any es r.1)
+
+body_is : (b : Body) → known.BodyInRange IsPid b → BodyInRange b
+body_is (body.HeartbeatRequest round) r = r
+body_is (body.HeartbeatReply round b flag) r = (r.0, r.1.range)
+body_is (body.Prepare n na nl nd) r = (r.0.range, r.1.range, r.2, r.3)
+body_is (body.Promise n fa fl fd s es) r = (r.0.range, r.1.range, r.2, r.3, r.4, entries_is es r.5)
+body_is (body.AcceptSync n x es) r = (r.0.range, r.1, entries_is es r.2)
+body_is (body.Accept n at es) r = (r.0.range, r.1, entries_is es r.2)
+body_is (body.Accepted n x) r = (r.0.range, r.1)
+body_is (body.Decide n x) r = (r.0.range, r.1)
+body_is body.PrepareReq r = tt
+body_is (body.Refuse n b) r = (r.0.range, r.1.range)
+body_is (body.Forward e) r = entry_is e r
+body_is (body.Forwards es) r = forwards_is es r
+body_is (body.TrimAsk n) r = r.range
+body_is (body.Progress n x) r = (r.0.range, r.1)
+body_is (body.Trim x) r = r
+body_is (body.NextConf members olds len trimmed) r = (r.0.range, r.1.range, r.2, r.3)
+body_is body.AskBase r = tt
+body_is (body.BasePart at bytes) r = r.0
+body_is (body.AskSegment from to) r = r
+body_is (body.Segment at es) r = (r.0, entries_is es r.1)
+
+input_of : (x : Input) → InputInRange x → IsOfBytes x → known.InputInRange IsPid x
+input_of input.Tick r w = tt
+input_of (input.Deliver q m) r w = (r.0, record { conf = r.1.conf; least = least_of m.body m.conf r.1.least; body = body_of m.body r.1.body w })
+input_of (input.Commands cs) r w = r
+input_of (input.Stop members) r w = members_any members r
+input_of input.TrimNow r w = tt
+input_of (input.Up q) r w = r
+input_of (input.Down q) r w = r
+
+send_is : (s : ℕ × Msg) → known.SendInRange IsPid s → SendInRange s
+send_is s r = (r.to, record { conf = r.message.conf; least = least_is s.1.body s.1.conf r.message.least; body = body_is s.1.body r.message.body })
+
+cause_is : (a : Answer) → known.AnswerInRange IsPid a → AnswerInRange a
+cause_is answer.Done r = tt
+cause_is (answer.Value v) r = r
+cause_is answer.Absent r = tt
+cause_is answer.Stale r = tt
+cause_is (answer.Dropped (cause.Ballot b)) r = r.range
+cause_is (answer.Dropped (cause.Stop pos)) r = r
+cause_is (answer.Dropped cause.End) r = tt
+
+reply_is : (a : Reply) → known.ReplyInRange IsPid a → ReplyInRange a
+reply_is a r = record { asked = r.asked; answer = cause_is a.answer r.answer }
+
+-- ---- a step
+
+-- what a node stores is in range
+batch_at : (me : ℕ) (s : State) (o : Option ℕ) (x : Input) → IsPid me → StateInRange IsPid s → InputInRange x → IsOfBytes x → BatchInRange (stores (record { me = me; state = s; failed = o }) x)
+batch_at me s None x one range r w = (steps_stay IsPid servers me one s range x (input_of x r w)).batch
+batch_at me s (Some count) x one range r w = record { few = omega arith; each = All-nil ChangeInRange }
+
+pub batch_in : (n : NodeState) (x : Input) → IsPid n.me → StateInRange IsPid n.state → InputInRange x → IsOfBytes x → BatchInRange (stores n x)
+batch_in n x one range r w = batch_at n.me n.state n.failed x one range r w
+
+-- what it gives out, but that the count of a fault fits its type
+pub record Handed (g : Given) : Type 0 where
+  pub sends : All SendInRange g.sends
+  pub replies : All ReplyInRange g.replies
+  pub outcome : IfSome g.outcome (known.OutcomeInRange IsPid)
+
+refused_at : (count : ℕ) (x : Input) → Handed (node.refused_with count x)
+refused_at count input.Tick = record { sends = All-nil SendInRange; replies = All-nil ReplyInRange; outcome = tt }
+refused_at count (input.Deliver q m) = record { sends = All-nil SendInRange; replies = All-nil ReplyInRange; outcome = tt }
+refused_at count (input.Commands cs) = record { sends = All-nil SendInRange; replies = All-nil ReplyInRange; outcome = tt }
+refused_at count (input.Stop members) = record { sends = All-nil SendInRange; replies = All-nil ReplyInRange; outcome = tt }
+refused_at count input.TrimNow = record { sends = All-nil SendInRange; replies = All-nil ReplyInRange; outcome = tt }
+refused_at count (input.Up q) = record { sends = All-nil SendInRange; replies = All-nil ReplyInRange; outcome = tt }
+refused_at count (input.Down q) = record { sends = All-nil SendInRange; replies = All-nil ReplyInRange; outcome = tt }
+
+handed_at : (me : ℕ) (s : State) (o : Option ℕ) (x : Input) → IsPid me → StateInRange IsPid s → InputInRange x → IsOfBytes x → Handed (node.gives (record { me = me; state = s; failed = o }) x)
+handed_at me s None x one range r w =
+    let p : PlanInRange IsPid s (step_plan me s x) = steps_stay IsPid servers me one s range x (input_of x r w) in
+    record {
+      sends = All-weaker (known.SendInRange IsPid) SendInRange send_is (step_plan me s x).sends p.sends;
+      replies = All-weaker (known.ReplyInRange IsPid) ReplyInRange reply_is (step_plan me s x).replies p.replies;
+      outcome = p.outcome;
+    }
+handed_at me s (Some count) x one range r w = refused_at count x
+
+pub given_in : (n : NodeState) (x : Input) → IsPid n.me → StateInRange IsPid n.state → InputInRange x → IsOfBytes x → Handed (node.gives n x)
+given_in n x one range r w = handed_at n.me n.state n.failed x one range r w
+
+-- its state after it
+after_at : (me : ℕ) (s : State) (o : Option ℕ) (x : Input) → IsPid me → StateInRange IsPid s → InputInRange x → IsOfBytes x
+    → StateInRange IsPid (node.after_input (record { me = me; state = s; failed = o }) x).state
+after_at me s None x one range r w = (steps_stay IsPid servers me one s range x (input_of x r w)).after
+after_at me s (Some count) x one range r w = range
+
+pub after_in : (n : NodeState) (x : Input) → IsPid n.me → StateInRange IsPid n.state → InputInRange x → IsOfBytes x → StateInRange IsPid (node.after_input n x).state
+after_in n x one range r w = after_at n.me n.state n.failed x one range r w
+
+me_at : (me : ℕ) (s : State) (o : Option ℕ) (x : Input) → (node.after_input (record { me = me; state = s; failed = o }) x).me ≡ me
+me_at me s None x = refl
+me_at me s (Some count) x = refl
+
+pub same_me : (n : NodeState) (x : Input) → (node.after_input n x).me ≡ n.me
+same_me n x = me_at n.me n.state n.failed x
+
+failed_at : (me : ℕ) (s : State) (o : Option ℕ) (x : Input) → (node.after_input (record { me = me; state = s; failed = o }) x).failed ≡ o
+failed_at me s None x = refl
+failed_at me s (Some count) x = refl
+
+pub same_failed : (n : NodeState) (x : Input) → (node.after_input n x).failed ≡ n.failed
+same_failed n x = failed_at n.me n.state n.failed x
+
+-- the node can do the step
+pub admits : {D : Type 0} (n : Node D) (x : Input) → IsServable n → InputInRange x → IsOfBytes x → AdmitsInput n x
+admits n x s r w = record { sound = s.sound; range = batch_in (node_of n) x s.me s.range r w }
+
+-- it can be served after it
+pub stays : {D : Type 0} (n m : Node D) (x : Input) (result : Result Given StepFail) → IsServable n → InputInRange x → IsOfBytes x → Stepped (node_of n) x result (node_of m) → IsSoundNode m → IsServable m
+stays n m x (Ok given) s r w d sound =
+    record {
+      me = subst IsPid (sym (ap (λ (k : NodeState). k.me) d.1 ∙ same_me (node_of n) x)) s.me;
+      sound = sound;
+      range = subst (StateInRange IsPid) (sym (ap (λ (k : NodeState). k.state) d.1)) (after_in (node_of n) x s.me s.range r w);
+    }
+stays n m x (Err (fails.DiskFail count)) s r w d sound =
+    record { me = subst IsPid (sym (ap (λ (k : NodeState). k.me) d)) s.me; sound = sound; range = subst (StateInRange IsPid) (sym (ap (λ (k : NodeState). k.state) d)) s.range }
+stays n m x (Err fails.NoMemory) s r w d sound =
+    record { me = subst IsPid (sym (ap (λ (k : NodeState). k.me) d)) s.me; sound = sound; range = subst (StateInRange IsPid) (sym (ap (λ (k : NodeState). k.state) d)) s.range }
+
+-- it is the step that serving knows
+refuses_so : (count : ℕ) (x : Input) → handed_of (node.refused_with count x) ≡ cores.refused_with count x
+refuses_so count input.Tick = refl
+refuses_so count (input.Deliver q m) = refl
+refuses_so count (input.Commands cs) = refl
+refuses_so count (input.Stop members) = refl
+refuses_so count input.TrimNow = refl
+refuses_so count (input.Up q) = refl
+refuses_so count (input.Down q) = refl
+
+gives_at : (me : ℕ) (s : State) (o : Option ℕ) (f : ℕ) (x : Input) → handed_of (node.gives (record { me = me; state = s; failed = o }) x) ≡ cores.gives (record { me = me; state = s; failed = o; faults = f }) x
+unfolding cores.gives
+gives_at me s None f x = refl
+gives_at me s (Some count) f x = refuses_so count x
+
+after_so : (me : ℕ) (s : State) (o : Option ℕ) (f : ℕ) (x : Input) → standing_at (node.after_input (record { me = me; state = s; failed = o }) x) f ≡ cores.after_input (record { me = me; state = s; failed = o; faults = f }) x
+unfolding cores.after_input
+after_so me s None f x = refl
+after_so me s (Some count) f x = refl
+
+pub did : {D : Type 0} (state : D → DiskState) (n m : Node D) (x : Input) (result : Result Given StepFail) → Stepped (node_of n) x result (node_of m)
+    → TellsStep (faults (disks_of state n.store)) (faults (disks_of state m.store)) result → cores.Steps (standing_of state n) x (handed result) (standing_of state m)
+unfolding cores.faulted
+did state n m x (Ok given) d t =
+    let f : ℕ = faults (disks_of state n.store) in (
+      ap handed_of d.0 ∙ gives_at (node_of n).me (node_of n).state n.failed f x,
+      ap₂ standing_at d.1 t.1 ∙ after_so (node_of n).me (node_of n).state n.failed f x,
+    )
+did state n m x (Err (fails.DiskFail count)) d t =
+    (ap₂ standing_at d (sym t.1.0), record { later = subst (λ f. faults (disks_of state n.store) ≤ f) (sym t.1.0) t.0; rose = subst (FaultsRose (faults (disks_of state n.store))) (sym t.1.0) t.1.1 })
+did state n m x (Err fails.NoMemory) d t = ap₂ standing_at d t.1
+
+-- what it gives out is in range
+pub gave : {D : Type 0} (n m : Node D) (x : Input) (result : Result Given StepFail) → IsServable n → InputInRange x → IsOfBytes x → Stepped (node_of n) x result (node_of m)
+    → IfOk result (λ g. IfSome g.outcome (known.OutcomeInRange IsPid) → IfSome g.outcome OutcomeInRange) → IfOk (handed result) GivenInRange
+gave n m x (Ok given) s r w d fits =
+    let h : Handed given = subst Handed (sym d.0) (given_in (node_of n) x s.me s.range r w) in
+    record { sends = h.sends; replies = h.replies; outcome = fits h.outcome }
+gave n m x (Err (fails.DiskFail count)) s r w d fits = tt
+gave n m x (Err fails.NoMemory) s r w d fits = tt
+
+-- ---- its disks
+
+-- a node is as it was
+pub stays_same : {D : Type 0} (state : D → DiskState) (n : Node D) → StaysStored state n n
+stays_same state n = record { kept = keep_same (disks_of state n.store); stored = λ h. h }
+
+-- they stand for what it has stored, while it hasn't failed
+stands : {D : Type 0} (state : D → DiskState) (n m : Node D) (x : Input) (result : Result Given StepFail) → Stepped (node_of n) x result (node_of m)
+    → Steps state (node_of n).state.durable (stores (node_of n) x) n.store m.store result → IsStoredWhileUp state n → IsStoredWhileUp state m
+stands state n m x (Ok given) d t was up =
+    let before : n.failed ≡ None = sym (ap (λ (k : NodeState). k.failed) d.1 ∙ same_failed (node_of n) x) ∙ up in
+    stepped_represented state n m x given d t (was before)
+stands state n m x (Err (fails.DiskFail count)) d t was up = let bad : Some count ≡ None = sym (ap (λ (k : NodeState). k.failed) d) ∙ up in absurd cc
+stands state n m x (Err fails.NoMemory) d t was up =
+    let before : n.failed ≡ None = sym (ap (λ (k : NodeState). k.failed) d) ∙ up in
+    subst (λ (k : NodeState). Represents state k.state.durable m.store) (sym d) (subst (Represents state (node_of n).state.durable) (sym (t.untouched refl)) (was before))
+
+-- what holds of them since an earlier state goes on
+pub goes_on_stored : {D : Type 0} (state : D → DiskState) (k n m : Node D) (x : Input) (result : Result Given StepFail) → Stepped (node_of n) x result (node_of m)
+    → Steps state (node_of n).state.durable (stores (node_of n) x) n.store m.store result → StaysStored state k n → StaysStored state k m
+goes_on_stored state k n m x result d t since =
+    record {
+      kept = keep_both (disks_of state k.store) (disks_of state n.store) (disks_of state m.store) since.kept t.kept;
+      stored = λ h. stands state n m x result d t (since.stored h);
+    }
+
+-- ---- an opening
+
+kept_part : (b : Bool) (p : Part) → PartInRange p → IfSome (if b then Some p else None) PartInRange
+kept_part true p r = r
+kept_part false p r = tt
+
+part_for_in : (me : ℕ) (o : Option Part) → IfSome o PartInRange → IfSome (part_for me o) PartInRange
+part_for_in me None r = tt
+part_for_in me (Some p) r = kept_part (is_member nat_eq p.members me) p r
+
+kept_joining : (b : Bool) (j : Joining) → JoiningInRange j → IfSome (if b then Some j else None) JoiningInRange
+kept_joining true j r = r
+kept_joining false j r = tt
+
+joining_for_in : (me : ℕ) (o : Option Joining) → IfSome o JoiningInRange → IfSome (joining_for me o) JoiningInRange
+joining_for_in me None r = tt
+joining_for_in me (Some j) r = kept_joining (is_member nat_eq j.members me) j r
+
+durable_for_in : (me : ℕ) (d : Durable) → DurableInRange d → DurableInRange (durable_for me d)
+durable_for_in me d r = record { part = part_for_in me d.part r.part; closed = r.closed; joining = joining_for_in me d.joining r.joining }
+
+idle_ends : (o : Option Part) → IfSome o (λ p. RoleEndsNowhere p.conf Idle)
+idle_ends None = tt
+idle_ends (Some p) = tt
+
+opening_at : (me : ℕ) (is_new : Bool) (d : Durable) → IsPid me → DurableInRange d → StateInRange IsPid (opening_state me is_new d)
+opening_at me true d one r =
+    let first : OpeningInRange IsPid me empty_durable = openings_stay IsPid servers me one empty_durable (durable_any empty_durable (record { part = tt; closed = tt; joining = tt })) in
+    record {
+      durable = durable_any (durable_for me d) (durable_for_in me d r);
+      volatile = first.state.volatile;
+      stops = idle_ends (durable_for me d).part;
+      service = first.state.service;
+      order = first.state.order;
+    }
+opening_at me false d one r = (openings_stay IsPid servers me one (durable_for me d) (durable_any (durable_for me d) (durable_for_in me d r))).state
+
+-- a node that is opened can be served
+pub opened : {D : Type 0} (state : D → DiskState) (me : ℕ) (members : List ℕ) (old : Disks) (n : Node D) (sends : List (ℕ × Msg)) → Opens state me members old n sends → IsPid me → IsServable n
+opened state me members old n sends o one =
+    record {
+      me = subst IsPid (sym (ap (λ (k : NodeState). k.me) o.node)) one;
+      sound = o.sound;
+      range = subst (StateInRange IsPid) (sym (ap (λ (k : NodeState). k.state) o.node)) (opening_at me o.is_new o.durable one o.range);
+    }
+
+-- ---- a node that failed
+
+reopening_at : (me : ℕ) (s : State) (d : Durable) → IsPid me → DurableInRange d → StateInRange IsPid (state_after_reopening me s (durable_for me d))
+reopening_at me s d one r =
+    let range = opening_at me false d one r in
+    record { durable = range.durable; volatile = range.volatile; stops = range.stops; service = range.service; order = range.order }
+
+-- it can be served when it is opened again
+pub reopened : {D : Type 0} (state : D → DiskState) (d : Durable) (is_new : Bool) (n m : Node D) (sends : List (ℕ × Msg)) → Reopens state d is_new n m sends → IsSoundNode m → IsServable n → IsServable m
+reopened state d is_new n m sends o sound s =
+    record {
+      me = subst IsPid (sym (ap (λ (k : NodeState). k.me) o.node)) s.me;
+      sound = sound;
+      range = subst (StateInRange IsPid) (sym (ap (λ (k : NodeState). k.state) o.node)) (reopening_at (node_of n).me (node_of n).state d s.me o.range);
+    }
+
+-- and where that is refused
+pub unopened : {D : Type 0} (state : D → DiskState) (n m : Node D) (cause : StoreFail) → RefusesAgain state n m cause → IsSoundNode m → IsServable n → IsServable m
+unopened state n m cause r sound s =
+    record {
+      me = subst IsPid (sym (ap (λ (k : NodeState). k.me) r.node)) s.me;
+      sound = sound;
+      range = subst (StateInRange IsPid) (sym (ap (λ (k : NodeState). k.state) r.node)) s.range;
+    }

@@ -1,0 +1,10 @@
+//! A node over its disks, as serving knows it.
+#![tactic(auto)]
+
+mod laws;
+mod line;
+mod node_core;
+
+pub use laws::{opened_nodes_can_be_served, reopened_nodes_can_be_served};
+pub use line::short_line;
+pub use node_core::NodeCore;

@@ -1,0 +1,24 @@
+use Rattle.std.proofs.Common.{◌∷◌, [], refl, ap}
+use Rattle.op_types.specs.declared.events.Input.TheVariants as input
+use Rattle.op_command.specs.declared.said.Said.TheVariants as said
+use Rattle.op_serving.specs.Inputs.{give}
+use Rattle.op_serving.specs.Reading.{on_frame}
+use Rattle.op_driver.specs.Driver.{with_deeds}
+use Rattle.op_queues.proofs.Settling.{stays_same}
+use Rattle.op_driver.proofs.Dealing.{nothing_does, on_ok_as, given_handles, told_handles}
+use Rattle.op_driver.proofs.driver.Driver.hear_alone.Goals as goal
+
+pub returns-in-Message-clause-ok : goal.returns-in-Message-clause-ok
+returns-in-Message-clause-ok g c =
+    given_handles g.K.Core.line c.args.conn c.args.heard (λ l s. give l (c.args.conn ∷ []) (input.Deliver c.in-Message.from c.in-Message.message) s) c.give.ensures.gives (λ l before. ap (λ h. on_frame l g.K.Core.line c.args.conn h (with_deeds before c.args.self.now)) c.in-Message.is)
+
+pub returns-in-Foreign-clause-ok : goal.returns-in-Foreign-clause-ok
+returns-in-Foreign-clause-ok g c = record {
+  does = nothing_does (λ l s. on_frame l g.K.Core.line c.args.conn c.args.heard s) c.args.self.now (λ l s. ap (λ h. on_frame l g.K.Core.line c.args.conn h s) c.in-Foreign.is);
+  stays = stays_same refl;
+  none = c.requires.none;
+}
+
+pub returns-in-Mistake-clause-ok : goal.returns-in-Mistake-clause-ok
+returns-in-Mistake-clause-ok g c =
+    on_ok_as c.tell.result (told_handles g.K.Core.line c.args.conn c.args.heard (said.BadRequest c.in-Mistake.at) c.requires.none (λ l before. ap (λ h. on_frame l g.K.Core.line c.args.conn h (with_deeds before c.args.self.now)) c.in-Mistake.is)) c.tell.ensures.ok

@@ -1,0 +1,120 @@
+-- What the driver is to its caller, and what it does whatever was done before and is lost behind.
+use Rattle.std.specs.Prelude.{◌≡◌, ◌<◌, ◌++◌, [], ℕ, List, length, true, Option, None, Some}
+use Rattle.op_serving.specs.declared.mark.Mark.{Mark}
+use Rattle.op_serving.specs.declared.kind.Kind.{Kind}
+use Rattle.op_serving.specs.Counts.{hello_in}
+use Rattle.op_serving.specs.Cores.{Standing}
+use Rattle.op_serving.specs.State.{Loop, find, is_open, kind_at}
+use Rattle.op_serving.specs.Losses.{most_marks, lost_by, IsCalm, Foretells, Grew, KeepsKinds, Stays}
+use Rattle.op_serving.specs.Inputs.{State, Deed, Fate, Luck, kept, calm, rest}
+use Rattle.op_serving.specs.Faults.{Stepped}
+
+-- a node that is served: what is kept beside it, how it stands, and itself
+pub record Served (K : Type 0) : Type 0 where
+  pub loop : Loop
+  pub node : Standing
+  pub core : K
+
+module _ {K : Type 0} where
+  -- the same, where these deeds were done before
+  abbrev pub with_deeds : List Deed → Served K → State
+  with_deeds before d = record { loop = d.loop; node = d.node; deeds = before }
+
+  -- its connections that were to be closed are closed
+  abbrev pub emptied : Served K → Served K
+  emptied d = record d { loop = record d.loop { closes = [] } }
+
+-- what comes of inputs is known beforehand
+pub record Knows (l : Luck) (s : State) : Type 0 where
+  pub marks : Foretells l.marks s.loop
+  pub rest : List Fate
+  pub fates : l.fates ≡ kept s.deeds ++ rest
+
+module _ {K : Type 0} where
+  -- deeds were done, and what was done is this, where no session is lost here behind it
+  pub record Acts (f : Luck → State → State) (d e : Served K) : Type 0 where
+    pub deeds : List Deed
+    pub grew : Grew d.loop e.loop
+    pub steps : Stepped d.node deeds e.node
+    pub is : (l : Luck) (before : List Deed) → Knows l (with_deeds (before ++ deeds) e)
+        → IsCalm l.marks e.loop → f l (with_deeds before d) ≡ with_deeds (before ++ deeds) e
+
+  -- where no session is lost any more behind it, none was to be lost before it
+  abbrev pub FromCalm : Served K → Served K → Type 0
+  FromCalm d e = (marks : List Mark) → Foretells marks e.loop → IsCalm marks e.loop → IsCalm marks d.loop
+
+  -- whatever is lost behind it, none was to be lost before it
+  abbrev pub Sure : Served K → Served K → Type 0
+  Sure d e = (marks : List Mark) → Foretells marks e.loop → IsCalm marks d.loop
+
+  -- the same of what may come behind something else
+  pub record Does (f : Luck → State → State) (d e : Served K) : Type 0 where
+    pub acts : Acts f d e
+    pub calm : FromCalm d e
+
+  -- an input was given, and what was done at once is this
+  pub record Enters (f : Luck → State → State) (d e : Served K) : Type 0 where
+    pub deeds : List Deed
+    pub grew : Grew d.loop e.loop
+    pub steps : Stepped d.node deeds e.node
+    pub kinds : KeepsKinds d.loop e.loop
+    pub sure : Sure d e
+    pub is : (l : Luck) (before : List Deed) → Knows l (with_deeds (before ++ deeds) e)
+        → f l (with_deeds before d) ≡ calm l (with_deeds (before ++ deeds) e)
+
+  -- an input and the Downs behind it were given, and it comes to rest so
+  pub record Gives (f : Luck → State → State) (d e : Served K) : Type 0 where
+    pub deeds : List Deed
+    pub grew : Grew d.loop e.loop
+    pub steps : Stepped d.node deeds e.node
+    pub kinds : KeepsKinds d.loop e.loop
+    pub sure : Sure d e
+    pub stays : Stays d.loop e.loop
+    pub none : e.loop.downs ≡ []
+    pub is : (l : Luck) (before : List Deed) → Knows l (with_deeds (before ++ deeds) e)
+        → f l (with_deeds before d) ≡ rest l (with_deeds (before ++ deeds) e)
+
+  -- Downs were given, and it comes to rest where it did
+  pub record Drained (d e : Served K) : Type 0 where
+    pub deeds : List Deed
+    pub grew : Grew d.loop e.loop
+    pub steps : Stepped d.node deeds e.node
+    pub kinds : KeepsKinds d.loop e.loop
+    pub calm : FromCalm d e
+    pub is : (l : Luck) (before : List Deed) → Knows l (with_deeds (before ++ deeds) e)
+        → rest l (with_deeds before d) ≡ rest l (with_deeds (before ++ deeds) e)
+
+  -- a session was lost for want of memory, and its peer went down
+  pub record Loses (c : ℕ) (d e : Served K) : Type 0 where
+    pub deeds : List Deed
+    pub there : is_open c d.loop ≡ true
+    pub few : length d.loop.lost < most_marks
+    pub grew : Grew d.loop e.loop
+    pub steps : Stepped d.node deeds e.node
+    pub stays : Stays d.loop e.loop
+    pub none : e.loop.downs ≡ []
+    pub marked : (marks : List Mark) → Foretells marks e.loop → Foretells marks (lost_by c d.loop)
+    pub closed : (l : Luck) (before : List Deed) → Knows l (with_deeds (before ++ deeds) e)
+        → find c (rest l (with_deeds before d)).loop.sessions ≡ None
+    pub is : (l : Luck) (before : List Deed) → Knows l (with_deeds (before ++ deeds) e)
+        → rest l (with_deeds before d) ≡ rest l (with_deeds (before ++ deeds) e)
+
+-- a call is over: it is the same turn and happening, and no Down is left
+pub record Rests (s t : Loop) : Type 0 where
+  pub turn : t.place.turn ≡ s.place.turn
+  pub at : t.place.at ≡ s.place.at
+  pub none : t.downs ≡ []
+
+-- how much of the own hello is still to be written to a connection, by its session's kind
+abbrev pub hello_of : Option Kind → ℕ
+hello_of None = 0
+hello_of (Some kind) = hello_in kind
+
+abbrev pub hello_left : ℕ → Loop → ℕ
+hello_left c s = hello_of (kind_at c s)
+
+-- nothing is to be closed, no Down is to be given, and serving goes on
+pub record IsIdle (s : Loop) : Type 0 where
+  pub closes : s.closes ≡ []
+  pub none : s.downs ≡ []
+  pub few : length s.lost < most_marks

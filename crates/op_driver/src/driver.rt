@@ -1,0 +1,796 @@
+ghost use Rattle.std.specs.Prelude.{◌≡◌, ◌≢◌, ◌↔◌, ◌<◌, ◌≤◌, ◌+◌, ◌-◌, ◌∷◌, [], ℕ, List, length, drop, map, true, false, IsTrue, None, IfOk, IfSome, IfNone, OnOk, OnErr};
+ghost use Rattle.op_types.specs.Limits.{most_commands};
+ghost use Rattle.op_types.specs.Ranges.{IsPid, CommandInRange};
+ghost use Rattle.op_types.specs.declared.events.Input.TheVariants as input;
+ghost use Rattle.op_types.specs.declared.events.Request.TheVariants as request;
+ghost use Rattle.op_command.specs.Ranges.{RequestInRange, SaidInRange};
+ghost use Rattle.op_command.specs.declared.said.Said.TheVariants.{Status};
+ghost use Rattle.op_serving.specs.declared.hearing.Heard.TheVariants.{Asks};
+ghost use Rattle.op_serving.specs.State.{down_of, find, is_open, kind_at, left_by, session_of};
+ghost use Rattle.op_serving.specs.Ranges.{InputInRange, GivenInRange, KindInRange, WantedInRange};
+ghost use Rattle.op_serving.specs.Losses.{most_marks, lost_by, settled, size, Stays, Does as SessionsDo};
+ghost use Rattle.op_serving.specs.Counts.{hello_in, most_inputs};
+ghost use Rattle.op_serving.specs.Handing.{handed_out, proposed};
+ghost use Rattle.op_serving.specs.Inputs.{enter, give, flushed, leaves, over, proposes};
+ghost use Rattle.op_serving.specs.Reading.{feeds, frames_at, held_in, is_peer, joins_others, links, on_frame, read, replaced};
+ghost use Rattle.op_serving.specs.Turns.{happens_at, joined, joining, queue_in, taken_of, ticked, turn_begins, waiting_from, wrote};
+ghost use Rattle.op_queues.specs.Hearing.{FoundInRange, HeardInRange, least_taken};
+ghost use Rattle.op_queues.specs.Gathering.{RunInRange};
+ghost use Rattle.op_driver.specs.Driver.{Acts, Does, FromCalm, Drained, Enters, Gives, IsIdle, Loses, Rests, hello_left};
+ghost use Rattle.op_driver.specs.Dealing.{Deals, DealsAll, GathersOn, Handles, HandlesAlone, TakesOn, Taken, framed, greeted, makes_way, tells_now};
+
+use op_command::Said;
+use op_outside::Conn;
+use op_queues::{Front, Run, Sessions, asked_by, of_no_command};
+use op_serving::{Core, Given, Heard, Kind, StepFail, Wanted, goes_up};
+use op_types::{Command, Input, NoMemory, Pid, Refusal, Request};
+use std::marker::Model;
+
+/// A served node with its sessions.
+#[derive(Drop)]
+pub struct Driver<K: Core> {
+    core: K,
+    sessions: Sessions,
+}
+
+impl<K: Core> Model for Driver<K> {
+    ghost use Rattle.std.specs.Coded.{codes};
+    ghost use Rattle.op_serving.specs.Codes.{askers_code};
+    ghost use Rattle.op_driver.specs.Driver.{Served};
+
+    ghost Value = { Served K };
+
+    ghost coded = { Prim.hlevel (codes, askers_code) };
+
+    ghost view = { λ d. record { loop = d.sessions; node = K.standing d.core; core = d.core } };
+
+    ghost invariant = { λ d. K.ready d.core };
+}
+
+impl<K: Core> Driver<K> {
+    /// A node with sessions of before.
+    pub fn new(core: K, sessions: Sessions) -> Driver<K>
+        requires { K.ready core }
+        ensures { result ≡ record { loop = sessions; node = K.standing core; core = core } }
+    {
+        Driver { core, sessions }
+    }
+
+    /// The node, and its sessions.
+    pub fn into_parts(self) -> (K, Sessions)
+        ensures core { result.0 ≡ self.core }
+        ensures sessions { result.1 ≡ self.loop }
+        ensures node { K.standing result.0 ≡ self.node }
+        ensures ready { K.ready result.0 }
+    {
+        (self.core, self.sessions)
+    }
+
+    /// Whether an end request was read.
+    pub fn is_ending(&self) -> bool
+        ensures { result ≡ self.now.loop.ending }
+    {
+        self.sessions.is_ending()
+    }
+
+    /// Whether there are the most marks: then serving has stopped.
+    pub fn is_full(&self) -> bool
+        ensures { IsTrue result ↔ (most_marks ≤ length self.now.loop.lost) }
+    {
+        self.sessions.is_full()
+    }
+
+    /// The server whose node it is.
+    pub fn me(&self) -> Pid
+        ensures me { result ≡ self.now.loop.me }
+        ensures range { IsPid result }
+    {
+        self.sessions.me()
+    }
+
+    /// Whether a connection has a session.
+    pub fn is_open(&self, conn: Conn) -> bool
+        ensures { result ≡ is_open conn self.now.loop }
+    {
+        self.sessions.is_open(conn)
+    }
+
+    /// The connection of a peer's session.
+    pub fn session_of(&self, peer: Pid) -> Option<Conn>
+        ensures { result ≡ session_of peer self.now.loop }
+    {
+        self.sessions.session_of(peer)
+    }
+
+    /// The first connection that is to be closed.
+    pub fn next_close(&mut self) -> Option<Conn>
+        ensures some { IfSome result (λ c. self.old.loop.closes ≡ c ∷ self.new.loop.closes) }
+        ensures none { IfNone result (self.old.loop.closes ≡ []) }
+        ensures rest { self.new ≡
+            record self.old { loop = record self.old.loop { closes = drop 1 self.old.loop.closes } } }
+    {
+        self.sessions.next_close()
+    }
+
+    /// The next turn begins.
+    pub fn begin_turn(&mut self)
+        ensures { self.new ≡ record self.old { loop = turn_begins self.old.loop } }
+    {
+        self.sessions.begin_turn();
+    }
+
+    /// The next happening begins; behind the last, the writes.
+    pub fn begin_happening(&mut self, at: u8)
+        ensures { self.new ≡ record self.old { loop = happens_at at self.old.loop } }
+    {
+        self.sessions.begin_happening(at);
+    }
+
+    /// A tick is due.
+    pub fn tick(&mut self)
+        ensures gives { Gives (λ l s. ticked l s) self.old self.new }
+        ensures most { most_inputs self.new.loop ≤ most_inputs self.old.loop + 1 }
+        ensures stored { (k : K) → K.stored k self.old.core → K.stored k self.new.core }
+    {
+        self.give(&[], Input::Tick);
+    }
+
+    /// The commands that were gathered are given as one input.
+    pub fn flush(&mut self)
+        requires { self.old.loop.downs ≡ [] }
+        ensures does { Does (λ l s. flushed l s) self.old self.new }
+        ensures rests { Rests self.old.loop self.new.loop }
+        ensures frames { self.new.loop.place.frames ≡ self.old.loop.place.frames }
+        ensures most { most_inputs self.new.loop ≤ most_inputs self.old.loop }
+        ensures stored { (k : K) → K.stored k self.old.core → K.stored k self.new.core }
+    {
+        if self.gathered_len() > 0 {
+            self.flush_some();
+        }
+    }
+
+    /// A session ends, behind the commands that were gathered, and its peer goes down.
+    pub fn end(&mut self, conn: Conn)
+        requires at { self.old.loop.place.at ≢ 0 }
+        requires none { self.old.loop.downs ≡ [] }
+        ensures does { Does (λ l s. over l conn s) self.old self.new }
+        ensures rests { Rests self.old.loop self.new.loop }
+        ensures frames { self.new.loop.place.frames ≡ self.old.loop.place.frames }
+        ensures most { most_inputs self.new.loop ≤ most_inputs self.old.loop }
+        ensures stored { (k : K) → K.stored k self.old.core → K.stored k self.new.core }
+    {
+        self.flush();
+        self.leave(conn);
+    }
+
+    /// A new connection has a session: an accepted one is nobody's yet, and a dialled one is its peer's at
+    /// once. Where that finds no memory, it is to be closed.
+    pub fn join(&mut self, conn: Conn, kind: Kind)
+        requires new { is_open conn self.old.loop ≡ false }
+        requires idle { IsIdle self.old.loop }
+        requires kind { down_of kind ≡ [] }
+        requires range { KindInRange kind }
+        ensures acts { Acts (λ l s. joined l conn kind s) self.old self.new }
+        ensures calm { self.old.loop.place.at ≡ 0 → FromCalm self.old self.new }
+        ensures rests { Rests self.old.loop self.new.loop }
+        ensures most { most_inputs self.new.loop ≤ most_inputs self.old.loop + 1 + hello_in kind }
+        ensures core { self.new.core ≡ self.old.core }
+    {
+        match self.admit(conn, kind) {
+            Ok(()) => {}
+            Err(_) => {}
+        }
+    }
+
+    /// What waits for a connection; what is left of a dialler's hello goes out first.
+    pub fn waiting(&self, conn: Conn) -> &[u8]
+        ensures { result.now ≡ queue_in (find conn self.now.loop.sessions) }
+    {
+        self.sessions.waiting(conn)
+    }
+
+    /// The least connection from this one on for which bytes wait.
+    pub fn next_to_write(&self, low: Conn) -> Option<Conn>
+        ensures next { result ≡ waiting_from low self.now.loop.sessions }
+        ensures waits { IfSome result (λ c. 0 < length (queue_in (find c self.now.loop.sessions))) }
+        ensures low { IfSome result (λ c. low ≤ c) }
+    {
+        self.sessions.next_to_write(low)
+    }
+
+    /// The least connection behind this one for which bytes wait.
+    pub fn next_behind(&self, conn: Conn) -> Option<Conn>
+        ensures next { result ≡ waiting_from (conn + 1) self.now.loop.sessions }
+        ensures waits { IfSome result (λ c. 0 < length (queue_in (find c self.now.loop.sessions))) }
+        ensures low { IfSome result (λ c. conn < c) }
+    {
+        self.sessions.next_behind(conn)
+    }
+
+    /// How much of the own hello is still to be written to a connection.
+    pub fn hello_left(&self, conn: Conn) -> u8
+        ensures { result ≡ hello_left conn self.now.loop }
+    {
+        match self.kind(conn) {
+            Some(Kind::Peer(_, left)) => left,
+            _ => 0,
+        }
+    }
+
+    /// A connection took so many bytes of what waits for it. Once a dialler's hello went out whole, its
+    /// peer goes up.
+    pub fn wrote(&mut self, conn: Conn, n: usize)
+        requires taken { n ≤ length (queue_in (find conn self.old.loop.sessions)) }
+        requires none { self.old.loop.downs ≡ [] }
+        ensures does { Does (λ l s. wrote l conn n s) self.old self.new }
+        ensures hello { hello_left conn self.new.loop ≤ hello_left conn self.old.loop - n }
+        ensures pours { hello_left conn self.old.loop ≡ 0 → queue_in (find conn self.new.loop.sessions)
+            ≡ drop n (queue_in (find conn self.old.loop.sessions)) }
+        ensures rests { Rests self.old.loop self.new.loop }
+        ensures most { most_inputs self.new.loop ≤ most_inputs self.old.loop }
+        ensures stored { (k : K) → K.stored k self.old.core → K.stored k self.new.core }
+    {
+        let before = self.kind(conn);
+        self.took(conn, n);
+        let after = self.kind(conn);
+        if let Some(peer) = goes_up(before, after) {
+            self.give(&[], Input::Up(peer));
+        }
+    }
+
+    /// Bytes that a connection read, and all that they complete. Where they find no memory, its session is
+    /// lost.
+    pub fn read(&mut self, conn: Conn, bytes: &[u8])
+        requires open { is_open conn self.old.loop ≡ true }
+        requires at { self.old.loop.place.at ≢ 0 }
+        requires frames { self.old.loop.place.frames ≡ 0 }
+        requires none { self.old.loop.downs ≡ [] }
+        ensures acts { Acts (λ l s. read l K.line conn bytes.now s) self.old self.new }
+        ensures rests { Rests self.old.loop self.new.loop }
+        ensures most { most_inputs self.new.loop ≤ most_inputs self.old.loop + length bytes.now }
+        ensures stored { (k : K) → K.stored k self.old.core → K.stored k self.new.core }
+    {
+        match self.feed(conn, bytes) {
+            Ok(held) => self.deal_all(conn, held),
+            Err(_) => self.lose(conn),
+        }
+    }
+
+    /// A session is lost for want of memory, and its peer goes down.
+    fn lose(&mut self, conn: Conn)
+        requires { is_open conn self.old.loop ≡ true }
+        ensures loses { Loses conn self.old self.new }
+        ensures most { most_inputs self.new.loop ≤ most_inputs self.old.loop }
+        ensures stored { (k : K) → K.stored k self.old.core → K.stored k self.new.core }
+    {
+        self.note_loss(conn);
+        self.drain();
+    }
+
+    /// A session is lost for want of memory, but for the Downs.
+    fn note_loss(&mut self, conn: Conn)
+        requires { is_open conn self.old.loop ≡ true }
+        ensures lost { self.new ≡ record self.old { loop = lost_by conn self.old.loop } }
+        ensures few { length self.old.loop.lost < most_marks }
+    {
+        self.sessions.lose(conn);
+    }
+
+    /// A session ends, and its peer goes down.
+    fn leave(&mut self, conn: Conn)
+        requires { self.old.loop.place.at ≢ 0 }
+        ensures does { Does (λ l s. leaves l conn s) self.old self.new }
+        ensures stays { Stays self.old.loop self.new.loop }
+        ensures none { self.new.loop.downs ≡ [] }
+        ensures most { most_inputs self.new.loop ≤ most_inputs self.old.loop }
+        ensures stored { (k : K) → K.stored k self.old.core → K.stored k self.new.core }
+    {
+        self.take_out(conn);
+        self.drain();
+    }
+
+    /// A session ends, but for the Downs.
+    fn take_out(&mut self, conn: Conn)
+        ensures { self.new ≡ record self.old { loop = left_by conn self.old.loop } }
+    {
+        self.sessions.leave(conn);
+    }
+
+    /// The commands that were gathered are given as one input; there are some.
+    fn flush_some(&mut self)
+        requires { 0 < length self.old.loop.gathered }
+        ensures gives { Gives (λ l s. flushed l s) self.old self.new }
+        ensures most { most_inputs self.new.loop ≤ most_inputs self.old.loop }
+        ensures stored { (k : K) → K.stored k self.old.core → K.stored k self.new.core }
+    {
+        let run = self.release();
+        self.give_run(run);
+    }
+
+    /// The commands that were gathered. Then none is gathered.
+    fn release(&mut self) -> Run
+        ensures run { result ≡ self.old.loop.gathered }
+        ensures range { RunInRange result }
+        ensures rest { self.new ≡ record self.old { loop = record self.old.loop { gathered = [] } } }
+    {
+        self.sessions.release()
+    }
+
+    /// Commands as one input, and the Downs right behind it.
+    fn give_run(&mut self, run: Run)
+        requires range { RunInRange run }
+        requires some { 0 < length run }
+        ensures gives { Gives (λ l s. give l (map (λ e. e.0) run)
+            (input.Commands (map (λ e. e.1) run)) s) self.old self.new }
+        ensures most { most_inputs self.new.loop ≤ most_inputs self.old.loop + 1 }
+        ensures stored { (k : K) → K.stored k self.old.core → K.stored k self.new.core }
+    {
+        let (conns, commands) = run.into_parts();
+        self.give(conns.as_slice(), Input::Commands(commands));
+    }
+
+    /// An input that was frames of these connections, and the Downs right behind it. What clients ask is asked
+    /// for at their connections.
+    fn give(&mut self, who: &[Conn], input: Input)
+        requires { InputInRange input }
+        ensures gives { Gives (λ l s. give l who.now input s) self.old self.new }
+        ensures most { most_inputs self.new.loop ≤ most_inputs self.old.loop + 1 }
+        ensures stored { (k : K) → K.stored k self.old.core → K.stored k self.new.core }
+    {
+        self.enter(who, input);
+        self.drain();
+    }
+
+    /// Takes what stands at the front of what a session has read.
+    fn take_front(&mut self, conn: Conn) -> Result<Front, NoMemory>
+        ensures takes { TakesOn conn self.old result self.new }
+        ensures most { most_inputs self.new.loop + least_taken result ≤ most_inputs self.old.loop }
+        ensures range { IfOk result FoundInRange }
+    {
+        self.sessions.take_front(conn)
+    }
+
+    /// A new connection has a session, or is lost at once.
+    fn admit(&mut self, conn: Conn, kind: Kind) -> Result<(), NoMemory>
+        requires new { is_open conn self.old.loop ≡ false }
+        requires few { length self.old.loop.lost < most_marks }
+        requires closes { self.old.loop.closes ≡ [] }
+        requires kind { down_of kind ≡ [] }
+        requires range { KindInRange kind }
+        ensures ok { OnOk result (self.new ≡ record self.old { loop = joining conn kind self.old.loop }) }
+        ensures err { OnErr result
+            (self.new ≡ record self.old { loop = lost_by conn (joining conn kind self.old.loop) }) }
+    {
+        self.sessions.join(conn, kind)
+    }
+
+    /// A connection took so many bytes.
+    fn took(&mut self, conn: Conn, n: usize)
+        requires { n ≤ length (queue_in (find conn self.old.loop.sessions)) }
+        ensures { self.new ≡ record self.old { loop = taken_of conn n self.old.loop } }
+    {
+        self.sessions.took(conn, n);
+    }
+
+    /// Whose session a connection is.
+    fn kind(&self, conn: Conn) -> Option<Kind>
+        ensures kind { result ≡ kind_at conn self.now.loop }
+        ensures range { IfSome result KindInRange }
+    {
+        self.sessions.kind(conn)
+    }
+
+    /// Deals with what stands at the front of a session, so often, or up to what ends it.
+    fn deal_all(&mut self, conn: Conn, most: usize)
+        requires at { self.old.loop.place.at ≢ 0 }
+        requires frames { self.old.loop.place.frames ≡ 0 }
+        requires none { self.old.loop.downs ≡ [] }
+        ensures deals { DealsAll K.line conn most self.old self.new }
+        ensures most { most_inputs self.new.loop ≤ most_inputs self.old.loop }
+        ensures stored { (k : K) → K.stored k self.old.core → K.stored k self.new.core }
+    {
+        let mut frames = 0;
+        let mut left = most;
+        'fronts: while left > 0 {
+            left -= 1;
+            match self.deal_front(conn, frames) {
+                Some(now) => frames = now,
+                None => return,
+            }
+        }
+    }
+
+    /// Adds bytes to what a session has read. Gives how many it holds then. Without memory nothing changes.
+    fn feed(&mut self, conn: Conn, bytes: &[u8]) -> Result<usize, NoMemory>
+        ensures held { IfOk result (λ n. n ≡ held_in (find conn self.new.loop.sessions)) }
+        ensures ok { OnOk result (self.new ≡ record self.old { loop = feeds conn bytes.now self.old.loop }) }
+        ensures err { OnErr result (self.new ≡ self.old) }
+    {
+        self.sessions.feed(conn, bytes)
+    }
+
+    /// Deals with what stands at the front of a session, behind so many frames of this read. Gives how many
+    /// there are then, or None where no more is to be dealt with.
+    fn deal_front(&mut self, conn: Conn, frames: u64) -> Option<u64>
+        requires at { self.old.loop.place.at ≢ 0 }
+        requires frames { self.old.loop.place.frames ≡ frames }
+        requires none { self.old.loop.downs ≡ [] }
+        requires room { frames < u64.MAX }
+        ensures deals { Deals K.line conn frames result self.old self.new }
+        ensures most { most_inputs self.new.loop ≤ most_inputs self.old.loop }
+        ensures stored { (k : K) → K.stored k self.old.core → K.stored k self.new.core }
+    {
+        match self.take_front(conn) {
+            Ok(Front::Waits) => None,
+            Ok(Front::Refused) => {
+                self.end(conn);
+                None
+            }
+            Ok(Front::Hello(peer)) => self.greet(conn, peer, frames),
+            Ok(Front::Frame(heard)) => self.take_frame(conn, heard, frames),
+            Err(_) => {
+                self.lose(conn);
+                None
+            }
+        }
+    }
+
+    /// A peer has said who it is: behind the commands that were gathered its earlier session ends, and it goes
+    /// up. A stranger's session ends.
+    fn greet(&mut self, conn: Conn, peer: Pid, frames: u64) -> Option<u64>
+        requires at { self.old.loop.place.at ≢ 0 }
+        requires frames { self.old.loop.place.frames ≡ frames }
+        requires none { self.old.loop.downs ≡ [] }
+        ensures taken { Taken (greeted K.line conn peer frames) conn frames result self.old self.new }
+        ensures most { most_inputs self.new.loop ≤ most_inputs self.old.loop + 1 }
+        ensures stored { (k : K) → K.stored k self.old.core → K.stored k self.new.core }
+    {
+        if !self.is_peer(peer) {
+            self.end(conn);
+            return None;
+        }
+        self.make_way(conn, peer);
+        if !self.is_open(conn) {
+            return None;
+        }
+        self.link(peer, conn);
+        self.give(&[], Input::Up(peer));
+        Some(frames)
+    }
+
+    /// What was gathered is given, and then the earlier session of a peer ends, if this connection still has one.
+    fn make_way(&mut self, conn: Conn, peer: Pid)
+        requires at { self.old.loop.place.at ≢ 0 }
+        requires none { self.old.loop.downs ≡ [] }
+        ensures does { Does (λ l s. makes_way l conn peer s) self.old self.new }
+        ensures stays { Stays self.old.loop self.new.loop }
+        ensures none { self.new.loop.downs ≡ [] }
+        ensures most { most_inputs self.new.loop ≤ most_inputs self.old.loop }
+        ensures stored { (k : K) → K.stored k self.old.core → K.stored k self.new.core }
+    {
+        self.flush();
+        if self.is_open(conn) {
+            self.replace(peer);
+        }
+    }
+
+    /// The session of a peer ends, if it has one.
+    fn replace(&mut self, peer: Pid)
+        requires at { self.old.loop.place.at ≢ 0 }
+        requires none { self.old.loop.downs ≡ [] }
+        ensures does { Does (λ l s. replaced l (session_of peer self.old.loop) s) self.old self.new }
+        ensures stays { Stays self.old.loop self.new.loop }
+        ensures none { self.new.loop.downs ≡ [] }
+        ensures most { most_inputs self.new.loop ≤ most_inputs self.old.loop }
+        ensures stored { (k : K) → K.stored k self.old.core → K.stored k self.new.core }
+    {
+        if let Some(earlier) = self.session_of(peer) {
+            self.end(earlier);
+        }
+    }
+
+    /// Whether an id is that of a known peer. The own id is none.
+    fn is_peer(&self, id: Pid) -> bool
+        ensures peer { result ≡ is_peer id self.now.loop }
+        ensures range { IsTrue result → IsPid id }
+    {
+        self.sessions.is_peer(id)
+    }
+
+    /// A connection is from now on this peer's session.
+    fn link(&mut self, peer: Pid, conn: Conn)
+        requires { IsPid peer }
+        ensures { self.new ≡ record self.old { loop = links peer conn self.old.loop } }
+    {
+        self.sessions.link(peer, conn);
+    }
+
+    /// A frame that says this: it is dealt with and counted, unless it ends the session.
+    fn take_frame(&mut self, conn: Conn, heard: Heard, frames: u64) -> Option<u64>
+        requires open { is_open conn self.old.loop ≡ true }
+        requires at { self.old.loop.place.at ≢ 0 }
+        requires frames { self.old.loop.place.frames ≡ frames }
+        requires none { self.old.loop.downs ≡ [] }
+        requires range { HeardInRange heard × (frames < u64.MAX) }
+        ensures taken { Taken (framed K.line conn heard frames) conn frames result self.old self.new }
+        ensures most { most_inputs self.new.loop ≤ most_inputs self.old.loop + 1 }
+        ensures stored { (k : K) → K.stored k self.old.core → K.stored k self.new.core }
+    {
+        match self.hear(conn, heard) {
+            Ok(()) => self.count_frame(conn, frames),
+            Err(_) => None,
+        }
+    }
+
+    /// One more frame of this read was dealt with, if its session is still there.
+    fn count_frame(&mut self, conn: Conn, frames: u64) -> Option<u64>
+        requires { frames < u64.MAX }
+        ensures some { IfSome result (λ k. (k ≡ frames + 1) × (is_open conn self.old.loop ≡ true)
+            × (self.new ≡ record self.old { loop = frames_at (frames + 1) self.old.loop })) }
+        ensures none { IfNone result ((is_open conn self.old.loop ≡ false) × (self.new ≡ self.old)) }
+        ensures most { most_inputs self.new.loop ≤ most_inputs self.old.loop }
+    {
+        if !self.is_open(conn) {
+            return None;
+        }
+        self.begin_frame(frames + 1);
+        Some(frames + 1)
+    }
+
+    /// So many frames of this read were dealt with.
+    fn begin_frame(&mut self, frames: u64)
+        ensures { self.new ≡ record self.old { loop = frames_at frames self.old.loop } }
+    {
+        self.sessions.begin_frame(frames);
+    }
+
+    /// What a frame says is dealt with: all but a command comes behind the commands that were gathered. Where
+    /// that finds no memory, its session is lost.
+    fn hear(&mut self, conn: Conn, heard: Heard) -> Result<(), NoMemory>
+        requires open { is_open conn self.old.loop ≡ true }
+        requires at { self.old.loop.place.at ≢ 0 }
+        requires none { self.old.loop.downs ≡ [] }
+        requires range { HeardInRange heard }
+        ensures ok { OnOk result (Handles K.line conn heard self.old self.new) }
+        ensures err { OnErr result (Loses conn self.old self.new) }
+        ensures most { most_inputs self.new.loop ≤ most_inputs self.old.loop + 1 }
+        ensures stored { (k : K) → K.stored k self.old.core → K.stored k self.new.core }
+    {
+        if joins_others(&heard) {
+            return self.hear_alone(conn, heard);
+        }
+        if self.gathered_len() == 0 {
+            return self.hear_alone(conn, heard);
+        }
+        self.flush_some();
+        if self.is_open(conn) {
+            match self.hear_alone(conn, heard) {
+                Ok(()) => {}
+                Err(_) => {}
+            }
+        }
+        Ok(())
+    }
+
+    /// How many commands were gathered.
+    fn gathered_len(&self) -> usize
+        ensures { result ≡ length self.now.loop.gathered }
+    {
+        self.sessions.gathered_len()
+    }
+
+    /// What a frame says is dealt with by itself. Where that finds no memory, its session is lost.
+    fn hear_alone(&mut self, conn: Conn, heard: Heard) -> Result<(), NoMemory>
+        requires open { is_open conn self.old.loop ≡ true }
+        requires at { self.old.loop.place.at ≢ 0 }
+        requires none { self.old.loop.downs ≡ [] }
+        requires range { HeardInRange heard }
+        ensures ok { OnOk result (HandlesAlone K.line conn heard self.old self.new) }
+        ensures err { OnErr result (Loses conn self.old self.new) }
+        ensures most { most_inputs self.new.loop ≤ most_inputs self.old.loop + 1 }
+        ensures stored { (k : K) → K.stored k self.old.core → K.stored k self.new.core }
+    {
+        match heard {
+            Heard::Message(from, message) => {
+                self.give(&[conn], Input::Deliver(from, message));
+                Ok(())
+            }
+            Heard::Foreign => Ok(()),
+            Heard::Noise => {
+                self.end(conn);
+                Ok(())
+            }
+            Heard::Asks(request) => self.ask(conn, request),
+            Heard::Mistake(at) => self.tell(conn, Said::BadRequest(at)),
+        }
+    }
+
+    /// What a client asks.
+    fn ask(&mut self, conn: Conn, request: Request) -> Result<(), NoMemory>
+        requires open { is_open conn self.old.loop ≡ true }
+        requires none { self.old.loop.downs ≡ [] }
+        requires range { RequestInRange request }
+        ensures ok { OnOk result (HandlesAlone K.line conn (Asks request) self.old self.new) }
+        ensures err { OnErr result (Loses conn self.old self.new) }
+        ensures most { most_inputs self.new.loop ≤ most_inputs self.old.loop + 1 }
+        ensures stored { (k : K) → K.stored k self.old.core → K.stored k self.new.core }
+    {
+        match request {
+            Request::Command(command) => self.propose(conn, command),
+            Request::Stop(members) => {
+                self.give(&[conn], Input::Stop(members));
+                Ok(())
+            }
+            Request::Trim => {
+                self.give(&[conn], Input::TrimNow);
+                Ok(())
+            }
+            Request::Status => self.tell_status(conn),
+            Request::End => {
+                self.tell(conn, Said::Ended)?;
+                self.note_end();
+                Ok(())
+            }
+        }
+    }
+
+    /// An end request was read.
+    fn note_end(&mut self)
+        ensures { self.new ≡ record self.old { loop = record self.old.loop { ending = true } } }
+    {
+        self.sessions.end();
+    }
+
+    /// A client's command is gathered; the most that one input may have are given at once.
+    fn propose(&mut self, conn: Conn, command: Command) -> Result<(), NoMemory>
+        requires open { is_open conn self.old.loop ≡ true }
+        requires none { self.old.loop.downs ≡ [] }
+        requires range { CommandInRange command }
+        ensures ok { OnOk result
+            (HandlesAlone K.line conn (Asks (request.Command command)) self.old self.new) }
+        ensures err { OnErr result (Loses conn self.old self.new) }
+        ensures most { most_inputs self.new.loop ≤ most_inputs self.old.loop + 1 }
+        ensures stored { (k : K) → K.stored k self.old.core → K.stored k self.new.core }
+    {
+        match self.gather(conn, command) {
+            Ok(None) => Ok(()),
+            Ok(Some(run)) => {
+                self.give_run(run);
+                Ok(())
+            }
+            Err(_) => {
+                self.lose(conn);
+                Err(NoMemory)
+            }
+        }
+    }
+
+    /// A command is gathered. Gives all that are, where they are the most that one input may have.
+    fn gather(&mut self, conn: Conn, command: Command) -> Result<Option<Run>, NoMemory>
+        requires { CommandInRange command }
+        ensures ok { IfOk result (λ r. GathersOn conn command self.old r self.new) }
+        ensures range { IfOk result (λ r. IfSome r RunInRange) }
+        ensures err { OnErr result (self.new ≡ self.old) }
+    {
+        self.sessions.gather(conn, command)
+    }
+
+    /// A client is told where the node stands.
+    fn tell_status(&mut self, conn: Conn) -> Result<(), NoMemory>
+        requires open { is_open conn self.old.loop ≡ true }
+        ensures ok { OnOk result (self.new ≡ tells_now conn (Status (K.line self.old.node)) self.old) }
+        ensures err { OnErr result (Loses conn self.old self.new) }
+        ensures most { most_inputs self.new.loop ≤ most_inputs self.old.loop }
+        ensures stored { (k : K) → K.stored k self.old.core → K.stored k self.new.core }
+    {
+        match self.core.status(self.sessions.alloc()) {
+            Ok(line) => self.tell(conn, Said::Status(line)),
+            Err(_) => {
+                self.lose(conn);
+                Err(NoMemory)
+            }
+        }
+    }
+
+    /// A client is told something that is of no command.
+    fn tell(&mut self, conn: Conn, said: Said) -> Result<(), NoMemory>
+        requires open { is_open conn self.old.loop ≡ true }
+        requires said { SaidInRange said }
+        ensures ok { OnOk result (self.new ≡ tells_now conn said self.old) }
+        ensures err { OnErr result (Loses conn self.old self.new) }
+        ensures most { most_inputs self.new.loop ≤ most_inputs self.old.loop }
+        ensures stored { (k : K) → K.stored k self.old.core → K.stored k self.new.core }
+    {
+        let told = of_no_command(said);
+        match self.sessions.queue_reply(conn, &told) {
+            Ok(()) => Ok(()),
+            Err(_) => {
+                self.lose(conn);
+                Err(NoMemory)
+            }
+        }
+    }
+
+    /// Gives the Downs of the sessions that are over, until none is left.
+    fn drain(&mut self)
+        ensures drained { Drained self.old self.new }
+        ensures stays { Stays self.old.loop self.new.loop }
+        ensures none { self.new.loop.downs ≡ [] }
+        ensures most { most_inputs self.new.loop ≤ most_inputs self.old.loop }
+        ensures stored { (k : K) → K.stored k self.old.core → K.stored k self.new.core }
+    {
+        'downs: while let Some(peer) = self.next_down() {
+            self.enter(&[], Input::Down(peer));
+        }
+    }
+
+    /// The first peer whose Down is to be given.
+    fn next_down(&mut self) -> Option<Pid>
+        ensures some { IfSome result (λ q. self.old.loop.downs ≡ q ∷ self.new.loop.downs) }
+        ensures none { IfNone result (self.old.loop.downs ≡ []) }
+        ensures rest { self.new ≡
+            record self.old { loop = record self.old.loop { downs = drop 1 self.old.loop.downs } } }
+        ensures range { IfSome result IsPid }
+    {
+        self.sessions.next_down()
+    }
+
+    /// An input, but for the Downs behind it.
+    fn enter(&mut self, who: &[Conn], input: Input)
+        requires { InputInRange input }
+        ensures does { Enters (λ l s. enter l who.now input s) self.old self.new }
+        ensures stays { Stays self.old.loop self.new.loop }
+        ensures ends { size self.new.loop ≤ size self.old.loop }
+        ensures most { most_inputs self.new.loop ≤ most_inputs self.old.loop + 1 }
+        ensures stored { (k : K) → K.stored k self.old.core → K.stored k self.new.core }
+    {
+        if self.sessions.is_full() {
+            return;
+        }
+        let wanted = asked_by(who, &input);
+        match self.core.step(input) {
+            Ok(given) => {
+                self.sessions.count_input();
+                hand_out(&mut self.sessions, wanted, given);
+            }
+            Err(StepFail::DiskFail { count }) => {
+                self.sessions.count_input();
+                self.sessions
+                    .excuse(wanted, Some(Refusal::StorageFailed { count }));
+            }
+            Err(StepFail::NoMemory) => {
+                self.sessions.lose_input();
+                self.sessions.excuse(wanted, None);
+            }
+        }
+    }
+}
+
+/// What a step gives out, and what becomes of what was asked for.
+fn hand_out(sessions: &mut Sessions, wanted: Option<Wanted>, given: Given)
+    requires given { GivenInRange given }
+    requires wanted { IfSome wanted WantedInRange }
+    ensures { SessionsDo (λ marks s. settled marks (handed_out given (proposed wanted given.outcome s)))
+        sessions.old sessions.new }
+{
+    let Given {
+        sends,
+        replies,
+        outcome,
+    } = given;
+    sessions.propose(wanted, outcome);
+    sessions.send_all(&sends);
+    sessions.reply_all(replies);
+}
+
+/// Whether a frame says a command, or nothing to this node. What else it says comes behind the commands that were
+/// gathered.
+fn joins_others(heard: &Heard) -> bool
+    ensures { result ≡ joins_others heard.now }
+{
+    match heard {
+        Heard::Asks(Request::Command(_)) => true,
+        Heard::Foreign => true,
+        _ => false,
+    }
+}

@@ -1,0 +1,86 @@
+-- Writes to one connection, and to the next.
+use Rattle.std.proofs.Common.{◌≡◌, ◌≢◌, ◌<◌, ◌≤◌, [], ℕ, List, length, true, ◌==◌, if◌then◌else◌, ◌^◌, IfSome, Option, Some, None, Result, Ok, Err, refl, sym, ◌∙◌, ap, subst, drop, length-drop, ◌-◌, zero, suc, inl, inr, arith}
+use Rattle.std.proofs.lemmas.Bool.{cases_Bool, eq-eqb, eqb-true}
+use Rattle.op_outside.specs.Seen.{NetSeen}
+use Rattle.op_serving.specs.Cores.{Standing}
+use Rattle.op_serving.specs.State.{Loop, find}
+use Rattle.op_serving.specs.Turns.{queue_in}
+use Rattle.op_serving.specs.Pump.{Settings, writes, stop}
+use Rattle.op_driver.specs.Driver.{Served, hello_left, IsIdle}
+use Rattle.op_serving.specs.declared.serve_end.ServeEnd.{ServeEnd}
+use Rattle.op_pump.specs.declared.timer.Timer.{Timer}
+use Rattle.op_pump.specs.Moments.{moment, reached, Goes, Writes, Waits, Lessens, IsNext}
+use Rattle.op_pump.proofs.Going.{goes_then, goes_still}
+
+pub writes_none : {K : Type 0} (o : Settings) (line : Standing → List ℕ) (c : ℕ) (t : Timer) (d : Served K) (n : NetSeen) → IsIdle d.loop → Writes o line c (Ok (Some c)) t d d n n
+writes_none o line c t d n idle = λ low first. (low, goes_still o line (moment (writes low) t d) n idle refl refl, first)
+
+pub writes_then : {K : Type 0} (o : Settings) (line : Standing → List ℕ) (c : ℕ) (t u : Timer) (d m e : Served K) (next : Option ℕ) (r : Result (Option ℕ) ServeEnd) (n0 n1 n2 : NetSeen) → u ≡ t → next ≡ Some c → Writes o line c (Ok next) t d m n0 n1 → Writes o line c r u m e n1 n2 → Writes o line c r t d e n0 n2
+writes_then o line c t u d m e next r n0 n1 n2 same is a b = λ low first.
+    let x = a low first in
+    let y = subst (λ z. Writes o line c r z m e n1 n2) same b x.0 (sym is ∙ x.2) in
+    (y.0, goes_then o line [] [] (moment (writes low) t d) (moment (writes x.0) t m) (moment (reached r (writes y.0)) t e) n0 n1 n2 x.1 refl y.1, y.2)
+
+-- less waits, or another connection is next
+abbrev pub if_same : Option ℕ → ℕ → ℕ → ℕ
+if_same None c n = 0
+if_same (Some d) c n = if d == c then n else 0
+
+pub smaller : (next : Option ℕ) (c n m : ℕ) → 0 < m → (next ≡ Some c → n < m) → if_same next c n < m
+smaller None c n m h less = h
+smaller (Some d) c n m h less = elim (cases_Bool (d == c)) [
+  | inl e ↦ rw e (less (ap Some (eqb-true d c e)))
+  | inr e ↦ rw e h
+]
+
+pub same_so : (next : Option ℕ) (c n : ℕ) → next ≡ Some c → if_same next c n ≡ n
+same_so next c n e = ap (λ x. if_same x c n) e ∙ (let own : (c == c) ≡ true = eq-eqb c c refl in rw own refl)
+
+pub less_hello : (c : ℕ) (s t : Loop) → 0 < hello_left c s → Lessens c s t → hello_left c t < hello_left c s
+less_hello c s t h (inl l) = l
+less_hello c s t h (inr l) = absurd (omega (arith, h, l.1))
+
+pub less_waits : (c : ℕ) (s t : Loop) → hello_left c s ≡ 0 → Lessens c s t → (hello_left c t ≡ 0) × (length (queue_in (find c t.sessions)) < length (queue_in (find c s.sessions)))
+less_waits c s t h (inl l) = absurd (omega (arith, h, l))
+less_waits c s t h (inr l) = (l.0, l.2)
+
+-- what was written is less
+
+lessens_at : (h : ℕ) (c n : ℕ) (s t : Loop) → hello_left c s ≡ h → 1 ≤ n → n ≤ length (queue_in (find c s.sessions)) → hello_left c t ≤ hello_left c s - n → (hello_left c s ≡ 0 → queue_in (find c t.sessions) ≡ drop n (queue_in (find c s.sessions))) → Lessens c s t
+lessens_at zero c n s t is some most hello pours =
+    let len : length (queue_in (find c t.sessions)) ≡ length (queue_in (find c s.sessions)) - n = ap length (pours is) ∙ length-drop n (queue_in (find c s.sessions)) in
+    inr (omega (arith, hello, is), is, omega (arith, len, some, most))
+lessens_at (suc h) c n s t is some most hello pours = inl (omega (arith, hello, is, some))
+
+pub lessens : (c n : ℕ) (s m t : Loop) → t.sessions ≡ m.sessions → 1 ≤ n → n ≤ length (queue_in (find c s.sessions)) → hello_left c m ≤ hello_left c s - n → (hello_left c s ≡ 0 → queue_in (find c m.sessions) ≡ drop n (queue_in (find c s.sessions))) → Lessens c s t
+lessens c n s m t same some most hello pours =
+    let less = lessens_at (hello_left c s) c n s m refl some most hello pours in
+    elim less [
+      | inl x ↦ inl (rw same x)
+      | inr x ↦ inr (rw same x)
+    ]
+
+pub stops_at : {K : Type 0} (o : Settings) (line : Standing → List ℕ) (low : ℕ) (t u : Timer) (d e : Served K) (end : ServeEnd) (r : Result (Option ℕ) ServeEnd) (n0 n1 : NetSeen) → r ≡ Err end → Goes o line [] (moment (writes low) t d) (moment (stop end) u e) n0 n1
+    → (up : ℕ) × Goes o line [] (moment (writes low) t d) (moment (reached r (writes up)) u e) n0 n1 × IsNext r up e.loop
+stops_at o line low t u d e end r n0 n1 is g = subst (λ y. (up : ℕ) × Goes o line [] (moment (writes low) t d) (moment (reached y (writes up)) u e) n0 n1 × IsNext y up e.loop) (sym is) (low, g, tt)
+
+pub waits_of : (low : ℕ) (s : Loop) (next : Option ℕ) → IfSome next (λ d. low ≤ d) → IfSome next (λ d. 0 < length (queue_in (find d s.sessions))) → Waits low s next
+waits_of low s None a b = tt
+waits_of low s (Some d) a b = (a, b)
+
+pub waits_behind : (low : ℕ) (s : Loop) (next : Option ℕ) → IfSome next (λ d. low < d) → IfSome next (λ d. 0 < length (queue_in (find d s.sessions))) → Waits low s next
+waits_behind low s None a b = tt
+waits_behind low s (Some d) a b = (omega (arith, a), b)
+
+pub waits_low : (c : ℕ) (s : Loop) (next : Option ℕ) → Waits c s next → Waits 0 s next
+waits_low c s None h = tt
+waits_low c s (Some d) h = (omega arith, h.1)
+
+-- the next connection is above the last
+abbrev pub behind_measure : Option ℕ → ℕ
+behind_measure None = 0
+behind_measure (Some c) = 2 ^ 64 - c
+
+pub rises : (c : ℕ) (s : Loop) (next : Option ℕ) → c < 2 ^ 64 → Waits c s next → next ≢ Some c → behind_measure next < 2 ^ 64 - c
+rises c s None few h other = omega (arith, few)
+rises c s (Some d) few h other = let apart : d ≢ c = λ e. other (ap Some e) in omega (arith, few, h.0, apart)

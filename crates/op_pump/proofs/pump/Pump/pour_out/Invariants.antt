@@ -1,0 +1,23 @@
+use Rattle.std.proofs.Common.{◌≤◌, ◌≡◌, Some, length, Ok}
+use Rattle.op_serving.specs.State.{find}
+use Rattle.op_serving.specs.Turns.{queue_in}
+use Rattle.op_serving.specs.Pump.{Settings}
+use Rattle.op_driver.specs.Driver.{hello_left}
+use Rattle.op_serving.specs.Counts.{most_inputs}
+use Rattle.op_pump.specs.Moments.{IsIdleAt, Writes, Waits}
+use Rattle.op_pump.proofs.Written.{if_same}
+use Rattle.op_pump.proofs.pump.Pump.pour_out.Given as goal
+
+abbrev pub invariant-queue : goal.invariant-queue
+invariant-queue g l = record {
+  idle : IsIdleAt l.fn.self.driver.loop.place.turn l.fn.self.driver.loop.place.at l.self.driver.loop;
+  writes : (o : Settings) → Writes o g.K.Core.line l.conn (Ok l.next) l.fn.self.timer l.fn.self.driver l.self.driver (g.N.Net.told l.fn.net, g.N.Net.fault_count l.fn.net) (g.N.Net.told l.net, g.N.Net.fault_count l.net);
+  waits : Waits l.conn l.self.driver.loop l.next;
+  no_hello : l.next ≡ Some l.conn → hello_left l.conn l.self.driver.loop ≡ 0;
+  timer : l.self.timer ≡ l.fn.self.timer;
+  most : most_inputs l.self.driver.loop ≤ most_inputs l.fn.self.driver.loop;
+  stored : (k : g.row.K.Denot) → g.K.Core.stored k l.fn.self.driver.core → g.K.Core.stored k l.self.driver.core;
+}
+
+abbrev pub decreases-queue : goal.decreases-queue
+decreases-queue g l = if_same l.next l.conn (length (queue_in (find l.conn l.self.driver.loop.sessions)))

@@ -1,0 +1,15 @@
+pub mod Tables
+pub mod InRange
+pub mod Askers
+pub mod Told
+pub mod Sizes
+pub mod Counting
+pub mod Settling
+pub mod Sending
+pub mod Asking
+pub mod Hears
+pub mod Fronts
+pub mod Joining
+pub mod Waiting
+pub mod Runs
+pub mod Framings

@@ -1,0 +1,118 @@
+-- How many sessions may end yet, and how many Downs are to be given: a session that ends leaves one Down at most.
+use Rattle.std.proofs.Common.{◌≡◌, ◌≤◌, ◌+◌, ◌∷◌, [], ℕ, Bool, true, false, List, length, Option, Some, None, option_map, nat_lt, if◌then◌else◌, refl, ◌∙◌, ap, inl, inr, arith}
+use Rattle.std.proofs.lemmas.Bool.{cases_Bool}
+use Rattle.std.proofs.lemmas.List.{length-append}
+use Rattle.std.proofs.lemmas.Map.{length-set_value}
+use Rattle.std.specs.BTreeMap.{is_at}
+use Rattle.std.specs.FinMap as map
+use Rattle.std.specs.Ordering.{nat_cmp}
+use Rattle.op_types.specs.declared.answers.Outcome.{Outcome}
+use Rattle.op_types.specs.declared.answers.Refusal.{Refusal}
+use Rattle.op_types.specs.declared.answers.Reply.{Reply}
+use Rattle.op_types.specs.declared.events.Input.{Input}
+use Rattle.op_types.specs.declared.messages.Msg.{Msg}
+use Rattle.op_types.specs.declared.answers.Refusal.TheVariants.{StorageFailed}
+use Rattle.op_serving.specs.declared.kind.Kind.{Kind}
+use Rattle.op_serving.specs.declared.kind.Kind.TheVariants.{Unknown, Peer, Client}
+use Rattle.op_serving.specs.declared.mark.Mark.{Mark}
+use Rattle.op_serving.specs.declared.node.Given.{Given}
+use Rattle.op_serving.specs.declared.session.Session.{Session}
+use Rattle.op_serving.specs.declared.wanted.Wanted.{Wanted}
+use Rattle.op_serving.specs.Cores.{Standing, gives}
+use Rattle.op_serving.specs.State.{Key, Table, Loop, find, changed_at, down_of, left_at, left_by, session_of, waits_for, counted}
+use Rattle.op_serving.specs.Wire.{peer_frame, client_frame}
+use Rattle.op_serving.specs.Losses.{most_marks, mark_at, noted, stopped_if, marked, lost_by, lost_one, is_due, settle, size}
+use Rattle.op_serving.specs.Handing.{said_at, sent, sent_all, forgotten, answered, replied, replied_all, handed_out, said_of_denial, said_at_once, Told, told_all, asked_by_one, asked, keys_that_wait, proposed, excused}
+use Rattle.op_serving.specs.Inputs.{Fate, done, faults, lost, loop_after}
+use Rattle.op_queues.proofs.Tables.{without_less}
+
+-- ---- a session ends
+
+one_down_if : (q : ℕ) (b : Bool) → length (if b then q ∷ [] else []) ≤ 1
+one_down_if q true = omega arith
+one_down_if q false = omega arith
+
+pub one_down : (k : Kind) → length (down_of k) ≤ 1
+one_down Unknown = omega arith
+one_down (Peer q h) = one_down_if q _
+one_down Client = omega arith
+
+size_left_at : (c : ℕ) (o : Option Session) (s : Loop) → find c s.sessions ≡ o → size (left_at c (option_map (λ x. x.kind) o) s) ≤ size s
+size_left_at c None s e = omega arith
+size_left_at c (Some x) s e = omega (arith, length-append s.downs (down_of x.kind), one_down x.kind, without_less c x s.sessions e)
+
+pub size_left : (c : ℕ) (s : Loop) → size (left_by c s) ≤ size s
+size_left c s = size_left_at c (find c s.sessions) s refl
+
+size_stopped : (b : Bool) (s : Loop) → size (stopped_if b s) ≤ size s
+size_stopped true s = omega arith
+size_stopped false s = omega arith
+
+pub size_marked : (conn : Option ℕ) (s : Loop) → size (marked conn s) ≤ size s
+size_marked conn s = size_stopped (nat_lt (length s.lost + 1) most_marks) (noted (mark_at s.place conn) s)
+
+pub size_lost : (c : ℕ) (s : Loop) → size (lost_by c s) ≤ size s
+size_lost c s = omega (arith, size_left c (marked (Some c) s), size_marked (Some c) s)
+
+size_one : (o : Option ℕ) (s : Loop) → size (lost_one o s) ≤ size s
+size_one None s = omega arith
+size_one (Some c) s = size_lost c s
+
+pub size_settle : (ms : List Mark) (s : Loop) → size (settle ms s) ≤ size s
+size_settle [] s = omega arith
+size_settle (m ∷ ms) s = elim (cases_Bool (is_due m s)) [
+  | inl h ↦ rw h (let a = size_settle ms (lost_one m.conn s) in let b = size_one m.conn s in omega (arith, a, b))
+  | inr h ↦ rw h (omega arith)
+]
+
+-- ---- what is queued ends none
+
+length_changed_at : (f : Session → Session) (c : ℕ) (o : Option Session) (t : Table Session) → length (changed_at f c o t) ≡ length t
+length_changed_at f c None t = refl
+length_changed_at f c (Some x) t = length-set_value (is_at (nat_cmp c)) t (f x)
+
+pub size_waits : (c : ℕ) (bytes : List ℕ) (s : Loop) → size (waits_for c bytes s) ≡ size s
+size_waits c bytes s = ap (λ n. length s.downs + n) (length_changed_at _ c (find c s.sessions) s.sessions)
+
+pub size_said : (o : Option ℕ) (bytes : List ℕ) (s : Loop) → size (said_at o bytes s) ≡ size s
+size_said None bytes s = refl
+size_said (Some c) bytes s = size_waits c bytes s
+
+pub size_sent : (m : ℕ × Msg) (s : Loop) → size (sent m s) ≡ size s
+size_sent m s = size_said (session_of m.0 s) (peer_frame s.me m.0 m.1) s
+
+size_sent_all : (ms : List (ℕ × Msg)) (s : Loop) → size (sent_all ms s) ≡ size s
+size_sent_all [] s = refl
+size_sent_all (m ∷ ms) s = size_sent_all ms (sent m s) ∙ size_sent m s
+
+pub size_replied : (r : Reply) (s : Loop) → size (replied r s) ≡ size s
+size_replied r s = size_said (map.get s.askers (r.client, r.seq)) (client_frame (answered r)) (forgotten (r.client, r.seq) s)
+
+size_replied_all : (rs : List Reply) (s : Loop) → size (replied_all rs s) ≡ size s
+size_replied_all [] s = refl
+size_replied_all (r ∷ rs) s = size_replied_all rs (replied r s) ∙ size_replied r s
+
+size_handed : (g : Given) (s : Loop) → size (handed_out g s) ≡ size s
+size_handed g s = size_replied_all g.replies (sent_all g.sends s) ∙ size_sent_all g.sends s
+
+size_told_all : (rs : List Told) (s : Loop) → size (told_all rs s) ≡ size s
+size_told_all [] s = refl
+size_told_all (r ∷ rs) s = size_told_all rs (waits_for r.0 (client_frame r.1) s) ∙ size_waits r.0 (client_frame r.1) s
+
+size_asked : (keys : List (ℕ × Key)) (s : Loop) → size (asked keys s) ≡ size s
+size_asked [] s = refl
+size_asked (p ∷ ps) s = size_asked ps (asked_by_one p s)
+
+size_proposed : (w : Option Wanted) (o : Option Outcome) (s : Loop) → size (proposed w o s) ≡ size s
+size_proposed None o s = refl
+size_proposed (Some w) o s = size_told_all (said_at_once w o) (asked (keys_that_wait w o) s) ∙ size_asked (keys_that_wait w o) s
+
+size_excused : (w : Option Wanted) (why : Option Refusal) (s : Loop) → size (excused w why s) ≡ size s
+size_excused None why s = refl
+size_excused (Some w) why s = size_told_all (said_of_denial w why) s
+
+-- an input ends no session but those that are lost
+pub size_loop_after : (a : Option Wanted) (i : Input) (f : Fate) (n : Standing) (s : Loop) → size (loop_after a i f n s) ≤ size s
+size_loop_after a i done n s = omega (arith, size_handed (gives n i) (proposed a (gives n i).outcome (counted s)), size_proposed a (gives n i).outcome (counted s))
+size_loop_after a i (faults k) n s = omega (arith, size_excused a (Some (StorageFailed k)) (counted s))
+size_loop_after a i lost n s = omega (arith, size_excused a None (counted (marked None s)), size_marked None s)

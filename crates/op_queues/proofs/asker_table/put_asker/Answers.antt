@@ -1,0 +1,13 @@
+use Rattle.std.proofs.Common.{rules, ◌∙◌, ◌≡◌, None}
+use Rattle.std.specs.FinMap as map
+use Rattle.op_serving.specs.State.{askers_in}
+use Rattle.op_queues.proofs.Askers.{get_in, put_in}
+use Rattle.op_queues.proofs.asker_table.put_asker.Goals as goal
+
+pub returns-in_err-insert-clause-absent : goal.returns-in_err-insert-clause-absent
+returns-in_err-insert-clause-absent c =
+    let none : map.get (askers_in c.args.askers.now.entries) c.args.key ≡ None = get_in c.args.askers.now.entries c.args.key ∙ c.in_err-insert.ensures.absent in
+    search rules
+
+pub returns-clause-ok : goal.returns-clause-ok
+returns-clause-ok c = put_in c.args.key c.args.conn c.args.askers.now.entries c.insert.new.self.entries (λ q. c.in_ok-insert.ensures.updates.0 q)

@@ -1,0 +1,59 @@
+ghost use Rattle.std.specs.Prelude.{◌≡◌, ◌≤◌, ◌+◌, drop, length, OnOk};
+ghost use Rattle.op_types.specs.Ranges.{IsPid};
+ghost use Rattle.op_frame.specs.Framing.{frame_of};
+ghost use Rattle.op_msg.specs.Ranges.{MsgInRange};
+ghost use Rattle.op_command.specs.Ranges.{ReplyInRange};
+ghost use Rattle.op_serving.specs.Wire.{peer_frame, client_frame, peer_head, client_head};
+
+use op_command::ClientReply;
+use op_fields::{NoMemory, put_u32, put_u64};
+use op_serving::{CLIENT_HEAD, PEER_HEAD};
+use op_types::{Msg, Pid};
+
+/// Writes a message as a frame, over what was there.
+#[tactic(auto, unfolding(op_serving::specs::Wire::peer_frame))]
+pub fn put_message(out: &mut Vec<u8>, from: Pid, to: Pid, m: &Msg) -> Result<(), NoMemory>
+    requires from { IsPid from }
+    requires to { IsPid to }
+    requires message { MsgInRange m.now }
+    ensures { OnOk result (out.new.items ≡ peer_frame from to m.now) }
+{
+    out.clear();
+    put_u64(out, 0)?;
+    op_msg::put(out, from, to, m)?;
+    lay_long(out.as_mut_slice());
+    Ok(())
+}
+
+/// Writes a reply as a frame, over what was there.
+#[tactic(auto, unfolding(op_serving::specs::Wire::client_frame))]
+pub fn put_reply(out: &mut Vec<u8>, reply: &ClientReply) -> Result<(), NoMemory>
+    requires { ReplyInRange reply.now }
+    ensures { OnOk result (out.new.items ≡ client_frame reply.now) }
+{
+    out.clear();
+    put_u32(out, 0)?;
+    op_command::put_reply(out, reply)?;
+    let Ok(len) = u32::try_from(out.len() - CLIENT_HEAD as usize) else {
+        return Err(NoMemory);
+    };
+    lay_short(out.as_mut_slice(), len);
+    Ok(())
+}
+
+/// Lays the length of a peer's body into the head before it.
+fn lay_long(frame: &mut [u8])
+    requires { peer_head ≤ length frame.old }
+    ensures { frame.new ≡ frame_of peer_head (drop peer_head frame.old) }
+{
+    let len = (frame.len() - PEER_HEAD as usize) as u64;
+    frame[..PEER_HEAD as usize].copy_from_slice(&len.to_be_bytes());
+}
+
+/// Lays the length of a client's body into the head before it.
+fn lay_short(frame: &mut [u8], len: u32)
+    requires { length frame.old ≡ client_head + len }
+    ensures { frame.new ≡ frame_of client_head (drop client_head frame.old) }
+{
+    frame[..CLIENT_HEAD as usize].copy_from_slice(&len.to_be_bytes());
+}

@@ -1,0 +1,751 @@
+ghost use Rattle.std.specs.Prelude.{◌≡◌, ◌<◌, ◌≤◌, ◌+◌, ◌∷◌, drop, ◌↔◌, [], All, ℕ, List, length, IsTrue, OnOk, OnErr, IfOk, IfNone, IfSome, None, true, false};
+ghost use Rattle.std.specs.FinMap as map;
+ghost use Rattle.op_types.specs.Limits.{most_commands};
+ghost use Rattle.op_types.specs.Ranges.{IsPid, CommandInRange};
+ghost use Rattle.op_msg.specs.Ranges.{MsgInRange};
+ghost use Rattle.op_command.specs.Replies.{said_of as denied};
+ghost use Rattle.op_command.specs.Ranges.{ReplyInRange, DenialInRange, OutcomeInRange, RefusalInRange, SaidInRange};
+ghost use Rattle.op_serving.specs.declared.wanted.Wanted.TheVariants.{Trim};
+ghost use Rattle.op_serving.specs.Wire.{peer_frame, client_frame};
+ghost use Rattle.op_serving.specs.State.{find, is_open, kind_at, session_of, waits_for, left_by, next, counted, down_of};
+ghost use Rattle.op_serving.specs.Ranges.{KindInRange, KeyInRange, KeyAtInRange, WantedInRange, SendInRange, ReplyInRange as AnswerInRange};
+ghost use Rattle.op_serving.specs.Losses.{most_marks, marked, settled, lost_by, lost_if_open, Does};
+ghost use Rattle.op_serving.specs.Handing.{sent, sent_all, forgotten, replied, replied_all, asked, asked_by_one, of_command, no_command, said_each, said_of_refusal, said_of_outcome, said_of_denial, told, told_all, waits_unless, proposed, excused};
+ghost use Rattle.op_serving.specs.Inputs.{releases};
+ghost use Rattle.op_serving.specs.Reading.{feeds, frames_at, held_in, is_peer, links};
+ghost use Rattle.op_serving.specs.Turns.{closed_new, dialled_to, fresh, joining, knowing, queue_in, waiting_from, taken_of, turn_begins, happens_at};
+ghost use Rattle.op_serving.specs.Counts.{most_inputs};
+ghost use Rattle.op_queues.specs.Hearing.{TakesAt, FoundInRange, least_taken};
+ghost use Rattle.op_queues.specs.Gathering.{Gathers, RunInRange};
+
+use crate::asked::{denied, of_command, of_no_command, refusal};
+use crate::asker_table::{forget, forget_all, put_asker};
+use crate::encoding::{put_message, put_reply};
+use crate::front::Front;
+use crate::run::Run;
+use crate::session_table::{
+    add, dial_link, feed, link_peer, note_down, set_kind, take_front_at, take_out, took_at,
+};
+use op_command::{ClientReply, Said};
+use op_outside::Conn;
+use op_serving::{Key, Kind, Mark, Place, Session, Wanted};
+use op_types::{
+    Command, MOST_COMMANDS, Msg, NoMemory, Outcome, Pid, Refusal, Replies, Reply, Sends,
+};
+use std::alloc::Global;
+use std::collections::BTreeMap;
+use std::marker::Model;
+use std::mem;
+use std::ops::Bound::{Excluded, Included, Unbounded};
+
+/// How many marks there are at most.
+const MOST_MARKS: usize = 64;
+
+/// Sessions with their queues, who asked for what, and what was lost for want of memory.
+#[derive(Drop)]
+pub struct Sessions {
+    me: Pid,
+    /// Each peer, and the connection of its last session.
+    peers: BTreeMap<Pid, Option<Conn>>,
+    sessions: BTreeMap<Conn, Session>,
+    /// Who asked last for a command, by its client and number: the connection of a session that is there.
+    askers: BTreeMap<Key, Conn>,
+    gathered: Run,
+    place: Place,
+    /// There is room for all of them.
+    lost: Vec<Mark>,
+    /// There is room for each open connection, and for one that finds no memory.
+    closes: Vec<Conn>,
+    /// There is room for the peer of each open connection.
+    downs: Vec<Pid>,
+    ending: bool,
+    /// Room in which frames are written.
+    frame: Vec<u8>,
+    alloc: Global,
+}
+
+impl Model for Sessions {
+    ghost use Rattle.std.specs.Prelude.{◌≡◌, ◌<◌, ◌≤◌, ◌+◌, [], length, vec_capacity, All};
+    ghost use Rattle.std.specs.Map.{keys_of, values_of};
+    ghost use Rattle.op_types.specs.Limits.{most_commands};
+    ghost use Rattle.op_types.specs.Ranges.{IsPid};
+    ghost use Rattle.std.specs.Coded.{codes};
+    ghost use Rattle.op_serving.specs.State.{Loop, askers_in};
+    ghost use Rattle.op_serving.specs.Ranges.{SessionInRange, GatheredInRange};
+    ghost use Rattle.op_serving.specs.Codes.{askers_code};
+    ghost use Rattle.op_serving.specs.Losses.{most_marks};
+
+    ghost Value = { Loop };
+
+    ghost coded = { Prim.hlevel (codes, askers_code) };
+
+    ghost view = { λ s. record {
+      me = s.me;
+      peers = s.peers.entries;
+      sessions = s.sessions.entries;
+      askers = askers_in s.askers.entries;
+      gathered = s.gathered;
+      place = s.place;
+      lost = s.lost.items;
+      closes = s.closes.items;
+      downs = s.downs.items;
+      ending = s.ending;
+    } };
+
+    ghost invariant = { λ s.
+        (length s.lost.items ≤ most_marks) × (most_marks ≤ vec_capacity s.lost)
+        × (length s.closes.items + length s.sessions.entries ≤ vec_capacity s.closes)
+        × (length s.sessions.entries < vec_capacity s.closes)
+        × (length s.downs.items + length s.sessions.entries ≤ vec_capacity s.downs)
+        × (most_marks ≤ length s.lost.items → s.sessions.entries ≡ [])
+        × (length s.gathered < most_commands) × All GatheredInRange s.gathered
+        × IsPid s.me × All IsPid (keys_of s.peers.entries) × All IsPid s.downs.items
+        × All SessionInRange (values_of s.sessions.entries) };
+}
+
+impl Sessions {
+    /// Before the first turn: no connection is open.
+    pub fn new(alloc: Global, me: Pid) -> Result<Sessions, NoMemory>
+        requires { IsPid me }
+        ensures { IfOk result (λ s. s ≡ fresh me) }
+    {
+        Ok(Sessions {
+            me,
+            peers: BTreeMap::new(alloc),
+            sessions: BTreeMap::new(alloc),
+            askers: BTreeMap::new(alloc),
+            gathered: Run::new(alloc),
+            place: Place {
+                turn: 0,
+                at: 0,
+                inputs: 0,
+                frames: 0,
+            },
+            lost: Vec::with_capacity(alloc, MOST_MARKS)?,
+            closes: Vec::with_capacity(alloc, 1)?,
+            downs: Vec::new(alloc),
+            ending: false,
+            frame: Vec::new(alloc),
+            alloc,
+        })
+    }
+
+    /// Knows a peer from now on.
+    #[tactic(auto, using(crate::proofs::InRange::put_known))]
+    pub fn know(&mut self, peer: Pid) -> Result<(), NoMemory>
+        requires { IsPid peer }
+        ensures { OnOk result (self.new ≡ knowing peer self.old) }
+    {
+        self.peers.insert(peer, None)?;
+        Ok(())
+    }
+
+    /// Whether an end request was read.
+    pub fn is_ending(&self) -> bool
+        ensures { result ≡ self.now.ending }
+    {
+        self.ending
+    }
+
+    /// The marks.
+    pub fn into_lost(self) -> Vec<Mark>
+        ensures lost { result.items ≡ self.lost }
+        ensures most { length result.items ≤ most_marks }
+    {
+        self.lost
+    }
+
+    /// The server whose node is served.
+    pub fn me(&self) -> Pid
+        ensures me { result ≡ self.now.me }
+        ensures range { IsPid result }
+    {
+        self.me
+    }
+
+    /// Whether a connection has a session.
+    pub fn is_open(&self, conn: Conn) -> bool
+        ensures { result ≡ is_open conn self.now }
+    {
+        self.sessions.contains_key(&conn)
+    }
+
+    /// Whether an id is that of a known peer. The own id is none.
+    #[tactic(auto, using(crate::proofs::InRange::peer_in_range))]
+    pub fn is_peer(&self, id: Pid) -> bool
+        ensures peer { result ≡ is_peer id self.now }
+        ensures range { IsTrue result → IsPid id }
+    {
+        self.peers.contains_key(&id) && id != self.me
+    }
+
+    /// The allocator.
+    pub fn alloc(&self) -> Global {
+        self.alloc
+    }
+
+    /// So many frames of this read were dealt with.
+    pub fn begin_frame(&mut self, frames: u64)
+        ensures { self.new ≡ frames_at frames self.old }
+    {
+        self.place.frames = frames;
+    }
+
+    /// An end request was read.
+    pub fn end(&mut self)
+        ensures { self.new ≡ record self.old { ending = true } }
+    {
+        self.ending = true;
+    }
+
+    /// Adds bytes to what a session has read. Gives how many it holds then. Without memory nothing changes.
+    pub fn feed(&mut self, conn: Conn, bytes: &[u8]) -> Result<usize, NoMemory>
+        ensures held { IfOk result (λ n. n ≡ held_in (find conn self.new.sessions)) }
+        ensures ok { OnOk result (self.new ≡ feeds conn bytes.now self.old) }
+        ensures err { OnErr result (self.new ≡ self.old) }
+    {
+        feed(&mut self.sessions, conn, bytes)
+    }
+
+    /// Takes what stands at the front of what a session has read.
+    pub fn take_front(&mut self, conn: Conn) -> Result<Front, NoMemory>
+        ensures takes { TakesAt conn self.old result self.new }
+        ensures most { most_inputs self.new + least_taken result ≤ most_inputs self.old }
+        ensures range { IfOk result FoundInRange }
+    {
+        take_front_at(&mut self.sessions, conn, self.me, self.alloc)
+    }
+
+    /// A connection is from now on this peer's session.
+    pub fn link(&mut self, peer: Pid, conn: Conn)
+        requires { IsPid peer }
+        ensures { self.new ≡ links peer conn self.old }
+    {
+        link_peer(&mut self.peers, peer, conn);
+        set_kind(&mut self.sessions, conn, Kind::Peer(peer, 0));
+    }
+
+    /// A new connection has a session. Where that finds no memory it is lost at once.
+    pub fn join(&mut self, conn: Conn, kind: Kind) -> Result<(), NoMemory>
+        requires new { is_open conn self.old ≡ false }
+        requires few { length self.old.lost < most_marks }
+        requires closes { self.old.closes ≡ [] }
+        requires kind { down_of kind ≡ [] }
+        requires range { KindInRange kind }
+        ensures ok { OnOk result (self.new ≡ joining conn kind self.old) }
+        ensures err { OnErr result (self.new ≡ lost_by conn (joining conn kind self.old)) }
+    {
+        match self.admit(conn, kind) {
+            Ok(()) => Ok(()),
+            Err(_) => {
+                self.turn_away(conn, kind);
+                Err(NoMemory)
+            }
+        }
+    }
+
+    /// A new connection has a session, and there is room for its end. Without memory nothing changes.
+    #[tactic(auto, using(crate::proofs::InRange::put_session, crate::proofs::Joining::length_put))]
+    fn admit(&mut self, conn: Conn, kind: Kind) -> Result<(), NoMemory>
+        requires new { is_open conn self.old ≡ false }
+        requires few { length self.old.lost < most_marks }
+        requires closes { self.old.closes ≡ [] }
+        requires range { KindInRange kind }
+        ensures ok { OnOk result (self.new ≡ joining conn kind self.old) }
+        ensures err { OnErr result (self.new ≡ self.old) }
+    {
+        let session = Session::new(self.alloc, self.me, kind)?;
+        let open = self.sessions.len();
+        self.closes.reserve(open + 2)?;
+        self.downs.reserve(open + 1)?;
+        self.sessions.insert(conn, session)?;
+        dial_link(&mut self.peers, kind, conn);
+        Ok(())
+    }
+
+    /// A new connection finds no memory for its session: it is lost, and to be closed.
+    fn turn_away(&mut self, conn: Conn, kind: Kind)
+        requires new { is_open conn self.old ≡ false }
+        requires few { length self.old.lost < most_marks }
+        requires closes { self.old.closes ≡ [] }
+        requires kind { down_of kind ≡ [] }
+        ensures { self.new ≡ lost_by conn (joining conn kind self.old) }
+    {
+        self.dial(kind, conn);
+        self.mark(Some(conn));
+        self.close_new(conn);
+    }
+
+    /// A dialled connection is its peer's session at once.
+    fn dial(&mut self, kind: Kind, conn: Conn)
+        ensures { self.new ≡ record self.old { peers = dialled_to kind conn self.old.peers } }
+    {
+        dial_link(&mut self.peers, kind, conn);
+    }
+
+    /// A new connection is to be closed, unless serving has stopped.
+    fn close_new(&mut self, conn: Conn)
+        requires { self.old.closes ≡ [] }
+        ensures few { length self.old.lost < most_marks → self.new ≡ closed_new conn self.old }
+        ensures full { most_marks ≤ length self.old.lost → self.new ≡ self.old }
+    {
+        if self.lost.len() < MOST_MARKS {
+            forget_all(&mut self.askers, conn);
+            self.gathered.forget(conn);
+            self.closes.push_reserved(conn);
+        }
+    }
+
+    /// Whose session a connection is.
+    #[tactic(auto, using(crate::proofs::InRange::kind_in_range))]
+    pub fn kind(&self, conn: Conn) -> Option<Kind>
+        ensures kind { result ≡ kind_at conn self.now }
+        ensures range { IfSome result KindInRange }
+    {
+        self.sessions.get(&conn).map(|session| session.kind)
+    }
+
+    /// What waits for a connection; what is left of a dialler's hello goes out first.
+    pub fn waiting(&self, conn: Conn) -> &[u8]
+        ensures { result.now ≡ queue_in (find conn self.now.sessions) }
+    {
+        match self.sessions.get(&conn) {
+            Some(session) => session.waiting(),
+            None => &[],
+        }
+    }
+
+    /// How many bytes wait for a connection.
+    fn queued(&self, conn: Conn) -> usize
+        ensures { result ≡ length (queue_in (find conn self.now.sessions)) }
+    {
+        self.waiting(conn).len()
+    }
+
+    /// The least connection from this one on for which bytes wait.
+    pub fn next_to_write(&self, low: Conn) -> Option<Conn>
+        ensures next { result ≡ waiting_from low self.now.sessions }
+        ensures waits { IfSome result (λ c. 0 < length (queue_in (find c self.now.sessions))) }
+        ensures low { IfSome result (λ c. low ≤ c) }
+    {
+        for (conn, _session) in self.sessions.range((Included(low), Unbounded)) {
+            if self.queued(*conn) > 0 {
+                return Some(*conn);
+            }
+        }
+        None
+    }
+
+    /// The least connection behind this one for which bytes wait.
+    pub fn next_behind(&self, conn: Conn) -> Option<Conn>
+        ensures next { result ≡ waiting_from (conn + 1) self.now.sessions }
+        ensures waits { IfSome result (λ c. 0 < length (queue_in (find c self.now.sessions))) }
+        ensures low { IfSome result (λ c. conn < c) }
+    {
+        for (other, _session) in self.sessions.range((Excluded(conn), Unbounded)) {
+            if self.queued(*other) > 0 {
+                return Some(*other);
+            }
+        }
+        None
+    }
+
+    /// A connection took so many bytes of what waits for it.
+    pub fn took(&mut self, conn: Conn, n: usize)
+        requires { n ≤ length (queue_in (find conn self.old.sessions)) }
+        ensures { self.new ≡ taken_of conn n self.old }
+    {
+        took_at(&mut self.sessions, conn, n);
+    }
+
+    /// The next turn begins.
+    pub fn begin_turn(&mut self)
+        ensures { self.new ≡ turn_begins self.old }
+    {
+        self.place.turn = self.place.turn.saturating_add(1);
+        self.place.at = 0;
+        self.place.frames = 0;
+    }
+
+    /// The next happening begins; behind the last, the writes.
+    pub fn begin_happening(&mut self, at: u8)
+        ensures { self.new ≡ happens_at at self.old }
+    {
+        self.place.at = at;
+        self.place.frames = 0;
+    }
+
+    /// One more input came.
+    pub fn count_input(&mut self)
+        ensures counted { self.new ≡ counted self.old }
+        ensures up { self.old.place.inputs ≤ next self.old.place.inputs }
+    {
+        self.place.inputs = self.place.inputs.saturating_add(1);
+    }
+
+    /// Marks a loss here. With the last mark no session is left.
+    fn mark(&mut self, conn: Option<Conn>)
+        requires { length self.old.lost < most_marks }
+        ensures { self.new ≡ marked conn self.old }
+    {
+        let Place {
+            turn,
+            at,
+            inputs,
+            frames,
+        } = self.place;
+        self.lost.push_reserved(Mark {
+            turn,
+            at,
+            inputs,
+            frames,
+            conn,
+        });
+        if self.lost.len() >= MOST_MARKS {
+            self.sessions.clear();
+            self.askers.clear();
+            self.gathered = Run::new(self.alloc);
+            self.downs.clear();
+        }
+    }
+
+    /// A session is over: its connection is to be closed, and its peer goes down.
+    pub fn leave(&mut self, conn: Conn)
+        ensures { self.new ≡ left_by conn self.old }
+    {
+        let Some(session) = take_out(&mut self.sessions, conn) else {
+            return;
+        };
+        forget_all(&mut self.askers, conn);
+        self.gathered.forget(conn);
+        self.closes.push_reserved(conn);
+        note_down(&mut self.downs, session.kind);
+    }
+
+    /// A session is lost for want of memory.
+    pub fn lose(&mut self, conn: Conn)
+        ensures lost { self.new ≡ lost_if_open conn self.old }
+        ensures room { IsTrue (is_open conn self.old) → length self.old.lost < most_marks }
+    {
+        if self.sessions.contains_key(&conn) {
+            self.mark(Some(conn));
+            self.leave(conn);
+        }
+    }
+
+    /// Whether there are the most marks.
+    pub fn is_full(&self) -> bool
+        ensures { IsTrue result ↔ (most_marks ≤ length self.now.lost) }
+    {
+        self.lost.len() >= MOST_MARKS
+    }
+
+    /// An input is lost for want of memory.
+    pub fn lose_input(&mut self)
+        requires { length self.old.lost < most_marks }
+        ensures lost { self.new ≡ counted (marked None self.old) }
+        ensures up { self.old.place.inputs ≤ next self.old.place.inputs }
+    {
+        self.mark(None);
+        self.count_input();
+    }
+
+    /// The first peer whose Down is to be given.
+    pub fn next_down(&mut self) -> Option<Pid>
+        ensures some { IfSome result (λ q. self.old.downs ≡ q ∷ self.new.downs) }
+        ensures none { IfNone result (self.old.downs ≡ []) }
+        ensures rest { self.new ≡ record self.old { downs = drop 1 self.old.downs } }
+        ensures range { IfSome result IsPid }
+    {
+        if self.downs.is_empty() {
+            return None;
+        }
+        Some(self.downs.remove(0))
+    }
+
+    /// The first connection that is to be closed.
+    pub fn next_close(&mut self) -> Option<Conn>
+        ensures some { IfSome result (λ c. self.old.closes ≡ c ∷ self.new.closes) }
+        ensures none { IfNone result (self.old.closes ≡ []) }
+        ensures rest { self.new ≡ record self.old { closes = drop 1 self.old.closes } }
+    {
+        if self.closes.is_empty() {
+            return None;
+        }
+        Some(self.closes.remove(0))
+    }
+
+    /// The connection of a peer's session.
+    pub fn session_of(&self, peer: Pid) -> Option<Conn>
+        ensures { result ≡ session_of peer self.now }
+    {
+        let Some(Some(conn)) = self.peers.get(&peer) else {
+            return None;
+        };
+        let session = self.sessions.get(conn)?;
+        match session.kind {
+            Kind::Peer(id, _) if id == peer => Some(*conn),
+            _ => None,
+        }
+    }
+
+    /// A message for a peer without a session is lost.
+    pub fn send(&mut self, message: &(Pid, Msg))
+        requires { SendInRange message.now }
+        ensures { Does (λ marks s. settled marks (sent message.now s)) self.old self.new }
+    {
+        let Some(conn) = self.session_of(message.0) else {
+            return;
+        };
+        match self.queue_message(conn, message.0, &message.1) {
+            Ok(()) => {}
+            Err(_) => self.lose(conn),
+        }
+    }
+
+    /// Messages, in their order.
+    pub fn send_all(&mut self, sends: &Sends)
+        requires { All SendInRange sends.now }
+        ensures { Does (λ marks s. settled marks (sent_all sends.now s)) self.old self.new }
+    {
+        for message in sends.as_slice() {
+            self.send(message);
+        }
+    }
+
+    /// Adds a message to what waits for a connection. Without memory nothing changes.
+    fn queue_message(&mut self, conn: Conn, to: Pid, message: &Msg) -> Result<(), NoMemory>
+        requires to { IsPid to }
+        requires message { MsgInRange message.now }
+        ensures ok { OnOk result
+            (self.new ≡ waits_for conn (peer_frame self.old.me to message.now) self.old) }
+        ensures err { OnErr result (self.new ≡ self.old) }
+    {
+        put_message(&mut self.frame, self.me, to, message)?;
+        add(&mut self.sessions, conn, self.frame.as_slice())
+    }
+
+    /// How many commands were gathered.
+    pub fn gathered_len(&self) -> usize
+        ensures { result ≡ length self.now.gathered }
+    {
+        self.gathered.len()
+    }
+
+    /// A command was read, and is to be given together with those before it. Gives all of them, where they are the
+    /// most that one input may have. Without memory nothing changes.
+    pub fn gather(&mut self, conn: Conn, command: Command) -> Result<Option<Run>, NoMemory>
+        requires { CommandInRange command }
+        ensures ok { IfOk result (λ r. Gathers conn command self.old r self.new) }
+        ensures range { IfOk result (λ r. IfSome r RunInRange) }
+        ensures err { OnErr result (self.new ≡ self.old) }
+    {
+        self.gathered.push(conn, command)?;
+        if self.gathered.len() < MOST_COMMANDS {
+            return Ok(None);
+        }
+        Ok(Some(mem::replace(&mut self.gathered, Run::new(self.alloc))))
+    }
+
+    /// The commands that were gathered, and their connections. Then none is gathered.
+    pub fn release(&mut self) -> Run
+        ensures run { result ≡ self.old.gathered }
+        ensures released { self.new ≡ releases self.old }
+        ensures range { RunInRange result }
+    {
+        mem::replace(&mut self.gathered, Run::new(self.alloc))
+    }
+
+    /// Where the answer to a command goes: to the session that asked last. Then nobody waits.
+    fn asker(&mut self, key: Key) -> Option<Conn>
+        ensures conn { result ≡ map.get self.old.askers key }
+        ensures new { self.new ≡ forgotten key self.old }
+    {
+        forget(&mut self.askers, key)
+    }
+
+    /// A command is asked for: who asked for it before waits no more, and this session does. Where that finds no
+    /// memory, the session is lost.
+    fn ask(&mut self, conn: Conn, key: Key)
+        ensures { Does (λ marks s. settled marks (asked_by_one (conn, key) s)) self.old self.new }
+    {
+        if !self.is_open(conn) {
+            self.asker(key);
+            return;
+        }
+        match self.note(conn, key) {
+            Ok(()) => {}
+            Err(_) => self.lose(conn),
+        }
+    }
+
+    /// Notes who asks last for a command. Without memory nothing changes, and nobody had asked.
+    fn note(&mut self, conn: Conn, key: Key) -> Result<(), NoMemory>
+        ensures ok { OnOk result
+            (self.new ≡ record self.old { askers = map.insert self.old.askers key conn }) }
+        ensures err { OnErr result (self.new ≡ self.old) }
+        ensures absent { OnErr result (map.get self.old.askers key ≡ None) }
+    {
+        put_asker(&mut self.askers, conn, key)
+    }
+
+    /// Commands are asked for, in their order.
+    fn ask_all(&mut self, keys: &[(Conn, Key)])
+        ensures { Does (λ marks s. settled marks (asked keys.now s)) self.old self.new }
+    {
+        for (conn, key) in keys {
+            self.ask(*conn, *key);
+        }
+    }
+
+    /// What becomes of what was asked for: commands wait for their answers, or each is told why it is refused;
+    /// of a stop-sign or a trim all is told.
+    pub fn propose(&mut self, wanted: Option<Wanted>, outcome: Option<Outcome>)
+        requires wanted { IfSome wanted WantedInRange }
+        requires outcome { IfSome outcome OutcomeInRange }
+        ensures { Does (λ marks s. settled marks (proposed wanted outcome s)) self.old self.new }
+    {
+        match wanted {
+            None => {}
+            Some(Wanted::Commands(keys)) => self.propose_all(keys.as_slice(), refusal(outcome)),
+            Some(Wanted::Stop(conn)) => self.tell_outcome(conn, outcome),
+            Some(Wanted::Trim(conn)) => self.tell_outcome(conn, outcome),
+        }
+    }
+
+    /// Commands wait for their answers, or each is told why it is refused.
+    fn propose_all(&mut self, keys: &[(Conn, Key)], why: Option<Refusal>)
+        requires keys { All KeyAtInRange keys.now }
+        requires why { IfSome why RefusalInRange }
+        ensures { Does (λ marks s. settled marks (told_all (said_of_refusal keys.now why)
+            (asked (waits_unless why keys.now) s))) self.old self.new }
+    {
+        match why {
+            None => self.ask_all(keys),
+            Some(why) => self.deny_all(keys, Some(why)),
+        }
+    }
+
+    /// An outcome is told, if there is one.
+    fn tell_outcome(&mut self, conn: Conn, outcome: Option<Outcome>)
+        requires { IfSome outcome OutcomeInRange }
+        ensures { Does (λ marks s. settled marks (told_all (said_of_outcome conn outcome) s))
+            self.old self.new }
+    {
+        match outcome {
+            None => {}
+            Some(outcome) => self.tell(conn, Said::Outcome(outcome)),
+        }
+    }
+
+    /// Clients whose input was not done are told why; None stands for want of memory.
+    pub fn excuse(&mut self, wanted: Option<Wanted>, why: Option<Refusal>)
+        requires wanted { IfSome wanted WantedInRange }
+        requires why { DenialInRange why }
+        ensures { Does (λ marks s. settled marks (excused wanted why s)) self.old self.new }
+    {
+        match wanted {
+            None => {}
+            Some(Wanted::Commands(keys)) => self.deny_all(keys.as_slice(), why),
+            Some(Wanted::Stop(conn)) => self.tell(conn, denied(why)),
+            Some(Wanted::Trim(conn)) => self.deny_trim(conn, why),
+        }
+    }
+
+    /// Each of these commands is told why it was not done.
+    fn deny_all(&mut self, keys: &[(Conn, Key)], why: Option<Refusal>)
+        requires keys { All KeyAtInRange keys.now }
+        requires why { DenialInRange why }
+        ensures { Does (λ marks s. settled marks (told_all (said_each keys.now (denied why)) s))
+            self.old self.new }
+    {
+        for (conn, key) in keys {
+            self.deny(*conn, *key, why);
+        }
+    }
+
+    /// A command is told why it was not done.
+    fn deny(&mut self, conn: Conn, key: Key, why: Option<Refusal>)
+        requires key { KeyInRange key }
+        requires why { DenialInRange why }
+        ensures { Does (λ marks s. settled marks (told conn (of_command key (denied why)) s))
+            self.old self.new }
+    {
+        let what = of_command(key, denied(why));
+        self.answer(conn, &what);
+    }
+
+    /// Who asked for trimming is told why it was not done, but not that it was lost.
+    fn deny_trim(&mut self, conn: Conn, why: Option<Refusal>)
+        requires { DenialInRange why }
+        ensures { Does (λ marks s. settled marks (told_all (said_of_denial (Trim conn) why) s))
+            self.old self.new }
+    {
+        match why {
+            None => {}
+            Some(why) => self.tell(conn, denied(Some(why))),
+        }
+    }
+
+    /// A client is told something that is of no command.
+    fn tell(&mut self, conn: Conn, said: Said)
+        requires { SaidInRange said }
+        ensures { Does (λ marks s. settled marks (told conn (no_command said) s)) self.old self.new }
+    {
+        let what = of_no_command(said);
+        self.answer(conn, &what);
+    }
+
+    /// The answer to a command goes to the session that asked last for it.
+    pub fn reply(&mut self, decided: Reply)
+        requires { AnswerInRange decided }
+        ensures { Does (λ marks s. settled marks (replied decided s)) self.old self.new }
+    {
+        let Reply {
+            client,
+            seq,
+            answer,
+        } = decided;
+        let Some(conn) = self.asker((client, seq)) else {
+            return;
+        };
+        let told = ClientReply {
+            client,
+            seq,
+            said: Said::Answer(answer),
+        };
+        self.answer(conn, &told);
+    }
+
+    /// Answers to commands, in their order.
+    pub fn reply_all(&mut self, replies: Replies)
+        requires { All AnswerInRange replies }
+        ensures { Does (λ marks s. settled marks (replied_all replies s)) self.old self.new }
+    {
+        for decided in replies.into_vec() {
+            self.reply(decided);
+        }
+    }
+
+    /// A client is told something at a connection.
+    pub fn answer(&mut self, conn: Conn, told: &ClientReply)
+        requires { ReplyInRange told.now }
+        ensures { Does (λ marks s. settled marks (waits_for conn (client_frame told.now) s))
+            self.old self.new }
+    {
+        match self.queue_reply(conn, told) {
+            Ok(()) => {}
+            Err(_) => self.lose(conn),
+        }
+    }
+
+    /// Adds a reply to what waits for a connection. Without memory nothing changes.
+    pub fn queue_reply(&mut self, conn: Conn, told: &ClientReply) -> Result<(), NoMemory>
+        requires { ReplyInRange told.now }
+        ensures ok { OnOk result (self.new ≡ waits_for conn (client_frame told.now) self.old) }
+        ensures err { OnErr result (self.new ≡ self.old) }
+    {
+        put_reply(&mut self.frame, told)?;
+        add(&mut self.sessions, conn, self.frame.as_slice())
+    }
+}

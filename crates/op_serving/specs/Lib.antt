@@ -1,0 +1,15 @@
+pub mod Cores
+pub mod Wire
+pub mod State
+pub mod Ranges
+pub mod Codes
+pub mod Counts
+pub mod Losses
+pub mod Handing
+pub mod Inputs
+pub mod Reading
+pub mod Turns
+pub mod Pump
+pub mod Faults
+pub mod Promise
+pub mod Answers

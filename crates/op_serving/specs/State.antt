@@ -1,0 +1,137 @@
+-- What is kept beside a node that is served, and what each thing that is done makes of it in ample memory.
+use Rattle.std.specs.Prelude.{◌+◌, ◌++◌, ◌∷◌, [], ℕ, min, List, Bool, false, not, ◌==◌, if◌then◌else◌, Option, Some, None, is_some, option_map}
+use Rattle.std.specs.Map.{lookup, set_value}
+use Rattle.std.specs.BTreeMap.{is_at}
+use Rattle.std.specs.Ordering.{nat_cmp, ordering_then}
+use Rattle.std.specs.FinMap as map
+use Rattle.std.specs.declared.cmp.Ordering.{Ordering}
+use Rattle.op_types.specs.declared.log.Command.{Command}
+use Rattle.op_serving.specs.declared.kind.Kind.{Kind}
+use Rattle.op_serving.specs.declared.kind.Kind.TheVariants.{Unknown, Peer, Client}
+use Rattle.op_serving.specs.declared.session.Session.{Session}
+use Rattle.op_serving.specs.declared.mark.Mark.{Mark}
+use Rattle.op_serving.specs.declared.mark.Place.{Place}
+
+-- ---- tables by connection or id
+
+abbrev pub Table : Type 0 → Type 0
+Table X = List (ℕ × X)
+
+-- the entry of a number
+abbrev pub find : {X : Type 0} → ℕ → Table X → Option X
+find c t = lookup (is_at (nat_cmp c)) t
+
+-- with another entry in its place
+abbrev pub set : {X : Type 0} → ℕ → X → Table X → Table X
+set c x t = set_value (is_at (nat_cmp c)) t x
+
+-- without it
+abbrev pub without : {X : Type 0} → ℕ → Table X → Table X
+without c [] = []
+without c (e ∷ t) = if is_at (nat_cmp c) e.0 then without c t else e ∷ without c t
+
+-- with the entry changed, if there is one
+abbrev pub changed_at : {X : Type 0} → (X → X) → ℕ → Option X → Table X → Table X
+changed_at f c None t = t
+changed_at f c (Some x) t = set c (f x) t
+
+abbrev pub changed : {X : Type 0} → (X → X) → ℕ → Table X → Table X
+changed f c t = changed_at f c (find c t) t
+
+-- ---- what is kept
+
+-- a command, by its client and its number
+abbrev pub Key : Type 0
+Key = ℕ × ℕ
+
+-- who asked last for a command: the connection of a session that is there
+abbrev pub pair_cmp : Key → Key → Ordering
+pair_cmp p q = ordering_then (nat_cmp p.0 q.0) (nat_cmp p.1 q.1)
+
+abbrev pub Askers : Type 0
+Askers = map.FinMap pair_cmp ℕ
+
+-- the askers that a table names
+abbrev pub askers_in : List (Key × ℕ) → Askers
+askers_in es = map.from_entries es
+
+-- whoever asked at a connection waits no more
+abbrev pub is_conn : ℕ → Option ℕ → Bool
+is_conn c None = false
+is_conn c (Some d) = d == c
+
+abbrev pub without_asker : ℕ → Askers → Askers
+without_asker c t = map.retain_keys t (λ key. not (is_conn c (map.get t key)))
+
+-- what is kept beside the node
+pub record Loop : Type 0 where
+  pub me : ℕ
+  pub peers : Table (Option ℕ)  -- each peer, and the connection of its last session
+  pub sessions : Table Session  -- each open connection
+  pub askers : Askers
+  pub gathered : Table Command  -- commands that were read and are not given yet, each with its connection
+  pub place : Place  -- where in the run: turn, happening, inputs, frames
+  pub lost : List Mark
+  pub closes : List ℕ  -- the connections that are to be closed, in order
+  pub downs : List ℕ  -- the peers whose Down is to be given, in order
+  pub ending : Bool  -- whether an end request was read
+
+-- whose session a connection is
+abbrev pub kind_at : ℕ → Loop → Option Kind
+kind_at c s = option_map (λ x. x.kind) (find c s.sessions)
+
+-- a connection has a session
+abbrev pub is_open : ℕ → Loop → Bool
+is_open c s = is_some (find c s.sessions)
+
+-- ---- sessions
+
+-- bytes wait for a connection
+abbrev pub with_bytes : List ℕ → Session → Session
+with_bytes bytes x = record x { queue = x.queue ++ bytes }
+
+abbrev pub waits_for : ℕ → List ℕ → Loop → Loop
+waits_for c bytes s = record s { sessions = changed (with_bytes bytes) c s.sessions }
+
+-- the connection of a peer's session, if it is still that
+abbrev pub if_its : ℕ → ℕ → Option Session → Option ℕ
+if_its q c None = None
+if_its q c (Some x) =
+    elim x.kind [ Unknown ↦ None | Peer p h ↦ if p == q then Some c else None | Client ↦ None ]
+
+abbrev pub open_of : ℕ → Option (Option ℕ) → Table Session → Option ℕ
+open_of q None t = None
+open_of q (Some None) t = None
+open_of q (Some (Some c)) t = if_its q c (find c t)
+
+abbrev pub session_of : ℕ → Loop → Option ℕ
+session_of q s = open_of q (find q s.peers) s.sessions
+
+-- whose Down is to be given once a session of this kind is over: a peer's that had its Up
+abbrev pub down_of : Kind → List ℕ
+down_of Unknown = []
+down_of (Peer q h) = if h == 0 then q ∷ [] else []
+down_of Client = []
+
+-- A session is over: it waits for nothing, its commands that were not given yet go with it, its
+-- connection is to be closed, and its peer goes down.
+abbrev pub left_at : ℕ → Option Kind → Loop → Loop
+left_at c None s = s
+left_at c (Some kind) s = record s {
+  sessions = without c s.sessions;
+  askers = without_asker c s.askers;
+  gathered = without c s.gathered;
+  closes = s.closes ++ c ∷ [];
+  downs = s.downs ++ down_of kind;
+}
+
+abbrev pub left_by : ℕ → Loop → Loop
+left_by c s = left_at c (kind_at c s) s
+
+-- one more, up to the last value of a u64
+abbrev pub next : ℕ → ℕ
+next n = min (n + 1) 18446744073709551615
+
+-- one more input came
+abbrev pub counted : Loop → Loop
+counted s = record s { place = record s.place { inputs = next s.place.inputs } }

@@ -1,0 +1,24 @@
+//! What serving a node is, in definitions, and the plain types that they speak of.
+#![tactic(auto)]
+
+mod greeting;
+mod hearing;
+mod keys;
+mod kind;
+mod mark;
+mod node;
+mod queue;
+mod serve_end;
+mod session;
+mod wanted;
+
+pub use greeting::{Greeting, HELLO_LEN, read_greeting};
+pub use hearing::Heard;
+pub use keys::{Key, Keys};
+pub use kind::{Kind, goes_up};
+pub use mark::{Mark, Place};
+pub use node::{Core, Given, StepFail};
+pub use queue::Queue;
+pub use serve_end::ServeEnd;
+pub use session::{CLIENT_HEAD, CLIENT_LIMIT, PEER_HEAD, PEER_LIMIT, Session};
+pub use wanted::Wanted;

@@ -1,0 +1,67 @@
+ghost use Rattle.std.specs.Prelude.{◌≡◌, ◌≤◌, ℕ, List, length, IfOk};
+ghost use Rattle.op_command.specs.Ranges.{most_line_bytes};
+ghost use Rattle.op_types.specs.Ranges.{IsPid};
+ghost use Rattle.op_serving.specs.Cores.{Standing, Steps};
+ghost use Rattle.op_serving.specs.Ranges.{InputInRange, GivenInRange};
+
+use op_types::{Blob, Input, NoMemory, Outcome, Pid, Replies, Sends};
+use std::alloc::Global;
+
+/// What a step gives out, once it is stored.
+#[derive(Drop)]
+pub struct Given {
+    /// Messages, each to a node.
+    pub sends: Sends,
+    /// Answers, each to a client that waited here.
+    pub replies: Replies,
+    /// What a proposal is answered at once.
+    pub outcome: Option<Outcome>,
+}
+
+/// Why a step was not done.
+#[derive(Clone, Copy, Debug, PartialEq, Eq)]
+pub enum StepFail {
+    /// A disk failed, with this count of faults since.
+    DiskFail {
+        /// The count.
+        count: u64,
+    },
+    /// No memory. Nothing changed.
+    NoMemory,
+}
+
+/// A node as it is served.
+pub trait Core {
+    /// Its state, and how often its disks have failed.
+    ghost standing: { Self → Standing };
+
+    /// What it keeps in memory is of what it has stored, and is in range.
+    ghost ready: { Self → Type 0 };
+
+    /// What holds of its disks since an earlier state of it, which each step keeps.
+    ghost stored: { Self → Self → Type 0 };
+
+    /// Where it stands, as a client is told.
+    ghost line: { Standing → List ℕ };
+
+    /// A step: what the input makes of the node, and what it gives out. Without memory nothing changes.
+    fn step(&mut self, input: Input) -> Result<Given, StepFail>
+        requires ready { ready self.old }
+        requires range { InputInRange input }
+        ensures steps { Steps (standing self.old) input result (standing self.new) }
+        ensures given { IfOk result GivenInRange }
+        ensures ready { ready self.new }
+        ensures stored { (k : Self) → stored k self.old → stored k self.new };
+
+    /// The server whose node it is.
+    fn me(&self) -> Pid
+        requires { ready self.now }
+        ensures me { result ≡ (standing self.now).me }
+        ensures range { IsPid result };
+
+    /// Where it stands, as a client is told.
+    fn status(&self, alloc: Global) -> Result<Blob, NoMemory>
+        requires { ready self.now }
+        ensures is { IfOk result (λ text. text ≡ line (standing self.now)) }
+        ensures fits { IfOk result (λ text. length text ≤ most_line_bytes) };
+}

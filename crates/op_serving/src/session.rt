@@ -1,0 +1,65 @@
+ghost use Rattle.std.specs.Prelude.{◌≡◌, Some, IfOk};
+ghost use Rattle.op_serving.specs.Turns.{queue_in, made_session};
+
+use crate::greeting::put_hello;
+use crate::kind::Kind;
+use crate::queue::Queue;
+use op_frame::Frames;
+use op_types::{NoMemory, Pid};
+use std::alloc::Global;
+
+/// How many bytes the head of a client's frame has.
+pub const CLIENT_HEAD: u8 = 4;
+
+/// How many bytes the head of a peer's frame has.
+pub const PEER_HEAD: u8 = 8;
+
+/// The longest body of a client's frame.
+pub const CLIENT_LIMIT: u64 = 65_536;
+
+/// The longest body of a peer's frame.
+pub const PEER_LIMIT: u64 = u64::MAX;
+
+/// A session, which is what a connection is used for.
+#[derive(Drop)]
+pub struct Session {
+    /// Whose it is.
+    pub kind: Kind,
+    /// What it has read, and was not dealt with.
+    pub frames: Frames,
+    /// The bytes that wait for it.
+    pub queue: Queue,
+}
+
+impl Session {
+    /// A session for a new connection: for a dialled one the own hello waits, and it has frames at once.
+    pub fn new(alloc: Global, me: Pid, kind: Kind) -> Result<Session, NoMemory>
+        ensures { IfOk result (λ x. x ≡ made_session kind me) }
+    {
+        let mut queue = Queue::new(alloc);
+        let frames = match kind {
+            Kind::Peer(..) => {
+                put_hello(&mut queue, alloc, me)?;
+                Frames::new(alloc, PEER_HEAD, PEER_LIMIT)
+            }
+            Kind::Unknown | Kind::Client => Frames::new(alloc, CLIENT_HEAD, 0),
+        };
+        Ok(Session {
+            kind,
+            frames,
+            queue,
+        })
+    }
+
+    /// What waits for it; what is left of a dialler's hello goes out first.
+    #[tactic(auto, using(std::proofs::lemmas::List::take_min))]
+    pub fn waiting(&self) -> &[u8]
+        ensures { result.now ≡ queue_in (Some self.now) }
+    {
+        let bytes = self.queue.as_slice();
+        match self.kind {
+            Kind::Peer(_, left) if left > 0 => &bytes[..(left as usize).min(bytes.len())],
+            _ => bytes,
+        }
+    }
+}
