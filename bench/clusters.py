@@ -24,13 +24,14 @@ def free_port():
 
 
 class Cluster:
-    """Nodes 1 to 3, which are all members. With `like_command` they are children of `omni cluster`."""
+    """Nodes 1 to 3, which are all members, or others. With `like_command` they are children of `omni cluster`."""
 
-    def __init__(self, like_command=False):
+    def __init__(self, like_command=False, ids=IDS, members=IDS):
         self.folder = tempfile.mkdtemp(prefix="omni-")
-        self.ports = {it: free_port() for it in IDS}
+        self.ids = ids
+        self.ports = {it: free_port() for it in ids}
         rows = "".join(f"{it} = '127.0.0.1:{port}'\n" for it, port in self.ports.items())
-        self.settings = f"tick_ms = {TICK_MS}\nturns = 1000000000000\nmembers = [1, 2, 3]\n\n[peers]\n{rows}"
+        self.settings = f"tick_ms = {TICK_MS}\nturns = 1000000000000\nmembers = {list(members)}\n\n[peers]\n{rows}"
         self.path = os.path.join(self.folder, "cluster.toml")
         with open(self.path, "w") as it:
             it.write(self.settings)
@@ -40,11 +41,11 @@ class Cluster:
             with open(self.path) as it:
                 self.command = subprocess.Popen([PROGRAM, "cluster"], cwd=self.folder, stdin=it, stdout=subprocess.PIPE)
         else:
-            for it in IDS:
+            for it in ids:
                 self.start(it)
 
     def addresses(self, first=1):
-        ids = list(IDS[first - 1:]) + list(IDS[:first - 1])
+        ids = self.ids[first - 1:] + self.ids[:first - 1]
         return [("127.0.0.1", self.ports[it]) for it in ids]
 
     def start(self, node):
@@ -75,14 +76,14 @@ class Cluster:
         return time.monotonic() - started
 
     def leader(self):
-        for it in IDS:
+        for it in self.ids:
             if self.call(it, "put", "1", str(time.monotonic_ns()), "leader", "x")[0] == "done":
                 return it
         return 1
 
     def end(self):
         """Ends the nodes, and gives what `omni cluster` printed."""
-        for it in IDS:
+        for it in self.ids:
             self.call(it, "end")
         printed = ""
         if self.command is not None:

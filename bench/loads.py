@@ -1,0 +1,165 @@
+"""Closed loops of puts: each connection sends one, waits for its answer, and sends the next. The connections are spread over several
+processes, so that no client is the limit, and over all nodes. One that is refused, cut or hears nothing for a while asks again under the
+same number at the next node; its time runs on from when it first asked."""
+import base64
+import collections
+import json
+import multiprocessing
+import os
+import random
+import selectors
+import socket
+import struct
+import sys
+import time
+
+sys.path.insert(0, os.path.join(os.path.dirname(os.path.abspath(__file__)), "..", "examples"))
+from client import DONE, entry  # noqa: E402
+
+VALUE = b"v" * 100
+KEYS = 1000
+PROCESSES = 4
+SILENCE, PAUSE = 2.0, 0.05  # seconds: that an answer is waited for, and before a refused put is asked again
+
+
+def next_key(number):
+    return f"k{number % KEYS}".encode()
+
+
+class OmniWire:
+    """A client of omni: a command has its client's number, which stays when it is asked again."""
+    greeting = b"C"
+
+    def __init__(self):
+        self.client, self.number = random.randrange(1, 2**62), 0
+
+    def put(self, is_new):
+        self.number += is_new
+        body = entry(self.client, self.number, "put", next_key(self.number), VALUE)
+        return struct.pack(">I", len(body)) + body
+
+    def answer(self, heard):
+        """None while no answer is whole; else what is left, and whether the put is done."""
+        if len(heard) < 21 or len(heard) < 4 + struct.unpack(">I", heard[:4])[0]:
+            return None
+        length, _, number, tag = struct.unpack(">IQQB", heard[:21])
+        return heard[4 + length:], tag == DONE and number == self.number
+
+
+class EtcdWire:
+    """A client of etcd's JSON gateway, on one connection that stays open."""
+    greeting = b""
+
+    def __init__(self):
+        self.number = random.randrange(KEYS)
+
+    def put(self, is_new):
+        self.number += is_new
+        pair = {"key": next_key(self.number), "value": VALUE}
+        body = json.dumps({name: base64.b64encode(it).decode() for name, it in pair.items()}).encode()
+        return b"POST /v3/kv/put HTTP/1.1\r\nHost: etcd\r\nContent-Length: %d\r\n\r\n" % len(body) + body
+
+    def answer(self, heard):
+        head, end, rest = heard.partition(b"\r\n\r\n")
+        if not end:
+            return None
+        fields = dict(line.lower().split(b": ", 1) for line in head.split(b"\r\n")[1:])
+        length = int(fields[b"content-length"])
+        return (rest[length:], head.startswith(b"HTTP/1.1 200")) if len(rest) >= length else None
+
+
+class Connection:
+    def __init__(self, wire, addresses):
+        self.wire, self.addresses = wire(), collections.deque(addresses)
+        self.socket, self.times, self.refused = None, [], 0
+        self.asked_at = self.began = 0.0
+
+    def ask(self, selector, is_new):
+        """Asks for the next put, or for the same one again, at the next node where there is no connection."""
+        self.asked_at = time.monotonic()
+        self.began = self.asked_at if is_new else self.began
+        try:
+            if self.socket is None:
+                self.socket = socket.create_connection(self.addresses[0], SILENCE)
+                self.socket.setsockopt(socket.IPPROTO_TCP, socket.TCP_NODELAY, 1)
+                self.heard = b""
+                selector.register(self.socket, selectors.EVENT_READ, self)
+                self.socket.sendall(self.wire.greeting)
+            self.socket.sendall(self.wire.put(is_new))
+        except OSError:
+            self.leave(selector)
+
+    def leave(self, selector):
+        """Lets the connection go; the next node is asked after a pause."""
+        if self.socket is not None:
+            selector.unregister(self.socket)
+            self.socket.close()
+            self.socket = None
+        self.refused += 1
+        self.addresses.rotate(-1)
+
+    def hear(self, selector):
+        try:
+            part = self.socket.recv(65536)
+        except OSError:
+            part = b""
+        if not part:
+            return self.leave(selector)
+        self.heard += part
+        while (answer := self.wire.answer(self.heard)) is not None:
+            self.heard, is_done = answer
+            if not is_done:
+                return self.leave(selector)
+            self.times.append((self.began, time.monotonic() - self.began))
+            self.ask(selector, True)
+
+    def look(self, selector, now):
+        """Asks again where the put was refused, or nothing was heard for too long."""
+        if self.socket is None and now - self.asked_at > PAUSE:
+            self.ask(selector, False)
+        elif self.socket is not None and now - self.asked_at > SILENCE:
+            self.leave(selector)
+            self.ask(selector, False)
+
+
+def run(wire, starts, end, results):
+    connections = [Connection(wire, addresses) for addresses in starts]
+    selector = selectors.DefaultSelector()
+    for it in connections:
+        it.ask(selector, True)
+    while (now := time.monotonic()) < end:
+        for key, _ in selector.select(PAUSE):
+            key.data.hear(selector)
+        for it in connections:
+            it.look(selector, now)
+    results.send(([one for it in connections for one in it.times], sum(it.refused for it in connections)))
+
+
+class Load:
+    """What so many connections to these nodes got in so many seconds."""
+
+    def __init__(self, wire, addresses, connections, seconds):
+        starts = [addresses[it % len(addresses):] + addresses[:it % len(addresses)] for it in range(connections)]
+        end, pipes, children = time.monotonic() + seconds, [], []
+        for first in range(min(PROCESSES, connections)):
+            here, there = multiprocessing.Pipe(False)
+            children.append(multiprocessing.Process(target=run, args=(wire, starts[first::PROCESSES], end, there)))
+            children[-1].start()
+            pipes.append(here)
+        got = [it.recv() for it in pipes]
+        for it in children:
+            it.join()
+        answers = sorted((began + took, took) for times, _ in got for began, took in times)
+        self.times = sorted(took for _, took in answers)
+        self.refused = sum(refused for _, refused in got)
+        self.rate = len(answers) / seconds
+        moments = [at for at, _ in answers]
+        self.silence = max((b - a for a, b in zip(moments, moments[1:])), default=seconds)
+
+    def part(self, share):
+        """The time within which this share of the puts was answered, in milliseconds."""
+        return self.times[min(int(len(self.times) * share), len(self.times) - 1)] * 1e3 if self.times else float("nan")
+
+    def __str__(self):
+        return (f"{self.rate:8.0f} puts a second, p50 {self.part(0.5):7.2f} ms, p99 {self.part(0.99):7.2f} ms, longest silence "
+                f"{self.silence * 1e3:6.0f} ms, {self.refused} asked again")
