@@ -4,7 +4,7 @@ ghost use Rattle.op_types.specs.Ranges.{IsNumber, MembersInRange};
 ghost use Rattle.op_core.specs.NodeCores.{IsServable};
 ghost use Rattle.op_serving.specs.Ranges.{InputInRange};
 
-use op_core::{NodeCore, opened_nodes_can_be_served, reopened_nodes_can_be_served};
+use op_core::{NodeCore, opened_nodes_can_be_served};
 use op_memory::MemDisk;
 use op_node::Node;
 use op_serving::Core;
@@ -92,18 +92,6 @@ pub fn ticks(core: &mut NodeCore<MemDisk>) -> Result<(), Fail>
     }
 }
 
-/// Whether a node that failed is opened again.
-pub fn reopens(core: &mut NodeCore<MemDisk>) -> Result<bool, Fail>
-    requires { IsServable core.old.node }
-    ensures { IsServable core.new.node }
-{
-    reopened_nodes_can_be_served::<MemDisk>();
-    if core.node.failed().is_none() {
-        return Err("it hasn't failed".into());
-    }
-    Ok(core.node.reopen().is_ok())
-}
-
 /// What its disks hold after so many puts.
 pub fn after_puts(alloc: Global, count: u64) -> Result<Images, Fail>
     requires { count < MOST_PUTS }
@@ -121,7 +109,7 @@ pub fn after_puts(alloc: Global, count: u64) -> Result<Images, Fail>
 }
 
 /// What the disks of a node hold.
-pub fn stored_by(alloc: Global, core: NodeCore<MemDisk>) -> Result<Images, Fail> {
+fn stored_by(alloc: Global, core: NodeCore<MemDisk>) -> Result<Images, Fail> {
     let (_, first, second) = core.node.park();
     Ok(Images {
         first: first.bytes().to_vec(alloc)?,
@@ -136,7 +124,7 @@ pub fn decided(alloc: Global, first: MemDisk, second: MemDisk) -> Result<u64, Fa
 }
 
 /// How much a node shows as decided.
-pub fn decided_by(core: &NodeCore<MemDisk>) -> u64 {
+fn decided_by(core: &NodeCore<MemDisk>) -> u64 {
     match &core.node.shown().part {
         Some(part) => part.decided,
         None => 0,
