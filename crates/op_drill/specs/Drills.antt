@@ -6,13 +6,12 @@ use Rattle.op_runs.specs.declared.summary.Summary.{Summary}
 use Rattle.op_outside.specs.Causes.{FaultsRose}
 use Rattle.op_outside.specs.Seen.{StreamSeen}
 use Rattle.op_outside.specs.Streams.{AppendsPrefix}
-use Rattle.op_gen.specs.Draws.{drill_members, drill_spares, events_of}
 use Rattle.op_gen.specs.Scenarios.{name_of, members_of, links_of}
 use Rattle.op_gen.specs.declared.scenario.Scenario.{Scenario}
 use Rattle.op_sched.specs.Summaries.{summary_text}
 use Rattle.op_sched.specs.Text.{line_text}
 use Rattle.op_world.specs.Drills.{IsReportOfDrill}
-use Rattle.op_world.specs.Runs.{IsReportOfRun}
+use Rattle.op_world.specs.Runs.{IsReportOfDrawn}
 use Rattle.op_status.specs.declared.status.Status.{Status}
 use Rattle.op_status.specs.declared.status.Status.TheVariants as status
 
@@ -36,8 +35,9 @@ pub record IsTextOf (s : Scenario) (rounds : ℕ) (text : List ℕ) : Type 0 whe
 -- the text is that of the drill of so many events that this seed draws
 pub record IsSummaryTextOf (seed events : ℕ) (text : List ℕ) : Type 0 where
   pub summary : Summary
-  -- this is reported of the events' run, which keeps the laws
-  pub report : IsReportOfRun drill_members drill_spares (events_of seed events) summary
+  -- this is reported of a run of so many events, which keeps the laws; the seed draws each of them where
+  -- those before it happened
+  pub report : IsReportOfDrawn seed events summary
   -- the text is its summary
   pub written : text ≡ summary_text seed events summary
 

@@ -1,8 +1,7 @@
 //! A drill of events that are drawn.
 ghost use Rattle.std.specs.Prelude.{◌≡◌, ◌≤◌, IfOk};
 ghost use Rattle.op_types.specs.Limits.{greatest_number};
-ghost use Rattle.op_gen.specs.Draws.{drill_members, drill_spares, events_of};
-ghost use Rattle.op_world.specs.Runs.{IsReportOfRun};
+ghost use Rattle.op_world.specs.Runs.{IsReportOfDrawn};
 ghost use Rattle.op_drill.specs.Drills.{IsSummaryTextOf, RandomDrillEnds};
 
 use crate::telling::tell;
@@ -39,7 +38,7 @@ fn drill_text(alloc: Global, seed: u64, events: u64) -> Result<Vec<u8>, NoMemory
 /// What is reported of the drill. No event of it is refused, so that an error is want of memory.
 fn drilled(alloc: Global, seed: u64, events: u64) -> Result<Summary, NoMemory>
     requires { events ≤ greatest_number }
-    ensures { IfOk result (IsReportOfRun drill_members drill_spares (events_of seed events)) }
+    ensures { IfOk result (IsReportOfDrawn seed events) }
 {
     match World::drill(alloc, seed, events) {
         Ok(summary) => Ok(summary),

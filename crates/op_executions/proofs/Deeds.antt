@@ -42,6 +42,8 @@ deed_possible ids ms sent (what.Deliver i) each can fit = delivery_possible ids 
 deed_possible ids ms sent (what.Up p q) each can fit = record { pid = (and_parts (is_member nat_eq ids p) (is_member nat_eq ids q) can).0; doing = fit.1 }
 deed_possible ids ms sent (what.Down p q) each can fit = record { pid = (and_parts (is_member nat_eq ids p) (is_member nat_eq ids q) can).0; doing = fit.1 }
 deed_possible ids ms sent (what.Crash p) each can fit = record { pid = can; doing = tt }
+deed_possible ids ms sent (what.CrashAt p call image) each can fit = tt
+deed_possible ids ms sent (what.Fail p call) each can fit = tt
 deed_possible ids ms sent (what.Start p) each can fit = record { pid = can; doing = tt }
 deed_possible ids ms sent (what.Show p) each can fit = record { pid = can; doing = tt }
 deed_possible ids ms sent (what.Ballots p) each can fit = record { pid = can; doing = tt }

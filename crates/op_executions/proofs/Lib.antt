@@ -2,6 +2,8 @@ pub mod Bounds
 pub mod Deeds
 pub mod Laws
 pub mod Messages
+pub mod PlainRuns
+pub mod ScheduleRuns
 pub mod Servers
 pub mod Spares
 pub mod ToldLines

@@ -93,6 +93,13 @@ module _ {S F : Type 0} (K : Kind S F) where
   set_there (n ∷ servers) zero m d h = refl
   set_there (n ∷ servers) (suc k) m d h = set_there servers k m d (let less : k < length servers = omega arith in less)
 
+  -- another one there that shows the same nodes
+  pub shown_set : (servers : List S) (xs : List Node) (k : ℕ) (m : S) → ((d : S) (y : Node) → ShowsNode K (get_or servers k d) y → ShowsNode K m y) → ShowNodes K servers xs → ShowNodes K (set servers k m) xs
+  shown_set [] xs k m same s = s
+  shown_set (n ∷ servers) [] k m same s = absurd s
+  shown_set (n ∷ servers) (x ∷ xs) zero m same s = (same n x s.0, s.1)
+  shown_set (n ∷ servers) (x ∷ xs) (suc k) m same s = (s.0, shown_set servers xs k m same s.1)
+
   -- ---- the start, one server after the other
 
   shown_push : (servers : List S) (xs : List Node) (n : S) (x : Node) → ShowNodes K servers xs → ShowsNode K n x → ShowNodes K (servers ++ n ∷ []) (xs ++ x ∷ [])
@@ -106,13 +113,14 @@ module _ {S F : Type 0} (K : Kind S F) where
     pub shown : ShowNodes K servers (map (first_node members) (take k ids))
     pub ids_are : pids servers ≡ take k ids
     pub kept : All K.is_kept servers
+    pub first : All K.is_first servers
 
   pub have_none : (members ids : List ℕ) (servers : List S) → servers ≡ [] → HaveServers members ids servers 0
-  have_none members ids servers none = subst (λ (ns : List S). HaveServers members ids ns 0) (sym none) (record { shown = tt; ids_are = refl; kept = All-nil K.is_kept })
+  have_none members ids servers none = subst (λ (ns : List S). HaveServers members ids ns 0) (sym none) (record { shown = tt; ids_are = refl; kept = All-nil K.is_kept; first = All-nil K.is_first })
 
   pub have_more : (members ids : List ℕ) (servers new : List S) (n : S) (k : ℕ) → HaveServers members ids servers k → k < length ids → new ≡ servers ++ n ∷ []
-      → ShowsNode K n (first_node members (get_or ids k 0)) → K.is_kept n → HaveServers members ids new (k + 1)
-  have_more members ids servers new n k had there is shows kept =
+      → ShowsNode K n (first_node members (get_or ids k 0)) → K.is_kept n → K.is_first n → HaveServers members ids new (k + 1)
+  have_more members ids servers new n k had there is shows kept first =
       let pid = get_or ids k 0 in
       let more : take (k + 1) ids ≡ take k ids ++ pid ∷ [] = take_more ids k 0 there in
       let rows : map (first_node members) (take (k + 1) ids) ≡ map (first_node members) (take k ids) ++ first_node members pid ∷ [] =
@@ -122,6 +130,7 @@ module _ {S F : Type 0} (K : Kind S F) where
         shown = subst (λ (xs : List Node). ShowNodes K (servers ++ n ∷ []) xs) (sym rows) (shown_push servers (map (first_node members) (take k ids)) n (first_node members pid) had.shown shows);
         ids_are = map-append K.pid_of servers (n ∷ []) ∙ ap (λ (ms : List ℕ). ms ++ K.pid_of n ∷ []) had.ids_are ∙ ap (λ (i : ℕ). take k ids ++ i ∷ []) (sym shows.pid) ∙ sym more;
         kept = All-push K.is_kept servers n had.kept kept;
+        first = All-push K.is_first servers n had.first first;
       })
 
   -- all of them have
@@ -129,8 +138,9 @@ module _ {S F : Type 0} (K : Kind S F) where
     pub shown : ShowNodes K servers (map (first_node members) ids)
     pub ids_are : pids servers ≡ ids
     pub kept : All K.is_kept servers
+    pub first : All K.is_first servers
 
   pub have_all : (members ids : List ℕ) (servers : List S) (k : ℕ) → HaveServers members ids servers k → length ids ≤ k → HaveAll members ids servers
   have_all members ids servers k had most =
       let whole : take k ids ≡ ids = take_all k ids most in
-      record { shown = subst (λ (ms : List ℕ). ShowNodes K servers (map (first_node members) ms)) whole had.shown; ids_are = had.ids_are ∙ whole; kept = had.kept }
+      record { shown = subst (λ (ms : List ℕ). ShowNodes K servers (map (first_node members) ms)) whole had.shown; ids_are = had.ids_are ∙ whole; kept = had.kept; first = had.first }

@@ -1,5 +1,5 @@
 -- A world at its start, and after an event: it is of a run of one happening more.
-use Rattle.std.proofs.Common.{◌≡◌, ◌<◌, ◌+◌, ◌^◌, ℕ, zero, suc, true, nat_eq, List, [], ◌∷◌, ◌++◌, length, map, get_or, set, Option, Some, All, IfSome, refl, sym, ap, subst, ◌∙◌, arith}
+use Rattle.std.proofs.Common.{◌≡◌, ◌<◌, ◌+◌, ◌^◌, ℕ, zero, suc, true, nat_eq, List, [], ◌∷◌, ◌++◌, length, map, get_or, set, Option, Some, None, option_map, All, IfSome, refl, sym, ap, subst, ◌∙◌, arith}
 use Rattle.std.proofs.lemmas.List.{length-map}
 use Rattle.std.proofs.lemmas.List.Elements.{All-nil, All-push}
 use Rattle.std.specs.Set.{is_member}
@@ -16,12 +16,17 @@ use Rattle.op_laws.specs.Runs.{RunInRange}
 use Rattle.op_laws.proofs.Reached.{run_append}
 use Rattle.op_executions.specs.Deeds.{doing_of, deed_shown}
 use Rattle.op_executions.specs.Servers.{Kind, ShowsNode, IsPossibleDeed, CanDo, IsDoneAt}
-use Rattle.op_executions.specs.Worlds.{Shows, ShowNodes, KeepsServers, HasRun, IsRun, Happened, place_of}
+use Rattle.op_executions.specs.Worlds.{Shows, ShowNodes, KeepsServers, HasRun, IsRun, ServerBecomes, Happened, HappenedAt, place_of}
 use Rattle.op_executions.specs.declared.deed.Deed as deed
 use Rattle.op_executions.specs.declared.world.ServerWorld.{ServerWorld}
 use Rattle.op_executions.proofs.Bounds.{world_in_range}
 use Rattle.op_executions.proofs.Deeds.{deed_found, node_found, proposals_push}
 use Rattle.op_executions.proofs.Servers.{place_there, pids, shown, shown_with, pids-set, all_set, set_there}
+
+-- what an event does, as the messages that the code has say it
+pub does : {S : Type 0} (w : ServerWorld S) (e : Event) (messages : List Sent) → messages ≡ w.messages.items → (o : Option deed.Deed) → deed_of messages e.what ≡ option_map deed_shown o → (d : deed.Deed) → o ≡ Some d
+    → deed_of w.messages.items e.what ≡ Some (deed_shown d)
+does w e messages same o is d some = ap (λ (ms : List Sent). deed_of ms e.what) (sym same) ∙ is ∙ ap (λ (x : Option deed.Deed). option_map deed_shown x) some
 
 module _ {S F : Type 0} (K : Kind S F) where
   -- ---- the start
@@ -86,13 +91,43 @@ module _ {S F : Type 0} (K : Kind S F) where
           doing = can.doing;
         }
 
-  -- ---- the world after a deed
+  -- ---- the server of an event's deed
 
   -- the place of an id
   pub place_in : (w : ServerWorld S) → KeepsServers K w → (pid : ℕ) → IsMember w.ids.items pid → place_of w.ids.items pid < length w.servers.items
   place_in w keeps pid member =
       let same : place_of (pids K w.servers.items) pid ≡ place_of w.ids.items pid = ap (λ (ms : List ℕ). place_of ms pid) keeps.pids in
       subst (λ (k : ℕ). k < length w.servers.items) same (in_place w.servers.items pid (ap (λ (ms : List ℕ). is_member nat_eq ms pid) keeps.pids ∙ member))
+
+  -- the deed is one of the server at this place, where it can be done
+  pub record HasPlace (w : ServerWorld S) (d : deed.Deed) (k : ℕ) : Type 0 where
+    pub deed : IsPossibleDeed w.ids.items d
+    pub place : k ≡ place_of w.ids.items d.pid
+    pub there : k < length w.servers.items
+    pub at : (s : S) → s ≡ get_or w.servers.items k s → s ≡ get_or w.servers.items (place_of w.ids.items d.pid) s
+    pub can : (s : S) → s ≡ get_or w.servers.items k s → CanDo K s (doing_of d.doing)
+
+  pub has_place : (w : ServerWorld S) → IsRun K w → (e : Event) → is_possible w.ids.items (length w.messages.items) e.what ≡ true → WhatInRange e.what
+      → (messages : List Sent) → messages ≡ w.messages.items → (o : Option deed.Deed) → deed_of messages e.what ≡ option_map deed_shown o → (d : deed.Deed) → o ≡ Some d
+      → (ids : List ℕ) → ids ≡ w.ids.items → (k : ℕ) → k ≡ place_of ids d.pid → HasPlace w d k
+  has_place w run e can fit messages same o is d some ids ids_are k at = record {
+    deed = possible;
+    place = place;
+    there = subst (λ (j : ℕ). j < length w.servers.items) (sym place) (place_in w run.run.servers d.pid possible.pid);
+    at = there;
+    can = λ s here. can_do w run.spares run.happenings run.run d s (there s here) possible;
+  }
+    where
+      possible : IsPossibleDeed w.ids.items d
+      possible = possible_deed w run.spares run.happenings run.run e can fit d (does w e messages same o is d some)
+
+      place : k ≡ place_of w.ids.items d.pid
+      place = at ∙ ap (λ (ms : List ℕ). place_of ms d.pid) ids_are
+
+      there : (s : S) → s ≡ get_or w.servers.items k s → s ≡ get_or w.servers.items (place_of w.ids.items d.pid) s
+      there s here = subst (λ (j : ℕ). s ≡ get_or w.servers.items j s) place here
+
+  -- ---- the world after a deed
 
   -- this server was done so, and this is what its world became
   pub record IsDeedDone (w : ServerWorld S) (d : deed.Deed) (f : F) (line : ℕ) (s m : S) (sends : List (ℕ × Msg)) (told : List Line) (new : ServerWorld S) : Type 0 where
@@ -123,7 +158,22 @@ module _ {S F : Type 0} (K : Kind S F) where
     servers_now : new.servers.items ≡ set w.servers.items place m
     servers_now = t.servers_are ∙ ap (λ (j : ℕ). set w.servers.items j m) (sym same_place)
 
-    pub deed_happened : (e : Event) → e.line ≡ line → deed_of w.messages.items e.what ≡ Some (deed_shown d) → (k : ℕ) → k ≡ place_of w.ids.items d.pid → (x : World) → Shows K w x → Happened K x e f k new
+    -- the server at this place before, and after
+    old_there : (k : ℕ) → k ≡ place_of w.ids.items d.pid → (v : S) → get_or w.servers.items k v ≡ s
+    old_there k at v = ap (λ (j : ℕ). get_or w.servers.items j v) (at ∙ sym same_place) ∙ at_any w.servers.items place v s there ∙ sym here
+
+    new_there : (k : ℕ) → k ≡ place_of w.ids.items d.pid → (v : S) → get_or new.servers.items k v ≡ m
+    new_there k at v = ap (λ (ns : List S). get_or ns k v) servers_now ∙ ap (λ (j : ℕ). get_or (set w.servers.items place m) j v) (at ∙ sym same_place) ∙ set_there K w.servers.items place m v there
+
+    -- so only that server has become another one
+    becomes : (k : ℕ) → k ≡ place_of w.ids.items d.pid → (x y : Node) → ShowsNode K s x → ShowsNode K m y → ServerBecomes K w.servers.items new.servers.items k x y
+    becomes k at x y before after = record {
+      was = λ v. subst (λ (z : S). ShowsNode K z x) (sym (old_there k at v)) before;
+      is = λ v. subst (λ (z : S). ShowsNode K z y) (sym (new_there k at v)) after;
+      others = λ v. t.servers_are ∙ ap (λ (j : ℕ). set w.servers.items j m) (sym at) ∙ ap (λ (z : S). set w.servers.items k z) (sym (new_there k at v));
+    }
+
+    pub deed_happened : (e : Event) → e.line ≡ line → deed_of w.messages.items e.what ≡ Some (deed_shown d) → (k : ℕ) → k ≡ place_of w.ids.items d.pid → (x : World) → Shows K w x → Happened K x e f k w new
     deed_happened e at does k at_place x show =
         let one = shown K w.servers.items x.nodes d.pid show.nodes member in
         let shows : ShowsNode K s one.node = subst (λ (v : S). ShowsNode K v one.node) (sym here) (one.shows s) in
@@ -135,7 +185,7 @@ module _ {S F : Type 0} (K : Kind S F) where
         let found : node_at x.nodes one.node.pid ≡ Some one.node = ap (λ (id : ℕ). node_at x.nodes id) at_pid ∙ one.found in
         let now : World = record { nodes = with_node x.nodes y; messages = x.messages ++ sent_by one.node.pid sends; lines = x.lines ++ told } in
         let deed_is : deed_of x.messages e.what ≡ Some (deed_shown d) = ap (λ (ms : List Sent). deed_of ms e.what) show.messages ∙ does in
-        let becomes : world_after x h ≡ now =
+        let becomes_now : world_after x h ≡ now =
         ap (λ (o : Option Deed). world_with o h x) deed_is ∙ ap (λ (o : Option Node). world_at_node o (doing_of d.doing) h x) one.found ∙ after.done.world x h refl refl at found in
         let shows_now : Shows K new now = record {
           nodes = subst (λ (ns : List S). ShowNodes K ns (with_node x.nodes y)) (sym servers_now) (shown_with K w.servers.items x.nodes d.pid m y (t.done.pid ∙ pid_is) after.shows show.nodes member);
@@ -145,15 +195,18 @@ module _ {S F : Type 0} (K : Kind S F) where
         record {
           happening = h;
           event = refl;
-          lets = after.lets;
-          shows = subst (λ (z : World). Shows K new z) (sym becomes) shows_now;
+          shows = subst (λ (z : World). Shows K new z) (sym becomes_now) shows_now;
+          deed = deed_shown d;
+          does = deed_is;
+          at = at_place;
           old = one.node;
           node = y;
+          pid = after.done.pid ∙ at_pid;
           there = ap (λ (id : ℕ). node_at x.nodes id) after.done.pid ∙ found;
-          nodes = ap (λ (z : World). z.nodes) becomes;
-          server = λ v. subst (λ (z : S). ShowsNode K z y)
-              (sym (ap (λ (ns : List S). get_or ns k v) servers_now ∙ ap (λ (j : ℕ). get_or (set w.servers.items place m) j v) (at_place ∙ sym same_place) ∙ set_there K w.servers.items place m v there))
-              after.shows;
+          nodes = ap (λ (z : World). z.nodes) becomes_now;
+          server = becomes k at_place one.node y shows after.shows;
+          lets = λ v. subst (λ (z : S). K.lets f z (doing_of d.doing) (get_or new.servers.items k v) after.fate after.finds_after) (sym (old_there k at_place v))
+              (subst (λ (z : S). K.lets f s (doing_of d.doing) z after.fate after.finds_after) (sym (new_there k at_place v)) after.lets);
           stored = after.done.stored;
         }
 
@@ -169,7 +222,7 @@ module _ {S F : Type 0} (K : Kind S F) where
   -- ---- a run of one happening more
 
   pub run_on : (w new : ServerWorld S) (spares : List ℕ) (hs : List Happening) (e : Event) (f : F) (k : ℕ) → HasRun K w spares hs → WhatInRange e.what → is_possible w.ids.items (length w.messages.items) e.what ≡ true
-      → (h : Happened K (run_of (first_world w.members spares) hs) e f k new) → KeepsServers K new → new.members ≡ w.members → new.ids ≡ w.ids → new.proposed ≡ w.proposed + proposals_of e.what → new.proposed < 2 ^ 64
+      → (h : Happened K (run_of (first_world w.members spares) hs) e f k w new) → KeepsServers K new → new.members ≡ w.members → new.ids ≡ w.ids → new.proposed ≡ w.proposed + proposals_of e.what → new.proposed < 2 ^ 64
       → HasRun K new spares (hs ++ h.happening ∷ [])
   run_on w new spares hs e f k run fit can h keeps members ids counted few =
       let g : Happening = h.happening in
@@ -196,8 +249,9 @@ module _ {S F : Type 0} (K : Kind S F) where
             (subst (λ (z : World). Shows K new z) (sym (run_append (first_world w.members spares) hs (g ∷ []))) h.shows);
       }
 
-  pub runs_on : (w new : ServerWorld S) (e : Event) (f : F) (k : ℕ) → IsRun K w → WhatInRange e.what → is_possible w.ids.items (length w.messages.items) e.what ≡ true → ((x : World) → Shows K w x → Happened K x e f k new)
-      → KeepsServers K new → new.members ≡ w.members → new.ids ≡ w.ids → new.proposed ≡ w.proposed + proposals_of e.what → new.proposed < 2 ^ 64 → IsRun K new
-  runs_on w new e f k r fit can happened keeps members ids counted few =
+  pub runs_on : (w new : ServerWorld S) (e : Event) (f : F) (at : Option ℕ) → IsRun K w → WhatInRange e.what → is_possible w.ids.items (length w.messages.items) e.what ≡ true
+      → ((x : World) → Shows K w x → HappenedAt K x e f at w new) → KeepsServers K new → new.members ≡ w.members → new.ids ≡ w.ids → new.proposed ≡ w.proposed + proposals_of e.what → new.proposed < 2 ^ 64 → IsRun K new
+  runs_on w new e f None r fit can happened keeps members ids counted few = subst (IsRun K) (sym (happened (run_of (first_world w.members r.spares) r.happenings) r.run.shows).1) r
+  runs_on w new e f (Some k) r fit can happened keeps members ids counted few =
       let h = happened (run_of (first_world w.members r.spares) r.happenings) r.run.shows in
       record { spares = r.spares; happenings = r.happenings ++ h.happening ∷ []; run = run_on w new r.spares r.happenings e f k r.run fit can h keeps members ids counted few }

@@ -9,14 +9,15 @@ use Rattle.op_bounds.specs.Laws.{NodeInRange}
 use Rattle.op_executions.specs.Deeds.{doing_of}
 use Rattle.op_executions.specs.declared.deed.Deed as deed
 
--- a kind of server: whose it is, which nodes it may show, what the code keeps of it, and what a fate that is
--- given lets become of a happening: its fate, and whether an opening finds the state after the step in which
--- the node stopped
+-- a kind of server: whose it is, which nodes it may show, what the code keeps of it, what holds of one at its
+-- start, and what a fate that is given lets become of what is done at a server, which becomes another one:
+-- the happening's fate, and whether an opening finds the state after the step in which the node stopped
 pub record Kind (S F : Type 0) : Type 1 where
   pub pid_of : S → ℕ
   pub is_shown : S → Node → Type 0
   pub is_kept : S → Type 0
-  pub lets : F → Fate → Bool → Type 0
+  pub is_first : S → Type 0
+  pub lets : F → S → Doing → S → Fate → Bool → Type 0
 
 -- the server shows this node
 pub record ShowsNode {S F : Type 0} (K : Kind S F) (s : S) (x : Node) : Type 0 where
@@ -66,11 +67,11 @@ pub record IsNodeDone (x : Node) (d : Doing) (fate : Fate) (finds_after : Bool) 
       }
 
 -- the same by some fate that was let, with a node that the server shows then
-pub record IsDoneBy {S F : Type 0} (K : Kind S F) (f : F) (x : Node) (d : Doing) (line : ℕ) (new : S)
-    (sends : List (ℕ × Msg)) (told : List Line) : Type 0 where
+pub record IsDoneBy {S F : Type 0} (K : Kind S F) (f : F) (old : S) (x : Node) (d : Doing) (line : ℕ)
+    (new : S) (sends : List (ℕ × Msg)) (told : List Line) : Type 0 where
   pub fate : Fate
   pub finds_after : Bool
-  pub lets : K.lets f fate finds_after
+  pub lets : K.lets f old d new fate finds_after
   pub node : Node
   pub shows : ShowsNode K new node
   pub done : IsNodeDone x d fate finds_after line node sends told
@@ -78,6 +79,6 @@ pub record IsDoneBy {S F : Type 0} (K : Kind S F) (f : F) (x : Node) (d : Doing)
 -- what is done at a server with this fate: whichever node it shows, it shows the node after it
 pub record IsDoneAt {S F : Type 0} (K : Kind S F) (f : F) (old : S) (d : Doing) (line : ℕ) (new : S)
     (sends : List (ℕ × Msg)) (told : List Line) : Type 0 where
-  pub after : (x : Node) → ShowsNode K old x → IsDoneBy K f x d line new sends told
+  pub after : (x : Node) → ShowsNode K old x → IsDoneBy K f old x d line new sends told
   pub pid : K.pid_of new ≡ K.pid_of old
   pub kept : K.is_kept new

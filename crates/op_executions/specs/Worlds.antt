@@ -1,8 +1,8 @@
 -- A world of servers, as the definitions have it.
-use Rattle.std.specs.Prelude.{◌≡◌, ◌==◌, ◌⊎◌, ℕ, ◌+◌, List, [], ◌∷◌, map, All, Some, get_or, if◌then◌else◌}
+use Rattle.std.specs.Prelude.{◌≡◌, ◌==◌, ◌⊎◌, ℕ, ◌+◌, List, [], ◌∷◌, map, All, Option, Some, None, get_or, set, if◌then◌else◌}
 use Rattle.op_types.specs.Ranges.{IsMember}
 use Rattle.op_runs.specs.declared.events.Event.{Event}
-use Rattle.op_runs.specs.World.{World, Node, Up, Happening, node_ids, first_world, run_of, node_at, with_node, world_after}
+use Rattle.op_runs.specs.World.{World, Node, Up, Happening, Deed, deed_of, node_ids, first_world, run_of, node_at, with_node, world_after}
 use Rattle.op_runs.specs.Possible.{proposals_in}
 use Rattle.op_bounds.specs.Laws.{HappeningInRange}
 use Rattle.op_laws.specs.Runs.{RunInRange}
@@ -54,17 +54,36 @@ pub record IsRun {S F : Type 0} (K : Kind S F) (w : ServerWorld S) : Type 0 wher
 
 -- ---- an event
 
--- what a world becomes that shows this one: the event happened with a fate that was let, and only the node
--- of the server at this place is another then
+-- only the server at this place becomes another one: it shows this node, and then that one
+pub record ServerBecomes {S F : Type 0} (K : Kind S F) (old new : List S) (place : ℕ) (x y : Node)
+    : Type 0 where
+  pub was : (d : S) → ShowsNode K (get_or old place d) x
+  pub is : (d : S) → ShowsNode K (get_or new place d) y
+  pub others : (d : S) → new ≡ set old place (get_or new place d)
+
+-- what a world becomes that shows this one, by an event that does something: it happened with a fate that was
+-- let, and only the node of the server at this place is another then
 pub record Happened {S F : Type 0} (K : Kind S F) (x : World) (e : Event) (f : F) (place : ℕ)
-    (new : ServerWorld S) : Type 0 where
+    (w new : ServerWorld S) : Type 0 where
   pub happening : Happening
   pub event : happening.event ≡ e
-  pub lets : K.lets f happening.fate happening.finds_after
   pub shows : Shows K new (world_after x happening)
+  pub deed : Deed
+  pub does : deed_of x.messages e.what ≡ Some deed
+  pub at : place ≡ place_of w.ids.items deed.pid
   pub old : Node
   pub node : Node
+  pub pid : node.pid ≡ deed.pid
   pub there : node_at x.nodes node.pid ≡ Some old
   pub nodes : (world_after x happening).nodes ≡ with_node x.nodes node
-  pub server : (d : S) → ShowsNode K (get_or new.servers.items place d) node
+  pub server : ServerBecomes K w.servers.items new.servers.items place old node
+  pub lets : (d : S) → K.lets f (get_or w.servers.items place d) deed.doing
+      (get_or new.servers.items place d) happening.fate happening.finds_after
   pub stored : (node.status ≡ Up) ⊎ (node.state.durable ≡ old.state.durable)
+
+-- what a world becomes by an event: where it does something at the server of a place, and where it does
+-- nothing by itself
+abbrev pub HappenedAt :
+    {S F : Type 0} → Kind S F → World → Event → F → Option ℕ → ServerWorld S → ServerWorld S → Type 0
+HappenedAt K x e f None w new = (deed_of x.messages e.what ≡ None) × (new ≡ w)
+HappenedAt K x e f (Some place) w new = Happened K x e f place w new

@@ -1,5 +1,5 @@
 //! What an event does, and at which node.
-ghost use Rattle.std.specs.Prelude.{◌≡◌, ◌<◌, ℕ, List, true, length, Some, slice_get, IfOk};
+ghost use Rattle.std.specs.Prelude.{◌≡◌, ◌<◌, ℕ, List, true, length, Some, slice_get, option_map, IfOk};
 ghost use Rattle.op_runs.specs.Possible.{is_possible};
 ghost use Rattle.op_runs.specs.World as runs;
 ghost use Rattle.op_executions.specs.Deeds.{told_of, deed_shown};
@@ -40,12 +40,13 @@ pub struct Deed {
     pub doing: Doing,
 }
 
-/// What an event does that is possible where these messages were sent. A message that is delivered is copied.
-pub fn deed_of(alloc: Global, messages: &[Sent], what: What) -> Result<Deed, NoMemory>
+/// What an event does that is possible where these messages were sent, if it does something by itself. A message that is
+/// delivered is copied.
+pub fn deed_of(alloc: Global, messages: &[Sent], what: What) -> Result<Option<Deed>, NoMemory>
     requires { (nodes : List ℕ) × (is_possible nodes (length messages.now) what ≡ true) }
-    ensures { IfOk result (λ deed. runs.deed_of messages.now what ≡ Some (deed_shown deed)) }
+    ensures { IfOk result (λ deed. runs.deed_of messages.now what ≡ option_map deed_shown deed) }
 {
-    Ok(match what {
+    Ok(Some(match what {
         What::Tick(pid) => stepping(pid, Input::Tick),
         What::Commands(pid, commands) => stepping(pid, Input::Commands(commands)),
         What::Stop(pid, members) => stepping(pid, Input::Stop(members)),
@@ -57,13 +58,14 @@ pub fn deed_of(alloc: Global, messages: &[Sent], what: What) -> Result<Deed, NoM
             pid,
             doing: Doing::Stops,
         },
+        What::CrashAt(..) | What::Fail(..) => return Ok(None),
         What::Start(pid) => Deed {
             pid,
             doing: Doing::Opens,
         },
         What::Show(pid) => telling(pid, Told::Pairs),
         What::Ballots(pid) => telling(pid, Told::Ballots),
-    })
+    }))
 }
 
 /// The message of this number reaches its addressee.

@@ -4,6 +4,7 @@
 mod deed;
 mod fail;
 mod ids;
+mod plain;
 mod possible;
 mod sent;
 mod server;
@@ -12,7 +13,8 @@ mod world;
 
 pub use deed::{Deed, Doing, Told};
 pub use fail::RunFail;
+pub use plain::plain_runs_are_done;
 pub use sent::Sent;
 pub use server::{Done, Server};
 pub use telling::{ballot_lines, pair_lines, step_lines};
-pub use world::ServerWorld;
+pub use world::{ServerWorld, place_of};

@@ -14,6 +14,8 @@ pub fn is_possible(nodes: &[Pid], sent: u64, what: &What) -> bool
         | What::Commands(pid, _)
         | What::Trim(pid)
         | What::Crash(pid)
+        | What::CrashAt(pid, ..)
+        | What::Fail(pid, _)
         | What::Start(pid)
         | What::Show(pid)
         | What::Ballots(pid) => is_among(nodes, *pid),

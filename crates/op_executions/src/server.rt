@@ -41,7 +41,8 @@ pub trait Server: Drop {
     fn first(alloc: Global, pid: Pid, members: &Members) -> Result<Self, NoMemory>
         requires { MembersInRange members.now }
         ensures shows { IfOk result (λ s. ShowsNode kind s (runs.first_node members.now pid)) }
-        ensures kept { IfOk result (λ s. kind.is_kept s) };
+        ensures kept { IfOk result (λ s. kind.is_kept s) }
+        ensures first { IfOk result (λ s. kind.is_first s) };
 
     /// Does this here, in a world of these first members, with this fate, said in this line of the schedule. Without memory the
     /// server is lost.

@@ -1,9 +1,9 @@
-ghost use Rattle.std.specs.Prelude.{◌≡◌, ◌+◌, ◌<◌, ◌≤◌, ◌^◌, [], map, true, false, length, All, IfOk, OnOk};
+ghost use Rattle.std.specs.Prelude.{◌≡◌, ◌+◌, ◌<◌, ◌≤◌, ◌^◌, [], map, true, false, length, All, IfOk, IfSome, OnOk};
 ghost use Rattle.op_types.specs.Ranges.{MembersInRange};
 ghost use Rattle.op_runs.specs.Possible.{is_possible, proposals_of, SparesInRange, WhatInRange};
 ghost use Rattle.op_runs.specs.World as runs;
 ghost use Rattle.op_executions.specs.Failing.{IfBadEvent};
-ghost use Rattle.op_executions.specs.Worlds.{place_of, Happened, HasRun, IsRun, KeepsServers, Shows, ShowNodes};
+ghost use Rattle.op_executions.specs.Worlds.{place_of, HappenedAt, HasRun, IsRun, KeepsServers, Shows, ShowNodes};
 
 use crate::deed::{Deed, deed_of};
 use crate::fail::RunFail;
@@ -46,6 +46,7 @@ impl<S: Server> ServerWorld<S> {
         requires spares { SparesInRange members spares.now }
         ensures run { IfOk result (λ w. HasRun S.kind w spares.now []) }
         ensures members { IfOk result (λ w. w.members ≡ members) }
+        ensures first { IfOk result (λ w. All S.kind.is_first w.servers.items) }
     {
         let ids = node_ids(alloc, &members, spares)?;
         let servers = first_servers(alloc, &members, &ids)?;
@@ -61,14 +62,14 @@ impl<S: Server> ServerWorld<S> {
     }
 
     /// One event, with what is said of it beforehand. It is refused, as the event of number 0, exactly where it names a server
-    /// that is absent or a message that wasn't sent. Gives the place of the server where something was done. There is no memory
-    /// for more proposals than eight bytes count.
-    pub fn event(&mut self, event: Event, fate: S::Fate) -> Result<usize, RunFail>
+    /// that is absent or a message that wasn't sent. Gives the place of the server where something was done; a stop or a failure
+    /// in a call of a disk does nothing by itself. There is no memory for more proposals than eight bytes count.
+    pub fn event(&mut self, event: Event, fate: S::Fate) -> Result<Option<usize>, RunFail>
         requires range { WhatInRange event.what }
         requires run { IsRun S.kind self.old }
-        ensures happened { IfOk result (λ place. (x : runs.World) → Shows S.kind self.old x →
-            Happened S.kind x event fate place self.new) }
-        ensures place { IfOk result (λ place. place < length self.new.servers.items) }
+        ensures happened { IfOk result (λ at. (x : runs.World) → Shows S.kind self.old x →
+            HappenedAt S.kind x event fate at self.old self.new) }
+        ensures place { IfOk result (λ at. IfSome at (λ place. place < length self.new.servers.items)) }
         ensures servers { OnOk result (KeepsServers S.kind self.new) }
         ensures same { OnOk result ((self.new.members ≡ self.old.members) × (self.new.ids ≡ self.old.ids)) }
         ensures proposed { OnOk result ((self.new.proposed ≡ self.old.proposed + proposals_of event.what)
@@ -85,19 +86,21 @@ impl<S: Server> ServerWorld<S> {
             return Err(RunFail::NoMemory);
         };
         let Event { line, what } = event;
-        let Deed { pid, doing } = deed_of(self.alloc, &self.messages, what)?;
+        let Some(Deed { pid, doing }) = deed_of(self.alloc, &self.messages, what)? else {
+            return Ok(None);
+        };
         let place = place_of(&self.ids, pid);
         let server = &mut self.servers[place];
         let Done { sends, told } = server.happens(self.alloc, &self.members, doing, fate, line)?;
         send_all(&mut self.messages, pid, sends)?;
         tell_all(&mut self.lines, told)?;
         self.proposed = proposed;
-        Ok(place)
+        Ok(Some(place))
     }
 }
 
 /// The place of an id: how many stand before it, or how many there are where it is none of them.
-fn place_of(ids: &[Pid], pid: Pid) -> usize
+pub fn place_of(ids: &[Pid], pid: Pid) -> usize
     ensures place { result ≡ place_of ids.now pid }
     ensures most { result ≤ length ids.now }
 {
@@ -124,6 +127,7 @@ fn first_servers<S: Server>(
         ShowNodes S.kind servers.items (map (runs.first_node members.now) ids.now)) }
     ensures pids { IfOk result (λ servers. map S.kind.pid_of servers.items ≡ ids.now) }
     ensures kept { IfOk result (λ servers. All S.kind.is_kept servers.items) }
+    ensures first { IfOk result (λ servers. All S.kind.is_first servers.items) }
 {
     let mut servers = Vec::new(alloc);
     'ids: for pid in ids {

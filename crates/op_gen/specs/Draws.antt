@@ -1,5 +1,5 @@
 -- The events that a drill draws, by the words of a generator.
-use Rattle.std.specs.Prelude.{◌==◌, ◌+◌, ◌-◌, ◌%◌, ℕ, zero, suc, min, nat_lt, if◌then◌else◌, List, [], ◌∷◌, ◌++◌, length, codes, decimal}
+use Rattle.std.specs.Prelude.{◌≡◌, ◌==◌, ◌+◌, ◌-◌, ◌%◌, ℕ, min, nat_lt, if◌then◌else◌, List, [], ◌∷◌, ◌++◌, length, codes, decimal}
 use Rattle.rand_pcg.specs.Lcg.{Lcg, started, increment_of}
 use Rattle.rand_pcg.specs.Pcg.{multiplier_64, pcg32}
 use Rattle.op_types.specs.declared.log.Command.{Command}
@@ -7,7 +7,9 @@ use Rattle.op_types.specs.declared.log.Op.TheVariants.{Put}
 use Rattle.op_runs.specs.declared.events.What.{What}
 use Rattle.op_runs.specs.declared.events.What.TheVariants as what
 use Rattle.op_runs.specs.declared.events.Event.{Event}
-use Rattle.op_runs.specs.World.{World, first_world, world_after, done_event}
+use Rattle.op_runs.specs.World.{World, Happening, first_world, run_of}
+use Rattle.op_runs.specs.Possible.{images}
+use Rattle.op_runs.specs.Schedules.{Awaiting, nothing_awaits, Becomes, awaiting_after}
 use Rattle.op_gen.specs.declared.generator.Gen.{Gen}
 use Rattle.op_gen.specs.declared.kind.Kind.{Kind}
 use Rattle.op_gen.specs.declared.kind.Kind.TheVariants as kind
@@ -33,12 +35,9 @@ keys = 16
 abbrev pub recent : ℕ
 recent = 64
 
--- a disk's calls that a stop or a failure is drawn from, and what a crash may leave on the disks
+-- the first calls of a disk, which a stop or a failure is drawn from
 abbrev pub calls : ℕ
 calls = 4
-
-abbrev pub images : ℕ
-images = 256
 
 -- ---- words
 
@@ -85,14 +84,15 @@ put_drawn number g =
     draw servers g (λ p h. draw clients h (λ c i. draw keys i (λ k j.
     (what.Commands (1 + p) (put_of (1 + c) number k ∷ []), j))))
 
--- a crash of a server; a call and an image are drawn too, and not used
+-- a server stops in a call of its first disk, and an image is left of each
 abbrev pub crash_drawn : Lcg → What × Lcg
 crash_drawn g =
-    draw servers g (λ p h. draw calls h (λ _ i. draw images i (λ _ j. (what.Crash (1 + p), j))))
+    draw servers g (λ p h. draw calls h (λ call i. draw images i (λ image j.
+    (what.CrashAt (1 + p) (1 + call) image, j))))
 
--- a tick of a server; a call is drawn too, and not used
+-- a call of a server's first disk fails
 abbrev pub failure_drawn : Lcg → What × Lcg
-failure_drawn g = draw servers g (λ p h. draw calls h (λ _ i. (what.Tick (1 + p), i)))
+failure_drawn g = draw servers g (λ p h. draw calls h (λ call i. (what.Fail (1 + p) (1 + call), i)))
 
 -- a session of a server with another, or a tick where they are the same
 abbrev pub session_of : ℕ → ℕ → What
@@ -167,13 +167,18 @@ drill_nodes = 1 ∷ 2 ∷ 3 ∷ 4 ∷ 5 ∷ []
 abbrev pub gen_of : ℕ → Gen
 gen_of seed = record { words = words_of seed; number = 1 }
 
--- the next events, so many, each drawn in the world that those before it left
-abbrev pub events_from : World → Gen → ℕ → List Event
-events_from w g zero = []
-events_from w g (suc count) =
-    let drawn = event_drawn (length w.messages) g in
-    drawn.0 ∷ events_from (world_after w (done_event drawn.0)) drawn.1 count
+-- from this world on, where this awaits the nodes, each event is the next one that is drawn where those
+-- before it happened, and they become these happenings
+abbrev pub DrawnFrom : World → Awaiting → Gen → List Event → List Happening → Type 0
+DrawnFrom w awaiting g [] hs = hs ≡ []
+DrawnFrom w awaiting g (e ∷ es) hs =
+    (now : List Happening) × (later : List Happening) × (hs ≡ now ++ later)
+    × (e ≡ (event_drawn (length w.messages) g).0) × Becomes w awaiting e now
+    × DrawnFrom (run_of w now) (awaiting_after w awaiting e.what)
+    (event_drawn (length w.messages) g).1 es later
 
--- the events of a drill
-abbrev pub events_of : ℕ → ℕ → List Event
-events_of seed count = events_from (first_world drill_members drill_spares) (gen_of seed) count
+-- a drill's events are these, so many, as its seed draws them where they become these happenings
+abbrev pub AreDrawn : ℕ → ℕ → List Event → List Happening → Type 0
+AreDrawn seed count events hs =
+    (length events ≡ count)
+    × DrawnFrom (first_world drill_members drill_spares) nothing_awaits (gen_of seed) events hs

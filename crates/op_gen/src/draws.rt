@@ -24,10 +24,10 @@ const KEYS: u32 = 16;
 /// How many messages, of those that were sent last, may be delivered.
 const RECENT: u64 = 64;
 
-/// How many calls of a disk a stop or a failure is drawn from.
+/// How many calls of a node's first disk a stop or a failure is drawn from.
 const CALLS: u32 = 4;
 
-/// How many numbers say what a crash leaves on the disks.
+/// How many images of its disks a stop may leave.
 const IMAGES: u32 = 256;
 
 /// What happens in an event of this kind and number, where so many messages were sent.
@@ -85,7 +85,7 @@ fn put(alloc: Global, words: &mut Lcg64Xsh32, number: u64) -> Result<What, NoMem
     Ok(What::Commands(pid, one_put(alloc, client, number, key)?))
 }
 
-/// A crash.
+/// A stop in a call of a disk.
 fn crash(words: &mut Lcg64Xsh32) -> What
     ensures what { result ≡ (crash_drawn words.old).0 }
     ensures words { words.new ≡ (crash_drawn words.old).1 }
@@ -93,12 +93,12 @@ fn crash(words: &mut Lcg64Xsh32) -> What
     ensures possible { (sent : ℕ) → is_possible drill_nodes sent result ≡ true }
 {
     let pid = server(words);
-    let _call = below(words, CALLS);
-    let _image = below(words, IMAGES);
-    What::Crash(pid)
+    let call = 1 + below(words, CALLS);
+    let image = below(words, IMAGES);
+    What::CrashAt(pid, call as u8, image as u8)
 }
 
-/// A tick, where a call is drawn too.
+/// A call of a disk that fails.
 fn failure(words: &mut Lcg64Xsh32) -> What
     ensures what { result ≡ (failure_drawn words.old).0 }
     ensures words { words.new ≡ (failure_drawn words.old).1 }
@@ -106,8 +106,8 @@ fn failure(words: &mut Lcg64Xsh32) -> What
     ensures possible { (sent : ℕ) → is_possible drill_nodes sent result ≡ true }
 {
     let pid = server(words);
-    let _call = below(words, CALLS);
-    What::Tick(pid)
+    let call = 1 + below(words, CALLS);
+    What::Fail(pid, call as u8)
 }
 
 /// A session, or a tick.

@@ -11,11 +11,11 @@ pub enum Kind {
     Delivery,
     /// A client's put.
     Put,
-    /// A crash.
+    /// A stop in a call of a disk.
     Crash,
     /// A start.
     Start,
-    /// A tick, where a call that is to fail is drawn too.
+    /// A call of a disk that fails.
     Failure,
     /// Trimming is asked for.
     Trim,

@@ -18,8 +18,8 @@ pub struct MemDisk {
 }
 
 impl MemDisk {
-    ghost use Rattle.std.specs.Prelude.{OnOk, OnErr};
-    ghost use Rattle.op_memory.specs.FaultScripts.{IsSameScript, FailsAt, StopsAt};
+    ghost use Rattle.std.specs.Prelude.{None, false, OnOk, OnErr};
+    ghost use Rattle.op_memory.specs.FaultScripts.{IsScript, IsSameScript, FailsAt, StopsAt};
     ghost use Rattle.op_memory.specs.MemDisks.{known_disk, seen_of, Holds, IsUnchanged, IsImageOf, BeginsAnew, Forgets};
 
     /// A disk that holds these bytes, and of which nothing is pending.
@@ -73,6 +73,28 @@ impl MemDisk {
         ensures script { StopsAt call self.old.script self.new.script }
     {
         self.script.stop_at(call);
+    }
+
+    /// How many calls of `Disk` were made since the disk was made, but for `faults`, up to 2^64 - 1.
+    pub fn calls(&self) -> u64
+        ensures { result ≡ self.now.script.made }
+    {
+        self.script.made()
+    }
+
+    /// No call is told to fail any more, and the disk is not to stop: one that has stopped runs again.
+    pub fn clear_script(&mut self)
+        ensures same { IsUnchanged self.old self.new }
+        ensures script { IsScript self.old.script.made [] None false self.new.script }
+    {
+        self.script.clear();
+    }
+
+    /// From now on the disk has failed so often, as one that goes on for another does. Nothing else changes.
+    pub fn count_from(&mut self, faults: u64)
+        ensures { self.new ≡ record self.old { faults = record (self.old.faults) { count = faults } } }
+    {
+        self.faults.count = faults;
     }
 
     /// What a crash now leaves: at 0 nothing that is pending took place, at 1 all of it did, and at any other number each

@@ -1,4 +1,4 @@
-ghost use Rattle.std.specs.Prelude.{◌≡◌, None, false, OnOk, OnErr};
+ghost use Rattle.std.specs.Prelude.{◌≡◌, [], None, false, OnOk, OnErr};
 ghost use Rattle.op_memory.specs.FaultScripts.{next_fate, IsScript, IsSameScript, MakesCall, FailsAt, StopsAt};
 
 use crate::call_fate::CallFate;
@@ -40,6 +40,22 @@ impl FaultScript {
         ensures { StopsAt call self.old self.new }
     {
         self.stop = Some(call);
+    }
+
+    /// How many calls were made, up to 2^64 - 1.
+    pub fn made(&self) -> u64
+        ensures { result ≡ self.now.made }
+    {
+        self.made
+    }
+
+    /// No call is to fail any more, and the disk is not to stop: one that has stopped runs again.
+    pub fn clear(&mut self)
+        ensures { IsScript self.old.made [] None false self.new }
+    {
+        self.fails.clear();
+        self.stop = None;
+        self.is_stopped = false;
     }
 
     /// The fate of the next call. After the one in which the disk stops, each fails.

@@ -18,7 +18,7 @@ use Rattle.op_chain.specs.declared.renewal.Renewal.{Renewal}
 use Rattle.op_chain.specs.declared.chain.Chain.{Chain}
 use Rattle.op_chain.specs.declared.chain_plan.ChainPlan.{ChainPlan}
 use Rattle.op_chain.specs.declared.given.Given.{Given}
-use Rattle.op_runs.specs.World.{World, Sent, Node, NodeStatus, Down, Fate, Done, Stopped, Steps, with_node, sent_by, outcome_lines, answer_line, lines_of, world_by_status, world_by_fate}
+use Rattle.op_runs.specs.World.{World, Sent, Node, NodeStatus, Down, Failed, Fate, Done, Stopped, Faulted, Steps, with_node, sent_by, failed_outcome, stored_by, outcome_lines, answer_line, lines_of, world_by_status, world_by_fate}
 use Rattle.op_bounds.specs.States.{StateInRange}
 use Rattle.op_bounds.specs.Laws.{PlanInRange}
 use Rattle.op_bounds.proofs.Steps.{steps_stay}
@@ -40,11 +40,18 @@ admits pid c x can = record { sound = can.kept.1; range = (step_in_range pid c x
 
 -- ---- the plan
 
--- the step that is planned in the state that is shown, and what it stores
-plan_same : (pid : ℕ) (c e : Chain) (x : Input) (n : Node) → c.me ≡ pid → IsSame c e → ShowsNode pure_nodes (node_of pid (status.Up c)) n → step_plan n.pid n.state x ≡ step_plan e.me (state_of e) x
-plan_same pid c e x n me same shown =
-    ap (λ (k : ℕ). step_plan k n.state x) (shown.pid ∙ sym me ∙ sym same.me) ∙ ap (λ (s : State). step_plan e.me s x) (shown.state.0 ∙ sym same.state)
+-- the step in the state that is shown
+plan_shown : (pid : ℕ) (c : Chain) (x : Input) (n : Node) → c.me ≡ pid → ShowsNode pure_nodes (node_of pid (status.Up c)) n → step_plan n.pid n.state x ≡ step_plan c.me (state_of c) x
+plan_shown pid c x n me shown = ap (λ (k : ℕ). step_plan k n.state x) (shown.pid ∙ sym me) ∙ ap (λ (s : State). step_plan c.me s x) shown.state.0
 
+-- and in the same one
+plan_again : (c e : Chain) (x : Input) → IsSame c e → step_plan c.me (state_of c) x ≡ step_plan e.me (state_of e) x
+plan_again c e x same = ap (λ (k : ℕ). step_plan k (state_of c) x) (sym same.me) ∙ ap (λ (s : State). step_plan e.me s x) (sym same.state)
+
+plan_same : (pid : ℕ) (c e : Chain) (x : Input) (n : Node) → c.me ≡ pid → IsSame c e → ShowsNode pure_nodes (node_of pid (status.Up c)) n → step_plan n.pid n.state x ≡ step_plan e.me (state_of e) x
+plan_same pid c e x n me same shown = plan_shown pid c x n me shown ∙ plan_again c e x same
+
+-- what a plan stores
 renewed_batch : (o : Option Renewal) (x : Planned) → (renewed o x).batch ≡ x.batch
 renewed_batch None x = refl
 renewed_batch (Some r) x = refl
@@ -54,47 +61,67 @@ batch_is e x plan plans =
     let made : (planned_by e plan).batch ≡ plan.plan.batch = renewed_batch plan.renewal _ in
     sym made ∙ ap (λ (y : Planned). y.batch) plans.table
 
+pub stores : (c e : Chain) (x : Input) (plan : ChainPlan) → IsSame c e → Plans e x plan → plan.plan.batch ≡ (step_plan c.me (state_of c) x).batch
+stores c e x plan same plans = batch_is e x plan plans ∙ ap (λ (y : Planned). y.batch) (sym (plan_again c e x same))
+
+-- nothing is sent, and these lines are told
+pub silent : (w : World) (x y : Node) (ls told : List Line) → ls ≡ told → (let z : World = record { nodes = with_node w.nodes y; messages = w.messages; lines = w.lines ++ ls } in z)
+    ≡ record { nodes = with_node w.nodes y; messages = w.messages ++ sent_by x.pid []; lines = w.lines ++ told }
+silent w x y ls told same =
+    ap (λ (ms : List Sent). let z : World = record { nodes = with_node w.nodes y; messages = ms; lines = w.lines ++ ls } in z) (sym (append-nil w.messages))
+    ∙ ap (λ (ks : List Line). let z : World = record { nodes = with_node w.nodes y; messages = w.messages ++ []; lines = w.lines ++ ks } in z) same
+
 -- nothing is sent or told
 pub quiet : (w : World) (x y : Node) → (let z : World = record { nodes = with_node w.nodes y; messages = w.messages; lines = w.lines } in z)
     ≡ record { nodes = with_node w.nodes y; messages = w.messages ++ sent_by x.pid []; lines = w.lines ++ [] }
 quiet w x y =
-    ap (λ (ms : List Sent). let z : World = record { nodes = with_node w.nodes y; messages = ms; lines = w.lines } in z) (sym (append-nil w.messages))
-    ∙ ap (λ (ls : List Line). let z : World = record { nodes = with_node w.nodes y; messages = w.messages ++ []; lines = ls } in z) (sym (append-nil w.lines))
+    ap (λ (ls : List Line). let z : World = record { nodes = with_node w.nodes y; messages = w.messages; lines = ls } in z) (sym (append-nil w.lines)) ∙ silent w x y [] [] refl
 
--- ---- a step in which the node stops
+-- ---- a step in which the node stops or a disk fails
 
-pub stopped_in_step : (pid : ℕ) (c e : Chain) (x : Input) (plan : ChainPlan) (d : Durable) (batch : List Change) → CanDo pure_nodes (node_of pid (status.Up c)) (Steps x) → IsSame c e → Plans e x plan
-    → d ≡ (state_of e).durable → batch ≡ plan.plan.batch
-    → (finds_after : Bool) (line : ℕ) → HasDone (node_of pid (status.Up c)) (Steps x) Stopped finds_after line (node_of pid (status.Down d batch)) [] []
-stopped_in_step pid c e x plan d batch can same plans kept stored finds_after line =
-    let durable : d ≡ (state_of c).durable = kept ∙ ap (λ (s : State). s.durable) same.state in
-    let p : Planned = step_plan e.me (state_of e) x in
-    let batch_planned : batch ≡ p.batch = stored ∙ batch_is e x plan plans in
-    let planned : p ≡ step_plan c.me (state_of c) x = ap (λ (k : ℕ). step_plan k (state_of e) x) same.me ∙ ap (λ (s : State). step_plan c.me s x) same.state in
-    let applies : Applies d batch = subst (λ (k : Durable). Applies k batch) (sym durable)
-    (subst (λ (b : List Change). Applies (state_of c).durable b) (sym (batch_planned ∙ ap (λ (q : Planned). q.batch) planned)) (step_in_range pid c x can).applies) in
-    record {
-      after = λ n shown.
-          let left : Durable = durable_after n.state.durable (step_plan n.pid n.state x).batch in
-          let y : Node = record n { status = Down left } in
-          let here : n.state.durable ≡ d = ap (λ (s : State). s.durable) shown.state.0 ∙ sym durable in
-          let after : left ≡ durable_after d batch =
-          ap (λ (k : Durable). durable_after k (step_plan n.pid n.state x).batch) here
-          ∙ ap (λ (b : List Change). durable_after d b) (ap (λ (q : Planned). q.batch) (plan_same pid c e x n can.kept.0 same shown) ∙ sym batch_planned) in (
-            y,
-            record { pid = shown.pid; state = (here, ap (λ (k : Durable). Down k) after) },
-            record {
-              pid = refl;
-              stored = inr refl;
-              world = λ w h fate finds at there.
-                  ap (λ (st : NodeStatus). world_by_status st (Steps x) h w n) shown.state.1
-                  ∙ ap (λ (f : Fate). world_by_fate f h.event.line w n x) fate
-                  ∙ quiet w n y;
-            },
-          );
-      pid = refl;
-      kept = applies;
-    }
+module _ (pid : ℕ) (c e : Chain) (x : Input) (batch : List Change) (can : CanDo pure_nodes (node_of pid (status.Up c)) (Steps x)) (same : IsSame c e) (is : batch ≡ (step_plan c.me (state_of c) x).batch) where
+  -- what the step was to store
+  to_store : (n : Node) → ShowsNode pure_nodes (node_of pid (status.Up c)) n → stored_by n x ≡ durable_after (state_of e).durable batch
+  to_store n shown =
+      ap (λ (k : Durable). durable_after k (step_plan n.pid n.state x).batch) (ap (λ (s : State). s.durable) (shown.state.0 ∙ sym same.state))
+      ∙ ap (λ (b : List Change). durable_after (state_of e).durable b) (ap (λ (q : Planned). q.batch) (plan_shown pid c x n can.kept.0 shown) ∙ sym is)
+
+  applies : Applies (state_of e).durable batch
+  applies =
+      subst (λ (s : State). Applies s.durable batch) (sym same.state) (subst (λ (b : List Change). Applies (state_of c).durable b) (sym is) (step_in_range pid c x can).applies)
+
+  pub stopped_in_step : (finds_after : Bool) (line : ℕ) → HasDone (node_of pid (status.Up c)) (Steps x) Stopped finds_after line (node_of pid (status.Down (state_of e).durable batch)) [] []
+  stopped_in_step finds_after line = record {
+    after = λ n shown.
+        let y : Node = record n { status = Down (stored_by n x) } in (
+          y,
+          record { pid = shown.pid; state = (ap (λ (s : State). s.durable) (shown.state.0 ∙ sym same.state), ap (λ (k : Durable). Down k) (to_store n shown)) },
+          record {
+            pid = refl;
+            stored = inr refl;
+            world = λ w h fate finds at there. ap (λ (st : NodeStatus). world_by_status st (Steps x) h w n) shown.state.1 ∙ ap (λ (f : Fate). world_by_fate f h.event.line w n x) fate ∙ quiet w n y;
+          },
+        );
+    pid = refl;
+    kept = applies;
+  }
+
+  pub failed_in_step : (count line : ℕ) (finds_after : Bool) → HasDone (node_of pid (status.Up c)) (Steps x) (Faulted count) finds_after line (node_of pid (status.Failed e count batch)) [] (outcome_lines line (failed_outcome count x))
+  failed_in_step count line finds_after = record {
+    after = λ n shown.
+        let y : Node = record n { status = Failed count (stored_by n x) } in (
+          y,
+          record { pid = shown.pid; state = (shown.state.0 ∙ sym same.state, ap (λ (k : Durable). Failed count k) (to_store n shown)) },
+          record {
+            pid = refl;
+            stored = inr refl;
+            world = λ w h fate finds at there. ap (λ (st : NodeStatus). world_by_status st (Steps x) h w n) shown.state.1 ∙ ap (λ (f : Fate). world_by_fate f h.event.line w n x) fate
+                ∙ silent w n y (outcome_lines h.event.line (failed_outcome count x)) (outcome_lines line (failed_outcome count x)) (ap (λ (i : ℕ). outcome_lines i (failed_outcome count x)) at);
+          },
+        );
+    pid = refl;
+    kept = (same.me ∙ can.kept.0, same.sound, applies);
+  }
 
 -- ---- a step that is done
 

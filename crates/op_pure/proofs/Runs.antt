@@ -1,10 +1,10 @@
 -- A run of happenings, one after the other.
-use Rattle.std.proofs.Common.{◌≡◌, ℕ, suc, Bool, true, false, ◌+◌, ◌<◌, ◌^◌, List, [], ◌∷◌, length, All, sym, ap, subst, ◌∙◌, refl, inl, inr, arith}
+use Rattle.std.proofs.Common.{◌≡◌, ℕ, suc, Bool, true, false, ◌+◌, ◌<◌, ◌^◌, List, [], ◌∷◌, length, Option, Some, None, All, sym, ap, subst, ◌∙◌, refl, inl, inr, arith}
 use Rattle.std.proofs.lemmas.List.Elements.{All-nil, All-cons, All-head, All-tail}
 use Rattle.op_types.specs.Ranges.{MembersInRange}
 use Rattle.op_runs.specs.declared.events.Event.{Event}
 use Rattle.op_runs.specs.Possible.{is_possible, is_possible_in, proposals_in, proposals_of, SparesInRange, WhatInRange}
-use Rattle.op_runs.specs.World.{World, Sent, Fate, node_ids, first_world, world_after, run_of}
+use Rattle.op_runs.specs.World.{World, Sent, Fate, Deed, node_ids, first_world, world_after, world_with, run_of}
 use Rattle.op_runs.specs.World as runs
 use Rattle.op_laws.specs.Runs.{RunInRange}
 use Rattle.op_lockstep.proofs.Reached.{every_lockstep_reaches}
@@ -13,9 +13,11 @@ use Rattle.op_pure.specs.declared.happening.Foretold.{Foretold}
 use Rattle.op_pure.specs.declared.happening.Happening.{Happening}
 use Rattle.op_pure.specs.Happenings.{fate_of, happening_of, happenings_of, CanHappenFrom, IsFirstBadFrom, CanHappen, IsFirstBad}
 use Rattle.op_pure.specs.Runs.{KeepsTheLaws}
-use Rattle.op_executions.specs.Worlds.{Shows, Happened}
+use Rattle.op_types.specs.Changes.{empty_durable}
+use Rattle.op_executions.specs.Worlds.{Shows, Happened, HappenedAt}
 use Rattle.op_executions.specs.declared.world.ServerWorld.{ServerWorld}
 use Rattle.op_pure.specs.declared.node.PureNode.{PureNode}
+use Rattle.op_pure.specs.declared.node.Status.TheVariants as status
 use Rattle.op_pure.specs.Nodes.{pure_nodes}
 
 -- ---- the happenings that are left
@@ -100,11 +102,20 @@ possible_seen ids w x e b show same is =
     ap (λ (ms : List Sent). is_possible ids (length ms) e.what) show.messages ∙ ap (λ (ms : List ℕ). is_possible ms (length w.messages.items) e.what) (sym same) ∙ is
 
 -- what happened is what was foretold
-pub happened_as : (x : World) (e : Event) (f : Foretold) (k : ℕ) (new : ServerWorld PureNode) (h : Happened pure_nodes x e f k new) → h.happening ≡ record { event = e; fate = fate_of f.fate; finds_after = f.finds_after }
-happened_as x e f k new h =
+pub happened_as : (x : World) (e : Event) (f : Foretold) (k : ℕ) (w new : ServerWorld PureNode) (h : Happened pure_nodes x e f k w new) → PureNode → h.happening ≡ record { event = e; fate = fate_of f.fate; finds_after = f.finds_after }
+happened_as x e f k w new h any =
+    let lets = h.lets any in
     ap (λ (z : Event). let g : runs.Happening = record { event = z; fate = h.happening.fate; finds_after = h.happening.finds_after } in g) h.event
-    ∙ ap (λ (z : Fate). let g : runs.Happening = record { event = e; fate = z; finds_after = h.happening.finds_after } in g) h.lets.0
-    ∙ ap (λ (b : Bool). let g : runs.Happening = record { event = e; fate = fate_of f.fate; finds_after = b } in g) h.lets.1
+    ∙ ap (λ (z : Fate). let g : runs.Happening = record { event = e; fate = z; finds_after = h.happening.finds_after } in g) lets.0
+    ∙ ap (λ (b : Bool). let g : runs.Happening = record { event = e; fate = fate_of f.fate; finds_after = b } in g) lets.1
 
-pub shows_after : (x : World) (e : Event) (f : Foretold) (k : ℕ) (new : ServerWorld PureNode) → Happened pure_nodes x e f k new → Shows pure_nodes new (world_after x (record { event = e; fate = fate_of f.fate; finds_after = f.finds_after }))
-shows_after x e f k new h = subst (λ (g : runs.Happening). Shows pure_nodes new (world_after x g)) (happened_as x e f k new h) h.shows
+-- a node in place of one that isn't there
+any_node : PureNode
+any_node = record { pid = 0; status = status.Down empty_durable [] }
+
+pub shows_after : (x : World) (e : Event) (f : Foretold) (at : Option ℕ) (w new : ServerWorld PureNode) → Shows pure_nodes w x → HappenedAt pure_nodes x e f at w new
+    → Shows pure_nodes new (world_after x (record { event = e; fate = fate_of f.fate; finds_after = f.finds_after }))
+shows_after x e f None w new show h =
+    let g : runs.Happening = record { event = e; fate = fate_of f.fate; finds_after = f.finds_after } in
+    subst (λ (v : ServerWorld PureNode). Shows pure_nodes v (world_after x g)) (sym h.1) (subst (λ (y : World). Shows pure_nodes w y) (sym (ap (λ (o : Option Deed). world_with o g x) h.0)) show)
+shows_after x e f (Some k) w new show h = subst (λ (g : runs.Happening). Shows pure_nodes new (world_after x g)) (happened_as x e f k w new h any_node) h.shows

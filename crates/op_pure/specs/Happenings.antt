@@ -11,6 +11,7 @@ use Rattle.op_pure.specs.declared.happening.Happening.{Happening}
 abbrev pub fate_of : Fate → runs.Fate
 fate_of fate.Done = runs.Done
 fate_of fate.Stopped = runs.Stopped
+fate_of (fate.Faulted count) = runs.Faulted count
 
 -- what happens
 abbrev pub happening_of : Happening → runs.Happening

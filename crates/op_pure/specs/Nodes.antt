@@ -1,11 +1,16 @@
 -- A node of the plain program, as the definition has it.
-use Rattle.std.specs.Prelude.{◌≡◌, ℕ, Bool, List}
+use Rattle.std.specs.Prelude.{◌≡◌, ℕ, Bool, List, if◌then◌else◌}
 use Rattle.op_types.specs.Changes.{Applies, durable_after}
+use Rattle.op_types.specs.Rooms.{IsAtRest}
 use Rattle.op_types.specs.declared.changes.Change.{Change}
+use Rattle.op_types.specs.declared.durable.Durable.{Durable}
 use Rattle.op_types.specs.declared.messages.Msg.{Msg}
 use Rattle.op_runs.specs.declared.summary.Line.{Line}
-use Rattle.op_chain.specs.Chains.{state_of, IsSoundChain}
-use Rattle.op_runs.specs.World.{Node, Up, Down, Doing, Fate}
+use Rattle.op_protocol.specs.State.{State}
+use Rattle.op_protocol.specs.Starting.{sends_after_restart}
+use Rattle.op_chain.specs.Chains.{state_of, CanOpen, IsSoundChain}
+use Rattle.op_chain.specs.declared.chain.Chain.{Chain}
+use Rattle.op_runs.specs.World.{Node, Up, Down, Failed, Doing, Fate}
 use Rattle.op_executions.specs.Servers.{Kind, ShowsNode, IsNodeDone}
 use Rattle.op_pure.specs.Happenings.{fate_of}
 use Rattle.op_pure.specs.declared.happening.Foretold.{Foretold}
@@ -17,16 +22,28 @@ use Rattle.op_pure.specs.declared.node.Status.TheVariants as status
 abbrev pub node_of : ℕ → Status → PureNode
 node_of pid status = record { pid = pid; status = status }
 
+-- one that is up
+abbrev pub up_node : ℕ → Chain → PureNode
+up_node pid c = node_of pid (status.Up c)
+
+-- the node is up
+abbrev pub IsUp : PureNode → Type 0
+IsUp n = (c : Chain) × (n.status ≡ status.Up c)
+
 -- the state and how it runs; of a node that is down,
 -- what it has stored and was to store is kept, and all memory is lost
 abbrev pub StatusShown : Status → Node → Type 0
 StatusShown (status.Up c) x = (x.state ≡ state_of c) × (x.status ≡ Up)
 StatusShown (status.Down d batch) x = (x.state.durable ≡ d) × (x.status ≡ Down (durable_after d batch))
+StatusShown (status.Failed c count batch) x =
+    (x.state ≡ state_of c) × (x.status ≡ Failed count (durable_after (state_of c).durable batch))
 
--- a node that is up is this server's sound chain; what one that is down was to store applies
+-- a node that is up or has failed is this server's sound chain; what one that isn't up was to store applies
 abbrev pub StatusKept : ℕ → Status → Type 0
 StatusKept pid (status.Up c) = (c.me ≡ pid) × IsSoundChain c
 StatusKept pid (status.Down d batch) = Applies d batch
+StatusKept pid (status.Failed c count batch) =
+    (c.me ≡ pid) × IsSoundChain c × Applies (state_of c).durable batch
 
 -- the same of a node
 abbrev pub IsKept : PureNode → Type 0
@@ -39,7 +56,8 @@ pure_nodes =
       pid_of = λ n. n.pid;
       is_shown = λ n x. StatusShown n.status x;
       is_kept = IsKept;
-      lets = λ f fate finds_after. (fate ≡ fate_of f.fate) × (finds_after ≡ f.finds_after);
+      is_first = λ n. Unit {0};
+      lets = λ f old d new fate finds_after. (fate ≡ fate_of f.fate) × (finds_after ≡ f.finds_after);
     }
 
 -- ---- what is done at a node
@@ -53,11 +71,43 @@ pub record HasDone (old : PureNode) (d : Doing) (fate : Fate) (finds_after : Boo
   pub pid : new.pid ≡ old.pid
   pub kept : IsKept new
 
--- one that is up stops with what it has stored, and this batch that it was to store
+-- one that is up stops with what it has stored, and this batch that it was to store; one that isn't keeps its
+-- own
 abbrev pub StatusStopped : ℕ → Status → List Change → PureNode → Type 0
 StatusStopped pid (status.Up c) batch n = n ≡ node_of pid (status.Down (state_of c).durable batch)
 StatusStopped pid (status.Down d kept) batch n = n ≡ node_of pid (status.Down d kept)
+StatusStopped pid (status.Failed c count kept) batch n =
+    n ≡ node_of pid (status.Down (state_of c).durable kept)
 
 -- the same of a node
 abbrev pub IsStopped : PureNode → List Change → PureNode → Type 0
 IsStopped old batch new = StatusStopped old.pid old.status batch new
+
+-- one that is up fails with what it has, this count of faults, and this batch that it was to store
+abbrev pub StatusFailed : ℕ → Status → ℕ → List Change → PureNode → Type 0
+StatusFailed pid (status.Up c) count batch n = n ≡ node_of pid (status.Failed c count batch)
+StatusFailed pid (status.Down d kept) count batch n = n ≡ node_of pid (status.Down d kept)
+StatusFailed pid (status.Failed c m kept) count batch n = n ≡ node_of pid (status.Failed c m kept)
+
+-- the same of a node
+abbrev pub IsFailed : PureNode → ℕ → List Change → PureNode → Type 0
+IsFailed old count batch new = StatusFailed old.pid old.status count batch new
+
+-- ---- openings
+
+-- what an opening finds: what was to be stored, or what had been stored before
+abbrev pub found_by : Bool → Durable → List Change → Durable
+found_by finds_after d batch = if finds_after then durable_after d batch else d
+
+-- this server can be opened with what it finds
+pub record CanFind (pid : ℕ) (d : Durable) (batch : List Change) (finds_after : Bool) : Type 0 where
+  pub applies : Applies d batch
+  pub rest : IsAtRest d
+  pub can : CanOpen pid (found_by finds_after d batch)
+
+-- this server's chain is opened in this state, and sends these messages then
+pub record IsOpened (pid : ℕ) (s : State) (c : Chain) (sends : List (ℕ × Msg)) : Type 0 where
+  pub me : c.me ≡ pid
+  pub state : state_of c ≡ s
+  pub sound : IsSoundChain c
+  pub sends_are : sends ≡ sends_after_restart pid s.durable

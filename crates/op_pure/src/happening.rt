@@ -8,6 +8,9 @@ pub enum Fate {
     Done,
     /// The node stops inside it: nothing is given out, and the next opening finds what was stored before it or after it.
     Stopped,
+    /// A disk fails inside it, and this is the count of its disks' faults then: the node has failed, and the next opening finds what
+    /// was stored before it or after it.
+    Faulted(u64),
 }
 
 /// What is said of a happening beforehand.
@@ -15,7 +18,7 @@ pub enum Fate {
 pub struct Foretold {
     /// What becomes of its step.
     pub fate: Fate,
-    /// Whether an opening finds the state after the step in which the node stopped, or the one before.
+    /// Whether an opening finds the state after the step in which the node stopped or failed, or the one before.
     pub finds_after: bool,
 }
 
@@ -26,7 +29,7 @@ pub struct Happening {
     pub event: Event,
     /// What becomes of its step.
     pub fate: Fate,
-    /// Whether an opening finds the state after the step in which the node stopped, or the one before.
+    /// Whether an opening finds the state after the step in which the node stopped or failed, or the one before.
     pub finds_after: bool,
 }
 

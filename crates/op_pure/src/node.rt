@@ -1,21 +1,22 @@
 //! A node of the plain program: how it runs, and what is done at it.
-ghost use Rattle.std.specs.Prelude.{◌≡◌, ℕ, Bool, [], if◌then◌else◌, IfOk};
-ghost use Rattle.op_types.specs.Changes.{Applies, durable_after};
+ghost use Rattle.std.specs.Prelude.{◌≡◌, ℕ, Bool, [], IfOk};
 ghost use Rattle.op_types.specs.Ranges.{MembersInRange};
-ghost use Rattle.op_types.specs.Rooms.{IsAtRest};
 ghost use Rattle.op_record.specs.Ranges.{DurableInRange};
-ghost use Rattle.op_chain.specs.Chains.{state_of};
+ghost use Rattle.op_chain.specs.Chains.{state_of, Admits, IsSame};
+ghost use Rattle.op_protocol.specs.Rows.{step_plan};
 ghost use Rattle.op_runs.specs.World as runs;
 ghost use Rattle.op_executions.specs.Deeds.{told_of, doing_of};
 ghost use Rattle.op_executions.specs.Servers.{CanDo};
 ghost use Rattle.op_pure.specs.Happenings.{fate_of};
-ghost use Rattle.op_pure.specs.Nodes.{pure_nodes, HasDone, IsStopped};
+ghost use Rattle.op_pure.specs.Nodes.{pure_nodes, up_node, HasDone, IsFailed, IsStopped, IsUp};
+
+mod opening;
 
 use crate::happening::{Fate, Foretold};
-use op_chain::{Chain, Given, empty_durable, first_durable, sends_after_restart};
+use op_chain::{Chain, Given, empty_durable, first_durable};
 use op_executions::{Doing, Done, Server, Told, ballot_lines, pair_lines, step_lines};
-use op_runs::Lines;
-use op_types::{Batch, Durable, Input, Members, NoMemory, Pid, is_among};
+use op_runs::{Line, Lines};
+use op_types::{Batch, Durable, Input, Members, NoMemory, Outcome, Pid, Refusal, Sends, is_among};
 use std::alloc::Global;
 use std::mem::replace;
 
@@ -24,7 +25,7 @@ use std::mem::replace;
 pub struct PureNode {
     /// Its id.
     pub pid: Pid,
-    /// Whether it is up or down, and what it has then.
+    /// How it runs, and what it has then.
     pub status: Status,
 }
 
@@ -33,9 +34,11 @@ pub struct PureNode {
 pub enum Status {
     /// It is up.
     Up(Chain),
-    /// It is down, and has stored this. The step in which it stopped was to store this batch, which is empty where it
+    /// It is down, and has stored this. The step in which it stopped or failed was to store this batch, which is empty where it
     /// stopped between two steps.
     Down(Durable, Batch),
+    /// A disk of it failed: it keeps what it had before, the count of its disks' faults, and the batch that the step was to store.
+    Failed(Chain, u64, Batch),
 }
 
 impl Server for PureNode {
@@ -52,7 +55,7 @@ impl Server for PureNode {
         })
     }
 
-    /// An opening finds what a stopped step was to store, or what was stored before it.
+    /// An opening finds what a step was to store in which the node stopped or failed, or what was stored before it.
     fn happens(
         &mut self,
         alloc: Global,
@@ -62,104 +65,90 @@ impl Server for PureNode {
         line: u64,
     ) -> Result<Done, NoMemory> {
         match doing {
-            Doing::Steps(input) => match fate.fate {
-                Fate::Done => self.step(alloc, input, line),
-                Fate::Stopped => self.stop_in_step(alloc, input),
-            },
+            Doing::Steps(input) => self.step(alloc, input, fate.fate, line),
             Doing::Stops => {
                 self.stop(alloc, Batch::new(alloc));
                 Ok(Done::nothing(alloc))
             }
-            Doing::Opens => match fate.fate {
-                Fate::Done => self.open(alloc, fate.finds_after),
-                Fate::Stopped => Ok(Done::nothing(alloc)),
-            },
+            Doing::Opens => self.open(alloc, fate),
             Doing::Tells(told) => self.tell(alloc, told),
         }
     }
 }
 
 impl PureNode {
-    /// A step, if it is up.
-    fn step(&mut self, alloc: Global, input: Input, line: u64) -> Result<Done, NoMemory>
+    /// A step of this fate, if it is up. Where the node stops in it, what it was to store is kept, and all memory is lost; where a
+    /// disk fails, it keeps what it has, and what is proposed is refused.
+    fn step(&mut self, alloc: Global, input: Input, fate: Fate, line: u64) -> Result<Done, NoMemory>
         requires { CanDo pure_nodes self.old (runs.Steps input) }
         ensures { IfOk result (λ r. (finds_after : Bool) → HasDone self.old (runs.Steps input)
-            runs.Done finds_after line self.new r.sends r.told) }
+            (fate_of fate) finds_after line self.new r.sends r.told) }
     {
+        let pid = self.pid;
         let Status::Up(chain) = &mut self.status else {
-            return Ok(Done::nothing(alloc));
+            return self.refuse(alloc, &input, line);
         };
-        let plan = chain.plan(input)?;
-        let Given {
-            sends,
-            replies,
-            outcome,
-        } = chain.adopt(plan);
-        let told = step_lines(alloc, line, self.pid, outcome, replies)?;
-        Ok(Done { sends, told })
-    }
-
-    /// A step in which it stops, if it is up: what it was to store is kept, and all memory is lost.
-    fn stop_in_step(&mut self, alloc: Global, input: Input) -> Result<Done, NoMemory>
-        requires { CanDo pure_nodes self.old (runs.Steps input) }
-        ensures { IfOk result (λ r. (finds_after : Bool) → (line : ℕ) → HasDone self.old
-            (runs.Steps input) runs.Stopped finds_after line self.new r.sends r.told) }
-    {
-        if let Status::Up(chain) = &mut self.status {
-            let plan = chain.plan(input)?;
-            self.stop(alloc, plan.into_batch());
+        match fate {
+            Fate::Done => step_whole(alloc, pid, chain, input, line),
+            Fate::Stopped => {
+                let batch = to_store(chain, input)?;
+                self.stop(alloc, batch);
+                Ok(Done::nothing(alloc))
+            }
+            Fate::Faulted(count) => {
+                let outcome = refusal(count, &input);
+                let batch = to_store(chain, input)?;
+                self.fail(alloc, count, batch);
+                saying(alloc, outcome, line)
+            }
         }
-        Ok(Done::nothing(alloc))
     }
 
-    /// Stops, if it is up, with this batch that it was to store.
+    /// What comes at a node that isn't up does nothing; one that has failed refuses what is proposed, and to trim.
+    fn refuse(&self, alloc: Global, input: &Input, line: u64) -> Result<Done, NoMemory>
+        requires kept { pure_nodes.is_kept self.now }
+        requires down { IsUp self.now → ⊥ }
+        ensures { IfOk result (λ r. (fate : runs.Fate) → (finds_after : Bool) → HasDone self.now
+            (runs.Steps input.now) fate finds_after line self.now r.sends r.told) }
+    {
+        match &self.status {
+            Status::Failed(_, count, _) => saying(alloc, refusal(*count, input), line),
+            _ => Ok(Done::nothing(alloc)),
+        }
+    }
+
+    /// Stops, if it isn't down, with this batch that it was to store, or with the one that it keeps.
     fn stop(&mut self, alloc: Global, batch: Batch)
         ensures { IsStopped self.old batch self.new }
     {
         let nothing = Status::Down(empty_durable(), Batch::new(alloc));
         self.status = match replace(&mut self.status, nothing) {
             Status::Up(chain) => Status::Down(chain.into_durable(), batch),
-            Status::Down(durable, batch) => Status::Down(durable, batch),
+            Status::Down(durable, kept) => Status::Down(durable, kept),
+            Status::Failed(chain, _, kept) => Status::Down(chain.into_durable(), kept),
         };
     }
 
-    /// Is opened again, if it is down, and asks to be prepared.
-    fn open(&mut self, alloc: Global, finds_after: bool) -> Result<Done, NoMemory>
-        requires { CanDo pure_nodes self.old runs.Opens }
-        ensures { IfOk result (λ r. (line : ℕ) → HasDone self.old runs.Opens
-            runs.Done finds_after line self.new r.sends r.told) }
+    /// Fails, if it is up, with this count of faults, and this batch that it was to store.
+    fn fail(&mut self, alloc: Global, count: u64, batch: Batch)
+        ensures { IsFailed self.old count batch self.new }
     {
         let nothing = Status::Down(empty_durable(), Batch::new(alloc));
-        match replace(&mut self.status, nothing) {
-            Status::Up(chain) => {
-                self.status = Status::Up(chain);
-                Ok(Done::nothing(alloc))
-            }
-            Status::Down(durable, batch) => {
-                let durable = found(durable, batch, finds_after)?;
-                let sends = sends_after_restart(alloc, self.pid, &durable)?;
-                let chain = Chain::again(alloc, self.pid, durable)?;
-                self.status = Status::Up(chain);
-                Ok(Done {
-                    sends,
-                    told: Lines::new(alloc),
-                })
-            }
-        }
+        self.status = match replace(&mut self.status, nothing) {
+            Status::Up(chain) => Status::Failed(chain, count, batch),
+            status => status,
+        };
     }
 
-    /// Tells this, if it is up.
+    /// Tells this, if it isn't down; one that has failed tells its state of before.
     fn tell(&self, alloc: Global, told: Told) -> Result<Done, NoMemory>
         requires { pure_nodes.is_kept self.now }
         ensures { IfOk result (λ r. (fate : runs.Fate) → (finds_after : Bool) → (line : ℕ) → HasDone self.now
             (runs.Tells (told_of told)) fate finds_after line self.now r.sends r.told) }
     {
         match &self.status {
-            Status::Up(chain) => {
-                let mut done = Done::nothing(alloc);
-                done.told = told_lines(alloc, self.pid, chain, told)?;
-                Ok(done)
-            }
+            Status::Up(chain) => telling(alloc, self.pid, chain, told),
+            Status::Failed(chain, _, _) => telling(alloc, self.pid, chain, told),
             Status::Down(..) => Ok(Done::nothing(alloc)),
         }
     }
@@ -177,6 +166,74 @@ fn durable_at_start(alloc: Global, pid: Pid, members: &Members) -> Result<Durabl
     Ok(empty_durable())
 }
 
+/// A step of a node that is up.
+fn step_whole(
+    alloc: Global,
+    pid: Pid,
+    chain: &mut Chain,
+    input: Input,
+    line: u64,
+) -> Result<Done, NoMemory>
+    requires { CanDo pure_nodes (up_node pid chain.old) (runs.Steps input) }
+    ensures { IfOk result (λ r. (finds_after : Bool) → HasDone (up_node pid chain.old) (runs.Steps input)
+        runs.Done finds_after line (up_node pid chain.new) r.sends r.told) }
+{
+    let plan = chain.plan(input)?;
+    let Given {
+        sends,
+        replies,
+        outcome,
+    } = chain.adopt(plan);
+    let told = step_lines(alloc, line, pid, outcome, replies)?;
+    Ok(Done { sends, told })
+}
+
+/// What a step is to store that isn't done.
+fn to_store(chain: &mut Chain, input: Input) -> Result<Batch, NoMemory>
+    requires { Admits chain.old input }
+    ensures same { IsSame chain.old chain.new }
+    ensures batch { IfOk result (λ batch.
+        batch ≡ (step_plan chain.old.me (state_of chain.old) input).batch) }
+{
+    let plan = chain.plan(input)?;
+    Ok(plan.into_batch())
+}
+
+/// What an input is answered where disks have failed so often: proposals and wishes to trim are refused.
+fn refusal(count: u64, input: &Input) -> Option<Outcome>
+    ensures { result ≡ runs.failed_outcome count input.now }
+{
+    match input {
+        Input::Commands(_) | Input::Stop(_) | Input::TrimNow => Some(Outcome::Refused(
+            Refusal::StorageFailed { count },
+        )),
+        Input::Tick | Input::Deliver(_, _) | Input::Up(_) | Input::Down(_) => None,
+    }
+}
+
+/// An outcome alone is told.
+fn saying(alloc: Global, outcome: Option<Outcome>, line: u64) -> Result<Done, NoMemory>
+    ensures { IfOk result (λ r. r ≡ record { sends = []; told = runs.outcome_lines line outcome }) }
+{
+    let mut done = Done::nothing(alloc);
+    if let Some(outcome) = outcome {
+        done.told.push(Line::Answer(line, outcome))?;
+    }
+    Ok(done)
+}
+
+/// What a node tells.
+fn telling(alloc: Global, pid: Pid, chain: &Chain, told: Told) -> Result<Done, NoMemory>
+    ensures { IfOk result (λ r. let s = state_of chain.now in
+        r ≡ record { sends = []; told = runs.told_lines (told_of told) pid s s.durable.part }) }
+{
+    let told = told_lines(alloc, pid, chain, told)?;
+    Ok(Done {
+        sends: Sends::new(alloc),
+        told,
+    })
+}
+
 /// The lines of what a node tells.
 fn told_lines(alloc: Global, pid: Pid, chain: &Chain, told: Told) -> Result<Lines, NoMemory>
     ensures { IfOk result (λ lines. let s = state_of chain.now in
@@ -186,28 +243,4 @@ fn told_lines(alloc: Global, pid: Pid, chain: &Chain, told: Told) -> Result<Line
         Told::Pairs => pair_lines(alloc, pid, chain.pairs()),
         Told::Ballots => ballot_lines(alloc, pid, chain.ballots()),
     }
-}
-
-/// What an opening finds.
-fn found(durable: Durable, batch: Batch, finds_after: bool) -> Result<Durable, NoMemory>
-    requires applies { Applies durable batch }
-    requires rest { IsAtRest durable }
-    ensures { IfOk result (λ d. d ≡ (if finds_after then durable_after durable batch else durable)) }
-{
-    if finds_after {
-        adopted(durable, batch)
-    } else {
-        Ok(durable)
-    }
-}
-
-/// A durable state once a batch is adopted.
-fn adopted(mut durable: Durable, batch: Batch) -> Result<Durable, NoMemory>
-    requires applies { Applies durable batch }
-    requires rest { IsAtRest durable }
-    ensures { IfOk result (λ d. d ≡ durable_after durable batch) }
-{
-    durable.room_for(&batch)?;
-    durable.adopt(batch);
-    Ok(durable)
 }

@@ -7,7 +7,7 @@ use Rattle.op_outside.specs.Streams.{HasAtLeast, TakesAtMost}
 use Rattle.op_input.specs.Inputs.{input_limit}
 use Rattle.op_status.specs.declared.status.Status.{Status}
 use Rattle.op_status.specs.declared.status.Status.TheVariants as status
-use Rattle.op_replay.specs.Called.{IsWithinLimit, IsReported, IsReportedPrefix, IsRefusedAt, IsValid}
+use Rattle.op_replay.specs.Called.{IsWithinLimit, IsReported, IsReportedPrefix, IsRefusedAt, IsBadInAllRunsAt, IsValid}
 
 -- the statuses of a replay
 abbrev pub AnswersReplay : Status → Type 0
@@ -31,7 +31,7 @@ IsOrNoMemory expected s = (s ≡ expected) ⊎ (s ≡ status.NoMemory)
 
 -- what the output held before this answer and holds after it
 pub record LeavesOutput (answer : Status) (input old new : Option (List ℕ)) : Type 0 where
-  -- with success the report of the input's run was added
+  -- with success the report of a run of the input was added
   pub ended : answer ≡ status.Ended → IfSome input (λ bytes. IsReported bytes old new)
   -- with a write fault a prefix of that report was added
   pub cut : answer ≡ status.WriteFault → IfSome input (λ bytes. IsReportedPrefix bytes old new)
@@ -49,12 +49,12 @@ pub record LeavesInput (answer : Status) (old new : Option (List ℕ)) : Type 0 
 -- which raises the count of faults, or there is no memory.
 pub record RefusesInput (answer : Status) (input : Option (List ℕ))
     (faults_before faults_after : ℕ) : Type 0 where
-  -- a schedule is refused at its first bad line
+  -- a schedule is refused at the first bad line of a run, and always where each run has it
   pub bad_only_if : (line : ℕ) → answer ≡ status.BadSchedule line
       → IfSome input (λ bytes. IsRefusedAt bytes line)
   pub bad_always : NoFault faults_before faults_after
       → IfSome input
-      (λ bytes. (line : ℕ) → IsRefusedAt bytes line → IsOrNoMemory (status.BadSchedule line) answer)
+      (λ bytes. (line : ℕ) → IsBadInAllRunsAt bytes line → IsOrNoMemory (status.BadSchedule line) answer)
   -- input above the limit is too long
   pub too_long_only_if : answer ≡ status.InputLimit → HasAtLeast input (input_limit + 1)
   pub too_long_always : NoFault faults_before faults_after
@@ -66,7 +66,7 @@ EndsIfValid answer input =
     IfSome input (λ bytes. IsWithinLimit bytes → IsValid bytes → IsOrNoMemory status.Ended answer)
 
 -- What a replay does with its input and its output, each the bytes that it tells
--- and its count of faults. What is written is the report of the schedule's run,
+-- and its count of faults. What is written is the report of a run of the schedule,
 -- which meets the list machine, and whose lists answer each client.
 pub record Replays (answer : Status)
     (input_before input_after output_before output_after : StreamSeen) : Type 0 where

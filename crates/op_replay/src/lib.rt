@@ -2,6 +2,8 @@
 #![tactic(auto)]
 
 mod command;
+mod laws;
 mod running;
 
 pub use command::replay;
+pub use laws::plain_schedules_end_in_one_way;

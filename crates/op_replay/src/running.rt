@@ -25,7 +25,7 @@ fn lines_of(alloc: Global, events: &[Event]) -> Result<Vec<u64>, AllocError>
     Ok(lines)
 }
 
-/// Runs the events at these members and spares. A refusal tells the line of the first event that can't come.
+/// Runs the events at these members and spares. A refusal tells the line of the first event that can't come in this run.
 fn run(
     alloc: Global,
     members: Members,
@@ -50,7 +50,7 @@ fn run(
     }
 }
 
-/// The report of the run that a schedule's bytes say. The bytes are let go before the run.
+/// The report of a run of the schedule that bytes say. The bytes are let go before the run.
 pub fn replayed(alloc: Global, bytes: Vec<u8>) -> Result<Vec<u8>, SchedFail>
     ensures reports { IfOk result (λ text. Reports bytes.items text.items) }
     ensures bad { IfBadLine result (IsBadAt bytes.items) }

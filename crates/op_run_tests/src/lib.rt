@@ -6,6 +6,8 @@ mod clusters;
 #[cfg(test)]
 mod commands;
 #[cfg(test)]
+mod crashes;
+#[cfg(test)]
 mod fates;
 #[cfg(test)]
 mod letters;

@@ -1,12 +1,12 @@
 -- Which events can come: those that name nodes of the world, and messages that were sent.
 -- And which worlds and happenings the laws are about.
-use Rattle.std.specs.Prelude.{◌≡◌, ◌≤◌, ◌<◌, ◌+◌, ◌^◌, ◌⊎◌, ◌&&◌, ℕ, suc, nat_eq, nat_lt, Bool, true, false, List, [], ◌∷◌, length, All}
+use Rattle.std.specs.Prelude.{◌≡◌, ◌≤◌, ◌<◌, ◌+◌, ◌*◌, ◌^◌, ◌&&◌, ℕ, nat_eq, nat_lt, Bool, true, false, List, [], ◌∷◌, length, All}
 use Rattle.std.specs.Set.{is_member}
 use Rattle.op_runs.specs.declared.events.Event.{Event}
 use Rattle.op_runs.specs.declared.events.What.{What}
 use Rattle.op_runs.specs.declared.events.What.TheVariants as what
 use Rattle.op_types.specs.Ranges.{AreRising, IsMember, IsPid, AreCommands, MembersInRange}
-use Rattle.op_runs.specs.World.{World, Happening, node_ids, first_world, world_after, done_event}
+use Rattle.op_runs.specs.World.{World, Happening, world_after, done_event}
 
 -- all of these are among the nodes
 abbrev pub are_nodes : List ℕ → List ℕ → Bool
@@ -24,6 +24,8 @@ is_possible nodes sent (what.Deliver i) = nat_lt i sent
 is_possible nodes sent (what.Up p q) = is_member nat_eq nodes p && is_member nat_eq nodes q
 is_possible nodes sent (what.Down p q) = is_member nat_eq nodes p && is_member nat_eq nodes q
 is_possible nodes sent (what.Crash p) = is_member nat_eq nodes p
+is_possible nodes sent (what.CrashAt p call image) = is_member nat_eq nodes p
+is_possible nodes sent (what.Fail p call) = is_member nat_eq nodes p
 is_possible nodes sent (what.Start p) = is_member nat_eq nodes p
 is_possible nodes sent (what.Show p) = is_member nat_eq nodes p
 is_possible nodes sent (what.Ballots p) = is_member nat_eq nodes p
@@ -32,31 +34,25 @@ is_possible nodes sent (what.Ballots p) = is_member nat_eq nodes p
 abbrev pub is_possible_in : List ℕ → World → Event → Bool
 is_possible_in nodes w e = is_possible nodes (length w.messages) e.what
 
--- from this world on, each event can come where it stands
+-- from this world on, each event can come where it stands, and is done
 abbrev pub ArePossibleFrom : List ℕ → World → List Event → Type 0
 ArePossibleFrom nodes w [] = Unit {0}
 ArePossibleFrom nodes w (e ∷ es) =
     (is_possible_in nodes w e ≡ true) × ArePossibleFrom nodes (world_after w (done_event e)) es
 
--- from this world on, the event of this number, from 0, is the first that can't come
-abbrev pub IsFirstBadFrom : List ℕ → World → List Event → ℕ → Type 0
-IsFirstBadFrom nodes w [] i = ⊥
-IsFirstBadFrom nodes w (e ∷ es) i =
-    ((i ≡ 0) × (is_possible_in nodes w e ≡ false))
-    ⊎ ((j : ℕ) × (i ≡ suc j) × (is_possible_in nodes w e ≡ true) ×
-    IsFirstBadFrom nodes (world_after w (done_event e)) es j)
-
--- each event of a replay can come
-abbrev pub ArePossible : List ℕ → List ℕ → List Event → Type 0
-ArePossible members spares events =
-    ArePossibleFrom (node_ids members spares) (first_world members spares) events
-
--- the event of this number, from 0, is the first of a replay that can't come
-abbrev pub IsFirstBad : List ℕ → List ℕ → List Event → ℕ → Type 0
-IsFirstBad members spares events i =
-    IsFirstBadFrom (node_ids members spares) (first_world members spares) events i
-
 -- ---- ranges
+
+-- how many calls of each disk can be named
+abbrev pub calls_of_disk : ℕ
+calls_of_disk = 50
+
+-- the number of a call: those of the first disk, and then those of the second
+abbrev pub IsCall : ℕ → Type 0
+IsCall call = (1 ≤ call) × (call ≤ 2 * calls_of_disk)
+
+-- how many images of a disk a stop in a call may leave, numbered from 0
+abbrev pub images : ℕ
+images = 256
 
 -- what happens, at a node in range, with its parts in range
 abbrev pub WhatInRange : What → Type 0
@@ -68,6 +64,8 @@ WhatInRange (what.Deliver i) = i < 2 ^ 64
 WhatInRange (what.Up p q) = IsPid p × IsPid q
 WhatInRange (what.Down p q) = IsPid p × IsPid q
 WhatInRange (what.Crash p) = IsPid p
+WhatInRange (what.CrashAt p call image) = IsPid p × IsCall call × (image < images)
+WhatInRange (what.Fail p call) = IsPid p × IsCall call
 WhatInRange (what.Start p) = IsPid p
 WhatInRange (what.Show p) = IsPid p
 WhatInRange (what.Ballots p) = IsPid p

@@ -120,7 +120,8 @@ abbrev pub delivery : Option Sent → Option Deed
 delivery None = None
 delivery (Some m) = Some (record { pid = m.to; doing = Steps (input.Deliver m.from m.message) })
 
--- what an event does, where these messages were sent
+-- what an event does, where these messages were sent; a stop or a failure in a call of a disk awaits the
+-- node's next step or opening, and does nothing before it
 abbrev pub deed_of : List Sent → What → Option Deed
 deed_of messages (what.Tick p) = Some (record { pid = p; doing = Steps input.Tick })
 deed_of messages (what.Commands p cs) = Some (record { pid = p; doing = Steps (input.Commands cs) })
@@ -130,6 +131,8 @@ deed_of messages (what.Deliver i) = delivery (slice_get messages i)
 deed_of messages (what.Up p q) = Some (record { pid = p; doing = Steps (input.Up q) })
 deed_of messages (what.Down p q) = Some (record { pid = p; doing = Steps (input.Down q) })
 deed_of messages (what.Crash p) = Some (record { pid = p; doing = Stops })
+deed_of messages (what.CrashAt p call image) = None
+deed_of messages (what.Fail p call) = None
 deed_of messages (what.Start p) = Some (record { pid = p; doing = Opens })
 deed_of messages (what.Show p) = Some (record { pid = p; doing = Tells ThePairs })
 deed_of messages (what.Ballots p) = Some (record { pid = p; doing = Tells TheBallots })

@@ -19,6 +19,12 @@ pub enum What {
     Down(Pid, Pid),
     /// The node stops between two steps.
     Crash(Pid),
+    /// The node stops in this call of a disk, of its next step or opening, and this image is left of each disk. Calls 1 to 50 are
+    /// the first disk's and 51 to 100 the second's. Where the call isn't made, it stops after the step.
+    CrashAt(Pid, u8, u8),
+    /// This call of a disk, of the node's next step or opening, fails; calls are numbered as for `CrashAt`. Where the call isn't
+    /// made, nothing fails.
+    Fail(Pid, u8),
     /// A node that is down is opened again.
     Start(Pid),
     /// The pairs of the node's service are told.

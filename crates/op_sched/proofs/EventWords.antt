@@ -16,7 +16,7 @@ use Rattle.op_sched.specs.declared.reading.forms.Form.{Form}
 use Rattle.op_sched.specs.declared.reading.forms.Form.TheVariants as form
 use Rattle.op_sched.specs.declared.reading.operations.OpForm.{OpForm}
 use Rattle.op_sched.specs.declared.reading.operations.OpForm.TheVariants as op_form
-use Rattle.op_sched.specs.Forms.{op_form_name, form_name, ArePeers}
+use Rattle.op_sched.specs.Forms.{op_form_name, form_name, ArePeers, AreCallOf, AreStopOf}
 use Rattle.std.proofs.lemmas.List.Elements.{All-nil, All-cons}
 use Rattle.op_text.specs.Operations.{OpIsOfBytes, AreOperandsOf, op_name, operands}
 use Rattle.op_text.proofs.Operations.{first, after_first, is_op_name, no_op}
@@ -43,6 +43,8 @@ form_by (what.Deliver i) = form.Deliver
 form_by (what.Up p q) = form.Up
 form_by (what.Down p q) = form.Drop
 form_by (what.Crash p) = form.Crash
+form_by (what.CrashAt p call image) = form.Crash
+form_by (what.Fail p call) = form.Fail
 form_by (what.Start p) = form.Start
 form_by (what.Show p) = form.Show
 form_by (what.Ballots p) = form.Ballots
@@ -69,6 +71,8 @@ named (what.Deliver i) one = refl
 named (what.Up p q) one = refl
 named (what.Down p q) one = refl
 named (what.Crash p) one = refl
+named (what.CrashAt p call image) one = refl
+named (what.Fail p call) one = refl
 named (what.Start p) one = refl
 named (what.Show p) one = refl
 named (what.Ballots p) one = refl
@@ -194,3 +198,22 @@ no_down words none (what.Commands p []) h = absurd (omega (arith, h.one))
 no_down words none (what.Commands p (c ∷ (d ∷ cs))) h = absurd (omega (arith, h.one))
 no_down words none (what.Commands p (c ∷ [])) h = no_op c.op (codes "drop") refl (sym (ap first h.written))
 no_down words none w h = absurd (false≢true ((bytes_eq-Decides (codes "drop") (name_of w)).1 (ap first h.written)))
+
+-- ---- stops and failures
+
+-- words that name no server, and no stop in a call of its disks, tell no stop
+pub no_crash : (words : List (List ℕ)) → ((p : ℕ) → IsPid p × (words ≡ decimal p ∷ []) → ⊥) → ((x : ℕ × ℕ × ℕ) → AreStopOf words x → ⊥) → (w : What) → AreWordsOf (codes "crash" ∷ words) w → ⊥
+no_crash words between inside (what.Crash p) h = between p (h.in_range, ap after_first h.written)
+no_crash words between inside (what.CrashAt p call image) h = inside (p, call, image) (h.in_range.0, h.in_range.1, h.in_range.2, ap after_first h.written)
+no_crash words between inside (what.Commands p []) h = absurd (omega (arith, h.one))
+no_crash words between inside (what.Commands p (c ∷ (d ∷ cs))) h = absurd (omega (arith, h.one))
+no_crash words between inside (what.Commands p (c ∷ [])) h = no_op c.op (codes "crash") refl (sym (ap first h.written))
+no_crash words between inside w h = absurd (false≢true ((bytes_eq-Decides (codes "crash") (name_of w)).1 (ap first h.written)))
+
+-- words that name no call of a server's disks tell no failure
+pub no_failure : (words : List (List ℕ)) → ((x : ℕ × ℕ) → AreCallOf words x → ⊥) → (w : What) → AreWordsOf (codes "fail" ∷ words) w → ⊥
+no_failure words none (what.Fail p call) h = none (p, call) (h.in_range.0, h.in_range.1, ap after_first h.written)
+no_failure words none (what.Commands p []) h = absurd (omega (arith, h.one))
+no_failure words none (what.Commands p (c ∷ (d ∷ cs))) h = absurd (omega (arith, h.one))
+no_failure words none (what.Commands p (c ∷ [])) h = no_op c.op (codes "fail") refl (sym (ap first h.written))
+no_failure words none w h = absurd (false≢true ((bytes_eq-Decides (codes "fail") (name_of w)).1 (ap first h.written)))

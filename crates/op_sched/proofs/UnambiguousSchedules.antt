@@ -11,7 +11,7 @@ use Rattle.op_runs.specs.declared.events.What.TheVariants as what
 use Rattle.op_runs.specs.declared.events.Event.{Event}
 use Rattle.op_sched.specs.declared.schedule.Schedule.{Schedule}
 use Rattle.op_types.specs.Ranges.{IsPid, AreRising, MembersInRange}
-use Rattle.op_runs.specs.Possible.{WhatInRange, SparesInRange}
+use Rattle.op_runs.specs.Possible.{WhatInRange, SparesInRange, IsCall}
 use Rattle.op_sched.specs.Grammar.{IsHeader, IsOfBytes, IsBetweenTwo, ProposesOne, NamesSpares, AreAfterHeader, IsFirstBadAfter, AreInRange, AreOfBytes, AreBetweenTwo, AreEvents, AreLines, IsSchedule, IsFirstBadEvent, IsFirstBadOf, IsFirstBadLine, AreWordsOf, what_words, words_of, lines_of, numbered_lines}
 use Rattle.op_text.specs.Operations.{op_name, operands}
 use Rattle.op_text.proofs.Operations.{first, after_first, no_op, one_command}
@@ -28,6 +28,12 @@ no_bad_event n (line ∷ lines) (e ∷ events) good (inr bad) = no_bad_event n l
 one_pid : (p q : ℕ) → IsPid p → IsPid q → decimal p ≡ decimal q → p ≡ q
 one_pid p q ip iq e = decimal_injective p q (omega arith) (omega arith) e
 
+one_call : (k l : ℕ) → IsCall k → IsCall l → decimal k ≡ decimal l → k ≡ l
+one_call k l ik il e = decimal_injective k l (omega (arith, ik.1)) (omega (arith, il.1)) e
+
+one_is_not_three : (a b c d : List ℕ) → a ∷ [] ≡ b ∷ c ∷ d ∷ [] → ⊥
+one_is_not_three a b c d e = omega (arith, ap (length {A = List ℕ}) e)
+
 pub one_list : (low : ℕ) (ps qs : List ℕ) → AreRising low ps → AreRising low qs → map decimal ps ≡ map decimal qs → ps ≡ qs
 one_list low [] [] hp hq e = refl
 one_list low [] (q ∷ qs) hp hq e = absurd (let none : [] ≡ decimal q ∷ map decimal qs = e in cc)
@@ -40,6 +46,11 @@ one_list low (p ∷ ps) (q ∷ qs) hp hq e =
 one_what : (w v : What) → WhatInRange w → WhatInRange v → IsOfBytes w → IsOfBytes v → ProposesOne w → ProposesOne v → what_words w ≡ what_words v → w ≡ v
 one_what (what.Tick p) (what.Tick q) iw iv bw bv ow ov e = ap what.Tick (one_pid p q iw iv cc)
 one_what (what.Crash p) (what.Crash q) iw iv bw bv ow ov e = ap what.Crash (one_pid p q iw iv cc)
+one_what (what.CrashAt p k i) (what.CrashAt q l j) iw iv bw bv ow ov e =
+    cc (one_pid p q iw.0 iv.0 cc, one_call k l iw.1 iv.1 cc, decimal_injective i j (omega (arith, iw.2)) (omega (arith, iv.2)) cc)
+one_what (what.Crash p) (what.CrashAt q l j) iw iv bw bv ow ov e = absurd (one_is_not_three (decimal p) (decimal q) (decimal l) (decimal j) (ap after_first e))
+one_what (what.CrashAt p k i) (what.Crash q) iw iv bw bv ow ov e = absurd (one_is_not_three (decimal q) (decimal p) (decimal k) (decimal i) (sym (ap after_first e)))
+one_what (what.Fail p k) (what.Fail q l) iw iv bw bv ow ov e = cc (one_pid p q iw.0 iv.0 cc, one_call k l iw.1 iv.1 cc)
 one_what (what.Start p) (what.Start q) iw iv bw bv ow ov e = ap what.Start (one_pid p q iw iv cc)
 one_what (what.Ballots p) (what.Ballots q) iw iv bw bv ow ov e = ap what.Ballots (one_pid p q iw iv cc)
 one_what (what.Trim p) (what.Trim q) iw iv bw bv ow ov e = ap what.Trim (one_pid p q iw iv cc)

@@ -1,9 +1,9 @@
 -- The names that begin events' lines, and the ids that stand after one.
 -- Only what is inside the crate speaks of this.
-use Rattle.std.specs.Prelude.{◌≡◌, ◌≤◌, ◌&&◌, ℕ, nat_eq, Bool, true, not, List, [], ◌∷◌, length, codes, map, decimal}
+use Rattle.std.specs.Prelude.{◌≡◌, ◌≤◌, ◌<◌, ◌&&◌, ℕ, nat_eq, Bool, true, not, List, [], ◌∷◌, length, codes, map, decimal}
 use Rattle.std.specs.Set.{is_member}
 use Rattle.op_types.specs.Ranges.{IsPid, AreRising, MembersInRange}
-use Rattle.op_runs.specs.Possible.{SparesInRange}
+use Rattle.op_runs.specs.Possible.{SparesInRange, IsCall, images}
 use Rattle.op_sched.specs.declared.reading.forms.Form.{Form}
 use Rattle.op_sched.specs.declared.reading.forms.Form.TheVariants as form
 use Rattle.op_sched.specs.declared.reading.operations.OpForm.{OpForm}
@@ -26,6 +26,7 @@ form_name form.Deliver = codes "deliver"
 form_name form.Up = codes "up"
 form_name form.Drop = codes "drop"
 form_name form.Crash = codes "crash"
+form_name form.Fail = codes "fail"
 form_name form.Start = codes "start"
 form_name form.Show = codes "show"
 form_name form.Ballots = codes "ballots"
@@ -33,6 +34,15 @@ form_name form.Ballots = codes "ballots"
 -- two servers that differ
 abbrev pub ArePeers : ℕ → ℕ → Type 0
 ArePeers p q = IsPid p × IsPid q × (p ≡ q → ⊥)
+
+-- the words are a server and a call of its disks
+abbrev pub AreCallOf : List (List ℕ) → ℕ × ℕ → Type 0
+AreCallOf words x = IsPid x.0 × IsCall x.1 × (words ≡ decimal x.0 ∷ decimal x.1 ∷ [])
+
+-- the words are a server, a call of its disks, and an image of them
+abbrev pub AreStopOf : List (List ℕ) → ℕ × ℕ × ℕ → Type 0
+AreStopOf words x =
+    IsPid x.0 × IsCall x.1 × (x.2 < images) × (words ≡ decimal x.0 ∷ decimal x.1 ∷ decimal x.2 ∷ [])
 
 -- the words are these members' ids
 abbrev pub AreMembersOf : List (List ℕ) → List ℕ → Type 0

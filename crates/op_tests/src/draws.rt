@@ -20,6 +20,8 @@ enum Drawn {
     Tick(u32),
     Trim(u32),
     Deliver(u64),
+    Crash(u32, u8, u8),
+    Fail(u32, u8),
 }
 
 /// How many messages were sent, and what the seed 42 then draws.
@@ -29,11 +31,23 @@ const EVENTS: [(u64, Drawn); 3] = [
     (2, Drawn::Deliver(0)),
 ];
 
+/// Seeds, and what each draws first.
+const SEEDS: [(u64, Drawn); 4] = [
+    (32, Drawn::Crash(1, 2, 131)),
+    (230, Drawn::Crash(5, 2, 222)),
+    (17, Drawn::Fail(1, 1)),
+    (606, Drawn::Fail(5, 4)),
+];
+
 fn is_drawn(event: &Event, wanted: Drawn) -> bool {
     match (&event.what, wanted) {
         (What::Tick(pid), Drawn::Tick(server)) => *pid == server,
         (What::Trim(pid), Drawn::Trim(server)) => *pid == server,
         (What::Deliver(index), Drawn::Deliver(message)) => *index == message,
+        (What::CrashAt(pid, call, image), Drawn::Crash(server, at, left)) => {
+            *pid == server && *call == at && *image == left
+        }
+        (What::Fail(pid, call), Drawn::Fail(server, at)) => *pid == server && *call == at,
         _ => false,
     }
 }
@@ -63,6 +77,15 @@ fn a_seed_draws_its_events(rt: HostRuntime) -> Result<(), Fail> {
             "event {number}"
         );
         number += 1;
+    }
+    Ok(())
+}
+
+#[test]
+fn seeds_draw_stops_and_failures_in_calls(rt: HostRuntime) -> Result<(), Fail> {
+    for (seed, wanted) in SEEDS {
+        let event = Gen::new(seed).next(rt.alloc(), 0)?;
+        assert!(rt; is_drawn(&event, wanted), "seed {seed}");
     }
     Ok(())
 }

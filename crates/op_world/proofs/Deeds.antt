@@ -1,24 +1,24 @@
 -- What an event makes of a world with its lists.
-use Rattle.std.proofs.Common.{◌≡◌, ◌⊎◌, ◌<◌, ◌^◌, ◌+◌, ℕ, Bool, true, List, [], ◌∷◌, ◌++◌, length, get_or, Option, All, IfSome, sym, ap, subst, ◌∙◌, arith, ⊎_elim}
+use Rattle.std.proofs.Common.{◌≡◌, ◌⊎◌, ◌<◌, ◌^◌, ◌+◌, ℕ, Bool, true, false, List, [], ◌∷◌, ◌++◌, length, get_or, set, Option, Some, All, IfSome, if◌then◌else◌, refl, sym, ap, subst, ◌∙◌, arith, ⊎_elim}
 use Rattle.std.proofs.lemmas.List.{append-nil}
 use Rattle.std.proofs.lemmas.List.Elements.{All-nil, All-cons, All-head, All-tail}
+use Rattle.std.proofs.Math.ListN.{length-set}
 use Rattle.op_types.specs.Ranges.{IsMember}
 use Rattle.op_types.specs.declared.durable.Durable.{Durable}
 use Rattle.op_types.specs.declared.log.Entry.{Entry}
 use Rattle.op_runs.specs.declared.events.Event.{Event}
-use Rattle.op_runs.specs.World.{World, Node, Happening, Fate, Done, Up, Down, first_world, run_of, deed_of, with_node, done_event, world_after}
+use Rattle.op_runs.specs.World.{World, Node, NodeStatus, Happening, Up, Down, Failed, Doing, Steps, Stops, Opens, Tells, first_world, run_of, deed_of, node_at, world_after}
 use Rattle.op_runs.specs.Run.{Execution, first_execution, execution_with, machine_proposing_by}
 use Rattle.op_runs.specs.Possible.{is_possible, proposals_of, WhatInRange}
+use Rattle.op_runs.specs.Schedules.{Awaited, Nothing, Awaiting, awaiting_with, awaiting_by, is_awaited, drops, CallsDisks}
 use Rattle.op_spec.specs.Ledger.{decided_entries}
 use Rattle.op_spec.specs.Machine.{Machine}
-use Rattle.op_store.proofs.UniquePairs.{one_stored}
-use Rattle.op_memory.specs.MemDisks.{seen_of}
 use Rattle.op_protocol.specs.State.{State}
 use Rattle.op_bounds.specs.Laws.{WorldInRange, HappeningInRange}
 use Rattle.op_laws.proofs.Reached.{world_of_run, execution_append}
 use Rattle.op_refinement.proofs.EveryRun.{every_run_meets}
 use Rattle.op_executions.specs.Laws.{reached}
-use Rattle.op_executions.specs.Worlds.{Happened, HasRun, KeepsServers}
+use Rattle.op_executions.specs.Worlds.{Happened, HasRun, KeepsServers, place_of}
 use Rattle.op_executions.specs.Worlds as worlds
 use Rattle.op_executions.specs.declared.world.ServerWorld.{ServerWorld}
 use Rattle.op_executions.proofs.Bounds.{world_in_range}
@@ -27,8 +27,12 @@ use Rattle.op_executions.proofs.Worlds.{run_on}
 use Rattle.op_world.specs.declared.node_state.NodeState.{NodeState}
 use Rattle.op_world.specs.declared.node_state.NodeState.TheVariants as node
 use Rattle.op_world.specs.declared.node_state.WorldNode.{WorldNode}
+use Rattle.op_world.specs.Awaiting.{awaited_of, awaiting_of, MayCome}
+use Rattle.op_world.specs.Events.{parts_of, Happens}
 use Rattle.op_world.specs.Ledgers.{list_at, NodeShowsMore}
-use Rattle.op_world.specs.Worlds.{Parts, Shows, ShowNodes, IsShown, IsWorld, disk_nodes}
+use Rattle.op_world.specs.Worlds.{Parts, Shows, ShowsNode, ShowNodes, IsShown, IsKept, IsWorld, CallsAt, is_awaited_at, drops_at, disk_nodes}
+use Rattle.op_world.proofs.Awaiting.{ids_of, get_any, awaiting_at, awaiting_set, awaiting_same, awaited_there, dropped_there, may_if}
+use Rattle.op_world.proofs.Happenings.{batch_there}
 use Rattle.op_world.proofs.Ledgers.{HasNoMore, HaveNoMore, proposing_lists, shown_list, showing_list, one_shows, sound_end, sound_no_more}
 
 -- ---- what a world shows
@@ -48,7 +52,8 @@ in_range w i =
 -- what a node has stored is what all that it shows have
 same_stored : (z : NodeState) (x y : Node) → IsShown z x.state x.status → IsShown z y.state y.status → x.state.durable ≡ y.state.durable
 same_stored (node.Up n) x y a b = ap (λ (s : State). s.durable) (a.0 ∙ sym b.0)
-same_stored (node.Down first second) x y a b = one_stored (seen_of first) (seen_of second) x.state.durable y.state.durable a.0 b.0
+same_stored (node.Failed n) x y a b = ap (λ (s : State). s.durable) (a.state ∙ sym b.state)
+same_stored (node.Down d) x y a b = a.durable ∙ sym b.durable
 
 no_more_there : (conf : ℕ) (l : List Entry) (nodes : List WorldNode) (xs ys : List Node) → ShowNodes nodes xs → ShowNodes nodes ys → HaveNoMore conf l xs → HaveNoMore conf l ys
 no_more_there conf l [] xs [] a b each = All-nil (λ n. HasNoMore conf l n.state.durable)
@@ -71,19 +76,6 @@ no_more w i t show conf =
 
 -- ---- a run of the servers
 
--- what contracts see of a world of these servers and lists
-abbrev pub parts_of : ServerWorld WorldNode → List (List Entry) → Parts
-parts_of w lists =
-    record {
-      members = w.members;
-      ids = w.ids.items;
-      nodes = w.servers.items;
-      messages = w.messages.items;
-      lines = w.lines;
-      lists = lists;
-      proposed = w.proposed;
-    }
-
 -- the servers show its world
 pub servers_show : (w : ServerWorld WorldNode) (lists : List (List Entry)) (t : Execution) → Shows (parts_of w lists) t → worlds.Shows disk_nodes w t.world
 servers_show w lists t show = record { nodes = show.nodes; messages = show.messages; lines = show.lines }
@@ -101,45 +93,48 @@ has_run w lists i = record {
 
 -- ---- the lists after an event
 
--- what happened is the event, done
-happened_done : (x : World) (e : Event) (f : Unit {0}) (k : ℕ) (new : ServerWorld WorldNode) (h : Happened disk_nodes x e f k new) → h.happening ≡ done_event e
-happened_done x e f k new h =
-    ap (λ (z : Event). let g : Happening = record { event = z; fate = h.happening.fate; finds_after = h.happening.finds_after } in g) h.event
-    ∙ ap (λ (z : Fate). let g : Happening = record { event = e; fate = z; finds_after = h.happening.finds_after } in g) h.lets.0
-    ∙ ap (λ (b : Bool). let g : Happening = record { event = e; fate = Done; finds_after = b } in g) h.lets.1
+-- one that isn't up adds nothing
+adds_nothing : (x y : Node) (old new : List (List Entry)) (conf : ℕ) → new ≡ old → (y.status ≡ Up → ⊥) → (y.status ≡ Up) ⊎ (y.state.durable ≡ x.state.durable) → HasNoMore conf (list_at old conf) x.state.durable
+    → list_at old conf ++ decided_entries y.state.durable conf (length (list_at old conf)) ≡ list_at new conf
+adds_nothing x y old new conf more down stays none =
+    let l : List Entry = list_at old conf in
+    let same : y.state.durable ≡ x.state.durable = ⊎_elim (λ (up : y.status ≡ Up). absurd (down up)) (λ (s : y.state.durable ≡ x.state.durable). s) stays in
+    ap (λ (d : Durable). l ++ decided_entries d conf (length l)) same ∙ ap (λ (es : List Entry). l ++ es) (none (length l) (omega arith)) ∙ append-nil l ∙ ap (λ (ls : List (List Entry)). list_at ls conf) (sym more)
 
 -- what the node adds to a list is what it shows then
 list_after : (state : NodeState) (x y : Node) (old new : List (List Entry)) (conf : ℕ) → NodeShowsMore old state new → IsShown state y.state y.status → (y.status ≡ Up) ⊎ (y.state.durable ≡ x.state.durable)
     → HasNoMore conf (list_at old conf) x.state.durable → list_at old conf ++ decided_entries y.state.durable conf (length (list_at old conf)) ≡ list_at new conf
 list_after (node.Up n) x y old new conf more show stays none =
     ap (λ (s : State). list_at old conf ++ decided_entries s.durable conf (length (list_at old conf))) show.0 ∙ sym (more conf)
-list_after (node.Down first second) x y old new conf more show stays none =
-    let l : List Entry = list_at old conf in
-    let same : y.state.durable ≡ x.state.durable = ⊎_elim (λ (up : y.status ≡ Up). absurd (let down : Down y.state.durable ≡ Up = sym show.1 ∙ up in cc)) (λ (s : y.state.durable ≡ x.state.durable). s) stays in
-    ap (λ (d : Durable). l ++ decided_entries d conf (length l)) same ∙ ap (λ (es : List Entry). l ++ es) (none (length l) (omega arith)) ∙ append-nil l ∙ ap (λ (ls : List (List Entry)). list_at ls conf) (sym more)
+list_after (node.Failed n) x y old new conf more show stays none =
+    adds_nothing x y old new conf more (λ up. let down : Failed show.count show.after ≡ Up = sym show.status_is ∙ up in cc) stays none
+list_after (node.Down d) x y old new conf more show stays none = adds_nothing x y old new conf more (λ up. let down : Down show.after ≡ Up = sym show.status_is ∙ up in cc) stays none
 
-lists_after : (w : Parts) → IsWorld w → (t : Execution) → Shows w t → (e : Event) (f : Unit {0}) (k : ℕ) (new : ServerWorld WorldNode) → Happened disk_nodes t.world e f k new → (s : WorldNode) → s ≡ get_or new.servers.items k s
-    → (lists : List (List Entry)) → NodeShowsMore w.lists s.state lists → (conf : ℕ) → (execution_with t (done_event e)).machine.lists conf ≡ list_at lists conf
-lists_after w i t show e f k new h s at lists more conf =
+lists_after : (old : ServerWorld WorldNode) (lists : List (List Entry)) → IsWorld (parts_of old lists) → (t : Execution) → Shows (parts_of old lists) t → (e : Event) (k : ℕ) (new : ServerWorld WorldNode) (h : Happened disk_nodes t.world e tt k old new)
+    → (s : WorldNode) → s ≡ get_or new.servers.items k s
+    → (more_lists : List (List Entry)) → NodeShowsMore lists s.state more_lists → (conf : ℕ) → (execution_with t h.happening).machine.lists conf ≡ list_at more_lists conf
+lists_after old lists i t show e k new h s at more_lists more conf =
+    let w : Parts = parts_of old lists in
+    let g : Happening = h.happening in
     let each = no_more w i t show conf in
-    let m : Machine = machine_proposing_by t.machine t.world.nodes (deed_of t.world.messages e.what) in
-    let there : IsShown s.state h.node.state h.node.status = subst (λ (z : WorldNode). IsShown z.state h.node.state h.node.status) (sym at) (h.server s).state in
-    let nodes : (world_after t.world (done_event e)).nodes ≡ with_node t.world.nodes h.node = ap (λ (g : Happening). (world_after t.world g).nodes) (sym (happened_done t.world e f k new h)) ∙ h.nodes in
-    let none : HasNoMore conf (list_at w.lists conf) h.old.state.durable =
+    let m : Machine = machine_proposing_by t.machine t.world.nodes (deed_of t.world.messages g.event.what) in
+    let there : IsShown s.state h.node.state h.node.status = subst (λ (z : WorldNode). IsShown z.state h.node.state h.node.status) (sym at) (h.server.is s).state in
+    let none : HasNoMore conf (list_at lists conf) h.old.state.durable =
     subst (λ (l : List Entry). HasNoMore conf l h.old.state.durable) (show.lists conf)
     (subst (λ (o : Option Node). IfSome o (λ z. HasNoMore conf (t.machine.lists conf) z.state.durable)) h.there (node_found (λ z. HasNoMore conf (t.machine.lists conf) z.state.durable) t.world.nodes h.node.pid each)) in
-    showing_list conf m (world_after t.world (done_event e)).nodes
-    ∙ ap (λ (g : ℕ → List Entry). shown_list conf (g conf) (world_after t.world (done_event e)).nodes) (proposing_lists t.machine t.world.nodes (deed_of t.world.messages e.what))
-    ∙ ap (λ (xs : List Node). shown_list conf (t.machine.lists conf) xs) nodes
+    showing_list conf m (world_after t.world g).nodes
+    ∙ ap (λ (f : ℕ → List Entry). shown_list conf (f conf) (world_after t.world g).nodes) (proposing_lists t.machine t.world.nodes (deed_of t.world.messages g.event.what))
+    ∙ ap (λ (xs : List Node). shown_list conf (t.machine.lists conf) xs) h.nodes
     ∙ one_shows conf (t.machine.lists conf) t.world.nodes h.old h.node h.there each
     ∙ ap (λ (l : List Entry). l ++ decided_entries h.node.state.durable conf (length l)) (show.lists conf)
-    ∙ list_after s.state h.old h.node w.lists lists conf more there h.stored none
+    ∙ list_after s.state h.old h.node lists more_lists conf more there h.stored none
 
 -- ---- the world after an event
 
 -- the event happened at these servers, and the one at this place showed what it has stored then
-pub record IsEventDone (w : ServerWorld WorldNode) (lists : List (List Entry)) (e : Event) (f : Unit {0}) (k : ℕ) (s : WorldNode) (new : ServerWorld WorldNode) (more : List (List Entry)) : Type 0 where
-  pub happened : (x : World) → worlds.Shows disk_nodes w x → Happened disk_nodes x e f k new
+pub record IsEventDone (w : ServerWorld WorldNode) (lists : List (List Entry)) (e : Event) (k : ℕ) (s : WorldNode) (new : ServerWorld WorldNode) (more : List (List Entry)) : Type 0 where
+  pub happened : (x : World) → worlds.Shows disk_nodes w x → Happened disk_nodes x e tt k w new
+  pub place : k < length new.servers.items
   pub at : s ≡ get_or new.servers.items k s
   pub lists_are : NodeShowsMore lists s.state more
   pub servers : KeepsServers disk_nodes new
@@ -147,22 +142,118 @@ pub record IsEventDone (w : ServerWorld WorldNode) (lists : List (List Entry)) (
   pub proposed : (new.proposed ≡ w.proposed + proposals_of e.what) × (new.proposed < 2 ^ 64)
   pub possible : is_possible w.ids.items (length w.messages.items) e.what ≡ true
 
-module _ (w : ServerWorld WorldNode) (lists : List (List Entry)) (i : IsWorld (parts_of w lists)) (e : Event) (f : Unit {0}) (k : ℕ) (s : WorldNode) (new : ServerWorld WorldNode) (more : List (List Entry)) (d : IsEventDone w lists e f k s new more) where
-  pub event_shows : (t : Execution) → Shows (parts_of w lists) t → Shows (parts_of new more) (execution_with t (done_event e))
-  event_shows t show =
-      let h = d.happened t.world (servers_show w lists t show) in
-      let now : worlds.Shows disk_nodes new (world_after t.world (done_event e)) = subst (λ (g : Happening). worlds.Shows disk_nodes new (world_after t.world g)) (happened_done t.world e f k new h) h.shows in
-      record { nodes = now.nodes; messages = now.messages; lines = now.lines; lists = lists_after (parts_of w lists) i t show e f k new h s d.at more d.lists_are }
+-- a step of a node that is shown calls its disks where it has something to store
+calls_there : (old : WorldNode) (n : Node) (d : Doing) → IsKept old.pid old.state → ShowsNode old n → is_awaited_at old.state d ≡ true → CallsAt old.state d → CallsDisks n d
+calls_there old n (Steps i) kept shown awaited calls = by old.state kept shown.state awaited calls
+  where
+    by : (s : NodeState) → IsKept old.pid s → IsShown s n.state n.status → is_awaited_at s (Steps i) ≡ true → CallsAt s (Steps i) → CallsDisks n (Steps i)
+    by (node.Up m) k shows a c = λ none. c (sym (batch_there old.pid m i k n shown.pid shows.0) ∙ none)
+    by (node.Failed m) k shows a c = absurd (let no : false ≡ true = a in cc)
+    by (node.Down x) k shows a c = absurd (let no : false ≡ true = a in cc)
+calls_there old n Stops kept shown awaited calls = tt
+calls_there old n Opens kept shown awaited calls = tt
+calls_there old n (Tells t) kept shown awaited calls = tt
+
+module _ (w : ServerWorld WorldNode) (lists : List (List Entry)) (i : IsWorld (parts_of w lists)) (e : Event) (k : ℕ) (s : WorldNode) (new : ServerWorld WorldNode) (more : List (List Entry)) (d : IsEventDone w lists e k s new more) where
+  module _ (t : Execution) (show : Shows (parts_of w lists) t) (h : Happened disk_nodes t.world e tt k w new) where
+    -- the server at the place, before and after
+    abbrev was : WorldNode
+    was = get_or w.servers.items k s
+
+    abbrev is : WorldNode
+    is = get_or new.servers.items k s
+
+    shows_now : Shows (parts_of new more) (execution_with t h.happening)
+    shows_now = record { nodes = h.shows.nodes; messages = h.shows.messages; lines = h.shows.lines; lists = lists_after w lists i t show e k new h s d.at more d.lists_are }
+
+    -- the place is among the servers of before too
+    there : k < length w.servers.items
+    there =
+        let same : length new.servers.items ≡ length w.servers.items = ap (λ (ns : List WorldNode). length ns) (h.server.others s) ∙ length-set {A = WorldNode} w.servers.items k is in
+        omega (arith, same, d.place)
+
+    at_place : k ≡ place_of (ids_of w.servers.items) h.deed.pid
+    at_place = h.at ∙ ap (λ (ids : List ℕ). place_of ids h.deed.pid) (sym i.pids)
+
+    pid_is : is.pid ≡ h.deed.pid
+    pid_is = sym (h.server.is s).pid ∙ h.pid
+
+    found : node_at t.world.nodes h.deed.pid ≡ Some h.old
+    found = ap (λ (p : ℕ). node_at t.world.nodes p) (sym h.pid) ∙ h.there
+
+    awaited_was : awaiting_of w.servers.items h.deed.pid ≡ awaited_of was.awaited
+    awaited_was = subst (λ (j : ℕ). awaiting_of w.servers.items h.deed.pid ≡ awaited_of (get_or w.servers.items j s).awaited) (sym at_place)
+        (awaiting_at w.servers.items h.deed.pid s (subst (λ (j : ℕ). j < length w.servers.items) at_place there))
+
+    comes_now : MayCome (if is_awaited h.old.status h.deed.doing then awaiting_of w.servers.items h.deed.pid else Nothing) (CallsDisks h.old h.deed.doing) h.happening.fate is.is_due
+    comes_now =
+        let shown = h.server.was s in
+        let lets = h.lets s in
+        let calls = calls_there was h.old h.deed.doing (i.kept k s there) shown in
+        subst (λ (a : Awaited). MayCome (if is_awaited h.old.status h.deed.doing then a else Nothing) (CallsDisks h.old h.deed.doing) h.happening.fate is.is_due) (sym awaited_was)
+        (subst (λ (b : Bool). MayCome (if b then awaited_of was.awaited else Nothing) (CallsDisks h.old h.deed.doing) h.happening.fate is.is_due) (awaited_there was.state h.old.state h.old.status h.deed.doing shown.state)
+        (may_if (is_awaited_at was.state h.deed.doing) (awaited_of was.awaited) (CallsAt was.state h.deed.doing) (CallsDisks h.old h.deed.doing) h.happening.fate is.is_due calls lets.comes))
+
+    awaiting_now : awaiting_of new.servers.items ≡ awaiting_by (Some h.deed) t.world (awaiting_of w.servers.items)
+    awaiting_now =
+        let a : Awaiting = awaiting_of w.servers.items in
+        let pid : ℕ = h.deed.pid in
+        let drop : Bool = drops h.deed.doing (node_at t.world.nodes pid) in
+        let dropped : drops_at was.state h.deed.doing ≡ drop =
+        dropped_there was.state h.old h.deed.doing (h.server.was s).state ∙ ap (λ (o : Option Node). drops h.deed.doing o) (sym found) in
+        let left : awaited_of is.awaited ≡ (if drop then Nothing else awaited_of was.awaited) = (h.lets s).left ∙ ap (λ (b : Bool). if b then Nothing else awaited_of was.awaited) dropped in
+        ap awaiting_of (h.server.others s)
+        ∙ awaiting_set w.servers.items pid k is at_place there pid_is
+        ∙ ap (λ (x : Awaited). awaiting_with a pid x) left
+        ∙ by_drop drop (awaited_of was.awaited) (sym awaited_was)
+      where
+        by_drop : (b : Bool) (x : Awaited) → x ≡ awaiting_of w.servers.items h.deed.pid
+            → awaiting_with (awaiting_of w.servers.items) h.deed.pid (if b then Nothing else x) ≡ (if b then awaiting_with (awaiting_of w.servers.items) h.deed.pid Nothing else awaiting_of w.servers.items)
+        by_drop true x same = refl
+        by_drop false x same = awaiting_same (awaiting_of w.servers.items) h.deed.pid x same
+
+    pub event_happens : Happens (parts_of w lists) e t k (parts_of new more)
+    event_happens = record {
+      happening = h.happening;
+      event = h.event;
+      deed = h.deed;
+      does = h.does;
+      node = h.old;
+      there = found;
+      is_due = is.is_due;
+      server = λ x. (same_pid x, same_due x);
+      comes = comes_now;
+      awaiting = awaiting_now;
+      shows = shows_now;
+    }
+      where
+        any : (x : WorldNode) → get_or new.servers.items k x ≡ is
+        any x = get_any new.servers.items k x s d.place
+
+        same_pid : (x : WorldNode) → (get_or new.servers.items k x).pid ≡ h.deed.pid
+        same_pid x = ap (λ (n : WorldNode). n.pid) (any x) ∙ pid_is
+
+        same_due : (x : WorldNode) → (get_or new.servers.items k x).is_due ≡ is.is_due
+        same_due x = ap (λ (n : WorldNode). n.is_due) (any x)
+
+  pub event_comes : (t : Execution) → Shows (parts_of w lists) t → Happens (parts_of w lists) e t k (parts_of new more)
+  event_comes t show = event_happens t show (d.happened t.world (servers_show w lists t show))
+
+  -- what happened to a world, and the run of the servers then
+  abbrev HasHappened : World → Type 0
+  HasHappened x = (h : Happened disk_nodes x e tt k w new) × HasRun disk_nodes new i.spares (i.happenings ++ h.happening ∷ [])
 
   pub event_kept : WhatInRange e.what → IsWorld (parts_of new more)
+  unfolding event_happens
   event_kept fit =
-      let all : List Happening = i.happenings ++ done_event e ∷ [] in
       let run = has_run w lists i in
       let x : World = run_of (first_world w.members i.spares) i.happenings in
-      let h = d.happened x run.shows in
-      let on : HasRun disk_nodes new i.spares all =
-      subst (λ (g : Happening). HasRun disk_nodes new i.spares (i.happenings ++ g ∷ [])) (happened_done x e f k new h)
-      (run_on disk_nodes w new i.spares i.happenings e f k run fit d.possible h d.servers d.same.0 d.same.1 d.proposed.0 d.proposed.1) in
+      let t : Execution = reached w.members i.spares i.happenings in
+      let g : Happened disk_nodes x e tt k w new = d.happened x run.shows in
+      let there : HasHappened x = (g, run_on disk_nodes w new i.spares i.happenings e tt k run fit d.possible g d.servers d.same.0 d.same.1 d.proposed.0 d.proposed.1) in
+      let here : HasHappened t.world = subst HasHappened (sym (world_of_run (first_execution w.members i.spares) i.happenings)) there in
+      let all : List Happening = i.happenings ++ here.0.happening ∷ [] in
+      let on : HasRun disk_nodes new i.spares all = here.1 in
       record {
         spares = i.spares;
         happenings = all;
@@ -173,8 +264,8 @@ module _ (w : ServerWorld WorldNode) (lists : List (List Entry)) (i : IsWorld (p
         proposed = on.proposed;
         kept = on.servers.kept;
         shows = subst (λ (ms : List ℕ). Shows (parts_of new more) (reached ms i.spares all)) (sym d.same.0)
-            (subst (λ (z : Execution). Shows (parts_of new more) z) (sym (execution_append (first_execution w.members i.spares) i.happenings (done_event e ∷ [])))
-            (event_shows (reached w.members i.spares i.happenings) i.shows));
+            (subst (λ (z : Execution). Shows (parts_of new more) z) (sym (execution_append (first_execution w.members i.spares) i.happenings (here.0.happening ∷ [])))
+            (event_happens t i.shows here.0).shows);
       }
 
 -- ---- the start

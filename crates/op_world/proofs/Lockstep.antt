@@ -1,24 +1,31 @@
 -- Lockstep rounds of the code's world.
-use Rattle.std.proofs.Common.{◌≡◌, ℕ, suc, ◌+◌, ◌<◌, ◌^◌, Bool, List, [], ◌∷◌, ◌++◌, length, map, take, get_or, All, sym, ap, ◌∙◌, subst, arith}
+use Rattle.std.proofs.Common.{◌≡◌, ℕ, suc, ◌+◌, ◌<◌, ◌^◌, Bool, true, List, [], ◌∷◌, ◌++◌, length, map, take, get_or, Option, Some, None, All, IfSome, slice_get, refl, sym, ap, ◌∙◌, subst, arith}
 use Rattle.std.proofs.lemmas.List.{map-append, take_more}
 use Rattle.std.proofs.lemmas.List.Elements.{All-nil, All-cons, All-append, All-head, All-tail}
 use Rattle.op_types.specs.Ranges.{IsMember, IsPid, MembersInRange}
+use Rattle.op_types.specs.declared.events.Input.TheVariants as input
 use Rattle.op_runs.specs.declared.events.Event.{Event}
+use Rattle.op_runs.specs.declared.events.What.{What}
 use Rattle.op_runs.specs.declared.events.What.TheVariants as what
 use Rattle.op_runs.specs.declared.summary.Summary.{Summary}
 use Rattle.op_gen.specs.Links.{Links, all_links}
-use Rattle.op_runs.specs.World.{World, Sent, all_done}
-use Rattle.op_runs.specs.Run.{Execution, first_execution}
-use Rattle.op_runs.specs.Possible.{ArePossibleFrom, WhatInRange, SparesInRange, proposals_in}
+use Rattle.op_runs.specs.World.{World, Sent, Happening, Done, Steps, Stops, Opens, Tells, ThePairs, TheBallots, deed_of, delivery, first_world, world_after, done_event, all_done}
+use Rattle.op_runs.specs.Run.{Execution, first_execution, execution_with, execution_of}
+use Rattle.op_runs.specs.Possible.{is_possible_in, ArePossibleFrom, WhatInRange, SparesInRange, proposals_in}
+use Rattle.op_runs.specs.Schedules.{Awaiting, nothing_awaits, awaiting_after, happening_of, RunsFrom, TellsNoFault}
 use Rattle.op_runs.specs.Summary.{run_summary, summary_of}
 use Rattle.op_lockstep.specs.Lockstep.{event_of, after_events, ticks, ballots, deliveries, is_linked_request, is_sent_reply, ticked, asking, asked, answering, round, lockstep, first_rounds, linked_world, links_drill}
 use Rattle.op_lockstep.proofs.Drills.{drill_quiet}
 use Rattle.op_lockstep.proofs.Reached.{every_lockstep_reaches}
-use Rattle.op_world.specs.Drills.{IsReportOfDrill, followed}
-use Rattle.op_world.specs.Worlds.{Parts, IsWorld, Shows}
 use Rattle.op_executions.proofs.Bounds.{member_ids, members_known}
+use Rattle.op_executions.proofs.PlainRuns.{NothingAwaits, done_one, is_done, nothing_after}
+use Rattle.op_world.specs.Awaiting.{awaiting_of}
+use Rattle.op_world.specs.Drills.{IsCalm, IsQuiet, IsReportOfDrill, OpensNothing, followed}
+use Rattle.op_world.specs.Events.{EventComes}
+use Rattle.op_world.specs.Worlds.{Parts, IsWorld, Shows}
+use Rattle.op_world.proofs.Events.{same_done}
 use Rattle.op_world.proofs.LockstepEvents.{followed_append, followed_world, ticks_possible, ballots_possible, deliveries_possible, one_more_round, drill_possible, drill_proposes_nothing}
-use Rattle.op_world.proofs.Runs.{report_of}
+use Rattle.op_world.proofs.Runs.{done_report}
 
 -- ---- lists of events
 
@@ -28,20 +35,71 @@ more_events f ps i d es new e low before is more =
     more ∙ ap (λ (l : List Event). l ++ e ∷ []) before ∙ ap (λ (x : Event). map f (take i ps) ++ x ∷ []) is
     ∙ sym (map-append f (take i ps) (get_or ps i d ∷ [])) ∙ ap (λ (l : List ℕ). map f l) (sym (take_more ps i d low))
 
-pub more_in_range : (es new : List Event) (e : Event) → All (λ x. WhatInRange x.what) es → WhatInRange e.what → new ≡ es ++ e ∷ [] → All (λ x. WhatInRange x.what) new
-more_in_range es new e before here more =
-    let P : Event → Type 0 = λ x. WhatInRange x.what in
-    subst (λ (l : List Event). All P l) (sym more) (All-append P es (e ∷ []) before (All-cons P e [] here (All-nil P)))
+pub more_quiet : (es new : List Event) (e : Event) → All IsQuiet es → IsQuiet e → new ≡ es ++ e ∷ [] → All IsQuiet new
+more_quiet es new e before here more = subst (λ (l : List Event). All IsQuiet l) (sym more) (All-append IsQuiet es (e ∷ []) before (All-cons IsQuiet e [] here (All-nil IsQuiet)))
 
-mapped_ids : (f : ℕ → Event) → ((p : ℕ) → IsPid p → WhatInRange (f p).what) → (ps : List ℕ) → All IsPid ps → All (λ e. WhatInRange e.what) (map f ps)
-mapped_ids f h [] each = All-nil (λ e. WhatInRange e.what)
-mapped_ids f h (p ∷ ps) each = All-cons (λ e. WhatInRange e.what) (f p) (map f ps) (h p (All-head IsPid p ps each)) (mapped_ids f h ps (All-tail IsPid p ps each))
+mapped_ids : (f : ℕ → Event) → ((p : ℕ) → IsPid p → IsQuiet (f p)) → (ps : List ℕ) → All IsPid ps → All IsQuiet (map f ps)
+mapped_ids f h [] each = All-nil IsQuiet
+mapped_ids f h (p ∷ ps) each = All-cons IsQuiet (f p) (map f ps) (h p (All-head IsPid p ps each)) (mapped_ids f h ps (All-tail IsPid p ps each))
 
 -- those behind the first
-pub rest_in_range : (left rest : List Event) (e : Event) → left ≡ e ∷ rest → All (λ x. WhatInRange x.what) left → All (λ x. WhatInRange x.what) rest
-rest_in_range left rest e first all =
-    let P : Event → Type 0 = λ x. WhatInRange x.what in
-    All-tail P e rest (subst (λ (l : List Event). All P l) first all)
+pub rest_quiet : (left rest : List Event) (e : Event) → left ≡ e ∷ rest → All IsQuiet left → All IsQuiet rest
+rest_quiet left rest e first all = All-tail IsQuiet e rest (subst (λ (l : List Event). All IsQuiet l) first all)
+
+pub first_quiet : (left rest : List Event) (e : Event) → left ≡ e ∷ rest → All IsQuiet left → IsQuiet e
+first_quiet left rest e first all = All-head IsQuiet e rest (subst (λ (l : List Event). All IsQuiet l) first all)
+
+-- ---- an event that opens nothing
+
+opens_nothing : (messages : List Sent) (x : What) → OpensNothing x → IfSome (deed_of messages x) (λ d. d.doing ≡ Opens → ⊥)
+opens_nothing messages (what.Tick p) quiet = λ e. let no : Steps input.Tick ≡ Opens = e in cc
+opens_nothing messages (what.Commands p cs) quiet = λ e. let no : Steps (input.Commands cs) ≡ Opens = e in cc
+opens_nothing messages (what.Stop p ms) quiet = λ e. let no : Steps (input.Stop ms) ≡ Opens = e in cc
+opens_nothing messages (what.Trim p) quiet = λ e. let no : Steps input.TrimNow ≡ Opens = e in cc
+opens_nothing messages (what.Deliver i) quiet = by (slice_get messages i)
+  where
+    by : (o : Option Sent) → IfSome (delivery o) (λ d. d.doing ≡ Opens → ⊥)
+    by None = tt
+    by (Some m) = λ e. let no : Steps (input.Deliver m.from m.message) ≡ Opens = e in cc
+opens_nothing messages (what.Up p q) quiet = λ e. let no : Steps (input.Up q) ≡ Opens = e in cc
+opens_nothing messages (what.Down p q) quiet = λ e. let no : Steps (input.Down q) ≡ Opens = e in cc
+opens_nothing messages (what.Crash p) quiet = λ e. let no : Stops ≡ Opens = e in cc
+opens_nothing messages (what.CrashAt p call image) quiet = absurd quiet
+opens_nothing messages (what.Fail p call) quiet = absurd quiet
+opens_nothing messages (what.Start p) quiet = absurd quiet
+opens_nothing messages (what.Show p) quiet = λ e. let no : Tells ThePairs ≡ Opens = e in cc
+opens_nothing messages (what.Ballots p) quiet = λ e. let no : Tells TheBallots ≡ Opens = e in cc
+
+tells_no_fault : (x : What) → OpensNothing x → TellsNoFault x
+tells_no_fault (what.CrashAt p call image) quiet = absurd quiet
+tells_no_fault (what.Fail p call) quiet = absurd quiet
+tells_no_fault x quiet = tt
+
+-- where nothing awaits any node it is done
+pub quiet_comes : (ids : List ℕ) (old new : Parts) (e : Event) (t : Execution) → IsCalm old → OpensNothing e.what → is_possible_in ids t.world e ≡ true → EventComes old e t new → Shows new (execution_with t (done_event e)) × IsCalm new
+quiet_comes ids old new e t calm quiet can c =
+    let plain : TellsNoFault e.what = tells_no_fault e.what quiet in
+    let one = done_one ids t.world (awaiting_of old.nodes) e c.happenings calm plain can c.becomes in
+    let h : Happening = happening_of e Done one.finds_after in
+    let same : execution_of t c.happenings ≡ execution_with t (done_event e) =
+    ap (λ (hs : List Happening). execution_of t hs) one.is ∙ same_done t h (opens_nothing t.world.messages e.what quiet) refl in (
+      subst (λ (u : Execution). Shows new u) same c.shows,
+      λ pid. ap (λ (a : Awaiting). a pid) c.awaiting ∙ nothing_after t.world (awaiting_of old.nodes) e.what plain calm pid,
+    )
+
+-- ---- a run of such events
+
+runs_done : (nodes : List ℕ) (w : World) (awaiting : Awaiting) (events : List Event) → NothingAwaits awaiting → All IsQuiet events → ArePossibleFrom nodes w events → RunsFrom nodes w awaiting events (all_done events)
+runs_done nodes w awaiting [] none each can = refl
+runs_done nodes w awaiting (e ∷ events) none each can =
+    let plain : TellsNoFault e.what = tells_no_fault e.what (All-head IsQuiet e events each).1 in (
+      done_event e ∷ [],
+      all_done events,
+      refl,
+      can.0,
+      is_done nodes w awaiting e none plain can.0,
+      runs_done nodes (world_after w (done_event e)) (awaiting_after w awaiting e.what) events (nothing_after w awaiting e.what plain none) (All-tail IsQuiet e events each) can.1,
+    )
 
 -- ---- events that can come
 
@@ -62,9 +120,6 @@ deliveries_follow ids x es test since messages are same =
     subst (λ (l : List Event). ArePossibleFrom ids x l) (sym (are ∙ ap (λ (l : List Sent). deliveries test since l) (sym same))) (deliveries_possible ids test since x)
 
 -- ---- a round
-
-abbrev InRange : Event → Type 0
-InRange e = WhatInRange e.what
 
 module _ (old mid late : Parts) (links : Links) (ts qs rs : List Event) (ms : List ℕ) (n m : ℕ)
     (ts_are : ts ≡ ticks ms) (same : ms ≡ old.members)
@@ -115,24 +170,24 @@ module _ (old mid late : Parts) (links : Links) (ts qs rs : List Event) (ms : Li
       let parts : followed t (round old.members links t.world) ≡ followed t2 replies = followed_append t (ticks old.members ++ asks) replies ∙ ap (λ (u : Execution). followed u replies) (followed_append t (ticks old.members) asks) in
       subst (λ (u : Execution). Shows new u) (sym parts) (subst (λ (es : List Event). Shows new (followed t2 es)) e3 (h3 t2 s2))
 
-  pub round_range : All InRange ts → All InRange qs → All InRange rs → All InRange (round old.members links t.world)
+  pub round_range : All IsQuiet ts → All IsQuiet qs → All IsQuiet rs → All IsQuiet (round old.members links t.world)
   round_range a b c =
-      All-append InRange (ticks old.members ++ asking old.members links t.world) (answering old.members links t.world)
-      (All-append InRange (ticks old.members) (asking old.members links t.world) (subst (All InRange) e1 a) (subst (All InRange) e2 b)) (subst (All InRange) e3 c)
+      All-append IsQuiet (ticks old.members ++ asking old.members links t.world) (answering old.members links t.world)
+      (All-append IsQuiet (ticks old.members) (asking old.members links t.world) (subst (All IsQuiet) e1 a) (subst (All IsQuiet) e2 b)) (subst (All IsQuiet) e3 c)
 
 -- ---- rounds
 
 -- so many rounds from here on, in range
 pub record AreDone (ms : List ℕ) (links : Links) (k : ℕ) (t : Execution) (w : Parts) : Type 0 where
   pub shows : Shows w (followed t (lockstep ms links k t.world))
-  pub range : All InRange (lockstep ms links k t.world)
+  pub range : All IsQuiet (lockstep ms links k t.world)
 
 pub no_rounds : (ms : List ℕ) (links : Links) (t : Execution) (w : Parts) → Shows w t → AreDone ms links 0 t w
 unfolding lockstep
-no_rounds ms links t w s = record { shows = s; range = All-nil InRange }
+no_rounds ms links t w s = record { shows = s; range = All-nil IsQuiet }
 
 pub more_rounds : (ms ns : List ℕ) (links : Links) (k : ℕ) (t : Execution) (w v : Parts) → ns ≡ ms → AreDone ms links k t w
-    → ((u : Execution) → Shows w u → Shows v (followed u (round ns links u.world))) → ((u : Execution) → Shows w u → All InRange (round ns links u.world)) → AreDone ms links (k + 1) t v
+    → ((u : Execution) → Shows w u → Shows v (followed u (round ns links u.world))) → ((u : Execution) → Shows w u → All IsQuiet (round ns links u.world)) → AreDone ms links (k + 1) t v
 more_rounds ms ns links k t w v same done shows range =
     let before : List Event = lockstep ms links k t.world in
     let u : Execution = followed t before in
@@ -144,7 +199,7 @@ more_rounds ms ns links k t w v same done shows range =
     record {
       shows = subst (λ (es : List Event). Shows v (followed t es)) (sym all)
           (subst (λ (x : Execution). Shows v x) (sym (followed_append t before (round ms links u.world))) (subst (λ (es : List Event). Shows v (followed u es)) last (shows u done.shows)));
-      range = subst (All InRange) (sym all) (All-append InRange before (round ms links u.world) done.range (subst (All InRange) last (range u done.shows)));
+      range = subst (All IsQuiet) (sym all) (All-append IsQuiet before (round ms links u.world) done.range (subst (All IsQuiet) last (range u done.shows)));
     }
 
 -- ---- a drill
@@ -180,18 +235,22 @@ drill_report members range links all rounds new linked late told s s0 m0 all_is 
     let left : s ≡ run_summary members [] events =
     h4 (followed t0 events) (subst (λ (u : Execution). Shows told u) (sym parts) s3) ∙ ap (λ (ms : List ℕ). summary_of ms (followed t0 events)) at_told in
     let ids = member_ids members range in
-    let each : All InRange events =
-    All-append InRange (fs ++ ls ++ ticks members) (ballots members)
-    (All-append InRange (fs ++ ls) (ticks members) (All-append InRange fs ls d1.range (subst (All InRange) ls_are d2.range)) (ids_mapped (λ p. event_of (what.Tick p)) members ids (λ p k. k)))
-    (ids_mapped (λ p. event_of (what.Ballots p)) members ids (λ p k. k)) in
+    let each : All IsQuiet events =
+    All-append IsQuiet (fs ++ ls ++ ticks members) (ballots members)
+    (All-append IsQuiet (fs ++ ls) (ticks members) (All-append IsQuiet fs ls d1.range (subst (All IsQuiet) ls_are d2.range)) (ids_mapped (λ p. event_of (what.Tick p)) members ids (λ p k. (k, tt))))
+    (ids_mapped (λ p. event_of (what.Ballots p)) members ids (λ p k. (k, tt))) in
     let few : proposals_in (all_done events) < 2 ^ 64 = omega (arith, drill_proposes_nothing members links rounds) in
     record {
-      run = report_of members [] range none_beside events s (drill_possible members links rounds) each few left;
+      run = done_report members [] range none_beside events s (runs_done members (first_world members []) nothing_awaits events (λ pid. refl) each (drill_possible members links rounds)) (All-weaker events each) few left;
       reaches = every_lockstep_reaches members [] range (all_done events) (drill_quiet members links rounds);
     }
   where
-    ids_mapped : (f : ℕ → Event) (ps : List ℕ) → All IsPid ps → ((p : ℕ) → IsPid p → InRange (f p)) → All InRange (map f ps)
+    ids_mapped : (f : ℕ → Event) (ps : List ℕ) → All IsPid ps → ((p : ℕ) → IsPid p → IsQuiet (f p)) → All IsQuiet (map f ps)
     ids_mapped f ps each h = mapped_ids f h ps each
+
+    All-weaker : (es : List Event) → All IsQuiet es → All (λ e. WhatInRange e.what) es
+    All-weaker [] each = All-nil (λ e. WhatInRange e.what)
+    All-weaker (e ∷ es) each = All-cons (λ x. WhatInRange x.what) e es (All-head IsQuiet e es each).0 (All-weaker es (All-tail IsQuiet e es each))
 
     none_beside : SparesInRange members []
     none_beside = record { few = omega arith; rising = tt; apart = λ q h. absurd (cc) }

@@ -9,7 +9,7 @@ use Rattle.op_runs.specs.declared.events.What.TheVariants as what
 use Rattle.op_runs.specs.declared.events.Event.{Event}
 use Rattle.op_runs.specs.World.{World, Sent, Happening, first_world, world_after, done_event, all_done}
 use Rattle.op_runs.specs.Run.{Execution, execution_with, execution_of}
-use Rattle.op_runs.specs.Possible.{is_possible_in, ArePossible, ArePossibleFrom, proposals_of, proposals_in}
+use Rattle.op_runs.specs.Possible.{is_possible_in, ArePossibleFrom, proposals_of, proposals_in}
 use Rattle.op_laws.proofs.Reached.{world_of_run, execution_append}
 use Rattle.op_executions.proofs.Messages.{no_fewer}
 use Rattle.op_gen.specs.Links.{Links, all_links}
@@ -119,7 +119,7 @@ module _ (members : List ℕ) (links : Links) where
 
 -- ---- a drill
 
-pub drill_possible : (members : List ℕ) (links : Links) (rounds : ℕ) → ArePossible members [] (links_drill members links rounds)
+pub drill_possible : (members : List ℕ) (links : Links) (rounds : ℕ) → ArePossibleFrom members (first_world members []) (links_drill members links rounds)
 unfolding links_drill
 drill_possible members links rounds =
     let first : World = first_world members [] in

@@ -1,109 +1,225 @@
 -- A run of events, one after the other, and what is reported of it.
-use Rattle.std.proofs.Common.{◌≡◌, ℕ, suc, Bool, true, false, ◌+◌, ◌<◌, ◌^◌, List, [], ◌∷◌, length, All, refl, sym, ap, subst, ◌∙◌, inl, inr, arith}
-use Rattle.std.proofs.lemmas.List.Elements.{All-nil, All-cons, All-head, All-tail}
+use Rattle.std.proofs.Common.{◌≡◌, ◌⊎◌, ℕ, zero, suc, Bool, true, false, ◌+◌, ◌<◌, ◌^◌, List, [], ◌∷◌, ◌++◌, length, Option, Some, None, All, if◌then◌else◌, refl, sym, ap, subst, ◌∙◌, inl, inr, arith, append_assoc, length-append}
+use Rattle.std.proofs.lemmas.List.{append-nil, map-append}
+use Rattle.std.proofs.lemmas.List.Elements.{All-nil, All-cons, All-head, All-tail, All-append, All-push}
 use Rattle.op_types.specs.Ranges.{MembersInRange}
 use Rattle.op_runs.specs.declared.events.Event.{Event}
+use Rattle.op_runs.specs.declared.events.What.{What}
+use Rattle.op_runs.specs.declared.events.What.TheVariants as what
 use Rattle.op_runs.specs.declared.summary.Summary.{Summary}
-use Rattle.op_runs.specs.World.{Sent, node_ids, done_event, all_done}
+use Rattle.op_runs.specs.World.{World, Sent, Node, Deed, Doing, Happening, Fate, Done, Stopped, Faulted, node_ids, first_world, node_at, deed_of, run_of, done_event, all_done}
 use Rattle.op_runs.specs.Run.{Execution, first_execution, execution_with, execution_of}
-use Rattle.op_runs.specs.Possible.{is_possible, is_possible_in, ArePossibleFrom, IsFirstBadFrom, ArePossible, IsFirstBad, WhatInRange, SparesInRange, proposals_in, proposals_of}
-use Rattle.op_runs.specs.Summary.{run_execution, run_summary, summary_of}
+use Rattle.op_runs.specs.Possible.{is_possible, is_possible_in, WhatInRange, SparesInRange, proposals_in, proposals_of}
+use Rattle.op_runs.specs.Schedules.{Awaited, Nothing, Stop, Failure, Awaiting, nothing_awaits, is_awaited, happening_of, stop_after, MayBecome, BecomesAt, BecomesBy, Becomes, awaiting_after, IsRunOf, IsFirstRefused, TellsNoFault}
+use Rattle.op_runs.specs.Summary.{summary_of}
 use Rattle.op_laws.specs.Runs.{RunInRange}
+use Rattle.op_laws.proofs.Reached.{world_of_run, execution_append}
+use Rattle.op_executions.specs.Laws.{reached}
+use Rattle.op_executions.specs.PlainRuns.{ArePlain}
+use Rattle.op_executions.proofs.Laws.{keeps_the_laws}
+use Rattle.op_executions.proofs.PlainRuns.{plain_runs_are_done, plain_events_can_be_done}
+use Rattle.op_executions.proofs.ScheduleRuns.{ComesTo, comes_first, comes_next, comes_whole, comes_refused}
+use Rattle.op_world.specs.Awaiting.{awaiting_of}
+use Rattle.op_world.specs.Events.{EventComes}
 use Rattle.op_world.specs.Runs.{IsReportOfRun}
 use Rattle.op_world.specs.Worlds.{Parts, Shows}
-use Rattle.op_executions.proofs.Laws.{keeps_the_laws}
+
+-- ---- how much an event's happenings propose
+
+none_proposed : (messages : List Sent) (x : What) → deed_of messages x ≡ None → proposals_of x ≡ 0
+none_proposed messages (what.Commands p cs) none = absurd (cc)
+none_proposed messages (what.Stop p members) none = absurd (cc)
+none_proposed messages x none = refl
+
+pub one_proposed : (e : Event) (f : Fate) (b : Bool) (hs : List Happening) → hs ≡ happening_of e f b ∷ [] → proposals_in hs ≡ proposals_of e.what
+one_proposed e f b hs is = let same : proposals_in hs ≡ proposals_of e.what + 0 = ap proposals_in is in omega (arith, same)
+
+stopped_proposed : (e : Event) (pid : ℕ) (b : Bool) (hs : List Happening) → hs ≡ happening_of e Done b ∷ stop_after e pid ∷ [] → proposals_in hs ≡ proposals_of e.what
+stopped_proposed e pid b hs is = let same : proposals_in hs ≡ proposals_of e.what + (0 + 0) = ap proposals_in is in omega (arith, same)
+
+may_proposed : (a : Awaited) (e : Event) (n : Node) (d : Doing) (b : Bool) (hs : List Happening) → MayBecome a e n d b hs → proposals_in hs ≡ proposals_of e.what
+may_proposed Nothing e n d b hs may = one_proposed e Done b hs may
+may_proposed Stop e n d b hs (inl may) = one_proposed e Stopped b hs may.1
+may_proposed Stop e n d b hs (inr may) = stopped_proposed e n.pid b hs may
+may_proposed Failure e n d b hs (inl may) = one_proposed e (Faulted may.1) b hs may.2
+may_proposed Failure e n d b hs (inr may) = one_proposed e Done b hs may
+
+at_proposed : (o : Option Node) (a : Awaited) (d : Doing) (e : Event) (hs : List Happening) → BecomesAt o a d e hs → proposals_in hs ≡ proposals_of e.what
+at_proposed None a d e hs becomes = one_proposed e Done false hs becomes
+at_proposed (Some n) a d e hs becomes = may_proposed (if is_awaited n.status d then a else Nothing) e n d becomes.0 hs becomes.1
+
+pub becomes_proposed : (w : World) (awaiting : Awaiting) (e : Event) (hs : List Happening) → Becomes w awaiting e hs → proposals_in hs ≡ proposals_of e.what
+becomes_proposed w awaiting e hs becomes = by (deed_of w.messages e.what) refl becomes
+  where
+    by : (o : Option Deed) → deed_of w.messages e.what ≡ o → BecomesBy o w awaiting e hs → proposals_in hs ≡ proposals_of e.what
+    by None is k = ap proposals_in k ∙ sym (none_proposed w.messages e.what is)
+    by (Some x) is k = at_proposed (node_at w.nodes x.pid) (awaiting x.pid) x.doing e hs k
+
+proposals_more : (hs gs : List Happening) → proposals_in (hs ++ gs) ≡ proposals_in hs + proposals_in gs
+proposals_more [] gs = omega arith
+proposals_more (h ∷ hs) gs = omega (arith, proposals_more hs gs)
+
+-- ---- a run so far
+
+-- these events became these happenings, which came to this run, with what awaits its nodes; so much was proposed
+pub record Ran (members spares : List ℕ) (t : Execution) (awaiting : Awaiting) (events : List Event) (hs : List Happening) (proposed : ℕ) : Type 0 where
+  pub comes : ComesTo members spares t.world awaiting events hs
+  pub is : t ≡ reached members spares hs
+  pub events_fit : All (λ e. WhatInRange e.what) events
+  pub fit : All (λ h. WhatInRange h.event.what) hs
+  pub events_counted : proposals_in (all_done events) ≡ proposed
+  pub counted : proposals_in hs ≡ proposed
+  pub few : proposed < 2 ^ 64
+
+pub ran_first : (members spares : List ℕ) (awaiting : Awaiting) (proposed : ℕ) → awaiting ≡ nothing_awaits → proposed ≡ 0 → Ran members spares (first_execution members spares) awaiting [] [] proposed
+ran_first members spares awaiting proposed nothing none = record {
+  comes = subst (λ (a : Awaiting). ComesTo members spares (first_world members spares) a [] []) (sym nothing) (comes_first members spares);
+  is = refl;
+  events_fit = All-nil (λ (e : Event). WhatInRange e.what);
+  fit = All-nil (λ (h : Happening). WhatInRange h.event.what);
+  events_counted = sym none;
+  counted = sym none;
+  few = omega (arith, none);
+}
+
+-- one event more
+pub ran_next : (members spares : List ℕ) (old new : Parts) (t : Execution) (events : List Event) (hs : List Happening) (e : Event) (proposed more : ℕ) → Ran members spares t (awaiting_of old.nodes) events hs proposed
+    → (c : EventComes old e t new) → is_possible_in (node_ids members spares) t.world e ≡ true → WhatInRange e.what → more ≡ proposed + proposals_of e.what → more < 2 ^ 64
+    → Ran members spares (execution_of t c.happenings) (awaiting_of new.nodes) (events ++ e ∷ []) (hs ++ c.happenings) more
+ran_next members spares old new t events hs e proposed more r c can fit sum few =
+    let now : List Happening = c.happenings in
+    let said : proposals_in now ≡ proposals_of e.what = becomes_proposed t.world (awaiting_of old.nodes) e now c.becomes in
+    record {
+      comes = subst (λ (w : World). ComesTo members spares w (awaiting_of new.nodes) (events ++ e ∷ []) (hs ++ now)) (sym (world_of_run t now))
+          (subst (λ (a : Awaiting). ComesTo members spares (run_of t.world now) a (events ++ e ∷ []) (hs ++ now)) (sym c.awaiting) (comes_next members spares t.world (awaiting_of old.nodes) events hs r.comes e now can c.becomes));
+      is = ap (λ (u : Execution). execution_of u now) r.is ∙ sym (execution_append (first_execution members spares) hs now);
+      events_fit = All-push (λ (x : Event). WhatInRange x.what) events e r.events_fit fit;
+      fit = All-append (λ (h : Happening). WhatInRange h.event.what) hs now r.fit c.range;
+      events_counted =
+          let whole : proposals_in (all_done (events ++ e ∷ [])) ≡ proposals_in (all_done events) + proposals_in (done_event e ∷ []) =
+          ap proposals_in (map-append done_event events (e ∷ [])) ∙ proposals_more (all_done events) (done_event e ∷ []) in
+          let one : proposals_in (done_event e ∷ []) ≡ proposals_of e.what = one_proposed e Done false (done_event e ∷ []) refl in
+          let before = r.events_counted in
+          omega (arith, whole, one, before, sum);
+      counted = let whole = proposals_more hs now in let before = r.counted in omega (arith, whole, said, before, sum);
+      few = few;
+    }
 
 -- ---- what a run leaves
 
-all_in_range : (events : List Event) → All (λ e. WhatInRange e.what) events → All (λ h. WhatInRange h.event.what) (all_done events)
+-- whether no event tells of a stop or a failure in a call of a disk
+one_plain : (x : What) → TellsNoFault x ⊎ (TellsNoFault x → ⊥)
+one_plain (what.CrashAt p call image) = inr (λ no. no)
+one_plain (what.Fail p call) = inr (λ no. no)
+one_plain x = inl tt
+
+pub whether_plain : (events : List Event) → ArePlain events ⊎ (ArePlain events → ⊥)
+whether_plain [] = inl (All-nil (λ (e : Event). TellsNoFault e.what))
+whether_plain (e ∷ events) = by (one_plain e.what) (whether_plain events)
+  where
+    by : TellsNoFault e.what ⊎ (TellsNoFault e.what → ⊥) → ArePlain events ⊎ (ArePlain events → ⊥) → ArePlain (e ∷ events) ⊎ (ArePlain (e ∷ events) → ⊥)
+    by (inl here) (inl rest) = inl (All-cons (λ x. TellsNoFault x.what) e events here rest)
+    by (inl here) (inr not) = inr (λ all. not (All-tail (λ (x : Event). TellsNoFault x.what) e events all))
+    by (inr not) rest = inr (λ all. not (All-head (λ (x : Event). TellsNoFault x.what) e events all))
+
+pub all_in_range : (events : List Event) → All (λ e. WhatInRange e.what) events → All (λ h. WhatInRange h.event.what) (all_done events)
 all_in_range [] k = All-nil (λ h. WhatInRange h.event.what)
 all_in_range (e ∷ events) k =
     All-cons (λ h. WhatInRange h.event.what) (done_event e) (all_done events) (All-head (λ (x : Event). WhatInRange x.what) e events k) (all_in_range events (All-tail (λ (x : Event). WhatInRange x.what) e events k))
 
-pub report_of : (members spares : List ℕ) → MembersInRange members → SparesInRange members spares → (events : List Event) (s : Summary) → ArePossible members spares events
-    → All (λ e. WhatInRange e.what) events → proposals_in (all_done events) < 2 ^ 64 → s ≡ run_summary members spares events → IsReportOfRun members spares events s
-report_of members spares m sp events s possible range few left =
-    let run : RunInRange members spares (all_done events) = record { first = m; others = sp; happenings = record { few = few; each = all_in_range events range } } in
-    record { possible = possible; left = left; laws = keeps_the_laws members spares (all_done events) run }
+module _ (members spares : List ℕ) (m : MembersInRange members) (sp : SparesInRange members spares) where
+  pub in_range : (hs : List Happening) → All (λ h. WhatInRange h.event.what) hs → proposals_in hs < 2 ^ 64 → RunInRange members spares hs
+  in_range hs each few = record { first = m; others = sp; happenings = record { few = few; each = each } }
 
--- ---- the events that are left
+  -- where each event is done
+  abbrev pub done_report : (events : List Event) (s : Summary) → IsRunOf members spares events (all_done events) → All (λ e. WhatInRange e.what) events → proposals_in (all_done events) < 2 ^ 64 → s ≡ summary_of members (reached members spares (all_done events))
+      → IsReportOfRun members spares events s
+  done_report events s run each few left = record {
+    happenings = all_done events;
+    run = run;
+    left = left;
+    laws = keeps_the_laws members spares (all_done events) (in_range (all_done events) (all_in_range events each) few);
+    plain = λ _. refl;
+  }
 
--- what the events that are left say of all of a run's, where so much was proposed before
-pub record GoesOn (members spares : List ℕ) (t : Execution) (left events : List Event) (proposed : ℕ) : Type 0 where
-  pub ran : execution_of t (all_done left) ≡ run_execution members spares events
-  pub possible : ArePossibleFrom (node_ids members spares) t.world left → ArePossible members spares events
-  pub range : All (λ e. WhatInRange e.what) left → All (λ e. WhatInRange e.what) events
-  pub counted : proposed + proposals_in (all_done left) ≡ proposals_in (all_done events)
-  pub few : proposed < 2 ^ 64
+  module _ (t : Execution) (awaiting : Awaiting) (events : List Event) (hs : List Happening) (proposed : ℕ) (s : Summary) (r : Ran members spares t awaiting events hs proposed) (left : s ≡ summary_of members t) where
+    abbrev run : IsRunOf members spares events hs
+    run = comes_whole members spares t.world awaiting events hs r.comes
 
-pub goes_first : (members spares : List ℕ) (left events : List Event) (proposed : ℕ) → left ≡ events → proposed ≡ 0 → GoesOn members spares (first_execution members spares) left events proposed
-goes_first members spares left events proposed all none = record {
-  ran = ap (λ (es : List Event). run_execution members spares es) all;
-  possible = λ h. subst (λ (es : List Event). ArePossible members spares es) all h;
-  range = λ h. subst (λ (es : List Event). All (λ e. WhatInRange e.what) es) all h;
-  counted = let same : proposals_in (all_done left) ≡ proposals_in (all_done events) = ap (λ (es : List Event). proposals_in (all_done es)) all in omega (arith, same, none);
-  few = omega (arith, none);
-}
+    abbrev pub plain_report : ArePlain events → IsReportOfRun members spares events s
+    plain_report plain =
+        let few : proposals_in (all_done events) < 2 ^ 64 = let is = r.events_counted in let small = r.few in omega (arith, is, small) in
+        done_report events s (plain_events_can_be_done members spares events hs plain run) r.events_fit few
+        (left ∙ ap (λ (x : Execution). summary_of members x) (r.is ∙ plain_runs_are_done members spares events hs plain run))
 
-pub goes_next : (members spares : List ℕ) (t : Execution) (left rest events : List Event) (e : Event) (proposed more : ℕ) → GoesOn members spares t left events proposed → left ≡ e ∷ rest
-    → is_possible_in (node_ids members spares) t.world e ≡ true → WhatInRange e.what → more ≡ proposed + proposals_of e.what → more < 2 ^ 64 → GoesOn members spares (execution_with t (done_event e)) rest events more
-goes_next members spares t left rest events e proposed more g first can fit sum few = record {
-  ran = ap (λ (es : List Event). execution_of t (all_done es)) (sym first) ∙ g.ran;
-  possible = λ h. g.possible (subst (λ (es : List Event). ArePossibleFrom (node_ids members spares) t.world es) (sym first) (can, h));
-  range = λ h. g.range (subst (λ (es : List Event). All (λ f. WhatInRange f.what) es) (sym first) (All-cons (λ (f : Event). WhatInRange f.what) e rest fit h));
-  counted =
-      let one : proposals_in (all_done left) ≡ proposals_of e.what + proposals_in (all_done rest) = ap (λ (es : List Event). proposals_in (all_done es)) first in
-      let all = g.counted in
-      omega (arith, one, all, sum);
-  few = few;
-}
+    abbrev pub other_report : (ArePlain events → ⊥) → IsReportOfRun members spares events s
+    other_report other = record {
+      happenings = hs;
+      run = run;
+      left = left ∙ ap (λ (x : Execution). summary_of members x) r.is;
+      laws = keeps_the_laws members spares hs (in_range hs r.fit (let is = r.counted in let small = r.few in omega (arith, is, small)));
+      plain = λ plain. absurd (other plain);
+    }
 
-pub goes_end : (members spares : List ℕ) → MembersInRange members → SparesInRange members spares → (t : Execution) (left events : List Event) (proposed : ℕ) (s : Summary)
-    → GoesOn members spares t left events proposed → left ≡ [] → s ≡ summary_of members t → IsReportOfRun members spares events s
-goes_end members spares m sp t left events proposed s g none is =
-    let ran : t ≡ run_execution members spares events = ap (λ (es : List Event). execution_of t (all_done es)) (sym none) ∙ g.ran in
-    let all : proposals_in (all_done left) ≡ 0 = ap (λ (es : List Event). proposals_in (all_done es)) none in
-    let range : All (λ e. WhatInRange e.what) events = g.range (subst (λ (es : List Event). All (λ e. WhatInRange e.what) es) (sym none) (All-nil (λ (e : Event). WhatInRange e.what))) in
-    report_of members spares m sp events s (g.possible (subst (λ (es : List Event). ArePossibleFrom (node_ids members spares) t.world es) (sym none) tt)) range (omega (arith, all, g.counted, g.few))
-    (is ∙ ap (λ (x : Execution). summary_of members x) ran)
+    pub report_of : IsReportOfRun members spares events s
+    report_of = by (whether_plain events)
+      where
+        by : ArePlain events ⊎ (ArePlain events → ⊥) → IsReportOfRun members spares events s
+        by (inl plain) = plain_report plain
+        by (inr other) = other_report other
 
--- the same of a schedule's events, which are there from the beginning, where so many came before
-pub record Continues (members spares : List ℕ) (t : Execution) (left events : List Event) (index proposed : ℕ) : Type 0 where
-  pub goes : GoesOn members spares t left events proposed
-  pub bad : (i : ℕ) → IsFirstBadFrom (node_ids members spares) t.world left i → IsFirstBad members spares events (index + i)
+-- ---- a schedule, whose events are there from the beginning
+
+-- so many came, and these are left
+pub record Continues (members spares : List ℕ) (t : Execution) (awaiting : Awaiting) (left events : List Event) (index proposed : ℕ) : Type 0 where
+  pub done : List Event
+  pub happenings : List Happening
+  pub whole : done ++ left ≡ events
+  pub count : index ≡ length done
+  pub ran : Ran members spares t awaiting done happenings proposed
   pub range : All (λ e. WhatInRange e.what) left
   pub size : index + length left ≡ length events
 
-pub continues_first : (members spares : List ℕ) (left events : List Event) (proposed : ℕ) → left ≡ events → All (λ e. WhatInRange e.what) events → proposed ≡ 0
-    → Continues members spares (first_execution members spares) left events 0 proposed
-continues_first members spares left events proposed all range none =
-    record {
-      goes = goes_first members spares left events proposed all none;
-      bad = λ i h. let same : i ≡ 0 + i = omega arith in subst (λ (j : ℕ). IsFirstBad members spares events j) same (subst (λ (es : List Event). IsFirstBad members spares es i) all h);
-      range = subst (λ (es : List Event). All (λ e. WhatInRange e.what) es) (sym all) range;
-      size = let same : length left ≡ length events = ap length all in omega (arith, same);
-    }
+pub continues_first : (members spares : List ℕ) (awaiting : Awaiting) (left events : List Event) (proposed : ℕ) → left ≡ events → All (λ e. WhatInRange e.what) events → awaiting ≡ nothing_awaits → proposed ≡ 0
+    → Continues members spares (first_execution members spares) awaiting left events 0 proposed
+continues_first members spares awaiting left events proposed all range nothing none = record {
+  done = [];
+  happenings = [];
+  whole = all;
+  count = refl;
+  ran = ran_first members spares awaiting proposed nothing none;
+  range = subst (λ (es : List Event). All (λ e. WhatInRange e.what) es) (sym all) range;
+  size = let same : length left ≡ length events = ap (λ (es : List Event). length es) all in omega (arith, same);
+}
 
-pub range_next : (members spares : List ℕ) (t : Execution) (left rest events : List Event) (e : Event) (index proposed : ℕ) → Continues members spares t left events index proposed → left ≡ e ∷ rest → WhatInRange e.what
-range_next members spares t left rest events e index proposed c first = All-head (λ (f : Event). WhatInRange f.what) e rest (subst (λ (es : List Event). All (λ f. WhatInRange f.what) es) first c.range)
+pub range_next : (members spares : List ℕ) (t : Execution) (awaiting : Awaiting) (left rest events : List Event) (e : Event) (index proposed : ℕ) → Continues members spares t awaiting left events index proposed → left ≡ e ∷ rest → WhatInRange e.what
+range_next members spares t awaiting left rest events e index proposed c first = All-head (λ (f : Event). WhatInRange f.what) e rest (subst (λ (es : List Event). All (λ f. WhatInRange f.what) es) first c.range)
 
-pub continues_next : (members spares : List ℕ) (t : Execution) (left rest events : List Event) (e : Event) (index proposed more : ℕ) → Continues members spares t left events index proposed → left ≡ e ∷ rest
-    → is_possible_in (node_ids members spares) t.world e ≡ true → more ≡ proposed + proposals_of e.what → more < 2 ^ 64 → Continues members spares (execution_with t (done_event e)) rest events (index + 1) more
-continues_next members spares t left rest events e index proposed more c first can sum few =
-    record {
-      goes = goes_next members spares t left rest events e proposed more c.goes first can (range_next members spares t left rest events e index proposed c first) sum few;
-      bad = λ i h.
-          let same : index + suc i ≡ index + 1 + i = omega arith in
-          subst (λ (j : ℕ). IsFirstBad members spares events j) same (c.bad (suc i) (subst (λ (es : List Event). IsFirstBadFrom (node_ids members spares) t.world es (suc i)) (sym first) (inr (i, refl, can, h))));
-      range = All-tail (λ (f : Event). WhatInRange f.what) e rest (subst (λ (es : List Event). All (λ f. WhatInRange f.what) es) first c.range);
-      size = let one : length left ≡ suc (length rest) = ap length first in let all = c.size in omega (arith, one, all);
-    }
+pub continues_next : (members spares : List ℕ) (old new : Parts) (t : Execution) (left rest events : List Event) (e : Event) (index proposed more : ℕ) → Continues members spares t (awaiting_of old.nodes) left events index proposed → left ≡ e ∷ rest
+    → (c : EventComes old e t new) → is_possible_in (node_ids members spares) t.world e ≡ true → more ≡ proposed + proposals_of e.what → more < 2 ^ 64
+    → Continues members spares (execution_of t c.happenings) (awaiting_of new.nodes) rest events (index + 1) more
+continues_next members spares old new t left rest events e index proposed more c first comes can sum few = record {
+  done = c.done ++ e ∷ [];
+  happenings = c.happenings ++ comes.happenings;
+  whole = append_assoc c.done (e ∷ []) rest ∙ ap (λ (es : List Event). c.done ++ es) (sym first) ∙ c.whole;
+  count = let long = length-append c.done (e ∷ []) in let before = c.count in omega (arith, long, before);
+  ran = ran_next members spares old new t c.done c.happenings e proposed more c.ran comes can (range_next members spares t (awaiting_of old.nodes) left rest events e index proposed c first) sum few;
+  range = All-tail (λ (f : Event). WhatInRange f.what) e rest (subst (λ (es : List Event). All (λ f. WhatInRange f.what) es) first c.range);
+  size = let one : length left ≡ suc (length rest) = ap (λ (es : List Event). length es) first in let all = c.size in omega (arith, one, all);
+}
 
-pub bad_here : (members spares : List ℕ) (t : Execution) (left rest events : List Event) (e : Event) (index proposed : ℕ) → Continues members spares t left events index proposed → left ≡ e ∷ rest
-    → is_possible_in (node_ids members spares) t.world e ≡ false → IsFirstBad members spares events index
-bad_here members spares t left rest events e index proposed c first cannot =
-    let same : index + 0 ≡ index = omega arith in
-    subst (λ (j : ℕ). IsFirstBad members spares events j) same (c.bad 0 (subst (λ (es : List Event). IsFirstBadFrom (node_ids members spares) t.world es 0) (sym first) (inl (refl, cannot))))
+pub bad_here : (members spares : List ℕ) (t : Execution) (awaiting : Awaiting) (left rest events : List Event) (e : Event) (index proposed : ℕ) → Continues members spares t awaiting left events index proposed → left ≡ e ∷ rest
+    → is_possible_in (node_ids members spares) t.world e ≡ false → IsFirstRefused members spares events index
+bad_here members spares t awaiting left rest events e index proposed c first cannot =
+    let whole : c.done ++ e ∷ rest ≡ events = ap (λ (es : List Event). c.done ++ es) (sym first) ∙ c.whole in
+    subst (λ (i : ℕ). IsFirstRefused members spares events i) (sym c.count)
+    (subst (λ (es : List Event). IsFirstRefused members spares es (length c.done)) whole (comes_refused members spares t.world awaiting c.done c.happenings c.ran.comes e rest cannot))
+
+pub continues_end : (members spares : List ℕ) → MembersInRange members → SparesInRange members spares → (t : Execution) (awaiting : Awaiting) (left events : List Event) (index proposed : ℕ) (s : Summary)
+    → Continues members spares t awaiting left events index proposed → left ≡ [] → s ≡ summary_of members t → IsReportOfRun members spares events s
+continues_end members spares m sp t awaiting left events index proposed s c none is =
+    let whole : c.done ≡ events = sym (append-nil c.done) ∙ ap (λ (es : List Event). c.done ++ es) (sym none) ∙ c.whole in
+    subst (λ (es : List Event). IsReportOfRun members spares es s) whole (report_of members spares m sp t awaiting c.done c.happenings proposed s c.ran is)
 
 -- whether an event can come, as the code's world tells it
 pub possible_seen : (ids : List ℕ) (w : Parts) (t : Execution) (e : Event) (b : Bool) → Shows w t → w.ids ≡ ids → is_possible w.ids (length w.messages) e.what ≡ b → is_possible_in ids t.world e ≡ b

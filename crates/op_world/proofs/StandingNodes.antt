@@ -1,7 +1,8 @@
 -- Where the nodes stand: what has been gathered of some of them, and what is left to gather.
-use Rattle.std.proofs.Common.{◌≡◌, ℕ, List, [], ◌∷◌, ◌++◌, length, map, max, Option, Some, None, IfSome, Result, Ok, Err, All, refl, sym, ap, subst, ◌∙◌, append_assoc}
+use Rattle.std.proofs.Common.{◌≡◌, ◌<◌, ◌+◌, ℕ, suc, arith, drop, get_or, List, [], ◌∷◌, ◌++◌, length, map, max, Option, Some, None, IfSome, Result, Ok, Err, All, refl, sym, ap, subst, ◌∙◌, append_assoc}
 use Rattle.std.proofs.lemmas.List.{append-nil}
 use Rattle.std.proofs.lemmas.List.Elements.{All-nil, All-cons, All-head, All-tail}
+use Rattle.std.proofs.Math.Seq.{drop-cons}
 use Rattle.std.specs.Prelude.{fold, OnOk}
 use Rattle.op_types.specs.Ranges.{IsMember}
 use Rattle.op_types.specs.Rooms.{no_needs, with_room, part_option_with_room, joining_option_with_room}
@@ -9,9 +10,7 @@ use Rattle.op_types.specs.declared.durable.Closed.{Closed}
 use Rattle.op_types.specs.declared.durable.Durable.{Durable}
 use Rattle.op_types.specs.declared.durable.Joining.{Joining}
 use Rattle.op_types.specs.declared.durable.Part.{Part}
-use Rattle.op_memory.specs.MemDisks.{seen_of}
 use Rattle.op_memory.specs.declared.disk.MemDisk.{MemDisk}
-use Rattle.op_store.specs.Stored.{IsStored}
 use Rattle.op_node.specs.Nodes.{node_of}
 use Rattle.op_node.specs.declared.node.Node as nodes
 use Rattle.op_record.specs.Ranges.{ClosedInRange}
@@ -28,7 +27,8 @@ use Rattle.op_runs.specs.declared.summary.Listed.{Listed}
 use Rattle.op_runs.specs.declared.summary.Summary.{Summary}
 use Rattle.op_runs.specs.Summary.{greatest_conf, joining_conf, listed_from, listed_of, node_line, running_of, stands_at, summary_of}
 use Rattle.op_bounds.specs.Laws.{NodeInRange}
-use Rattle.op_world.specs.Worlds.{Parts, IsWorld, IsShown, Shows, ShowsNode, ShowNodes, line_of}
+use Rattle.op_world.specs.Worlds.{Parts, IsWorld, IsShown, ShowsFailed, ShowsDown, Shows, ShowsNode, ShowNodes, line_of}
+use Rattle.op_world.specs.declared.node_state.DownNode.{DownNode}
 use Rattle.op_world.specs.Ledgers.{list_at}
 use Rattle.std.proofs.Math.Path.{fun_ext}
 use Rattle.op_world.specs.declared.node_state.NodeState.{NodeState}
@@ -83,6 +83,12 @@ gathers_first nodes left latest lines same none no_lines o = record {
     lines_are = ap (λ (ls : List NodeLine). ls ++ map node_line xs) no_lines;
   };
 }
+
+-- the one that comes next
+pub next_left : (nodes : List WorldNode) (k : ℕ) (n : WorldNode) → k < length nodes → n ≡ get_or nodes k n → drop k nodes ≡ n ∷ drop (k + 1) nodes
+next_left nodes k n there is =
+    let next : suc k ≡ k + 1 = omega arith in
+    drop-cons nodes k n there ∙ ap (λ (m : WorldNode). m ∷ drop (suc k) nodes) (sym is) ∙ ap (λ (j : ℕ). n ∷ drop j nodes) next
 
 -- the node was added
 pub record Adds (n : WorldNode) (latest latest' : ℕ) (lines lines' : List NodeLine) : Type 0 where
@@ -163,47 +169,63 @@ pub added_line : {T E : Type 0} (r : Result T E) (n : WorldNode) (d : Durable) (
 added_line (Ok v) n d how lines lines' same is = λ x shown. is ∙ ap (λ (l : NodeLine). lines ++ l ∷ []) (same x shown)
 added_line (Err e) n d how lines lines' same is = tt
 
--- a node that is up, which has stored this with room for more
+-- a node whose durable state is this, with room for more
+module _ (n : WorldNode) (d : Durable) (how : Running) (same : (x : Node) → ShowsNode n x → with_room no_needs d ≡ x.state.durable) (runs : (x : Node) → ShowsNode n x → running_of x.status ≡ how) where
+  pub kept_latest : (x : Node) → ShowsNode n x → latest_of d ≡ latest_of x.state.durable
+  kept_latest x shown = sym (room_latest d.part d.closed) ∙ ap (λ (e : Durable). latest_of e) (same x shown)
+
+  pub kept_line : (x : Node) → ShowsNode n x → line_of n.pid how d ≡ node_line x
+  kept_line x shown =
+      ap (λ (at : Option (ℕ × ℕ × ℕ)). line_at n.pid how at (joining_conf d.joining)) (sym (room_stands d.part d.closed))
+      ∙ ap (λ (j : Option ℕ). line_at n.pid how (stands_at (part_option_with_room 0 d.part) d.closed) j) (sym (room_joining d.joining))
+      ∙ ap (λ (e : Durable). line_of n.pid how e) (same x shown)
+      ∙ ap (λ (pid : ℕ). line_of pid how x.state.durable) (sym shown.pid)
+      ∙ ap (λ (r : Running). line_of x.pid r x.state.durable) (sym (runs x shown))
+
+  -- its closed list is in range
+  pub kept_open : (x : Node) → ShowsNode n x → IsOpen x → IfSome d.closed ClosedInRange
+  kept_open x shown is = subst (λ (e : Durable). IfSome e.closed ClosedInRange) (sym (same x shown)) is
+
+-- one that is up
 module _ (n : WorldNode) (z : nodes.Node MemDisk) (d : Durable) (up : n.state ≡ node.Up z) (stored : with_room no_needs d ≡ (node_of z).state.durable) where
   up_there : (x : Node) → ShowsNode n x → (x.state ≡ (node_of z).state) × (x.status ≡ Up)
   up_there x shown = subst (λ (s : NodeState). IsShown s x.state x.status) up shown.state
 
-  up_has : (x : Node) → ShowsNode n x → with_room no_needs d ≡ x.state.durable
+  pub up_has : (x : Node) → ShowsNode n x → with_room no_needs d ≡ x.state.durable
   up_has x shown = stored ∙ ap (λ (s : State). s.durable) (sym (up_there x shown).0)
 
-  pub up_latest : (x : Node) → ShowsNode n x → latest_of d ≡ latest_of x.state.durable
-  up_latest x shown = sym (room_latest d.part d.closed) ∙ ap (λ (e : Durable). latest_of e) (up_has x shown)
+  pub up_runs : (x : Node) → ShowsNode n x → running_of x.status ≡ running.Up
+  up_runs x shown = ap running_of (up_there x shown).1
 
-  pub up_line : (x : Node) → ShowsNode n x → line_of n.pid running.Up d ≡ node_line x
-  up_line x shown =
-      ap (λ (at : Option (ℕ × ℕ × ℕ)). line_at n.pid running.Up at (joining_conf d.joining)) (sym (room_stands d.part d.closed))
-      ∙ ap (λ (j : Option ℕ). line_at n.pid running.Up (stands_at (part_option_with_room 0 d.part) d.closed) j) (sym (room_joining d.joining))
-      ∙ ap (λ (e : Durable). line_of n.pid running.Up e) (up_has x shown)
-      ∙ ap (λ (pid : ℕ). line_of pid running.Up x.state.durable) (sym shown.pid)
-      ∙ ap (λ (s : NodeStatus). line_of x.pid (running_of s) x.state.durable) (sym (up_there x shown).1)
+-- one that failed
+module _ (n : WorldNode) (z : nodes.Node MemDisk) (d : Durable) (failed : n.state ≡ node.Failed z) (stored : with_room no_needs d ≡ (node_of z).state.durable) where
+  failed_there : (x : Node) → ShowsNode n x → ShowsFailed z x.state x.status
+  failed_there x shown = subst (λ (s : NodeState). IsShown s x.state x.status) failed shown.state
 
-  -- its closed list is in range
-  pub up_open : (x : Node) → ShowsNode n x → IsOpen x → IfSome d.closed ClosedInRange
-  up_open x shown is = subst (λ (e : Durable). IfSome e.closed ClosedInRange) (sym (up_has x shown)) is
+  pub failed_has : (x : Node) → ShowsNode n x → with_room no_needs d ≡ x.state.durable
+  failed_has x shown = stored ∙ ap (λ (s : State). s.durable) (sym (failed_there x shown).state)
 
--- a node that is down, whose disks store this
-module _ (n : WorldNode) (d : Durable) (first second : MemDisk) (down : n.state ≡ node.Down first second) (stored : (e : Durable) → IsStored e (seen_of first) (seen_of second) → d ≡ e) where
-  down_there : (x : Node) → ShowsNode n x → IsStored x.state.durable (seen_of first) (seen_of second) × (x.status ≡ Down x.state.durable)
+  pub failed_runs : (x : Node) → ShowsNode n x → running_of x.status ≡ running.Failed
+  failed_runs x shown = ap running_of (failed_there x shown).status_is
+
+-- one that is down keeps what is shown of it
+module _ (n : WorldNode) (z : DownNode) (down : n.state ≡ node.Down z) where
+  down_there : (x : Node) → ShowsNode n x → ShowsDown z x.state x.status
   down_there x shown = subst (λ (s : NodeState). IsShown s x.state x.status) down shown.state
 
-  down_has : (x : Node) → ShowsNode n x → d ≡ x.state.durable
-  down_has x shown = stored x.state.durable (down_there x shown).0
+  down_has : (x : Node) → ShowsNode n x → z.shown ≡ x.state.durable
+  down_has x shown = sym (down_there x shown).durable
 
-  pub down_latest : (x : Node) → ShowsNode n x → latest_of d ≡ latest_of x.state.durable
+  pub down_latest : (x : Node) → ShowsNode n x → latest_of z.shown ≡ latest_of x.state.durable
   down_latest x shown = ap (λ (e : Durable). latest_of e) (down_has x shown)
 
-  pub down_line : (x : Node) → ShowsNode n x → line_of n.pid running.Down d ≡ node_line x
+  pub down_line : (x : Node) → ShowsNode n x → line_of n.pid running.Down z.shown ≡ node_line x
   down_line x shown =
       ap (λ (e : Durable). line_of n.pid running.Down e) (down_has x shown)
       ∙ ap (λ (pid : ℕ). line_of pid running.Down x.state.durable) (sym shown.pid)
-      ∙ ap (λ (s : NodeStatus). line_of x.pid (running_of s) x.state.durable) (sym (down_there x shown).1)
+      ∙ ap (λ (s : NodeStatus). line_of x.pid (running_of s) x.state.durable) (sym (down_there x shown).status_is)
 
-  pub down_open : (x : Node) → ShowsNode n x → IsOpen x → IfSome d.closed ClosedInRange
+  pub down_open : (x : Node) → ShowsNode n x → IsOpen x → IfSome z.shown.closed ClosedInRange
   down_open x shown is = subst (λ (e : Durable). IfSome e.closed ClosedInRange) (sym (down_has x shown)) is
 
 -- ---- a report

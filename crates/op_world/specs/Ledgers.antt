@@ -16,7 +16,8 @@ abbrev pub ShowsMore : List (List Entry) → Durable → List (List Entry) → T
 ShowsMore old d new =
     (conf : ℕ) → list_at new conf ≡ list_at old conf ++ decided_entries d conf (length (list_at old conf))
 
--- a node shows what it has stored, if it is up
+-- a node shows what it has stored, if it is up; one that isn't showed it before
 abbrev pub NodeShowsMore : List (List Entry) → NodeState → List (List Entry) → Type 0
 NodeShowsMore old (node.Up n) new = ShowsMore old (node_of n).state.durable new
-NodeShowsMore old (node.Down first second) new = new ≡ old
+NodeShowsMore old (node.Failed n) new = new ≡ old
+NodeShowsMore old (node.Down d) new = new ≡ old

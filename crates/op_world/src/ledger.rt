@@ -41,14 +41,14 @@ impl Ledger {
         }
     }
 
-    /// A node shows what it has stored, if it is up: each list that it has decided more of gets these entries. One that is
-    /// down showed it before.
+    /// A node shows what it has stored, if it is up: each list that it has decided more of gets these entries. One that isn't up
+    /// showed it before.
     pub fn show_node(&mut self, node: &NodeState) -> Result<(), NoMemory>
         ensures { OnOk result (NodeShowsMore self.old node.now self.new) }
     {
         match node {
             NodeState::Up(node) => show(self.alloc, &mut self.lists, node.shown()),
-            NodeState::Down(..) => Ok(()),
+            NodeState::Failed(_) | NodeState::Down(_) => Ok(()),
         }
     }
 

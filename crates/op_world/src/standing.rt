@@ -5,7 +5,7 @@ ghost use Rattle.op_runs.specs.World as runs;
 ghost use Rattle.op_runs.specs.Summary.{greatest_conf, stands_at, joining_conf, node_line};
 ghost use Rattle.op_world.specs.Worlds.{ShowsNode, ShowNodes, line_of};
 
-use crate::node_state::{NodeState, WorldNode, stored};
+use crate::node_state::{NodeState, WorldNode};
 use op_runs::{NodeLine, NodeLines, Running};
 use op_types::{ConfNo, Durable, NoMemory, Pid};
 use std::alloc::Global;
@@ -21,10 +21,10 @@ pub struct Standing {
 
 impl Standing {
     /// Where these nodes stand.
-    pub fn of_nodes(alloc: Global, nodes: Vec<WorldNode>) -> Result<Standing, NoMemory>
-        requires { (xs : List runs.Node) × ShowNodes nodes.items xs
+    pub fn of_nodes(alloc: Global, nodes: &[WorldNode]) -> Result<Standing, NoMemory>
+        requires { (xs : List runs.Node) × ShowNodes nodes.now xs
             × All (λ x. IfSome x.state.durable.closed ClosedInRange) xs }
-        ensures { IfOk result (λ s. (xs : List runs.Node) → ShowNodes nodes.items xs →
+        ensures { IfOk result (λ s. (xs : List runs.Node) → ShowNodes nodes.now xs →
             (s.latest ≡ greatest_conf xs) × (s.lines ≡ map node_line xs)) }
     {
         let mut standing = Standing {
@@ -32,26 +32,24 @@ impl Standing {
             lines: NodeLines::new(alloc),
         };
         'nodes: for node in nodes {
-            standing.add_node(alloc, node)?;
+            standing.add_node(node)?;
         }
         Ok(standing)
     }
 
-    /// Adds a node. The disks of one that is down are read.
-    fn add_node(&mut self, alloc: Global, node: WorldNode) -> Result<(), NoMemory>
-        requires { (x : runs.Node) × ShowsNode node x × IfSome x.state.durable.closed ClosedInRange }
-        ensures latest { OnOk result ((x : runs.Node) → ShowsNode node x →
+    /// Adds a node: one that isn't up is told with what it had stored before the step in which it stopped or failed.
+    fn add_node(&mut self, node: &WorldNode) -> Result<(), NoMemory>
+        requires { (x : runs.Node) × ShowsNode node.now x × IfSome x.state.durable.closed ClosedInRange }
+        ensures latest { OnOk result ((x : runs.Node) → ShowsNode node.now x →
             self.new.latest ≡ max self.old.latest (latest_of x.state.durable)) }
-        ensures lines { OnOk result ((x : runs.Node) → ShowsNode node x →
+        ensures lines { OnOk result ((x : runs.Node) → ShowsNode node.now x →
             self.new.lines ≡ self.old.lines ++ node_line x ∷ []) }
     {
-        let WorldNode { pid, state, .. } = node;
-        match state {
+        let pid = node.pid;
+        match &node.state {
             NodeState::Up(node) => self.add(pid, Running::Up, node.shown()),
-            NodeState::Down(first, second) => {
-                let durable = stored(alloc, first, second)?;
-                self.add(pid, Running::Down, &durable)
-            }
+            NodeState::Failed(node) => self.add(pid, Running::Failed, node.shown()),
+            NodeState::Down(down) => self.add(pid, Running::Down, &down.shown),
         }
     }
 

@@ -3,8 +3,9 @@ ghost use Rattle.std.specs.Prelude.{◌≡◌, ◌∷◌, [], map, codes, decima
 ghost use Rattle.op_types.specs.Ranges.{IsPid};
 ghost use Rattle.op_text.specs.Found.{IsFound};
 ghost use Rattle.op_sched.specs.Grammar.{AreHeaderWords, AreSpareWords, AreWordsOf};
-ghost use Rattle.op_sched.specs.Forms.{op_form_name, form_name, ArePeers, AreIdsOf, AreMembersOf, AreSparesOf, are_apart};
+ghost use Rattle.op_sched.specs.Forms.{op_form_name, form_name, ArePeers, AreCallOf, AreIdsOf, AreMembersOf, AreStopOf, AreSparesOf, are_apart};
 
+use crate::reading::calls::{call, image};
 use crate::reading::operations::{OpForm, op_form_of, operation};
 use crate::reading::words::is_name;
 use op_runs::What;
@@ -151,11 +152,45 @@ fn down(words: &[&[u8]]) -> Option<What>
     Some(What::Down(at, peer))
 }
 
-/// `crash`: a server.
+/// The server and the call of its disks that words name.
+fn one_call(words: &[&[u8]]) -> Option<(Pid, u8)>
+    ensures { IsFound (AreCallOf (map (λ x. x.now) words.now)) result }
+{
+    match words {
+        [id, at] => Some((pid(id)?, call(at)?)),
+        _ => None,
+    }
+}
+
+/// The server, the call of its disks and the image of them that words name.
+fn one_stop(words: &[&[u8]]) -> Option<(Pid, u8, u8)>
+    ensures { IsFound (AreStopOf (map (λ x. x.now) words.now)) result }
+{
+    match words {
+        [id, at, left] => Some((pid(id)?, call(at)?, image(left)?)),
+        _ => None,
+    }
+}
+
+/// `crash`: a server, and where it stops inside a call of its disks this call and the image that is left.
+#[tactic(auto, using(crate::proofs::EventWords::no_crash))]
 fn crash(words: &[&[u8]]) -> Option<What>
     ensures { IsFound (AreWordsOf (codes "crash" ∷ map (λ x. x.now) words.now)) result }
 {
-    Some(What::Crash(one_server(words)?))
+    if let Some(id) = one_server(words) {
+        return Some(What::Crash(id));
+    }
+    let (id, call, image) = one_stop(words)?;
+    Some(What::CrashAt(id, call, image))
+}
+
+/// `fail`: a server, and the call of its disks that fails.
+#[tactic(auto, using(crate::proofs::EventWords::no_failure))]
+fn failure(words: &[&[u8]]) -> Option<What>
+    ensures { IsFound (AreWordsOf (codes "fail" ∷ map (λ x. x.now) words.now)) result }
+{
+    let (id, call) = one_call(words)?;
+    Some(What::Fail(id, call))
 }
 
 /// `start`: a server.
@@ -245,6 +280,8 @@ pub enum Form {
     Drop,
     /// `crash`
     Crash,
+    /// `fail`
+    Fail,
     /// `start`
     Start,
     /// `show`
@@ -273,6 +310,8 @@ fn form_of(word: &[u8]) -> Option<Form>
         Some(Form::Drop)
     } else if is_name(word, b"crash") {
         Some(Form::Crash)
+    } else if is_name(word, b"fail") {
+        Some(Form::Fail)
     } else if is_name(word, b"start") {
         Some(Form::Start)
     } else if is_name(word, b"show") {
@@ -303,6 +342,7 @@ pub fn event(alloc: Global, words: &[&[u8]]) -> Result<Option<What>, NoMemory>
         Form::Up => Ok(up(words)),
         Form::Drop => Ok(down(words)),
         Form::Crash => Ok(crash(words)),
+        Form::Fail => Ok(failure(words)),
         Form::Start => Ok(start(words)),
         Form::Show => Ok(show(words)),
         Form::Ballots => Ok(ballots(words)),

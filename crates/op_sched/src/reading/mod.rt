@@ -5,6 +5,7 @@ ghost use Rattle.op_text.specs.Found.{IsFound};
 ghost use Rattle.op_sched.specs.Grammar.{numbered_lines, IsHeader, IsSpareLine, IsEventLine, AreEvents, AreAfterHeader, IsSchedule};
 ghost use Rattle.op_sched.specs.Grammar.{IsFirstBadEvent, IsFirstBadAfter, IsFirstBadLine};
 
+mod calls;
 mod forms;
 mod lines;
 mod operations;

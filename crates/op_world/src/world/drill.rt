@@ -2,9 +2,11 @@
 ghost use Rattle.std.specs.Prelude.{◌≡◌, ◌≤◌, IfOk};
 ghost use Rattle.op_types.specs.Limits.{greatest_number};
 ghost use Rattle.op_runs.specs.Run.{first_execution};
-ghost use Rattle.op_gen.specs.Draws.{drill_members, drill_nodes, drill_spares, events_of};
+ghost use Rattle.op_runs.specs.Schedules.{nothing_awaits};
+ghost use Rattle.op_gen.specs.Draws.{drill_members, drill_nodes, drill_spares};
 ghost use Rattle.op_executions.specs.Failing.{IfBadEvent};
-ghost use Rattle.op_world.specs.Runs.{IsReportOfRun};
+ghost use Rattle.op_world.specs.Awaiting.{awaiting_of};
+ghost use Rattle.op_world.specs.Runs.{IsReportOfDrawn};
 ghost use Rattle.op_world.specs.Worlds.{Shows};
 
 use super::World;
@@ -20,6 +22,7 @@ fn first_world(alloc: Global) -> Result<World, NoMemory>
     ensures members { IfOk result (λ w. w.members ≡ drill_members) }
     ensures ids { IfOk result (λ w. w.ids ≡ drill_nodes) }
     ensures proposed { IfOk result (λ w. w.proposed ≡ 0) }
+    ensures awaiting { IfOk result (λ w. awaiting_of w.nodes ≡ nothing_awaits) }
 {
     let members = Members::from_slice(&[1, 2, 3])?;
     let spares = Members::from_slice(&[4, 5])?;
@@ -31,7 +34,7 @@ impl World {
     /// draws each where those before it are done, so that no list of them is kept. No event is refused.
     pub fn drill(alloc: Global, seed: u64, count: u64) -> Result<Summary, RunFail>
         requires few { count ≤ greatest_number }
-        ensures report { IfOk result (IsReportOfRun drill_members drill_spares (events_of seed count)) }
+        ensures report { IfOk result (IsReportOfDrawn seed count) }
         ensures never_bad { IfBadEvent result (λ _. ⊥) }
     {
         let mut world = first_world(alloc)?;

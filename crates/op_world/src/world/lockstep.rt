@@ -1,11 +1,11 @@
 //! Lockstep rounds of a world over fixed links.
 ghost use Rattle.std.specs.Prelude.{◌≡◌, All, IfOk};
 ghost use Rattle.op_types.specs.Ranges.{MembersInRange};
-ghost use Rattle.op_runs.specs.Possible.{ArePossibleFrom, WhatInRange};
+ghost use Rattle.op_runs.specs.Possible.{ArePossibleFrom};
 ghost use Rattle.op_runs.specs.Run.{Execution};
 ghost use Rattle.op_lockstep.specs.Lockstep as rounds;
 ghost use Rattle.op_lockstep.specs.Lockstep.{ballots, deliveries, lockstep, ticks};
-ghost use Rattle.op_world.specs.Drills.{IsReportOfDrill, followed, is_delivered};
+ghost use Rattle.op_world.specs.Drills.{IsCalm, IsQuiet, IsReportOfDrill, followed, is_delivered};
 ghost use Rattle.op_executions.specs.Failing.{IfBadEvent};
 ghost use Rattle.op_world.specs.Worlds.{Shows};
 
@@ -54,7 +54,7 @@ fn event_of(what: What) -> Event
 fn ticks(alloc: Global, members: &Members) -> Result<Events, NoMemory>
     requires { MembersInRange members.now }
     ensures are { IfOk result (λ events. events ≡ ticks members.now) }
-    ensures range { IfOk result (λ events. All (λ e. WhatInRange e.what) events) }
+    ensures range { IfOk result (λ events. All IsQuiet events) }
 {
     let mut events = Events::new(alloc);
     for pid in members.as_slice() {
@@ -67,7 +67,7 @@ fn ticks(alloc: Global, members: &Members) -> Result<Events, NoMemory>
 fn ballots(alloc: Global, members: &Members) -> Result<Events, NoMemory>
     requires { MembersInRange members.now }
     ensures are { IfOk result (λ events. events ≡ ballots members.now) }
-    ensures range { IfOk result (λ events. All (λ e. WhatInRange e.what) events) }
+    ensures range { IfOk result (λ events. All IsQuiet events) }
 {
     let mut events = Events::new(alloc);
     for pid in members.as_slice() {
@@ -98,10 +98,12 @@ impl World {
 
     /// So many lockstep rounds over these links.
     fn rounds(self, links: &Links<'_>, count: u64) -> Result<World, RunFail>
+        requires { IsCalm self }
         ensures after { IfOk result (λ w. (t : Execution) → Shows self t →
             Shows w (followed t (lockstep self.members links.now.pairs.now count t.world))) }
-        ensures range { IfOk result (λ _. (t : Execution) → Shows self t → All (λ e. WhatInRange e.what)
+        ensures range { IfOk result (λ _. (t : Execution) → Shows self t → All IsQuiet
             (lockstep self.members links.now.pairs.now count t.world)) }
+        ensures calm { IfOk result (λ w. IsCalm w) }
         ensures members { IfOk result (λ w. w.members ≡ self.members) }
         ensures bad { IfBadEvent result (λ _. (t : Execution) → Shows self t → ⊥) }
     {
@@ -114,10 +116,12 @@ impl World {
 
     /// A lockstep round over these links.
     fn round(self, links: &Links<'_>) -> Result<World, RunFail>
+        requires { IsCalm self }
         ensures after { IfOk result (λ w. (t : Execution) → Shows self t →
             Shows w (followed t (rounds.round self.members links.now.pairs.now t.world))) }
-        ensures range { IfOk result (λ _. (t : Execution) → Shows self t → All (λ e. WhatInRange e.what)
+        ensures range { IfOk result (λ _. (t : Execution) → Shows self t → All IsQuiet
             (rounds.round self.members links.now.pairs.now t.world)) }
+        ensures calm { IfOk result (λ w. IsCalm w) }
         ensures members { IfOk result (λ w. w.members ≡ self.members) }
         ensures bad { IfBadEvent result (λ _. (t : Execution) → Shows self t → ⊥) }
     {
@@ -133,6 +137,7 @@ impl World {
 
     /// Each member ticks, and then each tells its ballots.
     fn tell_ballots(self) -> Result<World, RunFail>
+        requires { IsCalm self }
         ensures after { IfOk result (λ w. (t : Execution) → Shows self t →
             Shows w (followed (followed t (ticks self.members)) (ballots self.members))) }
         ensures members { IfOk result (λ w. w.members ≡ self.members) }
@@ -147,7 +152,7 @@ impl World {
     fn deliveries(&self, since: usize, delivered: Delivered<'_>) -> Result<Events, NoMemory>
         ensures are { IfOk result (λ events.
             events ≡ deliveries (is_delivered delivered.entry) since self.now.messages) }
-        ensures range { IfOk result (λ events. All (λ e. WhatInRange e.what) events) }
+        ensures range { IfOk result (λ events. All IsQuiet events) }
     {
         let mut events = Events::new(self.world.alloc);
         for number in since..self.world.messages.len() {
@@ -160,13 +165,16 @@ impl World {
 
     /// These events, in order, each of which can come.
     fn follow(self, events: Events) -> Result<World, RunFail>
-        requires range { All (λ e. WhatInRange e.what) events }
+        requires calm { IsCalm self }
+        requires quiet { All IsQuiet events }
         requires possible { (t : Execution) → Shows self t → ArePossibleFrom self.ids t.world events }
         ensures after { IfOk result (λ w. (t : Execution) → Shows self t → Shows w (followed t events)) }
+        ensures calm { IfOk result (λ w. IsCalm w) }
         ensures members { IfOk result (λ w. w.members ≡ self.members) }
         ensures ids { IfOk result (λ w. w.ids ≡ self.ids) }
         ensures bad { IfBadEvent result (λ _. (t : Execution) → Shows self t → ⊥) }
     {
+        let _kept = &self.world;
         let mut world = self;
         for event in events.into_vec() {
             world = world.event(event)?;

@@ -1,5 +1,13 @@
-use Rattle.op_replay.proofs.ValidOrBad.{told_valid, ended_not_refused, cut_not_refused, bad_refused}
+use Rattle.op_replay.proofs.ValidOrBad.{told_valid, report_written, prefix_written, ended_not_refused, cut_not_refused, bad_refused}
 use Rattle.op_replay.proofs.command.replay.Goals as goal
+
+pub returns-in-Ok-write_all-clause-output : goal.returns-in-Ok-write_all-clause-output
+returns-in-Ok-write_all-clause-output g c =
+    report_written _ _ _ _ _ c.in-Ok.ensures.read.all c.in-Ok.ensures.read.few c.in-Ok-replayed.ensures.reports (rw c.deref.ensures.value at c.in-Ok-write_all.ensures.all)
+
+pub returns-in-Ok-replayed-clause-output : goal.returns-in-Ok-replayed-clause-output
+returns-in-Ok-replayed-clause-output g c =
+    prefix_written _ _ _ _ _ c.in-Ok.ensures.read.all c.in-Ok.ensures.read.few c.in-Ok-replayed.ensures.reports (rw c.deref.ensures.value at c.in-Err-write_all.ensures.prefix)
 
 pub returns-in-Ok-write_all-clause-refused : goal.returns-in-Ok-write_all-clause-refused
 returns-in-Ok-write_all-clause-refused g c = ended_not_refused _ _ _ _ _ c.in-Ok.ensures.read.all c.in-Ok.ensures.read.few c.in-Ok-replayed.ensures.reports

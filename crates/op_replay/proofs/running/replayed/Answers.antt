@@ -1,6 +1,4 @@
-use Rattle.std.proofs.Common.{ap, ◌∙◌}
 use Rattle.op_sched.specs.Grammar.{IsSchedule}
-use Rattle.op_sched.specs.Text.{report_of}
 use Rattle.op_sched.proofs.UnambiguousSchedules.{members_in_range, spares_in_range, events_in_range}
 use Rattle.op_replay.proofs.running.replayed.Goals as goal
 
@@ -8,15 +6,7 @@ pub returns-clause-reports : goal.returns-clause-reports
 returns-clause-reports c =
     let s = c.in_ok-schedule.schedule in
     let found : IsSchedule c.args.bytes.items s = rw c.deref.ensures.value at c.in_ok-schedule.ensures.found in
-    let run = c.in_ok-summary.ensures.report in (
-      s,
-      found,
-      record {
-        present = run.possible;
-        written = c.in_ok-report.ensures ∙ ap report_of run.left;
-        laws = run.laws;
-      },
-    )
+    (s, found, record { summary = c.in_ok-summary.summary; run = c.in_ok-summary.ensures.report; written = c.in_ok-report.ensures })
 
 pub run-requires-clause-members : goal.run-requires-clause-members
 run-requires-clause-members c = members_in_range c.args.bytes.items c.in_ok-schedule.schedule (rw c.deref.ensures.value at c.in_ok-schedule.ensures.found)

@@ -45,7 +45,7 @@ loop-happening-preserved c =
     let f : Foretold = record { fate = h.fate; finds_after = h.finds_after } in
     let fit = range_next c.args.members c.args.spares old.0 _ _ c.args.happenings h c.loop-happening.index w.proposed old.2 c.in-Some.ensures.steps.0 in (
       runs.world_after old.0 (happening_of h),
-      shows_after old.0 h.event f c.in-Ok.field-0 new (did.happened old.0 old.1),
+      shows_after old.0 h.event f c.in-Ok.field-0 w new old.1 (did.happened old.0 old.1),
       continues_next c.args.members c.args.spares old.0 _ _ c.args.happenings h c.loop-happening.index w.proposed new.proposed old.2 c.in-Some.ensures.steps.0
           (possible_seen (runs.node_ids c.args.members c.args.spares) w old.0 h.event true old.1 old.3 did.possible) did.proposed.0 did.proposed.1,
       ap (λ v. v.items) did.same.1 ∙ old.3,

@@ -1,19 +1,22 @@
-use Rattle.std.proofs.Common.{refl, sym}
+use Rattle.std.proofs.Common.{refl, subst}
+use Rattle.std.proofs.lemmas.Result.{IfOk-weaker}
 use Rattle.op_runs.specs.World.{Opens}
-use Rattle.op_world.specs.declared.node_state.NodeState.TheVariants as node
-use Rattle.op_world.proofs.Happenings.{did_open, only}
-use Rattle.op_world.proofs.Openings.{did_open_again}
+use Rattle.op_world.specs.Became.{BecomesOf}
+use Rattle.op_world.specs.declared.node_state.NodeState.{NodeState}
+use Rattle.op_world.proofs.Doings.{adopted, did_open, not_up, only, opens_awaited}
 use Rattle.op_world.proofs.node_state.WorldNode.open.Goals as goal
 
 pub returns-in-Up : goal.returns-in-Up
 returns-in-Up c line =
     let old = c.args.self.now in
-    let new = record old { state = node.Up c.in-Up.node } in
-    only c.nothing.result old new Opens line c.nothing.ensures (did_open old new line c.in-Up.node (sym c.in-Up.ensures.value) refl refl c.requires.can.kept)
+    only c.nothing.result old old Opens line c.nothing.ensures (did_open old line c.in-Up.field-0 c.in-Up.is c.requires.can.kept c.requires.due)
 
-pub returns-in_ok-node-in-Down : goal.returns-in_ok-node-in-Down
-returns-in_ok-node-in-Down c line =
+pub returns : goal.returns
+returns c =
     let old = c.args.self.now in
-    let o = c.in_ok-node-in-Down in
-    let new = record old { state = node.Up o.node; kept_steps = 0 } in
-    did_open_again c.args.members.now old.pid c.in-Down.first c.in-Down.second o.node o.sends old refl (sym c.in-Down.ensures.value) Opens c.requires.can o.ensures new line c.new.result c.new.ensures refl refl
+    let r = c.in_ok-became.became in
+    let awaited = opens_awaited old.state (not_up old.state c.in_default.not-Up) in
+    IfOk-weaker c.adopt.result _ _
+    (λ done a line. adopted old _ c.adopt.new.self Opens line r done awaited awaited refl
+    (subst (λ (s : NodeState). BecomesOf old.pid old.awaited s Opens line r) c.replace-state.ensures.value (c.in_ok-became.ensures line)) a)
+    c.adopt.ensures

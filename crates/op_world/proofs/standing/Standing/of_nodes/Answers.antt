@@ -1,17 +1,23 @@
-use Rattle.std.proofs.Common.{arith}
-use Rattle.std.proofs.lemmas.List.{nil_from_length}
-use Rattle.op_world.proofs.StandingNodes.{gathers_next, gathers_all, next_open}
+use Rattle.std.proofs.lemmas.List.{drop_all}
+use Rattle.op_world.proofs.StandingNodes.{gathers_first, gathers_next, gathers_all, next_left, next_open}
 use Rattle.op_world.proofs.standing.Standing.of_nodes.Goals as goal
+use Rattle.std.proofs.Common.{refl}
+
+pub nodes-init : goal.nodes-init
+nodes-init c = gathers_first c.args.nodes.now _ _ _ refl refl c.new.ensures c.requires
 
 pub add_node-requires : goal.add_node-requires
-add_node-requires c = next_open c.args.nodes.items _ _ c.in-Some.node c.nodes.standing.latest c.nodes.standing.lines c.nodes.invariant c.in-Some.ensures.steps.0
+add_node-requires c =
+    let nodes = c.args.nodes.now in
+    next_open nodes _ _ c.node-item.result c.nodes.standing.latest c.nodes.standing.lines c.nodes.invariant (next_left nodes c.nodes.node-index c.node-item.result c.nodes-test.true c.node-item.is)
 
 pub nodes-preserved : goal.nodes-preserved
 nodes-preserved c =
-    gathers_next c.args.nodes.items _ _ c.in-Some.node c.nodes.standing.latest c.add_node.new.self.latest c.nodes.standing.lines c.add_node.new.self.lines
-    c.nodes.invariant c.in-Some.ensures.steps.0 (record { latest_is = c.in_ok-add_node.ensures.latest; lines_are = c.in_ok-add_node.ensures.lines })
+    let nodes = c.args.nodes.now in
+    gathers_next nodes _ _ c.node-item.result c.nodes.standing.latest c.add_node.new.self.latest c.nodes.standing.lines c.add_node.new.self.lines c.nodes.invariant
+    (next_left nodes c.nodes.node-index c.node-item.result c.nodes-test.true c.node-item.is) (record { latest_is = c.in_ok-add_node.ensures.latest; lines_are = c.in_ok-add_node.ensures.lines })
 
 pub returns : goal.returns
 returns c =
-    gathers_all c.args.nodes.items _ c.nodes.standing.latest c.nodes.standing.lines c.nodes.invariant
-    (nil_from_length c.nodes.node-iterator.rest.items (omega (arith, c.nodes.node-iterator.rest.ok.0, c.in-None.ensures.steps.0)))
+    let nodes = c.args.nodes.now in
+    gathers_all nodes _ c.nodes.standing.latest c.nodes.standing.lines c.nodes.invariant (drop_all c.nodes.node-index nodes c.nodes-test.false)

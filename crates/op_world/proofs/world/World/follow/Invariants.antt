@@ -1,7 +1,7 @@
 use Rattle.std.proofs.Common.{◌≡◌, All}
 use Rattle.std.specs.Vec.Iter.{into_iter_items}
-use Rattle.op_runs.specs.Possible.{WhatInRange}
 use Rattle.op_runs.specs.Run.{Execution}
+use Rattle.op_world.specs.Drills.{IsCalm, IsQuiet}
 use Rattle.op_world.specs.Worlds.{Shows}
 use Rattle.op_world.proofs.LockstepEvents.{Follows}
 use Rattle.op_world.proofs.world.World.follow.Given as goal
@@ -9,4 +9,4 @@ use Rattle.op_world.proofs.world.World.follow.Given as goal
 abbrev pub invariant-loop-event : goal.invariant-loop-event
 invariant-loop-event l =
     ((t : Execution) → Shows l.fn.self t → (u : Execution) × Shows l.world u × Follows l.fn.self.ids t u (into_iter_items l.event-iterator) l.fn.events)
-    × (l.world.members ≡ l.fn.self.members) × (l.world.ids ≡ l.fn.self.ids) × All (λ e. WhatInRange e.what) (into_iter_items l.event-iterator)
+    × (l.world.members ≡ l.fn.self.members) × (l.world.ids ≡ l.fn.self.ids) × All IsQuiet (into_iter_items l.event-iterator) × IsCalm l.world

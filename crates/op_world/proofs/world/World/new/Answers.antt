@@ -1,8 +1,10 @@
 use Rattle.std.proofs.Common.{List, ℕ, ap, subst, ◌∙◌}
 use Rattle.op_runs.specs.Run.{first_execution}
 use Rattle.op_runs.specs.World.{node_ids}
+use Rattle.op_world.specs.Events.{parts_of}
 use Rattle.op_world.specs.Worlds.{Shows}
-use Rattle.op_world.proofs.Deeds.{parts_of, first_kept, first_shows}
+use Rattle.op_world.proofs.Awaiting.{nothing_first}
+use Rattle.op_world.proofs.Deeds.{first_kept, first_shows}
 use Rattle.op_world.proofs.world.World.new.Goals as goal
 
 pub invariant_of-result : goal.invariant_of-result
@@ -19,3 +21,6 @@ returns-clause-ids c = c.in_ok-world.ensures.run.ids ∙ ap (λ (ms : List ℕ).
 
 pub returns-clause-proposed : goal.returns-clause-proposed
 returns-clause-proposed c = c.in_ok-world.ensures.run.proposed
+
+pub returns-clause-awaiting : goal.returns-clause-awaiting
+returns-clause-awaiting c = nothing_first c.in_ok-world.world.servers.items c.in_ok-world.ensures.first

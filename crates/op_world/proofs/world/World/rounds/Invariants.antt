@@ -1,9 +1,10 @@
 use Rattle.std.proofs.Common.{◌≡◌}
 use Rattle.op_runs.specs.Run.{Execution}
+use Rattle.op_world.specs.Drills.{IsCalm}
 use Rattle.op_world.specs.Worlds.{Shows}
 use Rattle.op_world.proofs.Lockstep.{AreDone}
 use Rattle.op_world.proofs.world.World.rounds.Given as goal
 
 abbrev pub invariant-loop-number : goal.invariant-loop-number
 invariant-loop-number l =
-    ((t : Execution) → Shows l.fn.self t → AreDone l.fn.self.members l.fn.links.pairs.now l._number t l.world) × (l.world.members ≡ l.fn.self.members)
+    ((t : Execution) → Shows l.fn.self t → AreDone l.fn.self.members l.fn.links.pairs.now l._number t l.world) × (l.world.members ≡ l.fn.self.members) × IsCalm l.world

@@ -1,16 +1,19 @@
-use Rattle.std.proofs.Common.{◌≡◌, length, sym, ap, subst, ◌∙◌, rules}
+use Rattle.std.proofs.Common.{◌≡◌, List, All, length, sym, ap, subst, ◌∙◌, rules}
 use Rattle.op_runs.specs.Summary.{summary_of}
-use Rattle.op_world.specs.Worlds.{Parts, Shows}
-use Rattle.op_world.proofs.Deeds.{parts_of}
-use Rattle.op_world.proofs.StandingNodes.{world_open, reported}
+use Rattle.op_runs.specs.World.{Node}
+use Rattle.op_world.specs.Events.{parts_of}
+use Rattle.op_world.specs.Worlds.{Parts, Shows, ShowNodes}
+use Rattle.op_world.specs.declared.node_state.WorldNode.{WorldNode}
+use Rattle.op_world.proofs.StandingNodes.{IsOpen, world_open, reported}
 use Rattle.op_world.proofs.world.World.summary.Goals as goal
 
 pub of_nodes-requires : goal.of_nodes-requires
-of_nodes-requires c = world_open _ c.self.invariant
+of_nodes-requires c = subst (λ (ns : List WorldNode). (xs : List Node) × ShowNodes ns xs × All IsOpen xs) (sym c.deref.ensures.value) (world_open _ c.self.invariant)
 
 pub returns : goal.returns
 returns c t show =
     let w : Parts = parts_of c.self.inside.world c.self.inside.ledger in
     let sent : c.len-sent.result ≡ length w.messages = first_of (search rules, cc) in
-    reported w t (subst (λ (z : Parts). Shows z t) (sym c.self.view_is) show) c.in_ok-standing.standing.latest c.in_ok-lists.lists c.in_ok-standing.standing.lines c.len-sent.result c.in_ok-standing.ensures c.in_ok-lists.ensures sent
+    reported w t (subst (λ (z : Parts). Shows z t) (sym c.self.view_is) show) c.in_ok-standing.standing.latest c.in_ok-lists.lists c.in_ok-standing.standing.lines c.len-sent.result
+    (λ xs shown. c.in_ok-standing.ensures xs (subst (λ (ns : List WorldNode). ShowNodes ns xs) (sym c.deref.ensures.value) shown)) c.in_ok-lists.ensures sent
     ∙ ap (λ (z : Parts). summary_of z.members t) c.self.view_is

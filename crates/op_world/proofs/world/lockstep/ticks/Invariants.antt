@@ -1,7 +1,7 @@
 use Rattle.std.proofs.Common.{◌≡◌, All, take}
-use Rattle.op_runs.specs.Possible.{WhatInRange}
 use Rattle.op_lockstep.specs.Lockstep.{ticks}
+use Rattle.op_world.specs.Drills.{IsQuiet}
 use Rattle.op_world.proofs.world.lockstep.ticks.Given as goal
 
 abbrev pub invariant-loop-pid : goal.invariant-loop-pid
-invariant-loop-pid l = (l.events ≡ ticks (take l.pid-index l.pid-items)) × All (λ e. WhatInRange e.what) l.events
+invariant-loop-pid l = (l.events ≡ ticks (take l.pid-index l.pid-items)) × All IsQuiet l.events

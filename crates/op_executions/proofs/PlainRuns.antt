@@ -1,0 +1,279 @@
+-- A schedule that tells of no stop and no failure in a call of a disk: each of its events is done.
+use Rattle.std.proofs.Common.{◌≡◌, ◌<◌, ◌⊎◌, inl, inr, ℕ, zero, suc, Bool, true, false, nat_eq, List, [], ◌∷◌, ◌++◌, length, Option, Some, None, All, slice_get, IfSome, if◌then◌else◌, refl, sym, ap, subst, ◌∙◌, arith}
+use Rattle.std.proofs.lemmas.Bool.{cond_both, ltb-true}
+use Rattle.std.proofs.lemmas.List.Elements.{All-nil, All-cons, All-head, All-tail, All-map}
+use Rattle.op_types.specs.declared.durable.Durable.{Durable}
+use Rattle.op_protocol.specs.State.{State, state_after}
+use Rattle.op_protocol.specs.Rows.{step_plan}
+use Rattle.op_runs.specs.declared.events.Event.{Event}
+use Rattle.op_runs.specs.declared.events.What.{What}
+use Rattle.op_runs.specs.declared.events.What.TheVariants as what
+use Rattle.op_runs.specs.World.{World, Node, NodeStatus, Up, Down, Failed, Sent, Done, Happening, Doing, Steps, Stops, Opens, Tells, Deed, node_ids, first_node, first_world, node_at, with_node, deed_of, delivery, world_opening, world_by_status, world_at_node, world_with, world_after, run_of, done_event, all_done}
+use Rattle.op_runs.specs.Run.{Execution, execution_with, execution_of, first_execution, machine_showing_all, machine_proposing_by}
+use Rattle.op_runs.specs.Possible.{is_possible, is_possible_in, ArePossibleFrom}
+use Rattle.op_runs.specs.Schedules.{Awaited, Nothing, Awaiting, nothing_awaits, awaiting_with, is_awaited, happening_of, MayBecome, BecomesAt, BecomesBy, Becomes, drops, awaiting_by, awaiting_after, RunsFrom, FailsFrom, TellsNoFault}
+use Rattle.op_executions.specs.PlainRuns.{ArePlain, PlainRunsAreDone, PlainEventsCanBeDone, PlainRunsAreNotRefused, PlainRefusalsAreOne}
+use Rattle.op_executions.proofs.Deeds.{node_found}
+
+-- ---- nodes that stop between two steps alone
+
+-- one that is down has nothing that a step was to store, and none has failed
+abbrev pub StoppedBetween : NodeStatus → Durable → Type 0
+StoppedBetween Up d = Unit {0}
+StoppedBetween (Down after) d = after ≡ d
+StoppedBetween (Failed count after) d = ⊥
+
+abbrev pub IsPlain : Node → Type 0
+IsPlain n = StoppedBetween n.status n.state.durable
+
+abbrev pub StopsBetween : World → Type 0
+StopsBetween w = All IsPlain w.nodes
+
+pub first_plain : (members spares : List ℕ) → StopsBetween (first_world members spares)
+first_plain members spares = All-map IsPlain (first_node members) (node_ids members spares) (λ k d lt. tt)
+
+all_with : (P : Node → Type 0) (nodes : List Node) (m : Node) → All P nodes → P m → All P (with_node nodes m)
+all_with P [] m each new = All-nil P
+all_with P (n ∷ nodes) m each new =
+    cond_both (nat_eq n.pid m.pid) (m ∷ nodes) (n ∷ with_node nodes m) (All P) (λ here. All-cons P m nodes new (All-tail P n nodes each))
+    (λ away. All-cons P n (with_node nodes m) (All-head P n nodes each) (all_with P nodes m (All-tail P n nodes each) new))
+
+-- ---- whichever state an opening is said to find
+
+one_state : (b : Bool) (after d : Durable) → after ≡ d → (if b then after else d) ≡ d
+one_state true after d same = same
+one_state false after d same = refl
+
+same_status : (s : NodeStatus) (d : Doing) (e : Event) (b : Bool) (w : World) (n : Node) → StoppedBetween s n.state.durable → world_by_status s d (happening_of e Done b) w n ≡ world_by_status s d (done_event e) w n
+same_status Up d e b w n k = refl
+same_status (Down after) (Steps x) e b w n k = refl
+same_status (Down after) Stops e b w n k = refl
+same_status (Down after) Opens e b w n k = ap (λ (found : Durable). world_opening Done w n found) (one_state b after n.state.durable k)
+same_status (Down after) (Tells t) e b w n k = refl
+same_status (Failed count after) d e b w n k = absurd k
+
+same_node : (o : Option Node) (d : Doing) (e : Event) (b : Bool) (w : World) → IfSome o IsPlain → world_at_node o d (happening_of e Done b) w ≡ world_at_node o d (done_event e) w
+same_node None d e b w k = refl
+same_node (Some n) d e b w k = same_status n.status d e b w n k
+
+pub same_deed : (o : Option Deed) (e : Event) (b : Bool) (w : World) → StopsBetween w → world_with o (happening_of e Done b) w ≡ world_with o (done_event e) w
+same_deed None e b w k = refl
+same_deed (Some x) e b w k = same_node (node_at w.nodes x.pid) x.doing e b w (node_found IsPlain w.nodes x.pid k)
+
+-- ---- they stay so
+
+stays_by : (s : NodeStatus) (d : Doing) (e : Event) (w : World) (n : Node) → n.status ≡ s → StoppedBetween s n.state.durable → StopsBetween w → StopsBetween (world_by_status s d (done_event e) w n)
+stays_by Up (Steps x) e w n is k each =
+    let s : State = state_after n.state (step_plan n.pid n.state x) in
+    all_with IsPlain w.nodes (record n { state = s }) each (subst (λ (z : NodeStatus). StoppedBetween z s.durable) (sym is) tt)
+stays_by Up Stops e w n is k each = all_with IsPlain w.nodes (record n { status = Down n.state.durable }) each refl
+stays_by Up Opens e w n is k each = each
+stays_by Up (Tells t) e w n is k each = each
+stays_by (Down after) (Steps x) e w n is k each = each
+stays_by (Down after) Stops e w n is k each = each
+stays_by (Down after) Opens e w n is k each = all_with IsPlain w.nodes _ each tt
+stays_by (Down after) (Tells t) e w n is k each = each
+stays_by (Failed count after) d e w n is k each = absurd k
+
+stays_at : (o : Option Node) (d : Doing) (e : Event) (w : World) → IfSome o IsPlain → StopsBetween w → StopsBetween (world_at_node o d (done_event e) w)
+stays_at None d e w k each = each
+stays_at (Some n) d e w k each = stays_by n.status d e w n refl k each
+
+pub stays_plain : (o : Option Deed) (e : Event) (w : World) → StopsBetween w → StopsBetween (world_with o (done_event e) w)
+stays_plain None e w each = each
+stays_plain (Some x) e w each = stays_at (node_at w.nodes x.pid) x.doing e w (node_found IsPlain w.nodes x.pid each) each
+
+-- ---- where nothing awaits any node
+
+abbrev pub NothingAwaits : Awaiting → Type 0
+NothingAwaits awaiting = (pid : ℕ) → awaiting pid ≡ Nothing
+
+nothing_with : (awaiting : Awaiting) (pid : ℕ) → NothingAwaits awaiting → NothingAwaits (awaiting_with awaiting pid Nothing)
+nothing_with awaiting pid none q = cond_both (nat_eq q pid) Nothing (awaiting q) (λ (x : Awaited). x ≡ Nothing) (λ here. refl) (λ away. none q)
+
+nothing_by : (o : Option Deed) (w : World) (awaiting : Awaiting) → NothingAwaits awaiting → NothingAwaits (awaiting_by o w awaiting)
+nothing_by None w awaiting none = none
+nothing_by (Some x) w awaiting none =
+    cond_both (drops x.doing (node_at w.nodes x.pid)) (awaiting_with awaiting x.pid Nothing) awaiting NothingAwaits (λ here. nothing_with awaiting x.pid none) (λ away. none)
+
+pub nothing_after : (w : World) (awaiting : Awaiting) (x : What) → TellsNoFault x → NothingAwaits awaiting → NothingAwaits (awaiting_after w awaiting x)
+nothing_after w awaiting (what.CrashAt p call image) plain none = absurd plain
+nothing_after w awaiting (what.Fail p call) plain none = absurd plain
+nothing_after w awaiting x plain none = nothing_by (deed_of w.messages x) w awaiting none
+
+-- ---- so an event becomes one happening, which is done
+
+-- an event that can come does something
+record IsDeed (o : Option Deed) : Type 0 where
+  pub deed : Deed
+  pub is : o ≡ Some deed
+
+delivers : (messages : List Sent) (i : ℕ) → i < length messages → IsDeed (delivery (slice_get messages i))
+delivers [] i there = absurd (omega arith)
+delivers (m ∷ messages) zero there = record { deed = _; is = refl }
+delivers (m ∷ messages) (suc i) there = delivers messages i (let less : i < length messages = omega arith in less)
+
+does : (nodes : List ℕ) (messages : List Sent) (x : What) → TellsNoFault x → is_possible nodes (length messages) x ≡ true → IsDeed (deed_of messages x)
+does nodes messages (what.Deliver i) plain can = delivers messages i (ltb-true i (length messages) can)
+does nodes messages (what.CrashAt p call image) plain can = absurd plain
+does nodes messages (what.Fail p call) plain can = absurd plain
+does nodes messages x plain can = record { deed = _; is = refl }
+
+-- it is done, with whichever state an opening is said to find
+pub record IsDone (e : Event) (hs : List Happening) : Type 0 where
+  pub finds_after : Bool
+  pub is : hs ≡ happening_of e Done finds_after ∷ []
+
+nothing_awaited : (b : Bool) (x : Awaited) → x ≡ Nothing → (if b then x else Nothing) ≡ Nothing
+nothing_awaited true x none = none
+nothing_awaited false x none = refl
+
+done_at : (o : Option Node) (x : Awaited) (d : Doing) (e : Event) (hs : List Happening) → x ≡ Nothing → BecomesAt o x d e hs → IsDone e hs
+done_at None x d e hs none becomes = record { finds_after = false; is = becomes }
+done_at (Some n) x d e hs none becomes =
+    record { finds_after = becomes.0; is = subst (λ (y : Awaited). MayBecome y e n d becomes.0 hs) (nothing_awaited (is_awaited n.status d) x none) becomes.1 }
+
+pub done_one : (nodes : List ℕ) (w : World) (awaiting : Awaiting) (e : Event) (hs : List Happening) → NothingAwaits awaiting → TellsNoFault e.what → is_possible_in nodes w e ≡ true → Becomes w awaiting e hs → IsDone e hs
+done_one nodes w awaiting e hs none plain can becomes =
+    let one : IsDeed (deed_of w.messages e.what) = does nodes w.messages e.what plain can in
+    done_at (node_at w.nodes (one.deed).pid) (awaiting (one.deed).pid) (one.deed).doing e hs (none (one.deed).pid) (subst (λ (o : Option Deed). BecomesBy o w awaiting e hs) one.is becomes)
+
+-- ---- runs
+
+-- a run after a happening of this event, with this world
+abbrev with_world : Execution → Event → World → Execution
+with_world t e w = record { world = w; machine = machine_showing_all (machine_proposing_by t.machine t.world.nodes (deed_of t.world.messages e.what)) w.nodes }
+
+pub same_execution : (t : Execution) (e : Event) (b : Bool) → StopsBetween t.world → execution_with t (happening_of e Done b) ≡ execution_with t (done_event e)
+same_execution t e b each = ap (λ (w : World). with_world t e w) (same_deed (deed_of t.world.messages e.what) e b t.world each)
+
+-- no event tells of a stop or a failure in a call of a disk, nothing awaits any node, and each stops between two steps
+pub record PlainFrom (w : World) (awaiting : Awaiting) (events : List Event) : Type 0 where
+  pub stops : StopsBetween w
+  pub nothing : NothingAwaits awaiting
+  pub events_are : ArePlain events
+
+pub plain_first : (members spares : List ℕ) (events : List Event) → ArePlain events → PlainFrom (first_world members spares) nothing_awaits events
+plain_first members spares events plain = record { stops = first_plain members spares; nothing = λ pid. refl; events_are = plain }
+
+module _ (nodes : List ℕ) (w : World) (awaiting : Awaiting) (e : Event) (events : List Event) (p : PlainFrom w awaiting (e ∷ events)) where
+  quiet : TellsNoFault e.what
+  quiet = All-head (λ (x : Event). TellsNoFault x.what) e events p.events_are
+
+  pub plain_next : PlainFrom (world_after w (done_event e)) (awaiting_after w awaiting e.what) events
+  plain_next = record {
+    stops = stays_plain (deed_of w.messages e.what) e w p.stops;
+    nothing = nothing_after w awaiting e.what quiet p.nothing;
+    events_are = All-tail (λ (x : Event). TellsNoFault x.what) e events p.events_are;
+  }
+
+  -- what the event may become is that it is done
+  pub becomes_done : (now : List Happening) → is_possible_in nodes w e ≡ true → Becomes w awaiting e now → IsDone e now
+  becomes_done now can becomes = done_one nodes w awaiting e now p.nothing quiet can becomes
+
+  pub world_done : (now : List Happening) → is_possible_in nodes w e ≡ true → Becomes w awaiting e now → run_of w now ≡ world_after w (done_event e)
+  world_done now can becomes =
+      let one : IsDone e now = becomes_done now can becomes in
+      ap (λ (xs : List Happening). run_of w xs) one.is ∙ same_deed (deed_of w.messages e.what) e one.finds_after w p.stops
+
+plain_from : (nodes : List ℕ) (t : Execution) (awaiting : Awaiting) (events : List Event) (hs : List Happening) → PlainFrom t.world awaiting events → RunsFrom nodes t.world awaiting events hs
+    → execution_of t hs ≡ execution_of t (all_done events)
+plain_from nodes t awaiting [] hs p run = ap (λ (xs : List Happening). execution_of t xs) run
+plain_from nodes t awaiting (e ∷ events) hs p run =
+    let now = run.0 in
+    let later = run.1 in
+    let one : IsDone e now = becomes_done nodes t.world awaiting e events p now run.3 run.4 in
+    let h : Happening = happening_of e Done one.finds_after in
+    let u : Execution = execution_with t (done_event e) in
+    let is : hs ≡ h ∷ later = run.2 ∙ ap (λ (xs : List Happening). xs ++ later) one.is in
+    let world : run_of t.world now ≡ u.world = world_done nodes t.world awaiting e events p now run.3 run.4 in
+    let rest : RunsFrom nodes u.world (awaiting_after t.world awaiting e.what) events later = subst (λ (w : World). RunsFrom nodes w (awaiting_after t.world awaiting e.what) events later) world run.5 in
+    ap (λ (xs : List Happening). execution_of t xs) is ∙ ap (λ (v : Execution). execution_of v later) (same_execution t e one.finds_after p.stops)
+    ∙ plain_from nodes u (awaiting_after t.world awaiting e.what) events later (plain_next nodes t.world awaiting e events p) rest
+
+pub plain_runs_are_done : PlainRunsAreDone
+plain_runs_are_done members spares events hs plain run =
+    plain_from (node_ids members spares) (first_execution members spares) nothing_awaits events hs (plain_first members spares events plain) run
+
+-- ---- each event done
+
+possible_from : (nodes : List ℕ) (w : World) (awaiting : Awaiting) (events : List Event) (hs : List Happening) → PlainFrom w awaiting events → RunsFrom nodes w awaiting events hs → ArePossibleFrom nodes w events
+possible_from nodes w awaiting [] hs p run = tt
+possible_from nodes w awaiting (e ∷ events) hs p run =
+    let next : Awaiting = awaiting_after w awaiting e.what in (
+      run.3,
+      possible_from nodes (world_after w (done_event e)) next events run.1 (plain_next nodes w awaiting e events p)
+          (subst (λ (x : World). RunsFrom nodes x next events run.1) (world_done nodes w awaiting e events p run.0 run.3 run.4) run.5),
+    )
+
+is_done_at : (o : Option Node) (x : Awaited) (d : Doing) (e : Event) → x ≡ Nothing → BecomesAt o x d e (done_event e ∷ [])
+is_done_at None x d e none = refl
+is_done_at (Some n) x d e none = (false, subst (λ (y : Awaited). MayBecome y e n d false (done_event e ∷ [])) (sym (nothing_awaited (is_awaited n.status d) x none)) refl)
+
+pub is_done : (nodes : List ℕ) (w : World) (awaiting : Awaiting) (e : Event) → NothingAwaits awaiting → TellsNoFault e.what → is_possible_in nodes w e ≡ true → Becomes w awaiting e (done_event e ∷ [])
+is_done nodes w awaiting e none plain can =
+    let one : IsDeed (deed_of w.messages e.what) = does nodes w.messages e.what plain can in
+    subst (λ (o : Option Deed). BecomesBy o w awaiting e (done_event e ∷ [])) (sym one.is)
+    (is_done_at (node_at w.nodes (one.deed).pid) (awaiting (one.deed).pid) (one.deed).doing e (none (one.deed).pid))
+
+done_from : (nodes : List ℕ) (w : World) (awaiting : Awaiting) (events : List Event) → PlainFrom w awaiting events → ArePossibleFrom nodes w events → RunsFrom nodes w awaiting events (all_done events)
+done_from nodes w awaiting [] p can = refl
+done_from nodes w awaiting (e ∷ events) p can = (
+  done_event e ∷ [],
+  all_done events,
+  refl,
+  can.0,
+  is_done nodes w awaiting e p.nothing (quiet nodes w awaiting e events p) can.0,
+  done_from nodes (world_after w (done_event e)) (awaiting_after w awaiting e.what) events (plain_next nodes w awaiting e events p) can.1,
+)
+
+pub plain_events_can_be_done : PlainEventsCanBeDone
+plain_events_can_be_done members spares events hs plain run =
+    let first = plain_first members spares events plain in
+    done_from (node_ids members spares) (first_world members spares) nothing_awaits events first (possible_from (node_ids members spares) (first_world members spares) nothing_awaits events hs first run)
+
+-- ---- refusals
+
+-- from this world on, where each event is done, the event of this number, from 0, is the first that can't come
+abbrev IsFirstBadFrom : List ℕ → World → List Event → ℕ → Type 0
+IsFirstBadFrom nodes w [] i = ⊥
+IsFirstBadFrom nodes w (e ∷ es) i =
+    ((i ≡ 0) × (is_possible_in nodes w e ≡ false)) ⊎ ((j : ℕ) × (i ≡ suc j) × (is_possible_in nodes w e ≡ true) × IsFirstBadFrom nodes (world_after w (done_event e)) es j)
+
+bad_from : (nodes : List ℕ) (w : World) (awaiting : Awaiting) (events : List Event) (i : ℕ) → PlainFrom w awaiting events → FailsFrom nodes w awaiting events i → IsFirstBadFrom nodes w events i
+bad_from nodes w awaiting [] i p bad = bad
+bad_from nodes w awaiting (e ∷ events) i p (inl bad) = inl bad
+bad_from nodes w awaiting (e ∷ events) i p (inr bad) =
+    let next : Awaiting = awaiting_after w awaiting e.what in inr (
+      bad.0,
+      bad.1,
+      bad.2,
+      bad_from nodes (world_after w (done_event e)) next events bad.0 (plain_next nodes w awaiting e events p)
+          (subst (λ (x : World). FailsFrom nodes x next events bad.0) (world_done nodes w awaiting e events p bad.3 bad.2 bad.4) bad.5),
+    )
+
+none_bad : (nodes : List ℕ) (w : World) (events : List Event) (i : ℕ) → ArePossibleFrom nodes w events → IsFirstBadFrom nodes w events i → ⊥
+none_bad nodes w [] i can bad = bad
+none_bad nodes w (e ∷ events) i can (inl bad) = absurd (let both : true ≡ false = sym can.0 ∙ bad.1 in cc)
+none_bad nodes w (e ∷ events) i can (inr bad) = none_bad nodes (world_after w (done_event e)) events bad.0 can.1 bad.3
+
+one_bad : (nodes : List ℕ) (w : World) (events : List Event) (i j : ℕ) → IsFirstBadFrom nodes w events i → IsFirstBadFrom nodes w events j → i ≡ j
+one_bad nodes w [] i j bad worse = absurd bad
+one_bad nodes w (e ∷ events) i j (inl bad) (inl worse) = bad.0 ∙ sym worse.0
+one_bad nodes w (e ∷ events) i j (inl bad) (inr worse) = absurd (let both : true ≡ false = sym worse.2 ∙ bad.1 in cc)
+one_bad nodes w (e ∷ events) i j (inr bad) (inl worse) = absurd (let both : true ≡ false = sym bad.2 ∙ worse.1 in cc)
+one_bad nodes w (e ∷ events) i j (inr bad) (inr worse) = bad.1 ∙ ap suc (one_bad nodes (world_after w (done_event e)) events bad.0 worse.0 bad.3 worse.3) ∙ sym worse.1
+
+pub plain_runs_are_not_refused : PlainRunsAreNotRefused
+plain_runs_are_not_refused members spares events hs i plain run bad =
+    let first = plain_first members spares events plain in
+    let nodes = node_ids members spares in
+    let w = first_world members spares in
+    none_bad nodes w events i (possible_from nodes w nothing_awaits events hs first run) (bad_from nodes w nothing_awaits events i first bad)
+
+pub plain_refusals_are_one : PlainRefusalsAreOne
+plain_refusals_are_one members spares events i j plain bad worse =
+    let first = plain_first members spares events plain in
+    let nodes = node_ids members spares in
+    let w = first_world members spares in
+    one_bad nodes w events i j (bad_from nodes w nothing_awaits events i first bad) (bad_from nodes w nothing_awaits events j first worse)

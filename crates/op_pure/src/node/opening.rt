@@ -1,0 +1,145 @@
+//! A node of the plain program is opened.
+ghost use Rattle.std.specs.Prelude.{◌≡◌, ℕ, Bool, [], IfOk};
+ghost use Rattle.op_types.specs.Changes.{Applies, durable_after};
+ghost use Rattle.op_types.specs.Rooms.{IsAtRest};
+ghost use Rattle.op_chain.specs.Chains.{state_of};
+ghost use Rattle.op_protocol.specs.Starting as starts;
+ghost use Rattle.op_runs.specs.World as runs;
+ghost use Rattle.op_executions.specs.Servers.{CanDo};
+ghost use Rattle.op_pure.specs.Happenings.{fate_of};
+ghost use Rattle.op_pure.specs.Nodes.{pure_nodes, found_by, CanFind, HasDone, IsOpened};
+
+use super::{PureNode, Status};
+use crate::happening::{Fate, Foretold};
+use op_chain::{Chain, empty_durable, sends_after_restart};
+use op_executions::Done;
+use op_types::{Batch, Durable, NoMemory, Pid, Sends};
+use std::alloc::Global;
+use std::mem::replace;
+
+impl PureNode {
+    /// An opening of this fate, if it isn't up.
+    pub fn open(&mut self, alloc: Global, foretold: Foretold) -> Result<Done, NoMemory>
+        requires { CanDo pure_nodes self.old runs.Opens }
+        ensures { IfOk result (λ r. (line : ℕ) → HasDone self.old runs.Opens
+            (fate_of foretold.fate) foretold.finds_after line self.new r.sends r.told) }
+    {
+        match foretold.fate {
+            Fate::Done => self.open_whole(alloc, foretold.finds_after),
+            Fate::Stopped => {
+                self.stop_in_opening(alloc);
+                Ok(Done::nothing(alloc))
+            }
+            Fate::Faulted(count) => {
+                self.fail_in_opening(count);
+                Ok(Done::nothing(alloc))
+            }
+        }
+    }
+
+    /// Is opened, if it isn't up, and asks to be prepared. The clients that wait at one that has failed wait still.
+    fn open_whole(&mut self, alloc: Global, finds_after: bool) -> Result<Done, NoMemory>
+        requires { CanDo pure_nodes self.old runs.Opens }
+        ensures { IfOk result (λ r. (line : ℕ) → HasDone self.old runs.Opens
+            runs.Done finds_after line self.new r.sends r.told) }
+    {
+        let mut done = Done::nothing(alloc);
+        let nothing = Status::Down(empty_durable(), Batch::new(alloc));
+        let chain = match replace(&mut self.status, nothing) {
+            Status::Up(chain) => chain,
+            Status::Down(durable, batch) => {
+                let (chain, sends) = opened(alloc, self.pid, durable, batch, finds_after)?;
+                done.sends = sends;
+                chain
+            }
+            Status::Failed(chain, _, batch) => {
+                let (chain, sends) = reopened(alloc, chain, batch, finds_after)?;
+                done.sends = sends;
+                chain
+            }
+        };
+        self.status = Status::Up(chain);
+        Ok(done)
+    }
+
+    /// Stops in an opening: one that has failed is down then.
+    fn stop_in_opening(&mut self, alloc: Global)
+        requires { pure_nodes.is_kept self.old }
+        ensures { (finds_after : Bool) → (line : ℕ) →
+            HasDone self.old runs.Opens runs.Stopped finds_after line self.new [] [] }
+    {
+        if let Status::Failed(..) = &self.status {
+            self.stop(alloc, Batch::new(alloc));
+        }
+    }
+
+    /// A disk fails in an opening: one that has failed keeps this count of faults.
+    fn fail_in_opening(&mut self, count: u64)
+        requires { pure_nodes.is_kept self.old }
+        ensures { (finds_after : Bool) → (line : ℕ) →
+            HasDone self.old runs.Opens (runs.Faulted count) finds_after line self.new [] [] }
+    {
+        if let Status::Failed(_, kept, _) = &mut self.status {
+            *kept = count;
+        }
+    }
+}
+
+/// A node that is down is opened with what it finds.
+fn opened(
+    alloc: Global,
+    pid: Pid,
+    durable: Durable,
+    batch: Batch,
+    finds_after: bool,
+) -> Result<(Chain, Sends), NoMemory>
+    requires finds { CanFind pid durable batch finds_after }
+    ensures { IfOk result (λ o.
+        IsOpened pid (starts.state_after_restart pid (found_by finds_after durable batch)) o.0 o.1) }
+{
+    let durable = found(durable, batch, finds_after)?;
+    let sends = sends_after_restart(alloc, pid, &durable)?;
+    let chain = Chain::again(alloc, pid, durable)?;
+    Ok((chain, sends))
+}
+
+/// A node that has failed is opened in place with what it finds.
+fn reopened(
+    alloc: Global,
+    mut chain: Chain,
+    batch: Batch,
+    finds_after: bool,
+) -> Result<(Chain, Sends), NoMemory>
+    requires finds { CanFind chain.me (state_of chain).durable batch finds_after }
+    ensures { IfOk result (λ o. let d = found_by finds_after (state_of chain).durable batch in
+        IsOpened chain.me (runs.state_after_reopening chain.me (state_of chain) d) o.0 o.1) }
+{
+    let durable = found(chain.durable().copy(alloc)?, batch, finds_after)?;
+    let sends = sends_after_restart(alloc, chain.me(), &durable)?;
+    chain.reopen(durable)?;
+    Ok((chain, sends))
+}
+
+/// What an opening finds.
+fn found(durable: Durable, batch: Batch, finds_after: bool) -> Result<Durable, NoMemory>
+    requires applies { Applies durable batch }
+    requires rest { IsAtRest durable }
+    ensures { IfOk result (λ d. d ≡ found_by finds_after durable batch) }
+{
+    if finds_after {
+        adopted(durable, batch)
+    } else {
+        Ok(durable)
+    }
+}
+
+/// A durable state once a batch is adopted.
+fn adopted(mut durable: Durable, batch: Batch) -> Result<Durable, NoMemory>
+    requires applies { Applies durable batch }
+    requires rest { IsAtRest durable }
+    ensures { IfOk result (λ d. d ≡ durable_after durable batch) }
+{
+    durable.room_for(&batch)?;
+    durable.adopt(batch);
+    Ok(durable)
+}

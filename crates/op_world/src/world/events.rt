@@ -1,0 +1,106 @@
+//! What happens by an event in a world, and what awaits a node from it on.
+ghost use Rattle.std.specs.Prelude.{◌≡◌, ◌<◌, length, IfOk, IfSome, OnOk};
+ghost use Rattle.op_types.specs.Ranges.{IsMember};
+ghost use Rattle.op_runs.specs.Possible.{is_possible, WhatInRange};
+ghost use Rattle.op_runs.specs.Run.{Execution};
+ghost use Rattle.op_executions.specs.Failing.{IfBadEvent};
+ghost use Rattle.op_executions.specs.Worlds.{KeepsServers};
+ghost use Rattle.op_world.specs.Events.{parts_of, Awaits, CanCome, EventComes, HappensAt, IsBadEvent, IsCounted, StopsAt};
+ghost use Rattle.op_world.specs.Worlds.{disk_nodes, IsWorld, Shows};
+
+use crate::awaited::Awaited;
+use crate::ledger::Ledger;
+use crate::node_state::WorldNode;
+use op_executions::{RunFail, ServerWorld, place_of};
+use op_runs::{Event, What};
+use op_types::Pid;
+
+/// An event comes: it happens, and where a stop is due then the node stops; or it awaits a node from now on.
+pub fn come(
+    world: &mut ServerWorld<WorldNode>,
+    ledger: &mut Ledger,
+    event: Event,
+) -> Result<(), RunFail>
+    requires range { WhatInRange event.what }
+    requires kept { IsWorld (parts_of world.old ledger.old) }
+    ensures comes { OnOk result ((t : Execution) → Shows (parts_of world.old ledger.old) t →
+        EventComes (parts_of world.old ledger.old) event t (parts_of world.new ledger.new)) }
+    ensures kept { OnOk result (IsWorld (parts_of world.new ledger.new)) }
+    ensures can { OnOk result
+        (CanCome (parts_of world.old ledger.old) event (parts_of world.new ledger.new)) }
+    ensures bad { IfBadEvent result (IsBadEvent (parts_of world.old ledger.old) event) }
+{
+    let line = event.line;
+    let told = Awaited::told_by(&event.what);
+    match happen(world, ledger, event)? {
+        Some(place) => {
+            if !world.servers[place].is_due {
+                return Ok(());
+            }
+            stop_at(world, ledger, place, line)
+        }
+        None => {
+            let Some((pid, awaited)) = told else {
+                return Ok(());
+            };
+            await_at(world, pid, awaited);
+            Ok(())
+        }
+    }
+}
+
+/// An event happens: where something is done at a node, that shows what it has stored then. Gives the node's place.
+fn happen(
+    world: &mut ServerWorld<WorldNode>,
+    ledger: &mut Ledger,
+    event: Event,
+) -> Result<Option<usize>, RunFail>
+    requires range { WhatInRange event.what }
+    requires kept { IsWorld (parts_of world.old ledger.old) }
+    ensures happens { IfOk result (λ at. (t : Execution) → Shows (parts_of world.old ledger.old) t →
+        HappensAt (parts_of world.old ledger.old) event t at (parts_of world.new ledger.new)) }
+    ensures place { IfOk result (λ at. IfSome at (λ place. place < length world.new.servers.items)) }
+    ensures kept { OnOk result (IsWorld (parts_of world.new ledger.new)) }
+    ensures can { OnOk result
+        (CanCome (parts_of world.old ledger.old) event (parts_of world.new ledger.new)) }
+    ensures bad { IfBadEvent result (IsBadEvent (parts_of world.old ledger.old) event) }
+{
+    match world.event(event, ())? {
+        Some(place) => {
+            ledger.show_node(&world.servers[place].state)?;
+            Ok(Some(place))
+        }
+        None => Ok(None),
+    }
+}
+
+/// The node at this place stops, as this line of the schedule says.
+fn stop_at(
+    world: &mut ServerWorld<WorldNode>,
+    ledger: &mut Ledger,
+    place: usize,
+    line: u64,
+) -> Result<(), RunFail>
+    requires kept { IsWorld (parts_of world.old ledger.old) }
+    requires there { place < length world.old.servers.items }
+    ensures stops { OnOk result ((t : Execution) → Shows (parts_of world.old ledger.old) t →
+        StopsAt (parts_of world.old ledger.old) place line t (parts_of world.new ledger.new)) }
+    ensures kept { OnOk result (IsWorld (parts_of world.new ledger.new)) }
+    ensures same { OnOk result (IsCounted (parts_of world.old ledger.old) 0 (parts_of world.new ledger.new)) }
+    ensures never_bad { IfBadEvent result (λ _. ⊥) }
+{
+    let pid = world.servers[place].pid;
+    let what = What::Crash(pid);
+    happen(world, ledger, Event { line, what })?;
+    Ok(())
+}
+
+/// From now on this awaits a node.
+fn await_at(world: &mut ServerWorld<WorldNode>, pid: Pid, awaited: Awaited)
+    requires kept { KeepsServers disk_nodes world.old }
+    requires known { IsMember world.old.ids.items pid }
+    ensures { Awaits pid awaited world.old world.new }
+{
+    let place = place_of(&world.ids, pid);
+    world.servers[place].awaited = awaited;
+}
