@@ -81,14 +81,14 @@ pub fn puts(alloc: Global, core: &mut NodeCore<MemDisk>, seq: u64) -> Result<boo
     Ok(core.step(input).is_ok())
 }
 
-/// It leads after a tick.
+/// It leads after a tick. One that failed is opened again at it.
 pub fn ticks(core: &mut NodeCore<MemDisk>) -> Result<(), Fail>
     requires { IsServable core.old.node }
     ensures { IsServable core.new.node }
 {
     match core.step(Input::Tick) {
         Ok(_) => Ok(()),
-        Err(_) => Err("a tick isn't stored".into()),
+        Err(_) => Err("a tick fails".into()),
     }
 }
 
@@ -109,7 +109,7 @@ pub fn after_puts(alloc: Global, count: u64) -> Result<Images, Fail>
 }
 
 /// What the disks of a node hold.
-fn stored_by(alloc: Global, core: NodeCore<MemDisk>) -> Result<Images, Fail> {
+pub fn stored_by(alloc: Global, core: NodeCore<MemDisk>) -> Result<Images, Fail> {
     let (_, first, second) = core.node.park();
     Ok(Images {
         first: first.bytes().to_vec(alloc)?,
@@ -124,7 +124,7 @@ pub fn decided(alloc: Global, first: MemDisk, second: MemDisk) -> Result<u64, Fa
 }
 
 /// How much a node shows as decided.
-fn decided_by(core: &NodeCore<MemDisk>) -> u64 {
+pub fn decided_by(core: &NodeCore<MemDisk>) -> u64 {
     match &core.node.shown().part {
         Some(part) => part.decided,
         None => 0,

@@ -4,20 +4,23 @@ use Rattle.std.specs.Prelude.{fold}
 use Rattle.std.proofs.lemmas.Bool.{cases_eq, ltb-true, ltb-false}
 use Rattle.std.proofs.lemmas.List.{append-nil, length-append}
 use Rattle.std.proofs.lemmas.List.Sums.{fold-append}
+use Rattle.op_types.specs.declared.answers.Outcome.{Outcome}
 use Rattle.op_types.specs.declared.answers.Refusal.TheVariants.{StorageFailed}
 use Rattle.op_types.specs.declared.events.Input.{Input}
 use Rattle.op_serving.specs.declared.kind.Kind.{Kind}
 use Rattle.op_serving.specs.declared.mark.Mark.{Mark}
+use Rattle.op_serving.specs.declared.node.Given.{Given}
 use Rattle.op_serving.specs.declared.session.Session.{Session}
 use Rattle.op_serving.specs.declared.wanted.Wanted.{Wanted}
-use Rattle.op_serving.specs.Cores.{Standing, gives}
+use Rattle.op_serving.specs.Cores.{Standing, gives, given_again}
+use Rattle.op_serving.specs.Fates.{Fate, done, finds, faults, damaged, lost, after_fate}
 use Rattle.op_serving.specs.State.{Loop, find, without, kind_at, left_at, left_by, counted}
 use Rattle.op_serving.specs.Losses.{most_marks, mark_at, noted, stopped_if, marked, lost_by, lost_one, is_due, settle}
 use Rattle.op_serving.specs.Handing.{Frame, handed_out, frames_handed, proposed, frames_proposed, excused, frames_excused}
-use Rattle.op_serving.specs.Inputs.{Deed, enters, says, State, Luck, Fate, done, faults, lost, asked_by, loop_after, frames_after, after_fate, next_fate, calm, entered_with, enter}
+use Rattle.op_serving.specs.Inputs.{Deed, enters, says, State, Luck, asked_by, loop_after, frames_after, next_fate, calm, entered_with, enter}
 use Rattle.op_serving.specs.Promise.{Life, newborn, inputs_at, and_then, life, at_conn, KeepsClosed}
 use Rattle.op_connections.proofs.Tables.{find_without, find_apart, at_without, at_apart}
-use Rattle.op_connections.proofs.Queueing.{bytes_for, queued, queued_none, Spent, Queues, spent_queues, queues_then, queues_handed, queues_proposed, queues_excused}
+use Rattle.op_connections.proofs.Queueing.{bytes_for, queued, queued_none, Spent, Queues, spent_queues, queues_none, queues_given, queues_excused}
 use Rattle.op_connections.proofs.Keeping.{Shape, OpenAt, Kept, Keeping, with_said, with_inputs, Left, left_same, Comes, kept_comes, keeping, keeping_then}
 
 -- ---- deeds, one behind the other
@@ -128,6 +131,9 @@ record After (c : ℕ) (s : Loop) (fs : List Frame) (t : Loop) : Type 0 where
 after_queues : (c : ℕ) (s : Loop) (fs : List Frame) (t : Loop) → Queues c (counted s) fs t → After c s fs t
 after_queues c s fs t q = record { left = left_queues c (counted s) fs t q; spent = spent_queues c (counted s) fs t q; me = q.me }
 
+after_given : (c : ℕ) (w : Option Wanted) (g : Given) (o : Option Outcome) (s : Loop) → After c s (frames_proposed w o ++ frames_handed g (proposed w o (counted s))) (handed_out g (proposed w o (counted s)))
+after_given c w g o s = after_queues c s (frames_proposed w o ++ frames_handed g (proposed w o (counted s))) (handed_out g (proposed w o (counted s))) (queues_given c w g o (counted s))
+
 after_loss : (c : ℕ) (w : Option Wanted) (b : Bool) (s u : Loop) → u.sessions ≡ s.sessions → u.gathered ≡ s.gathered → u.me ≡ s.me → Spent (stopped_if b u)
     → After c s (frames_excused w None) (excused w None (counted (stopped_if b u)))
 after_loss c w true s u sessions gathered me spent =
@@ -147,11 +153,10 @@ after_loss c w false s u sessions gathered me spent =
     }
 
 after_input : (c : ℕ) (w : Option Wanted) (i : Input) (f : Fate) (n : Standing) (s : Loop) → After c s (frames_after w i f n s) (loop_after w i f n s)
-after_input c w i done n s =
-    let m : Loop = proposed w (gives n i).outcome (counted s) in
-    after_queues c s (frames_proposed w (gives n i).outcome ++ frames_handed (gives n i) m) (handed_out (gives n i) m)
-    (queues_then c (counted s) m (handed_out (gives n i) m) (frames_proposed w (gives n i).outcome) (frames_handed (gives n i) m) (queues_proposed c w (gives n i).outcome (counted s)) (queues_handed c (gives n i) m))
+after_input c w i done n s = after_given c w (gives n i) (gives n i).outcome s
+after_input c w i (finds d) n s = after_given c w (given_again n d) None s
 after_input c w i (faults k) n s = after_queues c s (frames_excused w (Some (StorageFailed k))) (excused w (Some (StorageFailed k)) (counted s)) (queues_excused c w (Some (StorageFailed k)) (counted s))
+after_input c w i damaged n s = after_queues c s [] (counted s) (queues_none c (counted s) (counted s) refl refl refl refl refl)
 after_input c w i lost n s = after_loss c w (nat_lt (length s.lost + 1) most_marks) s (noted (mark_at s.place None) s) refl refl refl (spent_marked None s)
 
 -- an input, before losses
@@ -186,8 +191,8 @@ module _ (me : ℕ) (shape : Shape) (now : List ℕ) (c : ℕ) (l : Luck) (who :
       → (s.loop.sessions ≡ [] → KeepsClosed me (life c s.deeds) (at_conn c s.loop.gathered)) → Kept me shape now c (enter l who i s)
   kept_enter k none = by_marks (nat_lt (length s.loop.lost) most_marks) refl
     where
-      by_marks : (b : Bool) → nat_lt (length s.loop.lost) most_marks ≡ b → Kept me shape now c (if b then entered_with l who i (next_fate l s) s else s)
-      by_marks true e = kept_entered (next_fate l s) k
+      by_marks : (b : Bool) → nat_lt (length s.loop.lost) most_marks ≡ b → Kept me shape now c (if b then entered_with l who i (next_fate l i s) s else s)
+      by_marks true e = kept_entered (next_fate l i s) k
       by_marks false e =
           let empty : s.loop.sessions ≡ [] = spent (ltb-false (length s.loop.lost) most_marks e) in
           record {

@@ -2,6 +2,7 @@
 use Rattle.std.proofs.Common.{◌≡◌, ◌+◌, ◌++◌, ◌⊎◌, [], ◌∷◌, ℕ, Bool, true, false, List, length, drop, Option, Some, None, option_map, ◌==◌, nat_lt, if◌then◌else◌, refl, sym, ◌∙◌, ap, subst, inl, inr}
 use Rattle.std.proofs.lemmas.Bool.{cases_eq}
 use Rattle.std.specs.Map.{keys_of}
+use Rattle.op_types.specs.declared.answers.Outcome.{Outcome}
 use Rattle.op_types.specs.declared.answers.Refusal.TheVariants.{StorageFailed}
 use Rattle.op_types.specs.declared.events.Input.{Input}
 use Rattle.op_types.specs.declared.events.Input.TheVariants as input
@@ -9,16 +10,18 @@ use Rattle.op_frame.specs.Framing.{Stream}
 use Rattle.op_serving.specs.declared.kind.Kind.{Kind}
 use Rattle.op_serving.specs.declared.kind.Kind.TheVariants.{Unknown, Peer, Client}
 use Rattle.op_serving.specs.declared.mark.Mark.{Mark}
+use Rattle.op_serving.specs.declared.node.Given.{Given}
 use Rattle.op_serving.specs.declared.session.Session.{Session}
 use Rattle.op_serving.specs.declared.wanted.Wanted.{Wanted}
-use Rattle.op_serving.specs.Cores.{Standing, gives}
+use Rattle.op_serving.specs.Cores.{Standing, gives, given_again}
+use Rattle.op_serving.specs.Fates.{Fate, done, finds, faults, damaged, lost}
 use Rattle.op_serving.specs.State.{Loop, find, without, kind_at, left_at, left_by, counted, if_its, open_of, session_of}
 use Rattle.op_serving.specs.Losses.{most_marks, mark_at, noted, stopped_if, marked, lost_by, lost_one, is_due, settle}
 use Rattle.op_serving.specs.Handing.{Frame, handed_out, frames_handed, proposed, frames_proposed, excused, frames_excused}
-use Rattle.op_serving.specs.Inputs.{State, Luck, Fate, done, faults, lost, asked_by, loop_after, frames_after, next_fate, calm, entered_with, enter, over, flushed}
+use Rattle.op_serving.specs.Inputs.{State, Luck, asked_by, loop_after, frames_after, next_fate, calm, entered_with, enter, over, flushed}
 use Rattle.op_serving.specs.Reading.{replaced}
 use Rattle.op_connections.proofs.Tables.{find_without, find_apart, Rising, rising_without}
-use Rattle.op_connections.proofs.Queueing.{bytes_for, queued, queued_none, Queues, queues_then, queues_handed, queues_proposed, queues_excused}
+use Rattle.op_connections.proofs.Queueing.{bytes_for, queued, queued_none, Queues, queues_given, queues_excused}
 use Rattle.op_connections.proofs.Walking.{Steps, drained_holds, over_holds, Replaces}
 
 -- whose a session is, and what it reads
@@ -92,15 +95,19 @@ fades_marked c conn s =
     let u : Loop = noted (mark_at s.place conn) s in
     fades_then c s u (marked conn s) (fades_same c s u refl refl (λ h. h)) (fades_stopped c (nat_lt (length s.lost + 1) most_marks) u)
 
+fades_given : (c : ℕ) (w : Option Wanted) (g : Given) (o : Option Outcome) (s : Loop) → Fades c s (handed_out g (proposed w o (counted s)))
+fades_given c w g o s =
+    let t : Loop = handed_out g (proposed w o (counted s)) in
+    fades_then c s (counted s) t (fades_same c s (counted s) refl refl (λ h. h))
+    (fades_queues c (counted s) (frames_proposed w o ++ frames_handed g (proposed w o (counted s))) t (queues_given c w g o (counted s)))
+
 fades_after : (c : ℕ) (w : Option Wanted) (i : Input) (f : Fate) (n : Standing) (s : Loop) → Fades c s (loop_after w i f n s)
-fades_after c w i done n s =
-    let m : Loop = proposed w (gives n i).outcome (counted s) in
-    fades_then c s (counted s) (handed_out (gives n i) m) (fades_same c s (counted s) refl refl (λ h. h))
-    (fades_queues c (counted s) (frames_proposed w (gives n i).outcome ++ frames_handed (gives n i) m) (handed_out (gives n i) m)
-    (queues_then c (counted s) m (handed_out (gives n i) m) (frames_proposed w (gives n i).outcome) (frames_handed (gives n i) m) (queues_proposed c w (gives n i).outcome (counted s)) (queues_handed c (gives n i) m)))
+fades_after c w i done n s = fades_given c w (gives n i) (gives n i).outcome s
+fades_after c w i (finds d) n s = fades_given c w (given_again n d) None s
 fades_after c w i (faults k) n s =
     fades_then c s (counted s) (excused w (Some (StorageFailed k)) (counted s)) (fades_same c s (counted s) refl refl (λ h. h))
     (fades_queues c (counted s) (frames_excused w (Some (StorageFailed k))) (excused w (Some (StorageFailed k)) (counted s)) (queues_excused c w (Some (StorageFailed k)) (counted s)))
+fades_after c w i damaged n s = fades_same c s (counted s) refl refl (λ h. h)
 fades_after c w i lost n s =
     let m : Loop = counted (marked None s) in
     fades_then c s m (excused w None m) (fades_then c s (marked None s) m (fades_marked c None s) (fades_same c (marked None s) m refl refl (λ h. h)))
@@ -139,7 +146,7 @@ pub fades_enter : (c : ℕ) (l : Luck) (who : List ℕ) (i : Input) (s : State) 
 fades_enter c l who i s = by_marks (nat_lt (length s.loop.lost) most_marks)
   where
     f : Fate
-    f = next_fate l s
+    f = next_fate l i s
 
     by_marks : (b : Bool) → Fades c s.loop (if b then entered_with l who i f s else s).loop
     by_marks true =
@@ -189,30 +196,30 @@ stays_settle c (m ∷ ms) s = stays_due c (is_due m s) ms m.conn s (stays_then c
 pub stays_calm : (c : ℕ) (l : Luck) (s : State) → Stays c s.loop (calm l s).loop
 stays_calm c l s = stays_settle c (drop (length s.loop.lost) l.marks) s.loop
 
+-- no frame for this connection is queued
+stays_queues : (c : ℕ) (s : Loop) (fs : List Frame) (t : Loop) → Queues c s fs t → bytes_for c fs ≡ [] → Stays c s t
+stays_queues c s fs t q none = inr (q.found ∙ ap (λ b. queued b (find c s.sessions)) none ∙ queued_none (find c s.sessions))
+
 -- where an input has nothing for this connection
 pub stays_after : (c : ℕ) (w : Option Wanted) (i : Input) (f : Fate) (n : Standing) (s : Loop) → bytes_for c (frames_after w i f n s) ≡ [] → Stays c s (loop_after w i f n s)
-stays_after c w i done n s none =
-    let m : Loop = proposed w (gives n i).outcome (counted s) in
-    let q = queues_then c (counted s) m (handed_out (gives n i) m) (frames_proposed w (gives n i).outcome) (frames_handed (gives n i) m) (queues_proposed c w (gives n i).outcome (counted s)) (queues_handed c (gives n i) m) in
-    inr (q.found ∙ ap (λ b. queued b (find c s.sessions)) none ∙ queued_none (find c s.sessions))
-stays_after c w i (faults k) n s none =
-    let q = queues_excused c w (Some (StorageFailed k)) (counted s) in
-    inr (q.found ∙ ap (λ b. queued b (find c s.sessions)) none ∙ queued_none (find c s.sessions))
+stays_after c w i done n s none = stays_queues c (counted s) _ _ (queues_given c w (gives n i) (gives n i).outcome (counted s)) none
+stays_after c w i (finds d) n s none = stays_queues c (counted s) _ _ (queues_given c w (given_again n d) None (counted s)) none
+stays_after c w i (faults k) n s none = stays_queues c (counted s) _ _ (queues_excused c w (Some (StorageFailed k)) (counted s)) none
+stays_after c w i damaged n s none = inr refl
 stays_after c w i lost n s none =
     let m : Loop = counted (marked None s) in
-    let q = queues_excused c w None m in
-    stays_then c s m (excused w None m) (stays_marked c None s) (inr (q.found ∙ ap (λ b. queued b (find c m.sessions)) none ∙ queued_none (find c m.sessions)))
+    stays_then c s m (excused w None m) (stays_marked c None s) (stays_queues c m _ _ (queues_excused c w None m) none)
 
-pub stays_enter : (c : ℕ) (l : Luck) (who : List ℕ) (i : Input) (s : State) → ((f : Fate) → bytes_for c (frames_after (asked_by who i) i f s.node s.loop) ≡ []) → Stays c s.loop (enter l who i s).loop
+pub stays_enter : (c : ℕ) (l : Luck) (who : List ℕ) (i : Input) (s : State) → bytes_for c (frames_after (asked_by who i) i (next_fate l i s) s.node s.loop) ≡ [] → Stays c s.loop (enter l who i s).loop
 stays_enter c l who i s none = by_marks (nat_lt (length s.loop.lost) most_marks)
   where
     f : Fate
-    f = next_fate l s
+    f = next_fate l i s
 
     by_marks : (b : Bool) → Stays c s.loop (if b then entered_with l who i f s else s).loop
     by_marks true =
         let t : Loop = loop_after (asked_by who i) i f s.node s.loop in
-        stays_then c s.loop t (entered_with l who i f s).loop (stays_after c (asked_by who i) i f s.node s.loop (none f)) (stays_settle c (drop (length t.lost) l.marks) t)
+        stays_then c s.loop t (entered_with l who i f s).loop (stays_after c (asked_by who i) i f s.node s.loop none) (stays_settle c (drop (length t.lost) l.marks) t)
     by_marks false = inr refl
 
 -- ---- all that is done

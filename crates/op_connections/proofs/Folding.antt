@@ -6,11 +6,12 @@ use Rattle.op_types.specs.declared.events.Input.TheVariants as input
 use Rattle.op_serving.specs.declared.kind.Kind.{Kind}
 use Rattle.op_serving.specs.declared.kind.Kind.TheVariants.{Unknown, Peer}
 use Rattle.op_serving.specs.Cores.{Standing}
+use Rattle.op_serving.specs.Fates.{Fate, after_fate}
 use Rattle.op_serving.specs.Turns.{first_bytes, joining, joined, accepted, dialled, waiting, taken_by, up_peer, up_at, wrote}
 use Rattle.op_serving.specs.State.{Loop, kind_at, is_open, left_by}
 use Rattle.op_serving.specs.Losses.{most_marks}
 use Rattle.op_serving.specs.Handing.{Frame}
-use Rattle.op_serving.specs.Inputs.{Deed, begins, hears, enters, says, takes, State, Luck, Fate, asked_by, frames_after, after_fate, next_fate, calm, entered_with, enter, noting, gathering}
+use Rattle.op_serving.specs.Inputs.{Deed, begins, hears, enters, says, takes, State, Luck, asked_by, frames_after, next_fate, calm, entered_with, enter, noting, gathering}
 use Rattle.op_serving.specs.Reading.{hello_len, tells, holding, linked, feeds}
 use Rattle.op_serving.specs.Promise.{folded}
 use Rattle.op_connections.proofs.Pumping.{Closed}
@@ -51,7 +52,7 @@ module _ (l : Luck) (start : State) where
   folds_enter who i s = by_marks (nat_lt (length s.loop.lost) most_marks)
     where
       f : Fate
-      f = next_fate l s
+      f = next_fate l i s
 
       by_marks : (b : Bool) → Folds s (if b then entered_with l who i f s else s)
       by_marks true = record { added = enters who i f ∷ map says (frames_after (asked_by who i) i f s.node s.loop); deeds = refl; node = sym (folded_says (after_fate s.node i f) (frames_after (asked_by who i) i f s.node s.loop)) }

@@ -146,3 +146,9 @@ queues_proposed c (Some w) o s =
 pub queues_excused : (c : ℕ) (w : Option Wanted) (why : Option Refusal) (s : Loop) → Queues c s (frames_excused w why) (excused w why s)
 queues_excused c None why s = queues_none c s s refl refl refl refl refl
 queues_excused c (Some w) why s = queues_told c (said_of_denial w why) s
+
+-- what was asked for is noted, and this is handed out
+pub queues_given : (c : ℕ) (w : Option Wanted) (g : Given) (o : Option Outcome) (s : Loop) → Queues c s (frames_proposed w o ++ frames_handed g (proposed w o s)) (handed_out g (proposed w o s))
+queues_given c w g o s =
+    let m : Loop = proposed w o s in
+    queues_then c s m (handed_out g m) (frames_proposed w o) (frames_handed g m) (queues_proposed c w o s) (queues_handed c g m)

@@ -1,14 +1,16 @@
 -- In the writes: an Up has at most a frame for its own peer, a Down has none, and no other session changes.
-use Rattle.std.proofs.Common.{◌≡◌, ◌++◌, [], ℕ, List, Option, Some, None, if◌then◌else◌, refl, sym, ◌∙◌, ap, subst, inl, inr}
+use Rattle.std.proofs.Common.{◌≡◌, ◌++◌, [], ℕ, Bool, true, false, List, length, slice_get, Option, Some, None, if◌then◌else◌, refl, sym, ◌∙◌, ap, subst, inl, inr}
 use Rattle.std.proofs.lemmas.Bool.{ne_eqb}
+use Rattle.op_types.specs.declared.events.Input.{Input}
 use Rattle.op_types.specs.declared.events.Input.TheVariants as input
 use Rattle.op_types.specs.declared.messages.Msg.{Msg}
 use Rattle.op_serving.specs.declared.node.Given.{Given}
-use Rattle.op_serving.specs.Cores.{Standing, gives}
+use Rattle.op_serving.specs.Cores.{Standing, gives, reopens}
+use Rattle.op_serving.specs.Fates.{Fate, done, finds, faults, damaged, lost}
 use Rattle.op_serving.specs.Wire.{peer_frame}
 use Rattle.op_serving.specs.State.{Loop, find, left_by, session_of, counted}
 use Rattle.op_serving.specs.Handing.{frame_at, frames_handed}
-use Rattle.op_serving.specs.Inputs.{State, Luck, Fate, done, faults, lost, frames_after, calm, enter, give, drained, given_together, leaves, over}
+use Rattle.op_serving.specs.Inputs.{State, Luck, kept, is_lost_here, fate_of, next_fate, frames_after, calm, enter, give, drained, given_together, leaves, over}
 use Rattle.op_connections.proofs.Queueing.{bytes_for}
 use Rattle.op_connections.proofs.Walking.{Falls, drained_holds}
 use Rattle.op_connections.proofs.Fading.{Stays, stays_then, stays_left, stays_calm, stays_enter}
@@ -29,22 +31,40 @@ handed_other c q g s u other = elim u.sends [
     at_other None e m = refl
     at_other (Some d) e m = ap (λ b. (if b then peer_frame s.me q m else []) ++ []) (ne_eqb d c (λ k. other (e ∙ ap Some k)))
 
-up_quiet : (c q : ℕ) (n : Standing) (s : Loop) → (session_of q s ≡ Some c → ⊥) → (f : Fate) → bytes_for c (frames_after None (input.Up q) f n s) ≡ []
-up_quiet c q n s other done = handed_other c q (gives n (input.Up q)) (counted s) (ups n q) other
-up_quiet c q n s other (faults k) = refl
-up_quiet c q n s other lost = refl
+-- what is asked of what comes of an input: an opening comes only of a tick at a node that failed
+module _ (P : Fate → Type 0) (n : Standing) (i : Input) (shut : reopens n i ≡ false) (as_done : P done) (as_faults : (k : ℕ) → P (faults k)) (as_damaged : P damaged) (as_lost : P lost) where
+  fated : (o : Option Fate) → P (fate_of n i o)
+  fated None = as_done
+  fated (Some done) = as_done
+  fated (Some (finds d)) = subst (λ b. P (if b then finds d else done)) (sym shut) as_done
+  fated (Some (faults k)) = as_faults k
+  fated (Some damaged) = as_damaged
+  fated (Some lost) = as_lost
 
-down_quiet : (c q : ℕ) (n : Standing) (s : Loop) (f : Fate) → bytes_for c (frames_after None (input.Down q) f n s) ≡ []
-down_quiet c q n s done = let d = downs n q in ap (bytes_for c) (handed_none (gives n (input.Down q)) (counted s) d.sends d.replies)
-down_quiet c q n s (faults k) = refl
-down_quiet c q n s lost = refl
+  lost_or_fated : (b : Bool) (o : Option Fate) → P (if b then lost else fate_of n i o)
+  lost_or_fated true o = as_lost
+  lost_or_fated false o = fated o
+
+next_holds : (P : Fate → Type 0) (i : Input) (l : Luck) (s : State) → reopens s.node i ≡ false → P done → ((k : ℕ) → P (faults k)) → P damaged → P lost → P (next_fate l i s)
+next_holds P i l s shut as_done as_faults as_damaged as_lost =
+    lost_or_fated P s.node i shut as_done as_faults as_damaged as_lost (is_lost_here (slice_get l.marks (length s.loop.lost)) s.loop) (slice_get l.fates (length (kept s.deeds)))
+
+up_quiet : (c q : ℕ) (l : Luck) (s : State) → (session_of q s.loop ≡ Some c → ⊥) → bytes_for c (frames_after None (input.Up q) (next_fate l (input.Up q) s) s.node s.loop) ≡ []
+up_quiet c q l s other = next_holds (λ f. bytes_for c (frames_after None (input.Up q) f s.node s.loop) ≡ []) (input.Up q) l s refl
+    (handed_other c q (gives s.node (input.Up q)) (counted s.loop) (ups s.node q) other) (λ k. refl) refl refl
+
+down_quiet : (c q : ℕ) (l : Luck) (s : State) → bytes_for c (frames_after None (input.Down q) (next_fate l (input.Down q) s) s.node s.loop) ≡ []
+down_quiet c q l s =
+    let d = downs s.node q in
+    next_holds (λ f. bytes_for c (frames_after None (input.Down q) f s.node s.loop) ≡ []) (input.Down q) l s refl
+    (ap (bytes_for c) (handed_none (gives s.node (input.Down q)) (counted s.loop) d.sends d.replies)) (λ k. refl) refl refl
 
 -- what losses and Downs leave
 staying : (c : ℕ) (l : Luck) (start : Loop) → Falls l (λ s. Stays c start s.loop)
 staying c l start = record {
   moves = λ s t u h. stays_then c start s.loop t h (inr (ap (find c) u.sessions));
   calms = λ s h. stays_then c start s.loop (calm l s).loop h (stays_calm c l s);
-  downs = λ q s h. stays_then c start s.loop (enter l [] (input.Down q) s).loop h (stays_enter c l [] (input.Down q) s (λ f. down_quiet c q s.node s.loop f));
+  downs = λ q s h. stays_then c start s.loop (enter l [] (input.Down q) s).loop h (stays_enter c l [] (input.Down q) s (down_quiet c q l s));
 }
 
 stays_drained : (c : ℕ) (l : Luck) (start : Loop) (s : State) → Stays c start s.loop → Stays c start (drained l s).loop
@@ -52,7 +72,7 @@ stays_drained c l start s h = drained_holds l (λ v. Stays c start v.loop) (stay
 
 -- a peer goes up
 pub stays_up : (c q : ℕ) (l : Luck) (s : State) → (session_of q s.loop ≡ Some c → ⊥) → Stays c s.loop (give l [] (input.Up q) s).loop
-stays_up c q l s other = stays_drained c l s.loop (enter l [] (input.Up q) s) (stays_enter c l [] (input.Up q) s (λ f. up_quiet c q s.node s.loop other f))
+stays_up c q l s other = stays_drained c l s.loop (enter l [] (input.Up q) s) (stays_enter c l [] (input.Up q) s (up_quiet c q l s other))
 
 -- a session is over, where nothing was gathered
 pub stays_gone : (c d : ℕ) (l : Luck) (s : State) → s.loop.gathered ≡ [] → Stays c s.loop (over l d s).loop

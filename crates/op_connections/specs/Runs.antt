@@ -3,7 +3,8 @@ use Rattle.std.specs.Prelude.{◌≡◌, ◌++◌, ◌∷◌, [], ℕ, List}
 use Rattle.op_types.specs.declared.events.Input.{Input}
 use Rattle.op_outside.specs.Nets.{Call}
 use Rattle.op_serving.specs.Cores.{Standing}
-use Rattle.op_serving.specs.Inputs.{State, Luck, Fate, Deed, enters, kept}
+use Rattle.op_serving.specs.Fates.{Fate}
+use Rattle.op_serving.specs.Inputs.{State, Luck, Deed, enters, kept}
 use Rattle.op_serving.specs.Pump.{Settings, Pump, Answer, after, calls}
 
 -- before the first turn no connection is open, no command is to be given, and nothing has happened

@@ -1,1 +1,2 @@
 pub mod NodeCores
+pub mod Disks

@@ -1,6 +1,6 @@
 -- A node in range does each step that the loop gives it, and stays in range; so is one that is opened.
 use Rattle.std.specs.Set.{is_member}
-use Rattle.std.proofs.Common.{◌≡◌, ◌≤◌, ℕ, nat_eq, if◌then◌else◌, ap₂, Bool, true, false, List, Option, Some, None, Result, Ok, Err, All, IfSome, IfOk, get_or, refl, sym, ap, subst, ◌∙◌, arith}
+use Rattle.std.proofs.Common.{◌≡◌, ◌≤◌, ℕ, nat_eq, if◌then◌else◌, Bool, true, false, List, [], Option, Some, None, Result, Ok, Err, All, IfSome, IfOk, IfErr, get_or, refl, sym, ap, subst, ◌∙◌, arith}
 use Rattle.std.proofs.lemmas.List.Elements.{All-nil, All-weaker}
 use Rattle.op_types.specs.Limits.{positions_end}
 use Rattle.op_types.specs.Changes.{IsCommand, empty_durable}
@@ -23,6 +23,7 @@ use Rattle.op_msg.specs.Ranges.{BodyInRange, ForwardedInRange, ForwardsInRange, 
 use Rattle.op_command.specs.Ranges.{AnswerInRange, OutcomeInRange}
 use Rattle.op_protocol.specs.State.{State}
 use Rattle.op_protocol.specs.Rows.{step_plan}
+use Rattle.op_protocol.specs.Starting.{sends_after_restart}
 use Rattle.op_bounds.specs.Messages.{EntryOf, EntriesOf}
 use Rattle.op_bounds.specs.Messages as known
 use Rattle.op_bounds.specs.States.{RoleEndsNowhere, StateInRange}
@@ -36,25 +37,18 @@ use Rattle.op_chain.specs.declared.given.Given.{Given}
 use Rattle.op_node.specs.Nodes as node
 use Rattle.op_node.specs.Nodes.{NodeState, node_of, stores, Stepped, AdmitsInput, IsSoundNode}
 use Rattle.op_node.specs.Openings.{Opens, durable_for, part_for, joining_for, opening_state}
-use Rattle.op_outside.specs.Causes.{FaultsRose}
 use Rattle.op_outside.specs.Disks.{DiskState}
 use Rattle.op_runs.specs.World.{state_after_reopening}
 use Rattle.op_store.specs.declared.fail.StoreFail.{StoreFail}
-use Rattle.op_store.specs.Failing.{faults}
+use Rattle.op_store.specs.declared.fail.StoreFail.TheVariants as store_fails
 use Rattle.op_store.specs.Stored.{Disks}
-use Rattle.op_store.proofs.KeptDisks.{keep_same, keep_both}
-use Rattle.op_store.specs.Stores.{Represents, disks_of}
-use Rattle.op_node.specs.Failing.{TellsStep}
 use Rattle.op_node.specs.Reopenings.{Reopens, RefusesAgain}
-use Rattle.op_node.specs.Steps.{Steps}
 use Rattle.op_node.specs.declared.node.Node.{Node}
 use Rattle.op_node.specs.declared.fail.StepFail.{StepFail}
 use Rattle.op_node.specs.declared.fail.StepFail.TheVariants as fails
-use Rattle.op_node.proofs.Represented.{stepped_represented}
 use Rattle.op_serving.specs.Cores as cores
-use Rattle.op_serving.specs.Cores.{Standing}
 use Rattle.op_serving.specs.Ranges.{InputInRange, SendInRange, ReplyInRange, GivenInRange}
-use Rattle.op_core.specs.NodeCores.{BringsBytes, IsOfBytes, handed, handed_of, standing_at, standing_of, IsServable, IsStoredWhileUp, StaysStored}
+use Rattle.op_core.specs.NodeCores.{BringsBytes, IsOfBytes, handed, handed_of, handed_again, standing_at, IsServable}
 
 -- ---- from one form of range to the other
 
@@ -131,7 +125,7 @@ body_is (body.BasePart at bytes) r = r.0
 body_is (body.AskSegment from to) r = r
 body_is (body.Segment at es) r = (r.0, entries_is es r.1)
 
-input_of : (x : Input) → InputInRange x → IsOfBytes x → known.InputInRange IsPid x
+pub input_of : (x : Input) → InputInRange x → IsOfBytes x → known.InputInRange IsPid x
 input_of input.Tick r w = tt
 input_of (input.Deliver q m) r w = (r.0, record { conf = r.1.conf; least = least_of m.body m.conf r.1.least; body = body_of m.body r.1.body w })
 input_of (input.Commands cs) r w = r
@@ -140,7 +134,7 @@ input_of input.TrimNow r w = tt
 input_of (input.Up q) r w = r
 input_of (input.Down q) r w = r
 
-send_is : (s : ℕ × Msg) → known.SendInRange IsPid s → SendInRange s
+pub send_is : (s : ℕ × Msg) → known.SendInRange IsPid s → SendInRange s
 send_is s r = (r.to, record { conf = r.message.conf; least = least_is s.1.body s.1.conf r.message.least; body = body_is s.1.body r.message.body })
 
 cause_is : (a : Answer) → known.AnswerInRange IsPid a → AnswerInRange a
@@ -243,27 +237,15 @@ refuses_so count input.TrimNow = refl
 refuses_so count (input.Up q) = refl
 refuses_so count (input.Down q) = refl
 
-gives_at : (me : ℕ) (s : State) (o : Option ℕ) (f : ℕ) (x : Input) → handed_of (node.gives (record { me = me; state = s; failed = o }) x) ≡ cores.gives (record { me = me; state = s; failed = o; faults = f }) x
+pub gives_at : (me : ℕ) (s : State) (o : Option ℕ) (f : ℕ) (x : Input) → handed_of (node.gives (record { me = me; state = s; failed = o }) x) ≡ cores.gives (record { me = me; state = s; failed = o; faults = f }) x
 unfolding cores.gives
 gives_at me s None f x = refl
 gives_at me s (Some count) f x = refuses_so count x
 
-after_so : (me : ℕ) (s : State) (o : Option ℕ) (f : ℕ) (x : Input) → standing_at (node.after_input (record { me = me; state = s; failed = o }) x) f ≡ cores.after_input (record { me = me; state = s; failed = o; faults = f }) x
+pub after_so : (me : ℕ) (s : State) (o : Option ℕ) (f : ℕ) (x : Input) → standing_at (node.after_input (record { me = me; state = s; failed = o }) x) f ≡ cores.after_input (record { me = me; state = s; failed = o; faults = f }) x
 unfolding cores.after_input
 after_so me s None f x = refl
 after_so me s (Some count) f x = refl
-
-pub did : {D : Type 0} (state : D → DiskState) (n m : Node D) (x : Input) (result : Result Given StepFail) → Stepped (node_of n) x result (node_of m)
-    → TellsStep (faults (disks_of state n.store)) (faults (disks_of state m.store)) result → cores.Steps (standing_of state n) x (handed result) (standing_of state m)
-unfolding cores.faulted
-did state n m x (Ok given) d t =
-    let f : ℕ = faults (disks_of state n.store) in (
-      ap handed_of d.0 ∙ gives_at (node_of n).me (node_of n).state n.failed f x,
-      ap₂ standing_at d.1 t.1 ∙ after_so (node_of n).me (node_of n).state n.failed f x,
-    )
-did state n m x (Err (fails.DiskFail count)) d t =
-    (ap₂ standing_at d (sym t.1.0), record { later = subst (λ f. faults (disks_of state n.store) ≤ f) (sym t.1.0) t.0; rose = subst (FaultsRose (faults (disks_of state n.store))) (sym t.1.0) t.1.1 })
-did state n m x (Err fails.NoMemory) d t = ap₂ standing_at d t.1
 
 -- what it gives out is in range
 pub gave : {D : Type 0} (n m : Node D) (x : Input) (result : Result Given StepFail) → IsServable n → InputInRange x → IsOfBytes x → Stepped (node_of n) x result (node_of m)
@@ -273,32 +255,6 @@ gave n m x (Ok given) s r w d fits =
     record { sends = h.sends; replies = h.replies; outcome = fits h.outcome }
 gave n m x (Err (fails.DiskFail count)) s r w d fits = tt
 gave n m x (Err fails.NoMemory) s r w d fits = tt
-
--- ---- its disks
-
--- a node is as it was
-pub stays_same : {D : Type 0} (state : D → DiskState) (n : Node D) → StaysStored state n n
-stays_same state n = record { kept = keep_same (disks_of state n.store); stored = λ h. h }
-
--- they stand for what it has stored, while it hasn't failed
-stands : {D : Type 0} (state : D → DiskState) (n m : Node D) (x : Input) (result : Result Given StepFail) → Stepped (node_of n) x result (node_of m)
-    → Steps state (node_of n).state.durable (stores (node_of n) x) n.store m.store result → IsStoredWhileUp state n → IsStoredWhileUp state m
-stands state n m x (Ok given) d t was up =
-    let before : n.failed ≡ None = sym (ap (λ (k : NodeState). k.failed) d.1 ∙ same_failed (node_of n) x) ∙ up in
-    stepped_represented state n m x given d t (was before)
-stands state n m x (Err (fails.DiskFail count)) d t was up = let bad : Some count ≡ None = sym (ap (λ (k : NodeState). k.failed) d) ∙ up in absurd cc
-stands state n m x (Err fails.NoMemory) d t was up =
-    let before : n.failed ≡ None = sym (ap (λ (k : NodeState). k.failed) d) ∙ up in
-    subst (λ (k : NodeState). Represents state k.state.durable m.store) (sym d) (subst (Represents state (node_of n).state.durable) (sym (t.untouched refl)) (was before))
-
--- what holds of them since an earlier state goes on
-pub goes_on_stored : {D : Type 0} (state : D → DiskState) (k n m : Node D) (x : Input) (result : Result Given StepFail) → Stepped (node_of n) x result (node_of m)
-    → Steps state (node_of n).state.durable (stores (node_of n) x) n.store m.store result → StaysStored state k n → StaysStored state k m
-goes_on_stored state k n m x result d t since =
-    record {
-      kept = keep_both (disks_of state k.store) (disks_of state n.store) (disks_of state m.store) since.kept t.kept;
-      stored = λ h. stands state n m x result d t (since.stored h);
-    }
 
 -- ---- an opening
 
@@ -318,7 +274,7 @@ joining_for_in : (me : ℕ) (o : Option Joining) → IfSome o JoiningInRange →
 joining_for_in me None r = tt
 joining_for_in me (Some j) r = kept_joining (is_member nat_eq j.members me) j r
 
-durable_for_in : (me : ℕ) (d : Durable) → DurableInRange d → DurableInRange (durable_for me d)
+pub durable_for_in : (me : ℕ) (d : Durable) → DurableInRange d → DurableInRange (durable_for me d)
 durable_for_in me d r = record { part = part_for_in me d.part r.part; closed = r.closed; joining = joining_for_in me d.joining r.joining }
 
 idle_ends : (o : Option Part) → IfSome o (λ p. RoleEndsNowhere p.conf Idle)
@@ -362,6 +318,18 @@ reopened state d is_new n m sends o sound s =
       range = subst (StateInRange IsPid) (sym (ap (λ (k : NodeState). k.state) o.node)) (reopening_at (node_of n).me (node_of n).state d s.me o.range);
     }
 
+-- what it sends then is in range
+pub given_again_in : {D : Type 0} (state : D → DiskState) (d : Durable) (is_new : Bool) (n m : Node D) (sends : List (ℕ × Msg)) → Reopens state d is_new n m sends → IsServable n
+    → GivenInRange (record { sends = sends; replies = []; outcome = None })
+given_again_in state d is_new n m sends o s =
+    let me : ℕ = (node_of n).me in
+    let again : OpeningInRange IsPid me (durable_for me d) = openings_stay IsPid servers me s.me (durable_for me d) (durable_any (durable_for me d) (durable_for_in me d o.range)) in
+    record {
+      sends = subst (λ (ss : List (ℕ × Msg)). All SendInRange ss) (sym o.sends_are) (All-weaker (known.SendInRange IsPid) SendInRange send_is (sends_after_restart me (durable_for me d)) again.sends);
+      replies = All-nil ReplyInRange;
+      outcome = tt;
+    }
+
 -- and where that is refused
 pub unopened : {D : Type 0} (state : D → DiskState) (n m : Node D) (cause : StoreFail) → RefusesAgain state n m cause → IsSoundNode m → IsServable n → IsServable m
 unopened state n m cause r sound s =
@@ -370,3 +338,16 @@ unopened state n m cause r sound s =
       sound = sound;
       range = subst (StateInRange IsPid) (sym (ap (λ (k : NodeState). k.state) r.node)) s.range;
     }
+
+-- whatever an opening answers, it can be served, and what it gives out is in range
+pub stays_again : {D : Type 0} (state : D → DiskState) (n m : Node D) (result : Result (List (ℕ × Msg)) StoreFail) → IfOk result (λ sends. (d : Durable) × (is_new : Bool) × Reopens state d is_new n m sends)
+    → IfErr result (RefusesAgain state n m) → IsSoundNode m → IsServable n → IsServable m
+stays_again state n m (Ok sends) o r sound s = reopened state o.0 o.1 n m sends o.2 sound s
+stays_again state n m (Err cause) o r sound s = unopened state n m cause r sound s
+
+pub gave_again : {D : Type 0} (state : D → DiskState) (n m : Node D) (result : Result (List (ℕ × Msg)) StoreFail) → IfOk result (λ sends. (d : Durable) × (is_new : Bool) × Reopens state d is_new n m sends)
+    → IsServable n → IfOk (handed_again result) GivenInRange
+gave_again state n m (Ok sends) o s = given_again_in state o.0 o.1 n m sends o.2 s
+gave_again state n m (Err (store_fails.DiskFault count)) o s = tt
+gave_again state n m (Err (store_fails.Damaged area at)) o s = tt
+gave_again state n m (Err store_fails.NoMemory) o s = tt

@@ -1,10 +1,11 @@
 -- A node over its disks, as it is served.
-use Rattle.std.specs.Prelude.{◌≡◌, ◌-◌, ℕ, List, length, take, Option, Some, None, Result, Ok, Err}
+use Rattle.std.specs.Prelude.{◌-◌, ℕ, List, [], length, take, Option, Some, None, Result, Ok, Err}
 use Rattle.op_types.specs.Ranges.{IsPid}
 use Rattle.op_types.specs.declared.events.Input.{Input}
 use Rattle.op_types.specs.declared.events.Input.TheVariants.{Deliver}
 use Rattle.op_types.specs.declared.messages.Body.{Body}
 use Rattle.op_types.specs.declared.messages.Body.TheVariants.{BasePart}
+use Rattle.op_types.specs.declared.messages.Msg.{Msg}
 use Rattle.op_fields.specs.Reads.{IsBytes}
 use Rattle.op_outside.specs.Disks.{DiskState}
 use Rattle.op_runs.specs.declared.summary.NodeLine.{NodeLine}
@@ -13,11 +14,12 @@ use Rattle.op_runs.specs.declared.summary.Running.TheVariants as running
 use Rattle.op_runs.specs.Summary.{stands_at, joining_conf}
 use Rattle.op_text.specs.Nodes.{node_text}
 use Rattle.op_store.specs.Failing.{faults}
-use Rattle.op_store.specs.Stored.{KeepBoth}
 use Rattle.op_store.specs.Stores.{disks_of}
+use Rattle.op_store.specs.declared.fail.StoreFail.{StoreFail}
+use Rattle.op_store.specs.declared.fail.StoreFail.TheVariants as store_fails
 use Rattle.op_bounds.specs.States.{StateInRange}
 use Rattle.op_chain.specs.declared.given.Given.{Given as NodeGiven}
-use Rattle.op_node.specs.Nodes.{NodeState, node_of, IsRepresented, IsSoundNode}
+use Rattle.op_node.specs.Nodes.{NodeState, node_of, IsSoundNode}
 use Rattle.op_node.specs.declared.node.Node.{Node}
 use Rattle.op_node.specs.declared.fail.StepFail.{StepFail as NodeFail}
 use Rattle.op_node.specs.declared.fail.StepFail.TheVariants as node_fails
@@ -51,6 +53,13 @@ abbrev pub handed : Result NodeGiven NodeFail → Result Given StepFail
 handed (Ok g) = Ok (handed_of g)
 handed (Err (node_fails.DiskFail count)) = Err (fails.DiskFail count)
 handed (Err node_fails.NoMemory) = Err fails.NoMemory
+
+-- what an opening of a node that failed did
+abbrev pub handed_again : Result (List (ℕ × Msg)) StoreFail → Result Given StepFail
+handed_again (Ok sends) = Ok (record { sends = sends; replies = []; outcome = None })
+handed_again (Err (store_fails.DiskFault count)) = Err (fails.DiskFail count)
+handed_again (Err (store_fails.Damaged area at)) = Err fails.Damaged
+handed_again (Err store_fails.NoMemory) = Err fails.NoMemory
 
 -- ---- where it stands
 
@@ -86,13 +95,3 @@ pub record IsServable {D : Type 0} (n : Node D) : Type 0 where
   pub me : IsPid (node_of n).me
   pub sound : IsSoundNode n
   pub range : StateInRange IsPid (node_of n).state
-
--- unless it has failed, each image of its disks stands for what it has stored
-abbrev pub IsStoredWhileUp : {D : Type 0} → (D → DiskState) → Node D → Type 0
-IsStoredWhileUp state n = n.failed ≡ None → IsRepresented state n
-
--- What holds of a node's disks since an earlier state of it: each is itself and, unless the node has failed,
--- they stand for what it has stored, if they did so then.
-pub record StaysStored {D : Type 0} (state : D → DiskState) (old new : Node D) : Type 0 where
-  pub kept : KeepBoth (disks_of state old.store) (disks_of state new.store)
-  pub stored : IsStoredWhileUp state old → IsStoredWhileUp state new

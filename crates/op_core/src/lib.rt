@@ -5,6 +5,9 @@ mod laws;
 mod line;
 mod node_core;
 
-pub use laws::{opened_nodes_can_be_served, reopened_nodes_can_be_served};
+pub use laws::{
+    opened_nodes_can_be_served, opened_nodes_store, reopened_nodes_can_be_served,
+    runs_find_what_is_stored,
+};
 pub use line::short_line;
 pub use node_core::NodeCore;

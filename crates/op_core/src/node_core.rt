@@ -1,16 +1,29 @@
-ghost use Rattle.std.specs.Prelude.{◌≡◌, IfOk, IfSome};
+ghost use Rattle.std.specs.Prelude.{◌≡◌, false, true, IfOk, IfSome};
 ghost use Rattle.op_command.specs.Ranges.{OutcomeInRange};
 ghost use Rattle.op_fields.specs.Reads.{IsBytes};
 ghost use Rattle.op_bounds.specs.Messages.{OutcomeInRange as IsOutcomeOf};
 ghost use Rattle.op_types.specs.Ranges.{IsPid};
-ghost use Rattle.op_core.specs.NodeCores.{IsOfBytes, IsServable, handed, standing_line, standing_of};
+ghost use Rattle.op_types.specs.declared.events.Input.TheVariants.{Tick};
+ghost use Rattle.op_serving.specs.Cores.{reopens};
+ghost use Rattle.op_serving.specs.Fates.{Steps};
+ghost use Rattle.op_serving.specs.Ranges.{InputInRange, GivenInRange};
+ghost use Rattle.op_core.specs.Disks.{StepStores};
+ghost use Rattle.op_core.specs.NodeCores.{
+  IsOfBytes,
+  IsServable,
+  handed,
+  handed_again,
+  standing_line,
+  standing_of,
+};
 
 use crate::line::{joins, place, short_line};
 use op_node::{Given as NodeGiven, Node, StepFail as NodeFail};
 use op_outside::Disk;
 use op_runs::{NodeLine, Running};
 use op_serving::{Core, Given, StepFail};
-use op_types::{Blob, Body, Input, NoMemory, Outcome, Pid, Refusal};
+use op_store::StoreFail;
+use op_types::{Blob, Body, Input, NoMemory, Outcome, Pid, Refusal, Replies, Sends};
 use std::alloc::Global;
 
 /// A node over its disks, which is served.
@@ -21,21 +34,23 @@ pub struct NodeCore<D> {
 }
 
 impl<D: Disk> Core for NodeCore<D> {
-    ghost use Rattle.op_core.specs.NodeCores.{standing_of, IsServable, StaysStored, status_line};
+    ghost use Rattle.op_core.specs.Disks.{CoreStores};
+    ghost use Rattle.op_core.specs.NodeCores.{standing_of, IsServable, status_line};
 
     ghost standing = { λ n. standing_of D.state n.node };
 
     ghost ready = { λ n. IsServable n.node };
 
-    ghost stored = { λ n m. StaysStored D.state n.node m.node };
+    ghost stores = { λ n x fate m. CoreStores D.state n x fate m };
 
     ghost line = { status_line };
 
     fn step(&mut self, input: Input) -> Result<Given, StepFail> {
-        brings_bytes(&input);
-        let done = self.node.step(input);
-        count_fits(&done);
-        hand_on(done)
+        if reopens(&self.node, &input) {
+            open_again(&mut self.node)
+        } else {
+            step(&mut self.node, input)
+        }
     }
 
     fn me(&self) -> Pid {
@@ -45,6 +60,47 @@ impl<D: Disk> Core for NodeCore<D> {
     fn status(&self, alloc: Global) -> Result<Blob, NoMemory> {
         short_line(alloc, &line_of(&self.node))
     }
+}
+
+/// Whether a node is opened again at this input.
+fn reopens<D: Disk>(node: &Node<D>, input: &Input) -> bool
+    ensures { result ≡ reopens (standing_of D.state node.now) input.now }
+{
+    match input {
+        Input::Tick => node.failed().is_some(),
+        Input::Deliver(_, _)
+        | Input::Commands(_)
+        | Input::Stop(_)
+        | Input::TrimNow
+        | Input::Up(_)
+        | Input::Down(_) => false,
+    }
+}
+
+/// A node that failed is opened again in place of a tick.
+fn open_again<D: Disk>(node: &mut Node<D>) -> Result<Given, StepFail>
+    requires ready { IsServable node.old }
+    requires failed { reopens (standing_of D.state node.old) Tick ≡ true }
+    ensures steps { Steps (standing_of D.state) (StepStores D.state) node.old Tick result node.new }
+    ensures given { IfOk result GivenInRange }
+    ensures ready { IsServable node.new }
+{
+    hand_on_again(node.reopen())
+}
+
+/// A step of a node that isn't opened again at it.
+fn step<D: Disk>(node: &mut Node<D>, input: Input) -> Result<Given, StepFail>
+    requires ready { IsServable node.old }
+    requires range { InputInRange input }
+    requires stays { reopens (standing_of D.state node.old) input ≡ false }
+    ensures steps { Steps (standing_of D.state) (StepStores D.state) node.old input result node.new }
+    ensures given { IfOk result GivenInRange }
+    ensures ready { IsServable node.new }
+{
+    brings_bytes(&input);
+    let done = node.step(input);
+    count_fits(&done);
+    hand_on(done)
 }
 
 /// Where a node stands, as a report tells it.
@@ -82,6 +138,26 @@ fn hand_on(done: Result<NodeGiven, NodeFail>) -> Result<Given, StepFail>
         }),
         Err(NodeFail::DiskFail { count }) => Err(StepFail::DiskFail { count }),
         Err(NodeFail::NoMemory) => Err(StepFail::NoMemory),
+    }
+}
+
+/// What an opening of a node that failed did, as serving knows it.
+fn hand_on_again(done: Result<Sends, StoreFail>) -> Result<Given, StepFail>
+    ensures { result ≡ handed_again done }
+{
+    match done {
+        Ok(sends) => {
+            let sends = sends.into_vec();
+            let replies = Replies::new(*sends.allocator());
+            Ok(Given {
+                sends: Sends::from_vec(sends),
+                replies,
+                outcome: None,
+            })
+        }
+        Err(StoreFail::DiskFault { count }) => Err(StepFail::DiskFail { count }),
+        Err(StoreFail::Damaged { .. }) => Err(StepFail::Damaged),
+        Err(StoreFail::NoMemory) => Err(StepFail::NoMemory),
     }
 }
 

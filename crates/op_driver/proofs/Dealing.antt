@@ -23,15 +23,14 @@ use Rattle.op_serving.specs.Wire.{client_frame}
 use Rattle.op_serving.specs.State.{Table, Loop, find, set, changed, changed_at, is_open, down_of, left_at, left_by}
 use Rattle.op_serving.specs.Losses.{most_marks, mark_at, noted, stopped_if, lost_by, settled, IsCalm, IsFrom, Foretells, Grew, Stays}
 use Rattle.op_serving.specs.Inputs.{Deed, hears, says, State, Luck, noting, give, gathers, flushed, given_together, released, proposes, behind, over, drained, rest}
-use Rattle.op_serving.specs.Faults.{Stepped}
 use Rattle.op_serving.specs.Reading.{tells, ending, on_frame, on_heard, joins_others, of_kind, holding, links, linked, is_peer, frames_at, at_frame, held_in, feeding, feeds, counted_if, met, dealt_front, dealt_at, dealt, read}
 use Rattle.op_serving.specs.Handing.{no_command}
 use Rattle.op_queues.specs.Hearing.{Alike, TakesOut}
-use Rattle.op_driver.specs.Driver.{Served, with_deeds, Knows, Acts, FromCalm, Does, Gives, Loses, Rests}
+use Rattle.op_driver.specs.Driver.{Served, Stores, Went, with_deeds, Knows, Acts, FromCalm, Does, Gives, Loses, Rests}
 use Rattle.op_driver.specs.Dealing.{TakesOn, makes_way, tells_now, GathersOn, HandlesAlone, Handles, Next, Ends, Taken, framed, greeted, fronted, Deals, DealsAll}
 use Rattle.op_queues.proofs.Tables.{find_set, without_set, found_changed}
 use Rattle.op_queues.proofs.Settling.{kinds_then, stays_same, stays_then, grew_still, grew_trans, foretold, lost_first}
-use Rattle.op_driver.proofs.Stepping.{steps_then, steps_from, steps_to}
+use Rattle.op_driver.proofs.Stepping.{Untouched, untouched, untouched_then, went_then, went_beside, went_none, went_still, went_from, went_to}
 use Rattle.op_driver.proofs.Calm.{calm_same, calm_frame}
 use Rattle.op_driver.proofs.Draining.{gives_does, rest_still, knew, known, split_deeds}
 
@@ -43,9 +42,9 @@ rests_stays {s} {t} a none = record { turn = a.turn; at = a.at; none = none }
 pub rests_then : {s m t : Loop} → Rests s m → Rests m t → Rests s t
 rests_then {s} {m} {t} a b = record { turn = b.turn ∙ a.turn; at = b.at ∙ a.at; none = b.none }
 
-module _ {K : Type 0} where
+module _ {K : Type 0} {stores : Stores K} where
   -- what is noted of one deed is known e before it
-  pub tells_does : (c : ℕ) (what : Said) (d e : Served K) → e ≡ tells_now c what d → Does (λ l s. tells c what s) d e
+  pub tells_does : (c : ℕ) (what : Said) (d e : Served K) → e ≡ tells_now c what d → Does stores (λ l s. tells c what s) d e
   tells_does c what d e is =
       let deed : Deed = says (c, client_frame (no_command what)) in
       let lost : e.loop.lost ≡ d.loop.lost = ap (λ (x : Served K). x.loop.lost) is in
@@ -54,21 +53,21 @@ module _ {K : Type 0} where
         acts = record {
           deeds = deed ∷ [];
           grew = grew_still lost place;
-          steps = ap (λ (x : Served K). x.node) is;
+          went = went_beside deed refl (went_still (untouched is));
           is = λ l before k calm_e. ap (with_deeds (before ++ deed ∷ [])) (sym is);
         };
         calm = λ marks f calm_e. calm_same marks d.loop e.loop lost place (λ x. ap (λ (y : Served K). is_open x y.loop) is ∙ found_changed _ c x d.loop.sessions) calm_e;
       }
 
-  pub nothing_does : (f : Luck → State → State) (d : Served K) → ((l : Luck) (s : State) → f l s ≡ s) → Does f d d
+  pub nothing_does : (f : Luck → State → State) (d : Served K) → ((l : Luck) (s : State) → f l s ≡ s) → Does stores f d d
   nothing_does f d same = record {
-    acts = record { deeds = []; grew = grew_still refl refl; steps = refl; is = λ l before k calm_e. same l (with_deeds before d) ∙ ap (λ b. with_deeds b d) (sym (append-nil before)) };
+    acts = record { deeds = []; grew = grew_still refl refl; went = went_none; is = λ l before k calm_e. same l (with_deeds before d) ∙ ap (λ b. with_deeds b d) (sym (append-nil before)) };
     calm = λ marks f calm_e. calm_e;
   }
 
-  pub does_as : (f g : Luck → State → State) {d e : Served K} → ((l : Luck) (before : List Deed) → g l (with_deeds before d) ≡ f l (with_deeds before d)) → Does f d e → Does g d e
+  pub does_as : (f g : Luck → State → State) {d e : Served K} → ((l : Luck) (before : List Deed) → g l (with_deeds before d) ≡ f l (with_deeds before d)) → Does stores f d e → Does stores g d e
   does_as f g same a = record {
-    acts = record { deeds = a.acts.deeds; grew = a.acts.grew; steps = a.acts.steps; is = λ l before k calm_e. same l before ∙ a.acts.is l before k calm_e };
+    acts = record { deeds = a.acts.deeds; grew = a.acts.grew; went = a.acts.went; is = λ l before k calm_e. same l before ∙ a.acts.is l before k calm_e };
     calm = a.calm;
   }
 
@@ -76,16 +75,16 @@ pub on_ok_as : {A E P Q : Type 0} (r : Result A E) → (P → Q) → OnOk r P �
 on_ok_as (Ok x) f h = f h
 on_ok_as (Err e) f h = tt
 
-module _ {K : Type 0} where
+module _ {K : Type 0} {stores : Stores K} where
   -- what a frame says was dealt with
-  pub given_handles : (line : Standing → List ℕ) (c : ℕ) (heard : Heard) (f : Luck → State → State) {d e : Served K} → Gives f d e → ((l : Luck) (before : List Deed) → on_frame l line c heard (with_deeds before d) ≡ f l (with_deeds before d)) → HandlesAlone line c heard d e
+  pub given_handles : (line : Standing → List ℕ) (c : ℕ) (heard : Heard) (f : Luck → State → State) {d e : Served K} → Gives stores f d e → ((l : Luck) (before : List Deed) → on_frame l line c heard (with_deeds before d) ≡ f l (with_deeds before d)) → HandlesAlone stores line c heard d e
   given_handles line c heard f {d} {e} a same = record {
     does = does_as f (λ l s. on_frame l line c heard s) same (gives_does f a);
     stays = a.stays;
     none = a.none;
   }
 
-  pub told_handles : (line : Standing → List ℕ) (c : ℕ) (heard : Heard) (what : Said) {d e : Served K} → d.loop.downs ≡ [] → ((l : Luck) (before : List Deed) → on_frame l line c heard (with_deeds before d) ≡ tells c what (with_deeds before d)) → e ≡ tells_now c what d → HandlesAlone line c heard d e
+  pub told_handles : (line : Standing → List ℕ) (c : ℕ) (heard : Heard) (what : Said) {d e : Served K} → d.loop.downs ≡ [] → ((l : Luck) (before : List Deed) → on_frame l line c heard (with_deeds before d) ≡ tells c what (with_deeds before d)) → e ≡ tells_now c what d → HandlesAlone stores line c heard d e
   told_handles line c heard what {d} {e} none same is = record {
     does = does_as (λ l s. tells c what s) (λ l s. on_frame l line c heard s) same (tells_does c what d e is);
     stays = stays_same (ap (λ (x : Served K). x.loop.place) is);
@@ -94,7 +93,7 @@ module _ {K : Type 0} where
 
   -- an end request
   pub ended_handles : (line : Standing → List ℕ) (c : ℕ) (heard : Heard) {d m e : Served K} → d.loop.downs ≡ [] → ((l : Luck) (before : List Deed) → on_frame l line c heard (with_deeds before d) ≡ ending (tells c said.Ended (with_deeds before d)))
-      → m ≡ tells_now c said.Ended d → e ≡ record m { loop = record m.loop { ending = true } } → HandlesAlone line c heard d e
+      → m ≡ tells_now c said.Ended d → e ≡ record m { loop = record m.loop { ending = true } } → HandlesAlone stores line c heard d e
   ended_handles line c heard {d} {m} {e} none same is_m is =
       let deed : Deed = says (c, client_frame (no_command said.Ended)) in
       let lost : e.loop.lost ≡ d.loop.lost = ap (λ (x : Served K). x.loop.lost) is ∙ ap (λ (x : Served K). x.loop.lost) is_m in
@@ -104,7 +103,7 @@ module _ {K : Type 0} where
           acts = record {
             deeds = deed ∷ [];
             grew = grew_still lost place;
-            steps = ap (λ (x : Served K). x.node) is ∙ ap (λ (x : Served K). x.node) is_m;
+            went = went_beside deed refl (went_still (untouched_then (untouched is_m) (untouched is)));
             is = λ l before k calm_e. same l before ∙ ap (λ (x : Served K). ending (with_deeds (before ++ deed ∷ []) x)) (sym is_m) ∙ ap (with_deeds (before ++ deed ∷ [])) (sym is);
           };
           calm = λ marks f calm_e. calm_same marks d.loop e.loop lost place (λ x. ap (λ (y : Served K). is_open x y.loop) is ∙ ap (λ (y : Served K). is_open x y.loop) is_m ∙ found_changed _ c x d.loop.sessions) calm_e;
@@ -127,9 +126,9 @@ from_frame p n x le (inr h) = inr (
 grew_frame : (n : ℕ) (s : Loop) → s.place.frames ≤ n → Grew s (frames_at n s)
 grew_frame n s le = record { added = []; lost = sym (append-nil s.lost); from = All-nil (IsFrom s.place); place = λ x h. from_frame s.place n x le h; counts = omega arith }
 
-module _ {K : Type 0} where
+module _ {K : Type 0} {stores : Stores K} where
   -- it was dealt with, and its session is still there: it is counted
-  pub frame_counts : (line : Standing → List ℕ) (c n : ℕ) (heard : Heard) (d m e : Served K) → Handles line c heard d m → d.loop.place.frames ≡ n → is_open c m.loop ≡ true → e ≡ record m { loop = frames_at (n + 1) m.loop } → Taken (framed line c heard n) c n (Some (n + 1)) d e
+  pub frame_counts : (line : Standing → List ℕ) (c n : ℕ) (heard : Heard) (d m e : Served K) → Handles stores line c heard d m → d.loop.place.frames ≡ n → is_open c m.loop ≡ true → e ≡ record m { loop = frames_at (n + 1) m.loop } → Taken stores (framed line c heard n) c n (Some (n + 1)) d e
   frame_counts line c n heard d m e h at there is =
       let frames : m.loop.place.frames ≡ n = h.stays.frames ∙ at in
       let grew_m : Grew m.loop e.loop = subst (λ (x : Served K). Grew m.loop x.loop) (sym is) (grew_frame (n + 1) m.loop (omega (arith, frames))) in
@@ -137,7 +136,7 @@ module _ {K : Type 0} where
       record {
         deeds = h.does.acts.deeds;
         grew = grew_trans h.does.acts.grew grew_m;
-        steps = steps_to h.does.acts.deeds d m e (ap (λ (x : Served K). x.node) is) h.does.acts.steps;
+        went = went_to h.does.acts.went (untouched is);
         rests = record {
           turn = ap (λ (x : Served K). x.loop.place.turn) is ∙ h.stays.turn;
           at = ap (λ (x : Served K). x.loop.place.at) is ∙ h.stays.at;
@@ -156,11 +155,11 @@ module _ {K : Type 0} where
       }
 
   -- it ended the session
-  pub frame_ends : (line : Standing → List ℕ) (c n : ℕ) (heard : Heard) (d e : Served K) → Handles line c heard d e → is_open c e.loop ≡ false → Taken (framed line c heard n) c n None d e
+  pub frame_ends : (line : Standing → List ℕ) (c n : ℕ) (heard : Heard) (d e : Served K) → Handles stores line c heard d e → is_open c e.loop ≡ false → Taken stores (framed line c heard n) c n None d e
   frame_ends line c n heard d e h closed = record {
     deeds = h.does.acts.deeds;
     grew = h.does.acts.grew;
-    steps = h.does.acts.steps;
+    went = h.does.acts.went;
     rests = rests_stays h.stays h.none;
     counts = tt;
     is = inr (
@@ -172,14 +171,15 @@ module _ {K : Type 0} where
   }
 
   -- its session was lost
-  pub taken_lost : (f : Luck → Next → State → State) (c n : ℕ) (d e : Served K) → Loses c d e → Taken f c n None d e
-  taken_lost f c n d e h = record { deeds = h.deeds; grew = h.grew; steps = h.steps; rests = rests_stays h.stays h.none; counts = tt; is = inl h }
+  pub taken_lost : (f : Luck → Next → State → State) (c n : ℕ) (d e : Served K) → Loses stores c d e → Taken stores f c n None d e
+  taken_lost f c n d e h = record { deeds = h.deeds; grew = h.grew; went = h.went; rests = rests_stays h.stays h.none; counts = tt; is = inl h }
 
-  pub frame_counted : (line : Standing → List ℕ) (c n : ℕ) (heard : Heard) (d m e : Served K) (r : Option ℕ) → Handles line c heard d m → d.loop.place.frames ≡ n
-      → IfSome r (λ k. (k ≡ n + 1) × (is_open c m.loop ≡ true) × (e ≡ record m { loop = frames_at (n + 1) m.loop })) → IfNone r ((is_open c m.loop ≡ false) × (e ≡ m)) → Taken (framed line c heard n) c n r d e
-  frame_counted line c n heard d m e None h at some none = subst (λ (x : Served K). Taken (framed line c heard n) c n None d x) (sym none.1) (frame_ends line c n heard d m h none.0)
-  frame_counted line c n heard d m e (Some k) h at some none = subst (λ x. Taken (framed line c heard n) c n (Some x) d e) (sym some.0) (frame_counts line c n heard d m e h at some.1 some.2)
+  pub frame_counted : (line : Standing → List ℕ) (c n : ℕ) (heard : Heard) (d m e : Served K) (r : Option ℕ) → Handles stores line c heard d m → d.loop.place.frames ≡ n
+      → IfSome r (λ k. (k ≡ n + 1) × (is_open c m.loop ≡ true) × (e ≡ record m { loop = frames_at (n + 1) m.loop })) → IfNone r ((is_open c m.loop ≡ false) × (e ≡ m)) → Taken stores (framed line c heard n) c n r d e
+  frame_counted line c n heard d m e None h at some none = subst (λ (x : Served K). Taken stores (framed line c heard n) c n None d x) (sym none.1) (frame_ends line c n heard d m h none.0)
+  frame_counted line c n heard d m e (Some k) h at some none = subst (λ x. Taken stores (framed line c heard n) c n (Some x) d e) (sym some.0) (frame_counts line c n heard d m e h at some.1 some.2)
 
+module _ {K : Type 0} where
   -- ---- what stood at the front
 
   -- only what a session has read was taken, or whose it is
@@ -215,9 +215,9 @@ lost_alike_if c false x y s e a = refl
 lost_alike : (c : ℕ) (x y : Session) (s : Loop) → find c s.sessions ≡ Some x → Alike x y → lost_by c (with_session c y s) ≡ lost_by c s
 lost_alike c x y s e a = lost_alike_if c (nat_lt (length s.lost + 1) most_marks) x y (noted (mark_at s.place (Some c)) s) e a
 
-module _ {K : Type 0} where
+module _ {K : Type 0} {stores : Stores K} where
   -- a session that is lost then is as good as lost before
-  rest_lost : (c : ℕ) (v m e : Served K) → lost_by c m.loop ≡ lost_by c v.loop → is_open c v.loop ≡ true → length v.loop.lost < most_marks → m.node ≡ v.node → Loses c m e → (l : Luck) (before : List Deed) → Foretells l.marks e.loop
+  rest_lost : (c : ℕ) (v m e : Served K) → lost_by c m.loop ≡ lost_by c v.loop → is_open c v.loop ≡ true → length v.loop.lost < most_marks → m.node ≡ v.node → Loses stores c m e → (l : Luck) (before : List Deed) → Foretells l.marks e.loop
       → rest l (with_deeds before v) ≡ rest l (with_deeds before m)
   unfolding rest
   rest_lost c v m e same there few node a l before f =
@@ -226,10 +226,11 @@ module _ {K : Type 0} where
       let settle_v : settled l.marks v.loop ≡ settled l.marks m.loop = lost_first c v.loop l.marks there few f_v ∙ ap (settled l.marks) (sym same) ∙ sym (lost_first c m.loop l.marks a.there a.few f_m) in
       ap (λ (x : Loop). drained l (record { loop = x; node = v.node; deeds = before })) settle_v ∙ ap (λ n. drained l (record { loop = settled l.marks m.loop; node = n; deeds = before })) (sym node)
 
-  rest_alike : (c : ℕ) (v m e : Served K) → Same c v m → Loses c m e → (l : Luck) (before : List Deed) → Foretells l.marks e.loop → rest l (with_deeds before v) ≡ rest l (with_deeds before m)
+  rest_alike : (c : ℕ) (v m e : Served K) → Same c v m → Loses stores c m e → (l : Luck) (before : List Deed) → Foretells l.marks e.loop → rest l (with_deeds before v) ≡ rest l (with_deeds before m)
   rest_alike c v m e h a l before f =
       rest_lost c v m e (ap (λ (x : Served K). lost_by c x.loop) h.is ∙ lost_alike c h.before h.now v.loop h.found h.alike) (ap is_some h.found) (subst (λ (x : Served K). length x.loop.lost < most_marks) h.is a.few) (ap (λ (x : Served K). x.node) h.is) a l before f
 
+module _ {K : Type 0} where
   grew_take : (c : ℕ) {v m : Served K} → Same c v m → Grew v.loop m.loop
   grew_take c {v} {m} h = grew_still (ap (λ (x : Served K). x.loop.lost) h.is) (ap (λ (x : Served K). x.loop.place) h.is)
 
@@ -237,27 +238,26 @@ module _ {K : Type 0} where
   abbrev pub Fronts : (Standing → List ℕ) → ℕ → ℕ → (Luck → Next → State → State) → Served K → Served K → Type 0
   Fronts line c n f v m = (l : Luck) (before : List Deed) (more : Next) → dealt_at l line c more n (find c v.loop.sessions) (with_deeds before v) ≡ f l more (with_deeds before m)
 
+  rested : (line : Standing → List ℕ) (c n : ℕ) (f : Luck → Next → State → State) {v m : Served K} → Same c v m → v.loop.downs ≡ [] → (l : Luck) (before : List Deed) (more : Next) → Fronts line c n f v m → IsCalm l.marks m.loop
+      → fronted line c n l more (with_deeds before v) ≡ f l more (with_deeds before m)
+  rested line c n f {v} {m} h none_v l before more front calm_m =
+      ap (λ t. dealt_at l line c more n (find c t.loop.sessions) t) (rest_still l (with_deeds before v) (calm_before_take c v m h l.marks calm_m) none_v) ∙ front l before more
+
+  rests_of : (c : ℕ) {v m : Served K} (t : Loop) → Same c v m → Rests m.loop t → Rests v.loop t
+  rests_of c t h a = record {
+    turn = a.turn ∙ ap (λ (x : Served K). x.loop.place.turn) h.is;
+    at = a.at ∙ ap (λ (x : Served K). x.loop.place.at) h.is;
+    none = a.none;
+  }
+
+module _ {K : Type 0} {stores : Stores K} where
   module _ (line : Standing → List ℕ) (c n : ℕ) (f : Luck → Next → State → State) (v m e : Served K) (h : Same c v m) (none_v : v.loop.downs ≡ []) where
-    rested : (l : Luck) (before : List Deed) (more : Next) → Fronts line c n f v m → IsCalm l.marks m.loop → fronted line c n l more (with_deeds before v) ≡ f l more (with_deeds before m)
-    rested l before more front calm_m =
-        ap (λ t. dealt_at l line c more n (find c t.loop.sessions) t) (rest_still l (with_deeds before v) (calm_before_take c v m h l.marks calm_m) none_v) ∙ front l before more
-
-    steps_of : (ds : List Deed) → Stepped m.node ds e.node → Stepped v.node ds e.node
-    steps_of ds a = steps_from ds v m e (ap (λ (x : Served K). x.node) h.is) a
-
-    rests_of : Rests m.loop e.loop → Rests v.loop e.loop
-    rests_of a = record {
-      turn = a.turn ∙ ap (λ (x : Served K). x.loop.place.turn) h.is;
-      at = a.at ∙ ap (λ (x : Served K). x.loop.place.at) h.is;
-      none = a.none;
-    }
-
-    deals_lost : Loses c m e → Deals line c n None v e
+    deals_lost : Loses stores c m e → Deals stores line c n None v e
     deals_lost a = record {
       deeds = a.deeds;
       grew = grew_trans (grew_take c h) a.grew;
-      steps = steps_of a.deeds a.steps;
-      rests = rests_of (rests_stays a.stays a.none);
+      went = went_from (untouched h.is) a.went;
+      rests = rests_of c e.loop h (rests_stays a.stays a.none);
       counts = tt;
       is = λ l before more known calm_e.
           let first : rest l (with_deeds before v) ≡ rest l (with_deeds before m) = rest_alike c v m e h a l before known.marks in
@@ -265,49 +265,49 @@ module _ {K : Type 0} where
           ap (λ o. dealt_at l line c more n o (rest l (with_deeds before v))) closed ∙ first ∙ a.is l before known ∙ rest_still l (with_deeds (before ++ a.deeds) e) calm_e a.none;
     }
 
-    deals_end : (deeds : List Deed) → Grew m.loop e.loop → Stepped m.node deeds e.node → Rests m.loop e.loop → Fronts line c n f v m → FromCalm m e → Ends f m e deeds → Deals line c n None v e
-    deals_end deeds g steps rests front calm_m is = record {
+    deals_end : (deeds : List Deed) → Grew m.loop e.loop → Went stores m deeds e → Rests m.loop e.loop → Fronts line c n f v m → FromCalm m e → Ends f m e deeds → Deals stores line c n None v e
+    deals_end deeds g went rests front calm_m is = record {
       deeds = deeds;
       grew = grew_trans (grew_take c h) g;
-      steps = steps_of deeds steps;
-      rests = rests_of rests;
+      went = went_from (untouched h.is) went;
+      rests = rests_of c e.loop h rests;
       counts = tt;
-      is = λ l before more known calm_e. rested l before more front (calm_m l.marks known.marks calm_e) ∙ is l before more known calm_e;
+      is = λ l before more known calm_e. rested line c n f h none_v l before more front (calm_m l.marks known.marks calm_e) ∙ is l before more known calm_e;
     }
 
-    deals_none : (t : Taken f c n None m e) → Fronts line c n f v m → Loses c m e ⊎ (FromCalm m e × Ends f m e t.deeds) → Deals line c n None v e
+    deals_none : (t : Taken stores f c n None m e) → Fronts line c n f v m → Loses stores c m e ⊎ (FromCalm m e × Ends f m e t.deeds) → Deals stores line c n None v e
     deals_none t front (inl a) = deals_lost a
-    deals_none t front (inr a) = deals_end t.deeds t.grew t.steps t.rests front a.0 a.1
+    deals_none t front (inr a) = deals_end t.deeds t.grew t.went t.rests front a.0 a.1
 
     -- what was found was dealt with
-    pub deals : (r : Option ℕ) → Fronts line c n f v m → Taken f c n r m e → Deals line c n r v e
+    pub deals : (r : Option ℕ) → Fronts line c n f v m → Taken stores f c n r m e → Deals stores line c n r v e
     deals None front t = deals_none t front t.is
     deals (Some k) front t = record {
       deeds = t.deeds;
       grew = grew_trans (grew_take c h) t.grew;
-      steps = steps_of t.deeds t.steps;
-      rests = rests_of t.rests;
+      went = went_from (untouched h.is) t.went;
+      rests = rests_of c e.loop h t.rests;
       counts = t.counts;
-      is = λ l before more known. rested l before more front (t.is.0 l.marks known.marks) ∙ t.is.1 l before more known;
+      is = λ l before more known. rested line c n f h none_v l before more front (t.is.0 l.marks known.marks) ∙ t.is.1 l before more known;
     }
 
-    pub deals_when_lost : Loses c m e → Deals line c n None v e
+    pub deals_when_lost : Loses stores c m e → Deals stores line c n None v e
     deals_when_lost a = deals_lost a
     -- ---- what was found
 
 changed_found : (c : ℕ) (g : Session → Session) (x : Session) (t : Table Session) → find c t ≡ Some x → changed g c t ≡ set c (g x) t
 changed_found c g x t e = ap (λ o. changed_at g c o t) e
 
-module _ {K : Type 0} where
+module _ {K : Type 0} {stores : Stores K} where
   -- it waits for more
   waits_at : (line : Standing → List ℕ) (c n : ℕ) (v e : Served K) (o : Option Session) → find c v.loop.sessions ≡ o → TakesOut c v.loop.me o v.loop.sessions (Ok found.Waits) e.loop.sessions → e ≡ record v { loop = record v.loop { sessions = e.loop.sessions } }
-      → v.loop.downs ≡ [] → Deals line c n None v e
+      → v.loop.downs ≡ [] → Deals stores line c n None v e
   waits_at line c n v e None look takes is none_v =
       let same : e ≡ v = is ∙ ap (λ t. record v { loop = record v.loop { sessions = t } }) takes.1 in
-      subst (λ (x : Served K). Deals line c n None v x) (sym same) (record {
+      subst (λ (x : Served K). Deals stores line c n None v x) (sym same) (record {
         deeds = [];
         grew = grew_still refl refl;
-        steps = refl;
+        went = went_none;
         rests = record { turn = refl; at = refl; none = none_v };
         counts = tt;
         is = λ l before more known calm_v.
@@ -325,21 +325,23 @@ module _ {K : Type 0} where
       deals line c n (λ l more s. s) v e e h none_v None front (record {
         deeds = [];
         grew = grew_still refl refl;
-        steps = refl;
+        went = went_none;
         rests = record { turn = refl; at = refl; none = ap (λ (z : Served K). z.loop.downs) h.is ∙ none_v };
         counts = tt;
         is = inr (λ marks f calm_e. calm_e, λ l before more known calm_e. ap (λ b. with_deeds b e) (sym (append-nil before)));
       })
 
+module _ {K : Type 0} where
   whole_of : (c : ℕ) (v e : Served K) (r : Result Front AllocError) → TakesOn c v r e → e ≡ record v { loop = record v.loop { sessions = e.loop.sessions } }
   whole_of c v e r t = ap (λ (x : Loop). record e { loop = x }) t.takes.rest ∙ ap (λ n. record e { loop = record v.loop { sessions = e.loop.sessions }; node = n }) t.node ∙ ap (λ (k : K). record v { loop = record v.loop { sessions = e.loop.sessions }; core = k }) t.core
 
-  pub deals_waits : (line : Standing → List ℕ) (c n : ℕ) (v e : Served K) → TakesOn c v (Ok found.Waits) e → v.loop.downs ≡ [] → Deals line c n None v e
+module _ {K : Type 0} {stores : Stores K} where
+  pub deals_waits : (line : Standing → List ℕ) (c n : ℕ) (v e : Served K) → TakesOn c v (Ok found.Waits) e → v.loop.downs ≡ [] → Deals stores line c n None v e
   deals_waits line c n v e t none_v = waits_at line c n v e (find c v.loop.sessions) refl t.takes.takes (whole_of c v e (Ok found.Waits) t) none_v
 
   -- a frame
   frame_at : (line : Standing → List ℕ) (c n : ℕ) (heard : Heard) (v m e : Served K) (r : Option ℕ) (o : Option Session) → find c v.loop.sessions ≡ o → TakesOut c v.loop.me o v.loop.sessions (Ok (found.Frame heard)) m.loop.sessions
-      → m ≡ record v { loop = record v.loop { sessions = m.loop.sessions } } → v.loop.downs ≡ [] → Taken (framed line c heard n) c n r m e → Deals line c n r v e
+      → m ≡ record v { loop = record v.loop { sessions = m.loop.sessions } } → v.loop.downs ≡ [] → Taken stores (framed line c heard n) c n r m e → Deals stores line c n r v e
   frame_at line c n heard v m e r None look takes is none_v t = absurd (let k = takes.0 in cc)
   frame_at line c n heard v m e r (Some x) look takes is none_v t =
       let y : Session = takes.0 in
@@ -353,12 +355,12 @@ module _ {K : Type 0} where
       ∙ ap (λ (z : Served K). framed line c heard n l more (with_deeds before z)) (sym h.is) in
       deals line c n (framed line c heard n) v m e h none_v r front t
 
-  pub deals_frame : (line : Standing → List ℕ) (c n : ℕ) (heard : Heard) (v m e : Served K) (r : Option ℕ) → TakesOn c v (Ok (found.Frame heard)) m → v.loop.downs ≡ [] → Taken (framed line c heard n) c n r m e → Deals line c n r v e
+  pub deals_frame : (line : Standing → List ℕ) (c n : ℕ) (heard : Heard) (v m e : Served K) (r : Option ℕ) → TakesOn c v (Ok (found.Frame heard)) m → v.loop.downs ≡ [] → Taken stores (framed line c heard n) c n r m e → Deals stores line c n r v e
   deals_frame line c n heard v m e r t none_v a = frame_at line c n heard v m e r (find c v.loop.sessions) refl t.takes.takes (whole_of c v m (Ok (found.Frame heard)) t) none_v a
 
   -- a peer's hello
   hello_at : (line : Standing → List ℕ) (c n q : ℕ) (v m e : Served K) (r : Option ℕ) (o : Option Session) → find c v.loop.sessions ≡ o → TakesOut c v.loop.me o v.loop.sessions (Ok (found.Hello q)) m.loop.sessions
-      → m ≡ record v { loop = record v.loop { sessions = m.loop.sessions } } → v.loop.downs ≡ [] → Taken (greeted line c q n) c n r m e → Deals line c n r v e
+      → m ≡ record v { loop = record v.loop { sessions = m.loop.sessions } } → v.loop.downs ≡ [] → Taken stores (greeted line c q n) c n r m e → Deals stores line c n r v e
   hello_at line c n q v m e r None look takes is none_v t = absurd (let k = takes.0 in cc)
   hello_at line c n q v m e r (Some x) look takes is none_v t =
       let y : Session = takes.0 in
@@ -371,12 +373,12 @@ module _ {K : Type 0} where
       ∙ ap (λ (z : Served K). greeted line c q n l more (with_deeds before z)) (sym h.is) in
       deals line c n (greeted line c q n) v m e h none_v r front t
 
-  pub deals_hello : (line : Standing → List ℕ) (c n q : ℕ) (v m e : Served K) (r : Option ℕ) → TakesOn c v (Ok (found.Hello q)) m → v.loop.downs ≡ [] → Taken (greeted line c q n) c n r m e → Deals line c n r v e
+  pub deals_hello : (line : Standing → List ℕ) (c n q : ℕ) (v m e : Served K) (r : Option ℕ) → TakesOn c v (Ok (found.Hello q)) m → v.loop.downs ≡ [] → Taken stores (greeted line c q n) c n r m e → Deals stores line c n r v e
   deals_hello line c n q v m e r t none_v a = hello_at line c n q v m e r (find c v.loop.sessions) refl t.takes.takes (whole_of c v m (Ok (found.Hello q)) t) none_v a
 
   -- what is refused
   refused_at : (line : Standing → List ℕ) (c n : ℕ) (v m e : Served K) (o : Option Session) → find c v.loop.sessions ≡ o → TakesOut c v.loop.me o v.loop.sessions (Ok found.Refused) m.loop.sessions → m ≡ record v { loop = record v.loop { sessions = m.loop.sessions } }
-      → v.loop.downs ≡ [] → Does (λ l s. over l c s) m e → Rests m.loop e.loop → Deals line c n None v e
+      → v.loop.downs ≡ [] → Does stores (λ l s. over l c s) m e → Rests m.loop e.loop → Deals stores line c n None v e
   refused_at line c n v m e None look takes is none_v a rests = absurd (let k = takes.0 in cc)
   refused_at line c n v m e (Some x) look takes is none_v a rests =
       let y : Session = takes.0 in
@@ -390,33 +392,33 @@ module _ {K : Type 0} where
       deals line c n (λ l more s. over l c s) v m e h none_v None front (record {
         deeds = a.acts.deeds;
         grew = a.acts.grew;
-        steps = a.acts.steps;
+        went = a.acts.went;
         rests = rests;
         counts = tt;
         is = inr (a.calm, λ l before more known calm_e. a.acts.is l before known calm_e);
       })
 
-  pub deals_refused : (line : Standing → List ℕ) (c n : ℕ) (v m e : Served K) → TakesOn c v (Ok found.Refused) m → v.loop.downs ≡ [] → Does (λ l s. over l c s) m e → Rests m.loop e.loop → Deals line c n None v e
+  pub deals_refused : (line : Standing → List ℕ) (c n : ℕ) (v m e : Served K) → TakesOn c v (Ok found.Refused) m → v.loop.downs ≡ [] → Does stores (λ l s. over l c s) m e → Rests m.loop e.loop → Deals stores line c n None v e
   deals_refused line c n v m e t none_v a rests = refused_at line c n v m e (find c v.loop.sessions) refl t.takes.takes (whole_of c v m (Ok found.Refused) t) none_v a rests
 
   -- what finds no memory
   lost_at : (line : Standing → List ℕ) (c n : ℕ) (v m e : Served K) (w : AllocError) (o : Option Session) → find c v.loop.sessions ≡ o → TakesOut c v.loop.me o v.loop.sessions (Err w) m.loop.sessions → m ≡ record v { loop = record v.loop { sessions = m.loop.sessions } }
-      → v.loop.downs ≡ [] → Loses c m e → Deals line c n None v e
+      → v.loop.downs ≡ [] → Loses stores c m e → Deals stores line c n None v e
   lost_at line c n v m e w None look takes is none_v a = absurd (let k = takes.0 in cc)
   lost_at line c n v m e w (Some x) look takes is none_v a =
       let h : Same c v m = record { before = x; now = takes.0; found = look; alike = takes.2; is = is ∙ ap (λ t. record v { loop = record v.loop { sessions = t } }) takes.3 } in
       deals_when_lost line c n (λ l more s. s) v m e h none_v a
 
-  pub deals_lost_at : (line : Standing → List ℕ) (c n : ℕ) (v m e : Served K) (w : AllocError) → TakesOn c v (Err w) m → v.loop.downs ≡ [] → Loses c m e → Deals line c n None v e
+  pub deals_lost_at : (line : Standing → List ℕ) (c n : ℕ) (v m e : Served K) (w : AllocError) → TakesOn c v (Err w) m → v.loop.downs ≡ [] → Loses stores c m e → Deals stores line c n None v e
   deals_lost_at line c n v m e w t none_v a = lost_at line c n v m e w (find c v.loop.sessions) refl t.takes.takes (whole_of c v m (Err w) t) none_v a
 
   -- ---- a hello
 
-  pub greet_closed : (line : Standing → List ℕ) (c n q : ℕ) (d m : Served K) → is_peer q d.loop ≡ true → Does (λ l s. makes_way l c q s) d m → Stays d.loop m.loop → m.loop.downs ≡ [] → is_open c m.loop ≡ false → Taken (greeted line c q n) c n None d m
+  pub greet_closed : (line : Standing → List ℕ) (c n q : ℕ) (d m : Served K) → is_peer q d.loop ≡ true → Does stores (λ l s. makes_way l c q s) d m → Stays d.loop m.loop → m.loop.downs ≡ [] → is_open c m.loop ≡ false → Taken stores (greeted line c q n) c n None d m
   greet_closed line c n q d m peer a stays none closed = record {
     deeds = a.acts.deeds;
     grew = a.acts.grew;
-    steps = a.acts.steps;
+    went = a.acts.went;
     rests = rests_stays stays none;
     counts = tt;
     is = inr (
@@ -429,8 +431,8 @@ module _ {K : Type 0} where
     );
   }
 
-  pub greet_goes : (line : Standing → List ℕ) (c n q : ℕ) (d m u e : Served K) → d.loop.place.frames ≡ n → is_peer q d.loop ≡ true → Does (λ l s. makes_way l c q s) d m → Stays d.loop m.loop → is_open c m.loop ≡ true
-      → u ≡ record m { loop = links q c m.loop } → Gives (λ l s. give l [] (input.Up q) s) u e → Taken (greeted line c q n) c n (Some n) d e
+  pub greet_goes : (line : Standing → List ℕ) (c n q : ℕ) (d m u e : Served K) → d.loop.place.frames ≡ n → is_peer q d.loop ≡ true → Does stores (λ l s. makes_way l c q s) d m → Stays d.loop m.loop → is_open c m.loop ≡ true
+      → u ≡ record m { loop = links q c m.loop } → Gives stores (λ l s. give l [] (input.Up q) s) u e → Taken stores (greeted line c q n) c n (Some n) d e
   greet_goes line c n q d m u e at peer a stays there is g =
       let lost : u.loop.lost ≡ m.loop.lost = ap (λ (x : Served K). x.loop.lost) is in
       let place : u.loop.place ≡ m.loop.place = ap (λ (x : Served K). x.loop.place) is in
@@ -440,7 +442,7 @@ module _ {K : Type 0} where
       record {
         deeds = a.acts.deeds ++ g.deeds;
         grew = grew_trans a.acts.grew (grew_trans grew_u g.grew);
-        steps = steps_then a.acts.deeds g.deeds d.node m.node e.node a.acts.steps (steps_from g.deeds m u e (ap (λ (x : Served K). x.node) is) g.steps);
+        went = went_then a.acts.went (went_from (untouched is) g.went);
         rests = record {
           turn = g.stays.turn ∙ ap (λ p. p.turn) place ∙ stays.turn;
           at = g.stays.at ∙ ap (λ p. p.at) place ∙ stays.at;
@@ -471,26 +473,29 @@ module _ {K : Type 0} where
   pub open_taken : (c : ℕ) (r : Result Front AllocError) (v m : Served K) → TakesOn c v r m → (r ≡ Ok found.Waits → ⊥) → is_open c m.loop ≡ true
   open_taken c r v m t other = open_out c v.loop.me r v.loop.sessions m.loop.sessions (find c v.loop.sessions) refl t.takes.takes other
 
-  -- ---- one after the other
+-- ---- one after the other
 
+module _ {K : Type 0} (stores : Stores K) where
+  -- dealing with all that stands there goes on so
   pub record Reached (line : Standing → List ℕ) (c most left n : ℕ) (d v : Served K) : Type 0 where
     pub deeds : List Deed
     pub grew : Grew d.loop v.loop
-    pub steps : Stepped d.node deeds v.node
+    pub went : Went stores d deeds v
     pub is : (l : Luck) (before : List Deed) → Knows l (with_deeds (before ++ deeds) v) → dealt l line c most 0 (rest l (with_deeds before d)) ≡ dealt l line c left n (rest l (with_deeds (before ++ deeds) v))
 
-  pub reached_start : (line : Standing → List ℕ) (c most : ℕ) (d : Served K) → Reached line c most most 0 d d
-  reached_start line c most d = record { deeds = []; grew = grew_still refl refl; steps = refl; is = λ l before k. ap (λ b. dealt l line c most 0 (rest l (with_deeds b d))) (sym (append-nil before)) }
+module _ {K : Type 0} {stores : Stores K} where
+  pub reached_start : (line : Standing → List ℕ) (c most : ℕ) (d : Served K) → Reached stores line c most most 0 d d
+  reached_start line c most d = record { deeds = []; grew = grew_still refl refl; went = went_none; is = λ l before k. ap (λ b. dealt l line c most 0 (rest l (with_deeds b d))) (sym (append-nil before)) }
 
 dealt_more : (l : Luck) (line : Standing → List ℕ) (c k n : ℕ) (t : State) → dealt l line c (k + 1) n t ≡ dealt_at l line c (dealt l line c k) n (find c t.loop.sessions) t
 dealt_more l line c k n t = ap (λ j. dealt l line c j n t) (add-one k)
 
-module _ {K : Type 0} where
-  pub reached_more : (line : Standing → List ℕ) (c most k n m : ℕ) (d v e : Served K) → Reached line c most (k + 1) n d v → Deals line c n (Some m) v e → Reached line c most k m d e
+module _ {K : Type 0} {stores : Stores K} where
+  pub reached_more : (line : Standing → List ℕ) (c most k n m : ℕ) (d v e : Served K) → Reached stores line c most (k + 1) n d v → Deals stores line c n (Some m) v e → Reached stores line c most k m d e
   reached_more line c most k n m d v e a b = record {
     deeds = a.deeds ++ b.deeds;
     grew = grew_trans a.grew b.grew;
-    steps = steps_then a.deeds b.deeds d.node v.node e.node a.steps b.steps;
+    went = went_then a.went b.went;
     is = λ l before h.
         let k2 : Knows l (with_deeds ((before ++ a.deeds) ++ b.deeds) e) = known e before a.deeds b.deeds h in
         a.is l before (knew v e (before ++ a.deeds) b.deeds b.grew k2)
@@ -499,11 +504,11 @@ module _ {K : Type 0} where
         ∙ ap (λ x. dealt l line c k m (rest l (with_deeds x e))) (sym (split_deeds before a.deeds b.deeds));
   }
 
-  pub reached_end : (line : Standing → List ℕ) (c most k n : ℕ) (d v e : Served K) → Reached line c most (k + 1) n d v → Rests d.loop v.loop → Deals line c n None v e → DealsAll line c most d e
+  pub reached_end : (line : Standing → List ℕ) (c most k n : ℕ) (d v e : Served K) → Reached stores line c most (k + 1) n d v → Rests d.loop v.loop → Deals stores line c n None v e → DealsAll stores line c most d e
   reached_end line c most k n d v e a rests b = record {
     deeds = a.deeds ++ b.deeds;
     grew = grew_trans a.grew b.grew;
-    steps = steps_then a.deeds b.deeds d.node v.node e.node a.steps b.steps;
+    went = went_then a.went b.went;
     rests = rests_then rests b.rests;
     is = λ l before h calm_e.
         let k2 : Knows l (with_deeds ((before ++ a.deeds) ++ b.deeds) e) = known e before a.deeds b.deeds h in
@@ -513,28 +518,30 @@ module _ {K : Type 0} where
         ∙ ap (λ x. with_deeds x e) (sym (split_deeds before a.deeds b.deeds));
   }
 
-  pub reached_all : (line : Standing → List ℕ) (c most n : ℕ) (d v : Served K) → Reached line c most 0 n d v → Rests d.loop v.loop → DealsAll line c most d v
+  pub reached_all : (line : Standing → List ℕ) (c most n : ℕ) (d v : Served K) → Reached stores line c most 0 n d v → Rests d.loop v.loop → DealsAll stores line c most d v
   reached_all line c most n d v a rests = record {
     deeds = a.deeds;
     grew = a.grew;
-    steps = a.steps;
+    went = a.went;
     rests = rests;
     is = λ l before h calm_v. a.is l before h ∙ rest_still l (with_deeds (before ++ a.deeds) v) calm_v rests.none;
   }
 
+module _ {K : Type 0} where
   -- ---- a read
 
   feed_at : (c : ℕ) (bytes : List ℕ) (d m : Served K) → m ≡ record d { loop = feeds c bytes d.loop } → (before : List Deed) → with_deeds (before ++ hears c bytes ∷ []) m ≡ noting (hears c bytes) (record (with_deeds before d) { loop = feeds c bytes d.loop })
   feed_at c bytes d m is before = ap (with_deeds (before ++ hears c bytes ∷ [])) is
 
-  pub reads_all : (line : Standing → List ℕ) (c held : ℕ) (bytes : List ℕ) (d m e : Served K) → m ≡ record d { loop = feeds c bytes d.loop } → held ≡ held_in (find c m.loop.sessions) → DealsAll line c held m e → Acts (λ l s. read l line c bytes s) d e
+module _ {K : Type 0} {stores : Stores K} where
+  pub reads_all : (line : Standing → List ℕ) (c held : ℕ) (bytes : List ℕ) (d m e : Served K) → m ≡ record d { loop = feeds c bytes d.loop } → held ≡ held_in (find c m.loop.sessions) → DealsAll stores line c held m e → Acts stores (λ l s. read l line c bytes s) d e
   reads_all line c held bytes d m e is count a =
       let h : List Deed = hears c bytes ∷ [] in
       let grew_m : Grew d.loop m.loop = grew_still (ap (λ (x : Served K). x.loop.lost) is) (ap (λ (x : Served K). x.loop.place) is) in
       record {
         deeds = h ++ a.deeds;
         grew = grew_trans grew_m a.grew;
-        steps = steps_from a.deeds d m e (ap (λ (x : Served K). x.node) is) a.steps;
+        went = went_beside (hears c bytes) refl (went_from (untouched is) a.went);
         is = λ l before k calm_e.
             let k2 : Knows l (with_deeds ((before ++ h) ++ a.deeds) e) = known e before h a.deeds k in
             let same : with_deeds (before ++ h) m ≡ noting (hears c bytes) (record (with_deeds before d) { loop = feeds c bytes d.loop }) = feed_at c bytes d m is before in
@@ -555,16 +562,16 @@ dealt_closed : (l : Luck) (line : Standing → List ℕ) (c k n : ℕ) (t : Stat
 dealt_closed l line c zero n t e = refl
 dealt_closed l line c (suc k) n t e = ap (λ o. dealt_at l line c (dealt l line c k) n o t) e
 
-module _ {K : Type 0} where
+module _ {K : Type 0} {stores : Stores K} where
   -- what was read found no memory
-  pub reads_none : (line : Standing → List ℕ) (c : ℕ) (bytes : List ℕ) (d e : Served K) → Loses c d e → Acts (λ l s. read l line c bytes s) d e
+  pub reads_none : (line : Standing → List ℕ) (c : ℕ) (bytes : List ℕ) (d e : Served K) → Loses stores c d e → Acts stores (λ l s. read l line c bytes s) d e
   reads_none line c bytes d e a =
       let h : List Deed = hears c bytes ∷ [] in
       let m : Served K = record d { loop = feeds c bytes d.loop } in
       record {
         deeds = h ++ a.deeds;
         grew = a.grew;
-        steps = a.steps;
+        went = went_beside (hears c bytes) refl a.went;
         is = λ l before k calm_e.
             let k2 : Knows l (with_deeds ((before ++ h) ++ a.deeds) e) = known e before h a.deeds k in
             let there : is_open c m.loop ≡ true = found_changed (feeding bytes) c c d.loop.sessions ∙ a.there in
@@ -590,26 +597,28 @@ no_items : {X : Type 0} (xs : List X) → length xs ≤ 0 → xs ≡ []
 no_items [] h = refl
 no_items (x ∷ xs) h = absurd (omega (arith, h))
 
-module _ {K : Type 0} where
-  same_does : (d : Served K) → Does (λ l s. s) d d
+module _ {K : Type 0} {stores : Stores K} where
+  same_does : (d : Served K) → Does stores (λ l s. s) d d
   same_does d = nothing_does (λ l s. s) d (λ l s. refl)
 
+module _ {K : Type 0} where
   -- nothing was gathered
   pub flushed_none : (d : Served K) → d.loop.gathered ≡ [] → (l : Luck) (before : List Deed) → flushed l (with_deeds before d) ≡ with_deeds before d
   flushed_none d e l before = ap (λ r. given_together l r (with_deeds before d)) e
 
-  pub flush_nothing : (d : Served K) → length d.loop.gathered ≤ 0 → Does (λ l s. flushed l s) d d
+module _ {K : Type 0} {stores : Stores K} where
+  pub flush_nothing : (d : Served K) → length d.loop.gathered ≤ 0 → Does stores (λ l s. flushed l s) d d
   flush_nothing d h = does_as (λ l s. s) (λ l s. flushed l s) (flushed_none d (no_items d.loop.gathered h)) (same_does d)
 
   -- some commands were given together
-  pub run_gives : (f : Luck → State → State) (u : List Deed → State) (run : List (ℕ × Command)) (d m e : Served K) → 0 < length run → m.loop.lost ≡ d.loop.lost → m.loop.place ≡ d.loop.place → m.loop.sessions ≡ d.loop.sessions → m.node ≡ d.node
+  pub run_gives : (f : Luck → State → State) (u : List Deed → State) (run : List (ℕ × Command)) (d m e : Served K) → 0 < length run → m.loop.lost ≡ d.loop.lost → m.loop.place ≡ d.loop.place → m.loop.sessions ≡ d.loop.sessions → Untouched d m
       → ((l : Luck) (before : List Deed) → f l (with_deeds before d) ≡ given_together l run (u before)) → ((before : List Deed) → released (u before) ≡ with_deeds before m)
-      → Gives (λ l s. give l (map (λ x. x.0) run) (input.Commands (map (λ x. x.1) run)) s) m e → Gives f d e
-  run_gives f u [] d m e some lost place sessions node same is g = absurd (omega (arith, some))
-  run_gives f u (p ∷ ps) d m e some lost place sessions node same is g = record {
+      → Gives stores (λ l s. give l (map (λ x. x.0) run) (input.Commands (map (λ x. x.1) run)) s) m e → Gives stores f d e
+  run_gives f u [] d m e some lost place sessions same_node same is g = absurd (omega (arith, some))
+  run_gives f u (p ∷ ps) d m e some lost place sessions same_node same is g = record {
     deeds = g.deeds;
     grew = grew_trans (grew_still lost place) g.grew;
-    steps = steps_from g.deeds d m e node g.steps;
+    went = went_from same_node g.went;
     kinds = kinds_then d.loop m.loop e.loop (λ c. inl (ap (λ t. option_map (λ (x : Session). x.kind) (find c t)) sessions)) g.kinds;
     sure = λ marks k. calm_same marks d.loop m.loop lost place (λ c. ap (λ t. is_some (find c t)) sessions) (g.sure marks k);
     stays = stays_then (stays_same place) g.stays;
@@ -617,35 +626,37 @@ module _ {K : Type 0} where
     is = λ l before k. same l before ∙ ap (give l (map (λ x. x.0) (p ∷ ps)) (input.Commands (map (λ x. x.1) (p ∷ ps)))) (is before) ∙ g.is l before k;
   }
 
+module _ {K : Type 0} where
   abbrev emptied_run : Served K → Served K
   emptied_run d = record d { loop = record d.loop { gathered = [] } }
 
+module _ {K : Type 0} {stores : Stores K} where
   pub flush_gives : (run : List (ℕ × Command)) (d m e : Served K) → run ≡ d.loop.gathered → 0 < length d.loop.gathered → m ≡ emptied_run d
-      → Gives (λ l s. give l (map (λ x. x.0) run) (input.Commands (map (λ x. x.1) run)) s) m e → Gives (λ l s. flushed l s) d e
+      → Gives stores (λ l s. give l (map (λ x. x.0) run) (input.Commands (map (λ x. x.1) run)) s) m e → Gives stores (λ l s. flushed l s) d e
   flush_gives run d m e run_is some is g =
-      run_gives (λ l s. flushed l s) (λ before. with_deeds before d) run d m e (omega (arith, some, ap length run_is)) (ap (λ (x : Served K). x.loop.lost) is) (ap (λ (x : Served K). x.loop.place) is) (ap (λ (x : Served K). x.loop.sessions) is) (ap (λ (x : Served K). x.node) is)
+      run_gives (λ l s. flushed l s) (λ before. with_deeds before d) run d m e (omega (arith, some, ap length run_is)) (ap (λ (x : Served K). x.loop.lost) is) (ap (λ (x : Served K). x.loop.place) is) (ap (λ (x : Served K). x.loop.sessions) is) (untouched is)
       (λ l before. ap (λ r. given_together l r (with_deeds before d)) (sym run_is)) (λ before. ap (with_deeds before) (sym is)) g
 
   -- ---- and then this is done, if the connection still has a session
 
   module _ (c : ℕ) (f : Luck → State → State) where
-    pub behind_closed : {d m : Served K} → Does (λ l s. flushed l s) d m → is_open c m.loop ≡ false → Does (λ l s. behind l c (f l) s) d m
+    pub behind_closed : {d m : Served K} → Does stores (λ l s. flushed l s) d m → is_open c m.loop ≡ false → Does stores (λ l s. behind l c (f l) s) d m
     behind_closed {d} {m} a closed = record {
       acts = record {
         deeds = a.acts.deeds;
         grew = a.acts.grew;
-        steps = a.acts.steps;
+        went = a.acts.went;
         is = λ l before k calm_m. ap (if_there c f l) (a.acts.is l before k calm_m) ∙ ap (λ b. if b then f l (with_deeds (before ++ a.acts.deeds) m) else with_deeds (before ++ a.acts.deeds) m) closed;
       };
       calm = a.calm;
     }
 
-    pub behind_goes : {d m e : Served K} → Does (λ l s. flushed l s) d m → is_open c m.loop ≡ true → Does f m e → Does (λ l s. behind l c (f l) s) d e
+    pub behind_goes : {d m e : Served K} → Does stores (λ l s. flushed l s) d m → is_open c m.loop ≡ true → Does stores f m e → Does stores (λ l s. behind l c (f l) s) d e
     behind_goes {d} {m} {e} a there b = record {
       acts = record {
         deeds = a.acts.deeds ++ b.acts.deeds;
         grew = grew_trans a.acts.grew b.acts.grew;
-        steps = steps_then a.acts.deeds b.acts.deeds d.node m.node e.node a.acts.steps b.acts.steps;
+        went = went_then a.acts.went b.acts.went;
         is = λ l before k calm_e.
             let all : List Deed = before ++ a.acts.deeds in
             let k2 : Knows l (with_deeds (all ++ b.acts.deeds) e) = known e before a.acts.deeds b.acts.deeds k in
@@ -658,12 +669,12 @@ module _ {K : Type 0} where
     }
 
     -- what was to be done found no memory: its session was lost behind what was given
-    pub behind_lost : {d m e : Served K} → Gives (λ l s. flushed l s) d m → Loses c m e → Does (λ l s. behind l c (f l) s) d e
+    pub behind_lost : {d m e : Served K} → Gives stores (λ l s. flushed l s) d m → Loses stores c m e → Does stores (λ l s. behind l c (f l) s) d e
     behind_lost {d} {m} {e} g a = record {
       acts = record {
         deeds = g.deeds ++ a.deeds;
         grew = grew_trans g.grew a.grew;
-        steps = steps_then g.deeds a.deeds d.node m.node e.node g.steps a.steps;
+        went = went_then g.went a.went;
         is = λ l before k calm_e.
             let all : List Deed = before ++ g.deeds in
             let k2 : Knows l (with_deeds (all ++ a.deeds) e) = known e before g.deeds a.deeds k in
@@ -680,7 +691,7 @@ module _ {K : Type 0} where
 
   -- ---- a frame, behind what was gathered
 
-  pub joined_handles : (line : Standing → List ℕ) (c : ℕ) (heard : Heard) {d e : Served K} → joins_others heard ≡ true → HandlesAlone line c heard d e → Handles line c heard d e
+  pub joined_handles : (line : Standing → List ℕ) (c : ℕ) (heard : Heard) {d e : Served K} → joins_others heard ≡ true → HandlesAlone stores line c heard d e → Handles stores line c heard d e
   joined_handles line c heard {d} {e} h a = record {
     does = does_as (λ l s. on_frame l line c heard s) (λ l s. on_heard l line c heard s) (λ l before. ap (λ b. if b then on_frame l line c heard (with_deeds before d) else behind l c (on_frame l line c heard) (with_deeds before d)) h) a.does;
     stays = a.stays;
@@ -688,34 +699,35 @@ module _ {K : Type 0} where
   }
 
   -- nothing was gathered
-  pub first_handles : (line : Standing → List ℕ) (c : ℕ) (heard : Heard) {d e : Served K} → joins_others heard ≡ false → length d.loop.gathered ≤ 0 → is_open c d.loop ≡ true → HandlesAlone line c heard d e → Handles line c heard d e
+  pub first_handles : (line : Standing → List ℕ) (c : ℕ) (heard : Heard) {d e : Served K} → joins_others heard ≡ false → length d.loop.gathered ≤ 0 → is_open c d.loop ≡ true → HandlesAlone stores line c heard d e → Handles stores line c heard d e
   first_handles line c heard {d} {e} h few there a = record {
     does = does_as (λ l s. behind l c (on_frame l line c heard) s) (λ l s. on_heard l line c heard s) (λ l before. heard_behind line c heard l (with_deeds before d) h) (behind_goes c (λ l s. on_frame l line c heard s) (flush_nothing d few) there a.does);
     stays = a.stays;
     none = a.none;
   }
 
-  pub closed_handles : (line : Standing → List ℕ) (c : ℕ) (heard : Heard) {d m : Served K} → joins_others heard ≡ false → Gives (λ l s. flushed l s) d m → is_open c m.loop ≡ false → Handles line c heard d m
+  pub closed_handles : (line : Standing → List ℕ) (c : ℕ) (heard : Heard) {d m : Served K} → joins_others heard ≡ false → Gives stores (λ l s. flushed l s) d m → is_open c m.loop ≡ false → Handles stores line c heard d m
   closed_handles line c heard {d} {m} h g closed = record {
     does = does_as (λ l s. behind l c (on_frame l line c heard) s) (λ l s. on_heard l line c heard s) (λ l before. heard_behind line c heard l (with_deeds before d) h) (behind_closed c (λ l s. on_frame l line c heard s) (gives_does (λ l s. flushed l s) g) closed);
     stays = g.stays;
     none = g.none;
   }
 
-  pub behind_handles : (line : Standing → List ℕ) (c : ℕ) (heard : Heard) {d m e : Served K} → joins_others heard ≡ false → Gives (λ l s. flushed l s) d m → is_open c m.loop ≡ true → HandlesAlone line c heard m e → Handles line c heard d e
+  pub behind_handles : (line : Standing → List ℕ) (c : ℕ) (heard : Heard) {d m e : Served K} → joins_others heard ≡ false → Gives stores (λ l s. flushed l s) d m → is_open c m.loop ≡ true → HandlesAlone stores line c heard m e → Handles stores line c heard d e
   behind_handles line c heard {d} {m} {e} h g there a = record {
     does = does_as (λ l s. behind l c (on_frame l line c heard) s) (λ l s. on_heard l line c heard s) (λ l before. heard_behind line c heard l (with_deeds before d) h) (behind_goes c (λ l s. on_frame l line c heard s) (gives_does (λ l s. flushed l s) g) there a.does);
     stays = stays_then g.stays a.stays;
     none = a.none;
   }
 
-  pub lost_handles : (line : Standing → List ℕ) (c : ℕ) (heard : Heard) {d m e : Served K} → joins_others heard ≡ false → Gives (λ l s. flushed l s) d m → Loses c m e → Handles line c heard d e
+  pub lost_handles : (line : Standing → List ℕ) (c : ℕ) (heard : Heard) {d m e : Served K} → joins_others heard ≡ false → Gives stores (λ l s. flushed l s) d m → Loses stores c m e → Handles stores line c heard d e
   lost_handles line c heard {d} {m} {e} h g a = record {
     does = does_as (λ l s. behind l c (on_frame l line c heard) s) (λ l s. on_heard l line c heard s) (λ l before. heard_behind line c heard l (with_deeds before d) h) (behind_lost c (λ l s. on_frame l line c heard s) g a);
     stays = stays_then g.stays a.stays;
     none = a.none;
   }
 
+module _ {K : Type 0} where
   -- ---- a command
 
   abbrev with_gathered : ℕ → Command → Served K → Served K
@@ -725,8 +737,9 @@ module _ {K : Type 0} where
       → proposes l c x (with_deeds before d) ≡ (if b then with_deeds before (with_gathered c x d) else flushed l (with_deeds before (with_gathered c x d)))
   taken_in l c x d before b h = ap (λ t. if t then with_deeds before (with_gathered c x d) else flushed l (with_deeds before (with_gathered c x d))) h
 
+module _ {K : Type 0} {stores : Stores K} where
   -- it waits for others
-  pub gathered_handles : (line : Standing → List ℕ) (c : ℕ) (x : Command) (d e : Served K) → d.loop.downs ≡ [] → GathersOn c x d None e → HandlesAlone line c (Asks (request.Command x)) d e
+  pub gathered_handles : (line : Standing → List ℕ) (c : ℕ) (x : Command) (d e : Served K) → d.loop.downs ≡ [] → GathersOn c x d None e → HandlesAlone stores line c (Asks (request.Command x)) d e
   gathered_handles line c x d e none a =
       let is : e ≡ with_gathered c x d = ap (λ (s : Loop). record e { loop = s }) a.gathers.0 ∙ ap (λ n. record e { loop = gathers c x d.loop; node = n }) a.node ∙ ap (λ (k : K). record d { loop = gathers c x d.loop; core = k }) a.core in
       let few : nat_lt (length (gathers c x d.loop).gathered) most_commands ≡ true = lt-ltb (length (gathers c x d.loop).gathered) most_commands (subst (λ (s : Loop). length s.gathered < most_commands) a.gathers.0 a.gathers.1) in
@@ -737,7 +750,7 @@ module _ {K : Type 0} where
           acts = record {
             deeds = [];
             grew = grew_still lost place;
-            steps = a.node;
+            went = went_still (record { node = a.node; core = a.core });
             is = λ l before k calm_e. taken_in l c x d before true few ∙ ap (with_deeds before) (sym is) ∙ ap (λ b. with_deeds b e) (sym (append-nil before));
           };
           calm = λ marks k calm_e. calm_same marks d.loop e.loop lost place (λ n. ap (λ (s : Loop). is_open n s) a.gathers.0) calm_e;
@@ -748,12 +761,12 @@ module _ {K : Type 0} where
 
   -- it is the last of the most that one input may have
   pub full_handles : (line : Standing → List ℕ) (c : ℕ) (x : Command) (run : List (ℕ × Command)) (d m e : Served K) → GathersOn c x d (Some run) m
-      → Gives (λ l s. give l (map (λ y. y.0) run) (input.Commands (map (λ y. y.1) run)) s) m e → HandlesAlone line c (Asks (request.Command x)) d e
+      → Gives stores (λ l s. give l (map (λ y. y.0) run) (input.Commands (map (λ y. y.1) run)) s) m e → HandlesAlone stores line c (Asks (request.Command x)) d e
   full_handles line c x run d m e a g =
       let many : nat_lt (length (gathers c x d.loop).gathered) most_commands ≡ false = le-ltb (length (gathers c x d.loop).gathered) most_commands (subst (λ r. most_commands ≤ length r) a.gathers.0 a.gathers.1) in
       let some : 0 < length run = omega (arith, a.gathers.1) in
-      let all : Gives (λ l s. on_frame l line c (Asks (request.Command x)) s) d e =
-      run_gives (λ l s. on_frame l line c (Asks (request.Command x)) s) (λ before. with_deeds before (with_gathered c x d)) run d m e some (ap (λ (s : Loop). s.lost) a.gathers.2) (ap (λ (s : Loop). s.place) a.gathers.2) (ap (λ (s : Loop). s.sessions) a.gathers.2) a.node
+      let all : Gives stores (λ l s. on_frame l line c (Asks (request.Command x)) s) d e =
+      run_gives (λ l s. on_frame l line c (Asks (request.Command x)) s) (λ before. with_deeds before (with_gathered c x d)) run d m e some (ap (λ (s : Loop). s.lost) a.gathers.2) (ap (λ (s : Loop). s.place) a.gathers.2) (ap (λ (s : Loop). s.sessions) a.gathers.2) (record { node = a.node; core = a.core })
       (λ l before. taken_in l c x d before false many ∙ ap (λ r. given_together l r (with_deeds before (with_gathered c x d))) (sym a.gathers.0))
       (λ before. ap (λ (s : Loop). record { loop = s; node = d.node; deeds = before }) (sym a.gathers.2) ∙ ap (λ n. record { loop = m.loop; node = n; deeds = before }) (sym a.node)) g in
       record { does = gives_does (λ l s. on_frame l line c (Asks (request.Command x)) s) all; stays = all.stays; none = all.none }

@@ -14,22 +14,23 @@ use Rattle.op_serving.specs.State.{Loop, find, is_open, kind_at, left_by, counte
 use Rattle.op_serving.specs.Losses.{most_marks, mark_at, noted, stopped_if, marked, lost_by, lost_one, is_due, settle, settled, size, IsCalm, Foretells, Grew, Stays}
 use Rattle.op_serving.specs.declared.wanted.Wanted.{Wanted}
 use Rattle.op_serving.specs.Handing.{said_of_denial, said_at_once, told_all, asked, keys_that_wait, proposed, excused, handed_out}
-use Rattle.op_serving.specs.Inputs.{Deed, State, Luck, Fate, done, faults, lost, asked_by, kept, calm, loop_after, next_fate, entered_with, enter, leaves, first_down, drained_in, drained, rest}
-use Rattle.op_driver.specs.Driver.{Served, with_deeds, Knows, Acts, FromCalm, Does, Enters, Gives, Drained, Loses}
+use Rattle.op_serving.specs.Inputs.{Deed, State, Luck, asked_by, kept, calm, loop_after, next_fate, entered_with, enter, leaves, first_down, drained_in, drained, rest}
+use Rattle.op_serving.specs.Fates.{Fate, done, finds, faults, damaged, lost}
+use Rattle.op_driver.specs.Driver.{Served, Stores, with_deeds, Knows, Acts, FromCalm, Does, Enters, Gives, Drained, Loses}
 use Rattle.op_queues.proofs.Settling.{Blind, found_lost, kinds_then, gone, grew_trans, grew_still, foretold, lost_first, lost_grew, left_lost, left_place}
 use Rattle.op_queues.proofs.Sending.{blind_told_all, blind_handed}
 use Rattle.op_queues.proofs.Asking.{blind_asked}
 use Rattle.op_queues.proofs.Sizes.{size_settle, size_loop_after}
 use Rattle.op_driver.proofs.Calm.{calm_same, calm_past, calm_settled}
-use Rattle.op_driver.proofs.Stepping.{steps_then, steps_from}
+use Rattle.op_driver.proofs.Stepping.{untouched, went_then, went_none, went_from}
 use Rattle.op_driver.proofs.Entering.{kept_both}
 
 -- ---- an input ends no session twice
 
-size_enter_if : (b : Bool) (l : Luck) (from : List ℕ) (i : Input) (s : State) → size (if b then entered_with l from i (next_fate l s) s else s).loop ≤ size s.loop
+size_enter_if : (b : Bool) (l : Luck) (from : List ℕ) (i : Input) (s : State) → size (if b then entered_with l from i (next_fate l i s) s else s).loop ≤ size s.loop
 size_enter_if true l from i s =
-    let t : Loop = loop_after (asked_by from i) i (next_fate l s) s.node s.loop in
-    omega (arith, size_settle (drop (length t.lost) l.marks) t, size_loop_after (asked_by from i) i (next_fate l s) s.node s.loop)
+    let t : Loop = loop_after (asked_by from i) i (next_fate l i s) s.node s.loop in
+    omega (arith, size_settle (drop (length t.lost) l.marks) t, size_loop_after (asked_by from i) i (next_fate l i s) s.node s.loop)
 size_enter_if false l from i s = omega arith
 
 pub size_enter : (l : Luck) (from : List ℕ) (i : Input) (s : State) → size (enter l from i s).loop ≤ size s.loop
@@ -97,7 +98,6 @@ pub rest_still : (l : Luck) (s : State) → IsCalm l.marks s.loop → s.loop.dow
 rest_still l s h none = rest_drained l s h ∙ drained_still l s none
 
 -- ---- one after the other
-
 module _ {K : Type 0} where
   pub knew : (m e : Served K) (xs ys : List Deed) {l : Luck} → Grew m.loop e.loop → Knows l (with_deeds (xs ++ ys) e) → Knows l (with_deeds xs m)
   knew m e xs ys {l} g k = record {
@@ -114,11 +114,12 @@ module _ {K : Type 0} where
   pub known : (e : Served K) {l : Luck} (before xs ys : List Deed) → Knows l (with_deeds (before ++ (xs ++ ys)) e) → Knows l (with_deeds ((before ++ xs) ++ ys) e)
   known e {l} before xs ys k = subst (λ x. Knows l (with_deeds x e)) (split_deeds before xs ys) k
 
-  pub acts_then : (f g : Luck → State → State) {d m e : Served K} → Acts f d m → Does g m e → Acts (λ l s. g l (f l s)) d e
+module _ {K : Type 0} {stores : Stores K} where
+  pub acts_then : (f g : Luck → State → State) {d m e : Served K} → Acts stores f d m → Does stores g m e → Acts stores (λ l s. g l (f l s)) d e
   acts_then f g {d} {m} {e} a b = record {
     deeds = a.deeds ++ b.acts.deeds;
     grew = grew_trans a.grew b.acts.grew;
-    steps = steps_then a.deeds b.acts.deeds d.node m.node e.node a.steps b.acts.steps;
+    went = went_then a.went b.acts.went;
     is = λ l before k c.
         let k2 : Knows l (with_deeds ((before ++ a.deeds) ++ b.acts.deeds) e) = known e before a.deeds b.acts.deeds k in
         ap (g l) (a.is l before (knew m e (before ++ a.deeds) b.acts.deeds b.acts.grew k2) (b.calm l.marks k.marks c))
@@ -126,7 +127,7 @@ module _ {K : Type 0} where
         ∙ ap (λ x. with_deeds x e) (sym (split_deeds before a.deeds b.acts.deeds));
   }
 
-  pub does_then : (f g : Luck → State → State) {d m e : Served K} → Does f d m → Does g m e → Does (λ l s. g l (f l s)) d e
+  pub does_then : (f g : Luck → State → State) {d m e : Served K} → Does stores f d m → Does stores g m e → Does stores (λ l s. g l (f l s)) d e
   does_then f g {d} {m} {e} a b = record {
     acts = acts_then f g a.acts b;
     calm = λ marks f c. a.calm marks (foretold b.acts.grew f) (b.calm marks f c);
@@ -134,14 +135,14 @@ module _ {K : Type 0} where
 
   -- ---- Downs
 
-  pub drained_none : (d : Served K) → Drained d d
-  drained_none d = record { deeds = []; grew = grew_still refl refl; steps = refl; kinds = λ c. inl refl; calm = λ marks f c. c; is = λ l before k. ap (λ b. rest l (with_deeds b d)) (sym (append-nil before)) }
+  pub drained_none : (d : Served K) → Drained stores d d
+  drained_none d = record { deeds = []; grew = grew_still refl refl; went = went_none; kinds = λ c. inl refl; calm = λ marks f c. c; is = λ l before k. ap (λ b. rest l (with_deeds b d)) (sym (append-nil before)) }
 
-  pub drained_then : {d m e : Served K} → Drained d m → Drained m e → Drained d e
+  pub drained_then : {d m e : Served K} → Drained stores d m → Drained stores m e → Drained stores d e
   drained_then {d} {m} {e} a b = record {
     deeds = a.deeds ++ b.deeds;
     grew = grew_trans a.grew b.grew;
-    steps = steps_then a.deeds b.deeds d.node m.node e.node a.steps b.steps;
+    went = went_then a.went b.went;
     kinds = kinds_then d.loop m.loop e.loop a.kinds b.kinds;
     calm = λ marks f c. a.calm marks (foretold b.grew f) (b.calm marks f c);
     is = λ l before k.
@@ -149,19 +150,21 @@ module _ {K : Type 0} where
         a.is l before (knew m e (before ++ a.deeds) b.deeds b.grew k2) ∙ b.is l (before ++ a.deeds) k2 ∙ ap (λ x. rest l (with_deeds x e)) (sym (split_deeds before a.deeds b.deeds));
   }
 
+module _ {K : Type 0} where
   -- the loop with these Downs
   abbrev pub with_downs : List ℕ → Served K → Served K
   with_downs qs d = record d { loop = record d.loop { downs = qs } }
 
+module _ {K : Type 0} {stores : Stores K} where
   -- one Down
-  pub drained_one : (q : ℕ) (qs : List ℕ) (d e : Served K) → d.loop.downs ≡ q ∷ qs → Enters (λ l s. enter l [] (input.Down q) s) (with_downs qs d) e → Drained d e
+  pub drained_one : (q : ℕ) (qs : List ℕ) (d e : Served K) → d.loop.downs ≡ q ∷ qs → Enters stores (λ l s. enter l [] (input.Down q) s) (with_downs qs d) e → Drained stores d e
   unfolding rest
   drained_one q qs d e downs does =
       let calm_d : (marks : List Mark) → Foretells marks e.loop → IsCalm marks d.loop = λ marks f. calm_same marks d.loop (with_downs qs d).loop refl refl (λ x. refl) (does.sure marks f) in
       record {
         deeds = does.deeds;
         grew = record { added = does.grew.added; lost = does.grew.lost; from = does.grew.from; place = does.grew.place; counts = does.grew.counts };
-        steps = does.steps;
+        went = went_from (untouched refl) does.went;
         kinds = does.kinds;
         calm = λ marks f c. calm_d marks f;
         is = λ l before k.
@@ -172,12 +175,12 @@ module _ {K : Type 0} where
       }
 
   -- an input, and then the Downs
-  pub gives : (f : Luck → State → State) {d m e : Served K} → Enters f d m → Drained m e → Stays d.loop e.loop → e.loop.downs ≡ [] → Gives (λ l s. drained l (f l s)) d e
+  pub gives : (f : Luck → State → State) {d m e : Served K} → Enters stores f d m → Drained stores m e → Stays d.loop e.loop → e.loop.downs ≡ [] → Gives stores (λ l s. drained l (f l s)) d e
   unfolding rest
   gives f {d} {m} {e} a b stays none = record {
     deeds = a.deeds ++ b.deeds;
     grew = grew_trans a.grew b.grew;
-    steps = steps_then a.deeds b.deeds d.node m.node e.node a.steps b.steps;
+    went = went_then a.went b.went;
     kinds = kinds_then d.loop m.loop e.loop a.kinds b.kinds;
     sure = λ marks h. a.sure marks (foretold b.grew h);
     stays = stays;
@@ -188,22 +191,22 @@ module _ {K : Type 0} where
   }
 
   -- where no session is lost behind it, it has come to rest
-  pub gives_does : (f : Luck → State → State) {d e : Served K} → Gives f d e → Does f d e
+  pub gives_does : (f : Luck → State → State) {d e : Served K} → Gives stores f d e → Does stores f d e
   gives_does f {d} {e} a = record {
     acts = record {
       deeds = a.deeds;
       grew = a.grew;
-      steps = a.steps;
+      went = a.went;
       is = λ l before k c. a.is l before k ∙ rest_still l (with_deeds (before ++ a.deeds) e) c a.none;
     };
     calm = λ marks h c. a.sure marks h;
   }
 
   -- a session ends
-  pub ends : (c : ℕ) (d m e : Served K) → m ≡ record d { loop = left_by c d.loop } → Drained m e → e.loop.downs ≡ [] → Acts (λ l s. leaves l c s) d e
+  pub ends : (c : ℕ) (d m e : Served K) → m ≡ record d { loop = left_by c d.loop } → Drained stores m e → e.loop.downs ≡ [] → Acts stores (λ l s. leaves l c s) d e
   ends c d m e is b none = record {
     deeds = b.deeds;
-    steps = steps_from b.deeds d m e (ap (λ (x : Served K). x.node) is) b.steps;
+    went = went_from (untouched is) b.went;
     grew = grew_trans (grew_still (ap (λ (x : Served K). x.loop.lost) is ∙ left_lost c (kind_at c d.loop) d.loop) (ap (λ (x : Served K). x.loop.place) is ∙ left_place c (kind_at c d.loop) d.loop)) b.grew;
     is = λ l before k calm_e.
         ap (λ (x : Served K). drained l (with_deeds before x)) (sym is)
@@ -212,7 +215,7 @@ module _ {K : Type 0} where
         ∙ rest_still l (with_deeds (before ++ b.deeds) e) calm_e none;
   }
 
-  pub ends_calm : (c : ℕ) (d m e : Served K) → m ≡ record d { loop = left_by c d.loop } → Drained m e → (d.loop.place.at ≡ 0 → ⊥) → FromCalm d e
+  pub ends_calm : (c : ℕ) (d m e : Served K) → m ≡ record d { loop = left_by c d.loop } → Drained stores m e → (d.loop.place.at ≡ 0 → ⊥) → FromCalm d e
   ends_calm c d m e is b past marks f calm_e =
       calm_past marks d.loop m.loop (ap (λ (x : Served K). x.loop.lost) is ∙ left_lost c (kind_at c d.loop) d.loop) (ap (λ (x : Served K). x.loop.place) is ∙ left_place c (kind_at c d.loop) d.loop) past (b.calm marks f calm_e)
   -- ---- a session that is lost
@@ -251,13 +254,15 @@ closed_excused (Some w) why c s e = closed_blind (told_all (said_of_denial w why
 
 closed_after : (a : Option Wanted) (i : Input) (f : Fate) (n : Standing) (c : ℕ) (s : Loop) → find c s.sessions ≡ None → find c (loop_after a i f n s).sessions ≡ None
 closed_after a i done n c s e = closed_blind (handed_out (cores.gives n i)) (blind_handed (cores.gives n i)) c (proposed a (cores.gives n i).outcome (counted s)) (closed_proposed a (cores.gives n i).outcome c (counted s) e)
+closed_after a i (finds d) n c s e = closed_blind (handed_out (cores.given_again n d)) (blind_handed (cores.given_again n d)) c (proposed a None (counted s)) (closed_proposed a None c (counted s) e)
 closed_after a i (faults k) n c s e = closed_excused a (Some (StorageFailed k)) c (counted s) e
+closed_after a i damaged n c s e = e
 closed_after a i lost n c s e = closed_excused a None c (counted (marked None s)) (closed_stopped c (nat_lt (length s.lost + 1) most_marks) (noted (mark_at s.place None) s) e)
 
-closed_enter_if : (b : Bool) (l : Luck) (from : List ℕ) (i : Input) (c : ℕ) (s : State) → find c s.loop.sessions ≡ None → find c (if b then entered_with l from i (next_fate l s) s else s).loop.sessions ≡ None
+closed_enter_if : (b : Bool) (l : Luck) (from : List ℕ) (i : Input) (c : ℕ) (s : State) → find c s.loop.sessions ≡ None → find c (if b then entered_with l from i (next_fate l i s) s else s).loop.sessions ≡ None
 closed_enter_if true l from i c s e =
-    let t : Loop = loop_after (asked_by from i) i (next_fate l s) s.node s.loop in
-    closed_settle c (drop (length t.lost) l.marks) t (closed_after (asked_by from i) i (next_fate l s) s.node c s.loop e)
+    let t : Loop = loop_after (asked_by from i) i (next_fate l i s) s.node s.loop in
+    closed_settle c (drop (length t.lost) l.marks) t (closed_after (asked_by from i) i (next_fate l i s) s.node c s.loop e)
 closed_enter_if false l from i c s e = e
 
 closed_in : (k : ℕ) (l : Luck) (c : ℕ) (s : State) (ds : List ℕ) → s.loop.downs ≡ ds → find c s.loop.sessions ≡ None → find c (drained_in k l s).loop.sessions ≡ None
@@ -271,14 +276,14 @@ pub closed_drained : (l : Luck) (c : ℕ) (s : State) → find c s.loop.sessions
 unfolding drained
 closed_drained l c s e = closed_in (size s.loop) l c s s.loop.downs refl e
 
-module _ {K : Type 0} where
-  pub loses : (c : ℕ) (d m e : Served K) → is_open c d.loop ≡ true → length d.loop.lost < most_marks → m ≡ record d { loop = lost_by c d.loop } → Drained m e → Stays d.loop e.loop → e.loop.downs ≡ [] → Loses c d e
+module _ {K : Type 0} {stores : Stores K} where
+  pub loses : (c : ℕ) (d m e : Served K) → is_open c d.loop ≡ true → length d.loop.lost < most_marks → m ≡ record d { loop = lost_by c d.loop } → Drained stores m e → Stays d.loop e.loop → e.loop.downs ≡ [] → Loses stores c d e
   unfolding rest
   loses c d m e there few is b stays none =
       let marked_is : (marks : List Mark) → Foretells marks e.loop → Foretells marks (lost_by c d.loop) = λ marks f. subst (λ (x : Served K). Foretells marks x.loop) is (foretold b.grew f) in
       record {
         deeds = b.deeds;
-        steps = steps_from b.deeds d m e (ap (λ (x : Served K). x.node) is) b.steps;
+        went = went_from (untouched is) b.went;
         there = there;
         few = few;
         grew = grew_trans (subst (λ (x : Served K). Grew d.loop x.loop) (sym is) (lost_grew c d.loop)) b.grew;

@@ -13,13 +13,13 @@ use Rattle.op_serving.specs.State.{Table, Loop, find, changed_at, is_open, kind_
 use Rattle.op_serving.specs.Losses.{most_marks, mark_at, noted, stopped_if, is_here, has_threat, is_open_one, lost_by, settled, IsCalm, Foretells, Grew, KeepsKinds}
 use Rattle.op_serving.specs.Inputs.{Deed, begins, takes, give}
 use Rattle.op_serving.specs.Turns.{hello_less, first_bytes, made_session, joining, joined, queue_in, without_bytes, taken_of, up_peer, up_at, wrote}
-use Rattle.op_driver.specs.Driver.{Served, with_deeds, Knows, Acts, FromCalm, Does, Gives, Rests, hello_of, hello_left}
+use Rattle.op_driver.specs.Driver.{Served, Stores, with_deeds, Knows, Acts, FromCalm, Does, Gives, Rests, hello_of, hello_left}
 use Rattle.op_queues.proofs.Tables.{find_set, found_changed}
 use Rattle.op_conns.proofs.Numbers.{is_at_own}
 use Rattle.op_queues.proofs.Settling.{grew_still, grew_trans, foretold, lost_first, lost_grew, lost_lost, lost_place}
 use Rattle.op_driver.proofs.Calm.{no_right, calm_same, calm_settled}
 use Rattle.op_queues.proofs.Joining.{order_cases, find_put}
-use Rattle.op_driver.proofs.Stepping.{steps_from}
+use Rattle.op_driver.proofs.Stepping.{untouched, went_beside, went_still, went_from}
 use Rattle.op_driver.proofs.Draining.{known, split_deeds, rest_still}
 
 -- ---- a table with a new entry
@@ -77,25 +77,26 @@ module _ {K : Type 0} where
   abbrev joined_of : ℕ → Kind → Served K → Served K
   joined_of c kind d = record d { loop = joining c kind d.loop }
 
-  pub joins : (c : ℕ) (kind : Kind) (d e : Served K) → e ≡ joined_of c kind d → Acts (λ l s. joined l c kind s) d e
-  joins c kind d e is =
-      let deed : Deed = begins c (first_bytes kind d.loop.me) in
-      record {
-        deeds = deed ∷ [];
-        grew = grew_still (ap (λ (x : Served K). x.loop.lost) is) (ap (λ (x : Served K). x.loop.place) is);
-        steps = ap (λ (x : Served K). x.node) is;
-        is = λ l before k calm_e.
-            let calm_j : IsCalm l.marks (joining c kind d.loop) = subst (λ (x : Served K). IsCalm l.marks x.loop) is calm_e in
-            ap (λ (r : Loop). record { loop = r; node = d.node; deeds = before ++ deed ∷ [] }) (calm_settled l.marks (joining c kind d.loop) calm_j) ∙ ap (with_deeds (before ++ deed ∷ [])) (sym is);
-      }
-
   pub joins_calm : (c : ℕ) (kind : Kind) (d e : Served K) → e ≡ joined_of c kind d → FromCalm d e
   joins_calm c kind d e is marks f calm_e =
       let j : Loop = joining c kind d.loop in
       let calm_j : IsCalm marks j = subst (λ (x : Served K). IsCalm marks x.loop) is calm_e in
       threat_less (drop (length d.loop.lost) marks) d.loop j refl refl (λ n o. kept_put c n (made_session kind d.loop.me) d.loop.sessions o) calm_j
 
-  pub joins_lost : (c : ℕ) (kind : Kind) (d e : Served K) → length d.loop.lost < most_marks → e ≡ record d { loop = lost_by c (joining c kind d.loop) } → Acts (λ l s. joined l c kind s) d e
+module _ {K : Type 0} {stores : Stores K} where
+  pub joins : (c : ℕ) (kind : Kind) (d e : Served K) → e ≡ joined_of c kind d → Acts stores (λ l s. joined l c kind s) d e
+  joins c kind d e is =
+      let deed : Deed = begins c (first_bytes kind d.loop.me) in
+      record {
+        deeds = deed ∷ [];
+        grew = grew_still (ap (λ (x : Served K). x.loop.lost) is) (ap (λ (x : Served K). x.loop.place) is);
+        went = went_beside deed refl (went_still (untouched is));
+        is = λ l before k calm_e.
+            let calm_j : IsCalm l.marks (joining c kind d.loop) = subst (λ (x : Served K). IsCalm l.marks x.loop) is calm_e in
+            ap (λ (r : Loop). record { loop = r; node = d.node; deeds = before ++ deed ∷ [] }) (calm_settled l.marks (joining c kind d.loop) calm_j) ∙ ap (with_deeds (before ++ deed ∷ [])) (sym is);
+      }
+
+  pub joins_lost : (c : ℕ) (kind : Kind) (d e : Served K) → length d.loop.lost < most_marks → e ≡ record d { loop = lost_by c (joining c kind d.loop) } → Acts stores (λ l s. joined l c kind s) d e
   joins_lost c kind d e few is =
       let deed : Deed = begins c (first_bytes kind d.loop.me) in
       let j : Loop = joining c kind d.loop in
@@ -103,7 +104,7 @@ module _ {K : Type 0} where
       record {
         deeds = deed ∷ [];
         grew = grew_trans still (subst (λ (x : Served K). Grew j x.loop) (sym is) (lost_grew c j));
-        steps = ap (λ (x : Served K). x.node) is;
+        went = went_beside deed refl (went_still (untouched is));
         is = λ l before k calm_e.
             let f : Foretells l.marks (lost_by c j) = subst (λ (x : Served K). Foretells l.marks x.loop) is k.marks in
             let calm_j : IsCalm l.marks (lost_by c j) = subst (λ (x : Served K). IsCalm l.marks x.loop) is calm_e in
@@ -111,6 +112,7 @@ module _ {K : Type 0} where
             ap (λ (r : Loop). record { loop = r; node = d.node; deeds = before ++ deed ∷ [] }) settle_j ∙ ap (with_deeds (before ++ deed ∷ [])) (sym is);
       }
 
+module _ {K : Type 0} where
   pub joins_lost_rests : (c : ℕ) (kind : Kind) (d e : Served K) → is_open c d.loop ≡ false → down_of kind ≡ [] → d.loop.downs ≡ [] → e ≡ record d { loop = lost_by c (joining c kind d.loop) } → Rests d.loop e.loop
   joins_lost_rests c kind d e new down none is =
       let j : Loop = joining c kind d.loop in
@@ -137,15 +139,16 @@ module _ {K : Type 0} where
   took_calm c n d m is marks f calm_m =
       calm_same marks d.loop m.loop (ap (λ (x : Served K). x.loop.lost) is) (ap (λ (x : Served K). x.loop.place) is) (λ k. ap (λ (x : Served K). is_open k x.loop) is ∙ found_changed (without_bytes n) c k d.loop.sessions) calm_m
 
+module _ {K : Type 0} {stores : Stores K} where
   -- no peer goes up by it
-  pub wrote_some : (c n : ℕ) (d m : Served K) → m ≡ record d { loop = taken_of c n d.loop } → up_peer (kind_at c d.loop) (kind_at c m.loop) ≡ None → Does (λ l s. wrote l c n s) d m
+  pub wrote_some : (c n : ℕ) (d m : Served K) → m ≡ record d { loop = taken_of c n d.loop } → up_peer (kind_at c d.loop) (kind_at c m.loop) ≡ None → Does stores (λ l s. wrote l c n s) d m
   wrote_some c n d m is none =
       let deed : Deed = takes c (take n (queue_in (find c d.loop.sessions))) in
       record {
         acts = record {
           deeds = deed ∷ [];
           grew = grew_still (ap (λ (x : Served K). x.loop.lost) is) (ap (λ (x : Served K). x.loop.place) is);
-          steps = ap (λ (x : Served K). x.node) is;
+          went = went_beside deed refl (went_still (untouched is));
           is = λ l before k calm_m.
               ap (λ (x : Served K). up_at l (up_peer (kind_at c d.loop) (kind_at c x.loop)) (with_deeds (before ++ deed ∷ []) x)) (sym is) ∙ ap (λ o. up_at l o (with_deeds (before ++ deed ∷ []) m)) none;
         };
@@ -153,7 +156,7 @@ module _ {K : Type 0} where
       }
 
   -- or its hello went out whole
-  pub wrote_hello : (c n q : ℕ) (d m e : Served K) → m ≡ record d { loop = taken_of c n d.loop } → up_peer (kind_at c d.loop) (kind_at c m.loop) ≡ Some q → Gives (λ l s. give l [] (input.Up q) s) m e → Does (λ l s. wrote l c n s) d e
+  pub wrote_hello : (c n q : ℕ) (d m e : Served K) → m ≡ record d { loop = taken_of c n d.loop } → up_peer (kind_at c d.loop) (kind_at c m.loop) ≡ Some q → Gives stores (λ l s. give l [] (input.Up q) s) m e → Does stores (λ l s. wrote l c n s) d e
   wrote_hello c n q d m e is up g =
       let deed : Deed = takes c (take n (queue_in (find c d.loop.sessions))) in
       let h : List Deed = deed ∷ [] in
@@ -162,7 +165,7 @@ module _ {K : Type 0} where
         acts = record {
           deeds = h ++ g.deeds;
           grew = grew_trans grew_m g.grew;
-          steps = steps_from g.deeds d m e (ap (λ (x : Served K). x.node) is) g.steps;
+          went = went_beside deed refl (went_from (untouched is) g.went);
           is = λ l before k calm_e.
               let k2 : Knows l (with_deeds ((before ++ h) ++ g.deeds) e) = known e before h g.deeds k in
               ap (λ (x : Served K). up_at l (up_peer (kind_at c d.loop) (kind_at c x.loop)) (with_deeds (before ++ h) x)) (sym is)

@@ -7,12 +7,11 @@ use Rattle.op_serving.specs.Cores.{Standing}
 use Rattle.op_serving.specs.State.{find, session_of}
 use Rattle.op_serving.specs.Losses.{IsCalm, Grew, Stays}
 use Rattle.op_serving.specs.Inputs.{State, Deed, Luck, behind, over, rest}
-use Rattle.op_serving.specs.Faults.{Stepped}
 use Rattle.op_serving.specs.Reading.{on_frame, on_heard, counted_if, is_peer, met, replaced, dealt_at, dealt}
 use Rattle.op_types.specs.declared.log.Command.{Command}
 use Rattle.op_queues.specs.Hearing.{TakesAt}
 use Rattle.op_queues.specs.Gathering.{Gathers}
-use Rattle.op_driver.specs.Driver.{Served, with_deeds, Knows, FromCalm, Sure, Does, Loses, Rests}
+use Rattle.op_driver.specs.Driver.{Served, with_deeds, Knows, FromCalm, Sure, Stores, Went, Does, Loses, Rests}
 use Rattle.op_command.specs.declared.said.Said.{Said}
 use Rattle.op_serving.specs.Handing.{told, no_command}
 
@@ -38,15 +37,16 @@ module _ {K : Type 0} where
     pub node : e.node ≡ d.node
     pub core : e.core ≡ d.core
 
+module _ {K : Type 0} (stores : Stores K) where
   -- what a frame says was dealt with by itself
   pub record HandlesAlone (line : Standing → List ℕ) (c : ℕ) (heard : Heard) (d e : Served K) : Type 0 where
-    pub does : Does (λ l s. on_frame l line c heard s) d e
+    pub does : Does stores (λ l s. on_frame l line c heard s) d e
     pub stays : Stays d.loop e.loop
     pub none : e.loop.downs ≡ []
 
   -- what a frame says was dealt with
   pub record Handles (line : Standing → List ℕ) (c : ℕ) (heard : Heard) (d e : Served K) : Type 0 where
-    pub does : Does (λ l s. on_heard l line c heard s) d e
+    pub does : Does stores (λ l s. on_heard l line c heard s) d e
     pub stays : Stays d.loop e.loop
     pub none : e.loop.downs ≡ []
 
@@ -70,15 +70,16 @@ module _ {K : Type 0} where
   CountsTo n (Some m) e = (e.loop.place.frames ≡ m) × (m ≤ n + 1)
   CountsTo n None e = Unit {0}
 
+module _ {K : Type 0} (stores : Stores K) where
   -- what was found was dealt with, or its session was lost for want of memory
   abbrev pub TakenTo : (Luck → Next → State → State) → ℕ → Option ℕ → Served K → Served K → List Deed → Type 0
   TakenTo f c (Some m) d e deeds = Sure d e × GoesOn f m d e deeds
-  TakenTo f c None d e deeds = Loses c d e ⊎ (FromCalm d e × Ends f d e deeds)
+  TakenTo f c None d e deeds = Loses stores c d e ⊎ (FromCalm d e × Ends f d e deeds)
 
   pub record Taken (f : Luck → Next → State → State) (c n : ℕ) (r : Option ℕ) (d e : Served K) : Type 0 where
     pub deeds : List Deed
     pub grew : Grew d.loop e.loop
-    pub steps : Stepped d.node deeds e.node
+    pub went : Went stores d deeds e
     pub rests : Rests d.loop e.loop
     pub counts : CountsTo n r e
     pub is : TakenTo f c r d e deeds
@@ -100,10 +101,12 @@ module _ {K : Type 0} where
   DealsTo f (Some m) d e deeds = GoesOn f m d e deeds
   DealsTo f None d e deeds = Ends f d e deeds
 
+module _ {K : Type 0} (stores : Stores K) where
+  -- what stands at the front was dealt with
   pub record Deals (line : Standing → List ℕ) (c n : ℕ) (r : Option ℕ) (d e : Served K) : Type 0 where
     pub deeds : List Deed
     pub grew : Grew d.loop e.loop
-    pub steps : Stepped d.node deeds e.node
+    pub went : Went stores d deeds e
     pub rests : Rests d.loop e.loop
     pub counts : CountsTo n r e
     pub is : DealsTo (fronted line c n) r d e deeds
@@ -112,7 +115,7 @@ module _ {K : Type 0} where
   pub record DealsAll (line : Standing → List ℕ) (c most : ℕ) (d e : Served K) : Type 0 where
     pub deeds : List Deed
     pub grew : Grew d.loop e.loop
-    pub steps : Stepped d.node deeds e.node
+    pub went : Went stores d deeds e
     pub rests : Rests d.loop e.loop
     pub is : (l : Luck) (before : List Deed) → Knows l (with_deeds (before ++ deeds) e)
         → IsCalm l.marks e.loop

@@ -6,8 +6,10 @@ use Rattle.op_serving.specs.Counts.{hello_in}
 use Rattle.op_serving.specs.Cores.{Standing}
 use Rattle.op_serving.specs.State.{Loop, find, is_open, kind_at}
 use Rattle.op_serving.specs.Losses.{most_marks, lost_by, IsCalm, Foretells, Grew, KeepsKinds, Stays}
-use Rattle.op_serving.specs.Inputs.{State, Deed, Fate, Luck, kept, calm, rest}
-use Rattle.op_serving.specs.Faults.{Stepped}
+use Rattle.op_types.specs.declared.events.Input.{Input}
+use Rattle.op_serving.specs.Inputs.{State, Deed, Luck, kept, calm, rest}
+use Rattle.op_serving.specs.Fates.{Fate}
+use Rattle.op_serving.specs.Faults.{Stepped, Walks}
 
 -- a node that is served: what is kept beside it, how it stands, and itself
 pub record Served (K : Type 0) : Type 0 where
@@ -31,14 +33,6 @@ pub record Knows (l : Luck) (s : State) : Type 0 where
   pub fates : l.fates ≡ kept s.deeds ++ rest
 
 module _ {K : Type 0} where
-  -- deeds were done, and what was done is this, where no session is lost here behind it
-  pub record Acts (f : Luck → State → State) (d e : Served K) : Type 0 where
-    pub deeds : List Deed
-    pub grew : Grew d.loop e.loop
-    pub steps : Stepped d.node deeds e.node
-    pub is : (l : Luck) (before : List Deed) → Knows l (with_deeds (before ++ deeds) e)
-        → IsCalm l.marks e.loop → f l (with_deeds before d) ≡ with_deeds (before ++ deeds) e
-
   -- where no session is lost any more behind it, none was to be lost before it
   abbrev pub FromCalm : Served K → Served K → Type 0
   FromCalm d e = (marks : List Mark) → Foretells marks e.loop → IsCalm marks e.loop → IsCalm marks d.loop
@@ -46,6 +40,24 @@ module _ {K : Type 0} where
   -- whatever is lost behind it, none was to be lost before it
   abbrev pub Sure : Served K → Served K → Type 0
   Sure d e = (marks : List Mark) → Foretells marks e.loop → IsCalm marks d.loop
+
+-- what a step of a node is to its disks, by what came of its input
+abbrev pub Stores : Type 0 → Type 1
+Stores K = K → Input → Fate → K → Type 0
+
+module _ {K : Type 0} (stores : Stores K) where
+  -- the node went from one to the other by the inputs of these deeds, each a step of it
+  pub record Went (d : Served K) (deeds : List Deed) (e : Served K) : Type 0 where
+    pub steps : Stepped d.node deeds e.node
+    pub walks : Walks stores d.core deeds e.core
+
+  -- deeds were done, and what was done is this, where no session is lost here behind it
+  pub record Acts (f : Luck → State → State) (d e : Served K) : Type 0 where
+    pub deeds : List Deed
+    pub grew : Grew d.loop e.loop
+    pub went : Went d deeds e
+    pub is : (l : Luck) (before : List Deed) → Knows l (with_deeds (before ++ deeds) e)
+        → IsCalm l.marks e.loop → f l (with_deeds before d) ≡ with_deeds (before ++ deeds) e
 
   -- the same of what may come behind something else
   pub record Does (f : Luck → State → State) (d e : Served K) : Type 0 where
@@ -56,7 +68,7 @@ module _ {K : Type 0} where
   pub record Enters (f : Luck → State → State) (d e : Served K) : Type 0 where
     pub deeds : List Deed
     pub grew : Grew d.loop e.loop
-    pub steps : Stepped d.node deeds e.node
+    pub went : Went d deeds e
     pub kinds : KeepsKinds d.loop e.loop
     pub sure : Sure d e
     pub is : (l : Luck) (before : List Deed) → Knows l (with_deeds (before ++ deeds) e)
@@ -66,7 +78,7 @@ module _ {K : Type 0} where
   pub record Gives (f : Luck → State → State) (d e : Served K) : Type 0 where
     pub deeds : List Deed
     pub grew : Grew d.loop e.loop
-    pub steps : Stepped d.node deeds e.node
+    pub went : Went d deeds e
     pub kinds : KeepsKinds d.loop e.loop
     pub sure : Sure d e
     pub stays : Stays d.loop e.loop
@@ -78,7 +90,7 @@ module _ {K : Type 0} where
   pub record Drained (d e : Served K) : Type 0 where
     pub deeds : List Deed
     pub grew : Grew d.loop e.loop
-    pub steps : Stepped d.node deeds e.node
+    pub went : Went d deeds e
     pub kinds : KeepsKinds d.loop e.loop
     pub calm : FromCalm d e
     pub is : (l : Luck) (before : List Deed) → Knows l (with_deeds (before ++ deeds) e)
@@ -90,7 +102,7 @@ module _ {K : Type 0} where
     pub there : is_open c d.loop ≡ true
     pub few : length d.loop.lost < most_marks
     pub grew : Grew d.loop e.loop
-    pub steps : Stepped d.node deeds e.node
+    pub went : Went d deeds e
     pub stays : Stays d.loop e.loop
     pub none : e.loop.downs ≡ []
     pub marked : (marks : List Mark) → Foretells marks e.loop → Foretells marks (lost_by c d.loop)

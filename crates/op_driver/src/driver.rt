@@ -128,9 +128,8 @@ impl<K: Core> Driver<K> {
 
     /// A tick is due.
     pub fn tick(&mut self)
-        ensures gives { Gives (λ l s. ticked l s) self.old self.new }
+        ensures gives { Gives K.stores (λ l s. ticked l s) self.old self.new }
         ensures most { most_inputs self.new.loop ≤ most_inputs self.old.loop + 1 }
-        ensures stored { (k : K) → K.stored k self.old.core → K.stored k self.new.core }
     {
         self.give(&[], Input::Tick);
     }
@@ -138,11 +137,10 @@ impl<K: Core> Driver<K> {
     /// The commands that were gathered are given as one input.
     pub fn flush(&mut self)
         requires { self.old.loop.downs ≡ [] }
-        ensures does { Does (λ l s. flushed l s) self.old self.new }
+        ensures does { Does K.stores (λ l s. flushed l s) self.old self.new }
         ensures rests { Rests self.old.loop self.new.loop }
         ensures frames { self.new.loop.place.frames ≡ self.old.loop.place.frames }
         ensures most { most_inputs self.new.loop ≤ most_inputs self.old.loop }
-        ensures stored { (k : K) → K.stored k self.old.core → K.stored k self.new.core }
     {
         if self.gathered_len() > 0 {
             self.flush_some();
@@ -153,11 +151,10 @@ impl<K: Core> Driver<K> {
     pub fn end(&mut self, conn: Conn)
         requires at { self.old.loop.place.at ≢ 0 }
         requires none { self.old.loop.downs ≡ [] }
-        ensures does { Does (λ l s. over l conn s) self.old self.new }
+        ensures does { Does K.stores (λ l s. over l conn s) self.old self.new }
         ensures rests { Rests self.old.loop self.new.loop }
         ensures frames { self.new.loop.place.frames ≡ self.old.loop.place.frames }
         ensures most { most_inputs self.new.loop ≤ most_inputs self.old.loop }
-        ensures stored { (k : K) → K.stored k self.old.core → K.stored k self.new.core }
     {
         self.flush();
         self.leave(conn);
@@ -170,7 +167,7 @@ impl<K: Core> Driver<K> {
         requires idle { IsIdle self.old.loop }
         requires kind { down_of kind ≡ [] }
         requires range { KindInRange kind }
-        ensures acts { Acts (λ l s. joined l conn kind s) self.old self.new }
+        ensures acts { Acts K.stores (λ l s. joined l conn kind s) self.old self.new }
         ensures calm { self.old.loop.place.at ≡ 0 → FromCalm self.old self.new }
         ensures rests { Rests self.old.loop self.new.loop }
         ensures most { most_inputs self.new.loop ≤ most_inputs self.old.loop + 1 + hello_in kind }
@@ -222,13 +219,12 @@ impl<K: Core> Driver<K> {
     pub fn wrote(&mut self, conn: Conn, n: usize)
         requires taken { n ≤ length (queue_in (find conn self.old.loop.sessions)) }
         requires none { self.old.loop.downs ≡ [] }
-        ensures does { Does (λ l s. wrote l conn n s) self.old self.new }
+        ensures does { Does K.stores (λ l s. wrote l conn n s) self.old self.new }
         ensures hello { hello_left conn self.new.loop ≤ hello_left conn self.old.loop - n }
         ensures pours { hello_left conn self.old.loop ≡ 0 → queue_in (find conn self.new.loop.sessions)
             ≡ drop n (queue_in (find conn self.old.loop.sessions)) }
         ensures rests { Rests self.old.loop self.new.loop }
         ensures most { most_inputs self.new.loop ≤ most_inputs self.old.loop }
-        ensures stored { (k : K) → K.stored k self.old.core → K.stored k self.new.core }
     {
         let before = self.kind(conn);
         self.took(conn, n);
@@ -245,10 +241,9 @@ impl<K: Core> Driver<K> {
         requires at { self.old.loop.place.at ≢ 0 }
         requires frames { self.old.loop.place.frames ≡ 0 }
         requires none { self.old.loop.downs ≡ [] }
-        ensures acts { Acts (λ l s. read l K.line conn bytes.now s) self.old self.new }
+        ensures acts { Acts K.stores (λ l s. read l K.line conn bytes.now s) self.old self.new }
         ensures rests { Rests self.old.loop self.new.loop }
         ensures most { most_inputs self.new.loop ≤ most_inputs self.old.loop + length bytes.now }
-        ensures stored { (k : K) → K.stored k self.old.core → K.stored k self.new.core }
     {
         match self.feed(conn, bytes) {
             Ok(held) => self.deal_all(conn, held),
@@ -259,9 +254,8 @@ impl<K: Core> Driver<K> {
     /// A session is lost for want of memory, and its peer goes down.
     fn lose(&mut self, conn: Conn)
         requires { is_open conn self.old.loop ≡ true }
-        ensures loses { Loses conn self.old self.new }
+        ensures loses { Loses K.stores conn self.old self.new }
         ensures most { most_inputs self.new.loop ≤ most_inputs self.old.loop }
-        ensures stored { (k : K) → K.stored k self.old.core → K.stored k self.new.core }
     {
         self.note_loss(conn);
         self.drain();
@@ -279,11 +273,10 @@ impl<K: Core> Driver<K> {
     /// A session ends, and its peer goes down.
     fn leave(&mut self, conn: Conn)
         requires { self.old.loop.place.at ≢ 0 }
-        ensures does { Does (λ l s. leaves l conn s) self.old self.new }
+        ensures does { Does K.stores (λ l s. leaves l conn s) self.old self.new }
         ensures stays { Stays self.old.loop self.new.loop }
         ensures none { self.new.loop.downs ≡ [] }
         ensures most { most_inputs self.new.loop ≤ most_inputs self.old.loop }
-        ensures stored { (k : K) → K.stored k self.old.core → K.stored k self.new.core }
     {
         self.take_out(conn);
         self.drain();
@@ -299,9 +292,8 @@ impl<K: Core> Driver<K> {
     /// The commands that were gathered are given as one input; there are some.
     fn flush_some(&mut self)
         requires { 0 < length self.old.loop.gathered }
-        ensures gives { Gives (λ l s. flushed l s) self.old self.new }
+        ensures gives { Gives K.stores (λ l s. flushed l s) self.old self.new }
         ensures most { most_inputs self.new.loop ≤ most_inputs self.old.loop }
-        ensures stored { (k : K) → K.stored k self.old.core → K.stored k self.new.core }
     {
         let run = self.release();
         self.give_run(run);
@@ -320,10 +312,9 @@ impl<K: Core> Driver<K> {
     fn give_run(&mut self, run: Run)
         requires range { RunInRange run }
         requires some { 0 < length run }
-        ensures gives { Gives (λ l s. give l (map (λ e. e.0) run)
+        ensures gives { Gives K.stores (λ l s. give l (map (λ e. e.0) run)
             (input.Commands (map (λ e. e.1) run)) s) self.old self.new }
         ensures most { most_inputs self.new.loop ≤ most_inputs self.old.loop + 1 }
-        ensures stored { (k : K) → K.stored k self.old.core → K.stored k self.new.core }
     {
         let (conns, commands) = run.into_parts();
         self.give(conns.as_slice(), Input::Commands(commands));
@@ -333,9 +324,8 @@ impl<K: Core> Driver<K> {
     /// for at their connections.
     fn give(&mut self, who: &[Conn], input: Input)
         requires { InputInRange input }
-        ensures gives { Gives (λ l s. give l who.now input s) self.old self.new }
+        ensures gives { Gives K.stores (λ l s. give l who.now input s) self.old self.new }
         ensures most { most_inputs self.new.loop ≤ most_inputs self.old.loop + 1 }
-        ensures stored { (k : K) → K.stored k self.old.core → K.stored k self.new.core }
     {
         self.enter(who, input);
         self.drain();
@@ -385,9 +375,8 @@ impl<K: Core> Driver<K> {
         requires at { self.old.loop.place.at ≢ 0 }
         requires frames { self.old.loop.place.frames ≡ 0 }
         requires none { self.old.loop.downs ≡ [] }
-        ensures deals { DealsAll K.line conn most self.old self.new }
+        ensures deals { DealsAll K.stores K.line conn most self.old self.new }
         ensures most { most_inputs self.new.loop ≤ most_inputs self.old.loop }
-        ensures stored { (k : K) → K.stored k self.old.core → K.stored k self.new.core }
     {
         let mut frames = 0;
         let mut left = most;
@@ -416,9 +405,8 @@ impl<K: Core> Driver<K> {
         requires frames { self.old.loop.place.frames ≡ frames }
         requires none { self.old.loop.downs ≡ [] }
         requires room { frames < u64.MAX }
-        ensures deals { Deals K.line conn frames result self.old self.new }
+        ensures deals { Deals K.stores K.line conn frames result self.old self.new }
         ensures most { most_inputs self.new.loop ≤ most_inputs self.old.loop }
-        ensures stored { (k : K) → K.stored k self.old.core → K.stored k self.new.core }
     {
         match self.take_front(conn) {
             Ok(Front::Waits) => None,
@@ -441,9 +429,9 @@ impl<K: Core> Driver<K> {
         requires at { self.old.loop.place.at ≢ 0 }
         requires frames { self.old.loop.place.frames ≡ frames }
         requires none { self.old.loop.downs ≡ [] }
-        ensures taken { Taken (greeted K.line conn peer frames) conn frames result self.old self.new }
+        ensures taken { Taken K.stores (greeted K.line conn peer frames) conn frames result
+            self.old self.new }
         ensures most { most_inputs self.new.loop ≤ most_inputs self.old.loop + 1 }
-        ensures stored { (k : K) → K.stored k self.old.core → K.stored k self.new.core }
     {
         if !self.is_peer(peer) {
             self.end(conn);
@@ -462,11 +450,10 @@ impl<K: Core> Driver<K> {
     fn make_way(&mut self, conn: Conn, peer: Pid)
         requires at { self.old.loop.place.at ≢ 0 }
         requires none { self.old.loop.downs ≡ [] }
-        ensures does { Does (λ l s. makes_way l conn peer s) self.old self.new }
+        ensures does { Does K.stores (λ l s. makes_way l conn peer s) self.old self.new }
         ensures stays { Stays self.old.loop self.new.loop }
         ensures none { self.new.loop.downs ≡ [] }
         ensures most { most_inputs self.new.loop ≤ most_inputs self.old.loop }
-        ensures stored { (k : K) → K.stored k self.old.core → K.stored k self.new.core }
     {
         self.flush();
         if self.is_open(conn) {
@@ -478,11 +465,10 @@ impl<K: Core> Driver<K> {
     fn replace(&mut self, peer: Pid)
         requires at { self.old.loop.place.at ≢ 0 }
         requires none { self.old.loop.downs ≡ [] }
-        ensures does { Does (λ l s. replaced l (session_of peer self.old.loop) s) self.old self.new }
+        ensures does { Does K.stores (λ l s. replaced l (session_of peer self.old.loop) s) self.old self.new }
         ensures stays { Stays self.old.loop self.new.loop }
         ensures none { self.new.loop.downs ≡ [] }
         ensures most { most_inputs self.new.loop ≤ most_inputs self.old.loop }
-        ensures stored { (k : K) → K.stored k self.old.core → K.stored k self.new.core }
     {
         if let Some(earlier) = self.session_of(peer) {
             self.end(earlier);
@@ -512,9 +498,9 @@ impl<K: Core> Driver<K> {
         requires frames { self.old.loop.place.frames ≡ frames }
         requires none { self.old.loop.downs ≡ [] }
         requires range { HeardInRange heard × (frames < u64.MAX) }
-        ensures taken { Taken (framed K.line conn heard frames) conn frames result self.old self.new }
+        ensures taken { Taken K.stores (framed K.line conn heard frames) conn frames result
+            self.old self.new }
         ensures most { most_inputs self.new.loop ≤ most_inputs self.old.loop + 1 }
-        ensures stored { (k : K) → K.stored k self.old.core → K.stored k self.new.core }
     {
         match self.hear(conn, heard) {
             Ok(()) => self.count_frame(conn, frames),
@@ -551,10 +537,9 @@ impl<K: Core> Driver<K> {
         requires at { self.old.loop.place.at ≢ 0 }
         requires none { self.old.loop.downs ≡ [] }
         requires range { HeardInRange heard }
-        ensures ok { OnOk result (Handles K.line conn heard self.old self.new) }
-        ensures err { OnErr result (Loses conn self.old self.new) }
+        ensures ok { OnOk result (Handles K.stores K.line conn heard self.old self.new) }
+        ensures err { OnErr result (Loses K.stores conn self.old self.new) }
         ensures most { most_inputs self.new.loop ≤ most_inputs self.old.loop + 1 }
-        ensures stored { (k : K) → K.stored k self.old.core → K.stored k self.new.core }
     {
         if joins_others(&heard) {
             return self.hear_alone(conn, heard);
@@ -585,10 +570,9 @@ impl<K: Core> Driver<K> {
         requires at { self.old.loop.place.at ≢ 0 }
         requires none { self.old.loop.downs ≡ [] }
         requires range { HeardInRange heard }
-        ensures ok { OnOk result (HandlesAlone K.line conn heard self.old self.new) }
-        ensures err { OnErr result (Loses conn self.old self.new) }
+        ensures ok { OnOk result (HandlesAlone K.stores K.line conn heard self.old self.new) }
+        ensures err { OnErr result (Loses K.stores conn self.old self.new) }
         ensures most { most_inputs self.new.loop ≤ most_inputs self.old.loop + 1 }
-        ensures stored { (k : K) → K.stored k self.old.core → K.stored k self.new.core }
     {
         match heard {
             Heard::Message(from, message) => {
@@ -610,10 +594,9 @@ impl<K: Core> Driver<K> {
         requires open { is_open conn self.old.loop ≡ true }
         requires none { self.old.loop.downs ≡ [] }
         requires range { RequestInRange request }
-        ensures ok { OnOk result (HandlesAlone K.line conn (Asks request) self.old self.new) }
-        ensures err { OnErr result (Loses conn self.old self.new) }
+        ensures ok { OnOk result (HandlesAlone K.stores K.line conn (Asks request) self.old self.new) }
+        ensures err { OnErr result (Loses K.stores conn self.old self.new) }
         ensures most { most_inputs self.new.loop ≤ most_inputs self.old.loop + 1 }
-        ensures stored { (k : K) → K.stored k self.old.core → K.stored k self.new.core }
     {
         match request {
             Request::Command(command) => self.propose(conn, command),
@@ -647,10 +630,9 @@ impl<K: Core> Driver<K> {
         requires none { self.old.loop.downs ≡ [] }
         requires range { CommandInRange command }
         ensures ok { OnOk result
-            (HandlesAlone K.line conn (Asks (request.Command command)) self.old self.new) }
-        ensures err { OnErr result (Loses conn self.old self.new) }
+            (HandlesAlone K.stores K.line conn (Asks (request.Command command)) self.old self.new) }
+        ensures err { OnErr result (Loses K.stores conn self.old self.new) }
         ensures most { most_inputs self.new.loop ≤ most_inputs self.old.loop + 1 }
-        ensures stored { (k : K) → K.stored k self.old.core → K.stored k self.new.core }
     {
         match self.gather(conn, command) {
             Ok(None) => Ok(()),
@@ -679,9 +661,8 @@ impl<K: Core> Driver<K> {
     fn tell_status(&mut self, conn: Conn) -> Result<(), NoMemory>
         requires open { is_open conn self.old.loop ≡ true }
         ensures ok { OnOk result (self.new ≡ tells_now conn (Status (K.line self.old.node)) self.old) }
-        ensures err { OnErr result (Loses conn self.old self.new) }
+        ensures err { OnErr result (Loses K.stores conn self.old self.new) }
         ensures most { most_inputs self.new.loop ≤ most_inputs self.old.loop }
-        ensures stored { (k : K) → K.stored k self.old.core → K.stored k self.new.core }
     {
         match self.core.status(self.sessions.alloc()) {
             Ok(line) => self.tell(conn, Said::Status(line)),
@@ -697,9 +678,8 @@ impl<K: Core> Driver<K> {
         requires open { is_open conn self.old.loop ≡ true }
         requires said { SaidInRange said }
         ensures ok { OnOk result (self.new ≡ tells_now conn said self.old) }
-        ensures err { OnErr result (Loses conn self.old self.new) }
+        ensures err { OnErr result (Loses K.stores conn self.old self.new) }
         ensures most { most_inputs self.new.loop ≤ most_inputs self.old.loop }
-        ensures stored { (k : K) → K.stored k self.old.core → K.stored k self.new.core }
     {
         let told = of_no_command(said);
         match self.sessions.queue_reply(conn, &told) {
@@ -713,11 +693,10 @@ impl<K: Core> Driver<K> {
 
     /// Gives the Downs of the sessions that are over, until none is left.
     fn drain(&mut self)
-        ensures drained { Drained self.old self.new }
+        ensures drained { Drained K.stores self.old self.new }
         ensures stays { Stays self.old.loop self.new.loop }
         ensures none { self.new.loop.downs ≡ [] }
         ensures most { most_inputs self.new.loop ≤ most_inputs self.old.loop }
-        ensures stored { (k : K) → K.stored k self.old.core → K.stored k self.new.core }
     {
         'downs: while let Some(peer) = self.next_down() {
             self.enter(&[], Input::Down(peer));
@@ -738,11 +717,10 @@ impl<K: Core> Driver<K> {
     /// An input, but for the Downs behind it.
     fn enter(&mut self, who: &[Conn], input: Input)
         requires { InputInRange input }
-        ensures does { Enters (λ l s. enter l who.now input s) self.old self.new }
+        ensures does { Enters K.stores (λ l s. enter l who.now input s) self.old self.new }
         ensures stays { Stays self.old.loop self.new.loop }
         ensures ends { size self.new.loop ≤ size self.old.loop }
         ensures most { most_inputs self.new.loop ≤ most_inputs self.old.loop + 1 }
-        ensures stored { (k : K) → K.stored k self.old.core → K.stored k self.new.core }
     {
         if self.sessions.is_full() {
             return;
@@ -758,6 +736,7 @@ impl<K: Core> Driver<K> {
                 self.sessions
                     .excuse(wanted, Some(Refusal::StorageFailed { count }));
             }
+            Err(StepFail::Damaged) => self.sessions.count_input(),
             Err(StepFail::NoMemory) => {
                 self.sessions.lose_input();
                 self.sessions.excuse(wanted, None);

@@ -11,7 +11,7 @@ use op_serving::{Core, Given, StepFail};
 use op_types::{Blob, Input, NoMemory, Outcome, Pid, Refusal, Replies, Sends};
 use std::alloc::Global;
 
-/// A spare's node that has failed: it refuses what is proposed, and does nothing else.
+/// A spare's node that has failed: it refuses what is proposed, and does nothing else. What its disks store is damaged.
 #[derive(Drop)]
 pub struct FailedNode {
     pub me: Pid,
@@ -43,7 +43,7 @@ impl Core for FailedNode {
 
     ghost ready = { λ n. IsPid n.me };
 
-    ghost stored = { λ _ _. Unit {0} };
+    ghost stores = { λ _ _ _ _. Unit {0} };
 
     ghost line = { status_line };
 
@@ -51,6 +51,7 @@ impl Core for FailedNode {
     fn step(&mut self, input: Input) -> Result<Given, StepFail> {
         match input {
             Input::Commands(_) if self.is_scarce => Err(StepFail::NoMemory),
+            Input::Tick => Err(StepFail::Damaged),
             other => Ok(refused(self.alloc, self.count, &other)),
         }
     }

@@ -12,6 +12,8 @@ mod clients;
 #[cfg(test)]
 mod commands;
 #[cfg(test)]
+mod disks;
+#[cfg(test)]
 mod ends;
 #[cfg(test)]
 mod peers;

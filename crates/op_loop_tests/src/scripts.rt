@@ -182,13 +182,22 @@ fn served_as(
     Ok((end, lost.len(), net))
 }
 
-/// Opens node 1, the only member, on new disks.
-fn opened(alloc: Global) -> Result<Node<MemDisk>, Fail>
+/// A new disk, of which this call fails, if one does.
+fn disk(alloc: Global, fails: Option<u64>) -> Result<MemDisk, NoMemory> {
+    let mut disk = MemDisk::new(alloc, Vec::new(alloc))?;
+    if let Some(call) = fails {
+        disk.fail_at(call)?;
+    }
+    Ok(disk)
+}
+
+/// Opens node 1, the only member, on new disks, of the first of which this call fails, if one does.
+fn opened(alloc: Global, fails: Option<u64>) -> Result<Node<MemDisk>, Fail>
     ensures { IfOk result IsServable }
 {
     opened_nodes_can_be_served::<MemDisk>();
-    let first = MemDisk::new(alloc, Vec::new(alloc))?;
-    let second = MemDisk::new(alloc, Vec::new(alloc))?;
+    let first = disk(alloc, fails)?;
+    let second = disk(alloc, None)?;
     match Node::open(alloc, 1, &sole()?, first, second) {
         Ok((node, _sends)) => Ok(node),
         Err(_) => Err("it is not opened".into()),
@@ -197,10 +206,19 @@ fn opened(alloc: Global) -> Result<Node<MemDisk>, Fail>
 
 /// Serves with node 1, the only member.
 pub fn served_alone(alloc: Global, steps: &[Step], turns: u64) -> Result<Run, Fail> {
+    served_over(alloc, None, steps, turns)
+}
+
+/// The same where this call of its first disk fails.
+pub fn served_failing(alloc: Global, call: u64, steps: &[Step], turns: u64) -> Result<Run, Fail> {
+    served_over(alloc, Some(call), steps, turns)
+}
+
+fn served_over(alloc: Global, fails: Option<u64>, steps: &[Step], turns: u64) -> Result<Run, Fail> {
     let settings = settings(alloc, turns)?;
     let mut net = ScriptNet::new(alloc, script_of(alloc, steps)?);
     let mut clock = FakeClock::new(alloc, VecDeque::new(alloc), 1);
-    let node = opened(alloc)?;
+    let node = opened(alloc, fails)?;
     let Served { end, .. } = serve(alloc, NodeCore { node }, &mut net, &mut clock, &settings);
     let (end, lost) = end?;
     Ok((end, lost.len(), net))

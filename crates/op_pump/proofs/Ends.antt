@@ -11,11 +11,12 @@ use Rattle.op_outside.proofs.Seen.{grows_both}
 use Rattle.op_types.specs.declared.events.Input.{Input}
 use Rattle.op_setup.specs.declared.config.Settings.{Settings}
 use Rattle.op_serving.specs.declared.mark.Mark.{Mark}
-use Rattle.op_serving.specs.Cores.{Standing, after_input, faulted}
+use Rattle.op_serving.specs.Cores.{Standing, after_input, faulted, reopened}
 use Rattle.op_serving.specs.State.{Loop}
 use Rattle.op_serving.specs.Losses.{last_count, most_marks, IsCalm, IsFrom, has_threat}
-use Rattle.op_serving.specs.Inputs.{State, Deed, begins, hears, enters, says, takes, Fate, faults, lost, Luck, kept, after_fate}
-use Rattle.op_serving.specs.Inputs as inputs
+use Rattle.op_serving.specs.Inputs.{State, Deed, begins, hears, enters, says, takes, Luck, kept}
+use Rattle.op_serving.specs.Fates.{Fate, finds, faults, damaged, lost, after_fate}
+use Rattle.op_serving.specs.Fates as fates
 use Rattle.op_serving.specs.Faults.{Stepped, faulted_steps, FaultsWithin}
 use Rattle.op_serving.specs.Promise.{Keeps, folded}
 use Rattle.op_serving.specs.Turns.{fresh, knowing}
@@ -25,12 +26,12 @@ use Rattle.op_connections.specs.Runs.{Begins}
 use Rattle.op_connections.specs.Hearing.{HearsAll}
 use Rattle.op_connections.specs.Taking.{IsBetween, IsDone}
 use Rattle.op_connections.proofs.Runs.{all_kept, keeps, heeds, done}
-use Rattle.op_driver.specs.Driver.{Served, with_deeds, Knows}
+use Rattle.op_driver.specs.Driver.{Served, Stores, with_deeds, Knows}
 use Rattle.op_serving.specs.declared.serve_end.ServeEnd.{ServeEnd}
 use Rattle.op_serving.specs.declared.serve_end.ServeEnd.TheVariants as ends
 use Rattle.op_pump.specs.declared.timer.Timer.{Timer}
 use Rattle.op_pump.specs.Moments.{moment, pump_at, pump_of, Leads, is_broken, is_starved, MarksAt, set_of, set_out, TurnsGo, IsIdleAt}
-use Rattle.op_pump.specs.Serving.{knows, begun, started, Faults, Marks, Runs, Serves}
+use Rattle.op_pump.specs.Serving.{knows, begun, started, Faults, Marks, Runs, ServesNode}
 use Rattle.op_pump.proofs.Stopping.{StopsAt, run_stops, ends_so}
 
 -- ---- the node
@@ -60,12 +61,14 @@ none_more n many m (inl h) = inl (omega (arith, h))
 none_more n many m (inr h) = inr h
 
 pub few_faults : (ds : List Deed) (n m : Standing) → Stepped n ds m → FaultsWithin n.faults (faulted_steps ds) m.faults
-unfolding faulted
+unfolding faulted reopened
 few_faults [] n m h = inl (omega (arith, ap (λ (x : Standing). x.faults) h))
 few_faults (begins c g ∷ ds) n m h = none_more n.faults (faulted_steps ds) m.faults (few_faults ds n m h)
 few_faults (hears c g ∷ ds) n m h = none_more n.faults (faulted_steps ds) m.faults (few_faults ds n m h)
-few_faults (enters who i inputs.done ∷ ds) n m h = none_more n.faults (faulted_steps ds) m.faults (subst (λ f. FaultsWithin f (faulted_steps ds) m.faults) (after_faults_if n.failed n i refl) (few_faults ds (after_input n i) m h.1))
+few_faults (enters who i fates.done ∷ ds) n m h = none_more n.faults (faulted_steps ds) m.faults (subst (λ f. FaultsWithin f (faulted_steps ds) m.faults) (after_faults_if n.failed n i refl) (few_faults ds (after_input n i) m h.1))
+few_faults (enters who i (finds d) ∷ ds) n m h = none_more n.faults (faulted_steps ds) m.faults (few_faults ds (reopened d n) m h.1)
 few_faults (enters who i (faults k) ∷ ds) n m h = one_more n.faults k (faulted_steps ds) m.faults h.0 (few_faults ds (faulted k n) m h.1)
+few_faults (enters who i damaged ∷ ds) n m h = none_more n.faults (faulted_steps ds) m.faults (few_faults ds n m h.1)
 few_faults (enters who i lost ∷ ds) n m h = none_more n.faults (faulted_steps ds) m.faults (few_faults ds n m h.1)
 few_faults (says f ∷ ds) n m h = none_more n.faults (faulted_steps ds) m.faults (few_faults ds n m h)
 few_faults (takes c g ∷ ds) n m h = none_more n.faults (faulted_steps ds) m.faults (few_faults ds n m h)
@@ -137,28 +140,34 @@ runs o line end marks n start answers made last at led = record {
     begin : Begins p.driver
     begin = knows_begins o.peers (fresh n.me) n (record { sessions = refl; gathered = refl; lost = refl; deeds = refl })
 
-pub serves : {K : Type 0} (o : Settings) (line : Standing → List ℕ) (end : ServeEnd) (marks : List Mark) (start : ℕ) (u : Timer) (d e : Served K) (n : Standing) (net0 net1 : NetSeen) (clock0 clock1 clock2 : Option (List ℕ))
-    → d.loop ≡ begun o.peers n.me → d.node ≡ n → marks ≡ e.loop.lost → length e.loop.lost ≤ most_marks → e.loop.place.inputs < last_count → Grows clock0 (start ∷ []) clock1
-    → TurnsGo (set_of o) line end (set_out o.turns start o.tick_ms) d u e net0 net1 clock1 clock2 → Serves o line end marks n e.node net0 net1 clock0 clock2
-unfolding own_luck
-serves o line end marks start u d e n net0 net1 clock0 clock1 clock2 loop_is node_is lost_is most short first g =
-    let y = g.goes.on in
-    record {
-      start = start;
-      answers = y.answers;
-      made = y.made;
-      last = pump_of y.deeds (moment (stop end) u e);
-      run = runs o line end marks n start y.answers y.made (pump_of y.deeds (moment (stop end) u e)) refl (rw lost_is (subst (λ p. Leads (set_of o) (own_luck y.deeds e.loop) line y.answers p y.made (pump_of y.deeds (moment (stop end) u e))) (ap₂ (λ r s. pump_at turn (set_out o.turns start o.tick_ms) (record { loop = r; node = s; deeds = [] })) loop_is node_is) (y.leads (own_luck y.deeds e.loop) [] (own_known y.deeds e short) (own_calm e))));
-      net = y.told;
-      clock = subst (λ ts. Grows clock0 (start ∷ ts) clock2) (sym y.times) (grows_both clock0 (start ∷ []) g.times first g.clock);
-      ends = refl;
-      faults = faults_so end net0.1 net1.1 y.counts;
-      lost_is = lost_is;
-      marks = subst (λ xs. Marks end (length xs)) (sym lost_is) (marks_so end e.loop most y.marks);
-      node = refl;
-      fold = folded_so y.deeds n e.node (subst (λ x. Stepped x y.deeds e.node) node_is y.steps);
-      few = few_faults y.deeds n e.node (subst (λ x. Stepped x y.deeds e.node) node_is y.steps);
-    }
+module _ {K : Type 0} {standing : K → Standing} {stores : Stores K} where
+  pub serves : (o : Settings) (line : Standing → List ℕ) (end : ServeEnd) (marks : List Mark) (start : ℕ) (u : Timer) (d e : Served K) (net0 net1 : NetSeen) (clock0 clock1 clock2 : Option (List ℕ))
+      → d.loop ≡ begun o.peers (standing d.core).me → d.node ≡ standing d.core → e.node ≡ standing e.core → marks ≡ e.loop.lost → length e.loop.lost ≤ most_marks → e.loop.place.inputs < last_count → Grows clock0 (start ∷ []) clock1
+      → TurnsGo stores (set_of o) line end (set_out o.turns start o.tick_ms) d u e net0 net1 clock1 clock2 → ServesNode standing stores o line end marks d.core e.core net0 net1 clock0 clock2
+  unfolding own_luck
+  serves o line end marks start u d e net0 net1 clock0 clock1 clock2 loop_is node_is last_is lost_is most short first g =
+      let y = g.goes.on in
+      let n : Standing = standing d.core in
+      let steps : Stepped n y.deeds e.node = subst (λ x. Stepped x y.deeds e.node) node_is y.went.steps in
+      record {
+        serves = record {
+          start = start;
+          answers = y.answers;
+          made = y.made;
+          last = pump_of y.deeds (moment (stop end) u e);
+          run = runs o line end marks n start y.answers y.made (pump_of y.deeds (moment (stop end) u e)) refl (rw lost_is (subst (λ p. Leads (set_of o) (own_luck y.deeds e.loop) line y.answers p y.made (pump_of y.deeds (moment (stop end) u e))) (ap₂ (λ r s. pump_at turn (set_out o.turns start o.tick_ms) (record { loop = r; node = s; deeds = [] })) loop_is node_is) (y.leads (own_luck y.deeds e.loop) [] (own_known y.deeds e short) (own_calm e))));
+          net = y.told;
+          clock = subst (λ ts. Grows clock0 (start ∷ ts) clock2) (sym y.times) (grows_both clock0 (start ∷ []) g.times first g.clock);
+          ends = refl;
+          faults = faults_so end net0.1 net1.1 y.counts;
+          lost_is = lost_is;
+          marks = subst (λ xs. Marks end (length xs)) (sym lost_is) (marks_so end e.loop most y.marks);
+          node = sym last_is;
+          fold = sym last_is ∙ folded_so y.deeds n e.node steps;
+          few = subst (λ (m : Standing). FaultsWithin n.faults (faulted_steps y.deeds) m.faults) last_is (few_faults y.deeds n e.node steps);
+        };
+        walks = y.went.walks;
+      }
 
 -- ---- the start
 

@@ -16,14 +16,14 @@ use Rattle.op_serving.specs.Losses.{most_marks}
 use Rattle.op_serving.specs.Inputs.{State, Deed, Luck}
 use Rattle.op_serving.specs.Pump.{Settings, Stage, stop, Pump, Answer, call_of, ask, answered, shut, after, calls}
 use Rattle.op_serving.specs.Answers.{IsAnswer, Answers, time_of}
-use Rattle.op_driver.specs.Driver.{Served, with_deeds, emptied, Knows, Acts, FromCalm, IsIdle}
+use Rattle.op_driver.specs.Driver.{Served, Stores, with_deeds, emptied, Knows, Acts, FromCalm, IsIdle}
 use Rattle.op_serving.specs.declared.serve_end.ServeEnd.{ServeEnd}
 use Rattle.op_pump.specs.declared.timer.Timer.{Timer}
 use Rattle.op_pump.specs.Moments.{Moment, moment, pump_at, pump_of, reached, unless_full, is_broken, is_starved, MarksAt, Leads, times_in, On, Goes, TurnGoes, IsIdleAt, Settles}
-use Rattle.op_queues.proofs.Settling.{grew_trans, foretold}
+use Rattle.op_queues.proofs.Settling.{grew_trans, grew_still, foretold}
 use Rattle.op_driver.proofs.Draining.{knew, known, split_deeds}
-use Rattle.op_driver.proofs.Stepping.{steps_then}
-use Rattle.op_pump.proofs.Knowing.{calm_emptied, foretells_emptied, knows_emptied, grew_emptied, acts_still}
+use Rattle.op_driver.proofs.Stepping.{untouched, went_then, went_none, went_to}
+use Rattle.op_pump.proofs.Knowing.{calm_emptied, foretells_emptied, knows_emptied, grew_emptied}
 
 -- ---- answers after answers
 
@@ -61,13 +61,13 @@ counts_both : (x y : Bool) (f g h : ℕ) → x ≡ false → RisesIf x f g → R
 counts_both x y f g h e a b =
     let same : g ≡ f = subst (λ z. RisesIf z f g) e a in subst (λ n. RisesIf y n h) same b
 
-pub on_then : {K : Type 0} (o : Settings) (line : Standing → List ℕ) (ts us : List ℕ) (a b c : Moment K) (n0 n1 n2 : NetSeen) → On o line ts a b n0 n1 → is_broken b.at ≡ false → Goes o line us b c n1 n2 → On o line (ts ++ us) a c n0 n2
+pub on_then : {K : Type 0} {stores : Stores K} (o : Settings) (line : Standing → List ℕ) (ts us : List ℕ) (a b c : Moment K) (n0 n1 n2 : NetSeen) → On stores o line ts a b n0 n1 → is_broken b.at ≡ false → Goes stores o line us b c n1 n2 → On stores o line (ts ++ us) a c n0 n2
 on_then o line ts us a b c n0 n1 n2 x whole y = record {
   answers = x.answers ++ y.on.answers;
   made = x.made ++ y.on.made;
   deeds = x.deeds ++ y.on.deeds;
   grew = grew_trans x.grew y.on.grew;
-  steps = steps_then x.deeds y.on.deeds a.served.node b.served.node c.served.node x.steps y.on.steps;
+  went = went_then x.went y.on.went;
   told = grows_both n0.0 x.made y.on.made x.told y.on.told;
   counts = counts_both (is_broken b.at) (is_broken c.at) n0.1 n1.1 n2.1 whole x.counts y.on.counts;
   marks = y.on.marks;
@@ -81,21 +81,21 @@ on_then o line ts us a b c n0 n1 n2 x whole y = record {
       (leads_then o l line x.answers y.on.answers (pump_of before a) (pump_of (before ++ x.deeds) b) (pump_of ((before ++ x.deeds) ++ y.on.deeds) c) x.made y.on.made first second);
 }
 
-pub goes_then : {K : Type 0} (o : Settings) (line : Standing → List ℕ) (ts us : List ℕ) (a b c : Moment K) (n0 n1 n2 : NetSeen) → Goes o line ts a b n0 n1 → is_broken b.at ≡ false → Goes o line us b c n1 n2 → Goes o line (ts ++ us) a c n0 n2
+pub goes_then : {K : Type 0} {stores : Stores K} (o : Settings) (line : Standing → List ℕ) (ts us : List ℕ) (a b c : Moment K) (n0 n1 n2 : NetSeen) → Goes stores o line ts a b n0 n1 → is_broken b.at ≡ false → Goes stores o line us b c n1 n2 → Goes stores o line (ts ++ us) a c n0 n2
 goes_then o line ts us a b c n0 n1 n2 x whole y = record {
   on = on_then o line ts us a b c n0 n1 n2 x.on whole y;
   calm = λ marks f h. x.calm marks (foretold y.on.grew f) (y.calm marks f h);
 }
 
 -- nothing happens
-pub goes_still : {K : Type 0} (o : Settings) (line : Standing → List ℕ) (a : Moment K) (n : NetSeen) → IsIdle a.served.loop → is_broken a.at ≡ false → is_starved a.at ≡ false → Goes o line [] a a n n
+pub goes_still : {K : Type 0} {stores : Stores K} (o : Settings) (line : Standing → List ℕ) (a : Moment K) (n : NetSeen) → IsIdle a.served.loop → is_broken a.at ≡ false → is_starved a.at ≡ false → Goes stores o line [] a a n n
 goes_still o line a n idle whole goes_on = record {
   on = record {
     answers = [];
     made = [];
     deeds = [];
-    grew = (acts_still a.served).grew;
-    steps = refl;
+    grew = grew_still refl refl;
+    went = went_none;
     told = grows_none n.0;
     counts = rw whole refl;
     marks = rw goes_on idle.few;
@@ -108,10 +108,10 @@ goes_still o line a n idle whole goes_on = record {
 -- ---- one answer
 
 -- an answer leads to a stage, and to what the driver did; what is to be closed is not closed yet
-pub record Done {K : Type 0} (o : Settings) (line : Standing → List ℕ) (x : Answer) (call : List Call) (a : Moment K) (stage : Stage) (t : Timer) (m : Served K) : Type 0 where
+pub record Done {K : Type 0} (stores : Stores K) (o : Settings) (line : Standing → List ℕ) (x : Answer) (call : List Call) (a : Moment K) (stage : Stage) (t : Timer) (m : Served K) : Type 0 where
   pub goes_on : is_starved stage ≡ false
   pub f : Luck → State → State
-  pub acts : Acts f a.served m
+  pub acts : Acts stores f a.served m
   pub fit : (l : Luck) (before : List Deed) → IsAnswer (ask o l line (pump_of before a)) x
   pub asks : (l : Luck) (before : List Deed) → call_of (ask o l line (pump_of before a)) x ≡ call
   pub is : (l : Luck) (before : List Deed) → answered o l line x (pump_of before a) ≡ pump_at stage t (f l (with_deeds before a.served))
@@ -120,8 +120,8 @@ marks_if : (b : Bool) (stage : Stage) (s : Loop) → nat_lt (length s.lost) most
 marks_if true stage s e goes_on = rw goes_on (ltb-true (length s.lost) most_marks e)
 marks_if false stage s e goes_on = ltb-false (length s.lost) most_marks e
 
-one_emptied : {K : Type 0} (o : Settings) (line : Standing → List ℕ) (x : Answer) (call : List Call) (a : Moment K) (stage : Stage) (t : Timer) (m : Served K) (n0 n1 n2 : NetSeen) → Done o line x call a stage t m → Grows n0.0 call n1.0 → RisesIf (is_broken (unless_full m.loop stage)) n0.1 n1.1 → Grows n1.0 (map Closed m.loop.closes) n2.0 → n2.1 ≡ n1.1
-    → On o line (time_of x ++ []) a (moment (unless_full m.loop stage) t (emptied m)) n0 n2
+one_emptied : {K : Type 0} {stores : Stores K} (o : Settings) (line : Standing → List ℕ) (x : Answer) (call : List Call) (a : Moment K) (stage : Stage) (t : Timer) (m : Served K) (n0 n1 n2 : NetSeen) → Done stores o line x call a stage t m → Grows n0.0 call n1.0 → RisesIf (is_broken (unless_full m.loop stage)) n0.1 n1.1 → Grows n1.0 (map Closed m.loop.closes) n2.0 → n2.1 ≡ n1.1
+    → On stores o line (time_of x ++ []) a (moment (unless_full m.loop stage) t (emptied m)) n0 n2
 one_emptied o line x call a stage t m n0 n1 n2 d told counts closed same =
     let ends : List Call = map Closed m.loop.closes in
     record {
@@ -129,7 +129,7 @@ one_emptied o line x call a stage t m n0 n1 n2 d told counts closed same =
       made = call ++ ends;
       deeds = d.acts.deeds;
       grew = grew_emptied a.served m d.acts.grew;
-      steps = d.acts.steps;
+      went = went_to d.acts.went (untouched {s = (emptied m).loop} refl);
       told = grows_both n0.0 call ends told closed;
       counts = subst (λ n. RisesIf (is_broken (unless_full m.loop stage)) n0.1 n) (sym same) counts;
       marks = marks_if (nat_lt (length m.loop.lost) most_marks) stage (emptied m).loop refl d.goes_on;
@@ -144,15 +144,15 @@ one_emptied o line x call a stage t m n0 n1 n2 d told counts closed same =
           };
     }
 
-pub on_one : {K : Type 0} (o : Settings) (line : Standing → List ℕ) (x : Answer) (call : List Call) (a : Moment K) (stage : Stage) (t : Timer) (m e : Served K) (r : Result (Unit {0}) ServeEnd) (n0 n1 n2 : NetSeen) → Done o line x call a stage t m → Grows n0.0 call n1.0 → RisesIf (is_broken (unless_full m.loop stage)) n0.1 n1.1 → Settles m r e n1 n2
-    → On o line (time_of x ++ []) a (moment (reached r stage) t e) n0 n2
-on_one o line x call a stage t m e r n0 n1 n2 d told counts s =
+pub on_one : {K : Type 0} {stores : Stores K} (o : Settings) (line : Standing → List ℕ) (x : Answer) (call : List Call) (a : Moment K) (stage : Stage) (t : Timer) (m e : Served K) (r : Result (Unit {0}) ServeEnd) (n0 n1 n2 : NetSeen) → Done stores o line x call a stage t m → Grows n0.0 call n1.0 → RisesIf (is_broken (unless_full m.loop stage)) n0.1 n1.1 → Settles m r e n1 n2
+    → On stores o line (time_of x ++ []) a (moment (reached r stage) t e) n0 n2
+on_one {K} {stores} o line x call a stage t m e r n0 n1 n2 d told counts s =
     let one = one_emptied o line x call a stage t m n0 n1 n2 d told counts s.closes.told s.closes.counts in
-    subst (λ y. On o line (time_of x ++ []) a (moment (reached r stage) t y) n0 n2) (sym s.closes.is)
-    (subst (λ y. On o line (time_of x ++ []) a (moment y t (emptied m)) n0 n2) (sym (s.stage stage)) one)
+    subst (λ y. On stores o line (time_of x ++ []) a (moment (reached r stage) t y) n0 n2) (sym s.closes.is)
+    (subst (λ y. On stores o line (time_of x ++ []) a (moment y t (emptied m)) n0 n2) (sym (s.stage stage)) one)
 
-pub goes_one : {K : Type 0} (o : Settings) (line : Standing → List ℕ) (x : Answer) (call : List Call) (a : Moment K) (stage : Stage) (t : Timer) (m e : Served K) (r : Result (Unit {0}) ServeEnd) (n0 n1 n2 : NetSeen) → Done o line x call a stage t m → FromCalm a.served m → Grows n0.0 call n1.0 → RisesIf (is_broken (unless_full m.loop stage)) n0.1 n1.1 → Settles m r e n1 n2
-    → Goes o line (time_of x ++ []) a (moment (reached r stage) t e) n0 n2
+pub goes_one : {K : Type 0} {stores : Stores K} (o : Settings) (line : Standing → List ℕ) (x : Answer) (call : List Call) (a : Moment K) (stage : Stage) (t : Timer) (m e : Served K) (r : Result (Unit {0}) ServeEnd) (n0 n1 n2 : NetSeen) → Done stores o line x call a stage t m → FromCalm a.served m → Grows n0.0 call n1.0 → RisesIf (is_broken (unless_full m.loop stage)) n0.1 n1.1 → Settles m r e n1 n2
+    → Goes stores o line (time_of x ++ []) a (moment (reached r stage) t e) n0 n2
 goes_one o line x call a stage t m e r n0 n1 n2 d calm told counts s = record {
   on = on_one o line x call a stage t m e r n0 n1 n2 d told counts s;
   calm = subst (λ y. FromCalm a.served y) (sym s.closes.is) (λ marks f h. calm marks (foretells_emptied marks m f) (calm_emptied marks m h));
@@ -181,26 +181,26 @@ pub few_is : (s : Loop) (stage : Stage) → IsIdle s → unless_full s stage ≡
 few_is s stage i = let few : nat_lt (length s.lost) most_marks ≡ true = lt-ltb (length s.lost) most_marks i.few in rw few refl
 
 -- an answer with which nothing is to be closed
-pub goes_idle : {K : Type 0} (o : Settings) (line : Standing → List ℕ) (x : Answer) (call : List Call) (a : Moment K) (stage : Stage) (t : Timer) (m : Served K) (n0 n1 : NetSeen) → Done o line x call a stage t m → FromCalm a.served m → IsIdle m.loop → Grows n0.0 call n1.0 → RisesIf (is_broken stage) n0.1 n1.1
-    → Goes o line (time_of x ++ []) a (moment stage t m) n0 n1
+pub goes_idle : {K : Type 0} {stores : Stores K} (o : Settings) (line : Standing → List ℕ) (x : Answer) (call : List Call) (a : Moment K) (stage : Stage) (t : Timer) (m : Served K) (n0 n1 : NetSeen) → Done stores o line x call a stage t m → FromCalm a.served m → IsIdle m.loop → Grows n0.0 call n1.0 → RisesIf (is_broken stage) n0.1 n1.1
+    → Goes stores o line (time_of x ++ []) a (moment stage t m) n0 n1
 goes_idle o line x call a stage t m n0 n1 d calm i told counts =
     goes_one o line x call a stage t m m (Ok tt) n0 n1 n1 d calm told (subst (λ y. RisesIf (is_broken y) n0.1 n1.1) (sym (few_is m.loop stage i)) counts) (settled_idle m n1 i)
 
 -- ---- where serving ended, no stage is ahead
 
-pub cut : {B K : Type 0} (A : Type 0) (o : Settings) (line : Standing → List ℕ) (ts : List ℕ) (a : Moment K) (e : ServeEnd) (r : Result B ServeEnd) (s u : Stage) (t : Timer) (d : Served K) (n0 n1 : NetSeen) → r ≡ Err e → Goes o line ts a (moment (reached {A = A} (Err e) s) t d) n0 n1 → Goes o line ts a (moment (reached r u) t d) n0 n1
-cut A o line ts a e r s u t d n0 n1 is g = subst (λ y. Goes o line ts a (moment (reached y u) t d) n0 n1) (sym is) g
+pub cut : {B K : Type 0} {stores : Stores K} (A : Type 0) (o : Settings) (line : Standing → List ℕ) (ts : List ℕ) (a : Moment K) (e : ServeEnd) (r : Result B ServeEnd) (s u : Stage) (t : Timer) (d : Served K) (n0 n1 : NetSeen) → r ≡ Err e → Goes stores o line ts a (moment (reached {A = A} (Err e) s) t d) n0 n1 → Goes stores o line ts a (moment (reached r u) t d) n0 n1
+cut {B} {K} {stores} A o line ts a e r s u t d n0 n1 is g = subst (λ y. Goes stores o line ts a (moment (reached y u) t d) n0 n1) (sym is) g
 
 -- ---- other words for the same
 
-pub with_timer : {K : Type 0} (o : Settings) (line : Standing → List ℕ) (ts : List ℕ) (a : Moment K) (s : Stage) (t u : Timer) (e : Served K) (n0 n1 : NetSeen) → u ≡ t → Goes o line ts a (moment s t e) n0 n1 → Goes o line ts a (moment s u e) n0 n1
-with_timer o line ts a s t u e n0 n1 is g = subst (λ y. Goes o line ts a (moment s y e) n0 n1) (sym is) g
+pub with_timer : {K : Type 0} {stores : Stores K} (o : Settings) (line : Standing → List ℕ) (ts : List ℕ) (a : Moment K) (s : Stage) (t u : Timer) (e : Served K) (n0 n1 : NetSeen) → u ≡ t → Goes stores o line ts a (moment s t e) n0 n1 → Goes stores o line ts a (moment s u e) n0 n1
+with_timer {K} {stores} o line ts a s t u e n0 n1 is g = subst (λ y. Goes stores o line ts a (moment s y e) n0 n1) (sym is) g
 
-pub on_timer : {K : Type 0} (o : Settings) (line : Standing → List ℕ) (ts : List ℕ) (a : Moment K) (s : Stage) (t u : Timer) (e : Served K) (n0 n1 : NetSeen) → u ≡ t → On o line ts a (moment s t e) n0 n1 → On o line ts a (moment s u e) n0 n1
-on_timer o line ts a s t u e n0 n1 is g = subst (λ y. On o line ts a (moment s y e) n0 n1) (sym is) g
+pub on_timer : {K : Type 0} {stores : Stores K} (o : Settings) (line : Standing → List ℕ) (ts : List ℕ) (a : Moment K) (s : Stage) (t u : Timer) (e : Served K) (n0 n1 : NetSeen) → u ≡ t → On stores o line ts a (moment s t e) n0 n1 → On stores o line ts a (moment s u e) n0 n1
+on_timer {K} {stores} o line ts a s t u e n0 n1 is g = subst (λ y. On stores o line ts a (moment s y e) n0 n1) (sym is) g
 
-pub from_timer : {K : Type 0} (o : Settings) (line : Standing → List ℕ) (ts : List ℕ) (s : Stage) (t u : Timer) (d : Served K) (b : Moment K) (n0 n1 : NetSeen) → u ≡ t → Goes o line ts (moment s u d) b n0 n1 → Goes o line ts (moment s t d) b n0 n1
-from_timer o line ts s t u d b n0 n1 is g = subst (λ y. Goes o line ts (moment s y d) b n0 n1) is g
+pub from_timer : {K : Type 0} {stores : Stores K} (o : Settings) (line : Standing → List ℕ) (ts : List ℕ) (s : Stage) (t u : Timer) (d : Served K) (b : Moment K) (n0 n1 : NetSeen) → u ≡ t → Goes stores o line ts (moment s u d) b n0 n1 → Goes stores o line ts (moment s t d) b n0 n1
+from_timer {K} {stores} o line ts s t u d b n0 n1 is g = subst (λ y. Goes stores o line ts (moment s y d) b n0 n1) is g
 
 pub on_ok : {A E P Q : Type 0} (r : Result A E) → (P → Q) → OnOk r P → OnOk r Q
 on_ok (Ok x) f h = f h
@@ -222,12 +222,12 @@ list_end xs i le = rw (drop_of_length-le xs le) refl
 
 -- ---- turns
 
-pub turn_then : {K : Type 0} (o : Settings) (line : Standing → List ℕ) (a b c : Moment K) (n0 n1 n2 : NetSeen) (c0 c1 c2 : Option (List ℕ)) → TurnGoes o line a b n0 n1 c0 c1 → is_broken b.at ≡ false → TurnGoes o line b c n1 n2 c1 c2 → TurnGoes o line a c n0 n2 c0 c2
+pub turn_then : {K : Type 0} {stores : Stores K} (o : Settings) (line : Standing → List ℕ) (a b c : Moment K) (n0 n1 n2 : NetSeen) (c0 c1 c2 : Option (List ℕ)) → TurnGoes stores o line a b n0 n1 c0 c1 → is_broken b.at ≡ false → TurnGoes stores o line b c n1 n2 c1 c2 → TurnGoes stores o line a c n0 n2 c0 c2
 turn_then o line a b c n0 n1 n2 c0 c1 c2 x whole y = record {
   times = x.times ++ y.times;
   goes = goes_then o line x.times y.times a b c n0 n1 n2 x.goes whole y.goes;
   clock = grows_both c0 x.times y.times x.clock y.clock;
 }
 
-pub turn_still : {K : Type 0} (o : Settings) (line : Standing → List ℕ) (a b : Moment K) (n : NetSeen) (clock : Option (List ℕ)) → Goes o line [] a b n n → TurnGoes o line a b n n clock clock
+pub turn_still : {K : Type 0} {stores : Stores K} (o : Settings) (line : Standing → List ℕ) (a b : Moment K) (n : NetSeen) (clock : Option (List ℕ)) → Goes stores o line [] a b n n → TurnGoes stores o line a b n n clock clock
 turn_still o line a b n clock g = record { times = []; goes = g; clock = grows_none clock }

@@ -1,5 +1,5 @@
 -- What is known of marks where connections were closed, and at a later place.
-use Rattle.std.proofs.Common.{◌≡◌, ◌<◌, ◌≤◌, ◌++◌, ◌∷◌, ◌⊎◌, [], List, length, drop, false, ◌==◌, nat_lt, All, refl, sym, ◌∙◌, ap, subst, inl, inr, arith, append_assoc}
+use Rattle.std.proofs.Common.{◌≡◌, ◌<◌, ◌≤◌, ◌++◌, ◌∷◌, ◌⊎◌, [], List, length, drop, false, ◌==◌, nat_lt, All, refl, sym, ◌∙◌, ap, inl, inr, arith, append_assoc}
 use Rattle.std.proofs.lemmas.List.{append-nil}
 use Rattle.std.proofs.lemmas.List.Elements.{All-nil, All-head, All-append, All-weaker}
 use Rattle.std.proofs.Math.Seq.{drop-append_seam}
@@ -8,11 +8,11 @@ use Rattle.op_serving.specs.declared.mark.Place.{Place}
 use Rattle.op_serving.specs.State.{Loop}
 use Rattle.op_serving.specs.Losses.{most_marks, is_here, has_threat, IsCalm, IsFrom, Foretells, Grew}
 use Rattle.op_serving.specs.Inputs.{State, Deed, Luck}
-use Rattle.op_serving.specs.Faults.{Stepped}
 use Rattle.op_queues.proofs.Settling.{grew_trans, grew_still}
 use Rattle.op_driver.proofs.Calm.{no_left, no_right, apart, calm_same}
 use Rattle.op_driver.proofs.Draining.{rest_still}
-use Rattle.op_driver.specs.Driver.{Served, with_deeds, emptied, Knows, Acts, Gives}
+use Rattle.op_driver.proofs.Stepping.{Untouched, went_none, went_from}
+use Rattle.op_driver.specs.Driver.{Served, Stores, with_deeds, emptied, Knows, Acts, Gives}
 
 -- ---- the same with no connection to be closed
 
@@ -71,21 +71,21 @@ moved_sure s m t same later g marks f =
 
 -- ---- what is done at once
 
-pub acts_still : {K : Type 0} (d : Served K) → Acts (λ l s. s) d d
-acts_still d = record { deeds = []; grew = grew_still refl refl; steps = refl; is = λ l before k c. ap (λ b. with_deeds b d) (sym (append-nil before)) }
+pub acts_still : {K : Type 0} {stores : Stores K} (d : Served K) → Acts stores (λ l s. s) d d
+acts_still d = record { deeds = []; grew = grew_still refl refl; went = went_none; is = λ l before k c. ap (λ b. with_deeds b d) (sym (append-nil before)) }
 
-pub acts_moved : {K : Type 0} (f : Luck → State → State) (move : State → State) (d m e : Served K) → ((before : List Deed) → move (with_deeds before d) ≡ with_deeds before m) → m.node ≡ d.node → m.loop.lost ≡ d.loop.lost → Later d.loop.place m.loop.place → d.loop.place.inputs ≤ m.loop.place.inputs → Acts f m e → Acts (λ l s. f l (move s)) d e
-acts_moved f move d m e moves node same later up a = record {
+pub acts_moved : {K : Type 0} {stores : Stores K} (f : Luck → State → State) (move : State → State) (d m e : Served K) → ((before : List Deed) → move (with_deeds before d) ≡ with_deeds before m) → Untouched d m → m.loop.lost ≡ d.loop.lost → Later d.loop.place m.loop.place → d.loop.place.inputs ≤ m.loop.place.inputs → Acts stores f m e → Acts stores (λ l s. f l (move s)) d e
+acts_moved f move d m e moves same same_lost later up a = record {
   deeds = a.deeds;
-  grew = grew_trans (grew_moved d.loop m.loop same later up) a.grew;
-  steps = subst (λ n. Stepped n a.deeds e.node) node a.steps;
+  grew = grew_trans (grew_moved d.loop m.loop same_lost later up) a.grew;
+  went = went_from same a.went;
   is = λ l before k c. ap (f l) (moves before) ∙ a.is l before k c;
 }
 
-pub acts_given : {K : Type 0} (f : Luck → State → State) (d e : Served K) → Gives f d e → Acts f d e
+pub acts_given : {K : Type 0} {stores : Stores K} (f : Luck → State → State) (d e : Served K) → Gives stores f d e → Acts stores f d e
 acts_given f d e g = record {
   deeds = g.deeds;
   grew = g.grew;
-  steps = g.steps;
+  went = g.went;
   is = λ l before k c. g.is l before k ∙ rest_still l (with_deeds (before ++ g.deeds) e) c g.none;
 }

@@ -6,19 +6,19 @@ use Rattle.op_serving.specs.Cores.{Standing}
 use Rattle.op_serving.specs.State.{Loop, find}
 use Rattle.op_serving.specs.Turns.{queue_in}
 use Rattle.op_serving.specs.Pump.{Settings, writes, stop}
-use Rattle.op_driver.specs.Driver.{Served, hello_left, IsIdle}
+use Rattle.op_driver.specs.Driver.{Served, Stores, hello_left, IsIdle}
 use Rattle.op_serving.specs.declared.serve_end.ServeEnd.{ServeEnd}
 use Rattle.op_pump.specs.declared.timer.Timer.{Timer}
 use Rattle.op_pump.specs.Moments.{moment, reached, Goes, Writes, Waits, Lessens, IsNext}
 use Rattle.op_pump.proofs.Going.{goes_then, goes_still}
 
-pub writes_none : {K : Type 0} (o : Settings) (line : Standing → List ℕ) (c : ℕ) (t : Timer) (d : Served K) (n : NetSeen) → IsIdle d.loop → Writes o line c (Ok (Some c)) t d d n n
+pub writes_none : {K : Type 0} {stores : Stores K} (o : Settings) (line : Standing → List ℕ) (c : ℕ) (t : Timer) (d : Served K) (n : NetSeen) → IsIdle d.loop → Writes stores o line c (Ok (Some c)) t d d n n
 writes_none o line c t d n idle = λ low first. (low, goes_still o line (moment (writes low) t d) n idle refl refl, first)
 
-pub writes_then : {K : Type 0} (o : Settings) (line : Standing → List ℕ) (c : ℕ) (t u : Timer) (d m e : Served K) (next : Option ℕ) (r : Result (Option ℕ) ServeEnd) (n0 n1 n2 : NetSeen) → u ≡ t → next ≡ Some c → Writes o line c (Ok next) t d m n0 n1 → Writes o line c r u m e n1 n2 → Writes o line c r t d e n0 n2
-writes_then o line c t u d m e next r n0 n1 n2 same is a b = λ low first.
+pub writes_then : {K : Type 0} {stores : Stores K} (o : Settings) (line : Standing → List ℕ) (c : ℕ) (t u : Timer) (d m e : Served K) (next : Option ℕ) (r : Result (Option ℕ) ServeEnd) (n0 n1 n2 : NetSeen) → u ≡ t → next ≡ Some c → Writes stores o line c (Ok next) t d m n0 n1 → Writes stores o line c r u m e n1 n2 → Writes stores o line c r t d e n0 n2
+writes_then {K} {stores} o line c t u d m e next r n0 n1 n2 same is a b = λ low first.
     let x = a low first in
-    let y = subst (λ z. Writes o line c r z m e n1 n2) same b x.0 (sym is ∙ x.2) in
+    let y = subst (λ z. Writes stores o line c r z m e n1 n2) same b x.0 (sym is ∙ x.2) in
     (y.0, goes_then o line [] [] (moment (writes low) t d) (moment (writes x.0) t m) (moment (reached r (writes y.0)) t e) n0 n1 n2 x.1 refl y.1, y.2)
 
 -- less waits, or another connection is next
@@ -60,9 +60,9 @@ lessens c n s m t same some most hello pours =
       | inr x ↦ inr (rw same x)
     ]
 
-pub stops_at : {K : Type 0} (o : Settings) (line : Standing → List ℕ) (low : ℕ) (t u : Timer) (d e : Served K) (end : ServeEnd) (r : Result (Option ℕ) ServeEnd) (n0 n1 : NetSeen) → r ≡ Err end → Goes o line [] (moment (writes low) t d) (moment (stop end) u e) n0 n1
-    → (up : ℕ) × Goes o line [] (moment (writes low) t d) (moment (reached r (writes up)) u e) n0 n1 × IsNext r up e.loop
-stops_at o line low t u d e end r n0 n1 is g = subst (λ y. (up : ℕ) × Goes o line [] (moment (writes low) t d) (moment (reached y (writes up)) u e) n0 n1 × IsNext y up e.loop) (sym is) (low, g, tt)
+pub stops_at : {K : Type 0} {stores : Stores K} (o : Settings) (line : Standing → List ℕ) (low : ℕ) (t u : Timer) (d e : Served K) (end : ServeEnd) (r : Result (Option ℕ) ServeEnd) (n0 n1 : NetSeen) → r ≡ Err end → Goes stores o line [] (moment (writes low) t d) (moment (stop end) u e) n0 n1
+    → (up : ℕ) × Goes stores o line [] (moment (writes low) t d) (moment (reached r (writes up)) u e) n0 n1 × IsNext r up e.loop
+stops_at {K} {stores} o line low t u d e end r n0 n1 is g = subst (λ y. (up : ℕ) × Goes stores o line [] (moment (writes low) t d) (moment (reached y (writes up)) u e) n0 n1 × IsNext y up e.loop) (sym is) (low, g, tt)
 
 pub waits_of : (low : ℕ) (s : Loop) (next : Option ℕ) → IfSome next (λ d. low ≤ d) → IfSome next (λ d. 0 < length (queue_in (find d s.sessions))) → Waits low s next
 waits_of low s None a b = tt

@@ -14,10 +14,9 @@ use Rattle.op_serving.specs.State.{Loop, find, is_open}
 use Rattle.op_serving.specs.Losses.{most_marks, IsCalm, Grew}
 use Rattle.op_serving.specs.Inputs.{State, Deed, Luck, over}
 use Rattle.op_serving.specs.Turns.{joined, accepted, queue_in, waiting_from}
-use Rattle.op_serving.specs.Faults.{Stepped}
 use Rattle.op_serving.specs.Pump.{last_time, Settings, Stage, turn, writes, stop, Pump, Answer, after, calls}
 use Rattle.op_serving.specs.Answers.{Answers, time_of}
-use Rattle.op_driver.specs.Driver.{Served, with_deeds, Knows, FromCalm, IsIdle, Rests, hello_left}
+use Rattle.op_driver.specs.Driver.{Served, with_deeds, Knows, FromCalm, Stores, Went, IsIdle, hello_left}
 use Rattle.op_serving.specs.declared.serve_end.ServeEnd.{ServeEnd}
 use Rattle.op_serving.specs.declared.serve_end.ServeEnd.TheVariants as ends
 use Rattle.op_pump.specs.declared.timer.Timer.{Timer}
@@ -99,13 +98,13 @@ times_in (a ∷ more) = time_of a ++ times_in more
 
 -- It went on from one moment to another by what net and clock answered, where no session is lost here behind
 -- it.
-pub record On {K : Type 0} (o : Settings) (line : Standing → List ℕ) (ts : List ℕ) (a b : Moment K)
-    (net0 net1 : NetSeen) : Type 0 where
+pub record On {K : Type 0} (stores : Stores K) (o : Settings) (line : Standing → List ℕ) (ts : List ℕ)
+    (a b : Moment K) (net0 net1 : NetSeen) : Type 0 where
   pub answers : List Answer
   pub made : List Call
   pub deeds : List Deed
   pub grew : Grew a.served.loop b.served.loop
-  pub steps : Stepped a.served.node deeds b.served.node
+  pub went : Went stores a.served deeds b.served
   pub told : Grows net0.0 made net1.0
   pub counts : RisesIf (is_broken b.at) net0.1 net1.1
   pub marks : MarksAt (is_starved b.at) b.served.loop
@@ -115,23 +114,23 @@ pub record On {K : Type 0} (o : Settings) (line : Standing → List ℕ) (ts : L
       → Leads o l line answers (pump_of before a) made (pump_of (before ++ deeds) b)
 
 -- the same of what may come behind something else
-pub record Goes {K : Type 0} (o : Settings) (line : Standing → List ℕ) (ts : List ℕ) (a b : Moment K)
-    (net0 net1 : NetSeen) : Type 0 where
-  pub on : On o line ts a b net0 net1
+pub record Goes {K : Type 0} (stores : Stores K) (o : Settings) (line : Standing → List ℕ) (ts : List ℕ)
+    (a b : Moment K) (net0 net1 : NetSeen) : Type 0 where
+  pub on : On stores o line ts a b net0 net1
   pub calm : FromCalm a.served b.served
 
 -- the same, with what the clock told
-pub record TurnGoes {K : Type 0} (o : Settings) (line : Standing → List ℕ) (a b : Moment K)
-    (net0 net1 : NetSeen) (clock0 clock1 : Option (List ℕ)) : Type 0 where
+pub record TurnGoes {K : Type 0} (stores : Stores K) (o : Settings) (line : Standing → List ℕ)
+    (a b : Moment K) (net0 net1 : NetSeen) (clock0 clock1 : Option (List ℕ)) : Type 0 where
   pub times : List ℕ
-  pub goes : Goes o line times a b net0 net1
+  pub goes : Goes stores o line times a b net0 net1
   pub clock : Grows clock0 times clock1
 
 -- the turns were taken, and so it ended
-abbrev pub TurnsGo : {K : Type 0} → Settings → (Standing → List ℕ) → ServeEnd → Timer → Served K → Timer
-    → Served K → NetSeen → NetSeen → Option (List ℕ) → Option (List ℕ) → Type 0
-TurnsGo o line end t d u e net0 net1 clock0 clock1 =
-    TurnGoes o line (moment turn t d) (moment (stop end) u e) net0 net1 clock0 clock1
+abbrev pub TurnsGo : {K : Type 0} → Stores K → Settings → (Standing → List ℕ) → ServeEnd → Timer → Served K
+    → Timer → Served K → NetSeen → NetSeen → Option (List ℕ) → Option (List ℕ) → Type 0
+TurnsGo stores o line end t d u e net0 net1 clock0 clock1 =
+    TurnGoes stores o line (moment turn t d) (moment (stop end) u e) net0 net1 clock0 clock1
 
 -- ---- between two things
 
@@ -148,11 +147,6 @@ IsResting s = IsIdleAt s.place.turn s.place.at s
 -- the same, where it was
 abbrev pub StaysIdle : Loop → Loop → Type 0
 StaysIdle s t = IsIdleAt s.place.turn s.place.at t
-
--- a call of the driver is over, and its disks stand as each of its steps leaves them
-pub record Stands {K : Type 0} (keeps : K → K → Type 0) (d e : Served K) : Type 0 where
-  pub rests : Rests d.loop e.loop
-  pub stored : (k : K) → keeps k d.core → keeps k e.core
 
 -- what was to be closed was closed
 pub record Closes {K : Type 0} (d e : Served K) (net0 net1 : NetSeen) : Type 0 where
@@ -202,8 +196,8 @@ IsNext (Ok next) low s = next ≡ waiting_from low s.sessions
 IsNext (Err e) low s = Unit {0}
 
 -- writes to a connection were made
-abbrev pub Writes : {K : Type 0} → Settings → (Standing → List ℕ) → ℕ → Result (Option ℕ) ServeEnd → Timer
-    → Served K → Served K → NetSeen → NetSeen → Type 0
-Writes o line c r t d e net0 net1 = (low : ℕ) → Some c ≡ waiting_from low d.loop.sessions →
-    (up : ℕ) × Goes o line [] (moment (writes low) t d) (moment (reached r (writes up)) t e) net0 net1
+abbrev pub Writes : {K : Type 0} → Stores K → Settings → (Standing → List ℕ) → ℕ
+    → Result (Option ℕ) ServeEnd → Timer → Served K → Served K → NetSeen → NetSeen → Type 0
+Writes stores o line c r t d e net0 net1 = (low : ℕ) → Some c ≡ waiting_from low d.loop.sessions →
+    (up : ℕ) × Goes stores o line [] (moment (writes low) t d) (moment (reached r (writes up)) t e) net0 net1
     × IsNext r up e.loop

@@ -13,13 +13,14 @@ use Rattle.op_serving.specs.State.{Loop}
 use Rattle.op_serving.specs.Losses.{most_marks}
 use Rattle.op_serving.specs.Inputs.{kept}
 use Rattle.op_serving.specs.Turns.{fresh, knowing}
-use Rattle.op_serving.specs.Faults.{faulted_steps, FaultsWithin}
+use Rattle.op_serving.specs.Faults.{faulted_steps, FaultsWithin, Walks}
 use Rattle.op_serving.specs.Promise.{Keeps, folded}
 use Rattle.op_serving.specs.Pump.{Answer, Pump, turn, stop}
 use Rattle.op_connections.specs.Hearing.{HearsAll}
 use Rattle.op_connections.specs.Taking.{IsBetween, IsDone}
 use Rattle.op_serving.specs.declared.serve_end.ServeEnd.{ServeEnd}
 use Rattle.op_serving.specs.declared.serve_end.ServeEnd.TheVariants as ends
+use Rattle.op_driver.specs.Driver.{Stores}
 use Rattle.op_pump.specs.Moments.{Leads, pump_at, set_of, set_out, times_in}
 
 -- every peer is known, and none has a session
@@ -81,6 +82,13 @@ pub record Serves (o : Settings) (line : Standing → List ℕ) (end : ServeEnd)
   pub fold : m ≡ folded n last.driver.deeds  -- the fold of its step over its inputs
   -- steps that met a fault of the disks
   pub few : FaultsWithin n.faults (faulted_steps last.driver.deeds) m.faults
+
+-- What it promises of the node itself: each input of that run was a step of it.
+pub record ServesNode {K : Type 0} (standing : K → Standing) (stores : Stores K) (o : Settings)
+    (line : Standing → List ℕ) (end : ServeEnd) (lost : List Mark) (before after : K) (net0 net1 : NetSeen)
+    (clock0 clock1 : Option (List ℕ)) : Type 0 where
+  pub serves : Serves o line end lost (standing before) (standing after) net0 net1 clock0 clock1
+  pub walks : Walks stores before serves.last.driver.deeds after
 
 -- nothing was served, for want of memory: the clock was read once, and nothing else was done
 pub record IsUnserved {K N : Type 0} (before after : K) (net0 net1 : N)

@@ -4,8 +4,8 @@ ghost use Rattle.op_serving.specs.Counts.{most_inputs};
 ghost use Rattle.op_serving.specs.State.{is_open};
 ghost use Rattle.op_serving.specs.Turns.{happens_at};
 ghost use Rattle.op_serving.specs.Pump.{Settings, Stage, asks, piece_len, reads, writes, writes_place};
-ghost use Rattle.op_driver.specs.Driver.{Acts, IsIdle};
-ghost use Rattle.op_pump.specs.Moments.{IsResting, StaysIdle, moment, reached, Goes, On, IsIdleAt, Stands, read_at, happened};
+ghost use Rattle.op_driver.specs.Driver.{Acts, IsIdle, Rests};
+ghost use Rattle.op_pump.specs.Moments.{IsResting, StaysIdle, moment, reached, Goes, On, IsIdleAt, read_at, happened};
 
 use crate::pump::Pump;
 use op_outside::{Conn, Got, Happening, Net};
@@ -20,7 +20,7 @@ impl<K: Core> Pump<K> {
         requires most { count ≤ most_happenings }
         requires given { N.given net.old ≡ count }
         requires idle { IsIdleAt self.old.driver.loop.place.turn 0 self.old.driver.loop }
-        ensures goes { (o : Settings) → Goes o K.line []
+        ensures goes { (o : Settings) → Goes K.stores o K.line []
             (moment (asks 0 count) self.old.timer self.old.driver)
             (moment (reached result (writes 0)) self.new.timer self.new.driver)
             (N.told net.old, N.fault_count net.old) (N.told net.new, N.fault_count net.new) }
@@ -29,7 +29,6 @@ impl<K: Core> Pump<K> {
         ensures timer { self.new.timer ≡ self.old.timer }
         ensures most { most_inputs self.new.driver.loop ≤ most_inputs self.old.driver.loop
             + count * piece_len }
-        ensures stored { (k : K) → K.stored k self.old.driver.core → K.stored k self.new.driver.core }
     {
         for i in 0..count {
             self.take_happening(net, i)?;
@@ -41,7 +40,7 @@ impl<K: Core> Pump<K> {
     fn end_happenings<N: Net>(&mut self, net: &mut N) -> Result<(), ServeEnd>
         requires idle { IsResting self.old.driver.loop }
         requires at { self.old.driver.loop.place.at < writes_place }
-        ensures goes { (o : Settings) (k : ℕ) → Goes o K.line []
+        ensures goes { (o : Settings) (k : ℕ) → Goes K.stores o K.line []
             (moment (asks k k) self.old.timer self.old.driver)
             (moment (reached result (writes 0)) self.new.timer self.new.driver)
             (N.told net.old, N.fault_count net.old) (N.told net.new, N.fault_count net.new) }
@@ -49,7 +48,6 @@ impl<K: Core> Pump<K> {
             (IsIdleAt self.old.driver.loop.place.turn writes_place self.new.driver.loop) }
         ensures timer { self.new.timer ≡ self.old.timer }
         ensures most { most_inputs self.new.driver.loop ≤ most_inputs self.old.driver.loop }
-        ensures stored { (k : K) → K.stored k self.old.driver.core → K.stored k self.new.driver.core }
     {
         self.driver.begin_happening(WRITES_PLACE);
         self.driver.flush();
@@ -61,7 +59,7 @@ impl<K: Core> Pump<K> {
         requires most { i < most_happenings }
         requires given { i < N.given net.old }
         requires idle { IsIdleAt self.old.driver.loop.place.turn i self.old.driver.loop }
-        ensures goes { (o : Settings) (k : ℕ) → i < k → Goes o K.line []
+        ensures goes { (o : Settings) (k : ℕ) → i < k → Goes K.stores o K.line []
             (moment (asks i k) self.old.timer self.old.driver)
             (moment (reached result (asks (i + 1) k)) self.new.timer self.new.driver)
             (N.told net.old, N.fault_count net.old) (N.told net.new, N.fault_count net.new) }
@@ -69,7 +67,6 @@ impl<K: Core> Pump<K> {
         ensures idle { OnOk result (IsIdleAt self.old.driver.loop.place.turn (i + 1) self.new.driver.loop) }
         ensures timer { self.new.timer ≡ self.old.timer }
         ensures most { most_inputs self.new.driver.loop ≤ most_inputs self.old.driver.loop + piece_len }
-        ensures stored { (k : K) → K.stored k self.old.driver.core → K.stored k self.new.driver.core }
     {
         let happening = net.ready(i);
         self.driver.begin_happening(i as u8 + 1);
@@ -96,8 +93,8 @@ impl<K: Core> Pump<K> {
     fn happen(&mut self, happening: Happening)
         requires idle { IsIdle self.old.driver.loop }
         requires at { self.old.driver.loop.place.at ≢ 0 }
-        ensures acts { Acts (λ l s. happened l happening s) self.old.driver self.new.driver }
-        ensures stands { Stands K.stored self.old.driver self.new.driver }
+        ensures acts { Acts K.stores (λ l s. happened l happening s) self.old.driver self.new.driver }
+        ensures rests { Rests self.old.driver.loop self.new.driver.loop }
         ensures most { most_inputs self.new.driver.loop ≤ most_inputs self.old.driver.loop + 1 }
         ensures timer { self.new.timer ≡ self.old.timer }
     {
@@ -115,7 +112,7 @@ impl<K: Core> Pump<K> {
         requires idle { IsIdle self.old.driver.loop }
         requires at { self.old.driver.loop.place.at ≢ 0 }
         requires frames { self.old.driver.loop.place.frames ≡ 0 }
-        ensures on { (o : Settings) (i k : ℕ) → On o K.line []
+        ensures on { (o : Settings) (i k : ℕ) → On K.stores o K.line []
             (moment (reads conn i k) self.old.timer self.old.driver)
             (moment (reached result (asks (i + 1) k)) self.new.timer self.new.driver)
             (N.told net.old, N.fault_count net.old) (N.told net.new, N.fault_count net.new) }
@@ -123,7 +120,6 @@ impl<K: Core> Pump<K> {
         ensures idle { OnOk result (StaysIdle self.old.driver.loop self.new.driver.loop) }
         ensures timer { self.new.timer ≡ self.old.timer }
         ensures most { most_inputs self.new.driver.loop ≤ most_inputs self.old.driver.loop + piece_len }
-        ensures stored { (k : K) → K.stored k self.old.driver.core → K.stored k self.new.driver.core }
     {
         match self.room.read(net, conn) {
             Ok(Got::Bytes(n)) => {

@@ -58,7 +58,7 @@ impl<K: Core> Pump<K> {
         requires idle { IsIdle self.old.driver.loop }
         requires kind { down_of kind ≡ [] }
         requires range { KindInRange kind }
-        ensures acts { Acts (λ l s. admitted l conn kind s) self.old.driver self.new.driver }
+        ensures acts { Acts K.stores (λ l s. admitted l conn kind s) self.old.driver self.new.driver }
         ensures calm { self.old.driver.loop.place.at ≡ 0 → FromCalm self.old.driver self.new.driver }
         ensures rests { Rests self.old.driver.loop self.new.driver.loop }
         ensures most { most_inputs self.new.driver.loop ≤ most_inputs self.old.driver.loop

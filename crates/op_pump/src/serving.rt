@@ -2,7 +2,7 @@ ghost use Rattle.std.specs.Prelude.{◌≡◌, ◌≤◌, ◌<◌, ◌+◌, ◌*
 ghost use Rattle.op_types.specs.Ranges.{IsPid};
 ghost use Rattle.op_pump.specs.Counts.{IsLimited, most_in_turn};
 ghost use Rattle.op_pump.specs.Moments.{IsResting, IsIdleAt, PeersInRange, set_of, TurnsGo};
-ghost use Rattle.op_pump.specs.Serving.{IsUnserved, Serves, begun};
+ghost use Rattle.op_pump.specs.Serving.{IsUnserved, ServesNode, begun};
 ghost use Rattle.op_serving.specs.Counts.{most_inputs};
 ghost use Rattle.op_serving.specs.Losses.{last_count};
 ghost use Rattle.op_serving.specs.declared.serve_end.ServeEnd.TheVariants as ends;
@@ -39,14 +39,13 @@ pub fn serve<K: Core, N: Net, C: Clock>(
     requires peers { PeersInRange settings.now }
     requires limits { IsLimited settings.now }
     requires ready { K.ready core }
-    ensures serves { IfOk result.end (λ end. Serves settings.now K.line end.0 end.1.items
-        (K.standing core) (K.standing result.core)
+    ensures serves { IfOk result.end (λ end. ServesNode K.standing K.stores settings.now K.line
+        end.0 end.1.items core result.core
         (N.told net.old, N.fault_count net.old) (N.told net.new, N.fault_count net.new)
         (C.answers clock.old) (C.answers clock.new)) }
     ensures unserved { OnErr result.end (IsUnserved core result.core net.old net.new
         (C.answers clock.old) (C.answers clock.new)) }
     ensures ready { K.ready result.core }
-    ensures stored { (k : K) → K.stored k core → K.stored k result.core }
 {
     let start = clock.millis();
     match begin(alloc, core.me(), settings) {
@@ -96,13 +95,12 @@ impl<K: Core> Pump<K> {
         requires peers { PeersInRange settings.now }
         requires idle { IsResting self.old.driver.loop }
         requires turns { self.old.driver.loop.place.turn + self.old.timer.left ≤ last_count }
-        ensures goes { TurnsGo (set_of settings.now) K.line result
+        ensures goes { TurnsGo K.stores (set_of settings.now) K.line result
             self.old.timer self.old.driver self.new.timer self.new.driver
             (N.told net.old, N.fault_count net.old) (N.told net.new, N.fault_count net.new)
             (C.answers clock.old) (C.answers clock.new) }
         ensures most { most_inputs self.new.driver.loop ≤ most_inputs self.old.driver.loop
             + self.old.timer.left * most_in_turn (length settings.now.peers) }
-        ensures stored { (k : K) → K.stored k self.old.driver.core → K.stored k self.new.driver.core }
     {
         'turns: while self.has_turn() {
             match self.take_turn(net, clock, settings) {

@@ -6,7 +6,7 @@ ghost use Rattle.op_serving.specs.Counts.{most_inputs};
 ghost use Rattle.op_serving.specs.Losses.{last_count};
 ghost use Rattle.op_types.specs.Ranges.{IsPid};
 ghost use Rattle.op_pump.specs.Counts.{most_of_dial, most_in_turn};
-ghost use Rattle.op_pump.specs.Moments.{IsResting, moment, reached, reached_with, Goes, TurnGoes, IsIdleAt, Stands, set_of, PeersInRange};
+ghost use Rattle.op_pump.specs.Moments.{IsResting, moment, reached, reached_with, Goes, TurnGoes, IsIdleAt, set_of, PeersInRange};
 
 use crate::pump::Pump;
 use op_outside::{Addr, Clock, Net};
@@ -27,7 +27,7 @@ impl<K: Core> Pump<K> {
         requires left { 0 < self.old.timer.left }
         requires ending { self.old.driver.loop.ending ≡ false }
         requires turns { self.old.driver.loop.place.turn + self.old.timer.left ≤ last_count }
-        ensures goes { TurnGoes (set_of settings.now) K.line
+        ensures goes { TurnGoes K.stores (set_of settings.now) K.line
             (moment turn self.old.timer self.old.driver)
             (moment (reached result turn) self.new.timer self.new.driver)
             (N.told net.old, N.fault_count net.old) (N.told net.new, N.fault_count net.new)
@@ -37,7 +37,6 @@ impl<K: Core> Pump<K> {
         ensures left { OnOk result (self.new.timer.left + 1 ≡ self.old.timer.left) }
         ensures most { most_inputs self.new.driver.loop ≤ most_inputs self.old.driver.loop
             + most_in_turn (length settings.now.peers) }
-        ensures stored { (k : K) → K.stored k self.old.driver.core → K.stored k self.new.driver.core }
     {
         let happened = self.begin_turn(net)?;
         self.take_time(net, clock.millis(), settings)?;
@@ -51,7 +50,7 @@ impl<K: Core> Pump<K> {
         requires left { 0 < self.old.timer.left }
         requires ending { self.old.driver.loop.ending ≡ false }
         requires turns { self.old.driver.loop.place.turn + self.old.timer.left ≤ last_count }
-        ensures goes { (o : Set) → Goes o K.line []
+        ensures goes { (o : Set) → Goes K.stores o K.line []
             (moment turn self.old.timer self.old.driver)
             (moment (reached_with result time) self.new.timer self.new.driver)
             (N.told net.old, N.fault_count net.old) (N.told net.new, N.fault_count net.new) }
@@ -81,7 +80,7 @@ impl<K: Core> Pump<K> {
     ) -> Result<(), ServeEnd>
         requires peers { PeersInRange settings.now }
         requires idle { IsIdleAt self.old.driver.loop.place.turn 0 self.old.driver.loop }
-        ensures goes { (k : ℕ) → Goes (set_of settings.now) K.line (now ∷ [])
+        ensures goes { (k : ℕ) → Goes K.stores (set_of settings.now) K.line (now ∷ [])
             (moment (time k) self.old.timer self.old.driver)
             (moment (reached result (asks 0 k)) self.new.timer self.new.driver)
             (N.told net.old, N.fault_count net.old) (N.told net.new, N.fault_count net.new) }
@@ -90,7 +89,6 @@ impl<K: Core> Pump<K> {
         ensures left { self.new.timer.left ≡ self.old.timer.left }
         ensures most { most_inputs self.new.driver.loop ≤ most_inputs self.old.driver.loop
             + 1 + most_of_dial * length settings.now.peers }
-        ensures stored { (k : K) → K.stored k self.old.driver.core → K.stored k self.new.driver.core }
     {
         if !self.timer.is_due(now) {
             self.timer.last = now;
@@ -109,7 +107,7 @@ impl<K: Core> Pump<K> {
     ) -> Result<(), ServeEnd>
         requires due { self.old.timer.due ≤ now }
         requires idle { IsIdleAt self.old.driver.loop.place.turn 0 self.old.driver.loop }
-        ensures goes { (k : ℕ) → Goes (set_of settings.now) K.line (now ∷ [])
+        ensures goes { (k : ℕ) → Goes K.stores (set_of settings.now) K.line (now ∷ [])
             (moment (time k) self.old.timer self.old.driver)
             (moment (reached result (dials settings.now.peers k)) self.new.timer self.new.driver)
             (N.told net.old, N.fault_count net.old) (N.told net.new, N.fault_count net.new) }
@@ -117,7 +115,6 @@ impl<K: Core> Pump<K> {
         ensures idle { OnOk result (IsIdleAt self.old.driver.loop.place.turn 0 self.new.driver.loop) }
         ensures left { self.new.timer.left ≡ self.old.timer.left }
         ensures most { most_inputs self.new.driver.loop ≤ most_inputs self.old.driver.loop + 1 }
-        ensures stored { (k : K) → K.stored k self.old.driver.core → K.stored k self.new.driver.core }
     {
         self.timer.tick(now, settings.tick_ms);
         self.driver.tick();
@@ -128,7 +125,7 @@ impl<K: Core> Pump<K> {
     fn dial_all<N: Net>(&mut self, net: &mut N, settings: &Settings) -> Result<(), ServeEnd>
         requires peers { PeersInRange settings.now }
         requires idle { IsIdleAt self.old.driver.loop.place.turn 0 self.old.driver.loop }
-        ensures goes { (o : Set) (k : ℕ) → Goes o K.line []
+        ensures goes { (o : Set) (k : ℕ) → Goes K.stores o K.line []
             (moment (dials settings.now.peers k) self.old.timer self.old.driver)
             (moment (reached result (asks 0 k)) self.new.timer self.new.driver)
             (N.told net.old, N.fault_count net.old) (N.told net.new, N.fault_count net.new) }
@@ -148,7 +145,7 @@ impl<K: Core> Pump<K> {
     fn dial_one<N: Net>(&mut self, net: &mut N, peer: &(Pid, Addr)) -> Result<(), ServeEnd>
         requires range { IsPid peer.now.0 }
         requires idle { IsIdleAt self.old.driver.loop.place.turn 0 self.old.driver.loop }
-        ensures goes { (o : Set) (more : List (ℕ × Addr)) (k : ℕ) → Goes o K.line []
+        ensures goes { (o : Set) (more : List (ℕ × Addr)) (k : ℕ) → Goes K.stores o K.line []
             (moment (dials (peer.now ∷ more) k) self.old.timer self.old.driver)
             (moment (reached result (dials more k)) self.new.timer self.new.driver)
             (N.told net.old, N.fault_count net.old) (N.told net.new, N.fault_count net.new) }

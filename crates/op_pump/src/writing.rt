@@ -15,14 +15,13 @@ impl<K: Core> Pump<K> {
     pub fn write_all<N: Net>(&mut self, net: &mut N) -> Result<(), ServeEnd>
         requires idle { IsResting self.old.driver.loop }
         requires at { self.old.driver.loop.place.at ≢ 0 }
-        ensures goes { (o : Settings) → Goes o K.line []
+        ensures goes { (o : Settings) → Goes K.stores o K.line []
             (moment (writes 0) self.old.timer self.old.driver)
             (moment (reached result turn) self.new.timer self.new.driver)
             (N.told net.old, N.fault_count net.old) (N.told net.new, N.fault_count net.new) }
         ensures idle { OnOk result (StaysIdle self.old.driver.loop self.new.driver.loop) }
         ensures timer { self.new.timer ≡ self.old.timer }
         ensures most { most_inputs self.new.driver.loop ≤ most_inputs self.old.driver.loop }
-        ensures stored { (k : K) → K.stored k self.old.driver.core → K.stored k self.new.driver.core }
     {
         let mut next = self.driver.next_to_write(0);
         'queues: while let Some(conn) = next {
@@ -37,7 +36,7 @@ impl<K: Core> Pump<K> {
         requires idle { IsResting self.old.driver.loop }
         requires at { self.old.driver.loop.place.at ≢ 0 }
         requires waits { 0 < length (queue_in (find conn self.old.driver.loop.sessions)) }
-        ensures writes { (o : Settings) → Writes o K.line conn result
+        ensures writes { (o : Settings) → Writes K.stores o K.line conn result
             self.old.timer self.old.driver self.new.driver
             (N.told net.old, N.fault_count net.old) (N.told net.new, N.fault_count net.new) }
         ensures waits { IfOk result (Waits conn self.new.driver.loop) }
@@ -45,7 +44,6 @@ impl<K: Core> Pump<K> {
         ensures idle { OnOk result (StaysIdle self.old.driver.loop self.new.driver.loop) }
         ensures timer { self.new.timer ≡ self.old.timer }
         ensures most { most_inputs self.new.driver.loop ≤ most_inputs self.old.driver.loop }
-        ensures stored { (k : K) → K.stored k self.old.driver.core → K.stored k self.new.driver.core }
     {
         let next = self.write_hello(net, conn)?;
         if is_conn(next, conn) {
@@ -60,7 +58,7 @@ impl<K: Core> Pump<K> {
         requires idle { IsResting self.old.driver.loop }
         requires at { self.old.driver.loop.place.at ≢ 0 }
         requires waits { 0 < length (queue_in (find conn self.old.driver.loop.sessions)) }
-        ensures writes { (o : Settings) → Writes o K.line conn result
+        ensures writes { (o : Settings) → Writes K.stores o K.line conn result
             self.old.timer self.old.driver self.new.driver
             (N.told net.old, N.fault_count net.old) (N.told net.new, N.fault_count net.new) }
         ensures waits { IfOk result (Waits conn self.new.driver.loop) }
@@ -68,7 +66,6 @@ impl<K: Core> Pump<K> {
         ensures idle { OnOk result (StaysIdle self.old.driver.loop self.new.driver.loop) }
         ensures timer { self.new.timer ≡ self.old.timer }
         ensures most { most_inputs self.new.driver.loop ≤ most_inputs self.old.driver.loop }
-        ensures stored { (k : K) → K.stored k self.old.driver.core → K.stored k self.new.driver.core }
     {
         let mut next = Some(conn);
         'hello: while is_conn(next, conn) && self.driver.hello_left(conn) > 0 {
@@ -84,7 +81,7 @@ impl<K: Core> Pump<K> {
         requires at { self.old.driver.loop.place.at ≢ 0 }
         requires waits { 0 < length (queue_in (find conn self.old.driver.loop.sessions)) }
         requires no_hello { hello_left conn self.old.driver.loop ≡ 0 }
-        ensures writes { (o : Settings) → Writes o K.line conn result
+        ensures writes { (o : Settings) → Writes K.stores o K.line conn result
             self.old.timer self.old.driver self.new.driver
             (N.told net.old, N.fault_count net.old) (N.told net.new, N.fault_count net.new) }
         ensures waits { IfOk result (Waits conn self.new.driver.loop) }
@@ -92,7 +89,6 @@ impl<K: Core> Pump<K> {
         ensures idle { OnOk result (StaysIdle self.old.driver.loop self.new.driver.loop) }
         ensures timer { self.new.timer ≡ self.old.timer }
         ensures most { most_inputs self.new.driver.loop ≤ most_inputs self.old.driver.loop }
-        ensures stored { (k : K) → K.stored k self.old.driver.core → K.stored k self.new.driver.core }
     {
         let mut next = Some(conn);
         'queue: while is_conn(next, conn) {
@@ -107,7 +103,7 @@ impl<K: Core> Pump<K> {
         requires idle { IsResting self.old.driver.loop }
         requires at { self.old.driver.loop.place.at ≢ 0 }
         requires waits { 0 < length (queue_in (find conn self.old.driver.loop.sessions)) }
-        ensures writes { (o : Settings) → Writes o K.line conn result
+        ensures writes { (o : Settings) → Writes K.stores o K.line conn result
             self.old.timer self.old.driver self.new.driver
             (N.told net.old, N.fault_count net.old) (N.told net.new, N.fault_count net.new) }
         ensures waits { IfOk result (Waits conn self.new.driver.loop) }
@@ -115,7 +111,6 @@ impl<K: Core> Pump<K> {
         ensures idle { OnOk result (StaysIdle self.old.driver.loop self.new.driver.loop) }
         ensures timer { self.new.timer ≡ self.old.timer }
         ensures most { most_inputs self.new.driver.loop ≤ most_inputs self.old.driver.loop }
-        ensures stored { (k : K) → K.stored k self.old.driver.core → K.stored k self.new.driver.core }
     {
         match net.write(conn, self.driver.waiting(conn)) {
             Ok(Took::Bytes(n)) => {

@@ -18,12 +18,13 @@ use Rattle.op_serving.specs.declared.mark.Mark.{Mark}
 use Rattle.op_serving.specs.declared.node.Given.{Given}
 use Rattle.op_serving.specs.declared.session.Session.{Session}
 use Rattle.op_serving.specs.declared.wanted.Wanted.{Wanted}
-use Rattle.op_serving.specs.Cores.{Standing, gives}
+use Rattle.op_serving.specs.Cores.{Standing, gives, given_again}
 use Rattle.op_serving.specs.State.{Key, Table, Loop, find, changed_at, down_of, left_at, left_by, session_of, waits_for, counted}
 use Rattle.op_serving.specs.Wire.{peer_frame, client_frame}
 use Rattle.op_serving.specs.Losses.{most_marks, mark_at, noted, stopped_if, marked, lost_by, lost_one, is_due, settle, size}
 use Rattle.op_serving.specs.Handing.{said_at, sent, sent_all, forgotten, answered, replied, replied_all, handed_out, said_of_denial, said_at_once, Told, told_all, asked_by_one, asked, keys_that_wait, proposed, excused}
-use Rattle.op_serving.specs.Inputs.{Fate, done, faults, lost, loop_after}
+use Rattle.op_serving.specs.Inputs.{loop_after}
+use Rattle.op_serving.specs.Fates.{Fate, done, finds, faults, damaged, lost}
 use Rattle.op_queues.proofs.Tables.{without_less}
 
 -- ---- a session ends
@@ -114,5 +115,7 @@ size_excused (Some w) why s = size_told_all (said_of_denial w why) s
 -- an input ends no session but those that are lost
 pub size_loop_after : (a : Option Wanted) (i : Input) (f : Fate) (n : Standing) (s : Loop) → size (loop_after a i f n s) ≤ size s
 size_loop_after a i done n s = omega (arith, size_handed (gives n i) (proposed a (gives n i).outcome (counted s)), size_proposed a (gives n i).outcome (counted s))
+size_loop_after a i (finds d) n s = omega (arith, size_handed (given_again n d) (proposed a None (counted s)), size_proposed a None (counted s))
 size_loop_after a i (faults k) n s = omega (arith, size_excused a (Some (StorageFailed k)) (counted s))
+size_loop_after a i damaged n s = omega arith
 size_loop_after a i lost n s = omega (arith, size_excused a None (counted (marked None s)), size_marked None s)

@@ -1,5 +1,5 @@
 -- How a node ends, from what its opening and its serving tell.
-use Rattle.std.proofs.Common.{◌+◌, ◌≡◌, ◌≤◌, ℕ, Bool, List, ◌∷◌, [], Option, Some, None, Err, refl, inl, inr, ⊎_elim, arith}
+use Rattle.std.proofs.Common.{◌+◌, ◌≡◌, ◌≤◌, ℕ, Bool, List, ◌∷◌, [], Option, Some, Err, refl, inl, inr, ⊎_elim, arith}
 use Rattle.std.proofs.lemmas.List.Elements.{All-weaker}
 use Rattle.op_types.specs.declared.durable.Durable.{Durable}
 use Rattle.op_types.specs.declared.messages.Msg.{Msg}
@@ -13,7 +13,7 @@ use Rattle.op_setup.specs.Settings.{HasPeer, IsSettings}
 use Rattle.op_setup.specs.declared.config.Settings.{Settings}
 use Rattle.op_store.specs.Failing.{faults, IsFaultOf}
 use Rattle.op_store.specs.Openings.{IsRefusal, Opened, Remains}
-use Rattle.op_store.specs.Stored.{Obey, HaveImages, KeepBoth}
+use Rattle.op_store.specs.Stored.{Obey, HaveImages}
 use Rattle.op_store.specs.Stores.{Represents, disks_of}
 use Rattle.op_store.specs.declared.store.Store.{Store}
 use Rattle.op_store.proofs.CommitCrashes.{open_stored, rests_first, rests_second}
@@ -22,19 +22,24 @@ use Rattle.op_store.proofs.KeptDisks.{keep_same}
 use Rattle.op_store.specs.declared.fail.Returned.{Returned}
 use Rattle.op_store.specs.declared.fail.StoreFail.{StoreFail}
 use Rattle.op_store.specs.declared.fail.StoreFail.TheVariants as refusals
-use Rattle.op_node.specs.Nodes.{NodeState, node_of, IsRepresented}
+use Rattle.op_node.specs.Nodes.{NodeState, node_of}
 use Rattle.op_node.specs.Openings.{Opens, RefusesNode, disks_with, fresh_for}
 use Rattle.op_node.specs.declared.node.Node.{Node}
 use Rattle.op_node.proofs.Refusals.{refusal_tells}
 use Rattle.op_node.proofs.Represented.{opened_represented}
-use Rattle.op_core.specs.NodeCores.{standing_at, standing_of, status_line, IsStoredWhileUp}
+use Rattle.op_core.specs.Disks.{Stores, CoreStores}
+use Rattle.op_core.specs.NodeCores.{standing_of, status_line}
+use Rattle.op_core.specs.declared.node_core.NodeCore.{NodeCore}
+use Rattle.op_core.proofs.Disks.{opened_stores_so, runs_keep, runs_find, runs_store}
 use Rattle.op_pump.specs.Serving as loop
 use Rattle.op_serving.specs.declared.serve_end.ServeEnd.{ServeEnd}
 use Rattle.op_serving.specs.declared.mark.Mark.{Mark}
+use Rattle.op_serving.specs.Faults.{Walks}
+use Rattle.op_serving.specs.Inputs.{Deed}
 use Rattle.op_status.specs.declared.status.Status.{Status}
 use Rattle.op_status.specs.declared.status.Status.TheVariants as status
 use Rattle.op_input.specs.Inputs.{IsMisconfigured, input_limit}
-use Rattle.op_serve.specs.Nodes.{Around, Serves, is_misconfigured, Goes, is_unheard, cannot_begin, has_served, Ends, cannot_open, is_damaged, has_no_memory, is_opened, IsHeard, IsNodeOf, IsOwn, IsReady, Holds, KeepsStored, around, status_of, status_of_refusal}
+use Rattle.op_serve.specs.Nodes.{Around, Serves, is_misconfigured, Goes, is_unheard, cannot_begin, has_served, Ends, cannot_open, is_damaged, has_no_memory, is_opened, IsHeard, IsNodeOf, IsOwn, IsReady, Holds, HoldsOver, KeepsStored, around, status_of, status_of_refusal}
 
 module _ {D : Type 0} (state : D → DiskState) where
   -- what stood for what was stored may be known by less
@@ -42,7 +47,7 @@ module _ {D : Type 0} (state : D → DiskState) where
       → Goes state id o n P old new s lost → Goes state id o n Q old new s lost
   goes_by id o n P Q old new s lost f (is_unheard h same) = is_unheard h same
   goes_by id o n P Q old new s lost f (cannot_begin t r c same) = cannot_begin t r c same
-  goes_by id o n P Q old new s lost f (has_served net r serves kept stored) = has_served net r serves kept (λ q. stored (f q))
+  goes_by id o n P Q old new s lost f (has_served net r run kept stored) = has_served net r run kept (λ q. stored (f q))
 
   -- ---- what an opening keeps
 
@@ -113,7 +118,7 @@ module _ {D : Type 0} (state : D → DiskState) where
   -- an opened node goes on
   pub ends_opened : (id : ℕ) (o : Settings) (first second : D) (n : Node D) (sends : List (ℕ × Msg)) (net : NetSeen) (clock : Option (List ℕ)) (out : StreamSeen) (new : Around D) (s : Status) (lost : List Mark)
       → Opens state id o.members (disks_with state first second) n sends
-      → Goes state id o (node_of n) (IsRepresented state n) (around n.store.first n.store.second net clock out) new s lost
+      → Goes state id o (node_of n) (Stores state (node_of n).state.durable n) (around n.store.first n.store.second net clock out) new s lost
       → Ends state id o (around first second net clock out) new s lost
   ends_opened id o first second n sends net clock out new s lost opens goes =
       is_opened (around n.store.first n.store.second net clock out)
@@ -126,8 +131,8 @@ module _ {D : Type 0} (state : D → DiskState) where
         no_fault = opens.opened.no_fault;
         keeps = opened_keeps id o.members first second n.store opens.durable opens.is_new net clock out opens.opened;
       })
-      (goes_by id o (node_of n) (IsRepresented state n) (IsOwn state id (around first second net clock out) opens.durable) _ new s lost
-      (λ own. opened_represented state id o.members (disks_with state first second) n sends opens own.0 own.1) goes)
+      (goes_by id o (node_of n) (Stores state (node_of n).state.durable n) (IsOwn state id (around first second net clock out) opens.durable) _ new s lost
+      (λ own. opened_stores_so state id o.members first second n sends opens (opened_represented state id o.members (disks_with state first second) n sends opens own.0 own.1)) goes)
 
   -- a node that was not opened ends
   refused_by : (id : ℕ) (o : Settings) (first second : D) (cause : StoreFail) (a b : D) (net : NetSeen) (clock : Option (List ℕ)) (out : StreamSeen)
@@ -177,17 +182,28 @@ module _ {D : Type 0} (state : D → DiskState) where
   goes_unserved id o n stood first second net0 mid net1 clock0 clock1 out0 out1 a b t s lost ready same grows at_first at_second is no_loss =
       rw (same, at_first, at_second, is, no_loss) (cannot_begin t ready grows refl)
 
+  -- what is stored at the end of a run of a node, and was found in it
+  holds_over : (k m : NodeCore D) (deeds : List Deed) (net0 net1 : NetSeen) (clock0 clock1 : Option (List ℕ)) (out0 out1 : StreamSeen) → Walks (CoreStores state) k deeds m → Stores state (node_of k.node).state.durable k.node
+      → HoldsOver state deeds (node_of k.node) (node_of m.node) (around k.node.store.first k.node.store.second net0 clock0 out0) (around m.node.store.first m.node.store.second net1 clock1 out1)
+  holds_over k m deeds net0 net1 clock0 clock1 out0 out1 walks stood =
+      let d : Durable = (node_of k.node).state.durable in
+      let there = runs_store state k m deeds d walks stood in
+      record {
+        found = runs_find state k m deeds d walks stood;
+        holds = record { up = λ up. holds m.node (node_of m.node).state.durable net1 clock1 out1 (there.up up); failed = there.failed };
+      }
+
   -- it has served
-  pub goes_served : (id : ℕ) (o : Settings) (n : NodeState) (stood : Type 0) (first second : D) (k : Node D) (end : ServeEnd) (net0 mid net1 : NetSeen) (clock0 clock1 : Option (List ℕ)) (out0 out1 : StreamSeen)
+  pub goes_served : (id : ℕ) (o : Settings) (k m : NodeCore D) (end : ServeEnd) (net0 mid net1 : NetSeen) (clock0 clock1 : Option (List ℕ)) (out0 out1 : StreamSeen)
       (a b : D) (s : Status) (lost : List Mark)
       → IsReady id o net0 mid out0 out1
-      → loop.Serves o status_line end lost (standing_at n (faults (disks_with state first second))) (standing_of state k) mid net1 clock0 clock1
-      → KeepBoth (disks_with state first second) (disks_of state k.store)
-      → (stood → IsStoredWhileUp state k) → a ≡ k.store.first → b ≡ k.store.second → s ≡ status_of end
-      → Goes state id o n stood (around first second net0 clock0 out0) (around a b net1 clock1 out1) s lost
-  goes_served id o n stood first second k end net0 mid net1 clock0 clock1 out0 out1 a b s lost ready serves kept stored at_first at_second is =
+      → loop.ServesNode (λ (c : NodeCore D). standing_of state c.node) (CoreStores state) o status_line end lost k m mid net1 clock0 clock1
+      → a ≡ m.node.store.first → b ≡ m.node.store.second → s ≡ status_of end
+      → Goes state id o (node_of k.node) (Stores state (node_of k.node).state.durable k.node) (around k.node.store.first k.node.store.second net0 clock0 out0) (around a b net1 clock1 out1) s lost
+  goes_served id o k m end net0 mid net1 clock0 clock1 out0 out1 a b s lost ready served at_first at_second is =
+      let deeds : List Deed = served.serves.last.driver.deeds in
       rw (at_first, at_second, is)
-      (has_served mid ready serves kept (λ (yes : stood) (up : (node_of k).failed ≡ None). holds k (node_of k).state.durable net1 clock1 out1 (stored yes up)))
+      (has_served mid ready served.serves (runs_keep state k m deeds served.walks) (λ stood. holds_over k m deeds net0 net1 clock0 clock1 out0 out1 served.walks stood))
 
 -- ---- its settings
 

@@ -1,5 +1,5 @@
 -- How a node that serves ends, and what it leaves on its disks, its net and its output.
-use Rattle.std.specs.Prelude.{◌≡◌, ◌≤◌, ◌+◌, ◌++◌, ◌∷◌, [], ℕ, Bool, List, codes, decimal, Option, Some, None, Result, Ok, Err, Contains}
+use Rattle.std.specs.Prelude.{◌≡◌, ◌≢◌, ◌≤◌, ◌+◌, ◌++◌, ◌∷◌, [], ℕ, Bool, List, codes, decimal, Option, Some, None, Result, Ok, Err, Contains}
 use Rattle.std.specs.Io.KnownBytes.{Appends}
 use Rattle.op_types.specs.Ranges.{IsPid, MembersInRange}
 use Rattle.op_types.specs.declared.durable.Durable.{Durable}
@@ -20,6 +20,7 @@ use Rattle.op_store.specs.declared.fail.StoreFail.{StoreFail}
 use Rattle.op_store.specs.declared.fail.StoreFail.TheVariants as refusals
 use Rattle.op_node.specs.Nodes.{NodeState}
 use Rattle.op_node.specs.Openings.{disks_with, durable_for, fresh_for, opening_state}
+use Rattle.op_node.specs.Reopenings.{StoreOneOf}
 use Rattle.op_core.specs.NodeCores.{standing_at, status_line}
 use Rattle.op_pump.specs.Counts.{IsLimited}
 use Rattle.op_pump.specs.Moments.{PeersInRange}
@@ -27,6 +28,8 @@ use Rattle.op_pump.specs.Serving as loop
 use Rattle.op_serving.specs.declared.serve_end.ServeEnd.{ServeEnd}
 use Rattle.op_serving.specs.declared.serve_end.ServeEnd.TheVariants as ends
 use Rattle.op_serving.specs.declared.mark.Mark.{Mark}
+use Rattle.op_serving.specs.Inputs.{Deed}
+use Rattle.op_serving.specs.Reopenings.{FindStored, unstored_behind}
 use Rattle.op_input.specs.Inputs.{IsConfigured, IsMisconfigured, input_limit}
 use Rattle.op_status.specs.declared.status.Status.{Status}
 use Rattle.op_status.specs.declared.status.Status.TheVariants as status
@@ -116,6 +119,18 @@ module _ {D : Type 0} (state : D → DiskState) where
     pub rests_second : IsAtRest (state a.second)
     pub stored : IsStored d (state a.first).content (state a.second).content
 
+  -- They hold what a node has stored. Of one that has failed they store that, or what its failed step was to
+  -- store, and so does what a crash leaves.
+  pub record HoldsOf (a : Around D) (n : NodeState) (unstored : Durable) : Type 0 where
+    pub up : n.failed ≡ None → Holds a n.state.durable
+    pub failed : n.failed ≢ None → StoreOneOf n.state.durable unstored (disks_in a)
+
+  -- A node's disks over these deeds of it: each opening of it again found what it had stored before the step
+  -- in which they failed, or what that step was to store, and at the end they hold what is stored.
+  pub record HoldsOver (deeds : List Deed) (n m : NodeState) (old new : Around D) : Type 0 where
+    pub found : FindStored (standing_at n (faults_of old)) n.state.durable deeds
+    pub holds : HoldsOf new m (unstored_behind (standing_at n (faults_of old)) n.state.durable deeds)
+
   -- What an opening leaves, however it ends: nothing but the disks was called, each of them is itself, and
   -- the count of faults didn't fall. A crash leaves what it might have left before, or what they stored;
   -- and a read gives what a crash may leave, if it did so before.
@@ -150,7 +165,7 @@ module _ {D : Type 0} (state : D → DiskState) where
 
   -- How an open node ends: it could not listen, or could not tell that it does;
   -- there was no memory to begin; or it has served, and each disk is itself at the end.
-  -- If the disks stood for what it had stored, and it has not failed, they do so at the end.
+  -- If the disks stood for what it had stored, so they do over all deeds of that run.
   pub data Goes (id : ℕ) (o : Settings) (n : NodeState) (stood : Type 0)
       (old new : Around D) : Status → List Mark → Type 0 where
     is_unheard : {s : Status} → IsHeard {T = Unit {0}} id o (Err s) old.net new.net old.output new.output
@@ -161,10 +176,10 @@ module _ {D : Type 0} (state : D → DiskState) where
         → Goes id o n stood old new status.NoMemory []
     has_served : {m : NodeState} {end : ServeEnd} {lost : List Mark} (net : NetSeen)
         → IsReady id o old.net net old.output new.output
-        → loop.Serves o status_line end lost (standing_at n (faults_of old)) (standing_at m (faults_of new))
-        net new.net old.clock new.clock
+        → (run : loop.Serves o status_line end lost (standing_at n (faults_of old))
+        (standing_at m (faults_of new)) net new.net old.clock new.clock)
         → KeepBoth (disks_in old) (disks_in new)
-        → (stood → m.failed ≡ None → Holds new m.state.durable)
+        → (stood → HoldsOver run.last.driver.deeds n m old new)
         → Goes id o n stood old new (status_of end) lost
 
   -- How a node ends, and what it leaves. Each end has its cause,

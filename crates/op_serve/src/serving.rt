@@ -3,7 +3,8 @@ ghost use Rattle.std.specs.Io.KnownBytes.{Appends};
 ghost use Rattle.op_outside.specs.Causes.{FailsOnlyOnFault};
 ghost use Rattle.op_outside.specs.Streams.{AppendsPrefix};
 ghost use Rattle.op_setup.specs.Settings.{IsAmong};
-ghost use Rattle.op_node.specs.Nodes.{node_of, IsRepresented};
+ghost use Rattle.op_node.specs.Nodes.{node_of};
+ghost use Rattle.op_core.specs.Disks.{Stores};
 ghost use Rattle.op_core.specs.NodeCores.{IsServable};
 ghost use Rattle.op_serve.specs.Nodes.{Ends, Goes, IsHeard, IsNodeOf, around, ready_line, status_of, status_of_refusal};
 
@@ -61,7 +62,7 @@ fn serve_opened<D: Disk, N: Net, C: Clock, K: Sink>(
 ) -> Ending<D>
     requires settings { IsNodeOf id settings.now }
     requires ready { IsServable node }
-    ensures { Goes D.state id settings.now (node_of node) (IsRepresented D.state node)
+    ensures { Goes D.state id settings.now (node_of node) (Stores D.state (node_of node).state.durable node)
         (around node.store.first node.store.second (N.told net.old, N.fault_count net.old)
         (C.answers clock.old) (K.held out.old, K.fault_count out.old))
         (around result.first result.second (N.told net.new, N.fault_count net.new) (C.answers clock.new)

@@ -1,5 +1,5 @@
 -- What net and clock may answer.
-use Rattle.std.specs.Prelude.{◌≤◌, ◌∷◌, [], ℕ, List, length, Option, Some, None, IfSome}
+use Rattle.std.specs.Prelude.{◌≤◌, ◌∷◌, [], ℕ, List, length, IfSome}
 use Rattle.op_fields.specs.Reads.{IsBytes}
 use Rattle.op_outside.specs.Nets.{most_happenings, SawBytes}
 use Rattle.op_outside.specs.declared.net.Took.{Took}

@@ -1,5 +1,7 @@
--- A node that is served: its state, how often its disks have failed, and what a step of it is.
-use Rattle.std.specs.Prelude.{◌≡◌, ℕ, [], Option, Some, None, Result, Ok, Err}
+-- A node that is served: its state, how often its disks have failed, what an input makes of it, and its
+-- opening after a failure.
+use Rattle.std.specs.Prelude.{ℕ, [], Bool, false, is_some, Option, Some, None}
+use Rattle.op_types.specs.declared.durable.Durable.{Durable}
 use Rattle.op_types.specs.declared.answers.Outcome.{Outcome}
 use Rattle.op_types.specs.declared.answers.Outcome.TheVariants.{Refused}
 use Rattle.op_types.specs.declared.answers.Refusal.TheVariants.{StorageFailed}
@@ -7,10 +9,9 @@ use Rattle.op_types.specs.declared.events.Input.{Input}
 use Rattle.op_types.specs.declared.events.Input.TheVariants as input
 use Rattle.op_protocol.specs.State.{State, Planned, state_after}
 use Rattle.op_protocol.specs.Rows.{step_plan}
-use Rattle.op_outside.specs.Causes.{Rises}
+use Rattle.op_protocol.specs.Starting.{sends_after_restart}
+use Rattle.op_runs.specs.World.{state_after_reopening}
 use Rattle.op_serving.specs.declared.node.Given.{Given}
-use Rattle.op_serving.specs.declared.node.StepFail.{StepFail}
-use Rattle.op_serving.specs.declared.node.StepFail.TheVariants as fails
 
 -- whose node it is, its state in the step table, the count with which it failed,
 -- and the count of its disks' faults
@@ -49,9 +50,17 @@ after_input n x =
 unfoldable pub faulted : ℕ → Standing → Standing
 faulted k n = record n { failed = Some k; faults = k }
 
--- what a step did: what the table gives; or a disk failed, and the count of faults rose to this; or it found
--- no memory, and the node is as before
-abbrev pub Steps : Standing → Input → Result Given StepFail → Standing → Type 0
-Steps n x (Ok given) m = (given ≡ gives n x) × (m ≡ after_input n x)
-Steps n x (Err (fails.DiskFail k)) m = (m ≡ faulted k n) × Rises n.faults k
-Steps n x (Err fails.NoMemory) m = m ≡ n
+-- ---- a node that failed is opened again
+
+-- so it is at each tick
+abbrev pub reopens : Standing → Input → Bool
+reopens n input.Tick = is_some n.failed
+reopens n x = false
+
+-- it takes what its disks store, and begins with that; its clients wait still
+unfoldable pub reopened : Durable → Standing → Standing
+reopened d n = record n { state = state_after_reopening n.me n.state d; failed = None }
+
+-- and it sends what it does after a restart
+unfoldable pub given_again : Standing → Durable → Given
+given_again n d = record { sends = sends_after_restart n.me d; replies = []; outcome = None }

@@ -9,16 +9,11 @@ use Rattle.op_types.specs.declared.log.Command.{Command}
 use Rattle.op_serving.specs.declared.wanted.Wanted.{Wanted}
 use Rattle.op_serving.specs.declared.wanted.Wanted.TheVariants.{Commands, Stop, Trim}
 use Rattle.op_serving.specs.declared.mark.Mark.{Mark}
-use Rattle.op_serving.specs.Cores.{Standing, gives, after_input, faulted}
+use Rattle.op_serving.specs.Cores.{Standing, gives, reopens, given_again}
+use Rattle.op_serving.specs.Fates.{Fate, done, finds, faults, damaged, lost, after_fate}
 use Rattle.op_serving.specs.Handing.{Frame, handed_out, frames_handed, proposed, frames_proposed, excused, frames_excused}
 use Rattle.op_serving.specs.State.{Key, Loop, is_open, left_by, counted}
 use Rattle.op_serving.specs.Losses.{most_marks, is_here, marked, settled, size}
-
--- what came of an input
-pub data Fate : Type 0 where
-  done : Fate
-  faults : ℕ → Fate  -- its disk failed, with this count
-  lost : Fate  -- it found no memory
 
 -- what happens to connections and to the node
 pub data Deed : Type 0 where
@@ -58,7 +53,9 @@ asked_by (c ∷ cs) _ = None
 -- what is kept after an input with this fate
 abbrev pub loop_after : Option Wanted → Input → Fate → Standing → Loop → Loop
 loop_after a i done n s = handed_out (gives n i) (proposed a (gives n i).outcome (counted s))
+loop_after a i (finds d) n s = handed_out (given_again n d) (proposed a None (counted s))
 loop_after a i (faults k) n s = excused a (Some (StorageFailed k)) (counted s)
+loop_after a i damaged n s = counted s
 loop_after a i lost n s = excused a None (counted (marked None s))
 
 -- what is handed out of it
@@ -66,20 +63,16 @@ abbrev pub frames_after : Option Wanted → Input → Fate → Standing → Loop
 frames_after a i done n s =
     frames_proposed a (gives n i).outcome
     ++ frames_handed (gives n i) (proposed a (gives n i).outcome (counted s))
+frames_after a i (finds d) n s =
+    frames_proposed a None ++ frames_handed (given_again n d) (proposed a None (counted s))
 frames_after a i (faults k) n s = frames_excused a (Some (StorageFailed k))
+frames_after a i damaged n s = []
 frames_after a i lost n s = frames_excused a None
-
--- the node after it
-abbrev pub after_fate : Standing → Input → Fate → Standing
-after_fate n i done = after_input n i
-after_fate n i (faults k) = faulted k n
-after_fate n i lost = n
 
 -- what came of the inputs that were not lost, in order
 abbrev pub kept_fate : Fate → List Fate
-kept_fate done = done ∷ []
-kept_fate (faults k) = faults k ∷ []
 kept_fate lost = []
+kept_fate f = f ∷ []
 
 abbrev pub kept_of : Deed → List Fate
 kept_of (enters who i f) = kept_fate f
@@ -94,15 +87,16 @@ abbrev pub is_lost_here : Option Mark → Loop → Bool
 is_lost_here None s = false
 is_lost_here (Some m) s = is_here s.place m && not (is_some m.conn)
 
--- what comes of the next input
-abbrev pub fate_of : Option Fate → Fate
-fate_of None = done
-fate_of (Some f) = f
+-- what comes of the next input: a node is opened again only at a tick after it failed
+abbrev pub fate_of : Standing → Input → Option Fate → Fate
+fate_of n i None = done
+fate_of n i (Some (finds d)) = if reopens n i then finds d else done
+fate_of n i (Some f) = f
 
-abbrev pub next_fate : Luck → State → Fate
-next_fate l s = if is_lost_here (slice_get l.marks (length s.loop.lost)) s.loop
+abbrev pub next_fate : Luck → Input → State → Fate
+next_fate l i s = if is_lost_here (slice_get l.marks (length s.loop.lost)) s.loop
     then lost
-    else fate_of (slice_get l.fates (length (kept s.deeds)))
+    else fate_of s.node i (slice_get l.fates (length (kept s.deeds)))
 
 -- an input with this fate, which was frames of these connections
 abbrev pub entered_with : Luck → List ℕ → Input → Fate → State → State
@@ -115,7 +109,7 @@ entered_with l who i f s = let w : Option Wanted = asked_by who i in record {
 -- an input, unless serving has stopped
 abbrev pub enter : Luck → List ℕ → Input → State → State
 enter l who i s = if nat_lt (length s.loop.lost) most_marks
-    then entered_with l who i (next_fate l s) s
+    then entered_with l who i (next_fate l i s) s
     else s
 
 -- the first of the Downs that are to be given is given

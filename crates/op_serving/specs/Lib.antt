@@ -1,4 +1,6 @@
 pub mod Cores
+pub mod Fates
+pub mod Reopenings
 pub mod Wire
 pub mod State
 pub mod Ranges

@@ -16,7 +16,8 @@ use Rattle.op_serving.specs.declared.session.Session.{Session}
 use Rattle.op_serving.specs.Cores.{Standing}
 use Rattle.op_serving.specs.Wire.{peer_head, client_head, request_in}
 use Rattle.op_serving.specs.State.{Table, find}
-use Rattle.op_serving.specs.Inputs.{Deed, begins, hears, enters, says, takes, State, after_fate}
+use Rattle.op_serving.specs.Fates.{after_fate}
+use Rattle.op_serving.specs.Inputs.{Deed, begins, hears, enters, says, takes, State}
 use Rattle.op_serving.specs.Reading.{client_byte, client_limit, peer_limit, heard_in}
 use Rattle.op_serving.specs.Turns.{hello}
 

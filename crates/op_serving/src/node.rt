@@ -1,7 +1,9 @@
 ghost use Rattle.std.specs.Prelude.{◌≡◌, ◌≤◌, ℕ, List, length, IfOk};
 ghost use Rattle.op_command.specs.Ranges.{most_line_bytes};
 ghost use Rattle.op_types.specs.Ranges.{IsPid};
-ghost use Rattle.op_serving.specs.Cores.{Standing, Steps};
+ghost use Rattle.op_types.specs.declared.events.Input.{Input};
+ghost use Rattle.op_serving.specs.Cores.{Standing};
+ghost use Rattle.op_serving.specs.Fates.{Fate, Steps};
 ghost use Rattle.op_serving.specs.Ranges.{InputInRange, GivenInRange};
 
 use op_types::{Blob, Input, NoMemory, Outcome, Pid, Replies, Sends};
@@ -26,6 +28,8 @@ pub enum StepFail {
         /// The count.
         count: u64,
     },
+    /// The node had failed, and what its disks store is damaged. Nothing changed.
+    Damaged,
     /// No memory. Nothing changed.
     NoMemory,
 }
@@ -38,20 +42,20 @@ pub trait Core {
     /// What it keeps in memory is of what it has stored, and is in range.
     ghost ready: { Self → Type 0 };
 
-    /// What holds of its disks since an earlier state of it, which each step keeps.
-    ghost stored: { Self → Self → Type 0 };
+    /// What a step is to its disks, of which this came.
+    ghost stores: { Self → Input → Fate → Self → Type 0 };
 
     /// Where it stands, as a client is told.
     ghost line: { Standing → List ℕ };
 
-    /// A step: what the input makes of the node, and what it gives out. Without memory nothing changes.
+    /// A step: what the input makes of the node, and what it gives out. A node that failed is opened again at a tick.
+    /// Without memory nothing changes.
     fn step(&mut self, input: Input) -> Result<Given, StepFail>
         requires ready { ready self.old }
         requires range { InputInRange input }
-        ensures steps { Steps (standing self.old) input result (standing self.new) }
+        ensures steps { Steps standing stores self.old input result self.new }
         ensures given { IfOk result GivenInRange }
-        ensures ready { ready self.new }
-        ensures stored { (k : Self) → stored k self.old → stored k self.new };
+        ensures ready { ready self.new };
 
     /// The server whose node it is.
     fn me(&self) -> Pid

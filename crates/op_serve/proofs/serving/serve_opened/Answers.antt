@@ -1,6 +1,5 @@
 use Rattle.std.proofs.Common.{ap, ◌∙◌}
 use Rattle.op_core.specs.declared.node_core.NodeCore.{NodeCore}
-use Rattle.op_core.proofs.NodeCores.{stays_same}
 use Rattle.op_serve.proofs.Endings.{goes_unheard, goes_unserved, goes_served}
 use Rattle.op_serve.proofs.serving.serve_opened.Goals as goal
 
@@ -12,9 +11,8 @@ returns-in-Err g c =
 pub returns-in-Ok : goal.returns-in-Ok
 returns-in-Ok g c =
     let serves = rw c.in-Ok.is at c.serve-core.ensures.serves in
-    let stays = c.serve-core.ensures.stored (record { node = c.args.node }) (stays_same g.D.Disk.state c.args.node) in
-    goes_served _ _ _ _ _ _ _ c.serve-core.result.core.node _ _ _ _ _ _ _ _ _ _ _ _ c.in_default.ensures serves
-    stays.kept (λ before. stays.stored (λ _. before)) c.park-first.ensures.first c.park-first.ensures.second c.status_of.ensures
+    goes_served _ _ _ (record { node = c.args.node }) c.serve-core.result.core _ _ _ _ _ _ _ _ _ _ _ _ c.in_default.ensures serves
+    c.park-first.ensures.first c.park-first.ensures.second c.status_of.ensures
 
 pub returns-in-Err-end : goal.returns-in-Err-end
 returns-in-Err-end g c =

@@ -15,7 +15,7 @@ use Rattle.op_driver.proofs.driver.Driver.ask.Goals as goal
 
 pub returns-in-Command-clause-ok : goal.returns-in-Command-clause-ok
 returns-in-Command-clause-ok g c =
-    on_ok_as c.propose.result (λ (x : HandlesAlone g.K.Core.line c.args.conn (Asks (request.Command c.in-Command.command)) c.args.self.now c.propose.new.self). subst (λ (r : Request). HandlesAlone g.K.Core.line c.args.conn (Asks r) c.args.self.now c.propose.new.self) (sym c.in-Command.is) x) c.propose.ensures.ok
+    on_ok_as c.propose.result (λ (x : HandlesAlone g.K.Core.stores g.K.Core.line c.args.conn (Asks (request.Command c.in-Command.command)) c.args.self.now c.propose.new.self). subst (λ (r : Request). HandlesAlone g.K.Core.stores g.K.Core.line c.args.conn (Asks r) c.args.self.now c.propose.new.self) (sym c.in-Command.is) x) c.propose.ensures.ok
 
 pub returns-in-Stop-clause-ok : goal.returns-in-Stop-clause-ok
 returns-in-Stop-clause-ok g c =

@@ -8,7 +8,6 @@ fronts-init g c = record {
   rests = record { turn = refl; at = refl; none = c.requires.none };
   frames = c.requires.frames;
   most = omega arith;
-  stored = λ k h. h;
   reached = reached_start g.K.Core.line c.args.conn c.args.most c.args.self.now;
 }
 
@@ -17,13 +16,12 @@ fronts-preserved g c =
     let i = c.fronts.invariant in
     let d = c.in-Some.ensures.deals in
     let back : c.fronts.left ≡ (c.fronts.left - 1) + 1 = omega (arith, c.fronts-test.true) in
-    let r : Reached g.K.Core.line c.args.conn c.args.most ((c.fronts.left - 1) + 1) c.fronts.frames c.args.self.now c.fronts.self = subst (λ n. Reached g.K.Core.line c.args.conn c.args.most n c.fronts.frames c.args.self.now c.fronts.self) back i.reached in
+    let r : Reached g.K.Core.stores g.K.Core.line c.args.conn c.args.most ((c.fronts.left - 1) + 1) c.fronts.frames c.args.self.now c.fronts.self = subst (λ n. Reached g.K.Core.stores g.K.Core.line c.args.conn c.args.most n c.fronts.frames c.args.self.now c.fronts.self) back i.reached in
     record {
       few = omega (arith, i.few, d.counts.1, c.fronts-test.true);
       rests = rests_then i.rests d.rests;
       frames = d.counts.0;
       most = omega (arith, i.most, c.deal_front.ensures.most);
-      stored = λ k h. c.deal_front.ensures.stored k (i.stored k h);
       reached = reached_more g.K.Core.line c.args.conn c.args.most (c.fronts.left - 1) c.fronts.frames c.in-Some.now c.args.self.now c.fronts.self c.deal_front.new.self r d;
     }
 
@@ -31,11 +29,11 @@ pub returns-in-None-clause-deals : goal.returns-in-None-clause-deals
 returns-in-None-clause-deals g c =
     let i = c.fronts.invariant in
     let back : c.fronts.left ≡ (c.fronts.left - 1) + 1 = omega (arith, c.fronts-test.true) in
-    let r : Reached g.K.Core.line c.args.conn c.args.most ((c.fronts.left - 1) + 1) c.fronts.frames c.args.self.now c.fronts.self = subst (λ n. Reached g.K.Core.line c.args.conn c.args.most n c.fronts.frames c.args.self.now c.fronts.self) back i.reached in
+    let r : Reached g.K.Core.stores g.K.Core.line c.args.conn c.args.most ((c.fronts.left - 1) + 1) c.fronts.frames c.args.self.now c.fronts.self = subst (λ n. Reached g.K.Core.stores g.K.Core.line c.args.conn c.args.most n c.fronts.frames c.args.self.now c.fronts.self) back i.reached in
     reached_end g.K.Core.line c.args.conn c.args.most (c.fronts.left - 1) c.fronts.frames c.args.self.now c.fronts.self c.deal_front.new.self r i.rests c.in-None.ensures.deals
 
 pub returns-clause-deals : goal.returns-clause-deals
 returns-clause-deals g c =
     let i = c.fronts.invariant in
     let none_left : c.fronts.left ≡ 0 = omega (arith, c.fronts-test.false) in
-    reached_all g.K.Core.line c.args.conn c.args.most c.fronts.frames c.args.self.now c.fronts.self (subst (λ n. Reached g.K.Core.line c.args.conn c.args.most n c.fronts.frames c.args.self.now c.fronts.self) none_left i.reached) i.rests
+    reached_all g.K.Core.line c.args.conn c.args.most c.fronts.frames c.args.self.now c.fronts.self (subst (λ n. Reached g.K.Core.stores g.K.Core.line c.args.conn c.args.most n c.fronts.frames c.args.self.now c.fronts.self) none_left i.reached) i.rests

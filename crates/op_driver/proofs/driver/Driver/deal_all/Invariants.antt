@@ -10,8 +10,7 @@ invariant-fronts g l = record {
   rests : Rests l.fn.self.loop l.self.loop;
   frames : l.self.loop.place.frames ≡ l.frames;
   most : most_inputs l.self.loop ≤ most_inputs l.fn.self.loop;
-  stored : (k : _) → g.K.Core.stored k l.fn.self.core → g.K.Core.stored k l.self.core;
-  reached : Reached g.K.Core.line l.conn l.most l.left l.frames l.fn.self l.self;
+  reached : Reached g.K.Core.stores g.K.Core.line l.conn l.most l.left l.frames l.fn.self l.self;
 }
 
 abbrev pub decreases-fronts : goal.decreases-fronts

@@ -8,7 +8,7 @@ use Rattle.op_driver.proofs.Draining.{drained_none, drained_then, drained_one}
 use Rattle.op_driver.proofs.driver.Driver.drain.Goals as goal
 
 pub downs-init : goal.downs-init
-downs-init g c = (drained_none c.args.self.now, stays_same refl, omega arith, λ k h. h)
+downs-init g c = (drained_none c.args.self.now, stays_same refl, omega arith)
 
 pub downs-preserved : goal.downs-preserved
 downs-preserved g c =
@@ -17,8 +17,7 @@ downs-preserved g c =
     let q : ℕ = c.in-Some.peer in
     let qs : List ℕ = drop 1 d.loop.downs in
     let first : d.loop.downs ≡ q ∷ qs = c.in-Some.ensures.some ∙ ap (λ x. q ∷ x) (sym (ap (drop 1) c.in-Some.ensures.some)) in (
-      drained_then c.downs.invariant.0 (drained_one q qs d c.enter.new.self first (subst (λ (p : Served _). Enters (λ l s. enter l [] (input.Down q) s) p c.enter.new.self) c.in-Some.ensures.rest c.enter.ensures.does)),
+      drained_then c.downs.invariant.0 (drained_one q qs d c.enter.new.self first (subst (λ (p : Served _). Enters g.K.Core.stores (λ l s. enter l [] (input.Down q) s) p c.enter.new.self) c.in-Some.ensures.rest c.enter.ensures.does)),
       stays_then c.downs.invariant.1 (stays_then (stays_same (ap (λ (p : Served _). p.loop.place) c.in-Some.ensures.rest)) c.enter.ensures.stays),
       omega (arith, c.downs.invariant.2, c.enter.ensures.most, most_less d.loop p.loop (ap (λ (x : Served _). x.loop) c.in-Some.ensures.rest) first),
-      λ k h. c.enter.ensures.stored k (subst (g.K.Core.stored k) (sym (ap (λ (p : Served _). p.core) c.in-Some.ensures.rest)) (c.downs.invariant.3 k h)),
     )

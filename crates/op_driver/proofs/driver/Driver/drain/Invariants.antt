@@ -5,7 +5,7 @@ use Rattle.op_serving.specs.Losses.{size, Stays}
 use Rattle.op_driver.proofs.driver.Driver.drain.Given as goal
 
 abbrev pub invariant-downs : goal.invariant-downs
-invariant-downs g l = Drained l.fn.self l.self × Stays l.fn.self.loop l.self.loop × (most_inputs l.self.loop ≤ most_inputs l.fn.self.loop) × ((k : g.row.K.Denot) → g.K.Core.stored k l.fn.self.core → g.K.Core.stored k l.self.core)
+invariant-downs g l = Drained g.K.Core.stores l.fn.self l.self × Stays l.fn.self.loop l.self.loop × (most_inputs l.self.loop ≤ most_inputs l.fn.self.loop)
 
 abbrev pub decreases-downs : goal.decreases-downs
 decreases-downs g l = size l.self.loop

@@ -11,5 +11,5 @@ returns-clause-gives g c =
     let e = c.give.new.self in
     let who : c.as_slice.result.now ≡ map (λ (x : ℕ × Command). x.0) c.args.run = c.as_slice.ensures.value ∙ c.into_parts-conns.ensures.conns in
     let whose : List ℕ = c.as_slice.result.now in
-    subst (λ (cs : List ℕ). Gives (λ l s. give l cs (input.Commands (map (λ (x : ℕ × Command). x.1) c.args.run)) s) d e) who
-    (subst (λ (xs : List Command). Gives (λ l s. give l whose (input.Commands xs) s) d e) c.into_parts-conns.ensures.commands c.give.ensures.gives)
+    subst (λ (cs : List ℕ). Gives g.K.Core.stores (λ l s. give l cs (input.Commands (map (λ (x : ℕ × Command). x.1) c.args.run)) s) d e) who
+    (subst (λ (xs : List Command). Gives g.K.Core.stores (λ l s. give l whose (input.Commands xs) s) d e) c.into_parts-conns.ensures.commands c.give.ensures.gives)

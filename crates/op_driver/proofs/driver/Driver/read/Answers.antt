@@ -11,7 +11,7 @@ returns-in-Ok-clause-acts g c = reads_all g.K.Core.line c.args.conn c.in-Ok.held
 
 pub returns-in-Err-clause-acts : goal.returns-in-Err-clause-acts
 returns-in-Err-clause-acts g c =
-    reads_none g.K.Core.line c.args.conn c.args.bytes.now c.args.self.now c.lose.new.self (subst (λ (d : Served _). whole.Loses c.args.conn d c.lose.new.self) c.in-Err.ensures.err c.lose.ensures.loses)
+    reads_none g.K.Core.line c.args.conn c.args.bytes.now c.args.self.now c.lose.new.self (subst (λ (d : Served _). whole.Loses g.K.Core.stores c.args.conn d c.lose.new.self) c.in-Err.ensures.err c.lose.ensures.loses)
 
 pub returns-in-Ok-clause-most : goal.returns-in-Ok-clause-most
 returns-in-Ok-clause-most g c = omega (arith, c.deal_all.ensures.most, ap (λ (x : Served _). most_inputs x.loop) c.in-Ok.ensures.ok, most_feeds c.args.conn c.args.bytes.now c.args.self.now.loop)

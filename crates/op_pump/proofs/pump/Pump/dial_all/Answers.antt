@@ -32,7 +32,7 @@ loop-peer-preserved g c =
     record {
       idle = idle_at _ _ _ _ c.dial_one.new.self.driver.loop v.idle.turn refl c.in_ok-dial_one.ensures.idle;
       goes = λ o k. goes_then o g.K.Core.line [] [] (moment (dials xs k) c.args.self.now.timer c.args.self.now.driver) (moment (dials (p ∷ drop (i + 1) xs) k) c.loop-peer.self.timer c.loop-peer.self.driver) (moment (dials (drop (i + 1) xs) k) c.dial_one.new.self.timer c.dial_one.new.self.driver) n0 n1 n2
-          (subst (λ ys. Goes o g.K.Core.line [] (moment (dials xs k) c.args.self.now.timer c.args.self.now.driver) (moment (dials ys k) c.loop-peer.self.timer c.loop-peer.self.driver) n0 n1) e (v.goes o k)) refl (c.in_ok-dial_one.ensures.goes o (drop (i + 1) xs) k);
+          (subst (λ ys. Goes g.K.Core.stores o g.K.Core.line [] (moment (dials xs k) c.args.self.now.timer c.args.self.now.driver) (moment (dials ys k) c.loop-peer.self.timer c.loop-peer.self.driver) n0 n1) e (v.goes o k)) refl (c.in_ok-dial_one.ensures.goes o (drop (i + 1) xs) k);
       given = c.dial_one.ensures.given ∙ v.given;
       most = omega (arith, v.most, c.dial_one.ensures.most);
       timer = c.dial_one.ensures.timer ∙ v.timer;
@@ -55,7 +55,7 @@ returns-in_err-dial_one-clause-goes g c o k =
     let end = c.in_err-dial_one.field-0.0 in
     cut (Unit {0}) o g.K.Core.line [] a end c.from_residual.result (dials (drop (i + 1) xs) k) (asks 0 k) c.dial_one.new.self.timer c.dial_one.new.self.driver n0 n2 (search rules)
     (goes_then o g.K.Core.line [] [] a (moment (dials (p ∷ drop (i + 1) xs) k) c.loop-peer.self.timer c.loop-peer.self.driver) _ n0 n1 n2
-    (subst (λ ys. Goes o g.K.Core.line [] a (moment (dials ys k) c.loop-peer.self.timer c.loop-peer.self.driver) n0 n1) e (v.goes o k)) refl (c.in_err-dial_one.ensures.goes o (drop (i + 1) xs) k))
+    (subst (λ ys. Goes g.K.Core.stores o g.K.Core.line [] a (moment (dials ys k) c.loop-peer.self.timer c.loop-peer.self.driver) n0 n1) e (v.goes o k)) refl (c.in_err-dial_one.ensures.goes o (drop (i + 1) xs) k))
 
 pub returns-clause-goes : goal.returns-clause-goes
 returns-clause-goes g c o k =
@@ -69,4 +69,4 @@ returns-clause-goes g c o k =
     let d = c.loop-peer.self.driver in
     let last = list_end c.as_slice-peer-items.result.now i c.loop-peer-test.false in
     let e : drop i xs ≡ [] = subst (λ ys. drop i ys ≡ []) c.as_slice-peer-items.ensures last in
-    goes_then o g.K.Core.line [] [] a (moment (dials [] k) t d) (moment (asks 0 k) t d) n0 n1 n1 (subst (λ ys. Goes o g.K.Core.line [] a (moment (dials ys k) t d) n0 n1) e (v.goes o k)) refl (dials_end o g.K.Core.line t d k n1 v.idle.idle)
+    goes_then o g.K.Core.line [] [] a (moment (dials [] k) t d) (moment (asks 0 k) t d) n0 n1 n1 (subst (λ ys. Goes g.K.Core.stores o g.K.Core.line [] a (moment (dials ys k) t d) n0 n1) e (v.goes o k)) refl (dials_end o g.K.Core.line t d k n1 v.idle.idle)

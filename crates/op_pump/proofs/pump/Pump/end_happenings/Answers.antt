@@ -17,7 +17,7 @@ returns-clause-goes g c o k =
     let d = c.args.self.now.driver in
     let t = c.args.self.now.timer in
     let e = c.settle.new.self.driver in
-    let does = subst (λ x. Does (λ l s. flushed l s) x c.flush.new.self) c.begin_happening.ensures c.flush.ensures.does in
+    let does = subst (λ x. Does g.K.Core.stores (λ l s. flushed l s) x c.flush.new.self) c.begin_happening.ensures c.flush.ensures.does in
     with_timer o g.K.Core.line [] (moment (asks k k) t d) (reached c.settle.result (writes 0)) t c.settle.new.self.timer e n0 n1 c.settle.ensures.timer
     (happenings_end o g.K.Core.line t d c.flush.new.self e c.settle.result k n0 n1 c.requires.at does c.settle.ensures.settles)
 

@@ -12,7 +12,6 @@ queue-init g c = record {
   no_hello = λ e. c.requires.no_hello;
   timer = refl;
   most = omega arith;
-  stored = λ k h. h;
 }
 
 pub queue-preserved : goal.queue-preserved
@@ -29,7 +28,6 @@ queue-preserved g c =
       no_hello = λ e. (less_waits c.args.conn c.queue.self.driver.loop c.write_one.new.self.driver.loop (i.no_hello here) (c.in_ok-next.ensures.less (ap Ok e))).0;
       timer = c.write_one.ensures.timer ∙ i.timer;
       most = omega (arith, i.most, c.write_one.ensures.most);
-      stored = λ k h. c.write_one.ensures.stored k (i.stored k h);
     }
 
 pub returns-in_err-next-clause-writes : goal.returns-in_err-next-clause-writes
@@ -40,5 +38,5 @@ returns-in_err-next-clause-writes g c o =
     let n2 : NetSeen = (g.N.Net.told c.write_one.new.net, g.N.Net.fault_count c.write_one.new.net) in
     let here : c.queue.next ≡ Some c.args.conn = search rules in
     let is : c.from_residual.result ≡ Err c.in_err-next.field-0.0 = search rules in
-    subst (λ r. Writes o g.K.Core.line c.args.conn r c.args.self.now.timer c.args.self.now.driver c.write_one.new.self.driver n0 n2) (sym is)
+    subst (λ r. Writes g.K.Core.stores o g.K.Core.line c.args.conn r c.args.self.now.timer c.args.self.now.driver c.write_one.new.self.driver n0 n2) (sym is)
     (writes_then o g.K.Core.line c.args.conn c.args.self.now.timer c.queue.self.timer c.args.self.now.driver c.queue.self.driver c.write_one.new.self.driver c.queue.next (Err c.in_err-next.field-0.0) n0 n1 n2 i.timer here (i.writes o) (c.in_err-next.ensures.writes o))

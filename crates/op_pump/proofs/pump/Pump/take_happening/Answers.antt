@@ -17,7 +17,7 @@ returns-in-Some-clause-goes g c o k less =
     let d = c.args.self.now.driver in
     let t = c.args.self.now.timer in
     let here : read_at c.ready-happening.result d.loop ≡ Some c.in-Some.conn = search rules in
-    let on = subst (λ x. On o g.K.Core.line [] (moment (reads c.in-Some.conn c.args.i k) t x) (moment (reached c.read_from.result (asks (c.args.i + 1) k)) c.read_from.new.self.timer c.read_from.new.self.driver) n1 n2) c.begin_happening.ensures (c.read_from.ensures.on o c.args.i k) in
+    let on = subst (λ x. On g.K.Core.stores o g.K.Core.line [] (moment (reads c.in-Some.conn c.args.i k) t x) (moment (reached c.read_from.result (asks (c.args.i + 1) k)) c.read_from.new.self.timer c.read_from.new.self.driver) n1 n2) c.begin_happening.ensures (c.read_from.ensures.on o c.args.i k) in
     then_read o g.K.Core.line t c.read_from.new.self.timer d c.read_from.new.self.driver (reached c.read_from.result (asks (c.args.i + 1) k)) c.args.i k c.in-Some.conn c.ready-happening.result n0 n1 n2 less c.requires.idle.at here c.requires.idle.idle c.ready-happening.ensures.tells c.ready-happening.ensures.count on
 
 pub returns-in-None-clause-goes : goal.returns-in-None-clause-goes
@@ -30,7 +30,7 @@ returns-in-None-clause-goes g c o k less =
     let e = c.settle.new.self.driver in
     let h = c.ready-happening.result in
     let none : read_at h d.loop ≡ None = search rules in
-    let acts = subst (λ x. Acts (λ l s. happened l h s) x c.happen.new.self.driver) c.begin_happening.ensures c.happen.ensures.acts in
+    let acts = subst (λ x. Acts g.K.Core.stores (λ l s. happened l h s) x c.happen.new.self.driver) c.begin_happening.ensures c.happen.ensures.acts in
     with_timer o g.K.Core.line [] (moment (asks c.args.i k) t d) (reached c.settle.result (asks (c.args.i + 1) k)) t c.settle.new.self.timer e n0 n2 (c.settle.ensures.timer ∙ c.happen.ensures.timer)
     (happened_so o g.K.Core.line t d c.happen.new.self.driver e c.settle.result c.args.i k h n0 n1 n2 less c.requires.idle.at none acts c.ready-happening.ensures.tells c.ready-happening.ensures.count c.settle.ensures.settles)
 

@@ -12,7 +12,6 @@ loop-i-init g c = record {
   given = refl;
   timer = refl;
   most = omega arith;
-  stored = λ k h. h;
 }
 
 pub loop-i-preserved : goal.loop-i-preserved
@@ -27,7 +26,6 @@ loop-i-preserved g c =
       given = c.take_happening.ensures.given ∙ v.given;
       timer = c.take_happening.ensures.timer ∙ v.timer;
       most = omega (arith, v.most, c.take_happening.ensures.most);
-      stored = λ k h. c.take_happening.ensures.stored k (v.stored k h);
     }
 
 pub returns-in_err-take_happening-clause-goes : goal.returns-in_err-take_happening-clause-goes
@@ -50,4 +48,4 @@ returns-clause-goes g c o =
     let a = moment (asks 0 k) c.args.self.now.timer c.args.self.now.driver in
     let e : c.loop-i.i ≡ k = search rules in
     goes_then o g.K.Core.line [] [] a (moment (asks k k) c.loop-i.self.timer c.loop-i.self.driver) (moment (reached c.end_happenings.result (writes 0)) c.end_happenings.new.self.timer c.end_happenings.new.self.driver) n0 n1 n2
-    (subst (λ j. Goes o g.K.Core.line [] a (moment (asks j k) c.loop-i.self.timer c.loop-i.self.driver) n0 n1) e (v.goes o)) refl (c.end_happenings.ensures.goes o k)
+    (subst (λ j. Goes g.K.Core.stores o g.K.Core.line [] a (moment (asks j k) c.loop-i.self.timer c.loop-i.self.driver) n0 n1) e (v.goes o)) refl (c.end_happenings.ensures.goes o k)

@@ -15,7 +15,6 @@ turns-init g c = record {
   turns = c.requires.turns;
   goes = turn_still (set_of c.args.settings.now) g.K.Core.line _ _ (g.N.Net.told c.args.net.now, g.N.Net.fault_count c.args.net.now) (g.C.Clock.answers c.args.clock.now) (goes_still (set_of c.args.settings.now) g.K.Core.line _ (g.N.Net.told c.args.net.now, g.N.Net.fault_count c.args.net.now) c.requires.idle.idle refl refl);
   most = omega arith;
-  stored = λ k h. h;
 }
 
 pub turns-preserved : goal.turns-preserved
@@ -31,7 +30,6 @@ turns-preserved g c =
       turns = omega (arith, v.turns, h.turn, c.in-Ok.ensures.left);
       goes = turn_then o g.K.Core.line (moment turn c.args.self.now.timer c.args.self.now.driver) (moment turn c.turns.self.timer c.turns.self.driver) (moment turn c.take_turn.new.self.timer c.take_turn.new.self.driver) n0 n1 n2 (g.C.Clock.answers c.args.clock.now) (g.C.Clock.answers c.turns.clock) (g.C.Clock.answers c.take_turn.new.clock) v.goes refl c.in-Ok.ensures.goes;
       most = one_turn (most_inputs c.turns.self.driver.loop) (most_inputs c.take_turn.new.self.driver.loop) _ c.turns.self.timer.left c.take_turn.new.self.timer.left (most_in_turn (length c.args.settings.now.peers)) c.in-Ok.ensures.left c.take_turn.ensures.most v.most;
-      stored = λ k hk. c.take_turn.ensures.stored k (v.stored k hk);
     }
 
 pub returns-in-Err-clause-goes : goal.returns-in-Err-clause-goes

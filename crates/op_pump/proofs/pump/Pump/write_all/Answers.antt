@@ -14,7 +14,6 @@ queues-init g c = record {
   waits = waits_of 0 c.args.self.now.driver.loop c.next_to_write-next.result c.next_to_write-next.ensures.low c.next_to_write-next.ensures.waits;
   timer = refl;
   most = omega arith;
-  stored = λ k h. h;
 }
 
 pub queues-preserved : goal.queues-preserved
@@ -35,7 +34,6 @@ queues-preserved g c =
       waits = waits_low c.in-Some.conn e.loop c.in_ok-next.next c.in_ok-next.ensures.waits;
       timer = c.write_queue.ensures.timer ∙ v.timer;
       most = omega (arith, v.most, c.write_queue.ensures.most);
-      stored = λ k h. c.write_queue.ensures.stored k (v.stored k h);
     }
 
 pub returns-in_err-next-clause-goes : goal.returns-in_err-next-clause-goes

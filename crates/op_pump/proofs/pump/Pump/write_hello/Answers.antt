@@ -11,7 +11,6 @@ hello-init g c = record {
   waits = (omega arith, c.requires.waits);
   timer = refl;
   most = omega arith;
-  stored = λ k h. h;
 }
 
 pub hello-preserved : goal.hello-preserved
@@ -27,7 +26,6 @@ hello-preserved g c =
       waits = c.in_ok-next.ensures.waits;
       timer = c.write_one.ensures.timer ∙ i.timer;
       most = omega (arith, i.most, c.write_one.ensures.most);
-      stored = λ k h. c.write_one.ensures.stored k (i.stored k h);
     }
 
 pub returns-in_err-next-clause-writes : goal.returns-in_err-next-clause-writes
@@ -38,5 +36,5 @@ returns-in_err-next-clause-writes g c o =
     let n2 : NetSeen = (g.N.Net.told c.write_one.new.net, g.N.Net.fault_count c.write_one.new.net) in
     let here : c.hello.next ≡ Some c.args.conn = search rules in
     let is : c.from_residual.result ≡ Err c.in_err-next.field-0.0 = search rules in
-    subst (λ r. Writes o g.K.Core.line c.args.conn r c.args.self.now.timer c.args.self.now.driver c.write_one.new.self.driver n0 n2) (sym is)
+    subst (λ r. Writes g.K.Core.stores o g.K.Core.line c.args.conn r c.args.self.now.timer c.args.self.now.driver c.write_one.new.self.driver n0 n2) (sym is)
     (writes_then o g.K.Core.line c.args.conn c.args.self.now.timer c.hello.self.timer c.args.self.now.driver c.hello.self.driver c.write_one.new.self.driver c.hello.next (Err c.in_err-next.field-0.0) n0 n1 n2 i.timer here (i.writes o) (c.in_err-next.ensures.writes o))

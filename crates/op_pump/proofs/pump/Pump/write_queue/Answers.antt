@@ -9,7 +9,7 @@ returns-in_err-next-clause-writes g c o =
     let n0 : NetSeen = (g.N.Net.told c.args.net.now, g.N.Net.fault_count c.args.net.now) in
     let n1 : NetSeen = (g.N.Net.told c.write_hello.new.net, g.N.Net.fault_count c.write_hello.new.net) in
     let is : c.from_residual.result ≡ Err c.in_err-next.field-0.0 = search rules in
-    subst (λ r. Writes o g.K.Core.line c.args.conn r c.args.self.now.timer c.args.self.now.driver c.write_hello.new.self.driver n0 n1) (sym is) (c.in_err-next.ensures.writes o)
+    subst (λ r. Writes g.K.Core.stores o g.K.Core.line c.args.conn r c.args.self.now.timer c.args.self.now.driver c.write_hello.new.self.driver n0 n1) (sym is) (c.in_err-next.ensures.writes o)
 
 pub returns-then-is_conn-clause-writes : goal.returns-then-is_conn-clause-writes
 returns-then-is_conn-clause-writes g c o =
