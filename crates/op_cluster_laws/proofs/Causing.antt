@@ -1,0 +1,185 @@
+-- Deeds that are added to others: what they leave of what was read and given out, and that each comes from those before it.
+use Rattle.std.proofs.Common.{◌≡◌, ◌++◌, ◌∷◌, [], ℕ, List, map, Option, Some, None, refl, sym, ◌∙◌, ap, subst, inl, inr, append_assoc, append-nil, arith}
+use Rattle.std.specs.Prelude.{fold}
+use Rattle.std.specs.List.{Contains}
+use Rattle.std.proofs.lemmas.List.Sums.{fold-append}
+use Rattle.std.proofs.lemmas.List.Elements.{Contains-append_left, Contains-append_right}
+use Rattle.op_types.specs.declared.answers.Reply.{Reply}
+use Rattle.op_types.specs.declared.events.Input.{Input}
+use Rattle.op_types.specs.declared.events.Request.{Request}
+use Rattle.op_types.specs.declared.messages.Msg.{Msg}
+use Rattle.op_serving.specs.Cores.{Standing}
+use Rattle.op_serving.specs.Fates.{Fate}
+use Rattle.op_serving.specs.Handing.{Frame}
+use Rattle.op_serving.specs.Inputs.{Deed, enters, says}
+use Rattle.op_fields.specs.Form.{encoded}
+use Rattle.op_serving.specs.Reading.{client_byte, peer_byte}
+use Rattle.op_serving.specs.Turns.{hello}
+use Rattle.op_serving.specs.Promise.{Life, life, and_then, folded}
+use Rattle.op_connections.proofs.Queueing.{bytes_for}
+use Rattle.op_connections.proofs.Coming.{life_more, lived_says}
+use Rattle.op_cluster_laws.specs.Outputs.{after_deed, given_at, sent_in, replied_in}
+use Rattle.op_cluster_laws.specs.Readings.{began_then, began, IsPeers, IsOfPeer, IsClients, WasRead, WasAsked}
+use Rattle.op_cluster_laws.specs.Causes.{IsTold, IsGiven, IsCaused, CausedBehind, AreCaused}
+use Rattle.op_cluster_laws.proofs.Lists.{Each, each_map}
+use Rattle.op_cluster_laws.proofs.Tracing.{folded_one, sent_push}
+
+no_hello : (me : ℕ) → hello me ≡ [] → ⊥
+unfolding hello encoded
+no_hello me e = absurd cc
+
+-- ---- what was read
+
+pub life_push : (c : ℕ) (ds : List Deed) (d : Deed) → life c (ds ++ d ∷ []) ≡ and_then c (life c ds) d
+life_push c ds d = life_more c ds (d ∷ [])
+
+pub began_push : (c : ℕ) (ds : List Deed) (d : Deed) → began c (ds ++ d ∷ []) ≡ began_then c (began c ds) d
+began_push c ds d = fold-append (began_then c) None ds (d ∷ [])
+
+began_says : (c : ℕ) (fs : List Frame) (o : Option (List ℕ)) → fold (began_then c) o (map says fs) ≡ o
+began_says c [] o = refl
+began_says c (f ∷ fs) o = began_says c fs o
+
+-- an input and frames change nothing of it
+abbrev pub entered : List ℕ → Input → Fate → List Frame → List Deed
+entered who i fate fs = enters who i fate ∷ map says fs
+
+pub began_entered : (c : ℕ) (ds : List Deed) (who : List ℕ) (i : Input) (fate : Fate) (fs : List Frame) → began c (ds ++ entered who i fate fs) ≡ began c ds
+began_entered c ds who i fate fs = fold-append (began_then c) None ds (entered who i fate fs) ∙ began_says c fs (began c ds)
+
+-- but bytes are said
+abbrev pub said_more : List ℕ → Life → Life
+said_more bytes x = record x { said = x.said ++ bytes }
+
+pub life_entered : (c : ℕ) (ds : List Deed) (who : List ℕ) (i : Input) (fate : Fate) (fs : List Frame)
+    → life c (ds ++ entered who i fate fs) ≡ said_more (bytes_for c fs) (and_then c (life c ds) (enters who i fate))
+life_entered c ds who i fate fs = life_more c ds (entered who i fate fs) ∙ lived_says c fs (and_then c (life c ds) (enters who i fate))
+
+pub was_read_more : (me : ℕ) (early more : List Deed) (q : ℕ) (m : Msg) → WasRead me early q m → WasRead me (early ++ more) q m
+was_read_more me early more q m w = record {
+  before = w.before;
+  since = w.since ++ more;
+  split = ap (λ l. l ++ more) w.split ∙ append_assoc w.before w.since more;
+  conn = w.conn;
+  body = w.body;
+  first = w.first;
+  peers = w.peers;
+  has = w.has;
+  says = w.says;
+}
+
+pub was_asked_more : (early more : List Deed) (c : ℕ) (r : Request) → WasAsked early c r → WasAsked (early ++ more) c r
+was_asked_more early more c r w = record {
+  before = w.before;
+  since = w.since ++ more;
+  split = ap (λ l. l ++ more) w.split ∙ append_assoc w.before w.since more;
+  body = w.body;
+  accepted = w.accepted;
+  has = w.has;
+  says = w.says;
+}
+
+pub clients_entered : (c : ℕ) (ds : List Deed) (who : List ℕ) (i : Input) (fate : Fate) (fs : List Frame) → IsClients c ds → IsClients c (ds ++ entered who i fate fs)
+clients_entered c ds who i fate fs k = record {
+  accepted = began_entered c ds who i fate fs ∙ k.accepted;
+  rest = k.rest;
+  is = ap (λ (x : Life). x.heard) (life_entered c ds who i fate fs) ∙ k.is;
+}
+
+clients_says : (c : ℕ) (ds : List Deed) (g : Frame) → IsClients c ds → IsClients c (ds ++ says g ∷ [])
+clients_says c ds g k = record {
+  accepted = began_push c ds (says g) ∙ k.accepted;
+  rest = k.rest;
+  is = ap (λ (x : Life). x.heard) (life_push c ds (says g)) ∙ k.is;
+}
+
+pub peers_entered : (me c : ℕ) (ds : List Deed) (who : List ℕ) (i : Input) (fate : Fate) (fs : List Frame) → IsOfPeer me c ds → IsOfPeer me c (ds ++ entered who i fate fs)
+peers_entered me c ds who i fate fs k =
+    (k.0, k.1, subst (λ o. IsPeers me o k.0) (sym (began_entered c ds who i fate fs)) k.2, ap (λ (x : Life). x.heard) (life_entered c ds who i fate fs) ∙ k.3)
+
+-- more was heard, or nothing
+pub peers_later : (me c : ℕ) (ds : List Deed) (d : Deed) (more : List ℕ) → began c (ds ++ d ∷ []) ≡ began c ds → (life c (ds ++ d ∷ [])).heard ≡ (life c ds).heard ++ more → IsOfPeer me c ds → IsOfPeer me c (ds ++ d ∷ [])
+peers_later me c ds d more same heard k =
+    (k.0, k.1 ++ more, subst (λ o. IsPeers me o k.0) (sym same) k.2, heard ∙ ap (λ l. l ++ more) k.3 ∙ append_assoc k.0 k.1 more)
+
+pub peers_says : (me c : ℕ) (ds : List Deed) (g : Frame) → IsOfPeer me c ds → IsOfPeer me c (ds ++ says g ∷ [])
+peers_says me c ds g k = peers_later me c ds (says g) [] (began_push c ds (says g)) (ap (λ (x : Life). x.heard) (life_push c ds (says g)) ∙ sym (append-nil (life c ds).heard)) k
+
+-- it is not a client's then
+pub peer_or_client : (me c : ℕ) (ds : List Deed) → IsOfPeer me c ds → IsClients c ds → ⊥
+peer_or_client me c ds k j = by_kind k.2
+  where
+    some_is : {a b : List ℕ} → Some a ≡ Some b → a ≡ b
+    some_is e = cc
+
+    by_kind : IsPeers me (began c ds) k.0 → ⊥
+    by_kind (inl (dialled, none)) = no_hello me (some_is (sym dialled ∙ j.accepted))
+    by_kind (inr (accepted, long, (rest, is))) =
+        let bytes : client_byte ∷ j.rest ≡ peer_byte ∷ (rest ++ k.1) = sym j.is ∙ k.3 ∙ ap (λ l. l ++ k.1) is in
+        differ j.rest (rest ++ k.1) bytes
+      where
+        head_is : (x y : ℕ) (xs ys : List ℕ) → x ∷ xs ≡ y ∷ ys → x ≡ y
+        head_is x y xs ys e = cc
+
+        differ : (xs ys : List ℕ) → client_byte ∷ xs ≡ peer_byte ∷ ys → ⊥
+        differ xs ys e = let bad : client_byte ≡ peer_byte = head_is client_byte peer_byte xs ys e in omega (arith, bad)
+
+-- ---- what was given out
+
+pub folded_more : (n : Standing) (xs ys : List Deed) → folded n (xs ++ ys) ≡ folded (folded n xs) ys
+folded_more n [] ys = refl
+folded_more n (d ∷ xs) ys = folded_one n d (xs ++ ys) ∙ folded_more (after_deed n d) xs ys ∙ ap (λ m. folded m ys) (sym (folded_one n d xs))
+
+pub folded_says : (n : Standing) (fs : List Frame) → folded n (map says fs) ≡ n
+folded_says n [] = refl
+folded_says n (f ∷ fs) = folded_says n fs
+
+pub replied_push : (n : Standing) (ds : List Deed) (d : Deed) → replied_in n (ds ++ d ∷ []) ≡ replied_in n ds ++ ((given_at (folded n ds) d).replies ++ [])
+replied_push n [] d = refl
+replied_push n (e ∷ ds) d =
+    ap (λ l. (given_at n e).replies ++ l) (replied_push (after_deed n e) ds d ∙ ap (λ m. replied_in (after_deed n e) ds ++ ((given_at m d).replies ++ [])) (sym (folded_one n e ds)))
+    ∙ sym (append_assoc (given_at n e).replies (replied_in (after_deed n e) ds) ((given_at (folded n (e ∷ ds)) d).replies ++ []))
+
+module _ (n : Standing) (ds : List Deed) (d : Deed) where
+  pub sent_kept : (x : ℕ × Msg) → Contains (sent_in n ds) x → Contains (sent_in n (ds ++ d ∷ [])) x
+  sent_kept x c = subst (λ (l : List (ℕ × Msg)). Contains l x) (sym (sent_push n ds d)) (Contains-append_left (sent_in n ds) ((given_at (folded n ds) d).sends ++ []) x c)
+
+  pub sent_now : (x : ℕ × Msg) → Contains (given_at (folded n ds) d).sends x → Contains (sent_in n (ds ++ d ∷ [])) x
+  sent_now x c = subst (λ (l : List (ℕ × Msg)). Contains l x) (sym (sent_push n ds d))
+      (Contains-append_right (sent_in n ds) ((given_at (folded n ds) d).sends ++ []) x (Contains-append_left (given_at (folded n ds) d).sends [] x c))
+
+  pub replied_kept : (x : Reply) → Contains (replied_in n ds) x → Contains (replied_in n (ds ++ d ∷ [])) x
+  replied_kept x c = subst (λ (l : List Reply). Contains l x) (sym (replied_push n ds d)) (Contains-append_left (replied_in n ds) ((given_at (folded n ds) d).replies ++ []) x c)
+
+  pub replied_now : (x : Reply) → Contains (given_at (folded n ds) d).replies x → Contains (replied_in n (ds ++ d ∷ [])) x
+  replied_now x c = subst (λ (l : List Reply). Contains l x) (sym (replied_push n ds d))
+      (Contains-append_right (replied_in n ds) ((given_at (folded n ds) d).replies ++ []) x (Contains-append_left (given_at (folded n ds) d).replies [] x c))
+
+-- ---- causes
+
+pub caused_push : (me : ℕ) (n : Standing) (early ds : List Deed) (d : Deed) → CausedBehind me n early ds → IsCaused me n (early ++ ds) d → CausedBehind me n early (ds ++ d ∷ [])
+caused_push me n early [] d h k = (subst (λ l. IsCaused me n l d) (append-nil early) k, tt)
+caused_push me n early (e ∷ ds) d h k = (h.0, caused_push me n (early ++ e ∷ []) ds d h.1 (subst (λ l. IsCaused me n l d) (sym (append_assoc early (e ∷ []) ds)) k))
+
+pub caused_at : (me : ℕ) (n : Standing) (before early : List Deed) (d : Deed) (later : List Deed) → CausedBehind me n before (early ++ d ∷ later) → IsCaused me n (before ++ early) d
+caused_at me n before [] d later h = subst (λ l. IsCaused me n l d) (sym (append-nil before)) h.0
+caused_at me n before (e ∷ early) d later h = subst (λ l. IsCaused me n l d) (append_assoc before (e ∷ []) early) (caused_at me n (before ++ e ∷ []) early d later h.1)
+
+pub caused_front : (me : ℕ) (n : Standing) (before early later : List Deed) → CausedBehind me n before (early ++ later) → CausedBehind me n before early
+caused_front me n before [] later h = tt
+caused_front me n before (e ∷ early) later h = (h.0, caused_front me n (before ++ e ∷ []) early later h.1)
+
+pub told_kept : (n : Standing) (ds : List Deed) (d : Deed) (x : _) → IsTold (replied_in n ds) x → IsTold (replied_in n (ds ++ d ∷ [])) x
+told_kept n ds d x (inl (r, c, e)) = inl (r, replied_kept n ds d r c, e)
+told_kept n ds d x (inr none) = inr none
+
+given_kept : (me : ℕ) (n : Standing) (ds : List Deed) (g : Frame) (c : ℕ) (frame : List ℕ) → IsGiven me n ds c frame → IsGiven me n (ds ++ says g ∷ []) c frame
+given_kept me n ds g c frame (inl (d, m, sent, peer, e)) = inl (d, m, sent_kept n ds (says g) (d, m) sent, peers_says me c ds g peer, e)
+given_kept me n ds g c frame (inr (x, told, client, e)) = inr (x, told_kept n ds (says g) x told, clients_says c ds g client, e)
+
+pub caused_says : (me : ℕ) (n : Standing) (ds : List Deed) (fs : List Frame) → AreCaused me n ds → Each (λ f. IsGiven me n ds f.0 f.1) fs → AreCaused me n (ds ++ map says fs)
+caused_says me n ds [] h g = subst (λ l. AreCaused me n l) (sym (append-nil ds)) h
+caused_says me n ds (f ∷ fs) h g =
+    subst (λ l. AreCaused me n l) (append_assoc ds (says f ∷ []) (map says fs))
+    (caused_says me n (ds ++ says f ∷ []) fs (caused_push me n [] ds (says f) h g.0)
+    (each_map (λ x. IsGiven me n ds x.0 x.1) (λ x. IsGiven me n (ds ++ says f ∷ []) x.0 x.1) (λ x k. given_kept me n ds f x.0 x.1 k) fs g.1))

@@ -1,0 +1,243 @@
+-- What is handed out: each frame for a connection is of a message, or of what a client is told.
+use Rattle.std.proofs.Common.{◌≡◌, ◌++◌, ◌∷◌, [], ℕ, Bool, true, false, cond, List, Option, Some, None, if◌then◌else◌, refl, sym, ◌∙◌, ap, subst, ◌⊎◌, inl, inr}
+use Rattle.std.specs.FinMap as map
+use Rattle.std.specs.BTreeMap.{is_at}
+use Rattle.op_types.specs.declared.answers.Answer.{Answer}
+use Rattle.op_types.specs.declared.answers.Outcome.{Outcome}
+use Rattle.op_types.specs.declared.answers.Outcome.TheVariants.{Refused}
+use Rattle.op_types.specs.declared.answers.Refusal.{Refusal}
+use Rattle.op_types.specs.declared.answers.Reply.{Reply}
+use Rattle.op_types.specs.declared.messages.Msg.{Msg}
+use Rattle.op_command.specs.declared.reply.ClientReply.{ClientReply}
+use Rattle.op_command.specs.declared.said.Said.{Said}
+use Rattle.op_command.specs.declared.said.Said.TheVariants as said
+use Rattle.op_command.specs.Replies.{said_of as denied}
+use Rattle.op_serving.specs.declared.node.Given.{Given}
+use Rattle.op_serving.specs.declared.wanted.Wanted.{Wanted}
+use Rattle.op_serving.specs.declared.wanted.Wanted.TheVariants.{Commands, Stop, Trim}
+use Rattle.op_serving.specs.Wire.{peer_frame, client_frame}
+use Rattle.op_serving.specs.State.{find, changed, with_bytes, if_its, open_of, Key, Loop, Askers, pair_cmp, is_open, session_of, waits_for}
+use Rattle.op_serving.specs.Handing.{Frame, frame_at, said_at, sent, sent_all, frames_sent, forgotten, answered, replied, replied_all, frames_replied, handed_out, frames_handed, Told, said_each, refusal_of, said_of_refusal, said_of_outcome, said_at_once, said_of_denial, told, told_all, frames_told, asked_by_one, asked, waits_unless, keys_that_wait, proposed, frames_proposed, excused, frames_excused}
+use Rattle.op_serving.specs.declared.session.Session.{Session}
+use Rattle.std.proofs.lemmas.Bool.{cases_eq}
+use Rattle.op_connections.proofs.Tables.{found_own, found_other}
+use Rattle.op_connections.proofs.Queueing.{queued}
+use Rattle.op_queues.proofs.Askers.{key_total}
+use Rattle.op_cluster_laws.proofs.Lists.{Each, each_both}
+
+-- whoever asked for a command is such a connection
+abbrev pub AskersAre : (ℕ → Type 0) → Loop → Type 0
+AskersAre P s = (key : Key) (c : ℕ) → map.get s.askers key ≡ Some c → P c
+
+unless_some : (b : Bool) (x : Option ℕ) (c : ℕ) → cond b None x ≡ Some c → x ≡ Some c
+unless_some true x c e = absurd cc
+unless_some false x c e = e
+
+if_some : (b : Bool) (v : ℕ) (x : Option ℕ) (c : ℕ) → cond b (Some v) x ≡ Some c → (v ≡ c) ⊎ (x ≡ Some c)
+if_some true v x c e = inl cc
+if_some false v x c e = inr e
+
+-- one that is no more asked for
+pub got_removed : (t : Askers) (key other : Key) (c : ℕ) → map.get (map.remove t key) other ≡ Some c → map.get t other ≡ Some c
+got_removed t key other c e = unless_some (is_at (pair_cmp other) key) (map.get t other) c (sym (map.get-remove key_total t key other) ∙ e)
+
+-- one that is asked for
+got_inserted : (t : Askers) (key other : Key) (d c : ℕ) → map.get (map.insert t key d) other ≡ Some c → (d ≡ c) ⊎ (map.get t other ≡ Some c)
+got_inserted t key other d c e = if_some (is_at (pair_cmp other) key) d (map.get t other) c (sym (map.get-insert key_total t key d other) ∙ e)
+
+-- what holds of the connections at which an input was asked for
+abbrev pub WantedBy : (ℕ → Type 0) → Option Wanted → Type 0
+WantedBy P None = Unit {0}
+WantedBy P (Some (Commands keys)) = Each (λ p. P p.0) keys
+WantedBy P (Some (Stop c)) = P c
+WantedBy P (Some (Trim c)) = P c
+
+-- it is not the answer to a command
+abbrev pub NoAnswer : ClientReply → Type 0
+NoAnswer x = (a : Answer) → x.said ≡ said.Answer a → ⊥
+
+-- whoever is a peer's session is such a connection
+abbrev pub PeersAre : (ℕ → Type 0) → Loop → Type 0
+PeersAre R s = (q c : ℕ) → session_of q s ≡ Some c → R c
+
+its_queued : (q k : ℕ) (bytes : List ℕ) (o : Option Session) → if_its q k (queued bytes o) ≡ if_its q k o
+its_queued q k bytes None = refl
+its_queued q k bytes (Some y) = refl
+
+-- bytes that wait change nothing of it
+session_waits : (q d : ℕ) (bytes : List ℕ) (s : Loop) → session_of q (waits_for d bytes s) ≡ session_of q s
+session_waits q d bytes s = by_peer (find q s.peers)
+  where
+    by_conn : (k : ℕ) → if_its q k (find k (changed (with_bytes bytes) d s.sessions)) ≡ if_its q k (find k s.sessions)
+    by_conn k = elim (cases_eq d k) [
+      | inl same ↦ ap (λ j. if_its q k (find j (changed (with_bytes bytes) d s.sessions))) (sym same) ∙ ap (if_its q k) (found_own (with_bytes bytes) d s.sessions)
+          ∙ its_queued q k bytes (find d s.sessions) ∙ ap (λ j. if_its q k (find j s.sessions)) same
+      | inr apart ↦ ap (if_its q k) (found_other (with_bytes bytes) k d s.sessions apart)
+    ]
+
+    by_peer : (o : Option (Option ℕ)) → open_of q o (changed (with_bytes bytes) d s.sessions) ≡ open_of q o s.sessions
+    by_peer None = refl
+    by_peer (Some None) = refl
+    by_peer (Some (Some k)) = by_conn k
+
+peers_waits : (R : ℕ → Type 0) (d : ℕ) (bytes : List ℕ) (s : Loop) → PeersAre R s → PeersAre R (waits_for d bytes s)
+peers_waits R d bytes s h q c e = h q c (sym (session_waits q d bytes s) ∙ e)
+
+module _ (P R : ℕ → Type 0) (G : Frame → Type 0) (me : ℕ) where
+  -- these frames are handed out of one to the other
+  pub record Hands (s : Loop) (fs : List Frame) (t : Loop) : Type 0 where
+    pub me_is : t.me ≡ s.me
+    pub downs : t.downs ≡ s.downs
+    pub askers : AskersAre P s → AskersAre P t
+    pub peers : PeersAre R s → PeersAre R t
+    pub frames : s.me ≡ me → AskersAre P s → PeersAre R s → Each G fs
+
+  pub hands_none : (s : Loop) → Hands s [] s
+  hands_none s = record { me_is = refl; downs = refl; askers = λ h. h; peers = λ h. h; frames = λ e h r. tt }
+
+  pub hands_then : (s m t : Loop) (fs gs : List Frame) → Hands s fs m → Hands m gs t → Hands s (fs ++ gs) t
+  hands_then s m t fs gs a b = record {
+    me_is = b.me_is ∙ a.me_is;
+    downs = b.downs ∙ a.downs;
+    askers = λ h. b.askers (a.askers h);
+    peers = λ h. b.peers (a.peers h);
+    frames = λ e h r. each_both G fs gs (a.frames e h r) (b.frames (a.me_is ∙ e) (a.askers h) (a.peers r));
+  }
+
+  hands_at : (o : Option ℕ) (bytes : List ℕ) (s : Loop) → ((c : ℕ) → o ≡ Some c → s.me ≡ me → PeersAre R s → G (c, bytes)) → Hands s (frame_at o bytes) (said_at o bytes s)
+  hands_at None bytes s g = hands_none s
+  hands_at (Some c) bytes s g = record { me_is = refl; downs = refl; askers = λ h. h; peers = peers_waits R c bytes s; frames = λ e h r. (g c refl e r, tt) }
+
+  -- ---- messages
+
+  -- they may be sent to a peer's connection
+  abbrev pub MayBeSent : ℕ × Msg → Type 0
+  MayBeSent m = (c : ℕ) → R c → G (c, peer_frame me m.0 m.1)
+
+  hands_sent : (ms : List (ℕ × Msg)) (s : Loop) → Each MayBeSent ms → Hands s (frames_sent ms s) (sent_all ms s)
+  hands_sent [] s h = hands_none s
+  hands_sent (m ∷ ms) s h =
+      let o : Option ℕ = session_of m.0 s in
+      hands_then s (sent m s) (sent_all ms (sent m s)) (frame_at o (peer_frame s.me m.0 m.1)) (frames_sent ms (sent m s))
+      (hands_at o (peer_frame s.me m.0 m.1) s (λ c e is r. subst (λ k. G (c, peer_frame k m.0 m.1)) (sym is) (h.0 c (r m.0 c e))))
+      (hands_sent ms (sent m s) h.1)
+
+  -- ---- replies
+
+  -- they may be told to whoever asks
+  abbrev pub MayBeReplied : Reply → Type 0
+  MayBeReplied r = (c : ℕ) → P c → G (c, client_frame (answered r))
+
+  hands_reply : (r : Reply) (s : Loop) (o : Option ℕ) → map.get s.askers (r.client, r.seq) ≡ o → MayBeReplied r → Hands s (frame_at o (client_frame (answered r))) (said_at o (client_frame (answered r)) (forgotten (r.client, r.seq) s))
+  hands_reply r s None e h = record { me_is = refl; downs = refl; askers = λ a key c k. a key c (got_removed s.askers (r.client, r.seq) key c k); peers = λ p. p; frames = λ is a p. tt }
+  hands_reply r s (Some c) e h = record { me_is = refl; downs = refl; askers = λ a key d k. a key d (got_removed s.askers (r.client, r.seq) key d k); peers = peers_waits R c (client_frame (answered r)) s; frames = λ is a p. (h c (a (r.client, r.seq) c e), tt) }
+
+  hands_replied : (rs : List Reply) (s : Loop) → Each MayBeReplied rs → Hands s (frames_replied rs s) (replied_all rs s)
+  hands_replied [] s h = hands_none s
+  hands_replied (r ∷ rs) s h =
+      let o : Option ℕ = map.get s.askers (r.client, r.seq) in
+      hands_then s (replied r s) (replied_all rs (replied r s)) (frame_at o (client_frame (answered r))) (frames_replied rs (replied r s))
+      (hands_reply r s o refl h.0) (hands_replied rs (replied r s) h.1)
+
+  hands_handed : (g : Given) (s : Loop) → Each MayBeSent g.sends → Each MayBeReplied g.replies → Hands s (frames_handed g s) (handed_out g s)
+  hands_handed g s sends replies =
+      let m : Loop = sent_all g.sends s in
+      hands_then s m (replied_all g.replies m) (frames_sent g.sends s) (frames_replied g.replies m) (hands_sent g.sends s sends) (hands_replied g.replies m replies)
+
+  -- ---- what is told at once
+
+  -- such a connection may be told what is no answer
+  abbrev pub MayBeTold : ℕ → Type 0
+  MayBeTold c = (x : ClientReply) → NoAnswer x → G (c, client_frame x)
+
+  hands_told : (rs : List Told) (s : Loop) → Each (λ r. G (r.0, client_frame r.1)) rs → Hands s (frames_told rs) (told_all rs s)
+  hands_told [] s h = hands_none s
+  hands_told (r ∷ rs) s h =
+      hands_then s (told r.0 r.1 s) (told_all rs (told r.0 r.1 s)) ((r.0, client_frame r.1) ∷ []) (frames_told rs)
+      (record { me_is = refl; downs = refl; askers = λ a. a; peers = peers_waits R r.0 (client_frame r.1) s; frames = λ e a p. (h.0, tt) }) (hands_told rs (told r.0 r.1 s) h.1)
+
+  told_each : (keys : List (ℕ × Key)) (what : Said) → ((a : Answer) → what ≡ said.Answer a → ⊥) → Each (λ p. MayBeTold p.0) keys → Each (λ r. G (r.0, client_frame r.1)) (said_each keys what)
+  told_each [] what none h = tt
+  told_each (p ∷ keys) what none h = (h.0 _ none, told_each keys what none h.1)
+
+  no_outcome : (o : Outcome) (a : Answer) → said.Outcome o ≡ said.Answer a → ⊥
+  no_outcome o a e = cc
+
+  told_refusal : (keys : List (ℕ × Key)) (why : Option Refusal) → Each (λ p. MayBeTold p.0) keys → Each (λ r. G (r.0, client_frame r.1)) (said_of_refusal keys why)
+  told_refusal keys None h = tt
+  told_refusal keys (Some why) h = told_each keys (said.Outcome (Refused why)) (no_outcome (Refused why)) h
+
+  told_outcome : (c : ℕ) (o : Option Outcome) → MayBeTold c → Each (λ r. G (r.0, client_frame r.1)) (said_of_outcome c o)
+  told_outcome c None h = tt
+  told_outcome c (Some o) h = (h _ (no_outcome o), tt)
+
+  told_once : (w : Wanted) (o : Option Outcome) → WantedBy MayBeTold (Some w) → Each (λ r. G (r.0, client_frame r.1)) (said_at_once w o)
+  told_once (Commands keys) o h = told_refusal keys (refusal_of o) h
+  told_once (Stop c) o h = told_outcome c o h
+  told_once (Trim c) o h = told_outcome c o h
+
+  denied_no_answer : (why : Option Refusal) (a : Answer) → denied why ≡ said.Answer a → ⊥
+  denied_no_answer None a e = cc
+  denied_no_answer (Some why) a e = cc
+
+  told_denial : (w : Wanted) (why : Option Refusal) → WantedBy MayBeTold (Some w) → Each (λ r. G (r.0, client_frame r.1)) (said_of_denial w why)
+  told_denial (Commands keys) why h = told_each keys (denied why) (denied_no_answer why) h
+  told_denial (Stop c) why h = (h _ (denied_no_answer why), tt)
+  told_denial (Trim c) None h = tt
+  told_denial (Trim c) (Some why) h = (h _ (denied_no_answer (Some why)), tt)
+
+  -- ---- who asks
+
+  asked_one : (p : ℕ × Key) (s : Loop) → (is_open p.0 s ≡ true → P p.0) → AskersAre P s → AskersAre P (asked_by_one p s)
+  asked_one p s own a key c e = by_open (is_open p.0 s) refl e
+    where
+      by_open : (b : Bool) → is_open p.0 s ≡ b → map.get (if b then map.insert s.askers p.1 p.0 else map.remove s.askers p.1) key ≡ Some c → P c
+      by_open true is k = elim (got_inserted s.askers p.1 key p.0 c k) [ inl same ↦ subst P same (own is) | inr before ↦ a key c before ]
+      by_open false is k = a key c (got_removed s.askers p.1 key c k)
+
+  asked_are : (ps : List (ℕ × Key)) (s : Loop) → Each (λ p. is_open p.0 s ≡ true → P p.0) ps → AskersAre P s → AskersAre P (asked ps s)
+  asked_are [] s h a = a
+  asked_are (p ∷ ps) s h a = asked_are ps (asked_by_one p s) h.1 (asked_one p s h.0 a)
+
+  asked_me : (ps : List (ℕ × Key)) (s : Loop) → (asked ps s).me ≡ s.me
+  asked_me [] s = refl
+  asked_me (p ∷ ps) s = asked_me ps (asked_by_one p s)
+
+  asked_downs : (ps : List (ℕ × Key)) (s : Loop) → (asked ps s).downs ≡ s.downs
+  asked_downs [] s = refl
+  asked_downs (p ∷ ps) s = asked_downs ps (asked_by_one p s)
+
+  asked_peers : (ps : List (ℕ × Key)) (s : Loop) → PeersAre R s → PeersAre R (asked ps s)
+  asked_peers [] s h = h
+  asked_peers (p ∷ ps) s h = asked_peers ps (asked_by_one p s) h
+
+  -- where it is open it may ask
+  abbrev pub MayAsk : Loop → ℕ → Type 0
+  MayAsk s c = is_open c s ≡ true → P c
+
+  waiting_ones : (why : Option Refusal) (keys : List (ℕ × Key)) (s : Loop) → Each (λ p. MayAsk s p.0) keys → Each (λ p. MayAsk s p.0) (waits_unless why keys)
+  waiting_ones None keys s h = h
+  waiting_ones (Some why) keys s h = tt
+
+  waiting_keys : (w : Wanted) (o : Option Outcome) (s : Loop) → WantedBy (MayAsk s) (Some w) → Each (λ p. MayAsk s p.0) (keys_that_wait w o)
+  waiting_keys (Commands keys) o s h = waiting_ones (refusal_of o) keys s h
+  waiting_keys (Stop c) o s h = tt
+  waiting_keys (Trim c) o s h = tt
+
+  hands_proposed : (w : Option Wanted) (o : Option Outcome) (s : Loop) → WantedBy (MayAsk s) w → WantedBy MayBeTold w → Hands s (frames_proposed w o) (proposed w o s)
+  hands_proposed None o s a t = hands_none s
+  hands_proposed (Some w) o s a t =
+      let ps : List (ℕ × Key) = keys_that_wait w o in
+      hands_then s (asked ps s) (told_all (said_at_once w o) (asked ps s)) [] (frames_told (said_at_once w o))
+      (record { me_is = asked_me ps s; downs = asked_downs ps s; askers = asked_are ps s (waiting_keys w o s a); peers = asked_peers ps s; frames = λ e h r. tt })
+      (hands_told (said_at_once w o) (asked ps s) (told_once w o t))
+
+  pub hands_excused : (w : Option Wanted) (why : Option Refusal) (s : Loop) → WantedBy MayBeTold w → Hands s (frames_excused w why) (excused w why s)
+  hands_excused None why s t = hands_none s
+  hands_excused (Some w) why s t = hands_told (said_of_denial w why) s (told_denial w why t)
+
+  pub hands_given : (w : Option Wanted) (g : Given) (o : Option Outcome) (s : Loop) → WantedBy (MayAsk s) w → WantedBy MayBeTold w → Each MayBeSent g.sends → Each MayBeReplied g.replies
+      → Hands s (frames_proposed w o ++ frames_handed g (proposed w o s)) (handed_out g (proposed w o s))
+  hands_given w g o s a t sends replies =
+      let m : Loop = proposed w o s in
+      hands_then s m (handed_out g m) (frames_proposed w o) (frames_handed g m) (hands_proposed w o s a t) (hands_handed g m sends replies)

@@ -1,0 +1,9 @@
+pub mod Outputs
+pub mod Readings
+pub mod Causes
+pub mod Traces
+pub mod Nets
+pub mod Lives
+pub mod Clusters
+pub mod Worlds
+pub mod Orders
