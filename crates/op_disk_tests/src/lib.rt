@@ -8,6 +8,10 @@ mod damage;
 #[cfg(test)]
 mod memory;
 #[cfg(test)]
+mod mirrored_stores;
+#[cfg(test)]
+mod mirrors;
+#[cfg(test)]
 mod silent;
 #[cfg(test)]
 mod store_damage;

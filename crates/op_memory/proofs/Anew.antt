@@ -1,9 +1,10 @@
 -- A disk whose moments begin anew: a crash leaves of it what it left of the old one.
-use Rattle.std.proofs.Common.{◌≡◌, ℕ, List, refl, sym, ◌∙◌, subst}
+use Rattle.std.proofs.Common.{◌≡◌, ℕ, List, refl, sym, ◌∙◌, ap, subst}
 use Rattle.std.specs.Prelude.{◌↔◌}
 use Rattle.op_outside.specs.Disks.{MayLeave, IsAtRest}
 use Rattle.op_memory.specs.declared.disk_history.DiskHistory.{DiskHistory}
-use Rattle.op_memory.specs.Images.{State, IsImage}
+use Rattle.op_outside.specs.Pendings.{IsImage}
+use Rattle.op_memory.specs.Images.{State}
 use Rattle.op_memory.specs.Histories.{known_of, history_state}
 use Rattle.op_memory.specs.MemDisks.{BeginsAnew}
 use Rattle.op_memory.proofs.Moments.{left_now, now_left}
@@ -28,6 +29,7 @@ module _ (h k : DiskHistory) (faults made : ℕ) (bytes : k.bytes.items ≡ h.by
   begins_anew = record {
     model = (λ f. f, λ f. f);
     content = bytes;
+    pending = ap (λ (s : State). s.pending) state;
     images = images;
     faults = refl;
     calls = refl;

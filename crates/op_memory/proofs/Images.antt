@@ -1,10 +1,11 @@
 -- The images after one call more.
 use Rattle.std.proofs.Common.{◌≡◌, inl, inr, ⊎_elim, ℕ, zero, suc, ◌+◌, ◌-◌, ◌<◌, ◌≤◌, max, min, List, [], ◌∷◌, ◌++◌, length, get_or, take, drop, refl, sym, ◌∙◌, ap, arith, append_assoc, length-append, length-take, length-drop}
-use Rattle.std.proofs.lemmas.List.{take_at, drop_at, take_all, drop_all, get_or_append_left, get_or-append_right, get_or-take, get_or-drop}
+use Rattle.std.proofs.lemmas.List.{take_at, drop_at, drop_all, get_or_append_left, get_or-append_right, get_or-take, get_or-drop}
 use Rattle.std.proofs.lemmas.Bool.{cases_lt}
 use Rattle.std.proofs.lemmas.Grind.{same_number_lists}
 use Rattle.op_outside.specs.Disks.{Torn, Shorter, Only}
-use Rattle.op_memory.specs.Images.{Pending, synced, overlaid, written, shortened, IsImage, Uncovered}
+use Rattle.op_outside.specs.Pendings.{Pending, synced, written, shortened, IsImage, Uncovered}
+use Rattle.op_memory.specs.Images.{overlaid}
 
 -- n bytes of a list from a place on, 0 past its end
 pub stretch : ℕ → ℕ → List ℕ → List ℕ
@@ -28,7 +29,7 @@ module _ (s : Pending) (ordered : s.low ≤ s.high) (at n : ℕ) (within : at �
   short lt = record {
     no_shorter = im.no_shorter;
     no_longer = omega arith;
-    same = λ p below un. im.same p below (inl (omega arith), un);
+    same = λ p below un. let bot : s.low ≤ length x = im.no_shorter in im.same p below (inl (omega arith), un);
   }
 
   -- how far the bytes before the write go
@@ -69,11 +70,14 @@ module _ (s : Pending) (ordered : s.low ≤ s.high) (at n : ℕ) (within : at �
     unfolding k
     reach = omega arith
 
-    same_at : (p : ℕ) → p < length before → Uncovered s.writes p → get_or before p 0 ≡ get_or s.base p 0
+    same_at : (p : ℕ) → p < s.low → Uncovered s.writes p → get_or before p 0 ≡ get_or s.base p 0
     unfolding before
-    same_at p below un = ⊎_elim
+    same_at p below un =
+        let bot : s.low ≤ length x = im.no_shorter in
+        let inside : p < length before = omega (arith, long_before) in
+        ⊎_elim
         (λ (lt : p < at). get_or_append_left (take at x ++ stretch at k s.base) (drop (at + n) x) 0 p (omega (arith, two))
-        ∙ get_or_append_left (take at x) (stretch at k s.base) 0 p (omega (arith, prefix)) ∙ get_or-take at x p 0 lt ∙ im.same p (omega arith) (inl lt, un))
+        ∙ get_or_append_left (take at x) (stretch at k s.base) 0 p (omega (arith, prefix)) ∙ get_or-take at x p 0 lt ∙ im.same p below (inl lt, un))
         (λ (ge : at ≤ p). ⊎_elim
         (λ (lt : p < at + k). get_or_append_left (take at x ++ stretch at k s.base) (drop (at + n) x) 0 p (omega (arith, two))
         ∙ get_or-append_right (take at x) (stretch at k s.base) at p 0 prefix ge ∙ get_or-stretch at k s.base (p - at) (omega arith)
@@ -83,7 +87,7 @@ module _ (s : Pending) (ordered : s.low ≤ s.high) (at n : ℕ) (within : at �
         get_or-append_right (take at x ++ stretch at k s.base) (drop (at + n) x) (at + k) p 0 two past
         ∙ get_or-drop (at + n) x (p - (at + k)) 0
         ∙ (let e : at + n + (p - (at + k)) ≡ p = omega arith in ap (λ (i : ℕ). get_or x i 0) e)
-        ∙ im.same p (omega (arith, long_before)) (inr far, un))
+        ∙ im.same p below (inr far, un))
         (cases_lt p (at + k)))
         (cases_lt p at)
 
@@ -104,43 +108,56 @@ module _ (s : Pending) (ordered : s.low ≤ s.high) (at n : ℕ) (within : at �
 pub write_follows : (s : Pending) (at n : ℕ) → s.low ≤ s.high → at ≤ s.high → (x : List ℕ) → IsImage (written at n s) x → (d : List ℕ) × IsImage s d × Torn at n d x
 write_follows s at n ordered within x im = outcome s ordered at n within x im
 
--- a cut: the part that a shorter image lacks stands in the sync's bytes
+-- a cut: what stood past it in some image are the sync's bytes
+module _ (s : Pending) (ordered : s.low ≤ s.high) (n : ℕ) (x : List ℕ) (im : IsImage (shortened n s) x) where
+  -- it lies past the least length
+  kept : s.low ≤ n → IsImage s x × Shorter n x x
+  kept le = let bot : min s.low n ≤ length x = im.no_shorter in (
+    record { no_shorter = omega arith; no_longer = im.no_longer; same = λ p below un. im.same p (omega arith) un },
+    record { no_shorter = omega arith; no_longer = omega arith; prefix = refl },
+  )
+
+  rest : List ℕ
+  rest = stretch n (max (length x) s.low - n) s.base
+
+  module _ (lt : n < s.low) where
+    long : n ≤ length x
+    long = let bot : min s.low n ≤ length x = im.no_shorter in omega arith
+
+    front : length (take n x) ≡ n
+    front = let le = long in omega (arith, length-take n x)
+
+    size : length (take n x ++ rest) ≡ max (length x) s.low
+    unfolding rest
+    size = let le = long in omega (arith, front, length-append (take n x) (stretch n (max (length x) s.low - n) s.base), length-stretch n (max (length x) s.low - n) s.base)
+
+    same_past : (p : ℕ) → p < s.low → Uncovered s.writes p → get_or (take n x ++ rest) p 0 ≡ get_or s.base p 0
+    unfolding rest
+    same_past p below un = ⊎_elim
+        (λ (inside : p < n). get_or_append_left (take n x) (stretch n (max (length x) s.low - n) s.base) 0 p (omega (arith, front))
+        ∙ get_or-take n x p 0 inside ∙ im.same p (omega arith) un)
+        (λ (out : n ≤ p). get_or-append_right (take n x) (stretch n (max (length x) s.low - n) s.base) n p 0 front out
+        ∙ get_or-stretch n (max (length x) s.low - n) s.base (p - n) (omega arith)
+        ∙ (let e : n + (p - n) ≡ p = omega arith in ap (λ (i : ℕ). get_or s.base i 0) e))
+        (cases_lt p n)
+
+    cut_off : (d : List ℕ) × IsImage s d × Shorter n d x
+    cut_off = let le = long in let top : length x ≤ s.high = im.no_longer in (
+      take n x ++ rest,
+      record { no_shorter = omega (arith, size); no_longer = omega (arith, size); same = same_past },
+      record { no_shorter = omega arith; no_longer = omega (arith, size); prefix = sym (take_at (take n x) rest n front) },
+    )
+
 pub cut_follows : (s : Pending) (n : ℕ) → s.low ≤ s.high → (x : List ℕ) → IsImage (shortened n s) x → (d : List ℕ) × IsImage s d × Shorter n d x
-cut_follows s n ordered x im =
-    let bot : min s.low n ≤ length x = im.no_shorter in
-    let top : length x ≤ s.high = im.no_longer in
-    ⊎_elim
-    (λ (lt : length x < s.low).
-    let m : ℕ = s.low - length x in
-    let rest : List ℕ = stretch (length x) (s.low - length x) s.base in
-    let size : length (x ++ stretch (length x) (s.low - length x) s.base) ≡ s.low = omega (arith, length-append x (stretch (length x) (s.low - length x) s.base), length-stretch (length x) (s.low - length x) s.base) in (
-      x ++ stretch (length x) (s.low - length x) s.base,
-      record {
-        no_shorter = omega (arith, size);
-        no_longer = omega (arith, size);
-        same = λ p below un. ⊎_elim
-            (λ (in' : p < length x). get_or_append_left x (stretch (length x) (s.low - length x) s.base) 0 p in' ∙ im.same p in' un)
-            (λ (out : length x ≤ p). get_or-append_right x (stretch (length x) (s.low - length x) s.base) (length x) p 0 refl out
-            ∙ get_or-stretch (length x) (s.low - length x) s.base (p - length x) (omega (arith, size))
-            ∙ (let e : length x + (p - length x) ≡ p = omega arith in ap (λ (i : ℕ). get_or s.base i 0) e))
-            (cases_lt p (length x));
-      },
-      record {
-        no_shorter = omega (arith, size);
-        prefix = take_at x (stretch (length x) (s.low - length x) s.base) (length x) refl;
-      },
-    ))
-    (λ (ge : s.low ≤ length x). (
-      x,
-      record { no_shorter = ge; no_longer = top; same = im.same },
-      record { no_shorter = omega arith; prefix = take_all (length x) x (omega arith) },
-    ))
-    (cases_lt (length x) s.low)
+cut_follows s n ordered x im = ⊎_elim
+    (λ (lt : n < s.low). cut_off s ordered n x im lt)
+    (λ (ge : s.low ≤ n). let same = kept s ordered n x im ge in (x, same.0, same.1))
+    (cases_lt n s.low)
 
 -- a sync
 pub sync_only : (bytes : List ℕ) → Only bytes (IsImage (synced bytes))
 sync_only bytes = record {
-  no_other = λ c im. same_number_lists c bytes (let a : length bytes ≤ length c = im.no_shorter in let b : length c ≤ length bytes = im.no_longer in omega arith) (λ p below. im.same p below tt);
+  no_other = λ c im. same_number_lists c bytes (let a : length bytes ≤ length c = im.no_shorter in let b : length c ≤ length bytes = im.no_longer in omega arith) (λ p below. let a : length c ≤ length bytes = im.no_longer in im.same p (omega arith) tt);
   itself = record { no_shorter = omega arith; no_longer = omega arith; same = λ p below un. refl };
 }
 
@@ -149,7 +166,7 @@ pub cut_image : (s : Pending) (n : ℕ) (bytes : List ℕ) → IsImage s bytes �
 cut_image s n bytes im = record {
   no_shorter = let bot : s.low ≤ length bytes = im.no_shorter in omega (arith, length-take n bytes);
   no_longer = let top : length bytes ≤ s.high = im.no_longer in omega (arith, length-take n bytes);
-  same = λ p below un. get_or-take n bytes p 0 (omega (arith, length-take n bytes)) ∙ im.same p (omega (arith, length-take n bytes)) un;
+  same = λ p below un. get_or-take n bytes p 0 (omega arith) ∙ im.same p (omega arith) un;
 }
 
 module _ (s : Pending) (at : ℕ) (piece bytes : List ℕ) (within : at ≤ length bytes) (im : IsImage s bytes) where
@@ -162,14 +179,14 @@ module _ (s : Pending) (at : ℕ) (piece bytes : List ℕ) (within : at ≤ leng
   whole_len : length (overlaid bytes at piece) ≡ max (length bytes) (at + length piece)
   whole_len = omega (arith, both_len, length-append (take at bytes ++ piece) (drop (at + length piece) bytes), length-drop (at + length piece) bytes)
 
-  same_there : (p : ℕ) → p < length (overlaid bytes at piece) → Uncovered ((at, length piece) ∷ s.writes) p → get_or (overlaid bytes at piece) p 0 ≡ get_or s.base p 0
+  same_there : (p : ℕ) → p < s.low → Uncovered ((at, length piece) ∷ s.writes) p → get_or (overlaid bytes at piece) p 0 ≡ get_or s.base p 0
   same_there p below un = ⊎_elim
       (λ (lt : p < at). get_or_append_left (take at bytes ++ piece) (drop (at + length piece) bytes) 0 p (omega (arith, both_len))
-      ∙ get_or_append_left (take at bytes) piece 0 p (omega (arith, prefix_len)) ∙ get_or-take at bytes p 0 lt ∙ im.same p (omega arith) un.1)
+      ∙ get_or_append_left (take at bytes) piece 0 p (omega (arith, prefix_len)) ∙ get_or-take at bytes p 0 lt ∙ im.same p below un.1)
       (λ (past : at + length piece ≤ p). get_or-append_right (take at bytes ++ piece) (drop (at + length piece) bytes) (at + length piece) p 0 both_len past
       ∙ get_or-drop (at + length piece) bytes (p - (at + length piece)) 0
       ∙ (let e : at + length piece + (p - (at + length piece)) ≡ p = omega arith in ap (λ (i : ℕ). get_or bytes i 0) e)
-      ∙ im.same p (omega (arith, whole_len)) un.1)
+      ∙ im.same p below un.1)
       un.0
 
   pub write_image : IsImage (written at (length piece) s) (overlaid bytes at piece)

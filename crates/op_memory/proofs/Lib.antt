@@ -7,3 +7,4 @@ pub mod Moments
 pub mod Pending
 pub mod Wholes
 pub mod Calling
+pub mod Sound

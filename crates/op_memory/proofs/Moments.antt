@@ -9,7 +9,8 @@ use Rattle.op_memory.specs.declared.call.Call.TheVariants.{Write, StoppedWrite, 
 use Rattle.op_outside.specs.Disks.{TornOf, GoesOn}
 use Rattle.op_memory.specs.Tied.{Tied}
 use Rattle.op_memory.proofs.Images.{write_follows, cut_follows, write_image, cut_image, sync_only}
-use Rattle.op_memory.specs.Images.{State, fresh, overlaid, after, state_of, edit_of, IsWithin, IfSync, IsImage, LeftSince, LeftNow, known}
+use Rattle.op_outside.specs.Pendings.{IsImage}
+use Rattle.op_memory.specs.Images.{State, fresh, overlaid, after, state_of, edit_of, IsWithin, IfSync, LeftSince, LeftNow, known}
 
 pub state-push : (s : State) (calls : List Call) (call : Call) → state_of s (calls ++ call ∷ []) ≡ after call (state_of s calls)
 state-push s [] call = refl
@@ -94,7 +95,7 @@ read_after (StoppedWrite at v) s im within =
     (record { no_shorter = im.no_shorter; no_longer = let top = im.no_longer in omega arith; same = λ p below un. im.same p below un.1 }, write_image s.pending at v.items s.content within im)
 read_after (Cut n) s im within = let left = cut_image s.pending n s.content im in (left, left)
 read_after (StoppedCut n) s im within =
-    (record { no_shorter = let bot = im.no_shorter in omega arith; no_longer = im.no_longer; same = im.same }, cut_image s.pending n s.content im)
+    (record { no_shorter = let bot = im.no_shorter in omega arith; no_longer = im.no_longer; same = λ p below un. im.same p (omega arith) un }, cut_image s.pending n s.content im)
 read_after Sync s im within = let same = (sync_only s.content).itself in (same, same)
 
 -- the content after a call goes by the content before it

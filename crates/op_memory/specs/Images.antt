@@ -1,19 +1,12 @@
 -- What a crash may leave of a disk in memory: its images after its calls.
-use Rattle.std.specs.Prelude.{◌≡◌, ◌⊎◌, ℕ, ◌+◌, ◌<◌, ◌≤◌, max, min, List, [], ◌∷◌, ◌++◌, length, take, drop, slice_index}
+use Rattle.std.specs.Prelude.{◌≡◌, ◌⊎◌, ℕ, ◌+◌, ◌<◌, ◌≤◌, List, [], ◌∷◌, ◌++◌, length, take, drop, slice_index}
 use Rattle.op_outside.specs.Disks.{DiskState, Only, Edit}
+use Rattle.op_outside.specs.Pendings.{Pending, synced, written, shortened, Uncovered, IsImage}
 use Rattle.op_outside.specs.Disks.Edit.{Nothing, Write as Writes, Cut as Cuts}
 use Rattle.op_outside.specs.Moments.{Moment}
 use Rattle.op_outside.specs.Moments.Moment.{At, Both}
 use Rattle.op_memory.specs.declared.call.Call.{Call}
 use Rattle.op_memory.specs.declared.call.Call.TheVariants.{Write, StoppedWrite, Cut, StoppedCut, Sync}
-
--- the bytes of the last sync, the least and the greatest length since,
--- and the range of each write tried since
-pub record Pending : Type 0 where
-  pub base : List ℕ
-  pub low : ℕ
-  pub high : ℕ
-  pub writes : List (ℕ × ℕ)
 
 -- what is pending, what a read gives, and what it would give
 -- had the call in which the disk stopped taken place
@@ -22,10 +15,6 @@ pub record State : Type 0 where
   pub content : List ℕ
   pub whole : List ℕ
 
--- nothing is pending
-abbrev pub synced : List ℕ → Pending
-synced bytes = record { base = bytes; low = length bytes; high = length bytes; writes = [] }
-
 -- a disk of which nothing is pending
 abbrev pub fresh : List ℕ → State
 fresh bytes = record { pending = synced bytes; content = bytes; whole = bytes }
@@ -33,14 +22,6 @@ fresh bytes = record { pending = synced bytes; content = bytes; whole = bytes }
 -- a list with this piece laid over it from a place on
 abbrev pub overlaid : List ℕ → ℕ → List ℕ → List ℕ
 overlaid old at piece = take at old ++ piece ++ drop (at + length piece) old
-
--- a write of n bytes was tried
-abbrev pub written : ℕ → ℕ → Pending → Pending
-written at n s = record s { high = max s.high (at + n); writes = (at, n) ∷ s.writes }
-
--- a cut to n bytes was tried
-abbrev pub shortened : ℕ → Pending → Pending
-shortened n s = record s { low = min s.low n }
 
 -- after a write
 abbrev pub wrote : ℕ → List ℕ → State → State
@@ -89,21 +70,10 @@ abbrev pub state_of : State → List Call → State
 state_of s [] = s
 state_of s (call ∷ calls) = state_of (after call s) calls
 
--- no write covers this place
-abbrev pub Uncovered : List (ℕ × ℕ) → ℕ → Type 0
-Uncovered [] p = Unit {0}
-Uncovered (w ∷ writes) p = ((p < w.0) ⊎ (w.0 + w.1 ≤ p)) × Uncovered writes p
-
 -- some write covers this place
 abbrev pub Covered : List (ℕ × ℕ) → ℕ → Type 0
 Covered [] p = ⊥
 Covered (w ∷ writes) p = ((w.0 ≤ p) × (p < w.0 + w.1)) ⊎ Covered writes p
-
--- a length between the least and the greatest, and the synced byte at each place that no write covers
-pub record IsImage (s : Pending) (x : List ℕ) : Type 0 where
-  pub no_shorter : s.low ≤ length x
-  pub no_longer : length x ≤ s.high
-  pub same : (p : ℕ) → p < length x → Uncovered s.writes p → slice_index x p ≡ slice_index s.base p
 
 -- the greatest length, one byte at each place that a write covers, and the synced byte at the others
 pub record IsFilled (s : Pending) (byte : ℕ) (x : List ℕ) : Type 0 where
@@ -152,6 +122,7 @@ abbrev pub known : List ℕ → List Call → List ℕ → ℕ → ℕ → DiskS
 known start calls bytes faults made = record {
   obeys = Unit {0};
   content = bytes;
+  pending = (state_of (fresh start) calls).pending;
   moment = At (length calls);
   left_since = LeftSince start calls;
   faults = faults;

@@ -49,6 +49,7 @@ pub record IsUnchanged (old new : MemDisk) : Type 0 where
 pub record BeginsAnew (old new : DiskState) : Type 0 where
   pub model : new.obeys ↔ old.obeys
   pub content : new.content ≡ old.content
+  pub pending : new.pending ≡ old.pending
   pub images : (x : List ℕ) → MayLeave new x ↔ MayLeave old x
   pub faults : new.faults ≡ old.faults
   pub calls : new.calls ≡ old.calls

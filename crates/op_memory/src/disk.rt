@@ -134,7 +134,7 @@ impl MemDisk {
 
 impl Disk for MemDisk {
     ghost use Rattle.std.specs.Prelude.{◌≤◌, ◌+◌, OnOk, OnErr};
-    ghost use Rattle.op_outside.specs.Disks.{disk_end, Does, Costs, IsLengthOf, Reads, IsSynced};
+    ghost use Rattle.op_outside.specs.Disks.{disk_end, Does, Costs, IsLengthOf, Reads, IsSynced, Pends, Settles};
     ghost use Rattle.op_outside.specs.Disks.Edit.{Nothing, Write, Cut};
     ghost use Rattle.op_memory.specs.Histories.{known_of};
     ghost use Rattle.op_memory.specs.MemDisks.{known_disk, Performs};
@@ -149,6 +149,7 @@ impl Disk for MemDisk {
     fn len(&mut self) -> Result<u64, DiskFail>
         ensures does { Does Nothing (known_disk self.old) (known_disk self.new) result }
         ensures calls { Costs 1 (known_disk self.old) (known_disk self.new) result }
+        ensures pends { Pends Nothing (known_disk self.old) (known_disk self.new) result }
         ensures length { IfOk result (IsLengthOf (known_disk self.old)) }
 
         ensures performs { Performs AskLen self.old self.new result }
@@ -166,6 +167,7 @@ impl Disk for MemDisk {
     fn read(&mut self, at: u64, buf: &mut [u8]) -> Result<(), DiskFail>
         ensures does { Does Nothing (known_disk self.old) (known_disk self.new) result }
         ensures calls { Costs 1 (known_disk self.old) (known_disk self.new) result }
+        ensures pends { Pends Nothing (known_disk self.old) (known_disk self.new) result }
         ensures bytes { OnOk result (Reads (known_disk self.old) at (length buf.old) buf.new) }
 
         ensures performs { Performs (AskRead at (length buf.old)) self.old self.new result }
@@ -187,6 +189,7 @@ impl Disk for MemDisk {
     fn write_at(&mut self, at: u64, bytes: &[u8]) -> Result<(), DiskFail>
         ensures does { Does (Write at bytes.now) (known_disk self.old) (known_disk self.new) result }
         ensures calls { Costs 1 (known_disk self.old) (known_disk self.new) result }
+        ensures pends { Pends (Write at bytes.now) (known_disk self.old) (known_disk self.new) result }
         ensures room { OnOk result (at + length bytes.now ≤ disk_end) }
 
         ensures performs { Performs (AskWrite at bytes.now) self.old self.new result }
@@ -215,6 +218,7 @@ impl Disk for MemDisk {
     fn cut(&mut self, len: u64) -> Result<(), DiskFail>
         ensures does { Does (Cut len) (known_disk self.old) (known_disk self.new) result }
         ensures calls { Costs 1 (known_disk self.old) (known_disk self.new) result }
+        ensures pends { Pends (Cut len) (known_disk self.old) (known_disk self.new) result }
 
         ensures performs { Performs (AskCut len) self.old self.new result }
     {
@@ -237,6 +241,7 @@ impl Disk for MemDisk {
         ensures does { Does Nothing (known_disk self.old) (known_disk self.new) result }
         ensures calls { Costs 1 (known_disk self.old) (known_disk self.new) result }
         ensures synced { OnOk result (IsSynced (known_disk self.new)) }
+        ensures settles { Settles (known_disk self.old) (known_disk self.new) result }
 
         ensures performs { Performs AskSync self.old self.new result }
     {

@@ -1,7 +1,7 @@
 ghost use Rattle.std.specs.Prelude.{◌↔◌, ℕ, List};
 ghost use Rattle.op_outside.specs.Disks.{MayLeave};
 ghost use Rattle.op_memory.specs.declared.disk.MemDisk.{MemDisk};
-ghost use Rattle.op_memory.specs.Images.{IsImage};
+ghost use Rattle.op_outside.specs.Pendings.{IsImage};
 ghost use Rattle.op_memory.specs.MemDisks.{disk_state};
 
 use crate::disk::MemDisk;

@@ -2,7 +2,6 @@
 use Rattle.std.proofs.Common.{inl, inr, ⊎_elim, ℕ, List, refl, sym, ◌∙◌, subst, arith, Result, Ok, Err}
 use Rattle.std.specs.Prelude.{◌↔◌, IsErr}
 use Rattle.op_outside.specs.Causes.{FaultsRose}
-use Rattle.std.proofs.lemmas.List.{take_all}
 use Rattle.op_outside.specs.Moments.{Moment, Before}
 use Rattle.op_outside.specs.Moments.Moment.{At, Both}
 use Rattle.op_outside.specs.Disks.{DiskState, MayLeave, Only, IsAtRest, IsSynced, Edit, Edits, Tears, TornOf, GoesOn, Does, LeavesOnly}
@@ -24,7 +23,7 @@ before-trans (Both a b) (Both c d) (Both e f) p q = (before-trans a c e p.0 q.0,
 pub tears-refl : (edit : Edit) (c : List ℕ) → Tears edit c c
 tears-refl Nothing c = refl
 tears-refl (Write at bytes) c = record { before = refl; after = refl; no_shorter = omega arith; no_longer = omega arith }
-tears-refl (Cut n) c = record { no_shorter = omega arith; prefix = take_all _ c (omega arith) }
+tears-refl (Cut n) c = record { no_shorter = omega arith; no_longer = omega arith; prefix = refl }
 
 -- an image of now is one of before, torn by the call
 pub now_torn : (edit : Edit) (old new : DiskState) → GoesOn edit old new → (c : List ℕ) → MayLeave new c → TornOf edit (MayLeave old) c

@@ -1,0 +1,164 @@
+//! A mirror of two disks in memory: what its opening makes of copies that differ, and what goes on where one copy fails.
+
+use op_memory::MemDisk;
+use op_mirror::{Mirror, OpenCause};
+use op_outside::{Disk, DiskFail};
+use std::alloc::{AllocError, Global};
+use std::process::Abort;
+use std::test::Fail;
+
+/// A disk with these bytes, which fails at this call and at each later one, unless that is 0.
+fn copy(alloc: Global, bytes: &[u8], stop: u64) -> Result<MemDisk, AllocError> {
+    let bytes = Vec::from_slice(alloc, bytes)?;
+    let mut disk = MemDisk::new(alloc, bytes)?;
+    if stop != 0 {
+        disk.stop_at(stop);
+    }
+    Ok(disk)
+}
+
+/// What an opening leaves of a copy: whether it lives, how many calls were made of it, and its bytes.
+type Left<'a> = (bool, u64, &'a [u8]);
+
+fn is_left(disk: &MemDisk, lives: bool, left: Left) -> bool {
+    lives == left.0 && disk.calls() == left.1 && disk.bytes() == left.2
+}
+
+/// Two copies with these bytes, of which each stops at a call, unless that is 0, are left so.
+fn check_opening(
+    rt: &(impl Abort + Alloc<A = Global>),
+    first: (&[u8], u64),
+    second: (&[u8], u64),
+    left: (Left, Left),
+) -> Result<(), Fail> {
+    let first = copy(rt.alloc(), first.0, first.1)?;
+    let second = copy(rt.alloc(), second.0, second.1)?;
+    match Mirror::open(rt.alloc(), first, second) {
+        Ok(mirror) => {
+            let (first, second, halves) = mirror.apart();
+            assert!(rt; is_left(&first, halves.has_first(), left.0));
+            assert!(rt; is_left(&second, halves.has_second(), left.1));
+        }
+        Err(fail) => {
+            assert_eq!(rt; fail.cause, OpenCause::DiskFail);
+            assert!(rt; is_left(&fail.first, false, left.0));
+            assert!(rt; is_left(&fail.second, false, left.1));
+        }
+    }
+    Ok(())
+}
+
+#[test]
+fn an_opening_makes_the_second_copy_equal(rt: HostRuntime) -> Result<(), Fail> {
+    // The first copy is synced, its length is asked, and it is read where it has a byte.
+    let rows: [(&[u8], &[u8], u64, u64); 7] = [
+        // Of the second one the length is asked, and it is synced.
+        (b"", b"", 2, 2),
+        (b"abcd", b"abcd", 3, 3),
+        // It lacks all, or the rest: one write.
+        (b"abcd", b"", 3, 3),
+        (b"abcd", b"ab", 3, 4),
+        // One write for each run that differs.
+        (b"abcdef", b"abXdYZ", 3, 5),
+        // It is longer: a cut.
+        (b"abc", b"abcdef", 3, 4),
+        (b"", b"abc", 2, 3),
+    ];
+    for (first, second, calls, second_calls) in rows {
+        check_opening(
+            &rt,
+            (first, 0),
+            (second, 0),
+            ((true, calls, first), (true, second_calls, first)),
+        )?;
+    }
+    Ok(())
+}
+
+#[test]
+fn a_copy_that_fails_in_an_opening_is_out(rt: HostRuntime) -> Result<(), Fail> {
+    let (one, two): (&[u8], &[u8]) = (b"abcd", b"aXcY");
+    let rows: [(u64, u64, Left, Left); 10] = [
+        // Once the first copy has failed only the second one's sync is left.
+        (1, 0, (false, 1, one), (true, 1, two)),
+        (2, 0, (false, 2, one), (true, 1, two)),
+        (3, 0, (false, 3, one), (true, 3, two)),
+        // Once the second one has failed nothing is left.
+        (0, 1, (true, 2, one), (false, 1, two)),
+        (0, 2, (true, 3, one), (false, 2, two)),
+        (0, 3, (true, 3, one), (false, 3, two)),
+        (0, 4, (true, 3, one), (false, 4, b"abcY")),
+        (0, 5, (true, 3, one), (false, 5, one)),
+        // Both fail.
+        (1, 1, (false, 1, one), (false, 1, two)),
+        (3, 2, (false, 3, one), (false, 2, two)),
+    ];
+    for (stop, second_stop, left, second_left) in rows {
+        check_opening(&rt, (one, stop), (two, second_stop), (left, second_left))?;
+    }
+    Ok(())
+}
+
+/// Seven calls of a disk, after which an empty one holds `abcxy`.
+fn change<D: Disk>(disk: &mut D) -> Result<(), DiskFail> {
+    let mut bytes = [0u8; 2];
+    disk.write_at(0, b"abcd")?;
+    disk.sync()?;
+    disk.cut(3)?;
+    disk.read(1, &mut bytes)?;
+    let len = disk.len()?;
+    disk.write_at(len, b"xy")?;
+    disk.sync()
+}
+
+/// A mirror of two empty disks, of which each stops at a call, unless that is 0. Its opening makes two calls of each.
+fn mirror(alloc: Global, stop: u64, second_stop: u64) -> Result<Mirror<MemDisk>, Fail> {
+    let first = copy(alloc, b"", stop)?;
+    let second = copy(alloc, b"", second_stop)?;
+    match Mirror::open(alloc, first, second) {
+        Ok(mirror) => Ok(mirror),
+        Err(_) => Err("it is not opened".into()),
+    }
+}
+
+#[test]
+fn one_copy_may_fail_at_any_call(rt: HostRuntime) -> Result<(), Fail> {
+    // The second copy isn't asked for what the first one tells.
+    for (stop, second_stop) in (1..=9).map(|n| (n, 0)).chain((1..=7).map(|n| (0, n))) {
+        let mut mirror = mirror(rt.alloc(), stop, second_stop)?;
+        assert!(rt; change(&mut mirror).is_ok());
+        assert_eq!(rt; mirror.faults(), 0);
+        assert_eq!(rt; mirror.living(), 1);
+        let (first, second, halves) = mirror.apart();
+        let left = if halves.has_first() { first } else { second };
+        assert!(rt; left.bytes() == b"abcxy".as_slice());
+    }
+    Ok(())
+}
+
+#[test]
+fn a_call_fails_where_no_copy_lives(rt: HostRuntime) -> Result<(), Fail> {
+    for stop in 3..=9 {
+        for second_stop in 3..=7 {
+            let mut mirror = mirror(rt.alloc(), stop, second_stop)?;
+            assert!(rt; change(&mut mirror).is_err());
+            assert_eq!(rt; mirror.faults(), 1);
+            assert_eq!(rt; mirror.living(), 0);
+            assert!(rt; mirror.sync().is_err());
+            assert_eq!(rt; mirror.faults(), 2);
+        }
+    }
+    Ok(())
+}
+
+#[test]
+fn copies_that_both_live_are_written_alike(rt: HostRuntime) -> Result<(), Fail> {
+    let mut mirror = mirror(rt.alloc(), 0, 0)?;
+    assert!(rt; change(&mut mirror).is_ok());
+    assert_eq!(rt; mirror.living(), 2);
+    let (first, second, _) = mirror.apart();
+    assert!(rt; first.bytes() == b"abcxy".as_slice());
+    assert!(rt; second.bytes() == b"abcxy".as_slice());
+    assert_eq!(rt; (first.calls(), second.calls()), (9, 7));
+    Ok(())
+}

@@ -1,0 +1,9 @@
+pub mod Copies
+pub mod Tries
+pub mod Mirrors
+pub mod Runs
+pub mod Levels
+pub mod Opens
+pub mod Joins
+pub mod Takes
+pub mod Crashes

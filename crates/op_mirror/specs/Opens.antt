@@ -1,0 +1,43 @@
+-- What the opening of a mirror gives, and when it refuses.
+use Rattle.std.specs.Prelude.{◌≡◌, ◌↔◌, ℕ, [], ◌∷◌, false}
+use Rattle.op_outside.specs.Causes.{Rises}
+use Rattle.op_outside.specs.Disks.{DiskState}
+use Rattle.op_mirror.specs.declared.gone.Gone.{Gone}
+use Rattle.op_mirror.specs.declared.gone.Gone.TheVariants.{Neither, First, Second}
+use Rattle.op_mirror.specs.declared.mirror.Mirror.{Mirror}
+use Rattle.op_mirror.specs.declared.opening.OpenCause.{OpenCause}
+use Rattle.op_mirror.specs.declared.opening.OpenCause.TheVariants as cause
+use Rattle.op_mirror.specs.Mirrors.{known_mirror}
+
+-- the count of the copy that is out rose, and the other's didn't
+abbrev pub RoseAt : Gone → ℕ → ℕ → ℕ → ℕ → Type 0
+RoseAt Neither a a' b b' = (a' ≡ a) × (b' ≡ b)
+RoseAt First a a' b b' = Rises a a' × (b' ≡ b)
+RoseAt Second a a' b b' = (a' ≡ a) × Rises b b'
+
+-- where the first copy isn't out
+abbrev pub UnlessOut : Gone → Type 0 → Type 0
+UnlessOut Neither P = P
+UnlessOut First P = Unit {0}
+UnlessOut Second P = P
+
+-- A mirror of these two: at least one of them lives, and one is out only where it failed in the opening.
+-- It reads as the first one did, unless that failed.
+pub record Opens {D : Type 0} {g : _} (state : D → DiskState) (a b : D) (m : Mirror D g) : Type 0 where
+  pub model : (known_mirror state m).obeys ↔ ((state a).obeys × (state b).obeys)
+  pub mark : (known_mirror state m).mark ≡ (state a).faults ∷ (state b).faults ∷ []
+  pub faults : (known_mirror state m).faults ≡ 0
+  pub lives : m.is_dead ≡ false
+  pub rose : RoseAt m.gone (state a).faults (state m.first).faults (state b).faults (state m.second).faults
+  pub first_mark : (state m.first).mark ≡ (state a).mark
+  pub second_mark : (state m.second).mark ≡ (state b).mark
+  pub content : UnlessOut m.gone
+      ((state a).obeys → (state b).obeys → (known_mirror state m).content ≡ (state a).content)
+
+-- it is refused where both failed, or for want of memory, before any call
+abbrev pub RefusedFor : {D : Type 0} (state : D → DiskState) (a b a' b' : D) → OpenCause → Type 0
+RefusedFor state a b a' b' cause.NoMemory = (a' ≡ a) × (b' ≡ b)
+RefusedFor state a b a' b' cause.DiskFail =
+    Rises (state a).faults (state a').faults × Rises (state b).faults (state b').faults
+    × ((state a').obeys ↔ (state a).obeys) × ((state b').obeys ↔ (state b).obeys)
+    × ((state a').mark ≡ (state a).mark) × ((state b').mark ≡ (state b).mark)
