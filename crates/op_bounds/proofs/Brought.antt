@@ -77,6 +77,8 @@ module _ (Known : ℕ → Type 0) (ids : AreIds Known) (me : ℕ) (o : Option Pa
       (λ _. tt)
   takes_in j c (body.HeartbeatRequest r) d fit = tt
   takes_in j c (body.HeartbeatReply r z g) d fit = tt
+  takes_in j c (body.Confirm z g) d fit = tt
+  takes_in j c (body.Confirmed z g) d fit = tt
   takes_in j c (body.Prepare z na nl nd) d fit = tt
   takes_in j c (body.Promise z fa fl fd a es) d fit = tt
   takes_in j c (body.AcceptSync z g es) d fit = tt
@@ -103,7 +105,7 @@ module _ (Known : ℕ → Type 0) (ids : AreIds Known) (me : ℕ) (o : Option Pa
 module _ (Known : ℕ → Type 0) (ids : AreIds Known) (me : ℕ) (one : Known me) (o : Option Part) (l : Option Closed) (old : Option Joining) (v : Volatile) (t : Service) (w : Waiting) (in_volatile : VolatileInRange Known v)
     (stops : IfSome o (λ p. RoleEndsNowhere p.conf v.role)) (in_service : ServiceIn t) (batch : List Change) (k : JoinsIn Known me (stored o l old) batch) where
   abbrev here : State
-  here = record { durable = stored o l old; volatile = v; service = t; waiting = w }
+  here = record { durable = stored o l old; volatile = v; service = t; waiting = w; reads = None }
 
   abbrev then : Durable
   then = durable_after (stored o l old) batch
@@ -115,6 +117,7 @@ module _ (Known : ℕ → Type 0) (ids : AreIds Known) (me : ℕ) (one : Known m
         batch = record { few = omega (arith, k.few); each = k.range };
         sends = All-nil (SendInRange Known);
         replies = All-nil (ReplyInRange Known);
+        read_replies = All-nil (ReplyInRange Known);
         outcome = tt;
         after = record {
           durable = k.after;
@@ -122,6 +125,7 @@ module _ (Known : ℕ → Type 0) (ids : AreIds Known) (me : ℕ) (one : Known m
           stops = subst (λ (p : Option Part). IfSome p (λ q. RoleEndsNowhere q.conf v.role)) (sym k.part) stops;
           service = in_service.range;
           order = in_service.order;
+          reads = tt;
         };
       }
 
@@ -197,6 +201,7 @@ module _ (Known : ℕ → Type 0) (ids : AreIds Known) (me : ℕ) (one : Known m
           sends = send_each Known j.conf (others me j.members) body.PrepareReq (omega (arith, held.range.conf), held.range.conf.1) (omega arith)
               (All-filter (λ q. not (eqb q me)) Known j.members held.of.members) tt;
           replies = giving_up_in Known w v.role (cause.Stop (j.len - 1)) in_volatile.role (omega (arith, held.range.len));
+          read_replies = All-nil (ReplyInRange Known);
           outcome = tt;
           after = record {
             durable = subst (DurableOf Known) (sym leaves) left_in;
@@ -204,6 +209,7 @@ module _ (Known : ℕ → Type 0) (ids : AreIds Known) (me : ℕ) (one : Known m
             stops = subst (λ (x : Durable). IfSome x.part (λ q. RoleEndsNowhere q.conf role.Idle)) (sym leaves) tt;
             service = in_s.range;
             order = in_s.order;
+            reads = tt;
           };
         }
 

@@ -18,6 +18,7 @@ pub mod JoinSends
 pub mod Beginning
 pub mod Plans
 pub mod Brought
+pub mod Reading
 pub mod Steps
 pub mod Starts
 pub mod Runs

@@ -17,6 +17,7 @@ use Rattle.op_protocol.specs.State.{Volatile}
 use Rattle.op_protocol.specs.Parts.{is_admitted, is_admitted_body, others, message, saying, nothing}
 use Rattle.op_protocol.specs.Leader.{on_promise, on_accepted, on_prepare_req, on_forward, propose}
 use Rattle.op_protocol.specs.Follower.{on_prepare, on_accept_sync, on_accept, on_decide}
+use Rattle.op_protocol.specs.Reading.{on_confirm}
 use Rattle.op_protocol.specs.Trimming.{on_progress, on_trim_ask, on_trim}
 use Rattle.op_protocol.specs.Tick.{remembering}
 use Rattle.op_protocol.specs.Rows.{on_body, on_message, is_idle, knows_no_leader, open_refusal, session_up}
@@ -71,6 +72,9 @@ module _ (Known : ℕ → Type 0) (ids : AreIds Known) (me : ℕ) (one : Known m
       effects_in Known p 1 v (on_progress me p v.role q n x) (omega arith) in_volatile (trimming.progress_in Known me p k v.role q n x (role_of Known p.conf v in_volatile) from fit.1)
   body_in v q (body.Trim x) in_volatile from fit admitted =
       effects_in Known p 1 v (on_trim p v.role x) (omega arith) in_volatile (trimming.trim_in Known me p k v.role x (role_of Known p.conf v in_volatile))
+  body_in v q (body.Confirm n number) in_volatile from fit admitted =
+      effects_in Known p 0 v (on_confirm p v.role q n number) (omega arith) in_volatile (trimming.confirm_in Known me p k v.role q n number (role_of Known p.conf v in_volatile) from fit.0 fit.1)
+  body_in v q (body.Confirmed n number) in_volatile from fit admitted = remembering_in Known p v [] in_volatile (All-nil (SendInRange Known))
   body_in v q (body.NextConf members olds len trimmed) in_volatile from fit admitted = remembering_in Known p v [] in_volatile (All-nil (SendInRange Known))
   body_in v q body.AskBase in_volatile from fit admitted = remembering_in Known p v [] in_volatile (All-nil (SendInRange Known))
   body_in v q (body.BasePart at bytes) in_volatile from fit admitted = remembering_in Known p v [] in_volatile (All-nil (SendInRange Known))

@@ -144,7 +144,7 @@ module _ (Known : ℕ → Type 0) (p : Part) (k : PartIn Known p) (over : is_som
 module _ (Known : ℕ → Type 0) (ids : AreIds Known) (me : ℕ) (one : Known me) (p : Part) (l : Option Closed) (j : Option Joining) (v : Volatile) (t : Service) (w : Waiting)
     (d : DurableOf Known (stored (Some p) l j)) (in_service : ServiceIn t) (others : Waiting) (x : PartStep) (fit : PartStepInRange Known p x) where
   abbrev here : State
-  here = record { durable = stored (Some p) l j; volatile = v; service = t; waiting = w }
+  here = record { durable = stored (Some p) l j; volatile = v; service = t; waiting = w; reads = None }
 
   was : PartIn Known p
   was = part_in Known p d.range.part d.part
@@ -207,6 +207,7 @@ module _ (Known : ℕ → Type 0) (ids : AreIds Known) (me : ℕ) (one : Known m
         batch = record { few = omega (arith, few); each = ranged };
         sends = fit.sends;
         replies = told;
+        read_replies = All-nil (ReplyInRange Known);
         outcome = fit.outcome;
         after = record {
           durable = subst (DurableOf Known) (sym landed.stored)
@@ -216,6 +217,7 @@ module _ (Known : ℕ → Type 0) (ids : AreIds Known) (me : ℕ) (one : Known m
               (subst (λ (c : ℕ). RoleEndsNowhere c x.volatile.role) (sym left_conf) fit.volatile.stops);
           service = served.service.range;
           order = served.service.order;
+          reads = tt;
         };
       }
 
@@ -289,6 +291,7 @@ module _ (Known : ℕ → Type 0) (ids : AreIds Known) (me : ℕ) (one : Known m
           replies = All-append (ReplyInRange Known) plan.replies (giving_up plan.waiting x.volatile.role (cause.Stop (left.decided - 1))).replies told
               (dropping_in Known plan.waiting (given_up_by x.volatile.role (cause.Stop (left.decided - 1)))
               (given_up Known p.conf x.volatile.role (cause.Stop (left.decided - 1)) (role_of Known p.conf x.volatile fit.volatile) (omega (arith, left_in.range.decided, left_in.range.len))));
+          read_replies = All-nil (ReplyInRange Known);
           outcome = fit.outcome;
           after = record {
             durable = subst (DurableOf Known) (sym after)
@@ -297,6 +300,7 @@ module _ (Known : ℕ → Type 0) (ids : AreIds Known) (me : ℕ) (one : Known m
             stops = subst (λ (e : Durable). IfSome e.part (λ q. RoleEndsNowhere q.conf Idle)) (sym after) next_idle;
             service = served.service.range;
             order = served.service.order;
+            reads = tt;
           };
         }
 
@@ -313,10 +317,10 @@ quiet_step v batch sends outcome = record { batch = batch; volatile = v; sends =
 
 module _ (Known : ℕ → Type 0) (me : ℕ) (l : Option Closed) (j : Option Joining) (old v : Volatile) (t : Service) (w others : Waiting) (batch : List Change) (sends : List (ℕ × Msg)) (outcome : Option Outcome) where
   abbrev there : Option Part → State
-  there o = record { durable = stored o l j; volatile = old; service = t; waiting = w }
+  there o = record { durable = stored o l j; volatile = old; service = t; waiting = w; reads = None }
 
   abbrev quiet : Planned
-  quiet = record { batch = batch; volatile = v; service = t; waiting = others; sends = sends; replies = []; outcome = outcome }
+  quiet = record { batch = batch; volatile = v; service = t; waiting = others; reads = None; sends = sends; replies = []; read_replies = []; outcome = outcome }
 
   quiet_is : (o : Option Part) → ((p : Part) → o ≡ Some p → (map (based p) batch ≡ batch) × (part_after p batch ≡ p)) → plan_of me (there o) others (quiet_step v batch sends outcome) ≡ quiet
   quiet_is None k = refl
@@ -325,8 +329,8 @@ module _ (Known : ℕ → Type 0) (me : ℕ) (l : Option Closed) (j : Option Joi
       let step : PartStep = quiet_step v batch sends outcome in
       let none : decided_since p (part_after p batch) ≡ [] = ap (λ (q : Part). decided_since p q) e.1 ∙ none_since p in
       let y : Planned = planned (there (Some p)) others step in
-      let same : y ≡ quiet = ap (λ (b : List Change). let s = serving t others (decided_since p (part_after p batch)) in let z : Planned = record { batch = b; volatile = v; service = s.service; waiting = s.waiting; sends = sends; replies = s.replies ++ []; outcome = outcome } in z) e.0
-      ∙ ap (λ (es : List Entry). let s = serving t others es in let z : Planned = record { batch = batch; volatile = v; service = s.service; waiting = s.waiting; sends = sends; replies = s.replies ++ []; outcome = outcome } in z) none in
+      let same : y ≡ quiet = ap (λ (b : List Change). let s = serving t others (decided_since p (part_after p batch)) in let z : Planned = record { batch = b; volatile = v; service = s.service; waiting = s.waiting; reads = None; sends = sends; replies = s.replies ++ []; read_replies = []; outcome = outcome } in z) e.0
+      ∙ ap (λ (es : List Entry). let s = serving t others es in let z : Planned = record { batch = batch; volatile = v; service = s.service; waiting = s.waiting; reads = None; sends = sends; replies = s.replies ++ []; read_replies = []; outcome = outcome } in z) none in
       let goes : is_some (stop_at_end (decided_since p (part_after p (map (based p) batch)))) ≡ false =
       ap (λ (b : List Change). is_some (stop_at_end (decided_since p (part_after p b)))) e.0 ∙ ap (λ (es : List Entry). is_some (stop_at_end es)) none in
       cond-false (is_some (stop_at_end (decided_since p (part_after p (map (based p) batch))))) (closing_part me (part_after p (map (based p) batch)) y) y goes ∙ same
@@ -342,6 +346,7 @@ module _ (Known : ℕ → Type 0) (me : ℕ) (l : Option Closed) (j : Option Joi
           batch = record { few = omega (arith, k.few); each = k.range };
           sends = said;
           replies = All-nil (ReplyInRange Known);
+          read_replies = All-nil (ReplyInRange Known);
           outcome = told;
           after = record {
             durable = k.after;
@@ -349,6 +354,7 @@ module _ (Known : ℕ → Type 0) (me : ℕ) (l : Option Closed) (j : Option Joi
             stops = subst (λ (p : Option Part). IfSome p (λ q. RoleEndsNowhere q.conf v.role)) (sym k.part) stops;
             service = in_service.range;
             order = in_service.order;
+            reads = tt;
           };
         };
       })

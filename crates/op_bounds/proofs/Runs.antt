@@ -65,6 +65,7 @@ deed_in Known ms (what.Tick p) each fit known = tt
 deed_in Known ms (what.Commands p cs) each fit known = fit.1
 deed_in Known ms (what.Stop p members) each fit known = record { range = fit.1; known = known }
 deed_in Known ms (what.Trim p) each fit known = tt
+deed_in Known ms (what.Read p a) each fit known = fit.1
 deed_in Known ms (what.Deliver i) each fit known = delivery_in Known (slice_get ms i) (message_found Known ms i each)
 deed_in Known ms (what.Up p q) each fit known = fit.1
 deed_in Known ms (what.Down p q) each fit known = fit.1
@@ -123,7 +124,7 @@ module _ (Known : ℕ → Type 0) (ids : AreIds Known) where
       let s = (opened n found one d.0).state in
       record {
         nodes = node_now w (record n { state = state_after_reopening n.pid n.state found; status = Up }) k
-            (record { pid = one.pid; state = record { durable = s.durable; volatile = s.volatile; stops = s.stops; service = s.service; order = s.order }; named = d.1; status = tt });
+            (record { pid = one.pid; state = record { durable = s.durable; volatile = s.volatile; stops = s.stops; service = s.service; order = s.order; reads = s.reads }; named = d.1; status = tt });
         messages = All-append (SentInRange Known) w.messages (sent_by n.pid (sends_after_restart n.pid found)) k.messages
             (sent_in Known n.pid (sends_after_restart n.pid found) one.pid (opened n found one d.0).sends);
       }

@@ -70,6 +70,10 @@ module _ (Known : ℕ → Type 0) where
   answer_in : (s : Service) (c : Command) → ServiceIn s → AnswerInRange Known (answer_of s c)
   answer_in s c in_service = by_last (last_of s c.client) s c in_service (last_in s c.client in_service)
 
+  -- what a read is answered
+  pub read_in : (s : Service) (key : List ℕ) → ServiceIn s → AnswerInRange Known (told_value (value_at key s.pairs))
+  read_in s key in_service = of_effect_in (told_value (value_at key s.pairs)) (told_in (value_at key s.pairs) (value_in s key in_service))
+
   -- ---- the service
   put_in : (key value : List ℕ) (s : Service) → ServiceIn s → IsKey key → IsValue value → PairsInRange (insert_entry (slice_cmp nat_cmp) s.pairs key value)
   put_in key value s in_service is_key is_value = (

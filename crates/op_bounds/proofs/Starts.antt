@@ -45,7 +45,7 @@ module _ (Known : ℕ → Type 0) (ids : AreIds Known) (me : ℕ) (one : Known m
   service (Some p) d = part_bases Known p (part_in Known p d.range.part d.part) p.decided
 
   restarted : (o : Option Part) → DurableOf Known (stored o l j) → StateInRange Known (state_after_restart me (stored o l j))
-  restarted o d = record { durable = d; volatile = memory o d; stops = idle o; service = (service o d).range; order = (service o d).order }
+  restarted o d = record { durable = d; volatile = memory o d; stops = idle o; service = (service o d).range; order = (service o d).order; reads = tt }
 
   asked : (o : Option Part) (x : Option Joining) → DurableOf Known (stored o l j) → All (SendInRange Known) (requests_to_prepare me o x)
   asked None x d = All-nil (SendInRange Known)
@@ -101,7 +101,7 @@ module _ (Known : ℕ → Type 0) (ids : AreIds Known) (members : List ℕ) (ran
       let d : StoredAtStart me (durable_at_start members me) = at_start me in
       record {
         pid = one;
-        state = record { durable = d.fits; volatile = first_volatile_in Known ids me one; stops = d.idle; service = new_service_in.range; order = new_service_in.order };
+        state = record { durable = d.fits; volatile = first_volatile_in Known ids me one; stops = d.idle; service = new_service_in.range; order = new_service_in.order; reads = tt };
         named = d.named;
         status = tt;
       }

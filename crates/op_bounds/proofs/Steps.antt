@@ -26,14 +26,14 @@ use Rattle.op_types.specs.declared.messages.Body.{Body}
 use Rattle.op_types.specs.declared.messages.Body.TheVariants as body
 use Rattle.op_types.specs.declared.messages.Msg.{Msg}
 use Rattle.op_spec.specs.Service.{Service}
-use Rattle.op_protocol.specs.State.{State, Volatile, Waiting, PartStep, with_effects}
+use Rattle.op_protocol.specs.State.{State, Volatile, Waiting, PartStep, Planned, with_effects}
 use Rattle.op_protocol.specs.Parts.{is_admitted, message}
 use Rattle.op_protocol.specs.Leader.{session_down, propose}
 use Rattle.op_protocol.specs.Trimming.{trim_now}
 use Rattle.op_protocol.specs.Tick.{remembering, on_tick}
 use Rattle.op_protocol.specs.Configurations.{latest_of, latest_members, next_conf_message}
 use Rattle.op_protocol.specs.Joining.{storing, on_next_conf, joins, asks, gives_base, gives_segment, brought_to}
-use Rattle.op_protocol.specs.Rows.{on_message, message_at, is_of_joining, may_be_above, is_prepare_req, on_older, on_newer, on_latest, message_step, brought_by, entries_of, open_refusal, part_refusal, pending_at, refusal_after, refusal_of, stop_for, answering, proposal_at, proposal_step, tick_at, trim_at, session_up, up_at, step_at, plan_of, waiting_at, step_bringing, step_plan}
+use Rattle.op_protocol.specs.Rows.{on_message, message_at, is_of_joining, may_be_above, is_prepare_req, on_older, on_newer, on_latest, message_step, brought_by, entries_of, open_refusal, part_refusal, pending_at, refusal_after, refusal_of, stop_for, answering, proposal_at, proposal_step, tick_at, trim_at, session_up, up_at, step_at, plan_of, waiting_at, step_bringing, table_plan, step_plan}
 use Rattle.op_bounds.specs.Messages.{AreIds, MembersOf, BodyInRange, least_conf_of, MsgInRange, SendInRange, RefusalInRange, OutcomeInRange, InputInRange}
 use Rattle.op_bounds.specs.States.{ClosedOf, DurableOf, IsNamed, RoleInRange, RoleEndsNowhere, VolatileInRange, StateInRange}
 use Rattle.op_bounds.specs.Laws.{StepsStayInRange}
@@ -49,6 +49,8 @@ use Rattle.op_bounds.proofs.PartSteps.{RefusalTells, message_in, open_tells, pro
 use Rattle.op_bounds.proofs.JoinChanges.{stored, JoinsIn, nothing_joined, joins_in, held_here}
 use Rattle.op_bounds.proofs.JoinSends.{ClosedIn, news_in, base_given, segment_given, asks_said}
 use Rattle.op_bounds.proofs.Plans.{StepIn, quiet_step, part_plan, quiet_plan}
+use Rattle.op_protocol.proofs.Unread.{table_unread}
+use Rattle.op_bounds.proofs.Reading.{reading_in}
 use Rattle.op_bounds.proofs.Brought.{brought_in, holds_in}
 
 -- what holds where a proposal is refused, and where it isn't
@@ -59,7 +61,7 @@ RefusalTellsAt Known o es None = IfSome o (λ p. (is_admitted p (len_of p) es �
 module _ (Known : ℕ → Type 0) (ids : AreIds Known) (me : ℕ) (one : Known me) (o : Option Part) (l : Option Closed) (j : Option Joining) (v : Volatile) (t : Service) (w : Waiting)
     (d : DurableOf Known (stored o l j)) (in_volatile : VolatileInRange Known v) (stops : IfSome o (λ p. RoleEndsNowhere p.conf v.role)) (in_service : ServiceIn t) (others : Waiting) where
   abbrev here : State
-  here = record { durable = stored o l j; volatile = v; service = t; waiting = w }
+  here = record { durable = stored o l j; volatile = v; service = t; waiting = w; reads = None }
 
   -- the plan of what a step does
   abbrev Fine : PartStep → Type 0
@@ -145,7 +147,7 @@ module _ (Known : ℕ → Type 0) (ids : AreIds Known) (me : ℕ) (one : Known m
   Stops o = IfSome o (λ p. RoleEndsNowhere p.conf v.role)
 
   abbrev Plan : Option Part → PartStep → Type 0
-  Plan o x = let s : State = record { durable = stored o l j; volatile = v; service = t; waiting = w } in StepIn Known me s (plan_of me s others x)
+  Plan o x = let s : State = record { durable = stored o l j; volatile = v; service = t; waiting = w; reads = None } in StepIn Known me s (plan_of me s others x)
 
   quiet : (o : Option Part) (sends : List (ℕ × Msg)) → Stored o → Stops o → All (SendInRange Known) sends → Plan o (remembering v sends)
   quiet o sends d stops said = says Known ids me one o l j v t w d in_volatile stops in_service others sends said
@@ -210,6 +212,8 @@ module _ (Known : ℕ → Type 0) (ids : AreIds Known) (me : ℕ) (one : Known m
   latest_here o q c (body.AskSegment a b) d stops from small least fit = quiet o (gives_segment l q c a b) d stops (segment_said o q c a b d from)
   latest_here o q c (body.HeartbeatRequest r) d stops from small least fit = at_message o q _ d stops from fit
   latest_here o q c (body.HeartbeatReply r z g) d stops from small least fit = at_message o q _ d stops from fit
+  latest_here o q c (body.Confirm z g) d stops from small least fit = at_message o q _ d stops from fit
+  latest_here o q c (body.Confirmed z g) d stops from small least fit = at_message o q _ d stops from fit
   latest_here o q c (body.Prepare z na nl nd) d stops from small least fit = at_message o q _ d stops from fit
   latest_here o q c (body.Promise z fa fl fd a es) d stops from small least fit = at_message o q _ d stops from fit
   latest_here o q c (body.AcceptSync z g es) d stops from small least fit = at_message o q _ d stops from fit
@@ -315,6 +319,7 @@ module _ (Known : ℕ → Type 0) (ids : AreIds Known) (me : ℕ) (one : Known m
   input_in o (input.Commands cs) d stops fit = proposal o (entries_of cs) d stops (commands_asked Known o cs fit)
   input_in o (input.Stop members) d stops fit = proposal o (entry.Stop (stop_for o members) ∷ []) d stops (stop_asked Known o l j members d fit)
   input_in o input.TrimNow d stops fit = trimmed o d stops
+  input_in o (input.Read r) d stops fit = still o d stops
   input_in o (input.Up q) d stops fit = begun o j q d stops
   input_in o (input.Down q) d stops fit = ended o q d stops
 
@@ -329,6 +334,7 @@ module _ (Known : ℕ → Type 0) (ids : AreIds Known) (me : ℕ) (o : Option Pa
   input_brings (input.Commands cs) fit = tt
   input_brings (input.Stop members) fit = tt
   input_brings input.TrimNow fit = tt
+  input_brings (input.Read r) fit = tt
   input_brings (input.Up q) fit = tt
   input_brings (input.Down q) fit = tt
 
@@ -337,16 +343,26 @@ module _ (Known : ℕ → Type 0) (ids : AreIds Known) (me : ℕ) (o : Option Pa
 bringing : (Known : ℕ → Type 0) → AreIds Known → (me : ℕ) → Known me → (o : Option Part) (l : Option Closed) (j : Option Joining) (v : Volatile) (t : Service) (w : Waiting)
     → (d : DurableOf Known (stored o l j)) → VolatileInRange Known v → IfSome o (λ p. RoleEndsNowhere p.conf v.role) → ServiceIn t → (x : Input) → InputInRange Known x
     → (b : Option (List Change)) → IfSome b (JoinsIn Known me (stored o l j))
-    → (let s : State = record { durable = stored o l j; volatile = v; service = t; waiting = w } in StepIn Known me s (step_bringing me s x b))
+    → (let s : State = record { durable = stored o l j; volatile = v; service = t; waiting = w; reads = None } in StepIn Known me s (step_bringing me s x b))
 bringing Known ids me one o l j v t w d in_volatile stops in_service x fit (Some batch) k = holds_in Known ids me one o l j v t w in_volatile stops in_service batch k
 bringing Known ids me one o l j v t w d in_volatile stops in_service x fit None k =
-    let s : State = record { durable = stored o l j; volatile = v; service = t; waiting = w } in
+    let s : State = record { durable = stored o l j; volatile = v; service = t; waiting = w; reads = None } in
     input_in Known ids me one l j v t w in_volatile in_service (waiting_at me s x) o x d stops fit
 
+-- what the table plans without its reads
+table_in : (Known : ℕ → Type 0) → AreIds Known → (me : ℕ) → Known me → (s : State) → StateInRange Known s → (x : Input) → InputInRange Known x → StepIn Known me s (table_plan me s x)
+table_in Known ids me one s k x fit =
+    subst (λ (p : Planned). StepIn Known me s p) (table_unread me s None x)
+    (let t = bringing Known ids me one s.durable.part s.durable.closed s.durable.joining s.volatile s.service s.waiting k.durable k.volatile k.stops (record { range = k.service; order = k.order }) x fit
+    (brought_by s.durable x) (input_brings Known ids me s.durable.part s.durable.closed s.durable.joining k.durable x fit) in
+    let r = t.range in
+    record { range = record { applies = r.applies; batch = r.batch; sends = r.sends; replies = r.replies; read_replies = r.read_replies; outcome = r.outcome; after = r.after }; named = t.named })
+
+-- the whole step
 pub step_in : (Known : ℕ → Type 0) → AreIds Known → (me : ℕ) → Known me → (s : State) → StateInRange Known s → (x : Input) → InputInRange Known x → StepIn Known me s (step_plan me s x)
 step_in Known ids me one s k x fit =
-    bringing Known ids me one s.durable.part s.durable.closed s.durable.joining s.volatile s.service s.waiting k.durable k.volatile k.stops (record { range = k.service; order = k.order }) x fit
-    (brought_by s.durable x) (input_brings Known ids me s.durable.part s.durable.closed s.durable.joining k.durable x fit)
+    let t = table_in Known ids me one s k x fit in
+    record { range = reading_in Known me s k x fit (table_plan me s x) t.range; named = t.named }
 
 pub steps_stay : (Known : ℕ → Type 0) → StepsStayInRange Known
 steps_stay Known ids me one s k x fit = (step_in Known ids me one s k x fit).range

@@ -4,7 +4,7 @@ use Rattle.std.specs.Prelude.{IfSome}
 use Rattle.std.proofs.lemmas.Bool.{cond_both, ltb-true, leb-true, and_parts}
 use Rattle.std.proofs.lemmas.List.Elements.{All-nil, All-cons, All-append, All-filter}
 use Rattle.op_types.specs.Ballots.{is_same_ballot}
-use Rattle.op_types.specs.Ranges.{IsPlace}
+use Rattle.op_types.specs.Ranges.{IsPlace, IsNumber}
 use Rattle.op_types.specs.RoleStates.{Leading, report_of, is_news, reports_with, with_report, without_reports}
 use Rattle.op_types.specs.Roles as role
 use Rattle.op_types.specs.Roles.{Role}
@@ -15,6 +15,7 @@ use Rattle.op_types.specs.declared.messages.Body.TheVariants as body
 use Rattle.op_types.specs.declared.role.Report.{Report}
 use Rattle.op_types.specs.declared.answers.Outcome.TheVariants as outcome
 use Rattle.op_protocol.specs.Parts.{message, others, to_each, saying, nothing, first}
+use Rattle.op_protocol.specs.Reading.{on_confirm}
 use Rattle.op_protocol.specs.Trimming.{lesser, least_reported, trims, trims_reported, trims_if_all, trim_now, on_progress, on_trim_ask, on_trim}
 use Rattle.op_bounds.specs.Messages.{BallotOf, SendInRange, ReplyInRange}
 use Rattle.op_bounds.specs.States.{ReportInRange, LeadingInRange}
@@ -93,6 +94,14 @@ module _ (Known : ℕ → Type 0) (me : ℕ) (p : Part) (k : PartIn Known p) whe
       cond_both (is_same_ballot p.promised n) (saying r (message p.conf q (body.Progress n p.decided) ∷ [])) (nothing r) (RowInRange Known p.conf p 0)
       (λ _. row_saying Known p.conf p 0 r (message p.conf q (body.Progress n p.decided) ∷ []) in_role
       (send_one Known p.conf q (body.Progress n p.decided) k.range.conf (omega arith) from (of, decided_place Known p k)))
+      (λ _. row_nothing Known p.conf p 0 r in_role)
+
+  -- ---- a member that a leader asks whether its ballot is promised
+  pub confirm_in : (r : Role) (q : ℕ) (n : Ballot) (number : ℕ) → RoleIn Known p.conf r → Known q → BallotOf Known n → IsNumber number → RowInRange Known p.conf p 0 (on_confirm p r q n number)
+  confirm_in r q n number in_role from of fit =
+      cond_both (is_same_ballot p.promised n) (saying r (message p.conf q (body.Confirmed n number) ∷ [])) (nothing r) (RowInRange Known p.conf p 0)
+      (λ _. row_saying Known p.conf p 0 r (message p.conf q (body.Confirmed n number) ∷ []) in_role
+      (send_one Known p.conf q (body.Confirmed n number) k.range.conf (omega arith) from (of, fit)))
       (λ _. row_nothing Known p.conf p 0 r in_role)
 
   pub trim_in : (r : Role) (x : ℕ) → RoleIn Known p.conf r → RowInRange Known p.conf p 1 (on_trim p r x)

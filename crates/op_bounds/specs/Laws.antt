@@ -24,6 +24,7 @@ pub record PlanInRange (Known : ℕ → Type 0) (s : State) (p : Planned) : Type
   pub batch : BatchInRange p.batch
   pub sends : All (SendInRange Known) p.sends
   pub replies : All (ReplyInRange Known) p.replies
+  pub read_replies : All (ReplyInRange Known) p.read_replies
   pub outcome : IfSome p.outcome (OutcomeInRange Known)
   pub after : StateInRange Known (state_after s p)
 

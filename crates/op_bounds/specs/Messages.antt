@@ -2,7 +2,7 @@
 use Rattle.std.specs.Prelude.{◌≡◌, ◌<◌, ◌≤◌, ◌⊎◌, ℕ, Bool, true, false, List, length, All}
 use Rattle.op_types.specs.Limits.{greatest_number, positions_end, last_conf, most_commands}
 use Rattle.op_types.specs.Changes.{IsCommand}
-use Rattle.op_types.specs.Ranges.{IsConf, IsPlace, IsPid, IsNumber, IsValue, BallotInRange, MembersInRange, EntryInRange, AreCommands}
+use Rattle.op_types.specs.Ranges.{IsConf, IsPlace, IsPid, IsNumber, IsValue, BallotInRange, MembersInRange, EntryInRange, ReadInRange, AreCommands}
 use Rattle.op_types.specs.declared.log.Entry.{Entry}
 use Rattle.op_types.specs.declared.log.Entry.TheVariants as entry
 use Rattle.op_types.specs.declared.ballot.Ballot.{Ballot}
@@ -94,6 +94,8 @@ BodyInRange Known body.AskBase = Unit {0}
 BodyInRange Known (body.BasePart at bytes) = IsPlace at × IsBaseIfRead bytes
 BodyInRange Known (body.AskSegment from to) = IsPlace from × IsPlace to
 BodyInRange Known (body.Segment at es) = IsPlace at × EntriesOf Known es
+BodyInRange Known (body.Confirm n number) = BallotOf Known n × IsNumber number
+BodyInRange Known (body.Confirmed n number) = BallotOf Known n × IsNumber number
 
 -- the least configuration of a message: what is told of the next one names one that has one before it
 abbrev pub least_conf_of : Body → ℕ
@@ -118,13 +120,13 @@ pub record SendInRange (Known : ℕ → Type 0) (s : ℕ × Msg) : Type 0 where
 
 -- ---- answers
 
--- why a proposal is given up
+-- why a proposal or a read is given up
 abbrev pub CauseInRange : (ℕ → Type 0) → Cause → Type 0
 CauseInRange Known (cause.Ballot b) = BallotOf Known b
 CauseInRange Known (cause.Stop pos) = IsPlace pos
 CauseInRange Known cause.End = Unit {0}
 
--- what a command is answered
+-- what a command or a read is answered
 abbrev pub AnswerInRange : (ℕ → Type 0) → Answer → Type 0
 AnswerInRange Known answer.Done = Unit {0}
 AnswerInRange Known (answer.Value value) = IsValue value
@@ -132,7 +134,7 @@ AnswerInRange Known answer.Absent = Unit {0}
 AnswerInRange Known answer.Stale = Unit {0}
 AnswerInRange Known (answer.Dropped why) = CauseInRange Known why
 
--- a command's client and its number, or 0 and 0 where a stop-sign is given up
+-- a client and its number of a command or a read, or 0 and 0 where a stop-sign is given up
 abbrev pub IsAsked : ℕ → ℕ → Type 0
 IsAsked client seq = ((client ≡ 0) × (seq ≡ 0)) ⊎ (IsNumber client × IsNumber seq)
 
@@ -141,14 +143,14 @@ pub record ReplyInRange (Known : ℕ → Type 0) (r : Reply) : Type 0 where
   pub asked : IsAsked r.client r.seq
   pub answer : AnswerInRange Known r.answer
 
--- why a proposal is refused
+-- why a proposal or a read is refused
 abbrev pub RefusalInRange : Refusal → Type 0
 RefusalInRange (refusal.StorageFailed count) = Unit {0}
 RefusalInRange (refusal.PendingStop pos) = IsPlace pos
 RefusalInRange refusal.NoLeader = Unit {0}
 RefusalInRange refusal.PositionsEnd = Unit {0}
 
--- what a proposal is answered at once; it is forwarded to a known id
+-- what a proposal, a wish to trim or a read is answered at once; it is forwarded to a known id
 abbrev pub OutcomeInRange : (ℕ → Type 0) → Outcome → Type 0
 OutcomeInRange Known (outcome.Appended conf at) = IsConf conf × IsPlace at
 OutcomeInRange Known outcome.Buffered = Unit {0}
@@ -166,5 +168,6 @@ InputInRange Known (input.Deliver q m) = Known q × MsgInRange Known m
 InputInRange Known (input.Commands cs) = AreCommands cs
 InputInRange Known (input.Stop members) = MembersOf Known members
 InputInRange Known input.TrimNow = Unit {0}
+InputInRange Known (input.Read r) = ReadInRange r
 InputInRange Known (input.Up q) = IsPid q
 InputInRange Known (input.Down q) = IsPid q

@@ -1,8 +1,8 @@
 -- Which states of a node are in range: what it stores, and what it keeps in memory.
-use Rattle.std.specs.Prelude.{◌≤◌, ◌+◌, ℕ, [], ◌∷◌, length, All, IfSome}
+use Rattle.std.specs.Prelude.{◌≤◌, ◌<◌, ◌+◌, ℕ, [], ◌∷◌, length, All, IfSome}
 use Rattle.op_types.specs.Limits.{greatest_number, positions_end}
 use Rattle.op_types.specs.Changes.{EndsNowhere}
-use Rattle.op_types.specs.Ranges.{IsMember, IsPlace}
+use Rattle.op_types.specs.Ranges.{IsMember, IsPlace, ReadInRange}
 use Rattle.op_types.specs.RoleStates.{Preparing, Leading}
 use Rattle.op_types.specs.Roles as role
 use Rattle.op_types.specs.Roles.{Role}
@@ -16,6 +16,7 @@ use Rattle.op_types.specs.declared.role.Buffered.{Buffered}
 use Rattle.op_types.specs.declared.role.Acknowledged.{Acknowledged}
 use Rattle.op_types.specs.declared.role.Report.{Report}
 use Rattle.op_record.specs.Ranges.{DurableInRange}
+use Rattle.op_reads.specs.Reads.{Reads, WaitingRead}
 use Rattle.op_spec.specs.ServiceRanges.{ServiceInRange, ServiceIsOrdered}
 use Rattle.op_protocol.specs.State.{Volatile, State}
 use Rattle.op_bounds.specs.Messages.{BallotOf, NamesKnown, EntryOf}
@@ -120,6 +121,17 @@ pub record VolatileInRange (Known : ℕ → Type 0) (v : Volatile) : Type 0 wher
   pub heard : All (HeardInRange Known) v.heard
   pub role : RoleInRange Known v.role
 
+-- ---- reads
+
+-- a read that waits
+abbrev pub WaitingReadInRange : WaitingRead → Type 0
+WaitingReadInRange w = ReadInRange w.asked.read
+
+-- the reads of a ballot: the next one's number may be the end of positions, and no more
+pub record ReadsInRange (reads : Reads) : Type 0 where
+  pub count : reads.count < positions_end
+  pub waiting : All WaitingReadInRange reads.waiting
+
 -- ---- both
 
 -- a node's state; its service is in order, so that it has a base
@@ -129,3 +141,4 @@ pub record StateInRange (Known : ℕ → Type 0) (s : State) : Type 0 where
   pub stops : IfSome s.durable.part (λ p. RoleEndsNowhere p.conf s.volatile.role)
   pub service : ServiceInRange s.service
   pub order : ServiceIsOrdered s.service
+  pub reads : IfSome s.reads ReadsInRange

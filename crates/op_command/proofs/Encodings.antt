@@ -12,8 +12,8 @@ use Rattle.op_fields.specs.Reads.{Reads}
 use Rattle.op_fields.proofs.Formats.{wide16, wide32, wide64, number-reads, counted-reads, made}
 use Rattle.op_fields.proofs.Composites.{pair-reads, fitted-reads}
 use Rattle.op_fields.proofs.Choices.{OptionsTake, OptionsAgain, no_option-takes, option-takes, choice-reads}
-use Rattle.op_entry.specs.Forms.{ballot, members, value, command}
-use Rattle.op_entry.proofs.Encodings.{ballot_reads, members_reads, value_reads, command_reads}
+use Rattle.op_entry.specs.Forms.{ballot, members, value, command, key_read}
+use Rattle.op_entry.proofs.Encodings.{ballot_reads, members_reads, value_reads, command_reads, key_read_reads}
 use Rattle.op_types.specs.declared.events.Request.{Request}
 use Rattle.op_types.specs.declared.events.Request.TheVariants as request
 use Rattle.op_command.specs.declared.said.Said.{Said}
@@ -33,8 +33,9 @@ request_takes =
     (option-takes request_tag request_body RequestInRange 2 members (λ ids. request.Stop ids) _ members_reads (λ ids fit. (refl, fit, refl))
     (option-takes request_tag request_body RequestInRange 3 no_fields (λ _. request.Trim) _ no_fields-reads (λ _ fit. (refl, fit, refl))
     (option-takes request_tag request_body RequestInRange 4 no_fields (λ _. request.Status) _ no_fields-reads (λ _ fit. (refl, fit, refl))
-    (option-takes request_tag request_body RequestInRange 5 no_fields (λ _. request.End) no_option no_fields-reads (λ _ fit. (refl, fit, refl))
-    (no_option-takes request_tag request_body RequestInRange)))))
+    (option-takes request_tag request_body RequestInRange 5 no_fields (λ _. request.End) _ no_fields-reads (λ _ fit. (refl, fit, refl))
+    (option-takes request_tag request_body RequestInRange 6 key_read (λ r. request.Read r) no_option key_read_reads (λ r fit. (refl, fit, refl))
+    (no_option-takes request_tag request_body RequestInRange))))))
 
 request_again : OptionsAgain request_tag request_body RequestInRange request_options
 request_again (request.Command c) bytes at rest fit le is = made (command.read bytes at) (λ c. request.Command c) c _ (command_reads.again bytes at c rest fit le is)
@@ -42,16 +43,18 @@ request_again (request.Stop ids) bytes at rest fit le is = made (members.read by
 request_again request.Trim bytes at rest fit le is = made (no_fields.read bytes at) (λ _. request.Trim) tt _ (no_fields-reads.again bytes at tt rest fit le is)
 request_again request.Status bytes at rest fit le is = made (no_fields.read bytes at) (λ _. request.Status) tt _ (no_fields-reads.again bytes at tt rest fit le is)
 request_again request.End bytes at rest fit le is = made (no_fields.read bytes at) (λ _. request.End) tt _ (no_fields-reads.again bytes at tt rest fit le is)
+request_again (request.Read r) bytes at rest fit le is = made (key_read.read bytes at) (λ r. request.Read r) r _ (key_read_reads.again bytes at r rest fit le is)
 
-request_tags : (r : Request) → RequestInRange r → (1 ≤ request_tag r) × (request_tag r ≤ 5)
+request_tags : (r : Request) → RequestInRange r → (1 ≤ request_tag r) × (request_tag r ≤ 6)
 request_tags (request.Command c) fit = (lit≤ tt, lit≤ tt)
 request_tags (request.Stop ids) fit = (lit≤ tt, lit≤ tt)
 request_tags request.Trim fit = (lit≤ tt, lit≤ tt)
 request_tags request.Status fit = (lit≤ tt, lit≤ tt)
 request_tags request.End fit = (lit≤ tt, lit≤ tt)
+request_tags (request.Read r) fit = (lit≤ tt, lit≤ tt)
 
 pub request_reads : Reads request_form
-request_reads = choice-reads request_tag request_body RequestInRange 5 request_options (omega arith) request_tags request_takes request_again
+request_reads = choice-reads request_tag request_body RequestInRange 6 request_options (omega arith) request_tags request_takes request_again
 
 -- ---- why a proposal is given up
 

@@ -123,6 +123,7 @@ module _ (m : Machine) (h : NoStops m) where
   of_input me s input.Tick = h
   of_input me s (input.Deliver q msg) = h
   of_input me s input.TrimNow = h
+  of_input me s (input.Read r) = h
   of_input me s (input.Up q) = h
   of_input me s (input.Down q) = h
 
@@ -213,6 +214,8 @@ admitted first ks t b none n s p got conf_is kind = of_letter (slice_get (world_
     by l at same (body.TrimAsk z) k said = absurd k
     by l at same (body.Progress z x) k said = absurd k
     by l at same (body.Trim x) k said = absurd k
+    by l at same (body.Confirm z r) k said = absurd k
+    by l at same (body.Confirmed z r) k said = absurd k
 
     of_letter : (o : Option Letter) → slice_get (world_of first ks).soup n ≡ o → IfLetter lists (Some s) o → is_admitted_body p s.message.body ≡ true
     of_letter None at z = absurd z

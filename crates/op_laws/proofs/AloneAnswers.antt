@@ -26,7 +26,8 @@ use Rattle.op_laws.specs.Alone.{TakesAlone, reply_lines, LeadersAnswerAlone}
 use Rattle.op_laws.proofs.Reached.{world_of_run}
 use Rattle.op_laws.proofs.ReplyLines.{line_of, told_alone}
 use Rattle.op_laws.proofs.WaitingOnce.{Rises, IfRises, always_rises}
-use Rattle.op_laws.proofs.WholeLogs.{log_is_decided, decided_within}
+use Rattle.op_laws.proofs.TriedReads.{AreTried, IfTried, always_tried}
+use Rattle.op_laws.proofs.WholeLogs.{log_is_decided, decided_within, adopted_within}
 use Rattle.op_laws.proofs.AloneSteps as step
 use Rattle.op_laws.proofs.SoleLeads.{sole_leads}
 
@@ -51,13 +52,21 @@ module _ (first : List ℕ) (ks : List worlds.Happening) (t : Execution) (b : Is
       let served : x.node.state.service ≡ service_of (prefix_of (lists_of first ks) x.part.conf x.part.decided) = subst (λ (o : Option Part). ServesDecided (lists_of first ks) o x.node.state.service) x.has (node_serves first ks t.world.messages x.node rel) in
       served ∙ ap (λ (k : ℕ). service_of (prefix_of (lists_of first ks) x.part.conf k)) whole ∙ ap (λ (m : Machine). service_of (prefix_of m.lists x.part.conf (len_of x.part))) (sym b.machine)
 
-  answers_at : Rises x.node.state.waiting
+  -- it has decided what it adopted
+  adopted : lead.adopted_len ≤ x.part.decided
+  adopted = by (state_of first ks x.node.pid).part refl (subst (λ (o : Option Part). IfPartRel (lists_of first ks) o x.node.state.volatile.role (state_of first ks x.node.pid).part) x.has (rel.rel).part)
+    where
+      by : (o : Option Member) → (state_of first ks x.node.pid).part ≡ o → IfPartRel (lists_of first ks) (Some x.part) x.node.state.volatile.role o → lead.adopted_len ≤ x.part.decided
+      by None has r = absurd r
+      by (Some pt) has r = omega (arith, whole, adopted_within first ks x.node.pid pt has x.part x.node.state.volatile.role r lead leads)
+
+  answers_at : Rises x.node.state.waiting → AreTried x.node.state
       → (execution_with t h).world.lines
       ≡ t.world.lines ++ line.Answer h.event.line (outcome.Appended x.part.conf (len_of x.part)) ∷ reply_lines x.node.pid (service_of (prefix_of t.machine.lists x.part.conf (len_of x.part))) [] commands
-  answers_at rises =
+  answers_at rises tried =
       let n : Node = x.node in
       let ls = told_alone n.pid n.state.service (prefix_of t.machine.lists x.part.conf (len_of x.part)) n.state.waiting commands serves rises in
-      step.lines_are t h commands x lead leads whole
+      step.lines_are t h commands x lead leads whole adopted tried
       ∙ ap (λ (ls : List Line). t.world.lines ++ line.Answer h.event.line (outcome.Appended x.part.conf (len_of x.part)) ∷ ls)
       (ap (λ (rs : List Reply). map (line_of n.pid) rs) (step.replies_are t h commands x lead leads whole) ∙ ls ∙ ap (λ (s : Service). reply_lines n.pid s [] commands) serves)
 
@@ -68,4 +77,4 @@ leaders_answer_alone members spares early h range commands x =
     let r : Track members t (h ∷ []) = every_track members spares range.first range.others early (h ∷ []) range.happenings in
     let at : node_at (run_of (first_world members spares) early).nodes x.node.pid ≡ Some x.node = ap (λ (w : World). node_at w.nodes x.node.pid) (sym (world_of_run (first_execution members spares) early)) ∙ x.is in
     let led = sole_leads members spares early h range commands x in
-    answers_at members (r.ks 0) t (r.beside 0) h commands x led.0 led.1 (subst IfRises at (always_rises x.node.pid members spares early))
+    answers_at members (r.ks 0) t (r.beside 0) h commands x led.0 led.1 (subst IfRises at (always_rises x.node.pid members spares early)) (subst IfTried at (always_tried x.node.pid members spares early))

@@ -1,5 +1,5 @@
 -- The step of a leader that is a majority alone, at which commands come: it decides them, and nothing else.
-use Rattle.std.proofs.Common.{◌≡◌, ◌==◌, ℕ, zero, suc, ◌+◌, ◌-◌, Bool, true, false, cond, ltb, leb, is_some, map, List, [], ◌∷◌, ◌++◌, length, take, drop, Option, Some, None, refl, sym, ap, ap₂, ◌∙◌, arith, length-append, length-take, drop_of_length-le, take_all, append-nil}
+use Rattle.std.proofs.Common.{◌≡◌, ◌≤◌, ◌==◌, ℕ, zero, suc, ◌+◌, ◌-◌, Bool, true, false, cond, ltb, leb, is_some, map, List, [], ◌∷◌, ◌++◌, length, take, drop, Option, Some, None, refl, sym, ap, ap₂, ◌∙◌, arith, length-append, length-take, drop_of_length-le, take_all, append-nil}
 use Rattle.std.proofs.lemmas.Bool.{cond_both, le-leb, ltb-false}
 use Rattle.std.proofs.lemmas.List.{drop_at}
 use Rattle.op_quorum.specs.Quorums.{is_majority, passing}
@@ -28,12 +28,15 @@ use Rattle.op_protocol.specs.Serving.{serving, dropping}
 use Rattle.op_protocol.specs.Parts.{part_after, decided_since, saying}
 use Rattle.op_protocol.specs.Leader.{backed, length_at, counted, count, decides, propose}
 use Rattle.op_protocol.specs.Configurations.{closing_part, closing}
-use Rattle.op_protocol.specs.Rows.{entries_of, proposal_at, waiting_each, waiting_for, newly_decided, based, based_batch, planned, plan_of, step_at, step_plan}
+use Rattle.op_protocol.specs.Reading.{leads_on, adopted_of, decided_of}
+use Rattle.op_protocol.specs.Rows.{entries_of, proposal_at, waiting_each, waiting_for, newly_decided, based, based_batch, planned, plan_of, step_at, table_plan, step_plan}
 use Rattle.op_runs.specs.World.{Node, NodeStatus, Happening, Steps, Deed, Fate, deed_of, world_by_fate, world_by_status, world_at_node, world_with, outcome_lines}
 use Rattle.op_runs.specs.Run.{Execution, execution_with}
 use Rattle.op_paxos.proofs.CountedLengths.{many_is}
 use Rattle.op_laws.specs.Alone.{TakesAlone}
+use Rattle.op_laws.proofs.AdoptedLogs.{is_same}
 use Rattle.op_laws.proofs.ReplyLines.{line_of}
+use Rattle.op_laws.proofs.TriedReads.{AreTried, tells_of_none}
 
 nothing_between : (n : ℕ) (xs : List Entry) → drop n (take n xs) ≡ []
 nothing_between n xs = drop_of_length-le (take n xs) (omega (arith, length-take n xs))
@@ -54,6 +57,14 @@ no_stop : (cs : List Command) → is_some (stop_at_end (entries_of cs)) ≡ fals
 no_stop [] = refl
 no_stop (c ∷ []) = refl
 no_stop (c ∷ (d ∷ cs)) = no_stop (d ∷ cs)
+
+-- the line of a read's answer
+abbrev read_line : ℕ → Reply → Line
+read_line pid r = line.Read pid r.client r.seq r.answer
+
+-- a leader of the same ballot leads on
+leads_again : (r q : Role) (l : Leading) → r ≡ role.Leading l → q ≡ role.Leading l → leads_on r q ≡ true
+leads_again r q l was is = ap₂ leads_on was is ∙ is_same l.ballot l.ballot refl
 
 module _ (t : Execution) (h : Happening) (commands : List Command) (x : TakesAlone t h commands) (lead : Leading) (was : x.node.state.volatile.role ≡ role.Leading lead) (whole : x.part.decided ≡ len_of x.part) where
   abbrev n : Node
@@ -93,7 +104,7 @@ module _ (t : Execution) (h : Happening) (commands : List Command) (x : TakesAlo
   abbrev pl : Planned
   pl = planned s ws row
 
-  plan_is : step_plan n.pid s z ≡ closing n.pid s.durable.part pl
+  plan_is : table_plan n.pid s z ≡ closing n.pid s.durable.part pl
   plan_is = ap₂ (λ (w : Waiting) (r : PartStep). plan_of n.pid s w r) (ap (waiting_for s.waiting commands) x.free) row_is
 
   no_replies : row.replies ≡ []
@@ -136,7 +147,7 @@ module _ (t : Execution) (h : Happening) (commands : List Command) (x : TakesAlo
   abbrev plan : Planned
   plan = step_plan n.pid s z
 
-  pub is_open : plan ≡ pl
+  pub is_open : table_plan n.pid s z ≡ pl
   is_open = plan_is ∙ ap (λ (o : Option Part). closing n.pid o pl) x.has ∙ ap (λ (b : Bool). cond b (closing_part n.pid (part_after p pl.batch) pl) pl) goes_on
 
   -- the part then
@@ -164,12 +175,19 @@ module _ (t : Execution) (h : Happening) (commands : List Command) (x : TakesAlo
   outcome_is : plan.outcome ≡ Some (outcome.Appended p.conf (len_of p))
   outcome_is = ap (λ (q : Planned). q.outcome) is_open
 
-  pub lines_are : (execution_with t h).world.lines ≡ t.world.lines ++ line.Answer h.event.line (outcome.Appended p.conf (len_of p)) ∷ told_lines
-  lines_are =
+  -- no read is answered: those that may be were answered before
+  untold : lead.adopted_len ≤ p.decided → AreTried s → plan.read_replies ≡ []
+  untold low tried =
+      let low_here : adopted_of s.volatile.role ≤ decided_of s.durable.part = omega (arith, low, ap adopted_of was, ap decided_of x.has) in
+      tells_of_none n.pid s z (table_plan n.pid s z) tried refl (leads_again s.volatile.role plan.volatile.role lead was leads_then) (ap adopted_of leads_then ∙ sym (ap adopted_of was)) low_here
+
+  pub lines_are : lead.adopted_len ≤ p.decided → AreTried s → (execution_with t h).world.lines ≡ t.world.lines ++ line.Answer h.event.line (outcome.Appended p.conf (len_of p)) ∷ told_lines
+  lines_are low tried =
       let deed : deed_of t.world.messages h.event.what ≡ Some (record { pid = n.pid; doing = Steps z }) = ap (deed_of t.world.messages) x.comes in
       ap (λ (o : Option Deed). (world_with o h t.world).lines) deed ∙ ap (λ (o : Option Node). (world_at_node o (Steps z) h t.world).lines) x.is
       ∙ ap (λ (q : NodeStatus). (world_by_status q (Steps z) h t.world n).lines) x.up ∙ ap (λ (f : Fate). (world_by_fate f h.event.line t.world n z).lines) x.done
-      ∙ ap (λ (o : Option Outcome). t.world.lines ++ (outcome_lines h.event.line o ++ told_lines)) outcome_is
+      ∙ ap₂ (λ (o : Option Outcome) (rs : List Reply). t.world.lines ++ ((outcome_lines h.event.line o ++ told_lines) ++ map (read_line n.pid) rs)) outcome_is (untold low tried)
+      ∙ ap (λ (ls : List Line). t.world.lines ++ line.Answer h.event.line (outcome.Appended p.conf (len_of p)) ∷ ls) (append-nil told_lines)
 
   pub replies_are : plan.replies ≡ (serving s.service ws es).replies
   replies_are =

@@ -29,7 +29,7 @@ use Rattle.op_protocol.specs.Parts.{part_after, decided_since}
 use Rattle.op_protocol.specs.Leader.{counted, on_accepted}
 use Rattle.op_protocol.specs.Configurations.{latest_in, latest_of, closing_part}
 use Rattle.op_protocol.specs.Joining.{brought_to}
-use Rattle.op_protocol.specs.Rows.{based_batch, planned, message_at, message_step, step_at, step_bringing, step_plan, waiting_at}
+use Rattle.op_protocol.specs.Rows.{based_batch, planned, message_at, message_step, step_at, step_bringing, table_plan, step_plan, waiting_at}
 use Rattle.op_protocol.proofs.Plans.{after_both}
 use Rattle.op_types.specs.Effects.{Effects}
 use Rattle.op_runs.specs.World.{World, Node, NodeStatus, Down, Failed, Happening, Steps, Deed, Fate, Done, Stopped, Faulted, delivery, deed_of, node_at, with_node, world_by_fate, world_by_status, world_at_node, world_with, world_after}
@@ -198,7 +198,7 @@ module _ (first : List ℕ) (ks late : List worlds.Happening) (t : Execution) (h
   abbrev closed : Planned
   closed = closing_part n.pid (part_after p plan.batch) plan
 
-  of_row : step_plan n.pid s z ≡ cond ends closed plan
+  of_row : table_plan n.pid s z ≡ cond ends closed plan
   of_row = ap (λ o. step_bringing n.pid s z o) (nothing_brought s.durable.joining (ltb p.conf (latest_of s.durable)) p.conf x.ballot x.size) ∙ moves.plan_is n.pid s z above p x.has ws
 
   world_is : world_after t.world h ≡ world_by_fate h.fate h.event.line t.world n z
@@ -233,11 +233,11 @@ module _ (first : List ℕ) (ks late : List worlds.Happening) (t : Execution) (h
   closes =
       ⊎_elim (λ (e : ends ≡ true). e)
       (λ (e : ends ≡ false).
-      let is : step_plan n.pid s z ≡ plan = of_row ∙ cond-false ends closed plan e in
+      let is : table_plan n.pid s z ≡ plan = of_row ∙ cond-false ends closed plan e in
       absurd (omega (arith, x.later, latest_here, ap latest_of stored, ap (λ (y : Planned). latest_of (durable_after s.durable y.batch)) is, latest_same n.pid s z plan (moves.keeps n.pid s z above p x.has ws))))
       (cases_Bool ends)
 
-  closed_is : step_plan n.pid s z ≡ closed
+  closed_is : table_plan n.pid s z ≡ closed
   closed_is = of_row ∙ cond-true ends closed plan closes
 
   -- by what it decides

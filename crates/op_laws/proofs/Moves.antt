@@ -5,6 +5,7 @@ use Rattle.std.specs.Prelude.{nat_lt}
 use Rattle.std.specs.Set.{is_member}
 use Rattle.op_types.specs.Ballots.{is_below}
 use Rattle.op_types.specs.Limits.{greatest_number}
+use Rattle.op_types.specs.Roles.{Idle}
 use Rattle.op_types.specs.Changes.{closed_by, part_after_closed, durable_closing, durable_joined, durable_with, durable_after, closed_joined}
 use Rattle.op_types.specs.Joinings.{Base, cover_of}
 use Rattle.op_types.specs.Stops.{stop_at_end}
@@ -33,7 +34,7 @@ use Rattle.op_protocol.specs.Election.{Candidate, Ended, winner, least, too_low,
 use Rattle.op_protocol.specs.Joining.{new_entries, takes_base, takes_entries, brought_to, joins, goes_on_if, holding, holds_more}
 use Rattle.op_protocol.specs.Parts.{is_admitted_body, part_after, decided_since}
 use Rattle.op_protocol.specs.Tick.{candidate_of, next_round_state, by_verdict}
-use Rattle.op_protocol.specs.Rows.{refusal_of, stop_for, entries_of, on_body, message_at, is_of_joining, may_be_above, on_older, on_newer, on_latest, message_step, brought_by, proposal_at, tick_at, trim_at, up_at, step_at, waiting_at, based, planned, plan_of, step_bringing, step_plan}
+use Rattle.op_protocol.specs.Rows.{refusal_of, stop_for, entries_of, on_body, message_at, is_of_joining, may_be_above, on_older, on_newer, on_latest, message_step, brought_by, proposal_at, tick_at, trim_at, up_at, step_at, waiting_at, based, planned, plan_of, step_bringing, table_plan, step_plan}
 use Rattle.op_protocol.proofs.Plans.{after_both}
 use Rattle.op_protocol.proofs.StepBatches.{IsInside, inside_after, inside_closed, inside_none, inside_all_based, step_inside, Rises, above_after, step_above}
 use Rattle.op_protocol.proofs.Based.{based_after}
@@ -85,6 +86,8 @@ body_stays me p v q body.AskBase = refl
 body_stays me p v q (body.BasePart at bytes) = refl
 body_stays me p v q (body.AskSegment from to) = refl
 body_stays me p v q (body.Segment at es) = refl
+body_stays me p v q (body.Confirm n r) = refl
+body_stays me p v q (body.Confirmed n r) = refl
 
 message_stays : (me : ℕ) (o : Option Part) (v : Volatile) (q : ℕ) (m : Msg) → Stays v (message_at me o v q m)
 message_stays me None v q m = refl
@@ -111,6 +114,8 @@ latest_stays me d v q c (body.Progress z g) = message_stays me d.part v q _
 latest_stays me d v q c (body.Trim g) = message_stays me d.part v q _
 latest_stays me d v q c (body.BasePart at bytes) = message_stays me d.part v q _
 latest_stays me d v q c (body.Segment at es) = message_stays me d.part v q _
+latest_stays me d v q c (body.Confirm z r) = message_stays me d.part v q _
+latest_stays me d v q c (body.Confirmed z r) = message_stays me d.part v q _
 
 delivery_stays : (me : ℕ) (d : Durable) (v : Volatile) (q : ℕ) (m : Msg) → Stays v (message_step me d v q m)
 delivery_stays me d v q m =
@@ -185,6 +190,7 @@ row_ok me v d (input.Commands cs) = inl (proposal_stays me d.part v (entries_of 
 row_ok me v d (input.Stop members) =
     inl (proposal_stays me d.part v (entry.Stop (stop_for d.part members) ∷ []) (refusal_of me v.role d (entry.Stop (stop_for d.part members) ∷ [])), refl)
 row_ok me v d input.TrimNow = inl (trim_stays me d.part v, refl)
+row_ok me v d (input.Read r) = inl (refl, refl)
 row_ok me v d (input.Up q) = inl (up_stays me d.part d.joining v q, refl)
 row_ok me v d (input.Down q) = inl (refl, refl)
 
@@ -208,8 +214,12 @@ pub record StaysIn (me : ℕ) (s : State) (x : Input) (pl : Planned) : Type 0 wh
   pub promised : brought_by s.durable x ≡ None → (p : Part) → s.durable.part ≡ Some p
       → (q : Part) × ((durable_after s.durable pl.batch).part ≡ Some q) × (q.promised ≡ (part_after p (step_at me s.durable s.volatile x).batch).promised)
 
+-- a step to a later configuration, in which the node is idle at first
+abbrev pub GoesOn : State → Planned → Type 0
+GoesOn s pl = (latest_of s.durable < latest_of (durable_after s.durable pl.batch)) × (pl.volatile.role ≡ Idle)
+
 abbrev pub Moves : ℕ → State → Input → Planned → Type 0
-Moves me s x pl = (latest_of s.durable < latest_of (durable_after s.durable pl.batch)) ⊎ StaysIn me s x pl
+Moves me s x pl = GoesOn s pl ⊎ StaysIn me s x pl
 
 module _ (me : ℕ) (s : State) (x : Input) (above : JoiningIsAbove s.durable) where
   abbrev d : Durable
@@ -290,7 +300,7 @@ module _ (me : ℕ) (s : State) (x : Input) (above : JoiningIsAbove s.durable) w
     with_part : Moves me s x (plan_of me s w row)
     with_part =
         Rattle.std.proofs.Common.⊎_elim
-        (λ (h : ends ≡ true). inl (subst (λ (y : Planned). latest_of d < latest_of (durable_after d y.batch)) (sym (plan_is ∙ cond-true ends (closing_part me (part_after p plan.batch) plan) plan h)) leaves))
+        (λ (h : ends ≡ true). inl (subst (λ (y : Planned). GoesOn s y) (sym (plan_is ∙ cond-true ends (closing_part me (part_after p plan.batch) plan) plan h)) (leaves, refl)))
         (λ (h : ends ≡ false). inr (subst (StaysIn me s x) (sym (plan_is ∙ cond-false ends (closing_part me (part_after p plan.batch) plan) plan h)) keeps))
         (cases_Bool ends)
 
@@ -337,7 +347,7 @@ module _ (me : ℕ) (s : State) (x : Input) (above : JoiningIsAbove s.durable) w
         ∙ ap (λ (o : Option Joining). latest_of (Rattle.op_types.specs.Changes.durable_joining o d1 (base_bytes t))) has
         ∙ ap (λ (o : Option Base). latest_of (durable_joined k (base_bytes t) o (cover_of k) d1)) hb
         ∙ ap (λ (o : Option (List Entry)). latest_of (durable_joined k (base_bytes t) (Some b) o d1)) hc in
-        inl (omega (arith, after, same, above j e))
+        inl (omega (arith, after, same, above j e), refl)
 
     held_moves : (batch : List Change) → HoldsMore batch → (j : Joining) → d.joining ≡ Some j → Moves me s x (holds_more me s batch)
     held_moves batch h j e =
@@ -381,6 +391,8 @@ module _ (me : ℕ) (s : State) (x : Input) (above : JoiningIsAbove s.durable) w
   brought_more j e c (body.TrimAsk z) batch k = absurd (none_some batch k)
   brought_more j e c (body.Progress z g) batch k = absurd (none_some batch k)
   brought_more j e c (body.Trim g) batch k = absurd (none_some batch k)
+  brought_more j e c (body.Confirm z r) batch k = absurd (none_some batch k)
+  brought_more j e c (body.Confirmed z r) batch k = absurd (none_some batch k)
   brought_more j e c (body.NextConf members olds len trimmed) batch k = absurd (none_some batch k)
   brought_more j e c body.AskBase batch k = absurd (none_some batch k)
   brought_more j e c (body.AskSegment from to) batch k = absurd (none_some batch k)
@@ -406,6 +418,8 @@ module _ (me : ℕ) (s : State) (x : Input) (above : JoiningIsAbove s.durable) w
       nothing_to c (body.TrimAsk z) = refl
       nothing_to c (body.Progress z g) = refl
       nothing_to c (body.Trim g) = refl
+      nothing_to c (body.Confirm z r) = refl
+      nothing_to c (body.Confirmed z r) = refl
       nothing_to c (body.NextConf members olds len trimmed) = refl
       nothing_to c body.AskBase = refl
       nothing_to c (body.AskSegment from to) = refl
@@ -423,6 +437,7 @@ module _ (me : ℕ) (s : State) (x : Input) (above : JoiningIsAbove s.durable) w
   brought_is (input.Commands cs) batch k = absurd (none_some batch k)
   brought_is (input.Stop members) batch k = absurd (none_some batch k)
   brought_is input.TrimNow batch k = absurd (none_some batch k)
+  brought_is (input.Read r) batch k = absurd (none_some batch k)
   brought_is (input.Up q) batch k = absurd (none_some batch k)
   brought_is (input.Down q) batch k = absurd (none_some batch k)
 
@@ -433,9 +448,14 @@ module _ (me : ℕ) (s : State) (x : Input) (above : JoiningIsAbove s.durable) w
       let j = brought_joining d.joining (b.1).0 (b.1).1 batch (b.1).2 in
       held_moves b.0 (λ n. none_some batch (sym n ∙ k)) batch (brought_more j.0 j.1 (b.1).0 (b.1).1 batch (subst (λ (o : Option Joining). brought_to o (b.1).0 (b.1).1 ≡ Some batch) j.1 (b.1).2)) j.0 j.1
 
+  -- what comes of reads touches nothing of this
+  reading_moves : Moves me s x (table_plan me s x) → Moves me s x (step_plan me s x)
+  reading_moves (inl r) = inl r
+  reading_moves (inr k) = inr (record { leader = k.leader; part = k.part; closed = k.closed; promised = k.promised })
+
   -- each step
   pub step_moves : Moves me s x (step_plan me s x)
-  step_moves = bringing_moves (brought_by d x) refl
+  step_moves = reading_moves (bringing_moves (brought_by d x) refl)
 
 -- a step inside a configuration leaves the latest one
 pub latest_same : (me : ℕ) (s : State) (x : Input) (pl : Planned) → StaysIn me s x pl → latest_of (durable_after s.durable pl.batch) ≡ latest_of s.durable

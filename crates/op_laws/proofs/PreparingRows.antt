@@ -247,6 +247,7 @@ body_quiet me p v q (body.Forwards es) = forward_quiet me p v.role es
 body_quiet me p v q (body.TrimAsk n) = trim_ask_quiet p v.role q n
 body_quiet me p v q (body.Progress n x) = progress_quiet me p v.role q n x
 body_quiet me p v q (body.Trim x) = trim_quiet p v.role x
+body_quiet me p v q (body.Confirm n number) = cond_both (is_same_ballot p.promised n) _ _ (IsQuiet p v.role) (λ _. same_role p v.role _ refl refl tt) (λ _. same_role p v.role _ refl refl tt)
 body_quiet me p v q _ = same_role p v.role _ refl refl tt
 
 pub led_above : (me : ℕ) (p : Part) (ρ : Role) (n : Ballot) → is_below p.promised n ≡ true → is_below p.promised (part_after p (lead me p ρ n).batch).promised ≡ true
@@ -296,6 +297,7 @@ module _ (me : ℕ) (p : Part) (c : Option Closed) (v : Volatile) where
   step_quiet (input.Commands cs) = proposal_quiet me p v (entries_of cs) (refusal_of me v.role here (entries_of cs))
   step_quiet (input.Stop members) = proposal_quiet me p v (entry.Stop (stop_for (Some p) members) ∷ []) (refusal_of me v.role here (entry.Stop (stop_for (Some p) members) ∷ []))
   step_quiet input.TrimNow = trim_now_quiet me p v.role
+  step_quiet (input.Read r) = same_role p v.role _ refl refl tt
   step_quiet (input.Up q) = cond_both (is_member nat_eq (others me p.members) q) _ _ (IsQuiet p v.role) (λ _. same_role p v.role _ refl refl tt) (λ _. same_role p v.role _ refl refl tt)
   step_quiet (input.Down q) = down_quiet p v.role q
 

@@ -97,7 +97,7 @@ leads_there first ks pid pt es has rising many may = by (pt.node).role refl
 
 -- ---- at the node beside it
 
-leading_of : (r : Role) (l : pure.LeadingState) → view_role r ≡ pure.Leading l → (k : Leading) × (r ≡ role.Leading k)
+pub leading_of : (r : Role) (l : pure.LeadingState) → view_role r ≡ pure.Leading l → (k : Leading) × (r ≡ role.Leading k)
 leading_of role.Idle l e = absurd (differ e)
   where
     differ : pure.Idle ≡ pure.Leading l → ⊥

@@ -112,6 +112,7 @@ module _ (m : Machine) (h : StopsRise m.proposed) where
   of_input me s input.Tick k = h
   of_input me s (input.Deliver q msg) k = h
   of_input me s input.TrimNow k = h
+  of_input me s (input.Read r) k = h
   of_input me s (input.Up q) k = h
   of_input me s (input.Down q) k = h
 
@@ -140,6 +141,7 @@ deed_rises messages (what.Tick p) k = tt
 deed_rises messages (what.Commands p cs) k = tt
 deed_rises messages (what.Stop p members) k = (k.1).rising
 deed_rises messages (what.Trim p) k = tt
+deed_rises messages (what.Read p r) k = tt
 deed_rises messages (what.Deliver i) k = delivery_rises _
 deed_rises messages (what.Up p q) k = tt
 deed_rises messages (what.Down p q) k = tt

@@ -13,7 +13,7 @@ use Rattle.op_types.specs.declared.messages.Body.TheVariants as body
 use Rattle.op_protocol.specs.Configurations.{latest_of, closing_part}
 use Rattle.op_protocol.specs.Joining.{brought_to}
 use Rattle.op_protocol.specs.Parts.{part_after}
-use Rattle.op_protocol.specs.Rows.{brought_by, planned, plan_of, step_at, step_bringing, step_plan, waiting_at}
+use Rattle.op_protocol.specs.Rows.{brought_by, planned, plan_of, step_at, step_bringing, table_plan, step_plan, waiting_at}
 use Rattle.op_protocol.specs.State.{State, Waiting, PartStep, Planned}
 use Rattle.op_protocol.proofs.Based.{based_after}
 use Rattle.op_laws.proofs.Moves as moves
@@ -34,6 +34,7 @@ nothing_brought d (input.Deliver q m) e =
 nothing_brought d (input.Commands cs) e = refl
 nothing_brought d (input.Stop ms) e = refl
 nothing_brought d input.TrimNow e = refl
+nothing_brought d (input.Read r) e = refl
 nothing_brought d (input.Up q) e = refl
 nothing_brought d (input.Down q) e = refl
 
@@ -48,17 +49,17 @@ module _ (me : ℕ) (s : State) (x : Input) (p : Part) (has : s.durable.part ≡
   above j h = absurd (none_some j (sym stays ∙ h))
 
   -- the plan of its row, closed or not
-  pub of_row : step_plan me s x ≡ plan_of me s ws row
+  pub of_row : table_plan me s x ≡ plan_of me s ws row
   of_row = ap (λ o. step_bringing me s x o) (nothing_brought s.durable x stays)
 
   -- its row's plan, where the latest configuration stays
-  pub planned_is : latest_of (durable_after s.durable (step_plan me s x).batch) ≡ latest_of s.durable → step_plan me s x ≡ planned s ws row
+  pub planned_is : latest_of (durable_after s.durable (step_plan me s x).batch) ≡ latest_of s.durable → table_plan me s x ≡ planned s ws row
   planned_is same =
       let plan : Planned = planned s ws row in
       let closed : Planned = closing_part me (part_after p plan.batch) plan in
       ⊎_elim
       (λ (h : moves.ends me s x above p has ws ≡ true).
-      let is : step_plan me s x ≡ closed = of_row ∙ moves.plan_is me s x above p has ws ∙ cond-true (moves.ends me s x above p has ws) closed plan h in
+      let is : table_plan me s x ≡ closed = of_row ∙ moves.plan_is me s x above p has ws ∙ cond-true (moves.ends me s x above p has ws) closed plan h in
       let up : latest_of s.durable < latest_of (durable_after s.durable closed.batch) = moves.leaves me s x above p has ws in
       absurd (omega (arith, up, same, ap (λ (y : Planned). latest_of (durable_after s.durable y.batch)) is)))
       (λ (h : moves.ends me s x above p has ws ≡ false). of_row ∙ moves.plan_is me s x above p has ws ∙ cond-false (moves.ends me s x above p has ws) closed plan h)

@@ -154,6 +154,7 @@ module _ (me : ℕ) (s : State) (rises : Rises s.waiting) where
   at_rises (input.Deliver q m) = rises
   at_rises (input.Stop members) = rises
   at_rises input.TrimNow = rises
+  at_rises (input.Read r) = rises
   at_rises (input.Up q) = rises
   at_rises (input.Down q) = rises
 

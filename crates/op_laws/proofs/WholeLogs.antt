@@ -22,6 +22,7 @@ use Rattle.op_paxos.proofs.Runs.{run_on}
 use Rattle.op_paxos.proofs.CountedLengths.{counted_reach}
 use Rattle.op_paxos.proofs.PromiseFacts.{RoleS}
 use Rattle.op_paxos.proofs.PromisesStand.{start_good, run_good}
+use Rattle.op_paxos.proofs.Roles.{lead_is}
 use Rattle.op_paxos.proofs.Runs as runs
 use Rattle.op_configurations.specs.Servers.{Part}
 use Rattle.op_configurations.specs.Views.{view}
@@ -101,6 +102,31 @@ log_is_decided first ks pid pt has p r k l leads many =
     let all : length (pt.node).log ≤ (pt.node).decided = log_decided first ks pid pt has (view_leading l) is (subst (λ (x : List ℕ). majority_passes x (λ q. q == pid) ≡ true) k.members many) in
     let size : len_of p ≡ length (pt.node).log = len_of-whole k.front p k.fits ∙ ap (λ (y : pure.Node). length y.log) k.seen in
     omega (arith, all, size, ap (λ (y : pure.Node). y.decided) k.seen)
+
+-- what a leader of the pure machine adopted stands in its log
+lead_within : (first : List ℕ) (ks : List worlds.Happening) (pid : ℕ) (pt : Part) → (state_of first ks pid).part ≡ Some pt → (l : pure.LeadingState) → (pt.node).role ≡ pure.Leading l → l.size ≤ length (pt.node).log
+lead_within first ks pid pt has l leads =
+    let ms : List ℕ = members_of first (lists_of first ks) pt.conf in
+    let events : List paxos.Event = (world_of first ks).inner pt.conf in
+    let node = (each_is_a_run first ks pt.conf).nodes pid pt has refl in
+    let a = run_on ms events paxos.start runs.first (runs.start_ok ms) in
+    let o = lead_is ms (paxos.run ms events paxos.start) a.0 a.1 pid l (ap (λ (n : pure.Node). n.role) node ∙ leads) in
+    omega (
+      arith,
+      ap (λ (es : List Entry). length es) o.same,
+      length-take l.size ((a.0).full l.ballot),
+      length-take l.size ((a.0).full l.round),
+      o.fits,
+      ap (λ (es : List Entry). length es) o.log_is,
+      ap (λ (n : pure.Node). length n.log) node,
+    )
+
+-- so it does at the node beside it
+pub adopted_within : (first : List ℕ) (ks : List worlds.Happening) (pid : ℕ) (pt : Part) → (state_of first ks pid).part ≡ Some pt → (p : StoredPart) (r : Role) → PartRel (all_before (lists_of first ks) pt.conf) p r pt
+    → (l : Leading) → r ≡ role.Leading l → l.adopted_len ≤ len_of p
+adopted_within first ks pid pt has p r k l leads =
+    let is : (pt.node).role ≡ pure.Leading (view_leading l) = ap (λ (y : pure.Node). y.role) (sym k.seen) ∙ ap view_role leads in
+    omega (arith, lead_within first ks pid pt has (view_leading l) is, len_of-whole k.front p k.fits, ap (λ (y : pure.Node). length y.log) k.seen)
 
 -- and what is decided stands in the log
 pub decided_within : (first : List ℕ) (lists : ℕ → List Entry) (p : StoredPart) → PartStands first lists p → p.decided ≤ len_of p

@@ -15,7 +15,7 @@ use Rattle.op_protocol.specs.State.{State, Waiting, PartStep, Planned}
 use Rattle.op_protocol.specs.Parts.{part_after, decided_since}
 use Rattle.op_protocol.specs.Configurations.{latest_of, closing, closing_part}
 use Rattle.op_protocol.specs.Joining.{brought_to}
-use Rattle.op_protocol.specs.Rows.{based, based_batch, brought_by, planned, plan_of, step_at, step_bringing, step_plan, waiting_at}
+use Rattle.op_protocol.specs.Rows.{based, based_batch, brought_by, planned, plan_of, step_at, step_bringing, table_plan, waiting_at}
 use Rattle.op_lockstep.proofs.Lists.{Each, by_test}
 
 -- ---- the log stays
@@ -96,13 +96,14 @@ nothing_brought d (input.Deliver q m) e =
 nothing_brought d (input.Commands cs) e = refl
 nothing_brought d (input.Stop ms) e = refl
 nothing_brought d input.TrimNow e = refl
+nothing_brought d (input.Read r) e = refl
 nothing_brought d (input.Up q) e = refl
 nothing_brought d (input.Down q) e = refl
 
 -- a step that leaves the log as it is and decides no stop-sign is planned as the part's row says
 pub plan_is : (me : ℕ) (s : State) (x : Input) (a : Part) (y : PartStep) → s.durable.part ≡ Some a → s.durable.joining ≡ None
     → step_at me s.durable s.volatile x ≡ y → Each IsLight y.batch → is_some (stop_at_end (decided_since a (part_after a y.batch))) ≡ false
-    → (step_plan me s x ≡ planned s (waiting_at me s x) y) × ((planned s (waiting_at me s x) y).batch ≡ y.batch)
+    → (table_plan me s x ≡ planned s (waiting_at me s x) y) × ((planned s (waiting_at me s x) y).batch ≡ y.batch)
 plan_is me s x a y has stays is light ends =
     let ws : Waiting = waiting_at me s x in
     let pl : Planned = planned s ws y in

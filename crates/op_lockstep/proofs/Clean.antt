@@ -44,6 +44,7 @@ use Rattle.op_protocol.specs.Election.{round_end}
 use Rattle.op_protocol.specs.Tick.{candidate_of, next_round_state, requests, remembering, by_verdict, on_tick}
 use Rattle.op_protocol.specs.Configurations.{latest_of}
 use Rattle.op_protocol.specs.Joining.{gives_base, gives_segment}
+use Rattle.op_protocol.specs.Reading.{on_confirm}
 use Rattle.op_protocol.specs.Rows.{on_body, message_at, is_of_joining, is_prepare_req, may_be_above, on_older, on_newer, on_latest, message_step, entries_of, proposal_at, refusal_of, tick_at, trim_at, session_up, up_at, step_at}
 use Rattle.op_lockstep.proofs.Lists.{Each, Each-append, Each-more, Each-filter, Each-flat_map}
 
@@ -325,6 +326,10 @@ trim_row : (p : Part) (r : Role) (x : ℕ) → IsCleanRole r → IsCleanRow (on_
 trim_row p r x c =
     cond_both (ltb p.trimmed x && leb x p.decided) _ _ IsCleanRow (λ _. clean_first (change.Trim x [] ∷ []) [] [] (nothing r) (tt, tt) tt (clean_saying r [] c tt)) (λ _. clean_saying r [] c tt)
 
+-- ---- reads
+confirm_row : (p : Part) (r : Role) (q : ℕ) (n : Ballot) (number : ℕ) → IsCleanRole r → IsCleanRow (on_confirm p r q n number)
+confirm_row p r q n number c = cond_both (is_same_ballot p.promised n) _ _ IsCleanRow (λ _. clean_saying r (message p.conf q (body.Confirmed n number) ∷ []) c (tt, tt)) (λ _. clean_saying r [] c tt)
+
 -- ---- a tick
 tick_step : (me : ℕ) (p : Part) (v : Volatile) → NoStops p.tail.items → IsCleanRole v.role → IsCleanStep (on_tick me p v)
 tick_step me p v c k = let e = round_end (candidate_of me p v) v.heard in by_verdict_clean (next_round_state v e.after) e.verdict k
@@ -362,6 +367,7 @@ body_step me p v q (body.Forwards es) c k x = clean_with v (on_forward me p v.ro
 body_step me p v q (body.TrimAsk n) c k x = clean_with v (on_trim_ask p v.role q n) (trim_ask_row p v.role q n k)
 body_step me p v q (body.Progress n at) c k x = clean_with v (on_progress me p v.role q n at) (progress_row me p v.role q n at k)
 body_step me p v q (body.Trim at) c k x = clean_with v (on_trim p v.role at) (trim_row p v.role at k)
+body_step me p v q (body.Confirm n number) c k x = clean_with v (on_confirm p v.role q n number) (confirm_row p v.role q n number k)
 body_step me p v q _ c k x = clean_remembering v [] k tt
 
 -- no stop-sign comes
@@ -427,5 +433,6 @@ module _ (me : ℕ) (d : Durable) (v : Volatile) (stays : d.joining ≡ None) (f
   step_clean (input.Commands cs) h = proposal_clean d.part (entries_of cs) (refusal_of me v.role d (entries_of cs)) (All-map IsCommand (λ (x : Command). entry.Command x) cs (λ i x lt. tt))
   step_clean (input.Stop members) h = absurd h
   step_clean input.TrimNow h = trim_clean d.part
+  step_clean (input.Read r) h = clean_remembering v [] k tt
   step_clean (input.Up q) h = up_clean d.part d.joining q
   step_clean (input.Down q) h = clean_with v (session_down v.role q) (down_row v.role q k)

@@ -101,7 +101,7 @@ module _ (conf : ℕ) (members : List ℕ) (a : ℕ → Part) (v : ℕ → Volat
       → Asked w (world_after w (done_event (event_of (what.Deliver n)))) (m ∷ [])
   asked_one w pre m more n at is sit k =
       let y : PartStep = remembering (v m.to) (message conf m.from (body.HeartbeatReply (v m.from).round (v m.to).own (v m.to).flag) ∷ []) in
-      let x = stepped w (what.Deliver n) m.to (input.Deliver m.from m.message) (a m.to) (v m.to) y (deed_is w pre m more n at is) (request_step m k) tt (unended (a m.to)) (sit m.to k.to) in
+      let x = stepped w (what.Deliver n) m.to (input.Deliver m.from m.message) (a m.to) (v m.to) y (deed_is w pre m more n at is) (λ me s. refl) (request_step m k) tt (unended (a m.to)) (sit m.to k.to) in
       record { sit = same_seats w (world_after w (done_event (event_of (what.Deliver n)))) m.to y.sends sit x; messages = x.messages }
 
   asked_then : (w u t : World) (m : Sent) (ms : List Sent) → Asked w u (m ∷ []) → Asked u t ms → Asked w t (m ∷ ms)
@@ -153,7 +153,7 @@ module _ (conf : ℕ) (members : List ℕ) (a : ℕ → Part) (v : ℕ → Volat
     reply_one w pre m more n at is hs sit k =
         let p : ℕ = m.from in
         let u : World = world_after w (done_event (event_of (what.Deliver n))) in
-        let x = stepped w (what.Deliver n) p (input.Deliver m.to (reply_to m).message) (a p) (hearing (v p) (hs p)) (remembering (hearing (v p) (heard_with (hs p) (told v m.to))) []) (deed_is w pre (reply_to m) more n at is) (reply_step m (hs p) k) tt (unended (a p)) (sit p k.from) in (
+        let x = stepped w (what.Deliver n) p (input.Deliver m.to (reply_to m).message) (a p) (hearing (v p) (hs p)) (remembering (hearing (v p) (heard_with (hs p) (told v m.to))) []) (deed_is w pre (reply_to m) more n at is) (λ me s. refl) (reply_step m (hs p) k) tt (unended (a p)) (sit p k.from) in (
           λ q h. by_test (eqb q p) (λ (b : Bool). Sits (node_at u.nodes q) q (a q) (hearing (v q) (cond b (heard_with (hs q) (told v m.to)) (hs q))))
               (λ e. subst (λ (j : ℕ). Sits (node_at u.nodes j) j (a j) (hearing (v j) (heard_with (hs j) (told v m.to)))) (sym (eqb-true q p e)) x.here)
               (λ e. subst (λ (o : Option Node). Sits o q (a q) (hearing (v q) (hs q))) (sym (x.others q (eqb-false q p e))) (sit q h)),

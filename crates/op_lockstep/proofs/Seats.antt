@@ -12,6 +12,7 @@ use Rattle.op_runs.specs.declared.events.What.{What}
 use Rattle.op_types.specs.declared.messages.Msg.{Msg}
 use Rattle.op_protocol.specs.State.{State, Volatile, PartStep, Planned, state_after}
 use Rattle.op_protocol.specs.Parts.{part_after, decided_since}
+use Rattle.op_protocol.specs.Reading.{asking_by, reading}
 use Rattle.op_protocol.specs.Rows.{planned, step_at, waiting_at}
 use Rattle.op_runs.specs.World.{World, Node, NodeStatus, Up, Happening, Steps, Deed, deed_of, node_at, with_node, sent_by, world_stepped, world_by_status, world_at_node, world_with, world_after, done_event}
 use Rattle.op_lockstep.specs.Lockstep.{event_of}
@@ -76,11 +77,15 @@ pub record After (w u : World) (p : ℕ) (a : Part) (v : Volatile) (sends : List
 abbrev pub IsRow : ℕ → Part → Volatile → Input → PartStep → Type 0
 IsRow p a v x y = (d : Durable) → d.part ≡ Some a → d.joining ≡ None → step_at p d v x ≡ y
 
--- a step at a node that is up, which leaves the log as it is and decides no stop-sign
-pub stepped : (w : World) (e : What) (p : ℕ) (x : Input) (a : Part) (v : Volatile) (y : PartStep) → deed_of w.messages e ≡ Some (record { pid = p; doing = Steps x }) → IsRow p a v x y
+-- an input for which no member is asked
+abbrev pub AsksNobody : Input → Type 0
+AsksNobody x = (me : ℕ) (s : State) → (let none : List (ℕ × Msg) = [] in (asking_by me s x).sends ≡ none)
+
+-- a step at a node that is up, which leaves the log as it is, decides no stop-sign and asks nobody
+pub stepped : (w : World) (e : What) (p : ℕ) (x : Input) (a : Part) (v : Volatile) (y : PartStep) → deed_of w.messages e ≡ Some (record { pid = p; doing = Steps x }) → AsksNobody x → IsRow p a v x y
     → Each IsLight y.batch → is_some (stop_at_end (decided_since a (part_after a y.batch))) ≡ false → Sits (node_at w.nodes p) p a v
     → After w (world_after w (done_event (event_of e))) p (part_after a y.batch) y.volatile y.sends
-stepped w e p x a v y deed is light ends s =
+stepped w e p x a v y deed asks is light ends s =
     let h : Happening = done_event (event_of e) in
     let n : Node = s.node in
     let st : State = n.state in
@@ -88,10 +93,11 @@ stepped w e p x a v y deed is light ends s =
     let step_is : step_at n.pid st.durable st.volatile x ≡ y =
     ap (λ (k : ℕ). step_at k st.durable st.volatile x) s.pid ∙ ap (λ (u : Volatile). step_at p st.durable u x) s.volatile ∙ is st.durable s.part s.stays in
     let plan = plan_is n.pid st x a y s.part s.stays step_is light ends in
-    let m : Node = record n { state = state_after st pl } in
-    let world_is : world_after w h ≡ world_stepped 0 w n pl =
+    let full : Planned = reading n.pid st x pl in
+    let m : Node = record n { state = state_after st full } in
+    let world_is : world_after w h ≡ world_stepped 0 w n full =
     ap (λ (o : Option Deed). world_with o h w) deed ∙ ap (λ (o : Option Node). world_at_node o (Steps x) h w) s.at ∙ ap (λ (t : NodeStatus). world_by_status t (Steps x) h w n) s.up
-    ∙ ap (λ (k : Planned). world_stepped 0 w n k) plan.0 in
+    ∙ ap (λ (k : Planned). world_stepped 0 w n (reading n.pid st x k)) plan.0 in
     let stored : StoresPart st.durable (part_after a y.batch) (durable_after st.durable pl.batch) =
     subst (λ (b : List Change). StoresPart st.durable (part_after a y.batch) (durable_after st.durable b)) (sym plan.1) (stores_after st.durable a y.batch light s.part) in
     record {
@@ -105,5 +111,6 @@ stepped w e p x a v y deed is light ends s =
         volatile = refl;
       };
       others = λ q other. ap (λ (u : World). node_at u.nodes q) world_is ∙ node_at-other w.nodes m q (λ k. other (k ∙ s.pid));
-      messages = ap (λ (u : World). u.messages) world_is ∙ ap (λ (k : ℕ). w.messages ++ sent_by k y.sends) s.pid;
+      messages = ap (λ (u : World). u.messages) world_is ∙ ap (λ (k : ℕ). w.messages ++ sent_by k full.sends) s.pid
+          ∙ ap (λ (asked : List (ℕ × Msg)). w.messages ++ sent_by p (asked ++ y.sends)) (asks n.pid st);
     }

@@ -96,7 +96,7 @@ module _ (a : ℕ → Part) (v : ℕ → Volatile) where
   pub ticks_run : (ps : List ℕ) → Distinct ps → (w : World) → ((p : ℕ) → is_member nat_eq ps p ≡ true → Unstopped p (a p)) → AllSit w a v ps → Ticked w (after_events w (ticks ps)) ps
   ticks_run [] d w un sit = record { sit = λ q m. absurd (false≢true m); others = λ q m. refl; messages = sym (append-nil w.messages) }
   ticks_run (p ∷ ps) d w un sit =
-      let x = stepped w (what.Tick p) p input.Tick (a p) (v p) (on_tick p (a p) (v p)) refl (tick_row p (a p) (v p)) (tick_light p (a p) (v p)) (no_stop p (un p (or_left (eqb p p) (is_member nat_eq ps p) (eq-eqb p p refl)))) (sit p (or_left (eqb p p) (is_member nat_eq ps p) (eq-eqb p p refl))) in
+      let x = stepped w (what.Tick p) p input.Tick (a p) (v p) (on_tick p (a p) (v p)) refl (λ me s. refl) (tick_row p (a p) (v p)) (tick_light p (a p) (v p)) (no_stop p (un p (or_left (eqb p p) (is_member nat_eq ps p) (eq-eqb p p refl)))) (sit p (or_left (eqb p p) (is_member nat_eq ps p) (eq-eqb p p refl))) in
       let w1 : World = world_after w (done_event (event_of (what.Tick p))) in
       ticks_first p ps w w1 (after_events w1 (ticks ps)) d.0 x
       (ticks_run ps d.1 w1 (λ q m. un q (or_right (eqb q p) (is_member nat_eq ps q) m)) (λ q m. subst (λ (o : Option Node). Sits o q (a q) (v q)) (sym (x.others q (λ e. both_ways (is_member nat_eq ps p) d.0 (ap (is_member nat_eq ps) (sym e) ∙ m)))) (sit q (or_right (eqb q p) (is_member nat_eq ps q) m))))

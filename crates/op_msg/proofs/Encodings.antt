@@ -13,7 +13,7 @@ use Rattle.op_fields.proofs.Choices.{OptionsTake, OptionsAgain, no_option-takes,
 use Rattle.op_entry.specs.Forms.{ballot, members, command, entry_tag, entry_body, entry}
 use Rattle.op_entry.proofs.Encodings.{ballot_reads, members_reads, command_reads, entry_reads, entries_reads}
 use Rattle.op_msg.specs.Ranges.{ForwardedInRange, ForwardsInRange, least_conf_of, BodyFits, MsgFits, AddressedFits}
-use Rattle.op_msg.specs.Forms.{round, place, flag, nothing, pid, least_conf, conf, closed_len, heartbeat_reply, prepare, told, promise, entries_from, length_in, refuse, next_conf, base_part, forwarded_options, forwarded, forwards, ask_segment, segment, body_tag, body_text, body_options, body, is_tag, kind, msg_parts, msg, addressed_parts, addressed}
+use Rattle.op_msg.specs.Forms.{round, place, flag, nothing, pid, least_conf, conf, closed_len, heartbeat_reply, prepare, told, promise, entries_from, length_in, refuse, next_conf, base_part, read_number, read_in, forwarded_options, forwarded, forwards, ask_segment, segment, body_tag, body_text, body_options, body, is_tag, kind, msg_parts, msg, addressed_parts, addressed}
 
 -- ---- fields
 
@@ -112,6 +112,12 @@ forwards_reads = fitted-reads _ _ ForwardsInRange _ (listed-reads (λ _. forward
     (λ es fit. (refl, record { several = fit.0; few = fit.1; each = each_fits forwarded (λ _. 0) 0 es fit.2 }))
     (λ es fit. ((fit.several, fit.few, all_fit forwarded (λ _. 0) 0 es fit.each), refl))
 
+read_number_reads : Reads read_number
+read_number_reads = number-reads w64 (2 ^ 64) wide64 1 (2 ^ 62 - 1) (omega arith)
+
+read_in_reads : Reads read_in
+read_in_reads = pair-reads ballot (λ _. read_number) ballot_reads (λ _ _. read_number_reads)
+
 -- ---- what a message says
 
 body_takes : OptionsTake body_tag body_text BodyFits body_options
@@ -135,8 +141,10 @@ body_takes =
     (option-takes body_tag body_text BodyFits 17 base_part (λ x. variant.BasePart x.0 x.1) _ base_part_reads (λ x fit. (refl, (fit.0.1, fit.1.1), refl))
     (option-takes body_tag body_text BodyFits 18 ask_segment (λ x. variant.AskSegment x.0 x.1) _ ask_segment_reads (λ x fit. (refl, ((fit.0.1, fit.1.1), tt), refl))
     (option-takes body_tag body_text BodyFits 19 segment (λ x. variant.Segment x.0 x.1) _ segment_reads (λ x fit. (refl, ((fit.0.1, fit.1), tt), refl))
+    (option-takes body_tag body_text BodyFits 23 read_in (λ x. variant.Confirm x.0 x.1) _ read_in_reads (λ x fit. (refl, ((fit.0, fit.1), tt), refl))
+    (option-takes body_tag body_text BodyFits 24 read_in (λ x. variant.Confirmed x.0 x.1) _ read_in_reads (λ x fit. (refl, ((fit.0, fit.1), tt), refl))
     (option-takes body_tag body_text BodyFits 28 forwards (λ es. variant.Forwards es) no_option forwards_reads (λ es fit. (refl, (fit, tt), refl))
-    (no_option-takes body_tag body_text BodyFits))))))))))))))))))))
+    (no_option-takes body_tag body_text BodyFits))))))))))))))))))))))
 
 body_again : OptionsAgain body_tag body_text BodyFits body_options
 body_again (variant.HeartbeatRequest r) bytes at rest fit le is = made (round.read bytes at) (λ r. variant.HeartbeatRequest r) r _ (round_reads.again bytes at r rest (omega arith, fit.0) le is)
@@ -162,6 +170,8 @@ body_again variant.AskBase bytes at rest fit le is = made (nothing.read bytes at
 body_again (variant.BasePart n b) bytes at rest fit le is = made (base_part.read bytes at) (λ x. variant.BasePart x.0 x.1) (n, b) _ (base_part_reads.again bytes at (n, b) rest ((omega arith, fit.0), (omega arith, fit.1)) le is)
 body_again (variant.AskSegment from to) bytes at rest fit le is = made (ask_segment.read bytes at) (λ x. variant.AskSegment x.0 x.1) (from, to) _ (ask_segment_reads.again bytes at (from, to) rest ((omega arith, fit.0.0), (omega arith, fit.0.1)) le is)
 body_again (variant.Segment n es) bytes at rest fit le is = made (segment.read bytes at) (λ x. variant.Segment x.0 x.1) (n, es) _ (segment_reads.again bytes at (n, es) rest ((omega arith, fit.0.0), fit.0.1) le is)
+body_again (variant.Confirm n number) bytes at rest fit le is = made (read_in.read bytes at) (λ y. variant.Confirm y.0 y.1) (n, number) _ (read_in_reads.again bytes at (n, number) rest (fit.0.0, fit.0.1) le is)
+body_again (variant.Confirmed n number) bytes at rest fit le is = made (read_in.read bytes at) (λ y. variant.Confirmed y.0 y.1) (n, number) _ (read_in_reads.again bytes at (n, number) rest (fit.0.0, fit.0.1) le is)
 body_again (variant.Forwards es) bytes at rest fit le is = made (forwards.read bytes at) (λ es. variant.Forwards es) es _ (forwards_reads.again bytes at es rest fit.0 le is)
 
 body_reads : (tag : ℕ) → Reads (body tag)
@@ -191,6 +201,8 @@ body_tags variant.AskBase = ((lit≤ tt, lit≤ tt), refl)
 body_tags (variant.BasePart at b) = ((lit≤ tt, lit≤ tt), refl)
 body_tags (variant.AskSegment from to) = ((lit≤ tt, lit≤ tt), refl)
 body_tags (variant.Segment at es) = ((lit≤ tt, lit≤ tt), refl)
+body_tags (variant.Confirm n number) = ((lit≤ tt, lit≤ tt), refl)
+body_tags (variant.Confirmed n number) = ((lit≤ tt, lit≤ tt), refl)
 body_tags (variant.Forwards es) = ((lit≤ tt, lit≤ tt), refl)
 
 -- the least configuration by the tag is that by what is said
@@ -214,6 +226,8 @@ least_same variant.AskBase = refl
 least_same (variant.BasePart at b) = refl
 least_same (variant.AskSegment from to) = refl
 least_same (variant.Segment at es) = refl
+least_same (variant.Confirm n number) = refl
+least_same (variant.Confirmed n number) = refl
 least_same (variant.Forwards es) = refl
 
 -- ---- a message

@@ -46,6 +46,10 @@ conf tag = number w32 (least_conf tag) last_conf
 abbrev pub closed_len : Form ℕ
 closed_len = number w64 1 positions_end
 
+-- the number of a read
+abbrev pub read_number : Form ℕ
+read_number = number w64 1 greatest_number
+
 -- ---- the fields of each kind
 
 -- a round, the replier's own ballot, and whether it heard a majority
@@ -105,6 +109,10 @@ ask_segment = pair place (λ _. place)
 abbrev pub segment : Form (ℕ × List Entry)
 segment = pair place (λ _. entries)
 
+-- a ballot and the number of a read
+abbrev pub read_in : Form (Ballot × ℕ)
+read_in = pair ballot (λ _. read_number)
+
 -- ---- a message
 
 -- the tag of what a message says
@@ -128,6 +136,8 @@ body_tag variant.AskBase = 16
 body_tag (variant.BasePart at b) = 17
 body_tag (variant.AskSegment from to) = 18
 body_tag (variant.Segment at es) = 19
+body_tag (variant.Confirm n number) = 23
+body_tag (variant.Confirmed n number) = 24
 body_tag (variant.Forwards es) = 28
 
 -- its fields
@@ -151,6 +161,8 @@ body_text variant.AskBase = nothing.text tt
 body_text (variant.BasePart at b) = base_part.text (at, b)
 body_text (variant.AskSegment from to) = ask_segment.text (from, to)
 body_text (variant.Segment at es) = segment.text (at, es)
+body_text (variant.Confirm n number) = read_in.text (n, number)
+body_text (variant.Confirmed n number) = read_in.text (n, number)
 body_text (variant.Forwards es) = forwards.text es
 
 -- what is read where the tag is this one
@@ -175,8 +187,10 @@ body_options =
     (option 17 base_part (λ x. variant.BasePart x.0 x.1)
     (option 18 ask_segment (λ x. variant.AskSegment x.0 x.1)
     (option 19 segment (λ x. variant.Segment x.0 x.1)
+    (option 23 read_in (λ x. variant.Confirm x.0 x.1)
+    (option 24 read_in (λ x. variant.Confirmed x.0 x.1)
     (option 28 forwards (λ es. variant.Forwards es)
-    no_option)))))))))))))))))))
+    no_option)))))))))))))))))))))
 
 -- what a message with this tag says
 abbrev pub body : ℕ → Form Body
@@ -188,7 +202,7 @@ body tag = record {
 
 -- a tag that a message has
 abbrev pub is_tag : ℕ → Bool
-is_tag tag = nat_lt tag 20 || (tag == 28)
+is_tag tag = nat_lt tag 20 || (tag == 23 || (tag == 24 || tag == 28))
 
 -- a tag
 abbrev pub kind : Form ℕ

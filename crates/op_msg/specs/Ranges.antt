@@ -3,7 +3,7 @@ use Rattle.std.specs.Prelude.{◌≤◌, ◌-◌, ◌^◌, ℕ, List, length, Al
 use Rattle.op_types.specs.Limits.{greatest_number, last_conf, positions_end, most_commands}
 use Rattle.op_types.specs.Changes.{IsCommand}
 use Rattle.op_types.specs.declared.log.Entry.{Entry}
-use Rattle.op_types.specs.Ranges.{IsPid, IsPlace, BallotInRange, MembersInRange, EntryInRange, EntriesInRange}
+use Rattle.op_types.specs.Ranges.{IsPid, IsPlace, IsNumber, BallotInRange, MembersInRange, EntryInRange, EntriesInRange}
 use Rattle.op_types.specs.declared.messages.Body.{Body}
 use Rattle.op_types.specs.declared.messages.Body.TheVariants as variant
 use Rattle.op_types.specs.declared.messages.Msg.{Msg}
@@ -50,6 +50,8 @@ BodyInRange variant.AskBase = Unit {0}
 BodyInRange (variant.BasePart at b) = IsPlace at
 BodyInRange (variant.AskSegment from to) = IsPlace from × IsPlace to
 BodyInRange (variant.Segment at es) = IsPlace at × EntriesInRange positions_end es
+BodyInRange (variant.Confirm n number) = BallotInRange n × IsNumber number
+BodyInRange (variant.Confirmed n number) = BallotInRange n × IsNumber number
 
 -- the least configuration of a message: what is told of the next one names one that has one before it
 abbrev pub least_conf_of : Body → ℕ

@@ -11,6 +11,7 @@ use crate::closed::{
     ask_segment_at, base_part_at, next_conf_at, put_ask_segment, put_base_part, put_next_conf,
     put_segment, segment_at,
 };
+use crate::confirming::{confirm_at, confirmed_at, put_read_in};
 use crate::forwards::{forwards_at, put_forwards};
 use crate::heartbeats::{heartbeat_reply_at, heartbeat_request_at, put_heartbeat_reply};
 use crate::preparing::{prepare_at, promise_at, put_prepare, put_promise, put_refuse, refuse_at};
@@ -61,6 +62,12 @@ const ASK_SEGMENT: u8 = 18;
 /// The last of the tags that stand in a row.
 pub const SEGMENT: u8 = 19;
 
+/// The tag of the question of a leader that is read from.
+pub const CONFIRM: u8 = 23;
+
+/// The tag of the answer to it.
+pub const CONFIRMED: u8 = 24;
+
 /// The greatest tag of a message.
 pub const FORWARDS: u8 = 28;
 
@@ -88,6 +95,8 @@ pub fn tag_of(body: &Body) -> u8
         Body::BasePart(_, _) => BASE_PART,
         Body::AskSegment(_, _) => ASK_SEGMENT,
         Body::Segment(_, _) => SEGMENT,
+        Body::Confirm(_, _) => CONFIRM,
+        Body::Confirmed(_, _) => CONFIRMED,
         Body::Forwards(_) => FORWARDS,
     }
 }
@@ -136,6 +145,8 @@ pub fn put_body(out: &mut Vec<u8>, body: &Body) -> Result<(), NoMemory>
         Body::BasePart(place, base) => put_base_part(out, *place, base),
         Body::AskSegment(from, to) => put_ask_segment(out, *from, *to),
         Body::Segment(start, entries) => put_segment(out, *start, entries.as_slice()),
+        Body::Confirm(ballot, number) => put_read_in(out, *ballot, *number),
+        Body::Confirmed(ballot, number) => put_read_in(out, *ballot, *number),
         Body::Forwards(entries) => put_forwards(out, entries.as_slice()),
     }
 }
@@ -167,6 +178,8 @@ pub fn body_at(alloc: Global, bytes: &[u8], at: usize, tag: u8) -> Result<(Body,
         BASE_PART => base_part_at(alloc, bytes, at),
         ASK_SEGMENT => ask_segment_at(bytes, at),
         SEGMENT => segment_at(alloc, bytes, at),
+        CONFIRM => confirm_at(bytes, at),
+        CONFIRMED => confirmed_at(bytes, at),
         FORWARDS => forwards_at(alloc, bytes, at),
         _ => Err(TakeFail::Bad { at }),
     }

@@ -4,6 +4,7 @@
 mod accepting;
 mod body;
 mod closed;
+mod confirming;
 mod forwards;
 mod heartbeats;
 mod laws;

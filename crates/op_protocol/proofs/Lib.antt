@@ -4,3 +4,5 @@ pub mod Based
 pub mod Plans
 pub mod Starts
 pub mod StepBatches
+pub mod Asked
+pub mod Unread

@@ -32,6 +32,7 @@ use Rattle.op_protocol.specs.Promises.{has_quorum, is_usable, Choice, choice_cha
 use Rattle.op_protocol.specs.Leader.{counted, count, first_leading, leading_with, adopt_with, prepares, lead, on_promise, on_accepted, on_prepare_req, extends, propose, on_forward_leading, on_forward, session_down}
 use Rattle.op_protocol.specs.Follower.{suffix_start, promise_higher, on_prepare, accepts, on_accept, on_accept_sync, on_decide}
 use Rattle.op_protocol.specs.Trimming.{lesser, least_reported, trims, trims_reported, trim_now, on_progress, on_trim_ask, on_trim}
+use Rattle.op_protocol.specs.Reading.{on_confirm}
 use Rattle.op_protocol.specs.Tick.{elected, by_verdict, on_tick}
 use Rattle.op_protocol.specs.Rows.{on_body, on_message, session_up}
 
@@ -241,6 +242,11 @@ module _ (P : Change → Type 0) (limit : ℕ) (promised : Ballot) (may : RowsHa
       (λ h. says (one (change.Trim x []) (may.trim x (omega (arith, low, leb-true x p.decided (and_parts (nat_lt p.trimmed x) (nat_le x p.decided) h).1)))))
       (λ _. says none)
 
+  -- ---- reads
+
+  confirm_of : (p : Part) (r : Role) (q : ℕ) (n : Ballot) (number : ℕ) → Are P (on_confirm p r q n number)
+  confirm_of p r q n number = test (is_same_ballot p.promised n) _ _ (says none) (says none)
+
   -- ---- a tick, and a message
 
   either : (b : Bool) (x y : PartStep) → StepIs P x → StepIs P y → StepIs P (cond b x y)
@@ -281,6 +287,8 @@ module _ (P : Change → Type 0) (limit : ℕ) (promised : Ballot) (may : RowsHa
   body_of me p v q (body.TrimAsk n) low same = row v _ (trim_ask_of p v.role q n)
   body_of me p v q (body.Progress n x) low same = row v _ (progress_of me p v.role q n x low)
   body_of me p v q (body.Trim x) low same = row v _ (trim_of p v.role x low)
+  body_of me p v q (body.Confirm n number) low same = row v _ (confirm_of p v.role q n number)
+  body_of me p v q (body.Confirmed n number) low same = quiet none
   body_of me p v q (body.NextConf members olds len t) low same = quiet none
   body_of me p v q body.AskBase low same = quiet none
   body_of me p v q (body.BasePart at bytes) low same = quiet none

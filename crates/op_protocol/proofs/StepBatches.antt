@@ -195,6 +195,8 @@ module _ (P : Change → Type 0) (limit : ℕ) (promised : Ballot) (has : StepsH
   latest_has me d v q c (body.TrimAsk z) k = message_has me d.part v q _ k
   latest_has me d v q c (body.Progress z g) k = message_has me d.part v q _ k
   latest_has me d v q c (body.Trim g) k = message_has me d.part v q _ k
+  latest_has me d v q c (body.Confirm z g) k = message_has me d.part v q _ k
+  latest_has me d v q c (body.Confirmed z g) k = message_has me d.part v q _ k
   latest_has me d v q c (body.BasePart at bytes) k = message_has me d.part v q _ k
   latest_has me d v q c (body.Segment at es) k = message_has me d.part v q _ k
 
@@ -229,6 +231,7 @@ module _ (P : Change → Type 0) (limit : ℕ) (promised : Ballot) (has : StepsH
   step_has me d v (input.Stop members) k =
       proposal_has me d.part v (entry.Stop (stop_for d.part members) ∷ []) (refusal_of me v.role d (entry.Stop (stop_for d.part members) ∷ []))
   step_has me d v input.TrimNow k = trim_has me d.part v k
+  step_has me d v (input.Read r) k = quiet none
   step_has me d v (input.Up q) k = up_has me d.part d.joining v q
   step_has me d v (input.Down q) k = quiet (session_down_is P limit promised has.rows v.role q).changes
 

@@ -34,6 +34,7 @@ use Rattle.op_protocol.specs.Tick.{remembering, on_tick, on_heartbeat_request, o
 use Rattle.op_protocol.specs.Bases.{service_at}
 use Rattle.op_protocol.specs.Trimming.{trim_now, on_progress, on_trim_ask, on_trim}
 use Rattle.op_protocol.specs.Configurations.{latest_of, latest_members, next_conf_message, closing}
+use Rattle.op_protocol.specs.Reading.{on_confirm, reading}
 use Rattle.op_protocol.specs.Joining.{on_next_conf, asks, gives_base, gives_segment, brought_to, holds_more}
 
 -- ---- messages at a part
@@ -57,6 +58,7 @@ on_body me p v q (body.Forwards entries) = with_effects v (on_forward me p v.rol
 on_body me p v q (body.TrimAsk n) = with_effects v (on_trim_ask p v.role q n)
 on_body me p v q (body.Progress n x) = with_effects v (on_progress me p v.role q n x)
 on_body me p v q (body.Trim x) = with_effects v (on_trim p v.role x)
+on_body me p v q (body.Confirm n number) = with_effects v (on_confirm p v.role q n number)
 on_body me p v q _ = remembering v []
 
 -- a message of another configuration does nothing, nor does one whose entries aren't admitted
@@ -216,13 +218,15 @@ abbrev pub up_at : ℕ → Option Part → Option Joining → Volatile → ℕ �
 up_at me (Some p) None v q = with_effects v (session_up me p v.role q)
 up_at me p j v q = remembering v []
 
--- what a step does, but for the base of what it trims, what it decides, and what it brings of a closed list
+-- what a step does, but for the base of what it trims, what it decides, what it brings of a closed list, and
+-- what comes of reads
 abbrev pub step_at : ℕ → Durable → Volatile → Input → PartStep
 step_at me d v input.Tick = tick_at me d.part d.joining v
 step_at me d v (input.Deliver q m) = message_step me d v q m
 step_at me d v (input.Commands cs) = proposal_step me d v (entries_of cs)
 step_at me d v (input.Stop members) = proposal_step me d v (entry.Stop (stop_for d.part members) ∷ [])
 step_at me d v input.TrimNow = trim_at me d.part v
+step_at me d v (input.Read r) = remembering v []
 step_at me d v (input.Up q) = up_at me d.part d.joining v q
 step_at me d v (input.Down q) = with_effects v (session_down v.role q)
 
@@ -268,8 +272,10 @@ planned_serving s x d t =
       volatile = x.volatile;
       service = t.service;
       waiting = t.waiting;
+      reads = None;
       sends = x.sends;
       replies = t.replies ++ d.replies;
+      read_replies = [];
       outcome = x.outcome;
     }
 
@@ -291,6 +297,10 @@ abbrev pub step_bringing : ℕ → State → Input → Option (List Change) → 
 step_bringing me s x None = plan_of me s (waiting_at me s x) (step_at me s.durable s.volatile x)
 step_bringing me s x (Some batch) = holds_more me s batch
 
--- a node's step
+-- the plan of a step without its reads: it keeps none, and answers none
+abbrev pub table_plan : ℕ → State → Input → Planned
+table_plan me s x = step_bringing me s x (brought_by s.durable x)
+
+-- a node's step: what comes of its reads is put in
 abbrev pub step_plan : ℕ → State → Input → Planned
-step_plan me s x = step_bringing me s x (brought_by s.durable x)
+step_plan me s x = reading me s x (table_plan me s x)

@@ -69,6 +69,7 @@ sent_more messages more soup letters me n m input.Tick k = tt
 sent_more messages more soup letters me n m (input.Commands c) k = tt
 sent_more messages more soup letters me n m (input.Stop members) k = tt
 sent_more messages more soup letters me n m input.TrimNow k = tt
+sent_more messages more soup letters me n m (input.Read r) k = tt
 sent_more messages more soup letters me n m (input.Up q) k = tt
 sent_more messages more soup letters me n m (input.Down q) k = tt
 

@@ -16,7 +16,7 @@ use Rattle.op_protocol.specs.Parts.{is_admitted_body}
 use Rattle.op_protocol.specs.Tick.{remembering}
 use Rattle.op_protocol.specs.Configurations.{latest_in as stored_latest_in, latest_of}
 use Rattle.op_protocol.specs.Joining.{brought_to}
-use Rattle.op_protocol.specs.Rows.{on_body, on_message, message_at, is_of_joining, may_be_above, on_latest, message_step, brought_by, plan_of, step_bringing, step_plan, step_at, waiting_at}
+use Rattle.op_protocol.specs.Rows.{on_body, on_message, message_at, is_of_joining, may_be_above, on_latest, message_step, brought_by, plan_of, step_bringing, table_plan, step_at, waiting_at}
 use Rattle.op_configurations.specs.Servers as server
 use Rattle.op_configurations.specs.Servers.{Part, Joining, State, Letter, Fate, Stepped, letter, says, unchanged, acted}
 use Rattle.op_configurations.specs.Worlds.{inner_of, place_in}
@@ -27,7 +27,7 @@ use Rattle.op_refinement.proofs.View.{view, view_body}
 use Rattle.op_refinement.proofs.TrimRows.{MatchesTo}
 use Rattle.op_refinement.proofs.PartRows.{effects_in, body_matches}
 use Rattle.op_refinement.proofs.Relation.{PartRel, all_before, IsSaid, IsLetter, StepRel}
-use Rattle.op_refinement.proofs.Inputs.{NodeFacts, is_past, event_of, step_by, WholeAfter, rest_rel, known_there, acted_there}
+use Rattle.op_refinement.proofs.Inputs.{NodeFacts, counts_at, is_past, event_of, step_by, WholeAfter, rest_rel, known_there, acted_there}
 
 none_some : {A : Type 0} (a : A) → None ≡ Some a → ⊥
 none_some a e = cc
@@ -41,6 +41,8 @@ some_is a b e = cc
 said_of : (lists : ℕ → List Entry) (conf : ℕ) (b : Body) (y : server.Body) (m : pure.Msg) → 0 < conf → view_body b ≡ Some m → IsSaid lists conf b y → y ≡ server.Inner m
 said_of lists conf (body.HeartbeatRequest r) y m pos e k = absurd (none_some m e)
 said_of lists conf (body.HeartbeatReply r n f) y m pos e k = absurd (none_some m e)
+said_of lists conf (body.Confirm z r) y m pos e k = absurd (none_some m e)
+said_of lists conf (body.Confirmed n r) y m pos e k = absurd (none_some m e)
 said_of lists conf (body.Prepare n na nl nd) y m pos e k = k.2 ∙ ap server.Inner (some_is k.0 m (sym k.1 ∙ e))
 said_of lists conf (body.Promise n fa fl fd s es) y m pos e k = k.2 ∙ ap server.Inner (some_is k.0 m (sym k.1 ∙ e))
 said_of lists conf (body.AcceptSync n x es) y m pos e k = k.2 ∙ ap server.Inner (some_is k.0 m (sym k.1 ∙ e))
@@ -65,6 +67,8 @@ said_of lists conf (body.Segment at es) y m pos e k = absurd (none_some m e)
 pub latest_inner : (me : ℕ) (d : Durable) (v : Volatile) (q c : ℕ) (b : Body) (m : pure.Msg) → view_body b ≡ Some m → on_latest me d v q c b ≡ message_at me d.part v q (record { conf = c; body = b })
 latest_inner me d v q c (body.HeartbeatRequest r) m e = refl
 latest_inner me d v q c (body.HeartbeatReply r n f) m e = refl
+latest_inner me d v q c (body.Confirm z r) m e = refl
+latest_inner me d v q c (body.Confirmed n r) m e = refl
 latest_inner me d v q c (body.Prepare n na nl nd) m e = refl
 latest_inner me d v q c (body.Promise n fa fl fd s es) m e = refl
 latest_inner me d v q c (body.AcceptSync n x es) m e = refl
@@ -83,6 +87,31 @@ latest_inner me d v q c body.AskBase m e = absurd (none_some m e)
 latest_inner me d v q c (body.BasePart at bytes) m e = refl
 latest_inner me d v q c (body.AskSegment from to) m e = absurd (none_some m e)
 latest_inner me d v q c (body.Segment at es) m e = refl
+
+-- it counts where it is admitted
+counts_inner : (p : StoredPart) (b : Body) (m : pure.Msg) → view_body b ≡ Some m → counts_at p b ≡ is_admitted_body p b
+counts_inner p (body.HeartbeatRequest r) m e = refl
+counts_inner p (body.HeartbeatReply r n f) m e = refl
+counts_inner p (body.Confirm z r) m e = absurd (none_some m e)
+counts_inner p (body.Confirmed n r) m e = absurd (none_some m e)
+counts_inner p (body.Prepare n na nl nd) m e = refl
+counts_inner p (body.Promise n fa fl fd s es) m e = refl
+counts_inner p (body.AcceptSync n x es) m e = refl
+counts_inner p (body.Accept n a es) m e = refl
+counts_inner p (body.Accepted n x) m e = refl
+counts_inner p (body.Decide n x) m e = refl
+counts_inner p body.PrepareReq m e = refl
+counts_inner p (body.Refuse n x) m e = refl
+counts_inner p (body.Forward x) m e = refl
+counts_inner p (body.Forwards x) m e = refl
+counts_inner p (body.TrimAsk n) m e = refl
+counts_inner p (body.Progress n x) m e = refl
+counts_inner p (body.Trim x) m e = refl
+counts_inner p (body.NextConf members olds len trimmed) m e = absurd (none_some m e)
+counts_inner p body.AskBase m e = absurd (none_some m e)
+counts_inner p (body.BasePart at bytes) m e = refl
+counts_inner p (body.AskSegment from to) m e = absurd (none_some m e)
+counts_inner p (body.Segment at es) m e = refl
 
 module _ (lists : ℕ → List Entry) (soup : List Letter) (me : ℕ) (f : Fate) (s : table.State) (st : State) (k : NodeFacts lists soup me s st) (q : ℕ) (msg : Msg) (n : ℕ) (m : Letter)
     (sent : slice_get soup n ≡ Some m) (is : IsLetter lists (record { from = q; to = me; message = msg }) m) (p : StoredPart) (pt : Part) (hs : s.durable.part ≡ Some p) (ht : st.part ≡ Some pt)
@@ -147,7 +176,7 @@ module _ (lists : ℕ → List Entry) (soup : List Letter) (me : ℕ) (f : Fate)
       by true = refl
       by false = none_of s.durable.joining hj
 
-  plan_is : step_plan me s (input.Deliver q msg) ≡ plan_of me s s.waiting (message_at me (Some p) s.volatile q msg)
+  plan_is : table_plan me s (input.Deliver q msg) ≡ plan_of me s s.waiting (message_at me (Some p) s.volatile q msg)
   plan_is = ap (step_bringing me s (input.Deliver q msg)) brings_nothing ∙ ap (plan_of me s s.waiting) stored_row
 
   -- the server comes to its part
@@ -175,16 +204,16 @@ module _ (lists : ℕ → List Entry) (soup : List Letter) (me : ℕ) (f : Fate)
   -- ---- the step
 
   -- a message that is admitted
-  taken_rel : is_admitted_body p msg.body ≡ true → WholeAfter lists (server.reads f me st n m) → StepRel lists me f s.durable (step_plan me s (input.Deliver q msg)) (server.reads f me st n m)
+  taken_rel : is_admitted_body p msg.body ≡ true → WholeAfter lists (server.reads f me st n m) → StepRel lists me f s.durable (table_plan me s (input.Deliver q msg)) (server.reads f me st n m)
   taken_rel ok w =
       let row : message_at me (Some p) s.volatile q msg ≡ on_body me p s.volatile q msg.body =
       ap (λ (b : Bool). cond (b && is_admitted_body p msg.body) (on_body me p s.volatile q msg.body) (remembering s.volatile [])) (eq-eqb msg.conf p.conf here)
       ∙ ap (λ (b : Bool). cond b (on_body me p s.volatile q msg.body) (remembering s.volatile [])) ok in
-      subst (λ (o : Stepped). StepRel lists me f s.durable (step_plan me s (input.Deliver q msg)) o) (sym server_row)
+      subst (λ (o : Stepped). StepRel lists me f s.durable (table_plan me s (input.Deliver q msg)) o) (sym server_row)
       (subst (λ (pl : Planned). StepRel lists me f s.durable pl (acted f me st pt n (pure.Comes q y))) (sym (plan_is ∙ ap (plan_of me s s.waiting) row)) (row_rel ok (subst (WholeAfter lists) server_row w)))
 
   -- one that is past the limits does nothing
-  past_rel : is_admitted_body p msg.body ≡ false → StepRel lists me f s.durable (step_plan me s (input.Deliver q msg)) (unchanged st)
+  past_rel : is_admitted_body p msg.body ≡ false → StepRel lists me f s.durable (table_plan me s (input.Deliver q msg)) (unchanged st)
   past_rel bad =
       let row : message_at me (Some p) s.volatile q msg ≡ remembering s.volatile [] =
       ap (λ (b : Bool). cond (b && is_admitted_body p msg.body) (on_body me p s.volatile q msg.body) (remembering s.volatile [])) (eq-eqb msg.conf p.conf here)
@@ -195,15 +224,15 @@ module _ (lists : ℕ → List Entry) (soup : List Letter) (me : ℕ) (f : Fate)
   is_past_here : is_past s.durable.part s.durable.joining msg ≡ not (is_admitted_body p msg.body)
   is_past_here =
       ap (λ (o : Option StoredPart). is_past o s.durable.joining msg) hs ∙ ap (λ (o : Option StoredJoining). is_past (Some p) o msg) hj
-      ∙ ap (λ (b : Bool). b && not (is_admitted_body p msg.body)) (eq-eqb msg.conf p.conf here)
+      ∙ ap (λ (b : Bool). b && not (counts_at p msg.body)) (eq-eqb msg.conf p.conf here) ∙ ap not (counts_inner p msg.body y e)
 
   -- a message inside the part's configuration
-  pub inner_rel : WholeAfter lists (step_by f me st (event_of me s n m (input.Deliver q msg))) → StepRel lists me f s.durable (step_plan me s (input.Deliver q msg)) (step_by f me st (event_of me s n m (input.Deliver q msg)))
+  pub inner_rel : WholeAfter lists (step_by f me st (event_of me s n m (input.Deliver q msg))) → StepRel lists me f s.durable (table_plan me s (input.Deliver q msg)) (step_by f me st (event_of me s n m (input.Deliver q msg)))
   unfolding server.step
   inner_rel w =
-      subst (λ (b : Bool). WholeAfter lists (step_by f me st (cond b None (Some (server.Reads n m)))) → StepRel lists me f s.durable (step_plan me s (input.Deliver q msg)) (step_by f me st (cond b None (Some (server.Reads n m))))) (sym is_past_here)
+      subst (λ (b : Bool). WholeAfter lists (step_by f me st (cond b None (Some (server.Reads n m)))) → StepRel lists me f s.durable (table_plan me s (input.Deliver q msg)) (step_by f me st (cond b None (Some (server.Reads n m))))) (sym is_past_here)
       (by (is_admitted_body p msg.body) refl) w
     where
-      by : (b : Bool) → is_admitted_body p msg.body ≡ b → WholeAfter lists (step_by f me st (cond (not b) None (Some (server.Reads n m)))) → StepRel lists me f s.durable (step_plan me s (input.Deliver q msg)) (step_by f me st (cond (not b) None (Some (server.Reads n m))))
+      by : (b : Bool) → is_admitted_body p msg.body ≡ b → WholeAfter lists (step_by f me st (cond (not b) None (Some (server.Reads n m)))) → StepRel lists me f s.durable (table_plan me s (input.Deliver q msg)) (step_by f me st (cond (not b) None (Some (server.Reads n m))))
       by true ok w = taken_rel ok w
       by false bad w = past_rel bad

@@ -13,13 +13,13 @@ use Rattle.op_protocol.specs.State.{PartStep, Planned}
 use Rattle.op_protocol.specs.Tick.{remembering}
 use Rattle.op_protocol.specs.Configurations.{latest_of}
 use Rattle.op_protocol.specs.Joining.{brought_to}
-use Rattle.op_protocol.specs.Rows.{is_of_joining, may_be_above, on_older, on_newer, on_latest, message_at, message_step, brought_by, plan_of, step_bringing, step_plan}
+use Rattle.op_protocol.specs.Rows.{is_of_joining, may_be_above, on_older, on_newer, on_latest, message_at, message_step, brought_by, plan_of, step_bringing, table_plan}
 use Rattle.op_configurations.specs.Servers as server
 use Rattle.op_configurations.specs.Servers.{Part, Closed, Joining, State, Letter, Fate, Stepped, says, unchanged}
 use Rattle.op_refinement.proofs.Pure as pure
 use Rattle.op_refinement.proofs.View.{view_body}
 use Rattle.op_refinement.proofs.Relation.{IsSaid, IsLetter, StepRel}
-use Rattle.op_refinement.proofs.Inputs.{NodeFacts, WholeAfter, is_past, event_of, step_by}
+use Rattle.op_refinement.proofs.Inputs.{NodeFacts, WholeAfter, counts_at, is_past, event_of, step_by}
 use Rattle.op_refinement.proofs.Delivers.{latest_inner}
 use Rattle.op_refinement.proofs.Others.{ahead_same, latest_is, older_rel, newer_rel}
 use Rattle.op_refinement.proofs.Outside.{Joins, run_rel, outside_rel}
@@ -55,6 +55,8 @@ said_or lists conf body.PrepareReq y x e i = by (eqb conf 0) i
     by false j = inl (j ∙ ap server.Inner (some_is pure.PrepareReq x e))
 said_or lists conf (body.HeartbeatRequest r) y x e i = absurd (none_some x e)
 said_or lists conf (body.HeartbeatReply r z g) y x e i = absurd (none_some x e)
+said_or lists conf (body.Confirm z r) y x e i = absurd (none_some x e)
+said_or lists conf (body.Confirmed z r) y x e i = absurd (none_some x e)
 said_or lists conf (body.NextConf members olds len trimmed) y x e i = absurd (none_some x e)
 said_or lists conf body.AskBase y x e i = absurd (none_some x e)
 said_or lists conf (body.BasePart at bytes) y x e i = absurd (none_some x e)
@@ -78,6 +80,8 @@ above_not (body.Trim g) x e = refl
 above_not body.PrepareReq x e = refl
 above_not (body.HeartbeatRequest r) x e = absurd (none_some x e)
 above_not (body.HeartbeatReply r z g) x e = absurd (none_some x e)
+above_not (body.Confirm z r) x e = absurd (none_some x e)
+above_not (body.Confirmed z r) x e = absurd (none_some x e)
 above_not (body.NextConf members olds len trimmed) x e = absurd (none_some x e)
 above_not body.AskBase x e = absurd (none_some x e)
 above_not (body.BasePart at bytes) x e = absurd (none_some x e)
@@ -87,7 +91,8 @@ above_not (body.Segment at es) x e = absurd (none_some x e)
 module _ (lists : ℕ → List Entry) (soup : List Letter) (me : ℕ) (f : Fate) (s : table.State) (st : State) (k : NodeFacts lists soup me s st) (q : ℕ) (msg : Msg) (n : ℕ) (m : Letter)
     (is : IsLetter lists (record { from = q; to = me; message = msg }) m) (hj : s.durable.joining ≡ None) (tj : st.joining ≡ None) (low : (c : Closed) → st.closed ≡ Some c → c.trimmed ≤ length c.list)
     (joins : Joins lists soup me f s st k q low n msg.conf)
-    (plain : (x : pure.Msg) → view_body msg.body ≡ Some x → msg.conf ≡ latest_of s.durable → s.durable.part ≡ None) where
+    (plain : (x : pure.Msg) → view_body msg.body ≡ Some x → msg.conf ≡ latest_of s.durable → s.durable.part ≡ None)
+    (counts : (p : StoredPart) → s.durable.part ≡ Some p → msg.conf ≡ p.conf → counts_at p msg.body ≡ true) where
   abbrev Goes : PartStep → Stepped → Type 0
   Goes x o = StepRel lists me f s.durable (plan_of me s s.waiting x) o
 
@@ -97,7 +102,7 @@ module _ (lists : ℕ → List Entry) (soup : List Letter) (me : ℕ) (f : Fate)
   -- from the latest, or one that may be above it
   takes_rel : (o : Option pure.Msg) → view_body msg.body ≡ o → (may_be_above msg.body ≡ false → msg.conf ≡ latest_of s.durable) → Goes (on_latest me s.durable s.volatile q msg.conf msg.body) (server.takes f me st n q msg.conf m.body)
   unfolding server.takes
-  takes_rel None e here = outside_rel lists soup me f s st k q low n msg.conf hj tj joins msg.body m.body e here said
+  takes_rel None e here = outside_rel lists soup me f s st k q low n msg.conf hj tj joins msg.body m.body e here counts said
   takes_rel (Some x) e here = by (said_or lists msg.conf msg.body m.body x e said)
     where
       hs : s.durable.part ≡ None
@@ -174,18 +179,18 @@ module _ (lists : ℕ → List Entry) (soup : List Letter) (me : ℕ) (f : Fate)
       by true = refl
       by false = none_of s.durable.joining hj
 
-  plan_is : step_plan me s (input.Deliver q msg) ≡ plan_of me s s.waiting (message_step me s.durable s.volatile q msg)
+  plan_is : table_plan me s (input.Deliver q msg) ≡ plan_of me s s.waiting (message_step me s.durable s.volatile q msg)
   plan_is = ap (step_bringing me s (input.Deliver q msg)) brings_nothing
 
-  read_rel : WholeAfter lists (server.reads f me st n m) → StepRel lists me f s.durable (step_plan me s (input.Deliver q msg)) (server.reads f me st n m)
+  read_rel : WholeAfter lists (server.reads f me st n m) → StepRel lists me f s.durable (table_plan me s (input.Deliver q msg)) (server.reads f me st n m)
   read_rel w =
-      subst (λ (o : Stepped). StepRel lists me f s.durable (step_plan me s (input.Deliver q msg)) o) (sym reads_is)
+      subst (λ (o : Stepped). StepRel lists me f s.durable (table_plan me s (input.Deliver q msg)) o) (sym reads_is)
       (subst (λ (pl : Planned). StepRel lists me f s.durable pl there) (sym (plan_is ∙ ap (plan_of me s s.waiting) step_is)) (older_or is_older refl (subst (WholeAfter lists) reads_is w)))
 
   -- whatever comes there
   pub elsewhere_rel : is_past s.durable.part s.durable.joining msg ≡ false → WholeAfter lists (step_by f me st (event_of me s n m (input.Deliver q msg)))
-      → StepRel lists me f s.durable (step_plan me s (input.Deliver q msg)) (step_by f me st (event_of me s n m (input.Deliver q msg)))
+      → StepRel lists me f s.durable (table_plan me s (input.Deliver q msg)) (step_by f me st (event_of me s n m (input.Deliver q msg)))
   unfolding server.step
   elsewhere_rel past w =
-      subst (λ (b : Bool). WholeAfter lists (step_by f me st (cond b None (Some (server.Reads n m)))) → StepRel lists me f s.durable (step_plan me s (input.Deliver q msg)) (step_by f me st (cond b None (Some (server.Reads n m))))) (sym past)
+      subst (λ (b : Bool). WholeAfter lists (step_by f me st (cond b None (Some (server.Reads n m)))) → StepRel lists me f s.durable (table_plan me s (input.Deliver q msg)) (step_by f me st (cond b None (Some (server.Reads n m))))) (sym past)
       read_rel w

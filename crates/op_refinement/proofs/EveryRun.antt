@@ -29,6 +29,7 @@ event_fit (what.Tick p) k = tt
 event_fit (what.Commands p cs) k = commands_fit cs (k.1).each
 event_fit (what.Stop p members) k = λ s. tt
 event_fit (what.Trim p) k = tt
+event_fit (what.Read p r) k = tt
 event_fit (what.Deliver i) k = tt
 event_fit (what.Up p q) k = tt
 event_fit (what.Down p q) k = tt

@@ -27,6 +27,8 @@ use Rattle.op_configurations.specs.Worlds.{Life, Running, Server, World, Happeni
 use Rattle.op_refinement.proofs.View.{Each, Each-append}
 use Rattle.op_refinement.proofs.Relation.{StateRel, IfServes, AreLetters}
 use Rattle.op_refinement.proofs.Letters.{IfLetter, letter_at}
+use Rattle.op_protocol.specs.Reading.{leading_at}
+use Rattle.op_protocol.proofs.Asked.{takes_read}
 use Rattle.op_refinement.proofs.Inputs.{event_of, is_past, proposal_event}
 use Rattle.op_refinement.proofs.Steps.{AllRead, StepsGo}
 use Rattle.op_refinement.proofs.Worlds.{lists_of, world_of, state_of, state_on, serves_on, facts_of}
@@ -294,12 +296,17 @@ module _ (go : StepsGo) (Fine : Entry → Type 0) (reads : FineRuns Fine) (first
           delivered true = tt
           delivered false = tt
 
+          asking : (c : Bool) → IfFine (cond c (Some (server.Ticks None)) None)
+          asking true = tt
+          asking false = tt
+
           by : (y : Input) → InputIsFine Fine size y → IfFine (event_of p n.state i l y)
           by input.Tick f = tt
           by (input.Deliver q msg) f = delivered (is_past n.state.durable.part n.state.durable.joining msg)
           by (input.Commands cs) f = proposed (entries_of cs) (refusal_of p n.state.volatile.role n.state.durable (entries_of cs)) f
           by (input.Stop members) f = proposed (entry.Stop (stop_for n.state.durable.part members) ∷ []) (refusal_of p n.state.volatile.role n.state.durable (entry.Stop (stop_for n.state.durable.part members) ∷ [])) ((f.0 (stop_for n.state.durable.part members), tt), f.1)
           by input.TrimNow f = tt
+          by (input.Read r) f = asking (takes_read p (leading_at n.state) n.state.reads)
           by (input.Up q) f = tt
           by (input.Down q) f = tt
 
@@ -427,6 +434,7 @@ module _ (go : StepsGo) (Fine : Entry → Type 0) (reads : FineRuns Fine) (first
     sending (input.Commands cs) f = record { number = 0; as_letter = some_letter; sent = tt; fine = f }
     sending (input.Stop members) f = record { number = 0; as_letter = some_letter; sent = tt; fine = f }
     sending input.TrimNow f = record { number = 0; as_letter = some_letter; sent = tt; fine = f }
+    sending (input.Read r) f = record { number = 0; as_letter = some_letter; sent = tt; fine = f }
     sending (input.Up q) f = record { number = 0; as_letter = some_letter; sent = tt; fine = f }
     sending (input.Down q) f = record { number = 0; as_letter = some_letter; sent = tt; fine = f }
 
@@ -542,6 +550,7 @@ module _ (go : StepsGo) (Fine : Entry → Type 0) (reads : FineRuns Fine) (first
   deed_is (what.Commands p cs) f l = (f, omega (arith, l, entries_length cs))
   deed_is (what.Stop p members) f l = (f, l)
   deed_is (what.Trim p) f l = tt
+  deed_is (what.Read p r) f l = tt
   deed_is (what.Deliver i) f l = by (slice_get t.world.messages i) refl
     where
       by : (o : Option Sent) → slice_get t.world.messages i ≡ o → IfDoingIs (delivery o)

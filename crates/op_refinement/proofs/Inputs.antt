@@ -15,6 +15,9 @@ use Rattle.op_types.specs.declared.log.Entry.{Entry}
 use Rattle.op_types.specs.declared.log.Entry.TheVariants as entry
 use Rattle.op_types.specs.declared.log.StopSign.{StopSign}
 use Rattle.op_types.specs.declared.messages.Msg.{Msg}
+use Rattle.op_types.specs.declared.messages.Body.{Body}
+use Rattle.op_types.specs.declared.messages.Body.TheVariants as body
+use Rattle.op_types.specs.Ballots.{is_same_ballot}
 use Rattle.op_spec.specs.Service.{Service, service_of, all_after}
 use Rattle.op_protocol.specs.State as table
 use Rattle.op_protocol.specs.State.{Volatile, Waiting, PartStep, Planned}
@@ -22,6 +25,8 @@ use Rattle.op_protocol.specs.Serving.{dropping}
 use Rattle.op_protocol.specs.Parts.{is_admitted_body, part_after, decided_since}
 use Rattle.op_protocol.specs.Configurations.{closing_from, closing}
 use Rattle.op_protocol.specs.Rows.{refusal_of, stop_for, entries_of, planned, plan_of, newly_decided, step_plan, trim_at, step_at, waiting_at}
+use Rattle.op_protocol.specs.Reading.{leading_at}
+use Rattle.op_protocol.proofs.Asked.{takes_read}
 use Rattle.op_runs.specs.World.{sent_by}
 use Rattle.op_paxos.specs.Steps.{IsQuiet}
 use Rattle.op_paxos.proofs.StepKeeping.{quiet_keeps_vote}
@@ -44,9 +49,14 @@ abbrev pub ballot_at : ℕ → Option StoredPart → Option StoredJoining → Vo
 ballot_at me (Some p) None v = tick_ballot me p v
 ballot_at me p j v = None
 
--- a message inside the part's configuration that is past the limits
+-- a message is within the limits; a leader's question counts where its ballot is promised
+abbrev pub counts_at : StoredPart → Body → Bool
+counts_at p (body.Confirm n number) = is_same_ballot p.promised n
+counts_at p b = is_admitted_body p b
+
+-- a message inside the part's configuration that is past the limits, or asks for another ballot: nothing comes of it
 abbrev pub is_past : Option StoredPart → Option StoredJoining → Msg → Bool
-is_past (Some p) None m = (eqb m.conf p.conf) && not (is_admitted_body p m.body)
+is_past (Some p) None m = (eqb m.conf p.conf) && not (counts_at p m.body)
 is_past p j m = false
 
 -- a proposal that nothing refuses
@@ -54,13 +64,15 @@ abbrev pub proposal_event : List Entry → Option Refusal → Option Event
 proposal_event e (Some r) = None
 proposal_event e None = Some (server.Proposes e)
 
--- the event that an input is, where a message is this letter, of this number
+-- The event that an input is, where a message is this letter, of this number. A leader that takes a read asks its
+-- members as a tick does.
 abbrev pub event_of : ℕ → table.State → ℕ → Letter → Input → Option Event
 event_of me s n m input.Tick = Some (server.Ticks (ballot_at me s.durable.part s.durable.joining s.volatile))
 event_of me s n m (input.Deliver q msg) = cond (is_past s.durable.part s.durable.joining msg) None (Some (server.Reads n m))
 event_of me s n m (input.Commands cs) = proposal_event (entries_of cs) (refusal_of me s.volatile.role s.durable (entries_of cs))
 event_of me s n m (input.Stop members) = proposal_event (entry.Stop (stop_for s.durable.part members) ∷ []) (refusal_of me s.volatile.role s.durable (entry.Stop (stop_for s.durable.part members) ∷ []))
 event_of me s n m input.TrimNow = Some server.Trims
+event_of me s n m (input.Read r) = cond (takes_read me (leading_at s) s.reads) (Some (server.Ticks None)) None
 event_of me s n m (input.Up q) = Some (server.Links q)
 event_of me s n m (input.Down q) = Some (server.Unlinks q)
 

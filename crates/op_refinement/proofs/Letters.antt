@@ -56,6 +56,8 @@ letter_at lists (s ∷ ss) (m ∷ ms) a (suc n) = letter_at lists ss ms a.1 n
 pub said_inner : (lists : ℕ → List Entry) (conf : ℕ) (b : Body) (m : pure.Msg) → 0 < conf → view_body b ≡ Some m → IsSaid lists conf b (server.Inner m)
 said_inner lists conf (body.HeartbeatRequest round) m pos e = absurd (none_some m e)
 said_inner lists conf (body.HeartbeatReply round n flag) m pos e = absurd (none_some m e)
+said_inner lists conf (body.Confirm z round) m pos e = absurd (none_some m e)
+said_inner lists conf (body.Confirmed n round) m pos e = absurd (none_some m e)
 said_inner lists conf (body.Prepare n na nl nd) m pos e = (m, e, refl)
 said_inner lists conf (body.Promise n fa fl fd s es) m pos e = (m, e, refl)
 said_inner lists conf (body.AcceptSync n x es) m pos e = (m, e, refl)

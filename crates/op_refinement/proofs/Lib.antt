@@ -41,6 +41,7 @@ pub mod Bringing
 pub mod Elsewhere
 pub mod Joining
 pub mod WhileJoining
+pub mod ReadSteps
 pub mod StepsGoing
 pub mod Ids
 pub mod Counting

@@ -20,6 +20,8 @@ use Rattle.op_configurations.proofs.Standing.{stands, letters_stand}
 use Rattle.op_paxos.proofs.Membership.{in_from_get}
 use Rattle.op_refinement.proofs.Relation.{StateRel, IfServes, IsLetter, AreLetters, StepRel}
 use Rattle.op_refinement.proofs.Letters.{IfLetter, letter_at}
+use Rattle.op_protocol.specs.Reading.{leading_at}
+use Rattle.op_protocol.proofs.Asked.{takes_read}
 use Rattle.op_refinement.proofs.Inputs.{event_of, step_by, is_past, proposal_event}
 use Rattle.op_refinement.proofs.Steps.{IfComes, AllRead, StepsGo}
 use Rattle.op_refinement.proofs.Worlds.{lists_of, world_of, state_of, letters_on, facts_of}
@@ -57,6 +59,7 @@ module _ (go : StepsGo) (first : List ℕ) (ks : List Happening) (messages : Lis
       by (input.Commands c) s = tt
       by (input.Stop members) s = tt
       by input.TrimNow s = tt
+      by (input.Read r) s = tt
       by (input.Up q) s = tt
       by (input.Down q) s = tt
 
@@ -90,12 +93,17 @@ module _ (go : StepsGo) (first : List ℕ) (ks : List Happening) (messages : Lis
       proposed e None = tt
       proposed e (Some r) = tt
 
+      asking : (b : Bool) → IfReads first ks own running (cond b (Some (server.Ticks None)) None)
+      asking true = tt
+      asking false = tt
+
       by : (y : Input) → IfSent messages (world_of first ks).soup own i m y → IfReads first ks own running (event_of own n.state i m y)
       by input.Tick s = tt
       by (input.Deliver q msg) s = delivered q msg s (is_past n.state.durable.part n.state.durable.joining msg)
       by (input.Commands cs) s = proposed _ (refusal_of own n.state.volatile.role n.state.durable (Rattle.op_protocol.specs.Rows.entries_of cs))
       by (input.Stop members) s = proposed _ (refusal_of own n.state.volatile.role n.state.durable (Rattle.op_types.specs.declared.log.Entry.TheVariants.Stop (stop_for n.state.durable.part members) ∷ []))
       by input.TrimNow s = tt
+      by (input.Read r) s = asking (takes_read own (leading_at n.state) n.state.reads)
       by (input.Up q) s = tt
       by (input.Down q) s = tt
 

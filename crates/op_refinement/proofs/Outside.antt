@@ -7,9 +7,13 @@ use Rattle.op_types.specs.declared.durable.Part.{Part as StoredPart}
 use Rattle.op_types.specs.declared.log.Entry.{Entry}
 use Rattle.op_types.specs.declared.messages.Body.{Body}
 use Rattle.op_types.specs.declared.messages.Body.TheVariants as body
+use Rattle.op_types.specs.declared.messages.Msg.{Msg}
+use Rattle.op_types.specs.declared.ballot.Ballot.{Ballot}
+use Rattle.op_types.specs.Ballots.{is_same_ballot}
 use Rattle.op_protocol.specs.State as table
-use Rattle.op_protocol.specs.State.{PartStep}
-use Rattle.op_protocol.specs.Parts.{is_admitted_body}
+use Rattle.op_protocol.specs.State.{PartStep, with_effects}
+use Rattle.op_protocol.specs.Parts.{is_admitted_body, message, saying, nothing}
+use Rattle.op_protocol.specs.Reading.{on_confirm}
 use Rattle.op_protocol.specs.Tick.{remembering, on_heartbeat_request, on_heartbeat_reply}
 use Rattle.op_protocol.specs.Configurations.{latest_of, latest_in as stored_latest_in}
 use Rattle.op_protocol.specs.Joining.{storing, joins, on_next_conf, gives_base, gives_segment}
@@ -19,7 +23,7 @@ use Rattle.op_configurations.specs.Servers.{Part, Closed, Joining, State, Letter
 use Rattle.op_refinement.proofs.Pure as pure
 use Rattle.op_refinement.proofs.View.{view_body}
 use Rattle.op_refinement.proofs.Relation.{IfPartRel, IsSaid, StepRel}
-use Rattle.op_refinement.proofs.Inputs.{NodeFacts, rest_rel}
+use Rattle.op_refinement.proofs.Inputs.{NodeFacts, counts_at, rest_rel}
 use Rattle.op_refinement.proofs.Donors.{base_letters, segment_letters}
 use Rattle.op_refinement.proofs.Others.{latest_is}
 
@@ -117,6 +121,32 @@ module _ (lists : ℕ → List Entry) (soup : List Letter) (me : ℕ) (f : Fate)
             cond_both (eqb conf p.conf && true) (on_heartbeat_reply me p s.volatile q round b flag) (remembering s.volatile []) (λ (x : PartStep). StepRel lists me f s.durable (plan_of me s s.waiting x) (unchanged st))
             (λ _. rest_rel lists soup me f s st k s.waiting (on_heartbeat_reply me p s.volatile q round b flag) refl [] refl tt) (λ _. nothing_rel)
 
+    -- a leader asks whether its ballot is promised, and it is
+    confirm_rel : (b : Ballot) (number : ℕ) → conf ≡ latest_of s.durable → ((p : StoredPart) → s.durable.part ≡ Some p → conf ≡ p.conf → is_same_ballot p.promised b ≡ true)
+        → StepRel lists me f s.durable (plan_of me s s.waiting (message_at me s.durable.part s.volatile q (record { conf = conf; body = body.Confirm b number }))) (server.answers_beat me st st.part q conf)
+    confirm_rel b number here same = by s.durable.part refl st.part refl (k.rel).part
+      where
+        by : (d : Option StoredPart) → s.durable.part ≡ d → (o : Option Part) → st.part ≡ o → IfPartRel lists d s.volatile.role o
+            → StepRel lists me f s.durable (plan_of me s s.waiting (message_at me d s.volatile q (record { conf = conf; body = body.Confirm b number }))) (server.answers_beat me st o q conf)
+        by None hs None ht r = nothing_rel
+        by None hs (Some pt) ht r = absurd r
+        by (Some p) hs None ht r = absurd r
+        by (Some p) hs (Some pt) ht r =
+            let at : conf ≡ p.conf = here ∙ ap (λ (o : Option StoredPart). stored_latest_in o s.durable.closed) hs in
+            let told : List (ℕ × Msg) = message p.conf q (body.Confirmed b number) ∷ [] in
+            subst (λ (t : Bool). StepRel lists me f s.durable (plan_of me s s.waiting (cond (t && true) (with_effects s.volatile (on_confirm p s.volatile.role q b number)) (remembering s.volatile []))) (says st (letter me q conf server.HeartbeatReply ∷ []))) (sym (eq-eqb conf p.conf at))
+            (subst (λ (t : Bool). StepRel lists me f s.durable (plan_of me s s.waiting (with_effects s.volatile (cond t (saying s.volatile.role told) (nothing s.volatile.role)))) (says st (letter me q conf server.HeartbeatReply ∷ []))) (sym (same p hs at))
+            (rest_rel lists soup me f s st k s.waiting (with_effects s.volatile (saying s.volatile.role told)) refl (letter me q conf server.HeartbeatReply ∷ []) refl (record { from = refl; to = refl; conf = sym at; body = refl; small = tt }, tt)))
+
+    -- and the answer comes: what it changes is no part's
+    confirmed_rel : (b : Ballot) (number : ℕ) → StepRel lists me f s.durable (plan_of me s s.waiting (message_at me s.durable.part s.volatile q (record { conf = conf; body = body.Confirmed b number }))) (unchanged st)
+    confirmed_rel b number = by s.durable.part
+      where
+        by : (d : Option StoredPart) → StepRel lists me f s.durable (plan_of me s s.waiting (message_at me d s.volatile q (record { conf = conf; body = body.Confirmed b number }))) (unchanged st)
+        by None = nothing_rel
+        by (Some p) =
+            cond_both (eqb conf p.conf && true) (remembering s.volatile []) (remembering s.volatile []) (λ (x : PartStep). StepRel lists me f s.durable (plan_of me s s.waiting x) (unchanged st)) (λ _. nothing_rel) (λ _. nothing_rel)
+
     -- a message of a run, at a node without a part
     module _ (hs : s.durable.part ≡ None) where
       partless : st.part ≡ None
@@ -134,29 +164,31 @@ module _ (lists : ℕ → List Entry) (soup : List Letter) (me : ℕ) (f : Fate)
           (subst (λ (o : Option Part). StepRel lists me f s.durable (plan_of me s s.waiting (remembering s.volatile [])) (server.inner f me st o n q conf x)) (sym partless) nothing_rel)
 
     -- whatever comes that has no counterpart in a run, if it comes from the latest configuration or may be above it
-    pub outside_rel : Joins → (b : Body) (y : server.Body) → view_body b ≡ None → (may_be_above b ≡ false → conf ≡ latest_of s.durable) → IsSaid lists conf b y → Goes b y
+    pub outside_rel : Joins → (b : Body) (y : server.Body) → view_body b ≡ None → (may_be_above b ≡ false → conf ≡ latest_of s.durable) → ((p : StoredPart) → s.durable.part ≡ Some p → conf ≡ p.conf → counts_at p b ≡ true) → IsSaid lists conf b y → Goes b y
     unfolding server.takes
-    outside_rel go (body.HeartbeatRequest r) y e here i = subst (Goes (body.HeartbeatRequest r)) (sym i) (beat_rel r (here refl))
-    outside_rel go (body.HeartbeatReply r z g) y e here i = subst (Goes (body.HeartbeatReply r z g)) (sym i) (beaten_rel r z g)
-    outside_rel go (body.Prepare z na nl nd) y e here i = absurd (some_none _ e)
-    outside_rel go (body.Promise z fa fl fd a es) y e here i = absurd (some_none _ e)
-    outside_rel go (body.AcceptSync z x es) y e here i = absurd (some_none _ e)
-    outside_rel go (body.Accept z a es) y e here i = absurd (some_none _ e)
-    outside_rel go (body.Accepted z x) y e here i = absurd (some_none _ e)
-    outside_rel go (body.Decide z x) y e here i = absurd (some_none _ e)
-    outside_rel go body.PrepareReq y e here i = absurd (some_none _ e)
-    outside_rel go (body.Refuse z x) y e here i = absurd (some_none _ e)
-    outside_rel go (body.Forward x) y e here i = absurd (some_none _ e)
-    outside_rel go (body.Forwards x) y e here i = absurd (some_none _ e)
-    outside_rel go (body.TrimAsk z) y e here i = absurd (some_none _ e)
-    outside_rel go (body.Progress z x) y e here i = absurd (some_none _ e)
-    outside_rel go (body.Trim x) y e here i = absurd (some_none _ e)
-    outside_rel go (body.NextConf members olds len trimmed) y e here i = subst (Goes (body.NextConf members olds len trimmed)) (sym i) (news_rel go members olds len trimmed)
-    outside_rel go body.AskBase y e here i =
+    outside_rel go (body.HeartbeatRequest r) y e here counts i = subst (Goes (body.HeartbeatRequest r)) (sym i) (beat_rel r (here refl))
+    outside_rel go (body.HeartbeatReply r z g) y e here counts i = subst (Goes (body.HeartbeatReply r z g)) (sym i) (beaten_rel r z g)
+    outside_rel go (body.Confirm z g) y e here counts i = subst (Goes (body.Confirm z g)) (sym i) (confirm_rel z g (here refl) counts)
+    outside_rel go (body.Confirmed z g) y e here counts i = subst (Goes (body.Confirmed z g)) (sym i) (confirmed_rel z g)
+    outside_rel go (body.Prepare z na nl nd) y e here counts i = absurd (some_none _ e)
+    outside_rel go (body.Promise z fa fl fd a es) y e here counts i = absurd (some_none _ e)
+    outside_rel go (body.AcceptSync z x es) y e here counts i = absurd (some_none _ e)
+    outside_rel go (body.Accept z a es) y e here counts i = absurd (some_none _ e)
+    outside_rel go (body.Accepted z x) y e here counts i = absurd (some_none _ e)
+    outside_rel go (body.Decide z x) y e here counts i = absurd (some_none _ e)
+    outside_rel go body.PrepareReq y e here counts i = absurd (some_none _ e)
+    outside_rel go (body.Refuse z x) y e here counts i = absurd (some_none _ e)
+    outside_rel go (body.Forward x) y e here counts i = absurd (some_none _ e)
+    outside_rel go (body.Forwards x) y e here counts i = absurd (some_none _ e)
+    outside_rel go (body.TrimAsk z) y e here counts i = absurd (some_none _ e)
+    outside_rel go (body.Progress z x) y e here counts i = absurd (some_none _ e)
+    outside_rel go (body.Trim x) y e here counts i = absurd (some_none _ e)
+    outside_rel go (body.NextConf members olds len trimmed) y e here counts i = subst (Goes (body.NextConf members olds len trimmed)) (sym i) (news_rel go members olds len trimmed)
+    outside_rel go body.AskBase y e here counts i =
         subst (Goes body.AskBase) (sym i) base_asked_rel
-    outside_rel go (body.BasePart at bytes) y e here i =
+    outside_rel go (body.BasePart at bytes) y e here counts i =
         subst (Goes (body.BasePart at bytes)) (sym i.1) (subst (λ (o : Stepped). StepRel lists me f s.durable (plan_of me s s.waiting (on_latest me s.durable s.volatile q conf (body.BasePart at bytes))) o) (sym (based_not at i.0)) (quiet (body.BasePart at bytes) (λ p h. refl)))
-    outside_rel go (body.AskSegment from to) y e here i =
+    outside_rel go (body.AskSegment from to) y e here counts i =
         subst (Goes (body.AskSegment from to)) (sym i) (segment_asked_rel from to)
-    outside_rel go (body.Segment at es) y e here i =
+    outside_rel go (body.Segment at es) y e here counts i =
         subst (Goes (body.Segment at es)) (sym i) (subst (λ (o : Stepped). StepRel lists me f s.durable (plan_of me s s.waiting (on_latest me s.durable s.volatile q conf (body.Segment at es))) o) (sym (segment_not at es)) (quiet (body.Segment at es) (λ p h. refl)))

@@ -150,6 +150,8 @@ module _ (packets : List pure.Packet) (me : ℕ) (front : List Entry) (p : Part)
   unfolding pure_step pure_on_msg
   body_matches q (body.HeartbeatRequest r) s a = tt
   body_matches q (body.HeartbeatReply r b f) s a = tt
+  body_matches q (body.Confirm z r) s a = tt
+  body_matches q (body.Confirmed b r) s a = tt
   body_matches q (body.Prepare n na nl nd) s a = λ c. inl (prepare_matches front me p v.role k.fits k.small k.small_role q n na nl nd s.0 s.1)
   body_matches q (body.Promise n fa fl fd st es) s a = λ c.
       inl (promise_matches front me p k.fits k.unended k.small v.role n (record { from = q; accepted = fa; len = fl; decided = fd; start = st; entries = es }) k.small_role s.0 s.1

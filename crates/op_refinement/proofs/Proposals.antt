@@ -21,6 +21,8 @@ use Rattle.op_refinement.proofs.Pure as pure
 use Rattle.op_refinement.proofs.PartRows.{commands_end}
 use Rattle.op_refinement.proofs.Relation.{PartRel, all_before, IfPartRel}
 use Rattle.op_refinement.proofs.Proposing.{unrefused, may_propose}
+use Rattle.op_protocol.specs.Reading.{leading_at}
+use Rattle.op_protocol.proofs.Asked.{takes_read}
 use Rattle.op_refinement.proofs.Inputs.{NodeFacts, event_of, ballot_at, is_past, proposal_event, known_there}
 use Rattle.op_refinement.proofs.Worlds.{world_of, state_of}
 use Rattle.op_refinement.proofs.PureMoves.{late_of}
@@ -105,6 +107,12 @@ module _ (lists : ℕ → List Entry) (first : List ℕ) (ks : List Happening) (
   deliver_late Stopped n x true = refl
   deliver_late Stopped n x false = refl
 
+  asking_late : (g : Fate) (b : Bool) → m ≡ proposed_first m w (late_of first ks me running g (cond b (Some (server.Ticks None)) None))
+  asking_late Done true = refl
+  asking_late Done false = refl
+  asking_late Stopped true = refl
+  asking_late Stopped false = refl
+
   plain_late : (g : Fate) (e : Event) → ((p : List Entry) → e ≡ server.Proposes p → ⊥) → m ≡ proposed_first m w (late_of first ks me running g (Some e))
   plain_late Done (server.Proposes p) d = absurd (d p refl)
   plain_late Stopped (server.Proposes p) d = absurd (d p refl)
@@ -131,6 +139,7 @@ module _ (lists : ℕ → List Entry) (first : List ℕ) (ks : List Happening) (
     where
       differ : (p : List Entry) → server.Trims ≡ server.Proposes p → ⊥
       differ p e = cc
+  proposals_late (input.Read r) n l = asking_late f (takes_read me (leading_at s) s.reads)
   proposals_late (input.Up q) n l = plain_late f (server.Links q) (λ p e. differ p e)
     where
       differ : (p : List Entry) → server.Links q ≡ server.Proposes p → ⊥

@@ -137,6 +137,8 @@ RoleIsSmall (role.Leading l) = IsSmall l.ballot × IsSmall l.adopted_round
 abbrev pub BodyIsSmall : Body → Type 0
 BodyIsSmall (body.HeartbeatRequest r) = Unit {0}
 BodyIsSmall (body.HeartbeatReply r b f) = Unit {0}
+BodyIsSmall (body.Confirm z r) = Unit {0}
+BodyIsSmall (body.Confirmed b r) = Unit {0}
 BodyIsSmall (body.Prepare n na nl nd) = IsSmall n × IsSmall na
 BodyIsSmall (body.Promise n fa fl fd s es) = IsSmall n × IsSmall fa
 BodyIsSmall (body.AcceptSync n x es) = IsSmall n
@@ -162,6 +164,8 @@ BodyIsSmall (body.Segment at es) = Unit {0}
 abbrev pub view_body : Body → Option pure.Msg
 view_body (body.HeartbeatRequest r) = None
 view_body (body.HeartbeatReply r b f) = None
+view_body (body.Confirm z r) = None
+view_body (body.Confirmed b r) = None
 view_body (body.Prepare n na nl nd) = Some (pure.Prepare (rank n) (rank na) nl nd)
 view_body (body.Promise n fa fl fd s es) = Some (pure.Promise (rank n) (record { round = rank fa; size = fl; decided = fd; start = s; rest = es }))
 view_body (body.AcceptSync n x es) = Some (pure.AcceptSync (rank n) x es)

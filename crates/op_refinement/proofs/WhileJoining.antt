@@ -26,7 +26,7 @@ use Rattle.op_protocol.specs.Tick.{remembering}
 use Rattle.op_protocol.specs.Bases.{is_base}
 use Rattle.op_protocol.specs.Configurations.{latest_of}
 use Rattle.op_protocol.specs.Joining.{storing, begins, is_new_donor, joins, new_entries, are_some, takes_base, takes_entries, brought_to, holds_more}
-use Rattle.op_protocol.specs.Rows.{is_of_joining, may_be_above, is_prepare_req, on_older, on_newer, on_latest, message_step, brought_by, plan_of, step_bringing, step_plan}
+use Rattle.op_protocol.specs.Rows.{is_of_joining, may_be_above, is_prepare_req, on_older, on_newer, on_latest, message_step, brought_by, plan_of, step_bringing, table_plan}
 use Rattle.op_configurations.specs.Servers as server
 use Rattle.op_configurations.specs.Servers.{Part, Closed, Base, Joining, State, Letter, Fate, Stepped, says, unchanged, with_joining, start_if_whole}
 use Rattle.op_configurations.specs.Laws.{BaseStands, StateStands, BodyStands}
@@ -49,6 +49,8 @@ use Rattle.op_refinement.proofs.Bringing.{front_read, front_of, holds_rel}
 joining_same : (lists : ℕ → List Entry) (conf : ℕ) (b : Body) (y : server.Body) → IsSaid lists conf b y → is_of_joining b ≡ server.is_for_joining y
 joining_same lists conf (body.HeartbeatRequest r) y i = ap server.is_for_joining (sym i)
 joining_same lists conf (body.HeartbeatReply r z g) y i = ap server.is_for_joining (sym i)
+joining_same lists conf (body.Confirm z r) y i = ap server.is_for_joining (sym i)
+joining_same lists conf (body.Confirmed z r) y i = ap server.is_for_joining (sym i)
 joining_same lists conf (body.Prepare z na nl nd) y i = ap server.is_for_joining (sym i.2)
 joining_same lists conf (body.Promise z fa fl fd a es) y i = ap server.is_for_joining (sym i.2)
 joining_same lists conf (body.AcceptSync z g es) y i = ap server.is_for_joining (sym i.2)
@@ -76,6 +78,8 @@ joining_same lists conf (body.Segment at es) y i = ap server.is_for_joining (sym
 brings_not : (d : StoredJoining) (c : ℕ) (b : Body) → is_of_joining b ≡ false → brought_to (Some d) c b ≡ None
 brings_not d c (body.HeartbeatRequest r) e = refl
 brings_not d c (body.HeartbeatReply r z g) e = refl
+brings_not d c (body.Confirm z r) e = refl
+brings_not d c (body.Confirmed z r) e = refl
 brings_not d c (body.Prepare z na nl nd) e = refl
 brings_not d c (body.Promise z fa fl fd a es) e = refl
 brings_not d c (body.AcceptSync z g es) e = refl
@@ -367,6 +371,8 @@ module _ (first : List ℕ) (lists : ℕ → List Entry) (soup : List Letter) (m
       (subst (λ (x : server.Body). After (server.takes f me st n q c x) → Goes (planned_by (brought_to (Some d) c b) b) (server.takes f me st n q c x)) (sym i) (segment_rel at es)) v
   body_rel (body.HeartbeatRequest r) y e i true_of v = absurd (true≢false (sym e))
   body_rel (body.HeartbeatReply r z g) y e i true_of v = absurd (true≢false (sym e))
+  body_rel (body.Confirm z r) y e i true_of v = absurd (true≢false (sym e))
+  body_rel (body.Confirmed z r) y e i true_of v = absurd (true≢false (sym e))
   body_rel (body.Prepare z na nl nd) y e i true_of v = absurd (true≢false (sym e))
   body_rel (body.Promise z fa fl fd a es) y e i true_of v = absurd (true≢false (sym e))
   body_rel (body.AcceptSync z g es) y e i true_of v = absurd (true≢false (sym e))
@@ -437,7 +443,7 @@ module _ (first : List ℕ) (lists : ℕ → List Entry) (soup : List Letter) (m
   nothing_brought false e = brings_not d msg.conf msg.body e
 
   -- a step that brings nothing
-  plan_none : (a b : Bool) → is_of_joining msg.body ≡ a → is_older ≡ b → brought_by s.durable (input.Deliver q msg) ≡ None → step_plan me s (input.Deliver q msg) ≡ plan_of me s s.waiting (row_by a b)
+  plan_none : (a b : Bool) → is_of_joining msg.body ≡ a → is_older ≡ b → brought_by s.durable (input.Deliver q msg) ≡ None → table_plan me s (input.Deliver q msg) ≡ plan_of me s s.waiting (row_by a b)
   plan_none a b x y none =
       ap (step_bringing me s (input.Deliver q msg)) none
       ∙ ap (plan_of me s s.waiting) (step_is ∙ ap (λ (t : Bool). row_by t is_older) x ∙ ap (row_by a) y)
@@ -450,7 +456,7 @@ module _ (first : List ℕ) (lists : ℕ → List Entry) (soup : List Letter) (m
   plan_brings (Some batch) x y = refl
 
   abbrev Comes : Stepped → Type 0
-  Comes o = StepRel lists me f s.durable (step_plan me s (input.Deliver q msg)) o
+  Comes o = StepRel lists me f s.durable (table_plan me s (input.Deliver q msg)) o
 
   read_rel : (a b : Bool) → is_of_joining msg.body ≡ a → is_older ≡ b → StateStands first lists (read_by a b).state → Comes (read_by a b)
   read_rel false b x y w =

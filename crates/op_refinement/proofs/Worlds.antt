@@ -93,6 +93,8 @@ module _ (first : List ℕ) where
     )
     body_on m sent (body.HeartbeatRequest round) k = k
     body_on m sent (body.HeartbeatReply round n flag) k = k
+    body_on m sent (body.Confirm z round) k = k
+    body_on m sent (body.Confirmed n round) k = k
     body_on m sent (body.Prepare n na nl nd) k = k
     body_on m sent (body.Promise n fa fl fd s es) k = k
     body_on m sent (body.AcceptSync n x es) k = k

@@ -24,12 +24,12 @@ abbrev pub put : ℕ → ℕ → ℕ → ℕ → Command
 put client seq key value = record { client = client; seq = seq; op = op.Put (key ∷ []) (value ∷ []) }
 
 -- what a run gives: its lines, its list, and how much each node has decided
-record Gives (t : Execution) (lines : List Line) (entries : List Entry) (decided : List ℕ) : Type 0 where
-  lines_are : t.world.lines ≡ lines
-  list_is : t.machine.lists 1 ≡ entries
-  decided_are : map (λ n. decided_in n.state.durable 1) t.world.nodes ≡ decided
+pub record Gives (t : Execution) (lines : List Line) (entries : List Entry) (decided : List ℕ) : Type 0 where
+  pub lines_are : t.world.lines ≡ lines
+  pub list_is : t.machine.lists 1 ≡ entries
+  pub decided_are : map (λ n. decided_in n.state.durable 1) t.world.nodes ≡ decided
 
-abbrev happens : ℕ → Fate → Bool → What → Happening
+abbrev pub happens : ℕ → Fate → Bool → What → Happening
 happens at fate finds_after w = record { event = record { line = at; what = w }; fate = fate; finds_after = finds_after }
 
 -- these events, said from this line on, each done
@@ -37,14 +37,14 @@ unfoldable pub done : ℕ → List What → List Happening
 done at [] = []
 done at (w ∷ ws) = happens at Done false w ∷ done (suc at) ws
 
-abbrev three : List ℕ
+abbrev pub three : List ℕ
 three = 1 ∷ 2 ∷ 3 ∷ []
 
-abbrev run : List ℕ → List Happening → Execution
+abbrev pub run : List ℕ → List Happening → Execution
 run members hs = execution_of (first_execution members []) hs
 
 -- server 1 hears server 2, is elected, and asks to be promised its ballot
-abbrev elected : List What
+abbrev pub elected : List What
 elected = what.Tick 1 ∷ what.Deliver 0 ∷ what.Deliver 2 ∷ what.Tick 1 ∷ what.Deliver 5 ∷ what.Deliver 7 ∷ []
 
 -- a sole member decides at once

@@ -5,7 +5,7 @@ use Rattle.std.specs.Set.{is_member}
 use Rattle.op_runs.specs.declared.events.Event.{Event}
 use Rattle.op_runs.specs.declared.events.What.{What}
 use Rattle.op_runs.specs.declared.events.What.TheVariants as what
-use Rattle.op_types.specs.Ranges.{AreRising, IsMember, IsPid, AreCommands, MembersInRange}
+use Rattle.op_types.specs.Ranges.{AreRising, IsMember, IsPid, AreCommands, ReadInRange, MembersInRange}
 use Rattle.op_runs.specs.World.{World, Happening, world_after, done_event}
 
 -- all of these are among the nodes
@@ -20,6 +20,7 @@ is_possible nodes sent (what.Tick p) = is_member nat_eq nodes p
 is_possible nodes sent (what.Commands p cs) = is_member nat_eq nodes p
 is_possible nodes sent (what.Stop p members) = is_member nat_eq nodes p && are_nodes nodes members
 is_possible nodes sent (what.Trim p) = is_member nat_eq nodes p
+is_possible nodes sent (what.Read p r) = is_member nat_eq nodes p
 is_possible nodes sent (what.Deliver i) = nat_lt i sent
 is_possible nodes sent (what.Up p q) = is_member nat_eq nodes p && is_member nat_eq nodes q
 is_possible nodes sent (what.Down p q) = is_member nat_eq nodes p && is_member nat_eq nodes q
@@ -60,6 +61,7 @@ WhatInRange (what.Tick p) = IsPid p
 WhatInRange (what.Commands p cs) = IsPid p × AreCommands cs
 WhatInRange (what.Stop p members) = IsPid p × MembersInRange members
 WhatInRange (what.Trim p) = IsPid p
+WhatInRange (what.Read p r) = IsPid p × ReadInRange r
 WhatInRange (what.Deliver i) = i < 2 ^ 64
 WhatInRange (what.Up p q) = IsPid p × IsPid q
 WhatInRange (what.Down p q) = IsPid p × IsPid q

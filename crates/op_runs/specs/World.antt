@@ -83,6 +83,7 @@ first_node members pid =
         volatile = first_volatile pid;
         service = new_service;
         waiting = [];
+        reads = None;
       };
       status = Up;
     }
@@ -127,6 +128,7 @@ deed_of messages (what.Tick p) = Some (record { pid = p; doing = Steps input.Tic
 deed_of messages (what.Commands p cs) = Some (record { pid = p; doing = Steps (input.Commands cs) })
 deed_of messages (what.Stop p members) = Some (record { pid = p; doing = Steps (input.Stop members) })
 deed_of messages (what.Trim p) = Some (record { pid = p; doing = Steps input.TrimNow })
+deed_of messages (what.Read p r) = Some (record { pid = p; doing = Steps (input.Read r) })
 deed_of messages (what.Deliver i) = delivery (slice_get messages i)
 deed_of messages (what.Up p q) = Some (record { pid = p; doing = Steps (input.Up q) })
 deed_of messages (what.Down p q) = Some (record { pid = p; doing = Steps (input.Down q) })
@@ -166,7 +168,9 @@ answer_line pid client seq (answer.Dropped cause) = line.Dropped pid client seq 
 
 -- what a step gives to be reported
 abbrev pub lines_of : ℕ → ℕ → Planned → List Line
-lines_of at pid p = outcome_lines at p.outcome ++ map (λ r. answer_line pid r.client r.seq r.answer) p.replies
+lines_of at pid p =
+    outcome_lines at p.outcome ++ map (λ r. answer_line pid r.client r.seq r.answer) p.replies
+    ++ map (λ r. line.Read pid r.client r.seq r.answer) p.read_replies
 
 -- the pairs of a node's service, rising by key
 abbrev pub pair_lines : ℕ → Pairs → List Line
@@ -195,11 +199,12 @@ world_stepped at w n p =
       lines = w.lines ++ lines_of at n.pid p;
     }
 
--- what is answered where disks have failed so often: proposals and wishes to trim are refused
+-- what is answered where disks have failed so often: proposals, wishes to trim and reads are refused
 abbrev pub failed_outcome : ℕ → Input → Option Outcome
 failed_outcome count (input.Commands cs) = Some (outcome.Refused (refusal.StorageFailed count))
 failed_outcome count (input.Stop members) = Some (outcome.Refused (refusal.StorageFailed count))
 failed_outcome count input.TrimNow = Some (outcome.Refused (refusal.StorageFailed count))
+failed_outcome count (input.Read r) = Some (outcome.Refused (refusal.StorageFailed count))
 failed_outcome count _ = None
 
 -- the world after an input that is answered so, and does nothing else
@@ -251,7 +256,7 @@ world_if_down Opens f finds_after after w n =
     world_opening f w n (if finds_after then after else n.state.durable)
 world_if_down (Tells t) f finds_after after w n = w
 
--- a node that failed is opened again, and finds this: its clients wait still
+-- a node that failed is opened again, and finds this: its clients wait still, and its reads are lost
 abbrev pub state_after_reopening : ℕ → State → Durable → State
 state_after_reopening me s found = record (state_after_restart me found) { waiting = s.waiting }
 
@@ -262,8 +267,8 @@ world_reopening Stopped after w n found = world_with_node w (record n { status =
 world_reopening (Faulted count) after w n found =
     world_with_node w (record n { status = Failed count after })
 
--- what happens at a node that failed: it refuses what is proposed, and to trim, a stop takes it down, and it
--- tells its state of before
+-- what happens at a node that failed: it refuses what is proposed, to trim and to read, a stop takes it down,
+-- and it tells its state of before
 abbrev pub world_if_failed : Doing → Happening → ℕ → Durable → World → Node → World
 world_if_failed (Steps x) h count after w n = world_refusing h.event.line count w x
 world_if_failed Stops h count after w n = world_with_node w (record n { status = Down after })

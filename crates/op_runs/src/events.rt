@@ -1,4 +1,4 @@
-use op_types::{Commands, Members, Pid, Seq};
+use op_types::{Commands, Members, Pid, Read, Seq};
 
 /// What happens.
 #[derive(Drop)]
@@ -11,6 +11,8 @@ pub enum What {
     Stop(Pid, Members),
     /// A client asks for trimming.
     Trim(Pid),
+    /// A client reads.
+    Read(Pid, Read),
     /// The message of this number reaches its addressee.
     Deliver(u64),
     /// At the first node, a session with the second one begins.

@@ -9,6 +9,8 @@ pub enum Line {
     Reply(Pid, u64, u64, Answer),
     /// A proposal (its client, and its number) that was buffered at a node and is given up.
     Dropped(Pid, u64, u64, Cause),
+    /// What a read (its client, and its number) was answered at a node.
+    Read(Pid, u64, u64, Answer),
     /// A key of a node's service, and its value.
     Pair(Pid, Blob, Blob),
     /// A node's own ballot, the leader's as far as it knows, and what it has promised.

@@ -11,6 +11,7 @@ use Rattle.op_types.specs.declared.log.Op.TheVariants.{Put, Del, Get, Cas}
 use Rattle.op_runs.specs.declared.events.What.{What}
 use Rattle.op_runs.specs.declared.events.What.TheVariants as what
 use Rattle.op_types.specs.declared.log.Command.{Command}
+use Rattle.op_types.specs.declared.read.Read.{Read}
 use Rattle.op_types.specs.Ranges.{IsPid, IsNumber, CommandInRange}
 use Rattle.op_sched.specs.declared.reading.forms.Form.{Form}
 use Rattle.op_sched.specs.declared.reading.forms.Form.TheVariants as form
@@ -18,7 +19,7 @@ use Rattle.op_sched.specs.declared.reading.operations.OpForm.{OpForm}
 use Rattle.op_sched.specs.declared.reading.operations.OpForm.TheVariants as op_form
 use Rattle.op_sched.specs.Forms.{op_form_name, form_name, ArePeers, AreCallOf, AreStopOf}
 use Rattle.std.proofs.lemmas.List.Elements.{All-nil, All-cons}
-use Rattle.op_text.specs.Operations.{OpIsOfBytes, AreOperandsOf, op_name, operands}
+use Rattle.op_text.specs.Operations.{IsReadOf, OpIsOfBytes, AreOperandsOf, op_name, operands, read_words}
 use Rattle.op_text.proofs.Operations.{first, after_first, is_op_name, no_op}
 use Rattle.op_sched.specs.Grammar.{ProposesOne, AreWordsOf, op_words, what_words}
 use Rattle.op_sched.proofs.WordLists.{word_at}
@@ -39,6 +40,7 @@ form_by (what.Commands p []) = form.Tick
 form_by (what.Commands p (c ∷ cs)) = form.Command (op_form_by c.op)
 form_by (what.Stop p members) = form.Stop
 form_by (what.Trim p) = form.Trim
+form_by (what.Read p r) = form.Read
 form_by (what.Deliver i) = form.Deliver
 form_by (what.Up p q) = form.Up
 form_by (what.Down p q) = form.Drop
@@ -67,6 +69,7 @@ named (what.Commands p (c ∷ (d ∷ cs))) one = absurd (omega (arith, one))
 named (what.Tick p) one = refl
 named (what.Stop p members) one = refl
 named (what.Trim p) one = refl
+named (what.Read p r) one = refl
 named (what.Deliver i) one = refl
 named (what.Up p q) one = refl
 named (what.Down p q) one = refl
@@ -165,6 +168,16 @@ no_operation now words f none w h =
     let s = command_says f (map now words) w h in
     let all = take_all (length words - 3) (drop 3 words) (omega (arith, length-drop 3 words)) in
     none s.c.op (record { in_range = s.range.op; of_bytes = s.bytes; named = s.named; written = ap (map now) all ∙ sym (drop-map now 3 words) ∙ ap (drop 3) s.rest })
+
+-- ---- a read
+
+-- words behind the name that are no server's and a read's tell no read
+pub no_read : (words : List (List ℕ)) → ((p : ℕ) (more : List (List ℕ)) (r : Read) → IsPid p → IsReadOf more r → words ≡ decimal p ∷ more → ⊥) → (w : What) → AreWordsOf (codes "read" ∷ words) w → ⊥
+no_read words none (what.Read p r) h = none p (read_words r) r h.in_range.0 (record { in_range = h.in_range.1; of_bytes = h.of_bytes; written = refl }) (ap after_first h.written)
+no_read words none (what.Commands p []) h = absurd (omega (arith, h.one))
+no_read words none (what.Commands p (c ∷ (d ∷ cs))) h = absurd (omega (arith, h.one))
+no_read words none (what.Commands p (c ∷ [])) h = no_op c.op (codes "read") refl (sym (ap first h.written))
+no_read words none w h = absurd (false≢true ((bytes_eq-Decides (codes "read") (name_of w)).1 (ap first h.written)))
 
 -- ---- a session
 

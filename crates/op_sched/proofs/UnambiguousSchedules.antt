@@ -13,8 +13,8 @@ use Rattle.op_sched.specs.declared.schedule.Schedule.{Schedule}
 use Rattle.op_types.specs.Ranges.{IsPid, AreRising, MembersInRange}
 use Rattle.op_runs.specs.Possible.{WhatInRange, SparesInRange, IsCall}
 use Rattle.op_sched.specs.Grammar.{IsHeader, IsOfBytes, IsBetweenTwo, ProposesOne, NamesSpares, AreAfterHeader, IsFirstBadAfter, AreInRange, AreOfBytes, AreBetweenTwo, AreEvents, AreLines, IsSchedule, IsFirstBadEvent, IsFirstBadOf, IsFirstBadLine, AreWordsOf, what_words, words_of, lines_of, numbered_lines}
-use Rattle.op_text.specs.Operations.{op_name, operands}
-use Rattle.op_text.proofs.Operations.{first, after_first, no_op, one_command}
+use Rattle.op_text.specs.Operations.{op_name, operands, read_words}
+use Rattle.op_text.proofs.Operations.{first, after_first, no_op, one_command, one_read}
 use Rattle.op_sched.proofs.EventWords.{name_of, no_spares}
 
 no_bad_event : (n : ℕ) (lines : List (ℕ × List ℕ)) (events : List Event) → AreEvents lines events → IsFirstBadEvent lines n → ⊥
@@ -63,6 +63,11 @@ one_what (what.Stop p ms) (what.Stop q ns) iw iv bw bv ow ov e =
     let same : p ≡ q = one_pid p q iw.0 iv.0 (ap first rest) in
     let members : ms ≡ ns = one_list 0 ms ns iw.1.rising iv.1.rising (ap after_first rest) in
     ap (λ (x : ℕ). what.Stop x ms) same ∙ ap (what.Stop q) members
+one_what (what.Read p r) (what.Read q s) iw iv bw bv ow ov e =
+    let rest = ap after_first e in
+    let same : p ≡ q = one_pid p q iw.0 iv.0 (ap first rest) in
+    let reads = one_read (read_words r) r s (record { in_range = iw.1; of_bytes = bw; written = refl }) (record { in_range = iv.1; of_bytes = bv; written = ap after_first rest }) in
+    ap (λ (x : ℕ). what.Read x r) same ∙ ap (what.Read q) reads
 one_what (what.Commands p []) v iw iv bw bv ow ov e = absurd (omega (arith, ow))
 one_what (what.Commands p (c ∷ (b ∷ cs))) v iw iv bw bv ow ov e = absurd (omega (arith, ow))
 one_what w (what.Commands q []) iw iv bw bv ow ov e = absurd (omega (arith, ov))

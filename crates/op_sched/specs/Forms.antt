@@ -22,6 +22,7 @@ form_name form.Tick = codes "tick"
 form_name (form.Command op) = op_form_name op
 form_name form.Stop = codes "stop"
 form_name form.Trim = codes "trim"
+form_name form.Read = codes "read"
 form_name form.Deliver = codes "deliver"
 form_name form.Up = codes "up"
 form_name form.Drop = codes "drop"

@@ -11,7 +11,8 @@ use Rattle.op_runs.specs.declared.events.What.{What}
 use Rattle.op_runs.specs.declared.events.What.TheVariants as what
 use Rattle.op_runs.specs.declared.events.Event.{Event}
 use Rattle.op_sched.specs.declared.schedule.Schedule.{Schedule}
-use Rattle.op_text.specs.Operations.{OpIsOfBytes, op_name, operands}
+use Rattle.op_text.specs.Operations.{OpIsOfBytes, op_name, operands, read_words}
+use Rattle.op_text.specs.Percent.{AreBytes}
 
 -- ---- lines and words
 
@@ -94,6 +95,7 @@ what_words (what.Tick p) = codes "tick" ∷ decimal p ∷ []
 what_words (what.Commands p cs) = commands_words p cs
 what_words (what.Stop p members) = codes "stop" ∷ decimal p ∷ map decimal members
 what_words (what.Trim p) = codes "trim" ∷ decimal p ∷ []
+what_words (what.Read p r) = codes "read" ∷ decimal p ∷ read_words r
 what_words (what.Deliver i) = codes "deliver" ∷ decimal i ∷ []
 what_words (what.Up p q) = codes "up" ∷ decimal p ∷ decimal q ∷ []
 what_words (what.Down p q) = codes "drop" ∷ decimal p ∷ decimal q ∷ []
@@ -107,6 +109,7 @@ what_words (what.Ballots p) = codes "ballots" ∷ decimal p ∷ []
 -- the keys and values of what happens are bytes
 abbrev pub IsOfBytes : What → Type 0
 IsOfBytes (what.Commands p cs) = All (λ c. OpIsOfBytes c.op) cs
+IsOfBytes (what.Read p r) = AreBytes r.key
 IsOfBytes w = Unit {0}
 
 -- a session is one between two different servers

@@ -25,6 +25,9 @@ line_text (line.Reply pid client seq answer) =
 line_text (line.Dropped pid client seq cause) =
     codes "dropped " ++ decimal pid ++ codes " " ++ decimal client ++ codes " " ++ decimal seq ++ codes " "
     ++ cause_text cause ++ codes "\n"
+line_text (line.Read pid client seq answer) =
+    codes "read " ++ decimal pid ++ codes " " ++ decimal client ++ codes " " ++ decimal seq ++ codes " "
+    ++ answer_text answer ++ codes "\n"
 line_text (line.Pair pid key value) =
     codes "pair " ++ decimal pid ++ codes " " ++ encoded key ++ codes " " ++ encoded value ++ codes "\n"
 line_text (line.Ballots pid own leader promised) =

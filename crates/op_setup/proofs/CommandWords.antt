@@ -5,13 +5,14 @@ use Rattle.op_types.specs.Ranges.{IsKey, IsNumber, IsValue}
 use Rattle.op_types.specs.declared.log.Command.{Command}
 use Rattle.op_types.specs.declared.log.Op.TheVariants.{Put, Del, Get, Cas}
 use Rattle.op_types.specs.declared.events.Request.TheVariants as request
+use Rattle.op_types.specs.declared.read.Read.{Read}
 use Rattle.op_text.specs.Operations.{op_name, operands}
 use Rattle.op_text.proofs.Operations.{after_first}
-use Rattle.op_text.specs.Operations.{AreOperandsOf}
+use Rattle.op_text.specs.Operations.{AreOperandsOf, IsReadOf}
 use Rattle.op_text.specs.Percent.{IsEncoded, encoded}
 use Rattle.op_setup.specs.Tasks.{IsRequest}
 use Rattle.op_setup.proofs.Words.{one_word}
-use Rattle.op_setup.specs.Requests.{AreMembers, AreOperands, AreSomeKeyOnly, IsCommand, IsCommandOf}
+use Rattle.op_setup.specs.Requests.{AreMembers, AreOperands, AreSomeKeyOnly, IsCommand, IsCommandOf, IsRead}
 
 -- ---- operands
 
@@ -107,6 +108,29 @@ pub no_short_command : {A : Type 0} (now : A → List ℕ) (name : List ℕ) (ws
 no_short_command now name ws short c h =
     let long : name ∷ map now ws ≡ op_name c.op ∷ decimal c.client ∷ decimal c.seq ∷ operands c.op = h.written in
     omega (arith, short, sym (length-map ws now) ∙ ap length (ap after_first long))
+
+-- a client, the number of its read and a key are a read's words
+pub whole_read : {A : Type 0} (now : A → List ℕ) (ws : List A) (d0 d1 : A) (client seq : ℕ) → 2 ≤ length ws → IsNumber client → IsNumber seq
+    → now (get_or ws 0 d0) ≡ decimal client → now (get_or ws 1 d1) ≡ decimal seq → AreSomeKeyOnly (map now (take (length ws - 2) (drop 2 ws))) → IsRead (map now ws)
+whole_read now ws d0 d1 client seq low hc hs e0 e1 (key, h) =
+    let all : take (length ws - 2) (drop 2 ws) ≡ drop 2 ws = take_all (length ws - 2) (drop 2 ws) (omega (arith, length-drop 2 ws)) in
+    let words = two_and_more now ws d0 d1 (decimal client) (decimal seq) low e0 e1 in
+    let rest : map now (drop 2 ws) ≡ encoded key ∷ [] = rw all at h.2 in
+    (record { client = client; seq = seq; key = key }, record { in_range = record { client = hc; seq = hs; key = h.0 }; of_bytes = h.1; written = cc (words, rest) })
+
+-- fewer words are none's
+pub no_short_read : {A : Type 0} (now : A → List ℕ) (ws : List A) → length ws < 2 → (r : Read) → IsReadOf (map now ws) r → ⊥
+no_short_read now ws short r h = omega (arith, short, sym (length-map ws now) ∙ ap length h.written)
+
+-- a read's words behind `read` are a request's
+pub read_request : (words : List (List ℕ)) → IsRead words → IsRequest (codes "read" ∷ words)
+read_request words (r, h) = (
+  request.Read r,
+  record {
+    in_range = (h.in_range, h.of_bytes);
+    written = ap (λ (more : List (List ℕ)). codes "read" ∷ more) h.written;
+  },
+)
 
 -- a command's words are a request's
 pub command_request : (words : List (List ℕ)) → IsCommand words → IsRequest words

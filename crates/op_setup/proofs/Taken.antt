@@ -15,7 +15,7 @@ use Rattle.op_types.specs.declared.events.Request.TheVariants as request
 use Rattle.op_gen.specs.Scenarios.{name_of}
 use Rattle.op_gen.specs.declared.scenario.Scenario.{Scenario}
 use Rattle.op_gen.specs.declared.scenario.Scenario.TheVariants.{Quorum, Constrained, Chained}
-use Rattle.op_text.specs.Operations.{op_name, operands}
+use Rattle.op_text.specs.Operations.{op_name, operands, read_words}
 use Rattle.op_setup.specs.Addresses.{addr_text}
 use Rattle.op_setup.specs.Tasks.{request_words, task_words, IsTask, RequestInRange, TaskInRange}
 use Rattle.op_setup.proofs.Flags.{IsPlainWord, plain_addr, plain_decimal, plain_op_name}
@@ -63,6 +63,7 @@ abbrev request_name : Request → List ℕ
 request_name (request.Command c) = op_name c.op
 request_name (request.Stop members) = codes "stop"
 request_name request.Trim = codes "trim"
+request_name (request.Read r) = codes "read"
 request_name request.Status = codes "status"
 request_name request.End = codes "end"
 
@@ -71,6 +72,7 @@ abbrev after_name : Request → List (List ℕ)
 after_name (request.Command c) = decimal c.client ∷ decimal c.seq ∷ operands c.op
 after_name (request.Stop members) = map decimal members
 after_name request.Trim = []
+after_name (request.Read r) = read_words r
 after_name request.Status = []
 after_name request.End = []
 
@@ -78,6 +80,7 @@ name_first : (r : Request) → request_words r ≡ request_name r ∷ after_name
 name_first (request.Command c) = refl
 name_first (request.Stop members) = refl
 name_first request.Trim = refl
+name_first (request.Read r) = refl
 name_first request.Status = refl
 name_first request.End = refl
 
@@ -85,6 +88,7 @@ plain_name : (r : Request) → IsPlainWord (request_name r)
 plain_name (request.Command c) = plain_op_name c.op
 plain_name (request.Stop members) = record { flag = refl; long = refl; short = refl; bare = refl }
 plain_name request.Trim = record { flag = refl; long = refl; short = refl; bare = refl }
+plain_name (request.Read r) = record { flag = refl; long = refl; short = refl; bare = refl }
 plain_name request.Status = record { flag = refl; long = refl; short = refl; bare = refl }
 plain_name request.End = record { flag = refl; long = refl; short = refl; bare = refl }
 
@@ -98,6 +102,7 @@ few_after : (r : Request) → RequestInRange r → length (after_name r) ≤ 9
 few_after (request.Command c) h = omega (arith, few_operands c.op)
 few_after (request.Stop members) h = omega (arith, length-map members decimal, h.few)
 few_after request.Trim h = omega arith
+few_after (request.Read r) h = omega arith
 few_after request.Status h = omega arith
 few_after request.End h = omega arith
 

@@ -4,16 +4,17 @@ use Rattle.std.proofs.lemmas.Bool.{false≢true}
 use Rattle.std.proofs.lemmas.Fmt.{decimal_injective}
 use Rattle.std.proofs.lemmas.Slice.Eq.{bytes_eq-Decides}
 use Rattle.op_outside.specs.declared.net.Addr.{Addr}
-use Rattle.op_types.specs.Ranges.{AreRising, IsNumber}
+use Rattle.op_types.specs.Ranges.{AreRising, IsNumber, ReadInRange}
 use Rattle.op_types.specs.declared.events.Request.{Request}
 use Rattle.op_types.specs.declared.events.Request.TheVariants as request
+use Rattle.op_types.specs.declared.read.Read.{Read}
 use Rattle.op_types.specs.declared.log.Op.{Op}
 use Rattle.op_types.specs.declared.log.Op.TheVariants.{Put, Del, Get, Cas}
 use Rattle.op_gen.specs.Scenarios.{name_of}
 use Rattle.op_gen.specs.declared.scenario.Scenario.{Scenario}
 use Rattle.op_gen.specs.declared.scenario.Scenario.TheVariants.{Quorum, Constrained, Chained}
-use Rattle.op_text.proofs.Operations.{no_op, one_command}
-use Rattle.op_text.specs.Operations.{op_name, operands}
+use Rattle.op_text.proofs.Operations.{no_op, one_command, one_read}
+use Rattle.op_text.specs.Operations.{op_name, operands, read_words}
 use Rattle.op_text.specs.Percent.{encoded}
 use Rattle.op_setup.specs.Addresses.{addr_text}
 use Rattle.op_setup.specs.Tasks.{has_flag, is_flag, most_events, most_rounds, op_words, request_words, task_words, DrillsLinks, IsRequest, IsTask, IsTaskOf, RequestInRange, TaskInRange}
@@ -52,6 +53,13 @@ op_flag addr client seq op ha hc hs =
     let s = plain_decimal seq (omega (arith, hs.1)) in
     words_flag addr (op_name op) (decimal client) (decimal seq) (operands op) ha (plain_op_name op).flag c.flag s.flag (operands_flag op)
 
+read_flag : (addr : List ℕ) (r : Read) → is_flag addr ≡ false → ReadInRange r → has_flag (codes "call" ∷ addr ∷ codes "read" ∷ read_words r) ≡ false
+read_flag addr r ha h =
+    let c = plain_decimal r.client (omega (arith, h.client)) in
+    let s = plain_decimal r.seq (omega (arith, h.seq)) in
+    let key : has_flag (encoded r.key ∷ []) ≡ false = rw (plain_encoded r.key).flag refl in
+    words_flag addr (codes "read") (decimal r.client) (decimal r.seq) (encoded r.key ∷ []) ha refl c.flag s.flag key
+
 ids_flag : (low : ℕ) (ids : List ℕ) → AreRising low ids → has_flag (map decimal ids) ≡ false
 ids_flag low [] h = refl
 ids_flag low (id ∷ ids) h = rw ((plain_decimal id (omega (arith, h.1))).flag, ids_flag id ids h.2) refl
@@ -69,6 +77,7 @@ flag_of Replay h flag = no_flag refl flag
 flag_of (Call addr (request.Command c)) h flag = no_flag (op_flag (addr_text addr) c.client c.seq c.op (plain_addr addr).flag h.1.0.client h.1.0.seq) flag
 flag_of (Call addr (request.Stop members)) h flag = no_flag (stop_flag (addr_text addr) (map decimal members) (plain_addr addr).flag (ids_flag 0 members h.1.rising)) flag
 flag_of (Call addr request.Trim) h flag = no_flag (call_flag (addr_text addr) (codes "trim") (plain_addr addr).flag refl) flag
+flag_of (Call addr (request.Read r)) h flag = no_flag (read_flag (addr_text addr) r (plain_addr addr).flag h.1.0) flag
 flag_of (Call addr request.Status) h flag = no_flag (call_flag (addr_text addr) (codes "status") (plain_addr addr).flag refl) flag
 flag_of (Call addr request.End) h flag = no_flag (call_flag (addr_text addr) (codes "end") (plain_addr addr).flag refl) flag
 flag_of Cluster h flag = no_flag refl flag
@@ -110,6 +119,8 @@ one_request (request.Command c) (request.Command d) hr hs e =
     ap request.Command (one_command c d hr.0 hs.0 hr.1 hs.1 name client seq words)
 one_request (request.Stop ms) (request.Stop ns) hr hs e = ap request.Stop (one_members 0 ms ns hr.rising hs.rising cc)
 one_request request.Trim request.Trim hr hs e = refl
+one_request (request.Read r) (request.Read s) hr hs e =
+    ap request.Read (one_read (read_words r) r s (record { in_range = hr.0; of_bytes = hr.1; written = refl }) (record { in_range = hs.0; of_bytes = hs.1; written = ap after_first e }))
 one_request request.Status request.Status hr hs e = refl
 one_request request.End request.End hr hs e = refl
 one_request (request.Command c) s hr hs e = absurd (no_op c.op (first (request_words s)) refl (ap first e))

@@ -3,7 +3,8 @@ use Rattle.std.specs.Prelude.{◌≡◌, ℕ, List, map, decimal}
 use Rattle.op_types.specs.Ranges.{CommandInRange, MembersInRange}
 use Rattle.op_types.specs.declared.log.Op.{Op}
 use Rattle.op_types.specs.declared.log.Command.{Command}
-use Rattle.op_text.specs.Operations.{AreKeyOnly, AreOperandsOf, OpIsOfBytes}
+use Rattle.op_types.specs.declared.read.Read.{Read}
+use Rattle.op_text.specs.Operations.{AreKeyOnly, AreOperandsOf, IsReadOf, OpIsOfBytes}
 use Rattle.op_setup.specs.Tasks.{op_words}
 
 -- the words are this command's
@@ -15,6 +16,10 @@ pub record IsCommandOf (words : List (List ℕ)) (c : Command) : Type 0 where
 -- the words are some command's
 abbrev pub IsCommand : List (List ℕ) → Type 0
 IsCommand words = (c : Command) × IsCommandOf words c
+
+-- the words are some read's
+abbrev pub IsRead : List (List ℕ) → Type 0
+IsRead words = (r : Read) × IsReadOf words r
 
 -- the words are the operands of some operation of this name
 abbrev pub AreOperands : List ℕ → List (List ℕ) → Type 0

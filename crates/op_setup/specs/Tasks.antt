@@ -1,12 +1,13 @@
 -- What the words of the command line ask.
 use Rattle.std.specs.Prelude.{◌≡◌, ◌≤◌, ◌<◌, ◌^◌, ℕ, List, [], ◌∷◌, map, codes, decimal, nat_eq, Bool}
 use Rattle.std.specs.List.{starts_with, list_any}
-use Rattle.op_types.specs.Ranges.{CommandInRange, IsPid, MembersInRange}
+use Rattle.op_types.specs.Ranges.{CommandInRange, IsPid, MembersInRange, ReadInRange}
 use Rattle.op_types.specs.declared.log.Op.{Op}
 use Rattle.op_types.specs.declared.events.Request.{Request}
 use Rattle.op_types.specs.declared.events.Request.TheVariants as request
 use Rattle.op_gen.specs.Scenarios.{name_of}
-use Rattle.op_text.specs.Operations.{OpIsOfBytes, op_name, operands}
+use Rattle.op_text.specs.Operations.{OpIsOfBytes, op_name, operands, read_words}
+use Rattle.op_text.specs.Percent.{AreBytes}
 use Rattle.op_setup.specs.Addresses.{AddrInRange, addr_text}
 use Rattle.op_setup.specs.declared.tasks.Task.{Task}
 use Rattle.op_setup.specs.declared.tasks.Task.TheVariants.{Node, Replay, Call, Cluster, Drill, DrillLinks}
@@ -20,6 +21,7 @@ abbrev pub request_words : Request → List (List ℕ)
 request_words (request.Command c) = op_words c.client c.seq c.op
 request_words (request.Stop members) = codes "stop" ∷ map decimal members
 request_words request.Trim = codes "trim" ∷ []
+request_words (request.Read r) = codes "read" ∷ read_words r
 request_words request.Status = codes "status" ∷ []
 request_words request.End = codes "end" ∷ []
 
@@ -46,6 +48,7 @@ abbrev pub RequestInRange : Request → Type 0
 RequestInRange (request.Command c) = CommandInRange c × OpIsOfBytes c.op
 RequestInRange (request.Stop members) = MembersInRange members
 RequestInRange request.Trim = Unit {0}
+RequestInRange (request.Read r) = ReadInRange r × AreBytes r.key
 RequestInRange request.Status = Unit {0}
 RequestInRange request.End = Unit {0}
 

@@ -10,7 +10,7 @@ use op_types::{Blob, NoMemory, Op};
 use std::alloc::Global;
 
 /// The one key that words encode.
-fn one_key(alloc: Global, words: &[String]) -> Result<Option<Blob>, NoMemory>
+pub fn one_key(alloc: Global, words: &[String]) -> Result<Option<Blob>, NoMemory>
     ensures found { IfOk result (IsFound (AreKeyOnly (map string_bytes words.now))) }
     ensures memory { IfErr result (λ _. AreSomeKeyOnly (map string_bytes words.now)) }
 {

@@ -1,14 +1,15 @@
 //! The request that words ask for.
 ghost use Rattle.std.specs.Prelude.{◌∷◌, map, codes, string_bytes, IfOk, IfErr};
 ghost use Rattle.op_text.specs.Found.{IsFound};
-ghost use Rattle.op_setup.specs.Requests.{IsCommand, IsCommandOf};
+ghost use Rattle.op_text.specs.Operations.{IsReadOf};
+ghost use Rattle.op_setup.specs.Requests.{IsCommand, IsCommandOf, IsRead};
 ghost use Rattle.op_setup.specs.Tasks.{IsRequest, IsRequestOf};
 
 use crate::arguments::bytes;
 use crate::member_ids::members;
-use crate::operations::operation;
+use crate::operations::{one_key, operation};
 use op_text::client_number;
-use op_types::{Command, NoMemory, Request};
+use op_types::{Command, NoMemory, Read, Request};
 use std::alloc::Global;
 
 /// The command of an operation of this name: a client, the number of its command, and the operation's own words.
@@ -29,6 +30,26 @@ fn command(alloc: Global, name: &str, words: &[String]) -> Result<Option<Command
         return Ok(None);
     };
     Ok(Some(Command { client, seq, op }))
+}
+
+/// A client's read: a client, the number of its read, and a key.
+fn read(alloc: Global, words: &[String]) -> Result<Option<Read>, NoMemory>
+    ensures found { IfOk result (IsFound (IsReadOf (map string_bytes words.now))) }
+    ensures memory { IfErr result (λ _. IsRead (map string_bytes words.now)) }
+{
+    let [client, seq, words @ ..] = words else {
+        return Ok(None);
+    };
+    let Some(client) = client_number(bytes(client)) else {
+        return Ok(None);
+    };
+    let Some(seq) = client_number(bytes(seq)) else {
+        return Ok(None);
+    };
+    let Some(key) = one_key(alloc, words)? else {
+        return Ok(None);
+    };
+    Ok(Some(Read { client, seq, key }))
 }
 
 /// `stop`: the members of the next configuration.
@@ -52,6 +73,10 @@ pub fn request(alloc: Global, words: &[String]) -> Result<Option<Request>, NoMem
     };
     match name.as_str() {
         "stop" => stop(words),
+        "read" => match read(alloc, words)? {
+            Some(read) => Ok(Some(Request::Read(read))),
+            None => Ok(None),
+        },
         "trim" if words.is_empty() => Ok(Some(Request::Trim)),
         "status" if words.is_empty() => Ok(Some(Request::Status)),
         "end" if words.is_empty() => Ok(Some(Request::End)),

@@ -8,8 +8,10 @@ use Rattle.std.proofs.lemmas.Slice.Eq.{bytes_eq-Decides}
 use Rattle.op_types.specs.declared.log.Op.{Op}
 use Rattle.op_types.specs.declared.log.Op.TheVariants.{Put, Del, Get, Cas}
 use Rattle.op_types.specs.declared.log.Command.{Command}
+use Rattle.op_types.specs.declared.read.Read.{Read}
 use Rattle.op_types.specs.Ranges.{CommandInRange}
-use Rattle.op_text.specs.Operations.{OpIsOfBytes, op_name, operands}
+use Rattle.op_text.specs.Operations.{IsReadOf, OpIsOfBytes, op_name, operands, read_words}
+use Rattle.op_text.specs.Percent.{encoded}
 use Rattle.op_text.proofs.UnambiguousEncoding.{one_encoding_of}
 
 -- ---- words
@@ -67,3 +69,18 @@ one_command c d ic id bc bd name client seq words =
     let there : c.seq ≡ d.seq = decimal_injective c.seq d.seq (omega (arith, ic.seq)) (omega (arith, id.seq)) seq in
     let op = one_op c.op d.op bc bd name words in
     ap (λ (x : ℕ). command x c.seq c.op) here ∙ ap (λ (x : ℕ). command d.client x c.op) there ∙ ap (command d.client d.seq) op
+
+abbrev read : ℕ → ℕ → List ℕ → Read
+read client seq key = record { client = client; seq = seq; key = key }
+
+-- a client, the number of its read, and a key are one read's
+pub one_read : (words : List (List ℕ)) (r s : Read) → IsReadOf words r → IsReadOf words s → r ≡ s
+one_read words r s hr hs =
+    let e : read_words r ≡ read_words s = sym hr.written ∙ hs.written in
+    let client : decimal r.client ≡ decimal s.client = cc in
+    let seq : decimal r.seq ≡ decimal s.seq = cc in
+    let word : encoded r.key ≡ encoded s.key = cc in
+    let here : r.client ≡ s.client = decimal_injective r.client s.client (omega (arith, hr.in_range.client)) (omega (arith, hs.in_range.client)) client in
+    let there : r.seq ≡ s.seq = decimal_injective r.seq s.seq (omega (arith, hr.in_range.seq)) (omega (arith, hs.in_range.seq)) seq in
+    let key = one_encoding_of r.key s.key hr.of_bytes hs.of_bytes word in
+    ap (λ (x : ℕ). read x r.seq r.key) here ∙ ap (λ (x : ℕ). read s.client x r.key) there ∙ ap (read s.client s.seq) key

@@ -1,8 +1,9 @@
--- A client's operation in words: its name, and its key and values.
-use Rattle.std.specs.Prelude.{◌≡◌, ℕ, List, [], ◌∷◌, codes}
-use Rattle.op_types.specs.Ranges.{IsKey, OpInRange}
+-- A client's operation in words: its name, and its key and values; and a client's read.
+use Rattle.std.specs.Prelude.{◌≡◌, ℕ, List, [], ◌∷◌, codes, decimal}
+use Rattle.op_types.specs.Ranges.{IsKey, OpInRange, ReadInRange}
 use Rattle.op_types.specs.declared.log.Op.{Op}
 use Rattle.op_types.specs.declared.log.Op.TheVariants.{Put, Del, Get, Cas}
+use Rattle.op_types.specs.declared.read.Read.{Read}
 use Rattle.op_text.specs.Percent.{AreBytes, encoded}
 
 -- the name of a client's operation
@@ -32,6 +33,16 @@ pub record AreOperandsOf (name : List ℕ) (words : List (List ℕ)) (op : Op) :
   pub of_bytes : OpIsOfBytes op
   pub named : name ≡ op_name op
   pub written : words ≡ operands op
+
+-- the words of a read: its client, its number and its key
+abbrev pub read_words : Read → List (List ℕ)
+read_words r = decimal r.client ∷ decimal r.seq ∷ encoded r.key ∷ []
+
+-- the words are this read's
+pub record IsReadOf (words : List (List ℕ)) (r : Read) : Type 0 where
+  pub in_range : ReadInRange r
+  pub of_bytes : AreBytes r.key
+  pub written : words ≡ read_words r
 
 -- the words are this key alone
 abbrev pub AreKeyOnly : List (List ℕ) → List ℕ → Type 0

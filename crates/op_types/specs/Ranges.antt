@@ -7,6 +7,7 @@ use Rattle.op_types.specs.declared.log.Op.{Op}
 use Rattle.op_types.specs.declared.log.Op.TheVariants.{Put, Del, Get, Cas}
 use Rattle.op_types.specs.declared.log.Command.{Command}
 use Rattle.op_types.specs.declared.log.StopSign.{StopSign}
+use Rattle.op_types.specs.declared.read.Read.{Read}
 use Rattle.op_types.specs.declared.log.Entry.{Entry}
 use Rattle.op_types.specs.declared.log.Entry.TheVariants as entries
 
@@ -22,7 +23,7 @@ IsConf n = (1 ≤ n) × (n ≤ last_conf)
 abbrev pub IsPlace : ℕ → Type 0
 IsPlace n = n ≤ positions_end
 
--- a client, or the number of one of its commands
+-- a client, or the number of one of its commands or reads
 abbrev pub IsNumber : ℕ → Type 0
 IsNumber n = (1 ≤ n) × (n ≤ greatest_number)
 
@@ -67,6 +68,12 @@ pub record CommandInRange (c : Command) : Type 0 where
   pub client : IsNumber c.client
   pub seq : IsNumber c.seq
   pub op : OpInRange c.op
+
+-- a read whose parts are in range
+pub record ReadInRange (r : Read) : Type 0 where
+  pub client : IsNumber r.client
+  pub seq : IsNumber r.seq
+  pub key : IsKey r.key
 
 -- a stop-sign whose parts are in range
 pub record StopInRange (s : StopSign) : Type 0 where

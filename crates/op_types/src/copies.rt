@@ -1,7 +1,7 @@
 //! Copies, each equal to what it was made from.
 ghost use Rattle.std.specs.Prelude.{◌≡◌, IfOk};
 
-use crate::{Answer, Applied, Blob, Body, Command, Entries, Entry, Op, Reply, StopSign};
+use crate::{Answer, Applied, Blob, Body, Command, Entries, Entry, Op, Read, Reply, StopSign};
 use std::alloc::{AllocError as NoMemory, Global};
 
 impl Blob {
@@ -40,6 +40,19 @@ impl Command {
             client: self.client,
             seq: self.seq,
             op: self.op.copy(alloc)?,
+        })
+    }
+}
+
+impl Read {
+    /// An equal value.
+    pub fn copy(&self, alloc: Global) -> Result<Read, NoMemory>
+        ensures { IfOk result (λ read. read ≡ self.now) }
+    {
+        Ok(Read {
+            client: self.client,
+            seq: self.seq,
+            key: self.key.copy(alloc)?,
         })
     }
 }
@@ -140,6 +153,8 @@ impl Body {
             Body::BasePart(at, base) => Body::BasePart(*at, base.copy(alloc)?),
             Body::AskSegment(from, to) => Body::AskSegment(*from, *to),
             Body::Segment(at, es) => Body::Segment(*at, copy_entries(alloc, es.as_slice())?),
+            Body::Confirm(n, number) => Body::Confirm(*n, *number),
+            Body::Confirmed(n, number) => Body::Confirmed(*n, *number),
         })
     }
 }

@@ -7,6 +7,7 @@ ghost use Rattle.op_sched.specs.Forms.{op_form_name, form_name, ArePeers, AreCal
 
 use crate::reading::calls::{call, image};
 use crate::reading::operations::{OpForm, op_form_of, operation};
+use crate::reading::reads::client_read;
 use crate::reading::words::is_name;
 use op_runs::What;
 use op_text::{client_number, number, pid};
@@ -237,6 +238,22 @@ fn trim(words: &[&[u8]]) -> Option<What>
     Some(What::Trim(one_server(words)?))
 }
 
+/// `read`: a server, and a client's read.
+fn read(alloc: Global, words: &[&[u8]]) -> Result<Option<What>, NoMemory>
+    ensures { IfOk result (IsFound (AreWordsOf (codes "read" ∷ map (λ x. x.now) words.now))) }
+{
+    let Some((id, words)) = words.split_first() else {
+        return Ok(None);
+    };
+    let Some(id) = pid(id) else {
+        return Ok(None);
+    };
+    match client_read(alloc, words)? {
+        Some(read) => Ok(Some(What::Read(id, read))),
+        None => Ok(None),
+    }
+}
+
 /// A client's operation: a server, a client, the number of its command, and the operation's own words.
 fn command(alloc: Global, form: OpForm, words: &[&[u8]]) -> Result<Option<What>, NoMemory>
     ensures { IfOk result (IsFound (AreWordsOf (op_form_name form ∷ map (λ x. x.now) words.now))) }
@@ -272,6 +289,8 @@ pub enum Form {
     Stop,
     /// `trim`
     Trim,
+    /// `read`
+    Read,
     /// `deliver`
     Deliver,
     /// `up`
@@ -302,6 +321,8 @@ fn form_of(word: &[u8]) -> Option<Form>
         Some(Form::Stop)
     } else if is_name(word, b"trim") {
         Some(Form::Trim)
+    } else if is_name(word, b"read") {
+        Some(Form::Read)
     } else if is_name(word, b"deliver") {
         Some(Form::Deliver)
     } else if is_name(word, b"up") {
@@ -338,6 +359,7 @@ pub fn event(alloc: Global, words: &[&[u8]]) -> Result<Option<What>, NoMemory>
         Form::Command(op) => command(alloc, op, words),
         Form::Stop => stop(words),
         Form::Trim => Ok(trim(words)),
+        Form::Read => read(alloc, words),
         Form::Deliver => Ok(deliver(words)),
         Form::Up => Ok(up(words)),
         Form::Drop => Ok(down(words)),

@@ -9,6 +9,7 @@ mod calls;
 mod forms;
 mod lines;
 mod operations;
+mod reads;
 mod words;
 
 use crate::schedule::{SchedFail, Schedule};

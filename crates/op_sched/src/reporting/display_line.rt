@@ -24,6 +24,9 @@ impl fmt::Display for LineText<'_> {
             Line::Dropped(pid, client, seq, cause) => {
                 writeln!(f, "dropped {pid} {client} {seq} {}", CauseText(*cause))
             }
+            Line::Read(pid, client, seq, answer) => {
+                writeln!(f, "read {pid} {client} {seq} {}", AnswerText(answer))
+            }
             Line::Pair(pid, key, value) => {
                 let key = Encoded(key.as_slice());
                 let value = Encoded(value.as_slice());

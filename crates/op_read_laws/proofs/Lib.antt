@@ -1,0 +1,9 @@
+pub mod PlainSends
+pub mod Happened
+pub mod Moments
+pub mod Asking
+pub mod Holding
+pub mod NextMoment
+pub mod ReadsFresh
+pub mod ReadsTold
+pub mod ReadsOnce
