@@ -109,7 +109,7 @@ pub record Made (old : Chain) (plan : ChainPlan) (kept : Volatile) (new : Chain)
 
 -- a state by its parts
 abbrev pub state_with : Durable → step.Volatile → Service → Waiting → State
-state_with d v s w = record { durable = d; volatile = v; service = s; waiting = w }
+state_with d v s w = record { durable = d; volatile = v; service = s; waiting = w; reads = None }
 
 -- equal parts make equal states
 pub state_is : {d e : Durable} {v w : step.Volatile} {s t : Service} {ws xs : Waiting} → d ≡ e → v ≡ w → s ≡ t → ws ≡ xs → state_with d v s ws ≡ state_with e w t xs
@@ -130,13 +130,13 @@ module _ (old new : Chain) (plan : ChainPlan) (kept : Volatile) (g : Given) (k :
   node_by None row =
       let role : (turned_in plan.plan.turn (volatile_of old.volatile)).role ≡ role_of kept.role = ap (λ (v : step.Volatile). v.role) (sym k.turned) in
       let before : IsNode old.me (state_of old).durable old.volatile = node_room no_needs old.me old.durable old.volatile sound.node in
-      let after : IsSoundNode old.me left (role_of kept.role) = subst (λ (r : Role). IsSoundNode old.me left r) role row.sound in
+      let after : IsSoundNode old.me left (role_of kept.role) = subst (λ (r : Role). IsSoundNode old.me left r) role row.step.sound in
       record {
-        part = part_node old.me (state_of old).durable.part left.part old.volatile kept before.part after.part row.same k.elector k.electors k.listener k.members;
+        part = part_node old.me (state_of old).durable.part left.part old.volatile kept before.part after.part row.step.same k.elector k.electors k.listener k.members;
         closed = after.closed;
         joining = after.joining;
       }
-  node_by (Some r) node = node
+  node_by (Some r) begins = begins.node
 
   sound_after : IsSoundChain new
   sound_after =
@@ -158,8 +158,10 @@ module _ (old new : Chain) (plan : ChainPlan) (kept : Volatile) (g : Given) (k :
         volatile = turned_in plan.plan.turn (volatile_of old.volatile);
         service = service_over old.service.service plan.service;
         waiting = e.waiting;
+        reads = None;
         sends = plan.plan.sends;
         replies = e.replies ++ d.replies;
+        read_replies = [];
         outcome = plan.plan.outcome;
       }
 

@@ -1,14 +1,16 @@
 -- A step that decides its part's stop-sign may close the part: its batch applies with the Close behind it, and what is left
 -- is sound.
-use Rattle.std.proofs.Common.{◌≡◌, ℕ, ◌+◌, ◌-◌, ◌<◌, ◌≤◌, Bool, true, false, List, [], ◌∷◌, ◌++◌, length, All, Option, Some, None, refl, sym, ap, ◌∙◌, subst, arith}
+use Rattle.std.proofs.Common.{◌≡◌, ℕ, ◌+◌, ◌-◌, ◌<◌, ◌≤◌, Bool, true, false, eqb, List, [], ◌∷◌, ◌++◌, length, All, Option, Some, None, refl, sym, ap, ◌∙◌, subst, arith}
 use Rattle.std.specs.Prelude.{is_some, nat_eq}
 use Rattle.std.specs.Set.{is_member}
+use Rattle.std.proofs.lemmas.Bool.{cond-false, ne_eqb}
 use Rattle.std.proofs.lemmas.List.{length-take}
 use Rattle.std.proofs.lemmas.List.Elements.{All-nil}
+use Rattle.op_types.specs.Ballots.{no_ballot}
 use Rattle.op_types.specs.Limits.{positions_end, last_conf}
 use Rattle.op_types.specs.Ranges.{IsMember}
 use Rattle.op_types.specs.Stops.{stop_at_end, named_by}
-use Rattle.op_types.specs.Changes.{IsCommand, IsEnded, len_of, new_part, closed_by, decided_tail, part_after_closed, durable_closing, durable_after, PartOptionApplies, Applies}
+use Rattle.op_types.specs.Changes.{IsCommand, IsEnded, len_of, new_part, closed_len, closed_by, decided_tail, part_after_closed, durable_closing, durable_after, PartOptionApplies, Applies}
 use Rattle.op_types.specs.Roles.{Role, Idle, role_of, turned}
 use Rattle.op_types.specs.declared.answers.Cause.TheVariants as cause
 use Rattle.op_types.specs.declared.changes.Change.{Change}
@@ -22,17 +24,21 @@ use Rattle.op_spec.specs.Service.{Service, base_bytes}
 use Rattle.op_protocol.specs.State as step
 use Rattle.op_protocol.specs.State.{PartStep}
 use Rattle.op_protocol.specs.Parts.{part_after, decided_since}
-use Rattle.op_protocol.specs.Configurations.{news_of}
+use Rattle.op_protocol.specs.Configurations.{latest_in, latest_of, news_of}
+use Rattle.op_protocol.specs.Reading.{decided_of, why_given_up}
 use Rattle.op_protocol.specs.Leader.{given_up_by}
 use Rattle.op_protocol.specs.Rows.{newly_decided}
 use Rattle.op_protocol.proofs.Plans as plans
 use Rattle.op_protocol.proofs.StepBatches.{IsInside, inside_after}
+use Rattle.op_kv.specs.Over.{MapState}
 use Rattle.op_plans.specs.Positions.{FitsPositions}
 use Rattle.op_instance.specs.Sound.{IsSound, IfSound, IsSoundStep, ListFits, IsNodeOf, IfNodeOf, IsNode}
 use Rattle.op_instance.specs.declared.volatile.Volatile.{Volatile}
 use Rattle.op_instance.proofs.Batches.{conf_after}
+use Rattle.op_instance.proofs.Batches.{after_both as parts_after_both}
 use Rattle.op_instance.proofs.Ends.{ended}
-use Rattle.op_chain.specs.Plans.{BeginsAnew, MayClose, IfMayClose, closed_plan, Closes, IfCloses}
+use Rattle.op_chain.specs.Leads.{why_closed, why_anew}
+use Rattle.op_chain.specs.Plans.{BeginsAnew, BeginsIn, MayClose, IfMayClose, closed_plan, Closes, IfCloses}
 use Rattle.op_chain.specs.declared.renewal.Renewal.{Renewal}
 use Rattle.op_chain.proofs.Joined.{applies_both}
 use Rattle.op_chain.proofs.News.{ends_all}
@@ -78,6 +84,27 @@ left_by : (me : ℕ) (q : Part) (named : Bool) (base : List ℕ) (v : Volatile) 
 left_by me q true base v is over anew = let below : q.conf < last_conf = over.1 in new_node (q.conf + 1) me (closed_by q).next base v (omega arith) is anew
 left_by me q false base v is over anew = tt
 
+-- nothing is decided in it
+over_decided : (q : Part) (named : Bool) (base : List ℕ) → decided_of (part_after_closed (closed_by q) named base) ≡ 0
+over_decided q true base = refl
+over_decided q false base = refl
+
+-- the closed list ends at the stop-sign
+over_stop : (q : Part) → FitsPositions q → closed_len (closed_by q) ≡ q.decided
+over_stop q fits =
+    let cut = length-take (q.decided - q.trimmed) q.tail.items in
+    let trimmed = fits.trimmed in
+    let decided = fits.decided in
+    omega (arith, cut, trimmed, decided)
+
+-- and that is why the node leads no more
+over_why : (q : Part) (named : Bool) (base : List ℕ) → FitsPositions q → why_given_up q.conf (part_after_closed (closed_by q) named base) (Some (closed_by q)) ≡ cause.Stop (q.decided - 1)
+over_why q true base fits =
+    let other : eqb (q.conf + 1) q.conf ≡ false = ne_eqb (q.conf + 1) q.conf (λ e. omega (arith, e)) in
+    cond-false (eqb (q.conf + 1) q.conf) (cause.Ballot no_ballot) (cause.Stop (closed_len (closed_by q) - 1)) other
+    ∙ ap (λ (n : ℕ). cause.Stop (n - 1)) (over_stop q fits)
+over_why q false base fits = ap (λ (n : ℕ). cause.Stop (n - 1)) (over_stop q fits)
+
 -- ---- a step that decides the stop-sign
 
 module _ (me : ℕ) (d : Durable) (p : Part) (y : PartStep) (is : d.part ≡ Some p) (inside : All IsInside y.batch) (sound : IsSoundStep me d y) where
@@ -113,18 +140,41 @@ module _ (me : ℕ) (d : Durable) (p : Part) (y : PartStep) (is : d.part ≡ Som
         (subst (λ (o : Option Part). PartOptionApplies o close) (sym leaves) (left_ended ends), tt)
 
     -- what it leaves
-    pub close_leaves : (v : Volatile) → BeginsAnew me (closed_by left).next v → IsNode me (durable_after d (y.batch ++ close ∷ [])) v
-    close_leaves v anew =
-        let e : Durable = durable_after d y.batch in
-        let named : Bool = is_member nat_eq (closed_by left).next me in
-        let after : durable_after d (y.batch ++ close ∷ []) ≡ durable_closing (Some left) e named base =
-        plans.after_both d y.batch (close ∷ []) ∙ ap (λ (o : Option Part). durable_closing o e named base) leaves in
-        let node : IsNode me (durable_closing (Some left) e named base) v = record {
+    abbrev named : Bool
+    named = is_member nat_eq (closed_by left).next me
+
+    after : durable_after d (y.batch ++ close ∷ []) ≡ durable_closing (Some left) (durable_after d y.batch) named base
+    after =
+        plans.after_both d y.batch (close ∷ []) ∙ ap (λ (o : Option Part). durable_closing o (durable_after d y.batch) named base) leaves
+
+    close_node : (v : Volatile) → BeginsAnew me (closed_by left).next v → IsNode me (durable_after d (y.batch ++ close ∷ [])) v
+    close_node v anew =
+        let node : IsNode me (durable_closing (Some left) (durable_after d y.batch) named base) v = record {
           part = left_by me left named base v refl (left_ended ends) anew;
           closed = closed_fits left left_sound.positions (left_ended ends);
           joining = sound.sound.joining;
         } in
         subst (λ (z : Durable). IsNode me z v) (sym after) node
+
+    -- why the node leads no more
+    close_why : why_given_up (latest_of d) (durable_after d (y.batch ++ close ∷ [])).part (durable_after d (y.batch ++ close ∷ [])).closed ≡ why_closed d.part (y.batch ++ close ∷ [])
+    close_why =
+        let latest : latest_of d ≡ left.conf = ap (λ (o : Option Part). latest_in o d.closed) is ∙ sym (conf_after p y.batch) in
+        let ended_at : why_closed d.part (y.batch ++ close ∷ []) ≡ cause.Stop (left.decided - 1) =
+        ap (λ (o : Option Part). why_closed o (y.batch ++ close ∷ [])) is ∙ ap (λ (q : Part). cause.Stop (q.decided - 1)) (parts_after_both p y.batch (close ∷ [])) in
+        ap (λ (n : ℕ). why_given_up n (durable_after d (y.batch ++ close ∷ [])).part (durable_after d (y.batch ++ close ∷ [])).closed) latest
+        ∙ ap (λ (z : Durable). why_given_up left.conf z.part z.closed) after
+        ∙ over_why left named base left_sound.positions
+        ∙ sym ended_at
+
+    pub close_leaves : (r : Renewal) → BeginsAnew me (closed_by left).next r.volatile → r.service ≡ None → BeginsIn me d (y.batch ++ close ∷ []) r
+    close_leaves r anew none =
+        record {
+          node = close_node r.volatile anew;
+          idle = ap (λ (w : step.Volatile). w.role) anew.first;
+          undecided = ap (λ (z : Durable). decided_of z.part) after ∙ over_decided left named base;
+          why = close_why ∙ ap (λ (m : Option MapState). why_anew d (y.batch ++ close ∷ []) m) (sym none);
+        }
 
 -- ---- a plan that closes the part
 

@@ -5,6 +5,7 @@ use Rattle.std.proofs.lemmas.List.{take_more, take_all}
 use Rattle.std.proofs.lemmas.List.Sums.{fold-append}
 use Rattle.op_types.specs.Changes.{part_with}
 use Rattle.op_types.specs.declared.answers.Answer.{Answer}
+use Rattle.op_types.specs.declared.ballot.Ballot.{Ballot}
 use Rattle.op_types.specs.declared.changes.Change.{Change}
 use Rattle.op_types.specs.declared.changes.Change.TheVariants as change
 use Rattle.op_types.specs.declared.durable.Part.{Part}
@@ -35,6 +36,15 @@ none_decided p (change.Append es) none = refl
 none_decided p (change.Decided x) none = absurd (none x refl)
 none_decided p (change.Trim x base) none = refl
 none_decided p _ none = refl
+
+pub none_promised : (p : Part) (c : Change) → ((n : Ballot) → c ≡ change.Promise n → ⊥) → (part_with p c).promised ≡ p.promised
+none_promised p (change.Promise n) none = absurd (none n refl)
+none_promised p (change.Accept n) none = refl
+none_promised p (change.CutTo n) none = refl
+none_promised p (change.Append es) none = refl
+none_promised p (change.Decided x) none = refl
+none_promised p (change.Trim x base) none = refl
+none_promised p _ none = refl
 
 pub none_trimmed : (p : Part) (c : Change) → ((x : ℕ) (base : List ℕ) → c ≡ change.Trim x base → ⊥) → (part_with p c).trimmed ≡ p.trimmed
 none_trimmed p (change.Promise n) none = refl

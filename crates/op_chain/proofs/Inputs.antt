@@ -12,7 +12,7 @@ use Rattle.op_record.specs.Ranges.{BatchInRange}
 use Rattle.op_protocol.specs.State.{Planned}
 use Rattle.op_protocol.specs.Configurations.{latest_of}
 use Rattle.op_protocol.specs.Joining.{brought_to, holds_more}
-use Rattle.op_protocol.specs.Rows.{brought_by, step_bringing, step_plan}
+use Rattle.op_protocol.specs.Rows.{brought_by, step_bringing, table_plan}
 use Rattle.op_chain.specs.Bringing.{brings}
 use Rattle.op_chain.specs.Chains.{state_of, Admits}
 use Rattle.op_chain.specs.declared.chain.Chain.{Chain}
@@ -36,7 +36,7 @@ brought_parts latest o _ batch is = absurd cc
 
 module _ (a : Chain) (x : Input) (bare : with_room no_needs a.durable ≡ a.durable) (batch : List Change) (is : brought_by a.durable x ≡ Some batch) where
   -- the node holds more then
-  pub table_holds : step_plan a.me (state_of a) x ≡ holds_more a.me (state_of a) batch
+  pub table_holds : table_plan a.me (state_of a) x ≡ holds_more a.me (state_of a) batch
   table_holds = ap (λ (o : Option (List Change)). step_bringing a.me (state_of a) x o) (ap (λ (d : Durable). brought_by d x) bare ∙ is)
 
   pub range_holds : Admits a x → BatchInRange (holds_more a.me (state_of a) batch).batch

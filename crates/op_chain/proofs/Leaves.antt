@@ -1,11 +1,14 @@
 -- What a node leaves that holds more of a closed list, and that goes on once it has all.
-use Rattle.std.proofs.Common.{◌≡◌, ℕ, zero, suc, ◌+◌, ◌-◌, ◌<◌, ◌≤◌, ◌^◌, Bool, true, false, cond, List, [], ◌∷◌, ◌++◌, length, All, Option, Some, None, refl, sym, ap, ◌∙◌, subst, arith}
+use Rattle.std.proofs.Common.{◌≡◌, ℕ, zero, suc, ◌+◌, ◌-◌, ◌<◌, ◌≤◌, ◌^◌, Bool, true, false, cond, eqb, List, [], ◌∷◌, ◌++◌, length, All, Option, Some, None, refl, sym, ap, ◌∙◌, subst, arith}
 use Rattle.std.specs.Prelude.{IfSome, is_some}
 use Rattle.std.proofs.lemmas.List.Elements.{All-nil, All-cons, All-head, All-tail}
+use Rattle.op_types.specs.Ballots.{no_ballot}
 use Rattle.op_types.specs.Limits.{last_conf}
-use Rattle.op_types.specs.Changes.{closed_joined, joining_with, durable_joined, durable_with, durable_after, Applies}
+use Rattle.op_types.specs.Changes.{closed_len, part_with, closed_joined, joining_with, durable_joined, durable_with, durable_after, Applies}
 use Rattle.op_types.specs.Joinings.{Held, Base, held_at, with_first, held_run, cover_of}
 use Rattle.op_types.specs.Roles.{Role}
+use Rattle.op_types.specs.declared.answers.Cause.{Cause}
+use Rattle.op_types.specs.declared.answers.Cause.TheVariants as cause
 use Rattle.op_types.specs.declared.changes.Change.{Change}
 use Rattle.op_types.specs.declared.changes.Change.TheVariants as change
 use Rattle.op_types.specs.declared.durable.Closed.{Closed}
@@ -15,16 +18,23 @@ use Rattle.op_types.specs.declared.durable.Part.{Part}
 use Rattle.op_types.specs.declared.log.Entry.{Entry}
 use Rattle.op_types.specs.declared.messages.Body.{Body}
 use Rattle.op_types.specs.declared.messages.Body.TheVariants as body
+use Rattle.op_protocol.specs.State as step
+use Rattle.op_protocol.specs.Parts.{part_after}
+use Rattle.op_protocol.specs.Configurations.{latest_of}
+use Rattle.op_protocol.specs.Reading.{decided_of, why_given_up}
 use Rattle.op_protocol.specs.Joining.{new_entries, takes_base, takes_entries, brought_to}
 use Rattle.op_protocol.proofs.Plans as plans
+use Rattle.op_kv.specs.Over.{MapState}
 use Rattle.op_instance.specs.Sound.{IsSoundNode, ListFits, JoiningFits, IfJoiningFits, IsNode, AreOfOneConf}
 use Rattle.op_instance.specs.declared.volatile.Volatile.{Volatile}
 use Rattle.op_chain.specs.Bringing.{joining_after}
-use Rattle.op_chain.specs.Plans.{BeginsAnew}
+use Rattle.op_chain.specs.Leads.{why_joined, why_anew}
+use Rattle.op_chain.specs.Plans.{BeginsAnew, IsPartAfter, BeginsIn}
+use Rattle.op_chain.specs.declared.renewal.Renewal.{Renewal}
 use Rattle.op_chain.proofs.Based.{of_parts}
 use Rattle.op_chain.proofs.Closes.{new_node}
 use Rattle.op_chain.proofs.Joined.{applies_both, brought_applies}
-use Rattle.op_chain.proofs.Steps.{same_members}
+use Rattle.op_chain.proofs.Steps.{same_conf, same_members, same_len}
 
 -- ---- what is brought
 
@@ -59,6 +69,20 @@ all_held o k j [] holds = refl
 all_held o k j (c ∷ batch) holds =
     ap (λ (d : Durable). durable_after d batch) (one_held o k j c (All-head Holds c batch holds)) ∙ all_held o k (joining_with j c) batch (All-tail Holds c batch holds)
 
+one_kept : (p : Part) (c : Change) → Holds c → part_with p c ≡ p
+one_kept p (change.JoinBase at bytes) holds = refl
+one_kept p (change.JoinPart at es) holds = refl
+one_kept p _ holds = absurd holds
+
+all_kept : (p : Part) (batch : List Change) → All Holds batch → part_after p batch ≡ p
+all_kept p [] holds = refl
+all_kept p (c ∷ batch) holds =
+    ap (λ (q : Part). part_after q batch) (one_kept p c (All-head Holds c batch holds)) ∙ all_kept p batch (All-tail Holds c batch holds)
+
+held_part : (o : Option Part) (batch : List Change) (left : Option Part) → All Holds batch → left ≡ o → IsPartAfter o batch left
+held_part None batch left holds is = is
+held_part (Some p) batch left holds is = is ∙ ap (λ (q : Part). Some q) (sym (all_kept p batch holds))
+
 fits_one : (me : ℕ) (o : Option Part) (k : Option Closed) (j : Joining) (c : Change) (batch : List Change) → Holds c → JoiningFits me j → Applies (of_parts o k (Some j)) (c ∷ batch) → JoiningFits me (joining_with j c)
 fits_one me o k j (change.JoinBase at bytes) batch holds fits all =
     record { number = fits.number; last = fits.last; len = fits.len; member = fits.member; base = all.0.1 }
@@ -86,12 +110,18 @@ run_length : (held : Held) (at n : ℕ) (es : List Entry) → held_run held at n
 run_length held at zero es is = let none : [] ≡ es = cc in sym (ap length none)
 run_length held at (suc n) es is = with_first_length n (held_at held at) (held_run held (at + 1) n) es (λ xs so. run_length held (at + 1) n xs so) is
 
--- what is closed of a list that is whole
-joined_fits : (me : ℕ) (j : Joining) (b : Base) (es : List Entry) → JoiningFits me j → j.base ≡ Some b → cover_of j ≡ Some es → ListFits (closed_joined j b es)
-joined_fits me j b es fits is covers =
+-- its length is that of the whole list
+joined_len : (me : ℕ) (j : Joining) (b : Base) (es : List Entry) → JoiningFits me j → j.base ≡ Some b → cover_of j ≡ Some es → closed_len (closed_joined j b es) ≡ j.len
+joined_len me j b es fits is covers =
     let run : held_run j.held.items b.0 (j.len - b.0) ≡ Some es = rw is at covers in
     let count = run_length j.held.items b.0 (j.len - b.0) es run in
     let within : b.0 ≤ j.len = subst (λ (o : Option Base). IfSome o (λ x. x.0 ≤ j.len)) is fits.base in
+    omega arith
+
+-- what is closed of a list that is whole
+joined_fits : (me : ℕ) (j : Joining) (b : Base) (es : List Entry) → JoiningFits me j → j.base ≡ Some b → cover_of j ≡ Some es → ListFits (closed_joined j b es)
+joined_fits me j b es fits is covers =
+    let len : closed_len (closed_joined j b es) ≡ j.len = joined_len me j b es fits is covers in
     let low : 0 < j.conf = fits.number in
     let high : j.conf ≤ last_conf = fits.last in
     let short : j.len < 2 ^ 64 = fits.len in
@@ -137,6 +167,10 @@ module _ (me : ℕ) (d : Durable) (j : Joining) (is : d.joining ≡ Some j) (c :
   pub hold_same : AreOfOneConf (durable_after d batch).part d.part
   hold_same = subst (λ (e : Durable). AreOfOneConf e.part d.part) (sym hold_leaves) (alike d.part)
 
+  -- its part stays as it is
+  pub hold_part : IsPartAfter d.part batch (durable_after d batch).part
+  hold_part = held_part d.part batch (durable_after d batch).part holds (ap (λ (e : Durable). e.part) hold_leaves)
+
   -- it goes on once it has all
   module _ (base : List ℕ) (x : Base) (es : List Entry) (has : (joining_after j batch).base ≡ Some x) (covers : cover_of (joining_after j batch) ≡ Some es) where
     abbrev whole : Joining
@@ -154,8 +188,8 @@ module _ (me : ℕ) (d : Durable) (j : Joining) (is : d.joining ≡ Some j) (c :
         ∙ ap (λ (o : Option Base). durable_joined whole base o (cover_of whole) (of_parts d.part d.closed (Some whole))) has
         ∙ ap (λ (o : Option (List Entry)). durable_joined whole base (Some x) o (of_parts d.part d.closed (Some whole))) covers
 
-    pub go_leaves : (r : Role) (v : Volatile) → IsSoundNode me d r → BeginsAnew me j.members v → IsNode me (durable_after d (batch ++ change.JoinDone base ∷ [])) v
-    go_leaves r v sound anew =
+    go_node : (r : Role) (v : Volatile) → IsSoundNode me d r → BeginsAnew me j.members v → IsNode me (durable_after d (batch ++ change.JoinDone base ∷ [])) v
+    go_node r v sound anew =
         let fits : JoiningFits me whole = hold_fits (fits_of r sound) in
         let begun : BeginsAnew me whole.members v = subst (λ (ms : List ℕ). BeginsAnew me ms v) (sym (same_members j batch)) anew in
         let node : IsNode me (durable_joined whole base (Some x) (Some es) (of_parts d.part d.closed (Some whole))) v = record {
@@ -164,3 +198,24 @@ module _ (me : ℕ) (d : Durable) (j : Joining) (is : d.joining ≡ Some j) (c :
           joining = tt;
         } in
         subst (λ (e : Durable). IsNode me e v) (sym gone) node
+
+    -- why the node leads no more
+    go_why : (r : Role) → IsSoundNode me d r
+        → why_given_up (latest_of d) (durable_after d (batch ++ change.JoinDone base ∷ [])).part (durable_after d (batch ++ change.JoinDone base ∷ [])).closed ≡ why_joined (latest_of d) d.joining
+    go_why r sound =
+        let fits : JoiningFits me whole = hold_fits (fits_of r sound) in
+        let why : ℕ → ℕ → Cause = λ conf len. cond (eqb conf (latest_of d)) (cause.Ballot no_ballot) (cause.Stop (len - 1)) in
+        let same : why whole.conf (closed_len (closed_joined whole x es)) ≡ why j.conf j.len =
+        ap (λ (n : ℕ). why whole.conf n) (joined_len me whole x es fits has covers ∙ same_len j batch) ∙ ap (λ (n : ℕ). why n j.len) (same_conf j batch) in
+        ap (λ (e : Durable). why_given_up (latest_of d) e.part e.closed) gone
+        ∙ same
+        ∙ ap (λ (o : Option Joining). why_joined (latest_of d) o) (sym is)
+
+    pub go_leaves : (r : Role) (y : Renewal) (m : MapState) → IsSoundNode me d r → BeginsAnew me j.members y.volatile → y.service ≡ Some m → BeginsIn me d (batch ++ change.JoinDone base ∷ []) y
+    go_leaves r y m sound anew serves =
+        record {
+          node = go_node r y.volatile sound anew;
+          idle = ap (λ (w : step.Volatile). w.role) anew.first;
+          undecided = ap (λ (e : Durable). decided_of e.part) gone;
+          why = go_why r sound ∙ ap (λ (o : Option MapState). why_anew d (batch ++ change.JoinDone base ∷ []) o) (sym serves);
+        }

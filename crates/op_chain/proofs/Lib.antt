@@ -7,6 +7,7 @@ pub mod Coming
 pub mod Decided
 pub mod Inputs
 pub mod Joined
+pub mod Leads
 pub mod Leaves
 pub mod News
 pub mod Opened

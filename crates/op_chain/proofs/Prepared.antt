@@ -30,8 +30,8 @@ use Rattle.op_protocol.specs.State.{State, PartStep, Planned, Waiting}
 use Rattle.op_protocol.specs.Parts.{part_after, decided_since}
 use Rattle.op_protocol.specs.Configurations.{closing}
 use Rattle.op_protocol.specs.Joining.{brought_to, holds_more}
-use Rattle.op_protocol.specs.Rows.{brought_by, step_at, waiting_at, based_batch, newly_decided, planned, plan_of, step_bringing, step_plan}
-use Rattle.op_protocol.proofs.StepBatches.{IsInside, step_inside, inside_all_based}
+use Rattle.op_protocol.specs.Rows.{brought_by, step_at, waiting_at, based_batch, newly_decided, planned, plan_of, step_bringing, table_plan}
+use Rattle.op_protocol.proofs.StepBatches.{IsInside, inside_after, inside_none, step_inside, inside_all_based}
 use Rattle.op_kv.specs.Over.{Written, MapState, service_over}
 use Rattle.op_instance.specs.Memory.{volatile_of, part_step_of, HasRoomIn}
 use Rattle.op_instance.specs.Sound.{IsSound, IfSound, IsSoundNode, IsSoundStep, IfNodeOf, IsNode}
@@ -40,7 +40,7 @@ use Rattle.op_instance.proofs.StepsApply.{sound_step}
 use Rattle.op_chain.specs.Answering.{IsServed, HasRoomFor}
 use Rattle.op_chain.specs.Bringing.{joining_after, joined, IfJoined}
 use Rattle.op_chain.specs.Chains.{state_of, HaveBases, IsSoundChain, IsSame, Admits}
-use Rattle.op_chain.specs.Plans.{renewed, planned_by, made_by, LeavesWith, HasRoomToTell, Prepares, waiters_of, waiting_by, based_step, told_anew, IfMayClose, IfCloses, IfGoesOn, Serves}
+use Rattle.op_chain.specs.Plans.{renewed, planned_by, made_by, IsPartAfter, Stays, BeginsIn, LeavesWith, HasRoomToTell, Prepares, waiters_of, waiting_by, based_step, told_anew, IfMayClose, IfCloses, IfGoesOn, Serves}
 use Rattle.op_chain.specs.declared.chain.Chain.{Chain}
 use Rattle.op_chain.specs.declared.chain_plan.ChainPlan.{ChainPlan}
 use Rattle.op_chain.specs.declared.renewal.Renewal.{Renewal}
@@ -51,7 +51,7 @@ use Rattle.op_chain.specs.Waiting.{WaitingSet}
 use Rattle.op_chain.proofs.Adopted.{state_with, state_is}
 use Rattle.op_chain.proofs.Based.{begins_fit, bases_after, based_sound}
 use Rattle.op_chain.proofs.Closes.{may_close, close_applies, close_leaves}
-use Rattle.op_chain.proofs.Leaves.{hold_applies, hold_leaves, hold_sound, hold_same, go_applies, go_leaves}
+use Rattle.op_chain.proofs.Leaves.{hold_applies, hold_leaves, hold_sound, hold_same, hold_part, go_applies, go_leaves}
 use Rattle.op_chain.proofs.Steps.{chain_plan, step_table, storing_plan, join_table, waits_table}
 
 -- ---- words of lists and records
@@ -150,9 +150,9 @@ module _ (a : Chain) (x : Input) (admits : Admits a x) (bare : with_room no_need
   abbrev waiting_then : Waiting
   waiting_then = waiting_at a.me (state_at a) x
 
-  table_is : step_plan a.me (state_of a) x ≡ plan_of a.me (state_at a) waiting_then stepped
+  table_is : table_plan a.me (state_of a) x ≡ plan_of a.me (state_at a) waiting_then stepped
   table_is =
-      ap (λ (s : State). step_plan a.me s x) (state_rested a bare)
+      ap (λ (s : State). table_plan a.me s x) (state_rested a bare)
       ∙ ap (λ (o : Option (List Change)). step_bringing a.me (state_at a) x o) none
 
   range_here : BatchInRange (plan_of a.me (state_at a) waiting_then stepped).batch
@@ -215,7 +215,7 @@ module _ (a : Chain) (x : Input) (admits : Admits a x) (bare : with_room no_need
       kept = keeps_by a.durable.part (service_over a.service.service served.change) (role_of a.volatile.role) r closes
 
       -- what adopting it makes is what the table plans
-      pub step_is : c.waiting.next ≡ waiting_by new.outcome a.waiting.waiting (waiters_of x) → planned_by c ready ≡ step_plan a.me (state_of a) x
+      pub step_is : c.waiting.next ≡ waiting_by new.outcome a.waiting.waiting (waiters_of x) → planned_by c ready ≡ table_plan a.me (state_of a) x
       step_is next =
           let outcome : new.outcome ≡ stepped.outcome = kept.1 ∙ ap (λ (z : PartStep). z.outcome) row in
           let waits : c.waiting.next ≡ waiting_then =
@@ -232,13 +232,21 @@ module _ (a : Chain) (x : Input) (admits : Admits a x) (bare : with_room no_need
           (subst (λ (p : Planned). BatchInRange p.batch) (sym (step_is next)) admits.range)
 
       -- where it applies, and what it leaves
+      -- the part that its changes make
+      part_by : (o : Option Part) → a.durable.part ≡ o → IsPartAfter o plan.batch (durable_after a.durable plan.batch).part
+      part_by None is = inside_none a.durable plan.batch done_inside is
+      part_by (Some p) is = inside_after a.durable p plan.batch done_inside is
+
       stays : (y : Option Renewal) → new ≡ plan → y ≡ None → (Applies a.durable new.batch) × LeavesWith a.me a.durable new y c.volatile
       stays y same over =
           let v : step.Volatile = volatile_of c.volatile in
           let here : IsSoundStep a.me a.durable (part_step_of new v) =
           subst (λ (w : step.Volatile). IsSoundStep a.me a.durable (part_step_of new w)) (sym (volatile_like a c like))
           (subst (λ (n : Plan). IsSoundStep a.me a.durable (part_step_of n (volatile_of a.volatile))) (sym same) done_sound) in
-          (here.applies, subst (λ (o : Option Renewal). LeavesWith a.me a.durable new o c.volatile) (sym over) here)
+          let part : IsPartAfter a.durable.part new.batch (durable_after a.durable new.batch).part =
+          subst (λ (n : Plan). IsPartAfter a.durable.part n.batch (durable_after a.durable n.batch).part) (sym same) (part_by a.durable.part refl) in
+          let there : Stays a.me a.durable new c.volatile = record { step = here; part = part } in
+          (here.applies, subst (λ (o : Option Renewal). LeavesWith a.me a.durable new o c.volatile) (sym over) there)
 
       goes_by : (o : Option Part) → a.durable.part ≡ o → (y : Option Renewal) → IfCloses a.me o (service_over a.service.service served.change) (role_of a.volatile.role) plan new y
           → (Applies a.durable new.batch) × LeavesWith a.me a.durable new y c.volatile
@@ -248,14 +256,14 @@ module _ (a : Chain) (x : Input) (admits : Admits a x) (bare : with_room no_need
           let base : List ℕ = base_bytes (service_over a.service.service served.change) in
           let batch : new.batch ≡ plan.batch ++ change.Close (is_member nat_eq (closed_by (part_after p plan.batch)).next a.me) base ∷ [] = ap (λ (n : Plan). n.batch) k.0.plan in (
             subst (λ (b : List Change). Applies a.durable b) (sym batch) (close_applies a.me a.durable p done is done_inside done_sound base k.1),
-            subst (λ (b : List Change). IsNode a.me (durable_after a.durable b) y.volatile) (sym batch) (close_leaves a.me a.durable p done is done_inside done_sound base k.1 y.volatile k.0.anew),
+            subst (λ (b : List Change). BeginsIn a.me a.durable b y) (sym batch) (close_leaves a.me a.durable p done is done_inside done_sound base k.1 y k.0.anew k.0.service),
           )
 
       pub step_goes : (Applies a.durable new.batch) × LeavesWith a.me a.durable new r c.volatile
       step_goes = goes_by a.durable.part refl r closes
 
       pub step_prepared : c.waiting.next ≡ waiting_by new.outcome a.waiting.waiting (waiters_of x) → HasRoomIn plan.turn c.volatile → c.service.waiting ≡ 0 → HasRoomToTell ready
-          → Prepares c (step_plan a.me (state_of a) x) ready
+          → Prepares c (table_plan a.me (state_of a) x) ready
       step_prepared next turn settled tells =
           let stored : (state_of c).durable ≡ a.durable = ap (λ (d : Durable). with_room no_needs d) like.durable ∙ bare in
           let bases : HaveBases (durable_after a.durable new.batch) = bases_after a.durable new.batch admits.sound.bases (step_in_range next).each in
@@ -314,7 +322,10 @@ module _ (a : Chain) (sound : IsSoundChain a) (bare : with_room no_needs a.durab
         let there : IsSoundStep a.me a.durable (part_step_of new (volatile_of c.volatile)) =
         subst (λ (w : step.Volatile). IsSoundStep a.me a.durable (part_step_of new w)) (sym (volatile_like a c like))
         (subst (λ (n : Plan). IsSoundStep a.me a.durable (part_step_of n (volatile_of a.volatile))) (sym is_plan) here) in
-        (there.applies, subst (λ (o : Option Renewal). LeavesWith a.me a.durable new o c.volatile) (sym over) there)
+        let part : IsPartAfter a.durable.part new.batch (durable_after a.durable new.batch).part =
+        subst (λ (n : Plan). IsPartAfter a.durable.part n.batch (durable_after a.durable n.batch).part) (sym is_plan) (hold_part a.me a.durable j is at b batch brings) in
+        let left : Stays a.me a.durable new c.volatile = record { step = there; part = part } in
+        (there.applies, subst (λ (o : Option Renewal). LeavesWith a.me a.durable new o c.volatile) (sym over) left)
 
     joins_by : (s : Option MapState) (y : Option Renewal) → IfJoined j batch s → IfGoesOn a.me (Some j) s (role_of a.volatile.role) (storing_plan batch) new y → (Applies a.durable new.batch) × LeavesWith a.me a.durable new y c.volatile
     joins_by None y all k = joins_stay y k.0 k.1
@@ -324,8 +335,8 @@ module _ (a : Chain) (sound : IsSoundChain a) (bare : with_room no_needs a.durab
         let base : List ℕ = base_bytes s.service in
         let stores : new.batch ≡ batch ++ change.JoinDone base ∷ [] = ap (λ (n : Plan). n.batch) k.plan in (
           subst (λ (cs : List Change). Applies a.durable cs) (sym stores) (go_applies a.me a.durable j is at b batch brings base parts.0 parts.1 parts.2 parts.3),
-          subst (λ (cs : List Change). IsNode a.me (durable_after a.durable cs) y.volatile) (sym stores)
-              (go_leaves a.me a.durable j is at b batch brings base parts.0 parts.1 parts.2 parts.3 (role_of a.volatile.role) y.volatile node_sound k.anew),
+          subst (λ (cs : List Change). BeginsIn a.me a.durable cs y) (sym stores)
+              (go_leaves a.me a.durable j is at b batch brings base parts.0 parts.1 parts.2 parts.3 (role_of a.volatile.role) y s node_sound k.anew k.service),
         )
 
     join_goes : (Applies a.durable new.batch) × LeavesWith a.me a.durable new r c.volatile

@@ -9,7 +9,7 @@ use Rattle.op_types.specs.declared.needs.Needs.{Needs}
 use Rattle.op_types.proofs.Adoption.{bare_rests, room_serves}
 use Rattle.op_record.specs.Ranges.{BatchInRange}
 use Rattle.op_protocol.specs.State.{State, Planned}
-use Rattle.op_protocol.specs.Rows.{step_plan}
+use Rattle.op_protocol.specs.Rows.{table_plan}
 use Rattle.op_instance.specs.Memory.{volatile_of}
 use Rattle.op_chain.specs.Chains.{state_of, HaveBases, IsSoundChain, IsSame, Admits}
 use Rattle.op_chain.specs.Plans.{LeavesWith, Plans, Prepares}
@@ -42,8 +42,8 @@ same_self a sound = record { me = refl; state = refl; sound = sound }
 pub same_both : (a b c : Chain) → IsSame a b → IsSame b c → IsSame a c
 same_both a b c first next = record { me = next.me ∙ first.me; state = next.state ∙ first.state; sound = next.sound }
 
-table_same : (a b : Chain) (x : Input) → IsSame a b → step_plan b.me (state_of b) x ≡ step_plan a.me (state_of a) x
-table_same a b x same = ap (λ (n : ℕ). step_plan n (state_of b) x) same.me ∙ ap (λ (s : State). step_plan a.me s x) same.state
+table_same : (a b : Chain) (x : Input) → IsSame a b → table_plan b.me (state_of b) x ≡ table_plan a.me (state_of a) x
+table_same a b x same = ap (λ (n : ℕ). table_plan n (state_of b) x) same.me ∙ ap (λ (s : State). table_plan a.me s x) same.state
 
 -- so does what is admitted
 pub admits_same : (a b : Chain) (x : Input) → IsSame a b → Admits a x → Admits b x
@@ -55,7 +55,7 @@ pub roomed_rests : (a b : Chain) → b ≡ roomed no_needs a → with_room no_ne
 roomed_rests a b is =
     subst (λ (c : Chain). with_room no_needs c.durable ≡ c.durable) (sym is) (rested no_needs a.durable)
 
-module _ (a c d : Chain) (x : Input) (plan : ChainPlan) (admits : Admits a x) (same : IsSame a c) (prepares : Prepares c (step_plan a.me (state_of a) x) plan)
+module _ (a c d : Chain) (x : Input) (plan : ChainPlan) (admits : Admits a x) (same : IsSame a c) (prepares : Prepares c (table_plan a.me (state_of a) x) plan)
     (bare : with_room no_needs c.durable ≡ c.durable) (plain : IsPlain plan.plan.batch) where
   abbrev batch : List Change
   batch = plan.plan.batch

@@ -64,8 +64,10 @@ row_made waiting replies s y =
       volatile = y.volatile;
       service = s;
       waiting = g.waiting;
+      reads = None;
       sends = y.sends;
       replies = g.replies ++ d.replies;
+      read_replies = [];
       outcome = y.outcome;
     }
 
@@ -274,4 +276,5 @@ waits_table me s (input.Deliver q m) = no_waiters (step_at me s.durable s.volati
 waits_table me s (input.Stop members) = no_waiters (step_at me s.durable s.volatile (input.Stop members)).outcome s.waiting
 waits_table me s input.TrimNow = no_waiters (step_at me s.durable s.volatile input.TrimNow).outcome s.waiting
 waits_table me s (input.Up q) = no_waiters (step_at me s.durable s.volatile (input.Up q)).outcome s.waiting
+waits_table me s (input.Read r) = no_waiters (step_at me s.durable s.volatile (input.Read r)).outcome s.waiting
 waits_table me s (input.Down q) = no_waiters (step_at me s.durable s.volatile (input.Down q)).outcome s.waiting

@@ -11,7 +11,7 @@ use Rattle.op_types.specs.declared.events.Input.{Input}
 use Rattle.op_record.specs.Ranges.{BatchInRange}
 use Rattle.op_spec.specs.Service.{Pairs, Service, new_service}
 use Rattle.op_protocol.specs.State.{State, Volatile}
-use Rattle.op_protocol.specs.Rows.{step_plan}
+use Rattle.op_protocol.specs.Rows.{table_plan}
 use Rattle.op_protocol.specs.Starting.{first_volatile}
 use Rattle.op_instance.specs.Memory.{volatile_of}
 use Rattle.op_kv.specs.Bases.{IsBase}
@@ -20,7 +20,7 @@ use Rattle.op_plans.specs.Positions.{FitsPositions}
 use Rattle.op_chain.specs.Bringing.{HasBase}
 use Rattle.op_chain.specs.declared.chain.Chain.{Chain}
 
--- the state of the step table that a chain keeps; the room that its log has is left out
+-- the state of the step table that a chain keeps, without reads; the room that its log has is left out
 abbrev pub state_of : Chain → State
 state_of c =
     record {
@@ -28,6 +28,7 @@ state_of c =
       volatile = volatile_of c.volatile;
       service = c.service.service;
       waiting = c.waiting.waiting;
+      reads = None;
     }
 
 -- the base of a part, and the one that a node holds that joins, are bases
@@ -49,7 +50,7 @@ pub record IsSame (old new : Chain) : Type 0 where
 -- the chain can plan this step: what the step stores is in range
 pub record Admits (c : Chain) (x : Input) : Type 0 where
   pub sound : IsSoundChain c
-  pub range : BatchInRange (step_plan c.me (state_of c) x).batch
+  pub range : BatchInRange (table_plan c.me (state_of c) x).batch
 
 -- the ballots of a node with a part: its own, its leader's as far as it knows, and the one that it promised
 abbrev pub ballots_in : Volatile → Option Part → Option (Ballot × Ballot × Ballot)
@@ -86,4 +87,5 @@ pub record CanOpen (me : ℕ) (d : Durable) : Type 0 where
 
 -- the state of a node at its first start, which has stored this
 abbrev pub first_state : ℕ → Durable → State
-first_state me d = record { durable = d; volatile = first_volatile me; service = new_service; waiting = [] }
+first_state me d =
+    record { durable = d; volatile = first_volatile me; service = new_service; waiting = []; reads = None }

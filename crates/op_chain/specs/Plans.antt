@@ -5,7 +5,7 @@ use Rattle.op_types.specs.Limits.{last_conf}
 use Rattle.op_types.specs.Stops.{stop_at_end}
 use Rattle.op_types.specs.Changes.{closed_by, Applies, durable_after}
 use Rattle.op_types.specs.Ranges.{IsMember}
-use Rattle.op_types.specs.Roles.{Role, role_of, turned}
+use Rattle.op_types.specs.Roles.{Role, Idle, role_of, turned}
 use Rattle.op_types.specs.Rooms.{HasRoomFor}
 use Rattle.op_types.specs.declared.answers.Cause.TheVariants as cause
 use Rattle.op_types.specs.declared.answers.Outcome.{Outcome}
@@ -27,10 +27,11 @@ use Rattle.op_protocol.specs.State as step
 use Rattle.op_protocol.specs.State.{PartStep, Planned, Waiting, state_after}
 use Rattle.op_protocol.specs.Parts.{part_after, decided_since, others, to_each}
 use Rattle.op_protocol.specs.Leader.{given_up_by}
-use Rattle.op_protocol.specs.Configurations.{news_of}
+use Rattle.op_protocol.specs.Configurations.{latest_of, news_of}
+use Rattle.op_protocol.specs.Reading.{decided_of, why_given_up}
 use Rattle.op_protocol.specs.Serving.{dropping}
 use Rattle.op_protocol.specs.Starting.{first_volatile}
-use Rattle.op_protocol.specs.Rows.{based_batch, newly_decided, step_plan}
+use Rattle.op_protocol.specs.Rows.{based_batch, newly_decided, table_plan}
 use Rattle.op_plans.specs.Positions.{FitsPositions}
 use Rattle.op_kv.specs.Over.{MapState, service_over}
 use Rattle.op_instance.specs.Memory.{volatile_of, turned_in, part_step_of, IsKeptBy, HasRoomIn}
@@ -40,6 +41,7 @@ use Rattle.op_chain.specs.Answering as answering
 use Rattle.op_chain.specs.Answering.{giving}
 use Rattle.op_chain.specs.Waiting.{with_waiters}
 use Rattle.op_chain.specs.Chains.{state_of, HaveBases, IsSoundChain}
+use Rattle.op_chain.specs.Leads.{why_anew}
 use Rattle.op_chain.specs.declared.chain.Chain.{Chain}
 use Rattle.op_chain.specs.declared.chain_plan.ChainPlan.{ChainPlan}
 use Rattle.op_chain.specs.declared.renewal.Renewal.{Renewal}
@@ -78,8 +80,10 @@ made_by waiting v s plan =
       volatile = turned_in plan.plan.turn v;
       service = service_over s plan.service;
       waiting = g.waiting;
+      reads = None;
       sends = plan.plan.sends;
       replies = g.replies ++ d.replies;
+      read_replies = [];
       outcome = plan.plan.outcome;
     })
 
@@ -92,6 +96,11 @@ abbrev pub told_anew : Option Renewal → List Reply
 told_anew None = []
 told_anew (Some r) = r.given_up
 
+-- the service that is read anew, if one is
+abbrev pub service_in : Option Renewal → Option MapState
+service_in None = None
+service_in (Some r) = r.service
+
 -- what is kept in memory then, and the service
 abbrev pub volatile_anew : Option Renewal → Volatile → Volatile
 volatile_anew None v = v
@@ -101,11 +110,31 @@ abbrev pub service_by : Option Renewal → Service → Service
 service_by None s = s
 service_by (Some r) s = service_anew r.service s
 
--- what it leaves: a part of the same configuration that is sound with the role that its turn gives, or what
--- begins anew is of the part that it leaves, if it leaves one
+-- a part that these changes make of another one, if there is one
+abbrev pub IsPartAfter : Option Part → List Change → Option Part → Type 0
+IsPartAfter None batch o = o ≡ None
+IsPartAfter (Some p) batch o = o ≡ Some (part_after p batch)
+
+-- A plan stays in its configuration: it leaves the part that its changes make, which is sound with the role
+-- that its turn gives.
+pub record Stays (me : ℕ) (d : Durable) (plan : Plan) (v : Volatile) : Type 0 where
+  pub step : IsSoundStep me d (part_step_of plan (volatile_of v))
+  pub part : IsPartAfter d.part plan.batch (durable_after d plan.batch).part
+
+-- What begins anew is of the part that a batch leaves, if it leaves one: nothing is decided in it, and the
+-- node neither prepares nor leads.
+pub record BeginsIn (me : ℕ) (d : Durable) (batch : List Change) (r : Renewal) : Type 0 where
+  pub node : IsNode me (durable_after d batch) r.volatile
+  pub idle : role_of r.volatile.role ≡ Idle
+  pub undecided : decided_of (durable_after d batch).part ≡ 0
+  pub why :
+      why_given_up (latest_of d) (durable_after d batch).part (durable_after d batch).closed
+      ≡ why_anew d batch r.service
+
+-- what a plan leaves
 abbrev pub LeavesWith : ℕ → Durable → Plan → Option Renewal → Volatile → Type 0
-LeavesWith me d plan None v = IsSoundStep me d (part_step_of plan (volatile_of v))
-LeavesWith me d plan (Some r) v = IsNode me (durable_after d plan.batch) r.volatile
+LeavesWith me d plan None v = Stays me d plan v
+LeavesWith me d plan (Some r) v = BeginsIn me d plan.batch r
 
 -- the same, of a chain, with the bases that it leaves
 pub record LeavesNode (c : Chain) (plan : ChainPlan) : Type 0 where
@@ -124,7 +153,7 @@ HasRoomToTell plan =
 -- it leaves is sound, and there is room for all that adopting it takes.
 pub record Plans (c : Chain) (x : Input) (plan : ChainPlan) : Type 0 where
   pub sound : IsSoundChain c
-  pub table : planned_by c plan ≡ step_plan c.me (state_of c) x
+  pub table : planned_by c plan ≡ table_plan c.me (state_of c) x
   pub range : BatchInRange plan.plan.batch
   pub applies : Applies c.durable plan.plan.batch
   pub log : HasRoomFor plan.plan.batch c.durable

@@ -8,7 +8,7 @@ ghost use Rattle.op_types.specs.declared.messages.Body as body;
 ghost use Rattle.op_record.specs.Ranges.{BatchInRange};
 ghost use Rattle.op_protocol.specs.Serving.{dropping_reply};
 ghost use Rattle.op_protocol.specs.Joining.{brought_to, holds_more};
-ghost use Rattle.op_protocol.specs.Rows.{step_plan, step_at, brought_by, newly_decided, based_batch};
+ghost use Rattle.op_protocol.specs.Rows.{table_plan, step_at, brought_by, newly_decided, based_batch};
 ghost use Rattle.op_protocol.specs.Starting as starts;
 ghost use Rattle.op_kv.specs.Bases.{IsBase};
 ghost use Rattle.op_kv.specs.Over.{service_over};
@@ -20,6 +20,7 @@ ghost use Rattle.op_chain.specs.Plans.{Plans, Prepares, Adopts, HasRoomToTell};
 ghost use Rattle.op_chain.specs.Plans.{waiters_of, waiting_by, based_step, Serves, IfMayClose, IfCloses, IfGoesOn};
 ghost use Rattle.op_chain.specs.Plans.{told_anew, volatile_anew, service_by};
 
+mod leading;
 mod reopening;
 
 use crate::answering::{give, give_up};
@@ -120,7 +121,7 @@ impl Chain {
         ensures same { IsSame self.old self.new }
         ensures rested { self.new.durable ≡ self.old.durable }
         ensures prepares { IfOk result
-            (Prepares self.new (step_plan self.old.me (state_of self.old) input)) }
+            (Prepares self.new (table_plan self.old.me (state_of self.old) input)) }
     {
         if self.durable.joining.is_none() {
             self.plan_step(input)
@@ -136,7 +137,7 @@ impl Chain {
         ensures same { IsSame self.old self.new }
         ensures rested { self.new.durable ≡ self.old.durable }
         ensures prepares { IfOk result
-            (Prepares self.new (step_plan self.old.me (state_of self.old) input)) }
+            (Prepares self.new (table_plan self.old.me (state_of self.old) input)) }
     {
         let latest = self.stored().latest();
         match bringing(self.alloc, latest, &self.durable.joining, input)? {
@@ -165,7 +166,7 @@ impl Chain {
         ensures same { IsSame self.old self.new }
         ensures rested { self.new.durable ≡ self.old.durable }
         ensures prepares { IfOk result
-            (Prepares self.new (step_plan self.old.me (state_of self.old) input)) }
+            (Prepares self.new (table_plan self.old.me (state_of self.old) input)) }
     {
         let waiters = waiters_of(self.alloc, &input)?;
         let mut plan = self.step(input)?;
@@ -320,7 +321,7 @@ impl Chain {
     pub fn adopt(&mut self, plan: ChainPlan) -> Given
         requires { (x : input.Input) × Plans self.old x plan }
         ensures { (x : input.Input) → Plans self.old x plan →
-            Adopts self.old (step_plan self.old.me (state_of self.old) x) self.new result }
+            Adopts self.old (table_plan self.old.me (state_of self.old) x) self.new result }
     {
         let ChainPlan {
             plan,

@@ -3,7 +3,7 @@ ghost use Rattle.std.specs.Prelude.{◌≡◌};
 use crate::renewal::Anew;
 use crate::room::Room;
 use op_kv::KvChange;
-use op_types::{Batch, Plan, Replies};
+use op_types::{Batch, Plan, Replies, Sends};
 
 /// What a step is to do, with all its room made: it can be adopted, or dropped.
 #[derive(Drop)]
@@ -25,6 +25,13 @@ impl ChainPlan {
         ensures { result.now ≡ self.now.plan.batch }
     {
         &self.plan.batch
+    }
+
+    /// The messages that go out once it is adopted.
+    pub fn sends(&self) -> &Sends
+        ensures { result.now ≡ self.now.plan.sends }
+    {
+        &self.plan.sends
     }
 
     /// What was to be stored by a plan that is dropped.

@@ -7,7 +7,7 @@ ghost use Rattle.op_chain.specs.Answering.{Continues, IsServed};
 use crate::served::Served;
 use crate::service_plan::ServicePlan;
 use op_kv::Map;
-use op_types::{Change, Entry, NoMemory, Part};
+use op_types::{Ballot, Change, Entry, NoMemory, Part};
 use std::alloc::Global;
 
 /// What the entries that a batch newly decides do. The service stays as it is, and is settled.
@@ -58,6 +58,19 @@ pub(crate) fn decided_after(part: &Part, batch: &[Change]) -> u64
         }
     }
     decided
+}
+
+/// The ballot that a part has promised after a batch.
+pub(crate) fn promised_after(part: &Part, batch: &[Change]) -> Ballot
+    ensures { result ≡ (part_after part.now batch.now).promised }
+{
+    let mut promised = part.promised;
+    'changes: for change in batch {
+        if let Change::Promise(ballot) = change {
+            promised = *ballot;
+        }
+    }
+    promised
 }
 
 /// How much of a part is trimmed after a batch.

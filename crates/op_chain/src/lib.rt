@@ -1,5 +1,5 @@
-//! A node over all its configurations, its service and its waiting clients, without its disks: each step is planned with all
-//! the memory that it takes, and adopted once its batch is stored.
+//! A node over all its configurations, its service and its waiting clients, without its disks and its reads: each step is
+//! planned with all the memory that it takes, and adopted once its batch is stored.
 #![tactic(auto)]
 
 mod answering;
@@ -10,6 +10,7 @@ mod closing;
 mod deciding;
 mod given;
 mod joining;
+mod lead;
 mod renewal;
 mod room;
 mod served;
@@ -22,5 +23,6 @@ mod waiting_set;
 pub use chain::Chain;
 pub use chain_plan::ChainPlan;
 pub use given::Given;
+pub use lead::Lead;
 pub use op_kv::{Map, Pairs};
 pub use starting::{empty_durable, first_durable, sends_after_restart};

@@ -1,8 +1,8 @@
 //! A node goes on in another configuration, or in none.
-ghost use Rattle.std.specs.Prelude.{◌≡◌, ◌++◌, Some, None, is_some, length, IfOk, OnOk};
+ghost use Rattle.std.specs.Prelude.{◌≡◌, ◌++◌, Some, None, is_some, option_copied, length, IfOk, OnOk};
 ghost use Rattle.op_types.specs.declared.messages.Body.TheVariants.{PrepareReq};
 ghost use Rattle.op_protocol.specs.Parts.{others, to_each};
-ghost use Rattle.op_chain.specs.Plans.{BeginsAnew, told_anew};
+ghost use Rattle.op_chain.specs.Plans.{BeginsAnew, told_anew, service_in};
 
 use op_instance::{Volatile, first_volatile, spare_volatile};
 use op_kv::Map;
@@ -60,6 +60,13 @@ impl Anew {
     {
         let boxed = self.renewal?;
         Some(Box::into_inner(boxed))
+    }
+
+    /// The service, where it is read anew.
+    pub(crate) fn service(&self) -> Option<&Map>
+        ensures { option_copied result ≡ service_in self.now }
+    {
+        self.renewal.as_ref()?.service.as_ref()
     }
 
     /// Whether something begins anew.

@@ -38,6 +38,7 @@ deed_possible ids ms sent (what.Commands p cs) each can fit = record { pid = can
 deed_possible ids ms sent (what.Stop p members) each can fit =
     record { pid = (and_parts (is_member nat_eq ids p) _ can).0; doing = record { range = fit.1; known = possible_names ids sent (what.Stop p members) can } }
 deed_possible ids ms sent (what.Trim p) each can fit = record { pid = can; doing = tt }
+deed_possible ids ms sent (what.Read p r) each can fit = record { pid = can; doing = fit.1 }
 deed_possible ids ms sent (what.Deliver i) each can fit = delivery_possible ids (slice_get ms i) (message_found ids ms i each)
 deed_possible ids ms sent (what.Up p q) each can fit = record { pid = (and_parts (is_member nat_eq ids p) (is_member nat_eq ids q) can).0; doing = fit.1 }
 deed_possible ids ms sent (what.Down p q) each can fit = record { pid = (and_parts (is_member nat_eq ids p) (is_member nat_eq ids q) can).0; doing = fit.1 }

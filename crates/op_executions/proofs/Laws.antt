@@ -11,6 +11,9 @@ use Rattle.op_laws.proofs.Messages.{every_message_is_true}
 use Rattle.op_laws.proofs.Reached.{front_in_range, elected_rise, led_once}
 use Rattle.op_laws.proofs.RepliesServed.{every_reply_is_served}
 use Rattle.op_laws.proofs.Trims.{every_trim_is_known}
+use Rattle.op_read_laws.proofs.ReadsFresh.{every_read_is_fresh}
+use Rattle.op_read_laws.proofs.ReadsOnce.{every_read_comes_once}
+use Rattle.op_read_laws.proofs.ReadsTold.{every_line_is_fresh}
 use Rattle.op_refinement.proofs.EveryRun.{every_run_meets}
 use Rattle.op_executions.specs.Laws.{KeepsTheLaws}
 
@@ -35,4 +38,7 @@ module _ (members spares : List ℕ) (run : List Happening) (k : RunInRange memb
     answers = λ early h late is. leaders_answer_alone members spares early h (until early h late is);
     rises = λ m late is. elected_rise members spares m (front (until_second m) (m.second ∷ late) is);
     leads = λ m late is. led_once members spares m (front (until_second m) (m.second ∷ late) is);
+    fresh = every_read_is_fresh members spares run k;
+    once = every_read_comes_once members spares run k;
+    told = every_line_is_fresh members spares run k;
   }

@@ -1,6 +1,7 @@
 -- The laws of every run, said of one.
 use Rattle.std.specs.Prelude.{◌≡◌, ℕ, List, ◌∷◌, ◌++◌}
 use Rattle.op_runs.specs.World.{Happening}
+use Rattle.op_runs.specs.Fresh.{ReadsAreFresh}
 use Rattle.op_runs.specs.Run.{Execution, first_execution, execution_of, Meets}
 use Rattle.op_runs.specs.Replies.{RepliesAreServed}
 use Rattle.op_runs.specs.Summary.{summary_of}
@@ -10,6 +11,8 @@ use Rattle.op_laws.specs.Elected.{TwoMoments, until_second, RisesBetween}
 use Rattle.op_laws.specs.Exchange.{ExchangesDecide}
 use Rattle.op_laws.specs.Known.{TrimsAreKnown, MessagesAreTrue}
 use Rattle.op_laws.specs.Led.{LeadsOnceIn}
+use Rattle.op_read_laws.specs.Once.{ReadsComeOnce}
+use Rattle.op_read_laws.specs.Told.{LinesAreFresh}
 
 -- what a run of these members and spares has come to after these happenings
 abbrev pub reached : List ℕ → List ℕ → List Happening → Execution
@@ -47,3 +50,8 @@ pub record KeepsTheLaws (members spares : List ℕ) (run : List Happening) : Typ
   -- the ballots that a node elects in a configuration rise between two starts, and none is led twice
   pub rises : OfEachTwo RisesBetween members spares run
   pub leads : OfEachTwo LeadsOnceIn members spares run
+  -- each read that is answered came before, in one happening, and has all that was decided anywhere by then
+  pub fresh : ReadsAreFresh members spares run
+  pub once : ReadsComeOnce members spares run
+  -- so has each line that tells what a read gave
+  pub told : LinesAreFresh members spares run

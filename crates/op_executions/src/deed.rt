@@ -51,6 +51,7 @@ pub fn deed_of(alloc: Global, messages: &[Sent], what: What) -> Result<Option<De
         What::Commands(pid, commands) => stepping(pid, Input::Commands(commands)),
         What::Stop(pid, members) => stepping(pid, Input::Stop(members)),
         What::Trim(pid) => stepping(pid, Input::TrimNow),
+        What::Read(pid, read) => stepping(pid, Input::Read(read)),
         What::Deliver(number) => delivery(alloc, messages, number as usize)?,
         What::Up(pid, peer) => stepping(pid, Input::Up(peer)),
         What::Down(pid, peer) => stepping(pid, Input::Down(peer)),

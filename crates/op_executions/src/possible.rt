@@ -13,6 +13,7 @@ pub fn is_possible(nodes: &[Pid], sent: u64, what: &What) -> bool
         What::Tick(pid)
         | What::Commands(pid, _)
         | What::Trim(pid)
+        | What::Read(pid, _)
         | What::Crash(pid)
         | What::CrashAt(pid, ..)
         | What::Fail(pid, _)

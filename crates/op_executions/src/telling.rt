@@ -2,6 +2,7 @@
 ghost use Rattle.std.specs.Prelude.{◌≡◌, ◌++◌, map, IfOk, OnOk, option_map};
 ghost use Rattle.op_chain.specs.Chains.{ballots_in, pairs_in};
 ghost use Rattle.op_protocol.specs.State.{State};
+ghost use Rattle.op_runs.specs.declared.summary.Line.TheVariants as said;
 ghost use Rattle.op_runs.specs.World.{ThePairs, TheBallots, answer_line, outcome_lines, pair_lines, told_lines};
 
 use op_chain::{Map, Pairs};
@@ -24,23 +25,26 @@ fn answer_line(pid: Pid, reply: Reply) -> Line
     }
 }
 
-/// The lines of a step at a node, said in this line of the schedule: what a proposal is answered at once, and then what
-/// clients are answered.
+/// The lines of a step at a node, said in this line of the schedule: what a proposal is answered at once, then what clients are
+/// answered, and then what reads are.
 pub fn step_lines(
     alloc: Global,
     line: u64,
     pid: Pid,
     outcome: Option<Outcome>,
     replies: Replies,
+    read_replies: Replies,
 ) -> Result<Lines, NoMemory>
     ensures { IfOk result (λ lines. lines ≡ outcome_lines line outcome
-        ++ map (λ r. answer_line pid r.client r.seq r.answer) replies) }
+        ++ map (λ r. answer_line pid r.client r.seq r.answer) replies
+        ++ map (λ r. said.Read pid r.client r.seq r.answer) read_replies) }
 {
     let mut lines = Lines::new(alloc);
     if let Some(outcome) = outcome {
         lines.push(Line::Answer(line, outcome))?;
     }
     push_answers(&mut lines, pid, replies)?;
+    push_read_answers(&mut lines, pid, read_replies)?;
     Ok(lines)
 }
 
@@ -51,6 +55,22 @@ fn push_answers(lines: &mut Lines, pid: Pid, replies: Replies) -> Result<(), NoM
 {
     'replies: for reply in replies.into_vec() {
         lines.push(answer_line(pid, reply))?;
+    }
+    Ok(())
+}
+
+/// Adds the lines of what reads are answered.
+fn push_read_answers(lines: &mut Lines, pid: Pid, replies: Replies) -> Result<(), NoMemory>
+    ensures { OnOk result (lines.new ≡ lines.old
+        ++ map (λ r. said.Read pid r.client r.seq r.answer) replies) }
+{
+    'replies: for reply in replies.into_vec() {
+        let Reply {
+            client,
+            seq,
+            answer,
+        } = reply;
+        lines.push(Line::Read(pid, client, seq, answer))?;
     }
     Ok(())
 }

@@ -25,6 +25,7 @@ use Rattle.op_protocol.specs.Parts.{pending, part_after, part_in_round, cutting,
 use Rattle.op_protocol.specs.Promises.{has_quorum, is_usable, is_above, Choice, own_choice, better, best, choice_changes, chosen_log, chosen_stop, chosen_len, stop_here, fitting}
 use Rattle.op_protocol.specs.Leader.{backed, counted, decides, count, is_synced, sync_sends, first_leading, leading_with, begin_leading, adopt_with, adopt, prepares, lead, on_promise, decided_again, on_accepted, on_prepare_req, extends, propose, on_forward_leading, on_forward, session_down, waiting_as}
 use Rattle.op_protocol.specs.Follower.{suffix_start, on_prepare, added_changes, accepts, accept_entries, on_accept, synced_changes, sync_entries, on_accept_sync, on_decide}
+use Rattle.op_protocol.specs.Reading.{on_confirm}
 use Rattle.op_protocol.specs.Trimming.{lesser, least_reported, trims, trims_reported, trims_if_all, trim_now, on_progress, on_trim_ask, on_trim}
 use Rattle.op_plans.specs.Positions.{FitsPositions}
 use Rattle.op_leader.specs.Adopting.{AreAdmitted, PromisesAreAdmitted, ChoiceFits}
@@ -347,6 +348,10 @@ progress_leaves me p (Leading l) q n x sound =
 pub trim_ask_leaves : (p : Part) (r : Role) (q : ℕ) (n : Ballot) → IsSound p r → RowLeaves p (on_trim_ask p r q n)
 trim_ask_leaves p r q n sound =
     by_test p (is_same_ballot p.promised n) (saying r (message p.conf q (body.Progress n p.decided) ∷ [])) (nothing r) (λ own. says p r (message p.conf q (body.Progress n p.decided) ∷ []) sound) (λ other. says p r [] sound)
+
+pub confirm_leaves : (p : Part) (r : Role) (q : ℕ) (n : Ballot) (number : ℕ) → IsSound p r → RowLeaves p (on_confirm p r q n number)
+confirm_leaves p r q n number sound =
+    by_test p (is_same_ballot p.promised n) (saying r (message p.conf q (body.Confirmed n number) ∷ [])) (nothing r) (λ own. says p r (message p.conf q (body.Confirmed n number) ∷ []) sound) (λ other. says p r [] sound)
 
 pub trim_leaves : (p : Part) (r : Role) (x : ℕ) → IsSound p r → RowLeaves p (on_trim p r x)
 trim_leaves p r x sound =

@@ -42,7 +42,7 @@ use Rattle.op_protocol.specs.Rows.{on_body, on_message, message_at, is_of_joinin
 use Rattle.op_protocol.proofs.PartBatches.{part_batch, propose_of, session_down_of, session_up_of, trim_now_of, tick_of, message_of}
 use Rattle.op_instance.specs.Sound.{IsSound, IfSound, IsSoundNode, AreOfOneConf, IsSoundStep, StopsFit, BeginFits}
 use Rattle.op_instance.proofs.Batches.{with_part, applied, fits_after, log_after, conf_after, members_after}
-use Rattle.op_instance.proofs.RowsApply.{Leaves, RowLeaves, MayGo, prepare_leaves, accept_leaves, accept_sync_leaves, decide_leaves, lead_leaves, promise_leaves, accepted_leaves, prepare_req_leaves, propose_leaves, forward_leaves, session_down_leaves, trim_now_leaves, progress_leaves, trim_ask_leaves, trim_leaves}
+use Rattle.op_instance.proofs.RowsApply.{Leaves, RowLeaves, MayGo, prepare_leaves, accept_leaves, accept_sync_leaves, decide_leaves, lead_leaves, promise_leaves, accepted_leaves, prepare_req_leaves, propose_leaves, forward_leaves, session_down_leaves, trim_now_leaves, progress_leaves, trim_ask_leaves, trim_leaves, confirm_leaves}
 
 abbrev StepLeaves : Part → PartStep → Type 0
 StepLeaves p x = Leaves p x.batch x.volatile.role
@@ -95,6 +95,8 @@ body_leaves me p v q (body.Refuse n b) sound admitted = record { applies = tt; p
 body_leaves me p v q (body.TrimAsk n) sound admitted = let row = trim_ask_leaves p v.role q n sound in record { applies = row.applies; promises = row.promises; stops = row.stops }
 body_leaves me p v q (body.Progress n x) sound admitted = let row = progress_leaves me p v.role q n x sound in record { applies = row.applies; promises = row.promises; stops = row.stops }
 body_leaves me p v q (body.Trim x) sound admitted = let row = trim_leaves p v.role x sound in record { applies = row.applies; promises = row.promises; stops = row.stops }
+body_leaves me p v q (body.Confirm n number) sound admitted = let row = confirm_leaves p v.role q n number sound in record { applies = row.applies; promises = row.promises; stops = row.stops }
+body_leaves me p v q (body.Confirmed n number) sound admitted = remembers p v [] sound
 body_leaves me p v q (body.NextConf members olds len trimmed) sound admitted = remembers p v [] sound
 body_leaves me p v q body.AskBase sound admitted = remembers p v [] sound
 body_leaves me p v q (body.BasePart at bytes) sound admitted = remembers p v [] sound
@@ -365,5 +367,7 @@ sound_step me o k j v (input.Deliver q m) sound begin = message_sound me o k j v
 sound_step me o k j v (input.Commands cs) sound begin = proposal_sound me o k j v (entries_of cs) sound
 sound_step me o k j v (input.Stop members) sound begin = proposal_sound me o k j v (entry.Stop (stop_for o members) ∷ []) sound
 sound_step me o k j v input.TrimNow sound begin = trim_sound me o k j v sound
+sound_step me o k j v (input.Read r) sound begin =
+    let d : Durable = record { part = o; closed = k; joining = j } in still me d v.role (remembering v []) sound refl refl
 sound_step me o k j v (input.Up q) sound begin = up_sound me o k j v q sound
 sound_step me o k j v (input.Down q) sound begin = down_sound me o k j v q sound

@@ -9,8 +9,10 @@ use Rattle.op_protocol.specs.Parts.{nothing}
 use Rattle.op_protocol.specs.Leader.{on_promise, on_accepted, on_prepare_req, on_forward}
 use Rattle.op_protocol.specs.Trimming.{on_trim_ask, on_progress, on_trim}
 use Rattle.op_protocol.specs.Follower.{on_prepare, on_accept_sync, on_accept, on_decide}
+use Rattle.op_protocol.specs.Reading.{on_confirm}
 
--- the row of a message, by what it says; what is of heartbeats, of elections or of joining has none
+-- the row of a message, by what it says; what is of heartbeats, of elections or of joining has none, and what
+-- tells a leader of its reads
 abbrev pub row_of : ℕ → Part → Role → ℕ → Body → Effects
 row_of me p r q (body.Prepare n na nl nd) = on_prepare p r q n na nl nd
 row_of me p r q (body.Promise n fa fl fd s entries) =
@@ -26,4 +28,5 @@ row_of me p r q (body.Forwards entries) = on_forward me p r entries
 row_of me p r q (body.TrimAsk n) = on_trim_ask p r q n
 row_of me p r q (body.Progress n x) = on_progress me p r q n x
 row_of me p r q (body.Trim x) = on_trim p r x
+row_of me p r q (body.Confirm n number) = on_confirm p r q n number
 row_of me p r q _ = nothing r

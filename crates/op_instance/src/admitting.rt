@@ -56,6 +56,8 @@ pub(crate) fn is_admitted_body(part: &Part, body: &Body) -> bool
         | Body::AskBase
         | Body::BasePart(_, _)
         | Body::AskSegment(_, _)
-        | Body::Segment(_, _) => true,
+        | Body::Segment(_, _)
+        | Body::Confirm(_, _)
+        | Body::Confirmed(_, _) => true,
     }
 }

@@ -16,7 +16,7 @@ use crate::joining::News;
 use crate::routing::{is_of_joining, is_prepare_req, may_be_above};
 use crate::stored::Stored;
 use crate::volatile::Volatile;
-use op_follower::{Accept, Prepare, on_accept, on_accept_sync, on_decide, on_prepare};
+use op_follower::{Accept, Prepare, on_accept, on_accept_sync, on_confirm, on_decide, on_prepare};
 use op_heartbeat::Rounds;
 use op_leader::{on_accepted, on_forward, on_prepare_req, on_promise};
 use op_plans::{Member, one};
@@ -250,6 +250,7 @@ fn route(member: &Member, role: &mut Role, from: Pid, body: Body) -> Result<Plan
         Body::TrimAsk(ballot) => on_trim_ask(member, role, from, ballot),
         Body::Progress(ballot, decided) => on_progress(member, role, from, ballot, decided),
         Body::Trim(len) => on_trim(member, role, len),
+        Body::Confirm(ballot, number) => on_confirm(member, role, from, ballot, number),
         Body::HeartbeatRequest(_)
         | Body::HeartbeatReply(_, _, _)
         | Body::Refuse(_, _)
@@ -257,6 +258,7 @@ fn route(member: &Member, role: &mut Role, from: Pid, body: Body) -> Result<Plan
         | Body::AskBase
         | Body::BasePart(_, _)
         | Body::AskSegment(_, _)
-        | Body::Segment(_, _) => Ok(member.nothing()),
+        | Body::Segment(_, _)
+        | Body::Confirmed(_, _) => Ok(member.nothing()),
     }
 }

@@ -18,7 +18,8 @@ use op_trim::trim_now;
 use op_types::{Body, Input, NoMemory, Outcome, Pid, Plan, Role, is_among};
 
 impl Stored<'_> {
-    /// What comes of an input, but for the base of what it trims, what it decides, and what it brings of a closed list.
+    /// What comes of an input, but for the base of what it trims, what it decides, what it brings of a closed list, and what
+    /// comes of reads.
     /// Nothing changes yet, but the room that the plan's turn needs.
     pub fn step(&self, volatile: &mut Volatile, input: Input) -> Result<Plan, NoMemory>
         requires { IsNode self.now.me self.now.durable.now volatile.old }
@@ -34,6 +35,7 @@ impl Stored<'_> {
             Input::Commands(commands) => self.propose_commands(volatile, commands),
             Input::Stop(members) => self.propose_stop(volatile, members),
             Input::TrimNow => self.trim(volatile),
+            Input::Read(_) => Ok(self.nothing()),
             Input::Up(peer) => self.up(volatile, peer),
             Input::Down(peer) => Ok(session_down(self.alloc, &volatile.role, peer)),
         }

@@ -56,6 +56,15 @@ impl Map {
         self.newer.value_of(&self.kept, key)
     }
 
+    /// A key's value once a planned change is adopted. The service stays as it is.
+    pub fn value_after<'a>(&'a self, change: &'a KvChange, key: &Blob) -> Option<&'a Blob>
+        requires { self.now.waiting ≡ 0 }
+        ensures { option_copied result
+            ≡ value_at key.now (service_over self.now.service change.now).pairs }
+    {
+        change.value_of(&self.kept, key)
+    }
+
     /// Moves what was adopted last to its place, as each plan does first.
     pub fn settle(&mut self) -> Result<(), NoMemory>
         ensures stays { self.new.service ≡ self.old.service }

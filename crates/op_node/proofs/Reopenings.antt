@@ -17,8 +17,8 @@ use Rattle.op_store.specs.declared.fail.StoreFail.{StoreFail}
 use Rattle.op_store.specs.declared.fail.StoreFail.TheVariants.{DiskFault, Damaged, NoMemory}
 use Rattle.op_store.proofs.CommitCrashes.{image_stored, rests_first, rests_second}
 use Rattle.op_store.proofs.UniquePairs.{one_stored, nothing_or_stored, stored_or_damage}
-use Rattle.op_chain.specs.Chains.{state_of}
-use Rattle.op_chain.specs.declared.chain.Chain.{Chain}
+use Rattle.op_server.specs.Servers.{state_of}
+use Rattle.op_server.specs.declared.server.Server.{Server}
 use Rattle.op_node.specs.Nodes.{node_of}
 use Rattle.op_node.specs.Openings.{RefusesNode, durable_for}
 use Rattle.op_node.specs.Reopenings.{IsOneOf, StoreOneOf, count_kept, Reopens, RefusesAgain, FindsOneOf}
@@ -142,34 +142,34 @@ module _ {D : Type 0} (state : D → DiskState) where
 
   -- it is opened again
   pub reopens : (old new : Node D) (kept d : Durable) (is_new : Bool) (sends : List (ℕ × Msg)) → kept ≡ (node_of old).state.durable → Opened state kept (disks_of state old.store) new.store d is_new → DurableInRange d
-      → new.chain.me ≡ old.chain.me → state_of new.chain ≡ state_after_reopening old.chain.me (state_of old.chain) (durable_for old.chain.me d) → new.failed ≡ None
-      → sends ≡ sends_after_restart old.chain.me (durable_for old.chain.me d) → Reopens state d is_new old new sends
+      → new.server.chain.me ≡ old.server.chain.me → state_of new.server ≡ state_after_reopening old.server.chain.me (state_of old.server) (durable_for old.server.chain.me d) → new.failed ≡ None
+      → sends ≡ sends_after_restart old.server.chain.me (durable_for old.server.chain.me d) → Reopens state d is_new old new sends
   reopens old new kept d is_new sends is opened range me state_is runs sends_are =
       record {
         opened = subst (λ (k : Durable). Opened state k (disks_of state old.store) new.store d is_new) is opened;
         range = range;
-        node = node_same new.chain.me old.chain.me (state_of new.chain) (state_after_reopening old.chain.me (state_of old.chain) (durable_for old.chain.me d)) new.failed None me state_is runs;
+        node = node_same new.server.chain.me old.server.chain.me (state_of new.server) (state_after_reopening old.server.chain.me (state_of old.server) (durable_for old.server.chain.me d)) new.failed None me state_is runs;
         sends_are = sends_are;
       }
 
   -- it isn't
-  stays : (old new : Node D) (cause : StoreFail) → new.chain ≡ old.chain → new.failed ≡ count_kept old.failed cause → node_of new ≡ record (node_of old) { failed = count_kept (node_of old).failed cause }
-  stays old new cause chain failed =
-      node_same new.chain.me old.chain.me (state_of new.chain) (state_of old.chain) new.failed (count_kept old.failed cause) (ap (λ (c : Chain). c.me) chain) (ap (λ (c : Chain). state_of c) chain) failed
+  stays : (old new : Node D) (cause : StoreFail) → new.server ≡ old.server → new.failed ≡ count_kept old.failed cause → node_of new ≡ record (node_of old) { failed = count_kept (node_of old).failed cause }
+  stays old new cause server failed =
+      node_same new.server.chain.me old.server.chain.me (state_of new.server) (state_of old.server) new.failed (count_kept old.failed cause) (ap (λ (c : Server). c.chain.me) server) (ap (λ (c : Server). state_of c) server) failed
 
   -- since the store isn't
   pub refuses_store : (old new : Node D) (kept : Durable) (cause : StoreFail) → kept ≡ (node_of old).state.durable → Refused state kept (disks_of state old.store) (refused_by new.store cause)
-      → new.chain ≡ old.chain → new.failed ≡ count_kept old.failed cause → RefusesAgain state old new cause
-  refuses_store old new kept cause is refused chain failed =
+      → new.server ≡ old.server → new.failed ≡ count_kept old.failed cause → RefusesAgain state old new cause
+  refuses_store old new kept cause is refused server failed =
       record {
         disks = inl (subst (λ (k : Durable). Refused state k (disks_of state old.store) (refused_by new.store cause)) is refused);
-        node = stays old new cause chain failed;
+        node = stays old new cause server failed;
       }
 
   -- or for want of memory once it is
   pub refuses_opened : (old new : Node D) (kept d : Durable) (is_new : Bool) → kept ≡ (node_of old).state.durable → Opened state kept (disks_of state old.store) new.store d is_new
-      → new.chain ≡ old.chain → new.failed ≡ old.failed → RefusesAgain state old new NoMemory
-  refuses_opened old new kept d is_new is opened chain failed =
+      → new.server ≡ old.server → new.failed ≡ old.failed → RefusesAgain state old new NoMemory
+  refuses_opened old new kept d is_new is opened server failed =
       record {
         disks = inr
             (record {
@@ -183,5 +183,5 @@ module _ {D : Type 0} (state : D → DiskState) where
                     same = (refl, refl);
                   });
             });
-        node = stays old new NoMemory chain failed;
+        node = stays old new NoMemory server failed;
       }

@@ -9,8 +9,8 @@ use Rattle.op_protocol.specs.Rows.{step_plan}
 use Rattle.op_runs.specs.World.{failed_outcome}
 use Rattle.op_outside.specs.Disks.{DiskState}
 use Rattle.op_store.specs.Stores.{Represents, IsReady, detached_of}
-use Rattle.op_chain.specs.Chains.{state_of, IsSoundChain}
-use Rattle.op_chain.specs.declared.given.Given.{Given}
+use Rattle.op_server.specs.Servers.{state_of, IsSoundServer}
+use Rattle.op_server.specs.declared.given.Given.{Given}
 use Rattle.op_node.specs.declared.node.Node.{Node}
 use Rattle.op_node.specs.declared.rest.Rest.{Rest}
 use Rattle.op_node.specs.declared.fail.StepFail.{StepFail}
@@ -24,11 +24,11 @@ pub record NodeState : Type 0 where
 
 -- a node as contracts see it
 abbrev pub node_of : {D : Type 0} → Node D → NodeState
-node_of n = record { me = n.chain.me; state = state_of n.chain; failed = n.failed }
+node_of n = record { me = n.server.chain.me; state = state_of n.server; failed = n.failed }
 
 -- a node without its disks
 abbrev pub rest_of : {D : Type 0} → Node D → Rest
-rest_of n = record { alloc = n.alloc; chain = n.chain; store = detached_of n.store; failed = n.failed }
+rest_of n = record { alloc = n.alloc; server = n.server; store = detached_of n.store; failed = n.failed }
 
 -- each image of its disks stands for what the node has stored
 abbrev pub IsRepresented : {D : Type 0} → (D → DiskState) → Node D → Type 0
@@ -36,13 +36,14 @@ IsRepresented state n = Represents state (node_of n).state.durable n.store
 
 -- what a plan gives out
 abbrev pub given_of : Planned → Given
-given_of p = record { sends = p.sends; replies = p.replies; outcome = p.outcome }
+given_of p =
+    record { sends = p.sends; replies = p.replies; read_replies = p.read_replies; outcome = p.outcome }
 
 -- an outcome alone is given out
 abbrev pub saying : Option Outcome → Given
-saying o = record { sends = []; replies = []; outcome = o }
+saying o = record { sends = []; replies = []; read_replies = []; outcome = o }
 
--- a node that has failed refuses what is proposed, and to trim, with the count that it keeps,
+-- a node that has failed refuses what is proposed, to trim and to read, with the count that it keeps,
 -- and does nothing else
 abbrev pub refused_with : ℕ → Input → Given
 refused_with count x = saying (failed_outcome count x)
@@ -72,8 +73,8 @@ Stepped n x (Err fails.NoMemory) m = m ≡ n
 -- what a node keeps in memory is of what it has stored, and that is in range; unless it has failed, a
 -- record can be added
 pub record IsSoundNode {D : Type 0} (n : Node D) : Type 0 where
-  pub chain : IsSoundChain n.chain
-  pub range : DurableInRange (state_of n.chain).durable
+  pub server : IsSoundServer n.server
+  pub range : DurableInRange (state_of n.server).durable
   pub store : n.failed ≡ None → IsReady n.store
 
 -- the node can do this step: what the step stores is in range

@@ -10,14 +10,18 @@ use Rattle.op_types.specs.declared.durable.Durable.{Durable}
 use Rattle.op_types.specs.declared.events.Input.{Input}
 use Rattle.op_types.specs.declared.messages.Msg.{Msg}
 use Rattle.op_runs.specs.declared.summary.Line.{Line}
+use Rattle.op_runs.specs.declared.summary.Line.TheVariants as said
 use Rattle.op_protocol.specs.State.{State, Planned, state_after}
 use Rattle.op_protocol.specs.Rows.{step_plan}
-use Rattle.op_chain.specs.Chains.{state_of, IsSame, Admits}
-use Rattle.op_chain.specs.Plans.{Plans, Adopts, planned_by, renewed}
+use Rattle.op_server.specs.Servers.{state_of, IsSame, Admits}
+use Rattle.op_chain.specs.Plans as chains
+use Rattle.op_chain.specs.Plans.{renewed}
+use Rattle.op_server.specs.Plans.{Plans, Adopts, planned_by, with_reading}
 use Rattle.op_chain.specs.declared.renewal.Renewal.{Renewal}
-use Rattle.op_chain.specs.declared.chain.Chain.{Chain}
-use Rattle.op_chain.specs.declared.chain_plan.ChainPlan.{ChainPlan}
-use Rattle.op_chain.specs.declared.given.Given.{Given}
+use Rattle.op_server.specs.declared.server.Server.{Server}
+use Rattle.op_server.specs.declared.reading.Reading.{Reading}
+use Rattle.op_server.specs.declared.server_plan.ServerPlan.{ServerPlan}
+use Rattle.op_server.specs.declared.given.Given.{Given}
 use Rattle.op_runs.specs.World.{World, Sent, Node, NodeStatus, Down, Failed, Fate, Done, Stopped, Faulted, Steps, with_node, sent_by, failed_outcome, stored_by, outcome_lines, answer_line, lines_of, world_by_status, world_by_fate}
 use Rattle.op_bounds.specs.States.{StateInRange}
 use Rattle.op_bounds.specs.Laws.{PlanInRange}
@@ -29,26 +33,26 @@ use Rattle.op_pure.specs.Nodes.{HasDone, node_of, pure_nodes}
 -- ---- what a step needs
 
 -- the step of a node that is up is in range, as the node that is shown and what the step begins with are
-step_in_range : (pid : ℕ) (c : Chain) (x : Input) (can : CanDo pure_nodes (node_of pid (status.Up c)) (Steps x)) → PlanInRange (IsMember can.ids) (state_of c) (step_plan c.me (state_of c) x)
+step_in_range : (pid : ℕ) (c : Server) (x : Input) (can : CanDo pure_nodes (node_of pid (status.Up c)) (Steps x)) → PlanInRange (IsMember can.ids) (state_of c) (step_plan c.chain.me (state_of c) x)
 step_in_range pid c x can =
-    let member : IsMember can.ids c.me = subst (IsMember can.ids) (can.shown.pid ∙ sym can.kept.0) can.range.pid in
+    let member : IsMember can.ids c.chain.me = subst (IsMember can.ids) (can.shown.pid ∙ sym can.kept.0) can.range.pid in
     let state : StateInRange (IsMember can.ids) (state_of c) = subst (StateInRange (IsMember can.ids)) can.shown.state.0 can.range.state in
-    steps_stay (IsMember can.ids) can.are_ids c.me member (state_of c) state x can.doing
+    steps_stay (IsMember can.ids) can.are_ids c.chain.me member (state_of c) state x can.doing
 
-pub admits : (pid : ℕ) (c : Chain) (x : Input) → CanDo pure_nodes (node_of pid (status.Up c)) (Steps x) → Admits c x
+pub admits : (pid : ℕ) (c : Server) (x : Input) → CanDo pure_nodes (node_of pid (status.Up c)) (Steps x) → Admits c x
 admits pid c x can = record { sound = can.kept.1; range = (step_in_range pid c x can).batch }
 
 -- ---- the plan
 
 -- the step in the state that is shown
-plan_shown : (pid : ℕ) (c : Chain) (x : Input) (n : Node) → c.me ≡ pid → ShowsNode pure_nodes (node_of pid (status.Up c)) n → step_plan n.pid n.state x ≡ step_plan c.me (state_of c) x
-plan_shown pid c x n me shown = ap (λ (k : ℕ). step_plan k n.state x) (shown.pid ∙ sym me) ∙ ap (λ (s : State). step_plan c.me s x) shown.state.0
+plan_shown : (pid : ℕ) (c : Server) (x : Input) (n : Node) → c.chain.me ≡ pid → ShowsNode pure_nodes (node_of pid (status.Up c)) n → step_plan n.pid n.state x ≡ step_plan c.chain.me (state_of c) x
+plan_shown pid c x n me shown = ap (λ (k : ℕ). step_plan k n.state x) (shown.pid ∙ sym me) ∙ ap (λ (s : State). step_plan c.chain.me s x) shown.state.0
 
 -- and in the same one
-plan_again : (c e : Chain) (x : Input) → IsSame c e → step_plan c.me (state_of c) x ≡ step_plan e.me (state_of e) x
-plan_again c e x same = ap (λ (k : ℕ). step_plan k (state_of c) x) (sym same.me) ∙ ap (λ (s : State). step_plan e.me s x) (sym same.state)
+plan_again : (c e : Server) (x : Input) → IsSame c e → step_plan c.chain.me (state_of c) x ≡ step_plan e.chain.me (state_of e) x
+plan_again c e x same = ap (λ (k : ℕ). step_plan k (state_of c) x) (sym same.me) ∙ ap (λ (s : State). step_plan e.chain.me s x) (sym same.state)
 
-plan_same : (pid : ℕ) (c e : Chain) (x : Input) (n : Node) → c.me ≡ pid → IsSame c e → ShowsNode pure_nodes (node_of pid (status.Up c)) n → step_plan n.pid n.state x ≡ step_plan e.me (state_of e) x
+plan_same : (pid : ℕ) (c e : Server) (x : Input) (n : Node) → c.chain.me ≡ pid → IsSame c e → ShowsNode pure_nodes (node_of pid (status.Up c)) n → step_plan n.pid n.state x ≡ step_plan e.chain.me (state_of e) x
 plan_same pid c e x n me same shown = plan_shown pid c x n me shown ∙ plan_again c e x same
 
 -- what a plan stores
@@ -56,12 +60,16 @@ renewed_batch : (o : Option Renewal) (x : Planned) → (renewed o x).batch ≡ x
 renewed_batch None x = refl
 renewed_batch (Some r) x = refl
 
-batch_is : (e : Chain) (x : Input) (plan : ChainPlan) → Plans e x plan → plan.plan.batch ≡ (step_plan e.me (state_of e) x).batch
+read_batch : (o : Option Reading) (x : Planned) → (with_reading o x).batch ≡ x.batch
+read_batch None x = refl
+read_batch (Some r) x = refl
+
+batch_is : (e : Server) (x : Input) (plan : ServerPlan) → Plans e x plan → plan.chain.plan.batch ≡ (step_plan e.chain.me (state_of e) x).batch
 batch_is e x plan plans =
-    let made : (planned_by e plan).batch ≡ plan.plan.batch = renewed_batch plan.renewal _ in
+    let made : (planned_by e plan).batch ≡ plan.chain.plan.batch = read_batch plan.reading (chains.planned_by e.chain plan.chain) ∙ renewed_batch plan.chain.renewal _ in
     sym made ∙ ap (λ (y : Planned). y.batch) plans.table
 
-pub stores : (c e : Chain) (x : Input) (plan : ChainPlan) → IsSame c e → Plans e x plan → plan.plan.batch ≡ (step_plan c.me (state_of c) x).batch
+pub stores : (c e : Server) (x : Input) (plan : ServerPlan) → IsSame c e → Plans e x plan → plan.chain.plan.batch ≡ (step_plan c.chain.me (state_of c) x).batch
 stores c e x plan same plans = batch_is e x plan plans ∙ ap (λ (y : Planned). y.batch) (sym (plan_again c e x same))
 
 -- nothing is sent, and these lines are told
@@ -79,7 +87,7 @@ quiet w x y =
 
 -- ---- a step in which the node stops or a disk fails
 
-module _ (pid : ℕ) (c e : Chain) (x : Input) (batch : List Change) (can : CanDo pure_nodes (node_of pid (status.Up c)) (Steps x)) (same : IsSame c e) (is : batch ≡ (step_plan c.me (state_of c) x).batch) where
+module _ (pid : ℕ) (c e : Server) (x : Input) (batch : List Change) (can : CanDo pure_nodes (node_of pid (status.Up c)) (Steps x)) (same : IsSame c e) (is : batch ≡ (step_plan c.chain.me (state_of c) x).batch) where
   -- what the step was to store
   to_store : (n : Node) → ShowsNode pure_nodes (node_of pid (status.Up c)) n → stored_by n x ≡ durable_after (state_of e).durable batch
   to_store n shown =
@@ -125,16 +133,17 @@ module _ (pid : ℕ) (c e : Chain) (x : Input) (batch : List Change) (can : CanD
 
 -- ---- a step that is done
 
-abbrev pub told_by : ℕ → ℕ → Option Outcome → List Reply → List Line
-told_by pid line o replies = outcome_lines line o ++ map (λ r. answer_line pid r.client r.seq r.answer) replies
+abbrev pub told_by : ℕ → ℕ → Option Outcome → List Reply → List Reply → List Line
+told_by pid line o replies reads =
+    outcome_lines line o ++ map (λ r. answer_line pid r.client r.seq r.answer) replies ++ map (λ r. said.Read pid r.client r.seq r.answer) reads
 
-pub did_step : (pid line : ℕ) (c e f : Chain) (x : Input) (given : Given) (told : List Line) → CanDo pure_nodes (node_of pid (status.Up c)) (Steps x) → IsSame c e → Adopts e (step_plan e.me (state_of e) x) f given
-    → told ≡ told_by pid line given.outcome given.replies
+pub did_step : (pid line : ℕ) (c e f : Server) (x : Input) (given : Given) (told : List Line) → CanDo pure_nodes (node_of pid (status.Up c)) (Steps x) → IsSame c e → Adopts e (step_plan e.chain.me (state_of e) x) f given
+    → told ≡ told_by pid line given.outcome given.replies given.read_replies
     → (finds_after : Bool) → HasDone (node_of pid (status.Up c)) (Steps x) Done finds_after line (node_of pid (status.Up f)) given.sends told
 did_step pid line c e f x given told can same adopts told_is finds_after = record {
   after = λ n shown.
       let p : Planned = step_plan n.pid n.state x in
-      let q : Planned = step_plan e.me (state_of e) x in
+      let q : Planned = step_plan e.chain.me (state_of e) x in
       let y : Node = record n { state = state_after n.state p } in
       let planned : p ≡ q = plan_same pid c e x n can.kept.0 same shown in
       let state : state_after n.state p ≡ state_of f =
@@ -147,11 +156,12 @@ did_step pid line c e f x given told can same adopts told_is finds_after = recor
           world = λ w h fate finds at there.
               let world : List (ℕ × Msg) → List Line → World = λ sends ls. record { nodes = with_node w.nodes y; messages = w.messages ++ sent_by n.pid sends; lines = w.lines ++ ls } in
               let lines : lines_of h.event.line n.pid p ≡ told =
-              ap (λ (i : ℕ). told_by n.pid i p.outcome p.replies) at
-              ∙ ap (λ (i : ℕ). told_by i line p.outcome p.replies) shown.pid
-              ∙ ap (λ (k : Planned). told_by pid line k.outcome k.replies) planned
-              ∙ ap (λ (o : Option Outcome). told_by pid line o q.replies) (sym adopts.given.outcome)
-              ∙ ap (λ (rs : List Reply). told_by pid line given.outcome rs) (sym adopts.given.replies)
+              ap (λ (i : ℕ). told_by n.pid i p.outcome p.replies p.read_replies) at
+              ∙ ap (λ (i : ℕ). told_by i line p.outcome p.replies p.read_replies) shown.pid
+              ∙ ap (λ (k : Planned). told_by pid line k.outcome k.replies k.read_replies) planned
+              ∙ ap (λ (o : Option Outcome). told_by pid line o q.replies q.read_replies) (sym adopts.given.outcome)
+              ∙ ap (λ (rs : List Reply). told_by pid line given.outcome rs q.read_replies) (sym adopts.given.replies)
+              ∙ ap (λ (rs : List Reply). told_by pid line given.outcome given.replies rs) (sym adopts.given.read_replies)
               ∙ sym told_is in
               ap (λ (st : NodeStatus). world_by_status st (Steps x) h w n) shown.state.1
               ∙ ap (λ (g : Fate). world_by_fate g h.event.line w n x) fate

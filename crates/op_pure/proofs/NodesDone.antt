@@ -13,8 +13,9 @@ use Rattle.op_record.specs.Ranges.{DurableInRange}
 use Rattle.op_protocol.specs.State.{State}
 use Rattle.op_protocol.specs.Starting.{state_after_restart, sends_after_restart}
 use Rattle.op_chain.proofs.Opened as opened
-use Rattle.op_chain.specs.Chains.{state_of, CanOpen}
-use Rattle.op_chain.specs.declared.chain.Chain.{Chain}
+use Rattle.op_chain.specs.Chains.{CanOpen}
+use Rattle.op_server.specs.Servers.{state_of}
+use Rattle.op_server.specs.declared.server.Server.{Server}
 use Rattle.op_runs.specs.World.{World, Sent, Node, NodeStatus, Up, Down, Failed, Fate, Done, Stopped, Faulted, Doing, Steps, Stops, Opens, Tells, Happening, first_durable, durable_at_start, node_at, with_node, sent_by, outcome_lines, failed_outcome, told_lines, state_after_reopening, world_telling, world_with_node, world_opened, world_by_status, world_if_down, world_opening, world_reopening}
 use Rattle.op_runs.specs.World as runs
 use Rattle.op_bounds.specs.States.{IsNamed}
@@ -65,12 +66,12 @@ nothing_done x d fate finds_after line st is idle = record {
 -- ---- a node that is up
 
 -- it is open already
-pub open_already : (pid : ℕ) (c : Chain) (fate : Fate) (finds_after : Bool) (line : ℕ) → IsKept (node_of pid (status.Up c)) → HasDone (node_of pid (status.Up c)) Opens fate finds_after line (node_of pid (status.Up c)) [] []
+pub open_already : (pid : ℕ) (c : Server) (fate : Fate) (finds_after : Bool) (line : ℕ) → IsKept (node_of pid (status.Up c)) → HasDone (node_of pid (status.Up c)) Opens fate finds_after line (node_of pid (status.Up c)) [] []
 open_already pid c fate finds_after line kept =
     record { after = λ x shown. (x, shown, nothing_done x Opens fate finds_after line Up shown.state.1 (λ w h f. refl)); pid = refl; kept = kept }
 
 -- it stops between two steps, with nothing to store
-pub stopped : (pid : ℕ) (c : Chain) (d : Durable) (batch : List Change) (fate : Fate) (finds_after : Bool) (line : ℕ) → d ≡ (state_of c).durable → batch ≡ []
+pub stopped : (pid : ℕ) (c : Server) (d : Durable) (batch : List Change) (fate : Fate) (finds_after : Bool) (line : ℕ) → d ≡ (state_of c).durable → batch ≡ []
     → HasDone (node_of pid (status.Up c)) Stops fate finds_after line (node_of pid (status.Down d batch)) [] []
 stopped pid c d batch fate finds_after line is none =
     subst (λ (b : List Change). HasDone (node_of pid (status.Up c)) Stops fate finds_after line (node_of pid (status.Down d b)) [] []) (sym none)
@@ -101,12 +102,12 @@ tells_so x pid s t fate finds_after line told st me state runs telling are = rec
 }
 
 -- one that is up, or has failed
-pub tells : (pid : ℕ) (c : Chain) (t : runs.Told) (fate : Fate) (finds_after : Bool) (line : ℕ) (told : List Line) → IsKept (node_of pid (status.Up c)) → told ≡ told_lines t pid (state_of c) (state_of c).durable.part
+pub tells : (pid : ℕ) (c : Server) (t : runs.Told) (fate : Fate) (finds_after : Bool) (line : ℕ) (told : List Line) → IsKept (node_of pid (status.Up c)) → told ≡ told_lines t pid (state_of c) (state_of c).durable.part
     → HasDone (node_of pid (status.Up c)) (Tells t) fate finds_after line (node_of pid (status.Up c)) [] told
 tells pid c t fate finds_after line told kept are =
     record { after = λ x shown. (x, shown, tells_so x pid (state_of c) t fate finds_after line told Up shown.pid shown.state.0 shown.state.1 (λ w h. refl) are); pid = refl; kept = kept }
 
-pub failed_tells : (pid : ℕ) (c : Chain) (count : ℕ) (batch : List Change) (t : runs.Told) (fate : Fate) (finds_after : Bool) (line : ℕ) (told : List Line) → IsKept (node_of pid (status.Failed c count batch))
+pub failed_tells : (pid : ℕ) (c : Server) (count : ℕ) (batch : List Change) (t : runs.Told) (fate : Fate) (finds_after : Bool) (line : ℕ) (told : List Line) → IsKept (node_of pid (status.Failed c count batch))
     → told ≡ told_lines t pid (state_of c) (state_of c).durable.part → HasDone (node_of pid (status.Failed c count batch)) (Tells t) fate finds_after line (node_of pid (status.Failed c count batch)) [] told
 failed_tells pid c count batch t fate finds_after line told kept are =
     record { after = λ x shown. (x, shown, tells_so x pid (state_of c) t fate finds_after line told _ shown.pid shown.state.0 shown.state.1 (λ w h. refl) are); pid = refl; kept = kept }
@@ -141,7 +142,7 @@ still_down pid d batch fate finds_after line kept idle = record {
 -- ---- a node that has failed
 
 -- it refuses what is proposed, and to trim
-pub failed_refuses : (pid : ℕ) (c : Chain) (count : ℕ) (batch : List Change) (i : Input) (fate : Fate) (finds_after : Bool) (line : ℕ) → IsKept (node_of pid (status.Failed c count batch))
+pub failed_refuses : (pid : ℕ) (c : Server) (count : ℕ) (batch : List Change) (i : Input) (fate : Fate) (finds_after : Bool) (line : ℕ) → IsKept (node_of pid (status.Failed c count batch))
     → HasDone (node_of pid (status.Failed c count batch)) (Steps i) fate finds_after line (node_of pid (status.Failed c count batch)) [] (outcome_lines line (failed_outcome count i))
 failed_refuses pid c count batch i fate finds_after line kept = record {
   after = λ x shown. (
@@ -160,7 +161,7 @@ failed_refuses pid c count batch i fate finds_after line kept = record {
 }
 
 -- it goes down, by a stop between two steps, or in an opening
-failed_down : (pid : ℕ) (c : Chain) (count : ℕ) (batch : List Change) (d : Doing) (fate : Fate) (finds_after : Bool) (line : ℕ) → IsKept (node_of pid (status.Failed c count batch))
+failed_down : (pid : ℕ) (c : Server) (count : ℕ) (batch : List Change) (d : Doing) (fate : Fate) (finds_after : Bool) (line : ℕ) → IsKept (node_of pid (status.Failed c count batch))
     → ((w : World) (h : Happening) (x : Node) (after : Durable) → h.fate ≡ fate → world_by_status (Failed count after) d h w x ≡ world_with_node w (record x { status = Down after }))
     → HasDone (node_of pid (status.Failed c count batch)) d fate finds_after line (node_of pid (status.Down (state_of c).durable batch)) [] []
 failed_down pid c count batch d fate finds_after line kept goes = record {
@@ -179,17 +180,17 @@ failed_down pid c count batch d fate finds_after line kept goes = record {
   kept = kept.2;
 }
 
-pub failed_stopped : (pid : ℕ) (c : Chain) (count : ℕ) (batch : List Change) (fate : Fate) (finds_after : Bool) (line : ℕ) → IsKept (node_of pid (status.Failed c count batch))
+pub failed_stopped : (pid : ℕ) (c : Server) (count : ℕ) (batch : List Change) (fate : Fate) (finds_after : Bool) (line : ℕ) → IsKept (node_of pid (status.Failed c count batch))
     → HasDone (node_of pid (status.Failed c count batch)) Stops fate finds_after line (node_of pid (status.Down (state_of c).durable batch)) [] []
 failed_stopped pid c count batch fate finds_after line kept = failed_down pid c count batch Stops fate finds_after line kept (λ w h x after f. refl)
 
-failed_stopped_opening : (pid : ℕ) (c : Chain) (count : ℕ) (batch : List Change) (finds_after : Bool) (line : ℕ) → IsKept (node_of pid (status.Failed c count batch))
+failed_stopped_opening : (pid : ℕ) (c : Server) (count : ℕ) (batch : List Change) (finds_after : Bool) (line : ℕ) → IsKept (node_of pid (status.Failed c count batch))
     → HasDone (node_of pid (status.Failed c count batch)) Opens Stopped finds_after line (node_of pid (status.Down (state_of c).durable batch)) [] []
 failed_stopped_opening pid c count batch finds_after line kept =
     failed_down pid c count batch Opens Stopped finds_after line kept (λ w h x after f. ap (λ (k : Fate). world_reopening k after w x (if h.finds_after then after else x.state.durable)) f)
 
 -- in an opening that fails it keeps the new count
-failed_again : (pid : ℕ) (c : Chain) (count new : ℕ) (batch : List Change) (finds_after : Bool) (line : ℕ) → IsKept (node_of pid (status.Failed c count batch))
+failed_again : (pid : ℕ) (c : Server) (count new : ℕ) (batch : List Change) (finds_after : Bool) (line : ℕ) → IsKept (node_of pid (status.Failed c count batch))
     → HasDone (node_of pid (status.Failed c count batch)) Opens (Faulted new) finds_after line (node_of pid (status.Failed c new batch)) [] []
 failed_again pid c count new batch finds_after line kept = record {
   after = λ x shown.
@@ -230,7 +231,7 @@ found_down : (pid : ℕ) (d : Durable) (batch : List Change) (x : Doing) → Can
 found_down pid d batch x can =
     record { ids = can.ids; before = found_of pid (status.Down d batch) x can d can.shown.state.0; later = status_of pid (status.Down d batch) x can (Down (durable_after d batch)) can.shown.state.1 }
 
-found_failed : (pid : ℕ) (c : Chain) (count : ℕ) (batch : List Change) (x : Doing) → CanDo pure_nodes (node_of pid (status.Failed c count batch)) x → MayFind pid (state_of c).durable (durable_after (state_of c).durable batch)
+found_failed : (pid : ℕ) (c : Server) (count : ℕ) (batch : List Change) (x : Doing) → CanDo pure_nodes (node_of pid (status.Failed c count batch)) x → MayFind pid (state_of c).durable (durable_after (state_of c).durable batch)
 found_failed pid c count batch x can =
     let s = status.Failed c count batch in
     record {
@@ -257,7 +258,7 @@ can_find pid d batch finds_after applies found =
 pub finds_down : (pid : ℕ) (d : Durable) (batch : List Change) (finds_after : Bool) (x : Doing) → CanDo pure_nodes (node_of pid (status.Down d batch)) x → CanFind pid d batch finds_after
 finds_down pid d batch finds_after x can = can_find pid d batch finds_after can.kept (found_down pid d batch x can)
 
-pub finds_failed : (pid : ℕ) (c : Chain) (count : ℕ) (batch : List Change) (finds_after : Bool) (x : Doing) → CanDo pure_nodes (node_of pid (status.Failed c count batch)) x → CanFind c.me (state_of c).durable batch finds_after
+pub finds_failed : (pid : ℕ) (c : Server) (count : ℕ) (batch : List Change) (finds_after : Bool) (x : Doing) → CanDo pure_nodes (node_of pid (status.Failed c count batch)) x → CanFind c.chain.me (state_of c).durable batch finds_after
 finds_failed pid c count batch finds_after x can =
     subst (λ (q : ℕ). CanFind q (state_of c).durable batch finds_after) (sym can.kept.0) (can_find pid (state_of c).durable batch finds_after can.kept.2 (found_failed pid c count batch x can))
 
@@ -270,7 +271,7 @@ can_open_first members me d range is = can_open me d range (subst (λ (e : Durab
     by false h = subst (λ (e : Durable). IsNamed me e) (sym (cond-false (is_member nat_eq members me) (first_durable members) empty_durable h)) (record { part = tt; joining = tt })
 
 -- a node that is opened: it takes this state, and its place
-opened_so : (pid : ℕ) (x : Node) (st : NodeStatus) (s : State) (c : Chain) (finds_after : Bool) (line : ℕ) (sends : List (ℕ × Msg)) → x.pid ≡ pid → x.status ≡ st → IsOpened pid s c sends
+opened_so : (pid : ℕ) (x : Node) (st : NodeStatus) (s : State) (c : Server) (finds_after : Bool) (line : ℕ) (sends : List (ℕ × Msg)) → x.pid ≡ pid → x.status ≡ st → IsOpened pid s c sends
     → ((w : World) (h : Happening) → h.fate ≡ Done → h.finds_after ≡ finds_after → world_by_status st Opens h w x ≡ world_opened w x s)
     → (y : Node) × ShowsNode pure_nodes (node_of pid (status.Up c)) y × IsNodeDone x Opens Done finds_after line y sends []
 opened_so pid x st s c finds_after line sends me runs is_open opens =
@@ -287,7 +288,7 @@ opened_so pid x st s c finds_after line sends me runs is_open opens =
       },
     )
 
-opened_again : (pid : ℕ) (d : Durable) (batch : List Change) (finds_after : Bool) (c : Chain) (sends : List (ℕ × Msg)) (line : ℕ) → IsOpened pid (state_after_restart pid (found_by finds_after d batch)) c sends
+opened_again : (pid : ℕ) (d : Durable) (batch : List Change) (finds_after : Bool) (c : Server) (sends : List (ℕ × Msg)) (line : ℕ) → IsOpened pid (state_after_restart pid (found_by finds_after d batch)) c sends
     → HasDone (node_of pid (status.Down d batch)) Opens Done finds_after line (node_of pid (status.Up c)) sends []
 opened_again pid d batch finds_after c sends line is_open = record {
   after = λ x shown.
@@ -303,8 +304,8 @@ opened_again pid d batch finds_after c sends line is_open = record {
   kept = (is_open.me, is_open.sound);
 }
 
-reopened : (pid : ℕ) (b : Chain) (count : ℕ) (batch : List Change) (finds_after : Bool) (c : Chain) (sends : List (ℕ × Msg)) (line : ℕ) → b.me ≡ pid
-    → IsOpened b.me (state_after_reopening b.me (state_of b) (found_by finds_after (state_of b).durable batch)) c sends → HasDone (node_of pid (status.Failed b count batch)) Opens Done finds_after line (node_of pid (status.Up c)) sends []
+reopened : (pid : ℕ) (b : Server) (count : ℕ) (batch : List Change) (finds_after : Bool) (c : Server) (sends : List (ℕ × Msg)) (line : ℕ) → b.chain.me ≡ pid
+    → IsOpened b.chain.me (state_after_reopening b.chain.me (state_of b) (found_by finds_after (state_of b).durable batch)) c sends → HasDone (node_of pid (status.Failed b count batch)) Opens Done finds_after line (node_of pid (status.Up c)) sends []
 reopened pid b count batch finds_after c sends line me opens = record {
   after = λ x shown.
       let after : Durable = durable_after (state_of b).durable batch in
@@ -370,7 +371,7 @@ kept_so old s is kept = subst (λ (z : Status). IsKept (node_of old.pid z)) is k
 
 -- one that is neither up nor has failed is down
 abbrev IsNeither : Status → Type 0
-IsNeither s = ((c : Chain) → s ≡ status.Up c → ⊥) × ((c : Chain) (count : ℕ) (batch : List Change) → s ≡ status.Failed c count batch → ⊥)
+IsNeither s = ((c : Server) → s ≡ status.Up c → ⊥) × ((c : Server) (count : ℕ) (batch : List Change) → s ≡ status.Failed c count batch → ⊥)
 
 is_down : (s : Status) → IsNeither s → (d : Durable) × (batch : List Change) × (s ≡ status.Down d batch)
 is_down (status.Up c) other = absurd (other.0 c refl)
@@ -378,14 +379,14 @@ is_down (status.Down d batch) other = (d, batch, refl)
 is_down (status.Failed c count batch) other = absurd (other.1 c count batch refl)
 
 -- a step at one that is down
-pub no_step : (old : PureNode) (i : Input) (fate : Fate) (finds_after : Bool) (line : ℕ) → IsKept old → (IsUp old → ⊥) → ((c : Chain) (count : ℕ) (batch : List Change) → old.status ≡ status.Failed c count batch → ⊥) → HasDone old (Steps i) fate finds_after line old [] []
+pub no_step : (old : PureNode) (i : Input) (fate : Fate) (finds_after : Bool) (line : ℕ) → IsKept old → (IsUp old → ⊥) → ((c : Server) (count : ℕ) (batch : List Change) → old.status ≡ status.Failed c count batch → ⊥) → HasDone old (Steps i) fate finds_after line old [] []
 no_step old i fate finds_after line kept down whole =
     let s = is_down old.status (λ c is. down (c, is), whole) in
     stays_so old (status.Down s.0 s.1) (Steps i) fate finds_after line [] s.2
     (idle_down old.pid s.0 s.1 (variant.Steps i) fate finds_after line (kept_so old (status.Down s.0 s.1) s.2 kept) (λ e. let no : variant.Steps i ≡ variant.Opens = e in cc))
 
 -- and at one that has failed
-pub refused_step : (old : PureNode) (c : Chain) (count : ℕ) (batch : List Change) (i : Input) (fate : Fate) (finds_after : Bool) (line : ℕ) → IsKept old → old.status ≡ status.Failed c count batch
+pub refused_step : (old : PureNode) (c : Server) (count : ℕ) (batch : List Change) (i : Input) (fate : Fate) (finds_after : Bool) (line : ℕ) → IsKept old → old.status ≡ status.Failed c count batch
     → HasDone old (Steps i) fate finds_after line old [] (outcome_lines line (failed_outcome count i))
 refused_step old c count batch i fate finds_after line kept is =
     let s = status.Failed c count batch in
@@ -398,28 +399,28 @@ tells_nothing old t fate finds_after line d batch kept is =
     (idle_down old.pid d batch (variant.Tells t) fate finds_after line (kept_so old (status.Down d batch) is kept) (λ e. let no : variant.Tells t ≡ variant.Opens = e in cc))
 
 -- at one that is up
-pub tells_up : (old : PureNode) (c : Chain) (t : runs.Told) (fate : Fate) (finds_after : Bool) (line : ℕ) (told : List Line) → IsKept old → old.status ≡ status.Up c → told ≡ told_lines t old.pid (state_of c) (state_of c).durable.part
+pub tells_up : (old : PureNode) (c : Server) (t : runs.Told) (fate : Fate) (finds_after : Bool) (line : ℕ) (told : List Line) → IsKept old → old.status ≡ status.Up c → told ≡ told_lines t old.pid (state_of c) (state_of c).durable.part
     → HasDone old (Tells t) fate finds_after line old [] told
 tells_up old c t fate finds_after line told kept is are = stays_so old (status.Up c) (Tells t) fate finds_after line told is (tells old.pid c t fate finds_after line told (kept_so old (status.Up c) is kept) are)
 
 -- and at one that has failed
-pub tells_failed : (old : PureNode) (c : Chain) (count : ℕ) (batch : List Change) (t : runs.Told) (fate : Fate) (finds_after : Bool) (line : ℕ) (told : List Line) → IsKept old → old.status ≡ status.Failed c count batch
+pub tells_failed : (old : PureNode) (c : Server) (count : ℕ) (batch : List Change) (t : runs.Told) (fate : Fate) (finds_after : Bool) (line : ℕ) (told : List Line) → IsKept old → old.status ≡ status.Failed c count batch
     → told ≡ told_lines t old.pid (state_of c) (state_of c).durable.part → HasDone old (Tells t) fate finds_after line old [] told
 tells_failed old c count batch t fate finds_after line told kept is are =
     let s = status.Failed c count batch in stays_so old s (Tells t) fate finds_after line told is (failed_tells old.pid c count batch t fate finds_after line told (kept_so old s is kept) are)
 
 -- an opening that isn't done, of one that hasn't failed
 pub no_opening : (old : PureNode) (fate : Fate) (finds_after : Bool) (line : ℕ) → IsKept old → ((w : World) (x : Node) (found : Durable) → world_opening fate w x found ≡ w)
-    → ((c : Chain) (count : ℕ) (batch : List Change) → old.status ≡ status.Failed c count batch → ⊥) → HasDone old Opens fate finds_after line old [] []
+    → ((c : Server) (count : ℕ) (batch : List Change) → old.status ≡ status.Failed c count batch → ⊥) → HasDone old Opens fate finds_after line old [] []
 no_opening old fate finds_after line kept idle whole = by old.status kept whole
   where
-    by : (s : Status) → IsKept (node_of old.pid s) → ((c : Chain) (count : ℕ) (batch : List Change) → s ≡ status.Failed c count batch → ⊥) → HasDone (node_of old.pid s) Opens fate finds_after line (node_of old.pid s) [] []
+    by : (s : Status) → IsKept (node_of old.pid s) → ((c : Server) (count : ℕ) (batch : List Change) → s ≡ status.Failed c count batch → ⊥) → HasDone (node_of old.pid s) Opens fate finds_after line (node_of old.pid s) [] []
     by (status.Up c) k w = open_already old.pid c fate finds_after line k
     by (status.Down d batch) k w = still_down old.pid d batch fate finds_after line k idle
     by (status.Failed c count batch) k w = absurd (w c count batch refl)
 
 -- one that has failed stops in it
-pub stopped_opening : (old new : PureNode) (c : Chain) (count : ℕ) (kept_batch batch : List Change) (finds_after : Bool) (line : ℕ) → IsKept old → old.status ≡ status.Failed c count kept_batch → IsStopped old batch new
+pub stopped_opening : (old new : PureNode) (c : Server) (count : ℕ) (kept_batch batch : List Change) (finds_after : Bool) (line : ℕ) → IsKept old → old.status ≡ status.Failed c count kept_batch → IsStopped old batch new
     → HasDone old Opens Stopped finds_after line new [] []
 stopped_opening old new c count kept_batch batch finds_after line kept is stops =
     let s = status.Failed c count kept_batch in
@@ -428,7 +429,7 @@ stopped_opening old new c count kept_batch batch finds_after line kept is stops 
     (subst (λ (n : PureNode). HasDone (node_of old.pid s) Opens Stopped finds_after line n [] []) (sym left) (failed_stopped_opening old.pid c count kept_batch finds_after line (kept_so old s is kept)))
 
 -- or a disk of it fails again
-pub failed_opening : (old new : PureNode) (c : Chain) (count more : ℕ) (batch : List Change) (finds_after : Bool) (line : ℕ) → IsKept old → old.status ≡ status.Failed c count batch → new ≡ node_of old.pid (status.Failed c more batch)
+pub failed_opening : (old new : PureNode) (c : Server) (count more : ℕ) (batch : List Change) (finds_after : Bool) (line : ℕ) → IsKept old → old.status ≡ status.Failed c count batch → new ≡ node_of old.pid (status.Failed c more batch)
     → HasDone old Opens (Faulted more) finds_after line new [] []
 failed_opening old new c count more batch finds_after line kept is fails =
     let s = status.Failed c count batch in
@@ -436,18 +437,18 @@ failed_opening old new c count more batch finds_after line kept is fails =
     (subst (λ (n : PureNode). HasDone (node_of old.pid s) Opens (Faulted more) finds_after line n [] []) (sym fails) (failed_again old.pid c count more batch finds_after line (kept_so old s is kept)))
 
 -- an opening that is done: of one that is up, of one that is down, and of one that has failed
-pub opens_up : (old : PureNode) (c : Chain) (finds_after : Bool) (line : ℕ) → IsKept old → status.Up c ≡ old.status → HasDone old Opens Done finds_after line (node_of old.pid (status.Up c)) [] []
+pub opens_up : (old : PureNode) (c : Server) (finds_after : Bool) (line : ℕ) → IsKept old → status.Up c ≡ old.status → HasDone old Opens Done finds_after line (node_of old.pid (status.Up c)) [] []
 opens_up old c finds_after line kept is =
     let s = status.Up c in
     at_status old s Opens Done finds_after line (node_of old.pid s) [] [] (sym is) (open_already old.pid c Done finds_after line (kept_so old s (sym is) kept))
 
-pub opens_down : (old : PureNode) (d : Durable) (batch : List Change) (c : Chain) (finds_after : Bool) (line : ℕ) (sends : List (ℕ × Msg)) → status.Down d batch ≡ old.status → IsOpened old.pid (state_after_restart old.pid (found_by finds_after d batch)) c sends
+pub opens_down : (old : PureNode) (d : Durable) (batch : List Change) (c : Server) (finds_after : Bool) (line : ℕ) (sends : List (ℕ × Msg)) → status.Down d batch ≡ old.status → IsOpened old.pid (state_after_restart old.pid (found_by finds_after d batch)) c sends
     → HasDone old Opens Done finds_after line (node_of old.pid (status.Up c)) sends []
 opens_down old d batch c finds_after line sends is is_open =
     at_status old (status.Down d batch) Opens Done finds_after line (node_of old.pid (status.Up c)) sends [] (sym is) (opened_again old.pid d batch finds_after c sends line is_open)
 
-pub opens_failed : (old : PureNode) (b : Chain) (count : ℕ) (batch : List Change) (c : Chain) (finds_after : Bool) (line : ℕ) (sends : List (ℕ × Msg)) → IsKept old → status.Failed b count batch ≡ old.status
-    → IsOpened b.me (state_after_reopening b.me (state_of b) (found_by finds_after (state_of b).durable batch)) c sends → HasDone old Opens Done finds_after line (node_of old.pid (status.Up c)) sends []
+pub opens_failed : (old : PureNode) (b : Server) (count : ℕ) (batch : List Change) (c : Server) (finds_after : Bool) (line : ℕ) (sends : List (ℕ × Msg)) → IsKept old → status.Failed b count batch ≡ old.status
+    → IsOpened b.chain.me (state_after_reopening b.chain.me (state_of b) (found_by finds_after (state_of b).durable batch)) c sends → HasDone old Opens Done finds_after line (node_of old.pid (status.Up c)) sends []
 opens_failed old b count batch c finds_after line sends kept is is_open =
     let s = status.Failed b count batch in
     at_status old s Opens Done finds_after line (node_of old.pid (status.Up c)) sends [] (sym is) (reopened old.pid b count batch finds_after c sends line (kept_so old s (sym is) kept).0 is_open)
@@ -460,8 +461,8 @@ pub only : (r : given.Done) (old new : PureNode) (x : Doing) (fate : Fate) (find
 only r old new x fate finds_after line told is did = subst (λ (d : given.Done). HasDone old x fate finds_after line new d.sends d.told) (sym is) did
 
 -- this node, with this sent and nothing told
-pub as_opened : (old : PureNode) (x : Doing) (fate : Fate) (finds_after : Bool) (line : ℕ) (chain c : Chain) (r : given.Done) (sends : List (ℕ × Msg)) → chain ≡ c → r ≡ record { sends = sends; told = [] }
-    → HasDone old x fate finds_after line (node_of old.pid (status.Up c)) sends [] → HasDone old x fate finds_after line (node_of old.pid (status.Up chain)) r.sends r.told
-as_opened old x fate finds_after line chain c r sends same is did =
-    subst (λ (e : Chain). HasDone old x fate finds_after line (node_of old.pid (status.Up e)) r.sends r.told) (sym same)
+pub as_opened : (old : PureNode) (x : Doing) (fate : Fate) (finds_after : Bool) (line : ℕ) (server c : Server) (r : given.Done) (sends : List (ℕ × Msg)) → server ≡ c → r ≡ record { sends = sends; told = [] }
+    → HasDone old x fate finds_after line (node_of old.pid (status.Up c)) sends [] → HasDone old x fate finds_after line (node_of old.pid (status.Up server)) r.sends r.told
+as_opened old x fate finds_after line server c r sends same is did =
+    subst (λ (e : Server). HasDone old x fate finds_after line (node_of old.pid (status.Up e)) r.sends r.told) (sym same)
     (subst (λ (d : given.Done). HasDone old x fate finds_after line (node_of old.pid (status.Up c)) d.sends d.told) (sym is) did)

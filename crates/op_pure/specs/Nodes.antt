@@ -8,8 +8,9 @@ use Rattle.op_types.specs.declared.messages.Msg.{Msg}
 use Rattle.op_runs.specs.declared.summary.Line.{Line}
 use Rattle.op_protocol.specs.State.{State}
 use Rattle.op_protocol.specs.Starting.{sends_after_restart}
-use Rattle.op_chain.specs.Chains.{state_of, CanOpen, IsSoundChain}
-use Rattle.op_chain.specs.declared.chain.Chain.{Chain}
+use Rattle.op_chain.specs.Chains.{CanOpen}
+use Rattle.op_server.specs.Servers.{state_of, IsSoundServer}
+use Rattle.op_server.specs.declared.server.Server.{Server}
 use Rattle.op_runs.specs.World.{Node, Up, Down, Failed, Doing, Fate}
 use Rattle.op_executions.specs.Servers.{Kind, ShowsNode, IsNodeDone}
 use Rattle.op_pure.specs.Happenings.{fate_of}
@@ -23,12 +24,12 @@ abbrev pub node_of : ℕ → Status → PureNode
 node_of pid status = record { pid = pid; status = status }
 
 -- one that is up
-abbrev pub up_node : ℕ → Chain → PureNode
+abbrev pub up_node : ℕ → Server → PureNode
 up_node pid c = node_of pid (status.Up c)
 
 -- the node is up
 abbrev pub IsUp : PureNode → Type 0
-IsUp n = (c : Chain) × (n.status ≡ status.Up c)
+IsUp n = (c : Server) × (n.status ≡ status.Up c)
 
 -- the state and how it runs; of a node that is down,
 -- what it has stored and was to store is kept, and all memory is lost
@@ -38,12 +39,12 @@ StatusShown (status.Down d batch) x = (x.state.durable ≡ d) × (x.status ≡ D
 StatusShown (status.Failed c count batch) x =
     (x.state ≡ state_of c) × (x.status ≡ Failed count (durable_after (state_of c).durable batch))
 
--- a node that is up or has failed is this server's sound chain; what one that isn't up was to store applies
+-- a node that is up or has failed keeps a sound server of its id; what one that isn't up was to store applies
 abbrev pub StatusKept : ℕ → Status → Type 0
-StatusKept pid (status.Up c) = (c.me ≡ pid) × IsSoundChain c
+StatusKept pid (status.Up c) = (c.chain.me ≡ pid) × IsSoundServer c
 StatusKept pid (status.Down d batch) = Applies d batch
 StatusKept pid (status.Failed c count batch) =
-    (c.me ≡ pid) × IsSoundChain c × Applies (state_of c).durable batch
+    (c.chain.me ≡ pid) × IsSoundServer c × Applies (state_of c).durable batch
 
 -- the same of a node
 abbrev pub IsKept : PureNode → Type 0
@@ -105,9 +106,9 @@ pub record CanFind (pid : ℕ) (d : Durable) (batch : List Change) (finds_after 
   pub rest : IsAtRest d
   pub can : CanOpen pid (found_by finds_after d batch)
 
--- this server's chain is opened in this state, and sends these messages then
-pub record IsOpened (pid : ℕ) (s : State) (c : Chain) (sends : List (ℕ × Msg)) : Type 0 where
-  pub me : c.me ≡ pid
+-- the server of this id is opened in this state, and sends these messages then
+pub record IsOpened (pid : ℕ) (s : State) (c : Server) (sends : List (ℕ × Msg)) : Type 0 where
+  pub me : c.chain.me ≡ pid
   pub state : state_of c ≡ s
-  pub sound : IsSoundChain c
+  pub sound : IsSoundServer c
   pub sends_are : sends ≡ sends_after_restart pid s.durable

@@ -2,7 +2,7 @@
 ghost use Rattle.std.specs.Prelude.{◌≡◌, ℕ, Bool, [], IfOk};
 ghost use Rattle.op_types.specs.Ranges.{MembersInRange};
 ghost use Rattle.op_record.specs.Ranges.{DurableInRange};
-ghost use Rattle.op_chain.specs.Chains.{state_of, Admits, IsSame};
+ghost use Rattle.op_server.specs.Servers.{state_of, Admits, IsSame};
 ghost use Rattle.op_protocol.specs.Rows.{step_plan};
 ghost use Rattle.op_runs.specs.World as runs;
 ghost use Rattle.op_executions.specs.Deeds.{told_of, doing_of};
@@ -13,9 +13,9 @@ ghost use Rattle.op_pure.specs.Nodes.{pure_nodes, up_node, HasDone, IsFailed, Is
 mod opening;
 
 use crate::happening::{Fate, Foretold};
-use op_chain::{Chain, Given, empty_durable, first_durable};
-use op_executions::{Doing, Done, Server, Told, ballot_lines, pair_lines, step_lines};
+use op_executions::{Doing, Done, Told, ballot_lines, pair_lines, step_lines};
 use op_runs::{Line, Lines};
+use op_server::{Given, Server, empty_durable, first_durable};
 use op_types::{Batch, Durable, Input, Members, NoMemory, Outcome, Pid, Refusal, Sends, is_among};
 use std::alloc::Global;
 use std::mem::replace;
@@ -33,25 +33,25 @@ pub struct PureNode {
 #[derive(Drop)]
 pub enum Status {
     /// It is up.
-    Up(Chain),
+    Up(Server),
     /// It is down, and has stored this. The step in which it stopped or failed was to store this batch, which is empty where it
     /// stopped between two steps.
     Down(Durable, Batch),
     /// A disk of it failed: it keeps what it had before, the count of its disks' faults, and the batch that the step was to store.
-    Failed(Chain, u64, Batch),
+    Failed(Server, u64, Batch),
 }
 
-impl Server for PureNode {
+impl op_executions::Server for PureNode {
     type Fate = Foretold;
 
     ghost kind = { pure_nodes };
 
     fn first(alloc: Global, pid: Pid, members: &Members) -> Result<PureNode, NoMemory> {
         let durable = durable_at_start(alloc, pid, members)?;
-        let chain = Chain::first(alloc, pid, durable)?;
+        let server = Server::first(alloc, pid, durable)?;
         Ok(PureNode {
             pid,
-            status: Status::Up(chain),
+            status: Status::Up(server),
         })
     }
 
@@ -85,19 +85,19 @@ impl PureNode {
             (fate_of fate) finds_after line self.new r.sends r.told) }
     {
         let pid = self.pid;
-        let Status::Up(chain) = &mut self.status else {
+        let Status::Up(server) = &mut self.status else {
             return self.refuse(alloc, &input, line);
         };
         match fate {
-            Fate::Done => step_whole(alloc, pid, chain, input, line),
+            Fate::Done => step_whole(alloc, pid, server, input, line),
             Fate::Stopped => {
-                let batch = to_store(chain, input)?;
+                let batch = to_store(server, input)?;
                 self.stop(alloc, batch);
                 Ok(Done::nothing(alloc))
             }
             Fate::Faulted(count) => {
                 let outcome = refusal(count, &input);
-                let batch = to_store(chain, input)?;
+                let batch = to_store(server, input)?;
                 self.fail(alloc, count, batch);
                 saying(alloc, outcome, line)
             }
@@ -123,9 +123,9 @@ impl PureNode {
     {
         let nothing = Status::Down(empty_durable(), Batch::new(alloc));
         self.status = match replace(&mut self.status, nothing) {
-            Status::Up(chain) => Status::Down(chain.into_durable(), batch),
+            Status::Up(server) => Status::Down(server.into_durable(), batch),
             Status::Down(durable, kept) => Status::Down(durable, kept),
-            Status::Failed(chain, _, kept) => Status::Down(chain.into_durable(), kept),
+            Status::Failed(server, _, kept) => Status::Down(server.into_durable(), kept),
         };
     }
 
@@ -135,7 +135,7 @@ impl PureNode {
     {
         let nothing = Status::Down(empty_durable(), Batch::new(alloc));
         self.status = match replace(&mut self.status, nothing) {
-            Status::Up(chain) => Status::Failed(chain, count, batch),
+            Status::Up(server) => Status::Failed(server, count, batch),
             status => status,
         };
     }
@@ -147,8 +147,8 @@ impl PureNode {
             (runs.Tells (told_of told)) fate finds_after line self.now r.sends r.told) }
     {
         match &self.status {
-            Status::Up(chain) => telling(alloc, self.pid, chain, told),
-            Status::Failed(chain, _, _) => telling(alloc, self.pid, chain, told),
+            Status::Up(server) => telling(alloc, self.pid, server, told),
+            Status::Failed(server, _, _) => telling(alloc, self.pid, server, told),
             Status::Down(..) => Ok(Done::nothing(alloc)),
         }
     }
@@ -170,43 +170,44 @@ fn durable_at_start(alloc: Global, pid: Pid, members: &Members) -> Result<Durabl
 fn step_whole(
     alloc: Global,
     pid: Pid,
-    chain: &mut Chain,
+    server: &mut Server,
     input: Input,
     line: u64,
 ) -> Result<Done, NoMemory>
-    requires { CanDo pure_nodes (up_node pid chain.old) (runs.Steps input) }
-    ensures { IfOk result (λ r. (finds_after : Bool) → HasDone (up_node pid chain.old) (runs.Steps input)
-        runs.Done finds_after line (up_node pid chain.new) r.sends r.told) }
+    requires { CanDo pure_nodes (up_node pid server.old) (runs.Steps input) }
+    ensures { IfOk result (λ r. (finds_after : Bool) → HasDone (up_node pid server.old) (runs.Steps input)
+        runs.Done finds_after line (up_node pid server.new) r.sends r.told) }
 {
-    let plan = chain.plan(input)?;
+    let plan = server.plan(input)?;
     let Given {
         sends,
         replies,
+        read_replies,
         outcome,
-    } = chain.adopt(plan);
-    let told = step_lines(alloc, line, pid, outcome, replies)?;
+    } = server.adopt(plan);
+    let told = step_lines(alloc, line, pid, outcome, replies, read_replies)?;
     Ok(Done { sends, told })
 }
 
 /// What a step is to store that isn't done.
-fn to_store(chain: &mut Chain, input: Input) -> Result<Batch, NoMemory>
-    requires { Admits chain.old input }
-    ensures same { IsSame chain.old chain.new }
+fn to_store(server: &mut Server, input: Input) -> Result<Batch, NoMemory>
+    requires { Admits server.old input }
+    ensures same { IsSame server.old server.new }
     ensures batch { IfOk result (λ batch.
-        batch ≡ (step_plan chain.old.me (state_of chain.old) input).batch) }
+        batch ≡ (step_plan server.old.chain.me (state_of server.old) input).batch) }
 {
-    let plan = chain.plan(input)?;
+    let plan = server.plan(input)?;
     Ok(plan.into_batch())
 }
 
-/// What an input is answered where disks have failed so often: proposals and wishes to trim are refused.
+/// What an input is answered where disks have failed so often: proposals, wishes to trim and reads are refused.
 fn refusal(count: u64, input: &Input) -> Option<Outcome>
     ensures { result ≡ runs.failed_outcome count input.now }
 {
     match input {
-        Input::Commands(_) | Input::Stop(_) | Input::TrimNow => Some(Outcome::Refused(
-            Refusal::StorageFailed { count },
-        )),
+        Input::Commands(_) | Input::Stop(_) | Input::TrimNow | Input::Read(_) => Some(
+            Outcome::Refused(Refusal::StorageFailed { count }),
+        ),
         Input::Tick | Input::Deliver(_, _) | Input::Up(_) | Input::Down(_) => None,
     }
 }
@@ -223,11 +224,11 @@ fn saying(alloc: Global, outcome: Option<Outcome>, line: u64) -> Result<Done, No
 }
 
 /// What a node tells.
-fn telling(alloc: Global, pid: Pid, chain: &Chain, told: Told) -> Result<Done, NoMemory>
-    ensures { IfOk result (λ r. let s = state_of chain.now in
+fn telling(alloc: Global, pid: Pid, server: &Server, told: Told) -> Result<Done, NoMemory>
+    ensures { IfOk result (λ r. let s = state_of server.now in
         r ≡ record { sends = []; told = runs.told_lines (told_of told) pid s s.durable.part }) }
 {
-    let told = told_lines(alloc, pid, chain, told)?;
+    let told = told_lines(alloc, pid, server, told)?;
     Ok(Done {
         sends: Sends::new(alloc),
         told,
@@ -235,12 +236,12 @@ fn telling(alloc: Global, pid: Pid, chain: &Chain, told: Told) -> Result<Done, N
 }
 
 /// The lines of what a node tells.
-fn told_lines(alloc: Global, pid: Pid, chain: &Chain, told: Told) -> Result<Lines, NoMemory>
-    ensures { IfOk result (λ lines. let s = state_of chain.now in
+fn told_lines(alloc: Global, pid: Pid, server: &Server, told: Told) -> Result<Lines, NoMemory>
+    ensures { IfOk result (λ lines. let s = state_of server.now in
         lines ≡ runs.told_lines (told_of told) pid s s.durable.part) }
 {
     match told {
-        Told::Pairs => pair_lines(alloc, pid, chain.pairs()),
-        Told::Ballots => ballot_lines(alloc, pid, chain.ballots()),
+        Told::Pairs => pair_lines(alloc, pid, server.pairs()),
+        Told::Ballots => ballot_lines(alloc, pid, server.ballots()),
     }
 }

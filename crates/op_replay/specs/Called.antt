@@ -19,7 +19,8 @@ pub record IsReportOf (s : Schedule) (text : List ℕ) : Type 0 where
   pub summary : Summary
   -- it is what a run of the events leaves, each of which names members or spares, and messages that were
   -- sent; the run keeps the laws of every run: it meets the list machine, each client is answered by the
-  -- lists that are reported, and each exchange of a leader with a majority decides, wherever it is in the run
+  -- lists that are reported, each exchange of a leader with a majority decides, wherever it is in the run,
+  -- and each line of a read's value is fresh
   pub run : IsReportOfRun s.members s.spares s.events summary
   -- the text says it
   pub written : text ≡ report_of summary

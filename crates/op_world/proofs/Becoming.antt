@@ -1,12 +1,12 @@
 -- What becomes of a step or an opening of a node, by what awaits it.
-use Rattle.std.proofs.Common.{◌≡◌, ◌≢◌, ◌⊎◌, ℕ, Bool, true, false, List, [], Option, Some, None, Ok, Err, refl, sym, ap, subst, ◌∙◌, inl, inr}
+use Rattle.std.proofs.Common.{◌≡◌, ℕ, Bool, false, List, [], Option, Some, Ok, Err, refl, sym, ap, subst, ◌∙◌, inl, inr}
 use Rattle.op_types.specs.Changes.{durable_after}
 use Rattle.op_types.specs.declared.answers.Outcome.{Outcome}
 use Rattle.op_types.specs.declared.durable.Durable.{Durable}
 use Rattle.op_types.specs.declared.events.Input.{Input}
 use Rattle.op_types.specs.declared.messages.Msg.{Msg}
 use Rattle.op_runs.specs.declared.summary.Line.{Line}
-use Rattle.op_runs.specs.World.{World, Node, Fate, Done, Stopped, Faulted, Doing, Steps, Opens, failed_outcome, outcome_lines, world_opening}
+use Rattle.op_runs.specs.World.{Fate, Done, Stopped, Faulted, Doing, Steps, Opens, failed_outcome, outcome_lines}
 use Rattle.op_memory.specs.MemDisks.{known_disk}
 use Rattle.op_memory.specs.declared.disk.MemDisk.{MemDisk}
 use Rattle.op_store.specs.Failing.{faults}
@@ -14,15 +14,14 @@ use Rattle.op_store.specs.Stored.{disks_with}
 use Rattle.op_store.specs.Stores.{disks_of}
 use Rattle.op_store.specs.declared.fail.Returned.{Returned}
 use Rattle.op_store.specs.declared.fail.StoreFail.TheVariants as store_fail
-use Rattle.op_chain.specs.declared.given.Given.{Given}
+use Rattle.op_server.specs.declared.given.Given.{Given}
 use Rattle.op_node.specs.Nodes.{NodeState as Inner, node_of, stores, Stepped, IsSoundNode}
 use Rattle.op_node.specs.Openings.{Opens as OpensOn, RefusesNode, fresh_for}
-use Rattle.op_node.specs.Reopenings.{StoreOneOf, FindsOneOf, RefusesAgain, count_kept}
+use Rattle.op_node.specs.Reopenings.{StoreOneOf, FindsOneOf, RefusesAgain}
 use Rattle.op_node.specs.Steps as steps
 use Rattle.op_node.specs.declared.fail.StepFail.TheVariants as step_fail
 use Rattle.op_node.specs.declared.node.Node as nodes
 use Rattle.op_node.proofs.Reopenings.{failed_step}
-use Rattle.op_runs.specs.Schedules.{Awaited, Nothing, Stop, Failure}
 use Rattle.op_world.specs.Awaiting.{awaited_of, is_stop, IsTold, MayCome}
 use Rattle.op_world.specs.Became.{IsInRange, IsDoneOf, BecomesOf, IsAfterFault, IsClosedAgain, GoesOnUp, fault_lines, refused_if, given_lines}
 use Rattle.op_world.specs.Disks.{AreLeftOf, StaysNode}
@@ -35,7 +34,7 @@ use Rattle.op_world.specs.declared.node_state.DownNode.{DownNode}
 use Rattle.op_world.specs.declared.node_state.NodeState.{NodeState}
 use Rattle.op_world.specs.declared.node_state.NodeState.TheVariants as node
 use Rattle.op_world.proofs.NodeDisks.{told_both, left_stores}
-use Rattle.op_world.proofs.Happenings.{stepped, stops_inside, fails_inside, runs_on, runs_still, failed_still, then_stays, first_stays, stays_same}
+use Rattle.op_world.proofs.Happenings.{stepped, stops_inside, fails_inside, runs_on, runs_still, then_stays, first_stays}
 use Rattle.op_world.proofs.Openings.{opens_again, reopens_again, stays_down, failed_stops, failed_fails, handed_back}
 
 -- ---- what may come

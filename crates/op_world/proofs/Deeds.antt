@@ -1,5 +1,5 @@
 -- What an event makes of a world with its lists.
-use Rattle.std.proofs.Common.{◌≡◌, ◌⊎◌, ◌<◌, ◌^◌, ◌+◌, ℕ, Bool, true, false, List, [], ◌∷◌, ◌++◌, length, get_or, set, Option, Some, All, IfSome, if◌then◌else◌, refl, sym, ap, subst, ◌∙◌, arith, ⊎_elim}
+use Rattle.std.proofs.Common.{◌≡◌, ◌⊎◌, ◌<◌, ◌^◌, ◌+◌, ℕ, Bool, true, false, List, [], ◌∷◌, ◌++◌, length, get_or, Option, Some, All, IfSome, if◌then◌else◌, refl, sym, ap, subst, ◌∙◌, arith, ⊎_elim}
 use Rattle.std.proofs.lemmas.List.{append-nil}
 use Rattle.std.proofs.lemmas.List.Elements.{All-nil, All-cons, All-head, All-tail}
 use Rattle.std.proofs.Math.ListN.{length-set}
@@ -7,7 +7,7 @@ use Rattle.op_types.specs.Ranges.{IsMember}
 use Rattle.op_types.specs.declared.durable.Durable.{Durable}
 use Rattle.op_types.specs.declared.log.Entry.{Entry}
 use Rattle.op_runs.specs.declared.events.Event.{Event}
-use Rattle.op_runs.specs.World.{World, Node, NodeStatus, Happening, Up, Down, Failed, Doing, Steps, Stops, Opens, Tells, first_world, run_of, deed_of, node_at, world_after}
+use Rattle.op_runs.specs.World.{World, Node, Happening, Up, Down, Failed, Doing, Steps, Stops, Opens, Tells, first_world, run_of, deed_of, node_at, world_after}
 use Rattle.op_runs.specs.Run.{Execution, first_execution, execution_with, machine_proposing_by}
 use Rattle.op_runs.specs.Possible.{is_possible, proposals_of, WhatInRange}
 use Rattle.op_runs.specs.Schedules.{Awaited, Nothing, Awaiting, awaiting_with, awaiting_by, is_awaited, drops, CallsDisks}

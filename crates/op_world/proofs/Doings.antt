@@ -4,13 +4,13 @@ use Rattle.std.specs.Prelude.{IfOk}
 use Rattle.op_types.specs.declared.events.Input.{Input}
 use Rattle.op_types.specs.declared.messages.Msg.{Msg}
 use Rattle.op_runs.specs.declared.summary.Line.{Line}
-use Rattle.op_runs.specs.World.{Node, Fate, Done, Told, Doing, Steps, Stops, Opens, Tells}
+use Rattle.op_runs.specs.World.{Fate, Done, Told, Doing, Steps, Stops, Opens, Tells}
 use Rattle.op_runs.specs.Schedules.{Awaited, Nothing}
 use Rattle.op_memory.specs.declared.disk.MemDisk.{MemDisk}
 use Rattle.op_types.specs.Changes.{durable_after}
 use Rattle.op_memory.specs.MemDisks.{known_disk}
 use Rattle.op_store.specs.Stores.{Represents}
-use Rattle.op_chain.specs.declared.given.Given.{Given}
+use Rattle.op_server.specs.declared.given.Given.{Given}
 use Rattle.op_node.specs.Nodes.{node_of, gives, stores, after_input, Stepped, IsRepresented, IsSoundNode}
 use Rattle.op_node.specs.Steps as steps
 use Rattle.op_node.specs.declared.node.Node as nodes

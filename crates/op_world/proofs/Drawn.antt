@@ -1,5 +1,5 @@
 -- The events of a drill, drawn one at a time.
-use Rattle.std.proofs.Common.{◌≡◌, ◌⊎◌, ℕ, ◌+◌, ◌<◌, ◌≤◌, ◌^◌, true, List, [], ◌∷◌, ◌++◌, length, All, refl, sym, ap, subst, ◌∙◌, inl, inr, arith, append_assoc, length-append}
+use Rattle.std.proofs.Common.{◌≡◌, ◌⊎◌, ℕ, ◌+◌, ◌<◌, ◌^◌, true, List, [], ◌∷◌, ◌++◌, length, All, refl, sym, ap, subst, ◌∙◌, inl, inr, arith, append_assoc, length-append}
 use Rattle.std.proofs.lemmas.Bool.{false≢true}
 use Rattle.std.proofs.lemmas.List.{append-nil, map-append}
 use Rattle.std.proofs.lemmas.List.Elements.{All-nil, All-cons, All-head, All-tail}
@@ -11,7 +11,7 @@ use Rattle.op_runs.specs.declared.summary.Summary.{Summary}
 use Rattle.op_runs.specs.World.{World, Sent, Happening, first_world, world_after, run_of, done_event, all_done, deed_of}
 use Rattle.op_runs.specs.Run.{Execution, first_execution, execution_of}
 use Rattle.op_runs.specs.Possible.{is_possible, is_possible_in, proposals_of, SparesInRange, WhatInRange}
-use Rattle.op_runs.specs.Schedules.{Awaiting, nothing_awaits, awaiting_after, Becomes, TellsNoFault}
+use Rattle.op_runs.specs.Schedules.{Awaiting, nothing_awaits, awaiting_after, TellsNoFault}
 use Rattle.op_runs.specs.Summary.{summary_of}
 use Rattle.op_gen.specs.declared.generator.Gen.{Gen}
 use Rattle.op_gen.specs.Draws.{drill_members, drill_spares, drill_nodes, gen_of, event_drawn, DrawnFrom, AreDrawn}
@@ -20,7 +20,7 @@ use Rattle.op_executions.specs.PlainRuns.{ArePlain}
 use Rattle.op_executions.proofs.PlainRuns.{StopsBetween, NothingAwaits, first_plain, stays_plain, nothing_after, done_one, is_done, same_deed}
 use Rattle.op_world.specs.Awaiting.{awaiting_of}
 use Rattle.op_world.specs.Events.{EventComes}
-use Rattle.op_world.specs.Runs.{IsReportOfRun, IsReportOfDrawn}
+use Rattle.op_world.specs.Runs.{IsReportOfDrawn}
 use Rattle.op_world.specs.Worlds.{Parts, Shows}
 use Rattle.op_world.proofs.Runs.{Ran, ran_first, ran_next, whether_plain, plain_report, other_report}
 

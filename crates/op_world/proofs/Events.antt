@@ -1,6 +1,6 @@
 -- What an event of a schedule makes of a world: one happening, or two where the node stops after it.
-use Rattle.std.proofs.Common.{◌≡◌, ◌<◌, ◌+◌, ◌^◌, ℕ, zero, suc, Bool, true, false, ◌||◌, eqb, nat_eq, List, [], ◌∷◌, length, map, get_or, set, Option, Some, None, All, IfSome, Result, Ok, Err, if◌then◌else◌, refl, sym, ap, subst, ◌∙◌, arith}
-use Rattle.std.proofs.lemmas.Bool.{cond_both, cond-true, cond-false, eqb-true, eq-eqb}
+use Rattle.std.proofs.Common.{◌≡◌, ◌<◌, ◌+◌, ℕ, zero, suc, Bool, true, false, ◌||◌, eqb, nat_eq, List, [], ◌∷◌, length, get_or, Option, Some, None, All, IfSome, Result, Ok, Err, if◌then◌else◌, refl, sym, ap, subst, ◌∙◌, arith}
+use Rattle.std.proofs.lemmas.Bool.{cond-true, cond-false, eqb-true, eq-eqb}
 use Rattle.std.proofs.lemmas.List.Elements.{All-nil, All-cons}
 use Rattle.std.specs.Prelude.{OnOk}
 use Rattle.std.specs.Set.{is_member}
@@ -10,9 +10,9 @@ use Rattle.op_runs.specs.declared.events.Event.{Event}
 use Rattle.op_runs.specs.declared.events.What.{What}
 use Rattle.op_runs.specs.declared.events.What.TheVariants as what
 use Rattle.op_runs.specs.Possible.{is_possible, WhatInRange}
-use Rattle.op_runs.specs.World.{World, Node, NodeStatus, Up, Down, Failed, Fate, Done, Happening, Doing, Steps, Stops, Opens, Tells, Deed, deed_of, node_at, done_event, node_ids, world_by_status, world_by_fate, world_at_node, world_with, world_after}
-use Rattle.op_runs.specs.Run.{Execution, execution_with, execution_of, machine_showing_all, machine_proposing_by}
-use Rattle.op_runs.specs.Schedules.{Awaited, Nothing, Awaiting, awaiting_with, is_awaited, drops, stop_after, CallsDisks, MayBecome, BecomesAt, BecomesBy, Becomes, awaiting_by, awaiting_after}
+use Rattle.op_runs.specs.World.{World, Node, NodeStatus, Up, Down, Failed, Fate, Done, Happening, Doing, Steps, Stops, Opens, Tells, Deed, deed_of, node_at, done_event, node_ids, world_by_status, world_by_fate, world_at_node, world_with}
+use Rattle.op_runs.specs.Run.{Execution, execution_with, machine_showing_all, machine_proposing_by}
+use Rattle.op_runs.specs.Schedules.{Nothing, Awaiting, awaiting_with, is_awaited, drops, stop_after, CallsDisks, MayBecome, BecomesAt, BecomesBy, Becomes, awaiting_by, awaiting_after}
 use Rattle.op_bounds.specs.Laws.{HappeningInRange}
 use Rattle.op_laws.specs.Runs.{RunInRange}
 use Rattle.op_bounds.proofs.Known.{nodes_are_ids}

@@ -1,10 +1,9 @@
 -- What is done at a node but an opening, as the world has it.
-use Rattle.std.proofs.Common.{◌≡◌, ◌≢◌, ℕ, Bool, false, List, [], ◌++◌, map, Option, Some, None, Ok, Err, refl, sym, ap, subst, ◌∙◌, inl, inr, arith}
+use Rattle.std.proofs.Common.{◌≡◌, ℕ, false, List, [], ◌++◌, Option, Some, None, refl, sym, ap, subst, ◌∙◌, inl, arith}
 use Rattle.std.proofs.lemmas.List.{append-nil}
 use Rattle.std.proofs.lemmas.List.Elements.{All-nil}
 use Rattle.op_types.specs.Changes.{durable_after}
 use Rattle.op_types.specs.Ranges.{IsMember}
-use Rattle.op_types.specs.declared.answers.Outcome.{Outcome}
 use Rattle.op_types.specs.declared.changes.Change.{Change}
 use Rattle.op_types.specs.declared.durable.Durable.{Durable}
 use Rattle.op_types.specs.declared.events.Input.{Input}
@@ -17,15 +16,15 @@ use Rattle.op_memory.specs.MemDisks.{known_disk}
 use Rattle.op_memory.specs.declared.disk.MemDisk.{MemDisk}
 use Rattle.op_store.specs.Stored.{disks_with}
 use Rattle.op_store.specs.Stores.{Represents, disks_of}
-use Rattle.op_chain.specs.declared.given.Given.{Given}
+use Rattle.op_server.specs.declared.given.Given.{Given}
 use Rattle.op_node.specs.Nodes.{NodeState as Inner, node_of, given_of, gives, stores, after_input, refused_with, IsSoundNode, AdmitsInput}
 use Rattle.op_node.specs.Reopenings.{StoreOneOf}
 use Rattle.op_node.specs.declared.node.Node as nodes
-use Rattle.op_runs.specs.World.{World, Node, NodeStatus, Up, Down, Failed, Fate, Done, Stopped, Faulted, Happening, Told, Doing, Steps, Stops, Opens, Tells, outcome_lines, told_lines, lines_of, stored_by, failed_outcome, world_by_status, world_by_fate}
+use Rattle.op_runs.specs.World.{World, Node, NodeStatus, Up, Down, Failed, Fate, Done, Stopped, Faulted, Told, Doing, Steps, Stops, Opens, Tells, outcome_lines, told_lines, lines_of, stored_by, failed_outcome, world_by_status, world_by_fate}
 use Rattle.op_bounds.proofs.Steps.{steps_stay}
 use Rattle.op_executions.specs.Servers.{CanDo}
 use Rattle.op_executions.specs.Servers as servers
-use Rattle.op_world.specs.Became.{DoneAs, IsDoneOf, IsLeftDown, IsNotUp, given_lines}
+use Rattle.op_world.specs.Became.{IsDoneOf, IsLeftDown, given_lines}
 use Rattle.op_world.specs.Disks.{StaysNode, AreLeft}
 use Rattle.op_world.specs.Worlds.{disk_nodes, StaysSame, IsKept, IsShown, ShowsFailed, ShowsDown, RunsAs, HasFailed}
 use Rattle.op_world.specs.declared.node_state.DownNode.{DownNode}
@@ -202,7 +201,8 @@ pub refuses : (me line : ℕ) (n m : nodes.Node MemDisk) (i : Input) (g : Given)
 refuses me line n m i g told comes may has gives_is stays told_is = record {
   after = λ x pid shown.
       let given : g ≡ refused_with shown.count i = gives_is ∙ gives_refused (node_of n) i shown.count shown.failed in
-      let lines : outcome_lines line (failed_outcome shown.count i) ≡ told = sym (append-nil (outcome_lines line (failed_outcome shown.count i))) ∙ ap (λ (q : Given). given_lines me line q) (sym given) ∙ sym told_is in
+      let said : List Line = outcome_lines line (failed_outcome shown.count i) in
+      let lines : said ≡ told = sym (append-nil (said ++ []) ∙ append-nil said) ∙ ap (λ (q : Given). given_lines me line q) (sym given) ∙ sym told_is in
       record {
         fate = Done;
         finds_after = false;

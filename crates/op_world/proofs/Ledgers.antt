@@ -37,6 +37,7 @@ input_lists m me s (input.Stop members) =
 input_lists m me s input.Tick = refl
 input_lists m me s (input.Deliver q msg) = refl
 input_lists m me s input.TrimNow = refl
+input_lists m me s (input.Read r) = refl
 input_lists m me s (input.Up q) = refl
 input_lists m me s (input.Down q) = refl
 

@@ -56,6 +56,7 @@ opens_nothing messages (what.Tick p) quiet = λ e. let no : Steps input.Tick ≡
 opens_nothing messages (what.Commands p cs) quiet = λ e. let no : Steps (input.Commands cs) ≡ Opens = e in cc
 opens_nothing messages (what.Stop p ms) quiet = λ e. let no : Steps (input.Stop ms) ≡ Opens = e in cc
 opens_nothing messages (what.Trim p) quiet = λ e. let no : Steps input.TrimNow ≡ Opens = e in cc
+opens_nothing messages (what.Read p r) quiet = λ e. let no : Steps (input.Read r) ≡ Opens = e in cc
 opens_nothing messages (what.Deliver i) quiet = by (slice_get messages i)
   where
     by : (o : Option Sent) → IfSome (delivery o) (λ d. d.doing ≡ Opens → ⊥)

@@ -1,23 +1,23 @@
 -- The disks of a node: told of what awaits it, and what a stop leaves of them.
-use Rattle.std.proofs.Common.{◌≡◌, ◌⊎◌, ℕ, List, refl, sym, ap, subst, ◌∙◌, inl, inr, ⊎_elim}
+use Rattle.std.proofs.Common.{◌≡◌, ℕ, List, refl, sym, ap, subst, ◌∙◌, inl}
 use Rattle.op_types.specs.declared.durable.Durable.{Durable}
 use Rattle.op_outside.specs.Disks.{DiskState, MayLeave, IsAtRest}
 use Rattle.op_memory.specs.Histories.{known_of}
-use Rattle.op_memory.specs.MemDisks.{seen_of, known_disk, fault_count_of, BeginsAnew, IsImageOf, Holds}
+use Rattle.op_memory.specs.MemDisks.{seen_of, known_disk, BeginsAnew, IsImageOf, Holds}
 use Rattle.op_memory.specs.declared.disk.MemDisk.{MemDisk}
 use Rattle.op_memory.specs.declared.disk_history.DiskHistory.{DiskHistory}
 use Rattle.op_memory.specs.declared.fault_count.FaultCount.{FaultCount}
-use Rattle.op_store.specs.Stored.{Disks, IsStored, RestsAs, disks_with}
+use Rattle.op_store.specs.Stored.{Disks, RestsAs, disks_with}
 use Rattle.op_store.specs.Stores.{Represents, disks_of}
 use Rattle.op_store.specs.declared.store.Store.{Store}
 use Rattle.op_store.proofs.CommitCrashes.{open_stored, image_stored, rests_first, rests_second}
-use Rattle.op_chain.specs.Chains.{state_of}
-use Rattle.op_node.specs.Nodes.{NodeState, node_of, rest_of, IsRepresented, IsSoundNode}
+use Rattle.op_server.specs.Servers.{state_of}
+use Rattle.op_node.specs.Nodes.{NodeState, node_of, rest_of, IsSoundNode}
 use Rattle.op_node.specs.Reopenings.{IsOneOf, StoreOneOf}
 use Rattle.op_node.specs.declared.node.Node.{Node}
 use Rattle.op_node.specs.declared.rest.Rest.{Rest}
 use Rattle.op_world.specs.Awaiting.{IsTold}
-use Rattle.op_world.specs.Disks.{IsLeftOf, AreLeftOf, AreLeft, StaysNode}
+use Rattle.op_world.specs.Disks.{IsLeftOf, AreLeftOf, StaysNode}
 use Rattle.op_world.specs.declared.disks.Faults.{Faults}
 use Rattle.op_world.specs.declared.node_state.DownNode.{DownNode}
 
@@ -80,7 +80,7 @@ left_stores image faults before after shown first second d l s = record {
 
 -- the node of what it is without its disks
 abbrev node_in : Rest → NodeState
-node_in r = record { me = r.chain.me; state = state_of r.chain; failed = r.failed }
+node_in r = record { me = r.server.chain.me; state = state_of r.server; failed = r.failed }
 
 pub same_node : (n m : Node MemDisk) → rest_of m ≡ rest_of n → node_of m ≡ node_of n
 same_node n m same = ap node_in same

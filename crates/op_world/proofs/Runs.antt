@@ -1,5 +1,5 @@
 -- A run of events, one after the other, and what is reported of it.
-use Rattle.std.proofs.Common.{◌≡◌, ◌⊎◌, ℕ, zero, suc, Bool, true, false, ◌+◌, ◌<◌, ◌^◌, List, [], ◌∷◌, ◌++◌, length, Option, Some, None, All, if◌then◌else◌, refl, sym, ap, subst, ◌∙◌, inl, inr, arith, append_assoc, length-append}
+use Rattle.std.proofs.Common.{◌≡◌, ◌⊎◌, ℕ, suc, Bool, true, false, ◌+◌, ◌<◌, ◌^◌, List, [], ◌∷◌, ◌++◌, length, Option, Some, None, All, if◌then◌else◌, refl, sym, ap, subst, ◌∙◌, inl, inr, arith, append_assoc, length-append}
 use Rattle.std.proofs.lemmas.List.{append-nil, map-append}
 use Rattle.std.proofs.lemmas.List.Elements.{All-nil, All-cons, All-head, All-tail, All-append, All-push}
 use Rattle.op_types.specs.Ranges.{MembersInRange}
@@ -8,9 +8,9 @@ use Rattle.op_runs.specs.declared.events.What.{What}
 use Rattle.op_runs.specs.declared.events.What.TheVariants as what
 use Rattle.op_runs.specs.declared.summary.Summary.{Summary}
 use Rattle.op_runs.specs.World.{World, Sent, Node, Deed, Doing, Happening, Fate, Done, Stopped, Faulted, node_ids, first_world, node_at, deed_of, run_of, done_event, all_done}
-use Rattle.op_runs.specs.Run.{Execution, first_execution, execution_with, execution_of}
+use Rattle.op_runs.specs.Run.{Execution, first_execution, execution_of}
 use Rattle.op_runs.specs.Possible.{is_possible, is_possible_in, WhatInRange, SparesInRange, proposals_in, proposals_of}
-use Rattle.op_runs.specs.Schedules.{Awaited, Nothing, Stop, Failure, Awaiting, nothing_awaits, is_awaited, happening_of, stop_after, MayBecome, BecomesAt, BecomesBy, Becomes, awaiting_after, IsRunOf, IsFirstRefused, TellsNoFault}
+use Rattle.op_runs.specs.Schedules.{Awaited, Nothing, Stop, Failure, Awaiting, nothing_awaits, is_awaited, happening_of, stop_after, MayBecome, BecomesAt, BecomesBy, Becomes, IsRunOf, IsFirstRefused, TellsNoFault}
 use Rattle.op_runs.specs.Summary.{summary_of}
 use Rattle.op_laws.specs.Runs.{RunInRange}
 use Rattle.op_laws.proofs.Reached.{world_of_run, execution_append}

@@ -20,7 +20,7 @@ use Rattle.op_runs.specs.declared.summary.NodeLine.{NodeLine}
 use Rattle.op_runs.specs.declared.summary.Running.{Running}
 use Rattle.op_runs.specs.declared.summary.Running.TheVariants as running
 use Rattle.op_types.specs.declared.log.Entry.{Entry}
-use Rattle.op_runs.specs.World.{World, Node, Sent, NodeStatus, Up, Down}
+use Rattle.op_runs.specs.World.{World, Node, Sent, NodeStatus, Up}
 use Rattle.op_runs.specs.Run.{Execution}
 use Rattle.op_runs.specs.declared.summary.Line.{Line}
 use Rattle.op_runs.specs.declared.summary.Listed.{Listed}

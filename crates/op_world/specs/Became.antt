@@ -1,6 +1,6 @@
 -- What becomes of a step or an opening of a node, by what awaits it. Only what is inside the crate speaks of
 -- this.
-use Rattle.std.specs.Prelude.{◌≡◌, ℕ, Bool, true, false, List, [], ◌++◌, map, Option, Some, None, if◌then◌else◌}
+use Rattle.std.specs.Prelude.{◌≡◌, ℕ, Bool, List, [], ◌++◌, map, Option, Some, None, if◌then◌else◌}
 use Rattle.op_types.specs.Ranges.{IsMember}
 use Rattle.op_types.specs.declared.answers.Outcome.{Outcome}
 use Rattle.op_types.specs.declared.answers.Outcome.TheVariants as outcome
@@ -8,9 +8,10 @@ use Rattle.op_types.specs.declared.answers.Refusal.TheVariants as refusal
 use Rattle.op_types.specs.declared.durable.Durable.{Durable}
 use Rattle.op_types.specs.declared.messages.Msg.{Msg}
 use Rattle.op_runs.specs.declared.summary.Line.{Line}
+use Rattle.op_runs.specs.declared.summary.Line.TheVariants as said
 use Rattle.op_runs.specs.World.{Node, Fate, Told, Doing, outcome_lines, answer_line, told_lines}
 use Rattle.op_memory.specs.declared.disk.MemDisk.{MemDisk}
-use Rattle.op_chain.specs.declared.given.Given.{Given}
+use Rattle.op_server.specs.declared.given.Given.{Given}
 use Rattle.op_node.specs.Nodes.{node_of}
 use Rattle.op_node.specs.declared.node.Node as nodes
 use Rattle.op_bounds.specs.Laws.{NodeInRange}
@@ -113,6 +114,7 @@ pub record GoesOnUp (n : nodes.Node MemDisk) (sends : List (ℕ × Msg)) (told :
 abbrev pub given_lines : ℕ → ℕ → Given → List Line
 given_lines pid line g =
     outcome_lines line g.outcome ++ map (λ r. answer_line pid r.client r.seq r.answer) g.replies
+    ++ map (λ r. said.Read pid r.client r.seq r.answer) g.read_replies
 
 -- the refusal of what is proposed, where disks have failed so often
 abbrev pub refused_if : Bool → ℕ → Option Outcome

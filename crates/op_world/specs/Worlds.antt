@@ -1,8 +1,7 @@
 -- Nodes and their disks in memory, as their world is.
-use Rattle.std.specs.Prelude.{◌≡◌, ◌≢◌, ◌||◌, ℕ, Bool, true, false, List, [], map, All, Some, None, if◌then◌else◌}
+use Rattle.std.specs.Prelude.{◌≡◌, ◌≢◌, ℕ, Bool, true, false, List, [], map, All, Some, None, if◌then◌else◌}
 use Rattle.op_types.specs.Changes.{empty_durable}
 use Rattle.op_types.specs.Ranges.{IsMember}
-use Rattle.op_types.specs.Rooms.{no_needs, with_room}
 use Rattle.op_types.specs.declared.durable.Durable.{Durable}
 use Rattle.op_types.specs.declared.log.Entry.{Entry}
 use Rattle.op_runs.specs.declared.summary.Line.{Line}
@@ -19,7 +18,7 @@ use Rattle.op_node.specs.declared.node.Node as nodes
 use Rattle.op_runs.specs.World.{Node, Sent, NodeStatus, Up, Down, Failed, Happening, Fate, Doing, Steps, Stops, Opens, Tells, node_ids}
 use Rattle.op_runs.specs.Run.{Execution}
 use Rattle.op_runs.specs.Possible.{proposals_in}
-use Rattle.op_runs.specs.Schedules.{Awaited, Nothing, is_awaited}
+use Rattle.op_runs.specs.Schedules.{Nothing, is_awaited}
 use Rattle.op_runs.specs.Summary.{stands_at, joining_conf}
 use Rattle.op_bounds.specs.Laws.{HappeningInRange}
 use Rattle.op_laws.specs.Runs.{RunInRange}

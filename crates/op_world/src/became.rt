@@ -89,9 +89,10 @@ fn stepped(
     let Given {
         sends,
         replies,
+        read_replies,
         outcome,
     } = given;
-    let told = step_lines(alloc, line, pid, outcome, replies)?;
+    let told = step_lines(alloc, line, pid, outcome, replies, read_replies)?;
     Ok(Became {
         state: NodeState::Up(untold(node)),
         sends,
@@ -255,7 +256,7 @@ fn is_proposal(input: &Input) -> bool
     ensures { (count : ℕ) → failed_outcome count input.now ≡ refused_if result count }
 {
     match input {
-        Input::Commands(_) | Input::Stop(_) | Input::TrimNow => true,
+        Input::Commands(_) | Input::Stop(_) | Input::TrimNow | Input::Read(_) => true,
         Input::Tick | Input::Deliver(_, _) | Input::Up(_) | Input::Down(_) => false,
     }
 }

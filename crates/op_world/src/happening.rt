@@ -96,9 +96,10 @@ impl WorldNode {
         let Given {
             sends,
             replies,
+            read_replies,
             outcome,
         } = given;
-        let told = step_lines(alloc, line, self.pid, outcome, replies)?;
+        let told = step_lines(alloc, line, self.pid, outcome, replies, read_replies)?;
         self.forget_in_time(alloc)?;
         Ok(Done { sends, told })
     }
@@ -146,9 +147,10 @@ impl WorldNode {
         let Given {
             sends,
             replies,
+            read_replies,
             outcome,
         } = given;
-        let told = step_lines(alloc, line, self.pid, outcome, replies)?;
+        let told = step_lines(alloc, line, self.pid, outcome, replies, read_replies)?;
         Ok(Done { sends, told })
     }
 

@@ -5,7 +5,7 @@ ghost use Rattle.op_record.specs.Ranges.{DurableInRange};
 ghost use Rattle.op_protocol.specs.Starting as starts;
 ghost use Rattle.op_runs.specs.World.{state_after_reopening};
 ghost use Rattle.op_store.specs.Stores.{disks_of};
-ghost use Rattle.op_chain.specs.Chains.{state_of, IsSoundChain};
+ghost use Rattle.op_server.specs.Servers.{state_of, IsSoundServer};
 ghost use Rattle.op_node.specs.Nodes.{node_of, IsSoundNode};
 ghost use Rattle.op_node.specs.Openings as openings;
 ghost use Rattle.op_node.specs.Reopenings as reopenings;
@@ -13,8 +13,8 @@ ghost use Rattle.op_node.specs.Reopenings.{Reopens, RefusesAgain, StoreOneOf, Fi
 
 use super::Node;
 use crate::starting::durable_for;
-use op_chain::{Chain, sends_after_restart};
 use op_outside::Disk;
+use op_server::{Server, sends_after_restart};
 use op_store::StoreFail;
 use op_types::{Durable, NoMemory, Sends};
 use std::alloc::Global;
@@ -33,12 +33,12 @@ impl<D: Disk> Node<D> {
             FindsOneOf D.state before after self.old self.new result }
         ensures sound { IsSoundNode self.new }
     {
-        let Ok(kept) = self.chain.durable().copy(self.alloc) else {
+        let Ok(kept) = self.server.durable().copy(self.alloc) else {
             return Err(StoreFail::NoMemory);
         };
         match self.store.reopen(self.alloc, kept) {
             Ok((durable, _)) => {
-                let Ok(sends) = reopened(self.alloc, &mut self.chain, durable) else {
+                let Ok(sends) = reopened(self.alloc, &mut self.server, durable) else {
                     return Err(StoreFail::NoMemory);
                 };
                 self.failed = None;
@@ -62,19 +62,19 @@ fn count_kept(failed: Option<u64>, cause: StoreFail) -> Option<u64>
     }
 }
 
-/// The chain goes on with what was found, and says what it sends.
-fn reopened(alloc: Global, chain: &mut Chain, durable: Durable) -> Result<Sends, NoMemory>
+/// The server goes on with what was found, and says what it sends.
+fn reopened(alloc: Global, server: &mut Server, durable: Durable) -> Result<Sends, NoMemory>
     requires { DurableInRange durable }
-    ensures me { chain.new.me ≡ chain.old.me }
-    ensures state { OnOk result (state_of chain.new ≡ state_after_reopening chain.old.me
-        (state_of chain.old) (openings.durable_for chain.old.me durable)) }
-    ensures sends { IfOk result (λ s. s ≡ starts.sends_after_restart chain.old.me
-        (openings.durable_for chain.old.me durable)) }
-    ensures sound { OnOk result (IsSoundChain chain.new) }
-    ensures unchanged { OnErr result (chain.new ≡ chain.old) }
+    ensures me { server.new.chain.me ≡ server.old.chain.me }
+    ensures state { OnOk result (state_of server.new ≡ state_after_reopening server.old.chain.me
+        (state_of server.old) (openings.durable_for server.old.chain.me durable)) }
+    ensures sends { IfOk result (λ s. s ≡ starts.sends_after_restart server.old.chain.me
+        (openings.durable_for server.old.chain.me durable)) }
+    ensures sound { OnOk result (IsSoundServer server.new) }
+    ensures unchanged { OnErr result (server.new ≡ server.old) }
 {
-    let durable = durable_for(chain.me(), durable);
-    let sends = sends_after_restart(alloc, chain.me(), &durable)?;
-    chain.reopen(durable)?;
+    let durable = durable_for(server.me(), durable);
+    let sends = sends_after_restart(alloc, server.me(), &durable)?;
+    server.reopen(durable)?;
     Ok(sends)
 }

@@ -2,7 +2,7 @@
 ghost use Rattle.std.specs.Prelude.{◌≡◌, ℕ, Bool, [], IfOk};
 ghost use Rattle.op_types.specs.Changes.{Applies, durable_after};
 ghost use Rattle.op_types.specs.Rooms.{IsAtRest};
-ghost use Rattle.op_chain.specs.Chains.{state_of};
+ghost use Rattle.op_server.specs.Servers.{state_of};
 ghost use Rattle.op_protocol.specs.Starting as starts;
 ghost use Rattle.op_runs.specs.World as runs;
 ghost use Rattle.op_executions.specs.Servers.{CanDo};
@@ -11,8 +11,8 @@ ghost use Rattle.op_pure.specs.Nodes.{pure_nodes, found_by, CanFind, HasDone, Is
 
 use super::{PureNode, Status};
 use crate::happening::{Fate, Foretold};
-use op_chain::{Chain, empty_durable, sends_after_restart};
 use op_executions::Done;
+use op_server::{Server, empty_durable, sends_after_restart};
 use op_types::{Batch, Durable, NoMemory, Pid, Sends};
 use std::alloc::Global;
 use std::mem::replace;
@@ -45,20 +45,20 @@ impl PureNode {
     {
         let mut done = Done::nothing(alloc);
         let nothing = Status::Down(empty_durable(), Batch::new(alloc));
-        let chain = match replace(&mut self.status, nothing) {
-            Status::Up(chain) => chain,
+        let server = match replace(&mut self.status, nothing) {
+            Status::Up(server) => server,
             Status::Down(durable, batch) => {
-                let (chain, sends) = opened(alloc, self.pid, durable, batch, finds_after)?;
+                let (server, sends) = opened(alloc, self.pid, durable, batch, finds_after)?;
                 done.sends = sends;
-                chain
+                server
             }
-            Status::Failed(chain, _, batch) => {
-                let (chain, sends) = reopened(alloc, chain, batch, finds_after)?;
+            Status::Failed(server, _, batch) => {
+                let (server, sends) = reopened(alloc, server, batch, finds_after)?;
                 done.sends = sends;
-                chain
+                server
             }
         };
-        self.status = Status::Up(chain);
+        self.status = Status::Up(server);
         Ok(done)
     }
 
@@ -92,32 +92,32 @@ fn opened(
     durable: Durable,
     batch: Batch,
     finds_after: bool,
-) -> Result<(Chain, Sends), NoMemory>
+) -> Result<(Server, Sends), NoMemory>
     requires finds { CanFind pid durable batch finds_after }
     ensures { IfOk result (λ o.
         IsOpened pid (starts.state_after_restart pid (found_by finds_after durable batch)) o.0 o.1) }
 {
     let durable = found(durable, batch, finds_after)?;
     let sends = sends_after_restart(alloc, pid, &durable)?;
-    let chain = Chain::again(alloc, pid, durable)?;
-    Ok((chain, sends))
+    let server = Server::again(alloc, pid, durable)?;
+    Ok((server, sends))
 }
 
 /// A node that has failed is opened in place with what it finds.
 fn reopened(
     alloc: Global,
-    mut chain: Chain,
+    mut server: Server,
     batch: Batch,
     finds_after: bool,
-) -> Result<(Chain, Sends), NoMemory>
-    requires finds { CanFind chain.me (state_of chain).durable batch finds_after }
-    ensures { IfOk result (λ o. let d = found_by finds_after (state_of chain).durable batch in
-        IsOpened chain.me (runs.state_after_reopening chain.me (state_of chain) d) o.0 o.1) }
+) -> Result<(Server, Sends), NoMemory>
+    requires finds { CanFind server.chain.me (state_of server).durable batch finds_after }
+    ensures { IfOk result (λ o. let d = found_by finds_after (state_of server).durable batch in
+        IsOpened server.chain.me (runs.state_after_reopening server.chain.me (state_of server) d) o.0 o.1) }
 {
-    let durable = found(chain.durable().copy(alloc)?, batch, finds_after)?;
-    let sends = sends_after_restart(alloc, chain.me(), &durable)?;
-    chain.reopen(durable)?;
-    Ok((chain, sends))
+    let durable = found(server.durable().copy(alloc)?, batch, finds_after)?;
+    let sends = sends_after_restart(alloc, server.me(), &durable)?;
+    server.reopen(durable)?;
+    Ok((server, sends))
 }
 
 /// What an opening finds.

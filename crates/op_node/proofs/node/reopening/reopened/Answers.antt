@@ -7,6 +7,6 @@ use Rattle.op_node.proofs.node.reopening.reopened.Goals as goal
 
 pub reopen-requires : goal.reopen-requires
 reopen-requires c =
-    let me = c.args.chain.now.me in
+    let me = c.args.server.now.chain.me in
     let is : c.durable_for-durable.result ≡ openings.durable_for me c.args.durable = c.durable_for-durable.ensures ∙ ap (λ (k : ℕ). openings.durable_for k c.args.durable) c.me.ensures in
     subst (λ (d : Durable). CanOpen me d) (sym is) (can_open me c.args.durable c.requires)

@@ -1,4 +1,4 @@
-use Rattle.op_world.proofs.Deeds.{IsEventDone, event_comes, event_kept, has_run}
+use Rattle.op_world.proofs.Deeds.{event_comes, event_kept, has_run}
 use Rattle.op_world.proofs.Events.{some_happened}
 use Rattle.op_world.proofs.world.events.happen.Goals as goal
 

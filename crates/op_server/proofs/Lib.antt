@@ -1,0 +1,5 @@
+pub mod Adopts
+pub mod Answers
+pub mod Asks
+pub mod Planned
+pub mod Sound

@@ -1,0 +1,15 @@
+//! A node over all its configurations with the reads that wait at it, without its disks: each step is planned with all the
+//! memory that it takes, and adopted once its batch is stored.
+#![tactic(auto)]
+
+mod answering;
+mod asking;
+mod given;
+mod reading;
+mod server;
+mod server_plan;
+
+pub use given::Given;
+pub use op_chain::{Map, Pairs, empty_durable, first_durable, sends_after_restart};
+pub use server::Server;
+pub use server_plan::ServerPlan;
