@@ -15,12 +15,13 @@ use Rattle.op_serving.specs.declared.wanted.Wanted.{Wanted}
 use Rattle.op_serving.specs.Cores.{Standing, gives, given_again}
 use Rattle.op_serving.specs.Fates.{Fate, done, finds, faults, damaged, lost, after_fate}
 use Rattle.op_serving.specs.State.{Loop, find, without, kind_at, left_at, left_by, counted}
-use Rattle.op_serving.specs.Losses.{most_marks, mark_at, noted, stopped_if, marked, lost_by, lost_one, is_due, settle}
+use Rattle.op_serving.specs.Losses.{most_marks, mark_at, noted, stopped_if, marked, lost_by, lost_one, is_due, settle, size}
 use Rattle.op_serving.specs.Handing.{Frame, handed_out, frames_handed, proposed, frames_proposed, excused, frames_excused}
 use Rattle.op_serving.specs.Inputs.{Deed, enters, says, State, Luck, asked_by, loop_after, frames_after, next_fate, calm, entered_with, enter}
 use Rattle.op_serving.specs.Promise.{Life, newborn, inputs_at, and_then, life, at_conn, KeepsClosed}
 use Rattle.op_connections.proofs.Tables.{find_without, find_apart, at_without, at_apart}
 use Rattle.op_connections.proofs.Queueing.{bytes_for, queued, queued_none, Spent, Queues, spent_queues, queues_none, queues_given, queues_excused}
+use Rattle.op_connections.proofs.Sizing.{size_queues}
 use Rattle.op_connections.proofs.Keeping.{Shape, OpenAt, Kept, Keeping, with_said, with_inputs, Left, left_same, Comes, kept_comes, keeping, keeping_then}
 
 -- ---- deeds, one behind the other
@@ -123,41 +124,44 @@ left_queues : (c : ℕ) (s : Loop) (fs : List Frame) (t : Loop) → Queues c s f
 left_queues c s fs t q = inr (q.found, ap (at_conn c) q.gathered)
 
 -- what an input leaves, however it ends
-record After (c : ℕ) (s : Loop) (fs : List Frame) (t : Loop) : Type 0 where
-  left : Left (find c s.sessions) (at_conn c s.gathered) (bytes_for c fs) (find c t.sessions) (at_conn c t.gathered)
-  spent : Spent s → Spent t
-  me : t.me ≡ s.me
+pub record After (c : ℕ) (s : Loop) (fs : List Frame) (t : Loop) : Type 0 where
+  pub left : Left (find c s.sessions) (at_conn c s.gathered) (bytes_for c fs) (find c t.sessions) (at_conn c t.gathered)
+  pub spent : Spent s → Spent t
+  pub me : t.me ≡ s.me
+  pub ends : size t ≤ size s
 
 after_queues : (c : ℕ) (s : Loop) (fs : List Frame) (t : Loop) → Queues c (counted s) fs t → After c s fs t
-after_queues c s fs t q = record { left = left_queues c (counted s) fs t q; spent = spent_queues c (counted s) fs t q; me = q.me }
+after_queues c s fs t q = record { left = left_queues c (counted s) fs t q; spent = spent_queues c (counted s) fs t q; me = q.me; ends = omega (arith, size_queues c (counted s) fs t q) }
 
 after_given : (c : ℕ) (w : Option Wanted) (g : Given) (o : Option Outcome) (s : Loop) → After c s (frames_proposed w o ++ frames_handed g (proposed w o (counted s))) (handed_out g (proposed w o (counted s)))
 after_given c w g o s = after_queues c s (frames_proposed w o ++ frames_handed g (proposed w o (counted s))) (handed_out g (proposed w o (counted s))) (queues_given c w g o (counted s))
 
-after_loss : (c : ℕ) (w : Option Wanted) (b : Bool) (s u : Loop) → u.sessions ≡ s.sessions → u.gathered ≡ s.gathered → u.me ≡ s.me → Spent (stopped_if b u)
+after_loss : (c : ℕ) (w : Option Wanted) (b : Bool) (s u : Loop) → u.sessions ≡ s.sessions → u.gathered ≡ s.gathered → u.me ≡ s.me → u.downs ≡ s.downs → Spent (stopped_if b u)
     → After c s (frames_excused w None) (excused w None (counted (stopped_if b u)))
-after_loss c w true s u sessions gathered me spent =
+after_loss c w true s u sessions gathered me downs spent =
     let q = queues_excused c w None (counted u) in
     record {
       left = inr (q.found ∙ ap (λ t. queued (bytes_for c (frames_excused w None)) (find c t)) sessions, ap (at_conn c) (q.gathered ∙ gathered));
       spent = λ h. spent_queues c (counted u) (frames_excused w None) (excused w None (counted u)) q spent;
       me = q.me ∙ me;
+      ends = omega (arith, size_queues c (counted u) (frames_excused w None) (excused w None (counted u)) q, ap length sessions, ap length downs);
     }
-after_loss c w false s u sessions gathered me spent =
+after_loss c w false s u sessions gathered me downs spent =
     let v : Loop = counted (stopped_if false u) in
     let q = queues_excused c w None v in
     record {
       left = inl (ap (find c) (q.empty refl), ap (at_conn c) q.gathered);
       spent = λ h. spent_queues c v (frames_excused w None) (excused w None v) q spent;
       me = q.me ∙ me;
+      ends = omega (arith, size_queues c v (frames_excused w None) (excused w None v) q);
     }
 
-after_input : (c : ℕ) (w : Option Wanted) (i : Input) (f : Fate) (n : Standing) (s : Loop) → After c s (frames_after w i f n s) (loop_after w i f n s)
+pub after_input : (c : ℕ) (w : Option Wanted) (i : Input) (f : Fate) (n : Standing) (s : Loop) → After c s (frames_after w i f n s) (loop_after w i f n s)
 after_input c w i done n s = after_given c w (gives n i) (gives n i).outcome s
 after_input c w i (finds d) n s = after_given c w (given_again n d) None s
 after_input c w i (faults k) n s = after_queues c s (frames_excused w (Some (StorageFailed k))) (excused w (Some (StorageFailed k)) (counted s)) (queues_excused c w (Some (StorageFailed k)) (counted s))
-after_input c w i damaged n s = after_queues c s [] (counted s) (queues_none c (counted s) (counted s) refl refl refl refl refl)
-after_input c w i lost n s = after_loss c w (nat_lt (length s.lost + 1) most_marks) s (noted (mark_at s.place None) s) refl refl refl (spent_marked None s)
+after_input c w i damaged n s = after_queues c s [] (counted s) (queues_none c (counted s) (counted s) refl refl refl refl refl refl)
+after_input c w i lost n s = after_loss c w (nat_lt (length s.lost + 1) most_marks) s (noted (mark_at s.place None) s) refl refl refl refl (spent_marked None s)
 
 -- an input, before losses
 abbrev entered_by : List ℕ → Input → Fate → State → State

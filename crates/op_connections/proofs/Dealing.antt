@@ -300,6 +300,8 @@ module _ (me c : ℕ) (kind : Kind) (z : Stream) (bytes body : List ℕ) (l : Lu
       (λ u v e m. held_input me c kind z bytes body (Asks (request.Stop members)) f l (input.Stop members) u v refl (λ d. refl) e m)
   asked_led request.Trim s y f there k = held_behind me c kind z bytes body (Asks request.Trim) f l (give l (c ∷ []) input.TrimNow) s k
       (λ u v e m. held_input me c kind z bytes body (Asks request.Trim) f l input.TrimNow u v refl (λ d. refl) e m)
+  asked_led (request.Read r) s y f there k = held_behind me c kind z bytes body (Asks (request.Read r)) f l (give l (c ∷ []) (input.Read r)) s k
+      (λ u v e m. held_input me c kind z bytes body (Asks (request.Read r)) f l (input.Read r) u v refl (λ d. refl) e m)
   asked_led request.Status s y f there k = held_behind me c kind z bytes body (Asks request.Status) f l (λ u. tells c (said.Status (line u.node)) u) s k
       (λ u v e m. held_done me c kind z bytes body (Asks request.Status) f (tells c (said.Status (line u.node)) u) refl (held_keeping me c (is_idle kind z) bytes u (tells c (said.Status (line u.node)) u) (keeping_tells c (said.Status (line u.node)) u) m))
   asked_led request.End s y f there k = held_behind me c kind z bytes body (Asks request.End) f l (λ u. ending (tells c said.Ended u)) s k

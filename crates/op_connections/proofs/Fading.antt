@@ -82,7 +82,7 @@ pub fades_queues : (c : ℕ) (s : Loop) (fs : List Frame) (t : Loop) → Queues 
 fades_queues c s fs t q = record {
   front = inr (ap front_in q.found ∙ front_queued (bytes_for c fs) (find c s.sessions));
   peers = q.peers;
-  rising = q.rising;
+  rising = λ h. subst Rising (sym q.keys) h;
   gathered = λ h. q.gathered ∙ h;
 }
 
@@ -189,7 +189,7 @@ stays_due : (c : ℕ) (b : Bool) (ms : List Mark) (o : Option ℕ) (s : Loop) �
 stays_due c true ms o s k = k
 stays_due c false ms o s k = inr refl
 
-stays_settle : (c : ℕ) (ms : List Mark) (s : Loop) → Stays c s (settle ms s)
+pub stays_settle : (c : ℕ) (ms : List Mark) (s : Loop) → Stays c s (settle ms s)
 stays_settle c [] s = inr refl
 stays_settle c (m ∷ ms) s = stays_due c (is_due m s) ms m.conn s (stays_then c s (lost_one m.conn s) (settle ms (lost_one m.conn s)) (stays_one c m.conn s) (stays_settle c ms (lost_one m.conn s)))
 
@@ -230,8 +230,8 @@ fading c l start = record {
     moves = λ s t u h. fades_then c start s.loop t h (fades_same c s.loop t u.sessions u.peers u.gathered);
     calms = λ s h. fades_then c start s.loop (calm l s).loop h (fades_calm c l s);
     downs = λ q s h. fades_then c start s.loop (enter l [] (input.Down q) s).loop h (fades_enter c l [] (input.Down q) s);
+    leaves_one = λ d s h. fades_then c start s.loop (left_by d s.loop) h (fades_over c d (kind_at d s.loop) s.loop);
   };
-  leaves_one = λ d s h. fades_then c start s.loop (left_by d s.loop) h (fades_over c d (kind_at d s.loop) s.loop);
   enters_one = λ who i s h. fades_then c start s.loop (enter l who i s).loop h (fades_enter c l who i s);
 }
 

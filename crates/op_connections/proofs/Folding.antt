@@ -72,8 +72,8 @@ module _ (l : Luck) (start : State) where
       moves = λ s t u h. folds_loop s t h;
       calms = λ s h. folds_loop s (calm l s).loop h;
       downs = λ q s h. folds_then start s (enter l [] (input.Down q) s) h (folds_enter [] (input.Down q) s);
+      leaves_one = λ c s h. folds_loop s (left_by c s.loop) h;
     };
-    leaves_one = λ c s h. folds_loop s (left_by c s.loop) h;
     enters_one = λ who i s h. folds_then start s (enter l who i s) h (folds_enter who i s);
   }
 

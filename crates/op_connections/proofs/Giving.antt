@@ -7,12 +7,13 @@ use Rattle.op_types.specs.declared.log.Command.{Command}
 use Rattle.op_serving.specs.declared.kind.Kind.{Kind}
 use Rattle.op_serving.specs.declared.kind.Kind.TheVariants.{Client}
 use Rattle.op_serving.specs.declared.session.Session.{Session}
-use Rattle.op_serving.specs.State.{find, left_by}
+use Rattle.op_serving.specs.State.{find, left_by, counted, shed}
 use Rattle.op_serving.specs.Losses.{size}
-use Rattle.op_serving.specs.Inputs.{State, Luck, calm, enter, first_down, drained_in, drained, rest, give, released, given_together, flushed, leaves, over}
+use Rattle.op_serving.specs.Inputs.{State, Luck, calm, enter, shedding, first_down, drained_in, drained, rest, give, released, given_together, flushed, leaves, over}
 use Rattle.op_serving.specs.Promise.{Life, alone, inputs_at, life, at_conn, Hears, CommandFrames, KeepsClosed}
 use Rattle.op_connections.proofs.Tables.{zipped}
 use Rattle.op_connections.proofs.Keeping.{Shape, Open, OpenAt, Kept, Keeping, Flushes, Flushing, with_inputs, inputs_none, keeping_then, flushing_then}
+use Rattle.op_connections.proofs.Walking.{shed_holds}
 use Rattle.op_connections.proofs.Hearing.{heard_commands, none_gathered}
 use Rattle.op_connections.proofs.Coming.{keeping_unseen, keeping_left, keeping_calm, kept_enter}
 
@@ -39,11 +40,18 @@ keeping_first l (q ∷ qs) s =
     let m : State = record s { loop = record s.loop { downs = qs } } in
     keeping_then s m (enter l [] (input.Down q) m) (keeping_unseen s m refl refl refl refl refl) (keeping_enter l [] (input.Down q) m (λ c. refl))
 
+keeping_shed : (l : Luck) (s : State) → Keeping s (shedding l s)
+keeping_shed l s me shape now c k = keeping_calm l (record s { loop = shed s.loop }) me shape now c
+    (shed_holds (λ t. Kept me shape now c (record s { loop = t }))
+    (λ t h. keeping_unseen (record s { loop = t }) (record s { loop = counted t }) refl refl refl refl refl me shape now c h)
+    (λ d t h. keeping_left d (record s { loop = t }) me shape now c h) s.loop k)
+
 keeping_drained_in : (k : ℕ) (l : Luck) (s : State) → Keeping s (drained_in k l s)
 keeping_drained_in zero l s = keeping_unseen s s refl refl refl refl refl
 keeping_drained_in (suc k) l s =
-    let m : State = first_down l s.loop.downs s in
-    keeping_then s m (drained_in k l m) (keeping_first l s.loop.downs s) (keeping_drained_in k l m)
+    let t : State = shedding l s in
+    let m : State = first_down l t.loop.downs t in
+    keeping_then s t (drained_in k l m) (keeping_shed l s) (keeping_then t m (drained_in k l m) (keeping_first l t.loop.downs t) (keeping_drained_in k l m))
 
 pub keeping_drained : (l : Luck) (s : State) → Keeping s (drained l s)
 unfolding drained

@@ -54,8 +54,8 @@ holds_steps d l start = record {
     moves = λ s t u h. holds_then d start s.loop t h (inr (ap (λ v. front_in (find d v)) u.sessions));
     calms = λ s h. holds_then d start s.loop (calm l s).loop h (fades_calm d l s).front;
     downs = λ q s h. holds_then d start s.loop (enter l [] (input.Down q) s).loop h (fades_enter d l [] (input.Down q) s).front;
+    leaves_one = λ c s h. holds_then d start s.loop (left_by c s.loop) h (fades_over d c (kind_at c s.loop) s.loop).front;
   };
-  leaves_one = λ c s h. holds_then d start s.loop (left_by c s.loop) h (fades_over d c (kind_at c s.loop) s.loop).front;
   enters_one = λ who i s h. holds_then d start s.loop (enter l who i s).loop h (fades_enter d l who i s).front;
 }
 

@@ -1,5 +1,6 @@
 pub mod Tables
 pub mod Queueing
+pub mod Sizing
 pub mod Keeping
 pub mod Hearing
 pub mod Coming
@@ -11,11 +12,15 @@ pub mod Turning
 pub mod Pumping
 pub mod Walking
 pub mod Fading
+pub mod Shedding
 pub mod Registering
+pub mod Settled
+pub mod Readers
 pub mod Uppings
 pub mod Quieting
 pub mod Writing
 pub mod Promises
+pub mod Waiting
 pub mod Turns
 pub mod Folding
 pub mod Awaiting

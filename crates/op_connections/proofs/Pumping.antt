@@ -23,6 +23,7 @@ pub record Moved (s t : Loop) : Type 0 where
   pub sessions : t.sessions ≡ s.sessions
   pub gathered : t.gathered ≡ s.gathered
   pub lost : t.lost ≡ s.lost
+  pub askers : t.askers ≡ s.askers
 
 -- what each thing that the loop does keeps
 pub record Closed (l : Luck) (line : Standing → List ℕ) (Holds : State → Type 0) : Type 0 where
@@ -35,15 +36,15 @@ pub record Closed (l : Luck) (line : Standing → List ℕ) (Holds : State → T
   pub has_bytes : (c : ℕ) (bytes : List ℕ) (s : State) → IsBytes bytes → Holds s → Holds (read l line c bytes s)
   pub took_some : (c n : ℕ) (s : State) → n ≤ length (waiting c s) → Holds s → Holds (wrote l c n s)
 
-moved : (s t : Loop) → t.me ≡ s.me → t.peers ≡ s.peers → t.sessions ≡ s.sessions → t.gathered ≡ s.gathered → t.lost ≡ s.lost → Moved s t
-moved s t me peers sessions gathered marks = record { me = me; peers = peers; sessions = sessions; gathered = gathered; lost = marks }
+moved : (s t : Loop) → t.me ≡ s.me → t.peers ≡ s.peers → t.sessions ≡ s.sessions → t.gathered ≡ s.gathered → t.lost ≡ s.lost → t.askers ≡ s.askers → Moved s t
+moved s t me peers sessions gathered marks askers = record { me = me; peers = peers; sessions = sessions; gathered = gathered; lost = marks; askers = askers }
 
 module _ (o : Settings) (l : Luck) (line : Standing → List ℕ) (Holds : State → Type 0) (k : Closed l line Holds) where
   after_turn : (s : State) → Holds s → Holds (turn_begun s)
-  after_turn s h = k.moves s (turn_begun s).loop (moved s.loop (turn_begun s).loop refl refl refl refl refl) h
+  after_turn s h = k.moves s (turn_begun s).loop (moved s.loop (turn_begun s).loop refl refl refl refl refl refl) h
 
   after_at : (i : ℕ) (s : State) → Holds s → Holds (at_happening i s)
-  after_at i s h = k.moves s (at_happening i s).loop (moved s.loop (at_happening i s).loop refl refl refl refl refl) h
+  after_at i s h = k.moves s (at_happening i s).loop (moved s.loop (at_happening i s).loop refl refl refl refl refl refl) h
 
   -- ---- one answer
 
@@ -165,7 +166,7 @@ module _ (o : Settings) (l : Luck) (line : Standing → List ℕ) (Holds : State
 
   pub answer_kept : (p : Pump) (a : Answer) → IsAnswer (ask o l line p) a → Goes p → Goes (shut o l line (answered o l line a p))
   answer_kept p a is g = record {
-    holds = k.moves q.driver (shut o l line q).driver.loop (moved q.driver.loop (shut o l line q).driver.loop refl refl refl refl refl) (stage_kept p p.at a g.holds g.runs is);
+    holds = k.moves q.driver (shut o l line q).driver.loop (moved q.driver.loop (shut o l line q).driver.loop refl refl refl refl refl refl) (stage_kept p p.at a g.holds g.runs is);
     runs = by_marks (nat_lt (length q.driver.loop.lost) most_marks) refl;
   }
     where
@@ -179,3 +180,16 @@ module _ (o : Settings) (l : Luck) (line : Standing → List ℕ) (Holds : State
   pub run_kept : (given : List Answer) (p : Pump) → Answers o l line given p → Goes p → Goes (after o l line given p)
   run_kept [] p is g = g
   run_kept (a ∷ more) p is g = run_kept more (shut o l line (answered o l line a p)) is.1 (answer_kept p a is.0 g)
+
+-- what is kept of two kinds is kept of both
+pub closed_both : (l : Luck) (line : Standing → List ℕ) (A B : State → Type 0) → Closed l line A → Closed l line B → Closed l line (λ s. A s × B s)
+closed_both l line A B a b = record {
+  moves = λ s t m h. (a.moves s t m h.0, b.moves s t m h.1);
+  accepts = λ c s few h. (a.accepts c s few h.0, b.accepts c s few h.1);
+  dials_one = λ q c s few none h. (a.dials_one q c s few none h.0, b.dials_one q c s few none h.1);
+  ticks = λ s h. (a.ticks s h.0, b.ticks s h.1);
+  ends = λ c s h. (a.ends c s h.0, b.ends c s h.1);
+  flushes = λ s h. (a.flushes s h.0, b.flushes s h.1);
+  has_bytes = λ c bytes s each h. (a.has_bytes c bytes s each h.0, b.has_bytes c bytes s each h.1);
+  took_some = λ c n s le h. (a.took_some c n s le h.0, b.took_some c n s le h.1);
+}

@@ -1,5 +1,5 @@
 -- In the writes: an Up has at most a frame for its own peer, a Down has none, and no other session changes.
-use Rattle.std.proofs.Common.{◌≡◌, ◌++◌, [], ℕ, Bool, true, false, List, length, slice_get, Option, Some, None, if◌then◌else◌, refl, sym, ◌∙◌, ap, subst, inl, inr}
+use Rattle.std.proofs.Common.{◌≡◌, ◌++◌, ◌⊎◌, [], ℕ, Bool, true, false, List, length, slice_get, Option, Some, None, if◌then◌else◌, refl, sym, ◌∙◌, ap, subst, inl, inr}
 use Rattle.std.proofs.lemmas.Bool.{ne_eqb}
 use Rattle.op_types.specs.declared.events.Input.{Input}
 use Rattle.op_types.specs.declared.events.Input.TheVariants as input
@@ -9,25 +9,31 @@ use Rattle.op_serving.specs.Cores.{Standing, gives, reopens}
 use Rattle.op_serving.specs.Fates.{Fate, done, finds, faults, damaged, lost}
 use Rattle.op_serving.specs.Wire.{peer_frame}
 use Rattle.op_serving.specs.State.{Loop, find, left_by, session_of, counted}
-use Rattle.op_serving.specs.Handing.{frame_at, frames_handed}
+use Rattle.op_serving.specs.Handing.{Frame, frame_at, sent_all, frames_sent, replied_all, frames_replied, frames_handed}
 use Rattle.op_serving.specs.Inputs.{State, Luck, kept, is_lost_here, fate_of, next_fate, frames_after, calm, enter, give, drained, given_together, leaves, over}
 use Rattle.op_connections.proofs.Queueing.{bytes_for}
 use Rattle.op_connections.proofs.Walking.{Falls, drained_holds}
 use Rattle.op_connections.proofs.Fading.{Stays, stays_then, stays_left, stays_calm, stays_enter}
-use Rattle.op_connections.proofs.Uppings.{Upping, ups, downs}
+use Rattle.op_connections.proofs.Uppings.{Upping, ups, ups_read, downs, downs_read}
+use Rattle.op_connections.proofs.Readers.{NobodyReads, ReadsAreDone, reads_none, done_enter, done_falls}
+
+-- what is handed out of answers to reads
+abbrev read_frames : Given → Loop → List Frame
+read_frames g s = frames_replied true g.read_replies (replied_all false g.replies (sent_all g.sends s))
 
 -- nothing is handed out
-handed_none : (g : Given) (s : Loop) → g.sends ≡ [] → g.replies ≡ [] → frames_handed g s ≡ []
-handed_none g s sends replies = rw (sends, replies) refl
+handed_none : (g : Given) (s : Loop) → g.sends ≡ [] → g.replies ≡ [] → read_frames g s ≡ [] → frames_handed g s ≡ []
+handed_none g s sends replies reads =
+    ap (λ fs. (frames_sent g.sends s ++ frames_replied false g.replies (sent_all g.sends s)) ++ fs) reads ∙ rw (sends, replies) refl
 
 -- but one message at most, to a peer whose session is another's
-handed_other : (c q : ℕ) (g : Given) (s : Loop) → Upping q g → (session_of q s ≡ Some c → ⊥) → bytes_for c (frames_handed g s) ≡ []
-handed_other c q g s u other = elim u.sends [
-  | inl none ↦ ap (bytes_for c) (handed_none g s none u.replies)
+handed_other : (c q : ℕ) (g : Given) (s : Loop) → Upping q g → (session_of q s ≡ Some c → ⊥) → read_frames g s ≡ [] → bytes_for c (frames_handed g s) ≡ []
+handed_other c q g s u other reads = ap (λ fs. bytes_for c ((frames_sent g.sends s ++ frames_replied false g.replies (sent_all g.sends s)) ++ fs)) reads ∙ elim u.sends [
+  | inl none ↦ rw (none, u.replies) refl
   | inr one ↦ rw (one.1, u.replies) (at_other (session_of q s) refl one.0)
 ]
   where
-    at_other : (o : Option ℕ) → session_of q s ≡ o → (m : Msg) → bytes_for c ((frame_at o (peer_frame s.me q m) ++ []) ++ []) ≡ []
+    at_other : (o : Option ℕ) → session_of q s ≡ o → (m : Msg) → bytes_for c (((frame_at o (peer_frame s.me q m) ++ []) ++ []) ++ []) ≡ []
     at_other None e m = refl
     at_other (Some d) e m = ap (λ b. (if b then peer_frame s.me q m else []) ++ []) (ne_eqb d c (λ k. other (e ∙ ap Some k)))
 
@@ -49,33 +55,38 @@ next_holds : (P : Fate → Type 0) (i : Input) (l : Luck) (s : State) → reopen
 next_holds P i l s shut as_done as_faults as_damaged as_lost =
     lost_or_fated P s.node i shut as_done as_faults as_damaged as_lost (is_lost_here (slice_get l.marks (length s.loop.lost)) s.loop) (slice_get l.fates (length (kept s.deeds)))
 
-up_quiet : (c q : ℕ) (l : Luck) (s : State) → (session_of q s.loop ≡ Some c → ⊥) → bytes_for c (frames_after None (input.Up q) (next_fate l (input.Up q) s) s.node s.loop) ≡ []
-up_quiet c q l s other = next_holds (λ f. bytes_for c (frames_after None (input.Up q) f s.node s.loop) ≡ []) (input.Up q) l s refl
-    (handed_other c q (gives s.node (input.Up q)) (counted s.loop) (ups s.node q) other) (λ k. refl) refl refl
+up_quiet : (c q : ℕ) (l : Luck) (s : State) → ReadsAreDone s → (session_of q s.loop ≡ Some c → ⊥) → bytes_for c (frames_after None (input.Up q) (next_fate l (input.Up q) s) s.node s.loop) ≡ []
+up_quiet c q l s reads other = next_holds (λ f. bytes_for c (frames_after None (input.Up q) f s.node s.loop) ≡ []) (input.Up q) l s refl
+    (handed_other c q (gives s.node (input.Up q)) (counted s.loop) (ups s.node q) other (reads_none (gives s.node (input.Up q)) (counted s.loop) (elim reads [ inl h ↦ inr h | inr t ↦ inl (ups_read s.node q t) ]))) (λ k. refl) refl refl
 
-down_quiet : (c q : ℕ) (l : Luck) (s : State) → bytes_for c (frames_after None (input.Down q) (next_fate l (input.Down q) s) s.node s.loop) ≡ []
-down_quiet c q l s =
+down_quiet : (c q : ℕ) (l : Luck) (s : State) → ReadsAreDone s → bytes_for c (frames_after None (input.Down q) (next_fate l (input.Down q) s) s.node s.loop) ≡ []
+down_quiet c q l s reads =
     let d = downs s.node q in
+    let g : Given = gives s.node (input.Down q) in
+    let none : (g.read_replies ≡ []) ⊎ NobodyReads (counted s.loop) = elim reads [ inl h ↦ inr h | inr t ↦ inl (downs_read s.node q t) ] in
     next_holds (λ f. bytes_for c (frames_after None (input.Down q) f s.node s.loop) ≡ []) (input.Down q) l s refl
-    (ap (bytes_for c) (handed_none (gives s.node (input.Down q)) (counted s.loop) d.sends d.replies)) (λ k. refl) refl refl
+    (ap (bytes_for c) (handed_none g (counted s.loop) d.sends d.replies (reads_none g (counted s.loop) none))) (λ k. refl) refl refl
 
 -- what losses and Downs leave
-staying : (c : ℕ) (l : Luck) (start : Loop) → Falls l (λ s. Stays c start s.loop)
-staying c l start = record {
-  moves = λ s t u h. stays_then c start s.loop t h (inr (ap (find c) u.sessions));
-  calms = λ s h. stays_then c start s.loop (calm l s).loop h (stays_calm c l s);
-  downs = λ q s h. stays_then c start s.loop (enter l [] (input.Down q) s).loop h (stays_enter c l [] (input.Down q) s (down_quiet c q l s));
-}
+staying : (c : ℕ) (l : Luck) (start : Loop) → Falls l (λ s. Stays c start s.loop × ReadsAreDone s)
+staying c l start =
+    let reads = done_falls l in
+    record {
+      moves = λ s t u h. (stays_then c start s.loop t h.0 (inr (ap (find c) u.sessions)), reads.moves s t u h.1);
+      calms = λ s h. (stays_then c start s.loop (calm l s).loop h.0 (stays_calm c l s), reads.calms s h.1);
+      downs = λ q s h. (stays_then c start s.loop (enter l [] (input.Down q) s).loop h.0 (stays_enter c l [] (input.Down q) s (down_quiet c q l s h.1)), reads.downs q s h.1);
+      leaves_one = λ d s h. (stays_then c start s.loop (left_by d s.loop) h.0 (stays_left c d s.loop), reads.leaves_one d s h.1);
+    }
 
-stays_drained : (c : ℕ) (l : Luck) (start : Loop) (s : State) → Stays c start s.loop → Stays c start (drained l s).loop
-stays_drained c l start s h = drained_holds l (λ v. Stays c start v.loop) (staying c l start) s h
+stays_drained : (c : ℕ) (l : Luck) (start : Loop) (s : State) → ReadsAreDone s → Stays c start s.loop → Stays c start (drained l s).loop
+stays_drained c l start s reads h = (drained_holds l (λ v. Stays c start v.loop × ReadsAreDone v) (staying c l start) s (h, reads)).0
 
 -- a peer goes up
-pub stays_up : (c q : ℕ) (l : Luck) (s : State) → (session_of q s.loop ≡ Some c → ⊥) → Stays c s.loop (give l [] (input.Up q) s).loop
-stays_up c q l s other = stays_drained c l s.loop (enter l [] (input.Up q) s) (stays_enter c l [] (input.Up q) s (up_quiet c q l s other))
+pub stays_up : (c q : ℕ) (l : Luck) (s : State) → ReadsAreDone s → (session_of q s.loop ≡ Some c → ⊥) → Stays c s.loop (give l [] (input.Up q) s).loop
+stays_up c q l s reads other = stays_drained c l s.loop (enter l [] (input.Up q) s) (done_enter l [] (input.Up q) s reads) (stays_enter c l [] (input.Up q) s (up_quiet c q l s reads other))
 
 -- a session is over, where nothing was gathered
-pub stays_gone : (c d : ℕ) (l : Luck) (s : State) → s.loop.gathered ≡ [] → Stays c s.loop (over l d s).loop
-stays_gone c d l s none =
+pub stays_gone : (c d : ℕ) (l : Luck) (s : State) → ReadsAreDone s → s.loop.gathered ≡ [] → Stays c s.loop (over l d s).loop
+stays_gone c d l s reads none =
     subst (λ (ps : List (ℕ × _)). Stays c s.loop (leaves l d (given_together l ps s)).loop) (sym none)
-    (stays_drained c l s.loop (record s { loop = left_by d s.loop }) (stays_left c d s.loop))
+    (stays_drained c l s.loop (record s { loop = left_by d s.loop }) ((done_falls l).leaves_one d s reads) (stays_left c d s.loop))

@@ -43,8 +43,8 @@ registering l = record {
     moves = λ s t u r. registered_less s.loop t (λ c. inr (ap (λ v. kind_in (find c v)) u.sessions)) u.peers (λ h. subst (λ v. Rising (keys_of v)) (sym u.sessions) h) r;
     calms = λ s r. registered_faded s.loop (calm l s).loop (λ c. fades_calm c l s) r;
     downs = λ q s r. registered_faded s.loop (enter l [] (input.Down q) s).loop (λ c. fades_enter c l [] (input.Down q) s) r;
+    leaves_one = λ d s r. registered_faded s.loop (left_by d s.loop) (λ c. fades_over c d (kind_at d s.loop) s.loop) r;
   };
-  leaves_one = λ d s r. registered_faded s.loop (left_by d s.loop) (λ c. fades_over c d (kind_at d s.loop) s.loop) r;
   enters_one = λ who i s r. registered_faded s.loop (enter l who i s).loop (λ c. fades_enter c l who i s) r;
 }
 

@@ -1,7 +1,9 @@
 -- A run keeps what each connection is promised, and the node is the fold of its step.
 use Rattle.std.proofs.Common.{Bool, true, false, is_some, option_map, ◌⊎◌, ◌≡◌, ◌<◌, ◌++◌, [], ℕ, List, length, Option, Some, None, refl, sym, ◌∙◌, ap, subst, inl, inr, arith}
 use Rattle.op_serving.specs.Cores.{Standing}
-use Rattle.op_serving.specs.State.{find}
+use Rattle.std.specs.FinMap as map
+use Rattle.op_serving.specs.State.{awaited_cmp, find}
+use Rattle.op_connections.proofs.Readers.{NobodyReads}
 use Rattle.op_serving.specs.Inputs.{State, Luck}
 use Rattle.op_serving.specs.declared.kind.Kind.TheVariants.{Unknown, Peer}
 use Rattle.op_serving.specs.declared.session.Session.{Session}
@@ -24,6 +26,9 @@ use Rattle.op_connections.proofs.Registering.{Registered}
 use Rattle.op_connections.specs.Hearing.{HearsAll}
 use Rattle.op_connections.proofs.Fading.{front_in}
 use Rattle.op_connections.proofs.Heeding.{AllAwait, Heeds, heeds_closed}
+use Rattle.op_connections.specs.Waiting.{QueuesAreShort, FramesAreShort}
+use Rattle.op_connections.proofs.Shedding.{fit_short}
+use Rattle.op_connections.proofs.Waiting.{Waits, frames_short, waits_closed, waits_none}
 use Rattle.op_connections.proofs.Turns.{Known, between, known_run}
 use Rattle.op_connections.proofs.Writing.{AllTaken}
 use Rattle.op_connections.specs.Taking.{is_full, IsBetween, IsDone}
@@ -54,6 +59,9 @@ registered_before s b = record {
   rising = subst (λ t. Rising (keys_of t)) (sym b.sessions) tt;
   named = λ q c h e. absurd (let bad : Some (Peer q h) ≡ None = sym e ∙ ap (λ t. option_map (λ (x : Session). x.kind) (find c t)) b.sessions in cc);
 }
+
+nobody_before : (s : State) → Begins s → NobodyReads s.loop
+nobody_before s b key = ap (λ a. map.get a (true, key)) b.askers ∙ map.get-empty awaited_cmp (true, key)
 
 few_before : (s : State) → Begins s → length s.loop.lost < most_marks
 few_before s b = rw b.lost (omega arith)
@@ -120,7 +128,7 @@ module _ (o : Settings) (l : Luck) (line : Standing → List ℕ) (given : List 
       k : (t.loop.gathered ≡ []) × AllTaken full t.loop
       k = between full (after o l line given p).at t.loop here (known_run o l line p.driver.loop.me given p (λ c. false) is
           (record { holds = kept_before p.driver b; runs = inr (few_before p.driver b) })
-          (record { holds = registered_before p.driver b; runs = inr (few_before p.driver b) })
+          (record { holds = (registered_before p.driver b, inl (nobody_before p.driver b)); runs = inr (few_before p.driver b) })
           (known_before (λ c. false) p.at p.driver b))
 
       taken : (c : ℕ) (s : Option Session) → find c t.loop.sessions ≡ s → is_some s ≡ true → ((life c t.deeds).said ≡ (life c t.deeds).taken) ⊎ (full c ≡ true)
@@ -143,3 +151,17 @@ module _ (o : Settings) (l : Luck) (line : Standing → List ℕ) (given : List 
       let me : ℕ = p.driver.loop.me in
       let g : Goes o l line (Heeds me) (heeds_closed me l line) p = record { holds = record { kept = kept_before p.driver b; awaits = awaits_before p.driver b }; runs = inr (few_before p.driver b) } in
       (run_kept o l line (Heeds me) (heeds_closed me l line) given p is g).holds.awaits c y.kind y.frames (ap front_in there)
+
+-- ---- what waits
+
+module _ (o : Settings) (l : Luck) (line : Standing → List ℕ) (given : List Answer) (p : Pump) (b : Begins p.driver) (is : Answers o l line given p) where
+  waits_then : Waits (after o l line given p).driver
+  waits_then =
+      let g : Goes o l line Waits (waits_closed l line) p = record { holds = waits_none p.driver b.sessions; runs = inr (few_before p.driver b) } in
+      (run_kept o l line Waits (waits_closed l line) given p is g).holds
+
+  pub queues : QueuesAreShort (after o l line given p).driver.loop
+  queues = fit_short (after o l line given p).driver.loop waits_then.fit
+
+  pub frames : FramesAreShort (after o l line given p).driver
+  frames = frames_short (after o l line given p).driver queues waits_then.await

@@ -137,12 +137,15 @@ first_passes test (n ∷ ns) c e = elim (cases_Bool (test n)) [
 ]
 
 module _ {X : Type 0} where
-  rising_changed_at : (f : X → X) (c : ℕ) (o : Option X) (t : Table X) → Rising (keys_of t) → Rising (keys_of (changed_at f c o t))
-  rising_changed_at f c None t h = h
-  rising_changed_at f c (Some x) t h = subst Rising (sym (keys-set_value (is_at (nat_cmp c)) t (f x))) h
+  keys_changed_at : (f : X → X) (c : ℕ) (o : Option X) (t : Table X) → keys_of (changed_at f c o t) ≡ keys_of t
+  keys_changed_at f c None t = refl
+  keys_changed_at f c (Some x) t = keys-set_value (is_at (nat_cmp c)) t (f x)
+
+  pub keys_changed : (f : X → X) (c : ℕ) (t : Table X) → keys_of (changed f c t) ≡ keys_of t
+  keys_changed f c t = keys_changed_at f c (find c t) t
 
   pub rising_changed : (f : X → X) (c : ℕ) (t : Table X) → Rising (keys_of t) → Rising (keys_of (changed f c t))
-  rising_changed f c t h = rising_changed_at f c (find c t) t h
+  rising_changed f c t h = subst Rising (sym (keys_changed f c t)) h
 
   above_without : (k c : ℕ) (t : Table X) → Above k (keys_of t) → Above k (keys_of (without c t))
   above_without k c [] h = tt

@@ -24,8 +24,10 @@ use Rattle.op_connections.specs.Taking.{is_full_after, IsBetween}
 use Rattle.op_connections.proofs.Keeping.{formed, OpenAt}
 use Rattle.op_connections.proofs.Dealing.{AllKept}
 use Rattle.std.proofs.Math.Path.{fun_ext}
-use Rattle.op_connections.proofs.Pumping.{Goes, stage_kept, answer_kept}
+use Rattle.op_connections.proofs.Pumping as pumping
+use Rattle.op_connections.proofs.Pumping.{Goes, closed_both, stage_kept, answer_kept}
 use Rattle.op_connections.proofs.Registering.{Registered, registered_closed}
+use Rattle.op_connections.proofs.Readers.{ReadsAreDone, done_closed}
 use Rattle.op_connections.proofs.Promises.{promises_closed}
 use Rattle.op_connections.proofs.Writing.{Written, AllTaken, all_written, written_to, written_full, written_gone, written_some, none_over, none_wrote, none_flushed}
 
@@ -49,6 +51,13 @@ between full (stop ends.TurnsOver) s is k = k
 between full (stop ends.NetFault) s is k = absurd is
 between full (stop ends.Starved) s is k = k
 
+-- connections stand in order, and reads are done
+abbrev pub Seated : State → Type 0
+Seated s = Registered s.loop × ReadsAreDone s
+
+pub seated_closed : (l : Luck) (line : Standing → List ℕ) → pumping.Closed l line Seated
+seated_closed l line = closed_both l line (λ s. Registered s.loop) ReadsAreDone (registered_closed l line) (done_closed l line)
+
 -- ---- one answer to a write
 
 module _ (o : Settings) (l : Luck) (line : Standing → List ℕ) where
@@ -56,7 +65,7 @@ module _ (o : Settings) (l : Luck) (line : Standing → List ℕ) where
   abbrev full_then : (ℕ → Bool) → Pump → Answer → ℕ → Bool
   full_then full p a c = fold (is_full_after c) (full c) (call_of (ask o l line p) a)
 
-  module _ (full : ℕ → Bool) (p : Pump) (r : Registered p.driver.loop) (none : p.driver.loop.gathered ≡ []) where
+  module _ (full : ℕ → Bool) (p : Pump) (r : Seated p.driver) (none : p.driver.loop.gathered ≡ []) where
     -- of those below the connection that was written nothing else is known
     apart_below : (c : ℕ) (b : Bool) (d : ℕ) → d < c → (if c == d then b else full d) ≡ full d
     apart_below c b d lt = ap (λ (k : Bool). if k then b else full d) (ne_eqb c d (λ e. omega (arith, e, lt)))
@@ -64,9 +73,9 @@ module _ (o : Settings) (l : Luck) (line : Standing → List ℕ) where
     wrote_known : (c : ℕ) (a : Option Took) → Written full c p.driver.loop
         → Known (λ d. fold (is_full_after d) (full d) (Wrote c (waiting c p.driver) a ∷ [])) (writes_at o l line (Some c) (was_written a) p).at (writes_at o l line (Some c) (was_written a) p).driver.loop
     wrote_known c None w = tt
-    wrote_known c (Some (took.Bytes n)) w = (none_wrote c n l p.driver none, written_some full (λ d. if c == d then false else full d) c n l p.driver r (apart_below c false) w)
+    wrote_known c (Some (took.Bytes n)) w = (none_wrote c n l p.driver none, written_some full (λ d. if c == d then false else full d) c n l p.driver r.0 r.1 (apart_below c false) w)
     wrote_known c (Some took.NotYet) w = (none, written_full full (λ d. if c == d then true else full d) c p.driver.loop (apart_below c true) (ap (λ (k : Bool). if k then true else full c) (eq-eqb c c refl)) w)
-    wrote_known c (Some took.Ended) w = (none_over c l p.driver none, written_gone full (λ d. if c == d then false else full d) c l p.driver none (apart_below c false) w)
+    wrote_known c (Some took.Ended) w = (none_over c l p.driver none, written_gone full (λ d. if c == d then false else full d) c l p.driver r.1 none (apart_below c false) w)
 
   -- ---- one answer
 
@@ -170,7 +179,7 @@ module _ (o : Settings) (l : Luck) (line : Standing → List ℕ) where
     reads_known p c i n (was_written x) new = tt
     reads_known p c i n no_answer new = tt
 
-    writes_known : (p : Pump) (low : ℕ) (c : Option ℕ) (a : Answer) → waiting_from low p.driver.loop.sessions ≡ c → Registered p.driver.loop → (p.driver.loop.gathered ≡ []) × Written full low p.driver.loop → IsAnswer (write_next o l line c p.driver) a
+    writes_known : (p : Pump) (low : ℕ) (c : Option ℕ) (a : Answer) → waiting_from low p.driver.loop.sessions ≡ c → Seated p.driver → (p.driver.loop.gathered ≡ []) × Written full low p.driver.loop → IsAnswer (write_next o l line c p.driver) a
         → Known (λ d. fold (is_full_after d) (full d) (call_of (write_next o l line c p.driver) a)) (writes_at o l line c a p).at (writes_at o l line c a p).driver.loop
     writes_known p low None no_answer e r k is = (k.0, all_written full low p.driver.loop e k.1)
     writes_known p low None (was_waited x) e r k is = absurd is
@@ -179,7 +188,7 @@ module _ (o : Settings) (l : Luck) (line : Standing → List ℕ) where
     writes_known p low None (was_readied x) e r k is = absurd is
     writes_known p low None (was_seen x) e r k is = absurd is
     writes_known p low None (was_written x) e r k is = absurd is
-    writes_known p low (Some c) (was_written x) e r k is = wrote_known full p r k.0 c x (written_to full low c p.driver.loop r.rising e k.1)
+    writes_known p low (Some c) (was_written x) e r k is = wrote_known full p r k.0 c x (written_to full low c p.driver.loop r.0.rising e k.1)
     writes_known p low (Some c) (was_waited x) e r k is = absurd is
     writes_known p low (Some c) (was_told x) e r k is = absurd is
     writes_known p low (Some c) (was_dialled x) e r k is = absurd is
@@ -196,7 +205,7 @@ module _ (o : Settings) (l : Luck) (line : Standing → List ℕ) where
     stop_known p e (was_seen x) is k = absurd is
     stop_known p e (was_written x) is k = absurd is
 
-    stage_known : (p : Pump) (st : Stage) (a : Answer) → Registered p.driver.loop → IsAnswer (ask o l line (record p { at = st })) a → Known full st p.driver.loop
+    stage_known : (p : Pump) (st : Stage) (a : Answer) → Seated p.driver → IsAnswer (ask o l line (record p { at = st })) a → Known full st p.driver.loop
         → Known (full_then full (record p { at = st }) a) (answered o l line a (record p { at = st })).at (answered o l line a (record p { at = st })).driver.loop
     stage_known p turn a r is k = turn_known p a is k
     stage_known p (time n) a r is k = time_known p n a _
@@ -255,7 +264,7 @@ module _ (o : Settings) (l : Luck) (line : Standing → List ℕ) (me : ℕ) whe
   Keeps1 p = Goes o l line (AllKept me) (promises_closed me l line) p
 
   abbrev Keeps2 : Pump → Type 0
-  Keeps2 p = Goes o l line (λ s. Registered s.loop) (registered_closed l line) p
+  Keeps2 p = Goes o l line Seated (seated_closed l line) p
 
   pub known_run : (given : List Answer) (p : Pump) (full : ℕ → Bool) → Answers o l line given p → Keeps1 p → Keeps2 p → Known full p.at p.driver.loop
       → Known (λ d. fold (is_full_after d) (full d) (calls o l line given p)) (after o l line given p).at (after o l line given p).driver.loop
@@ -264,7 +273,7 @@ module _ (o : Settings) (l : Luck) (line : Standing → List ℕ) (me : ℕ) whe
       let q : Pump = answered o l line x p in
       let t : Pump = shut o l line q in
       let next : ℕ → Bool = full_then o l line full p x in
-      let done = known_run more t next is.1 (answer_kept o l line (AllKept me) (promises_closed me l line) p x is.0 a) (answer_kept o l line (λ s. Registered s.loop) (registered_closed l line) p x is.0 b)
+      let done = known_run more t next is.1 (answer_kept o l line (AllKept me) (promises_closed me l line) p x is.0 a) (answer_kept o l line Seated (seated_closed l line) p x is.0 b)
       (known_shut next q (stage_kept o l line (AllKept me) (promises_closed me l line) p p.at x a.holds a.runs is.0) (stage_known o l line full p p.at x b.holds is.0 k)) in
       subst (λ (f : ℕ → Bool). Known f (after o l line more t).at (after o l line more t).driver.loop) (fun_ext (λ d. same d)) done
     where

@@ -1,8 +1,9 @@
 -- What an Up and a Down give out: an Up at most messages to its peer, a Down nothing.
-use Rattle.std.proofs.Common.{nat_eq, ◌≡◌, ◌-◌, ◌++◌, ◌∷◌, ◌⊎◌, inl, inr, [], ℕ, Bool, true, false, List, take, Option, Some, None, refl, arith, if◌then◌else◌}
+use Rattle.std.proofs.Common.{nat_eq, ◌≡◌, ◌-◌, ◌++◌, ◌∷◌, ◌⊎◌, inl, inr, [], ℕ, Bool, true, false, List, take, Option, Some, None, refl, sym, ap, ◌∙◌, arith, if◌then◌else◌}
 use Rattle.std.proofs.lemmas.List.{length-take, drop_all}
 use Rattle.op_types.specs.declared.durable.Part.{Part}
 use Rattle.op_types.specs.declared.durable.Joining.{Joining}
+use Rattle.op_types.specs.declared.events.Input.{Input}
 use Rattle.op_types.specs.declared.events.Input.TheVariants as input
 use Rattle.op_types.specs.declared.messages.Msg.{Msg}
 use Rattle.op_types.specs.Roles.{Role, Idle, Preparing, Leading}
@@ -15,9 +16,11 @@ use Rattle.op_protocol.specs.Parts.{decided_since, others, message, nothing, say
 use Rattle.op_protocol.specs.Leader.{session_down}
 use Rattle.op_protocol.specs.Serving.{Served, serving}
 use Rattle.op_protocol.specs.Configurations.{closing}
+use Rattle.op_protocol.specs.Reading.{adopted_of, asking_by, leads_on, reading}
 use Rattle.op_protocol.specs.Rows.{based_batch, newly_decided, plan_of, step_plan, up_at}
 use Rattle.op_serving.specs.declared.node.Given.{Given}
 use Rattle.op_serving.specs.Cores.{Standing, gives, given_of, refused_with}
+use Rattle.op_connections.proofs.Settled.{ReadsAreSettled, answers_none}
 
 -- ---- a plan that changes nothing that is stored, and answers nobody
 
@@ -38,8 +41,10 @@ module _ (me : ℕ) (s : State) (v : Volatile) (sends : List (ℕ × Msg)) where
     volatile = v;
     service = (served (newly_decided o [])).service;
     waiting = (served (newly_decided o [])).waiting;
+    reads = None;
     sends = sends;
     replies = (served (newly_decided o [])).replies ++ [];
+    read_replies = [];
     outcome = None;
   })
 
@@ -49,6 +54,17 @@ module _ (me : ℕ) (s : State) (v : Volatile) (sends : List (ℕ × Msg)) where
 
   quiet_plan : ((plan_of me s s.waiting quietly).sends ≡ sends) × ((plan_of me s s.waiting quietly).replies ≡ [])
   quiet_plan = quiet_with s.durable.part
+
+  stored_with : (o : Option Part) → ((plan_with o).batch ≡ []) × ((plan_with o).volatile ≡ v)
+  stored_with None = (refl, refl)
+  stored_with (Some p) = rw (nothing_decided p) (refl, refl)
+
+  -- and where the node leads on as it did, no read is answered
+  quiet_reads : (x : Input) → (asking_by me s x).reads ≡ s.reads → leads_on s.volatile.role v.role ≡ leads_on s.volatile.role s.volatile.role → adopted_of v.role ≡ adopted_of s.volatile.role → ReadsAreSettled s
+      → (reading me s x (plan_of me s s.waiting quietly)).read_replies ≡ []
+  quiet_reads x asks leads adopted settled =
+      let stored = stored_with s.durable.part in
+      answers_none me s x (plan_of me s s.waiting quietly) asks stored.0 (ap (λ (w : Volatile). leads_on s.volatile.role w.role) stored.1 ∙ leads) (ap (λ (w : Volatile). adopted_of w.role) stored.1 ∙ adopted) settled
 
 -- ---- Ups and Downs
 
@@ -67,7 +83,7 @@ upping_one : (me q : ℕ) (s : State) (v : Volatile) (m : Msg) → Upping q (of_
 upping_one me q s v m = let quiet = quiet_plan me s v ((q, m) ∷ []) in record { sends = inr (m, quiet.0); replies = quiet.1 }
 
 up_plan : (me q : ℕ) (s : State) → Upping q (given_of (step_plan me s (input.Up q)))
-up_plan me q s = by_part s.durable.part s.durable.joining
+up_plan me q s = let u = by_part s.durable.part s.durable.joining in record { sends = u.sends; replies = u.replies }
   where
     v : Volatile
     v = s.volatile
@@ -82,13 +98,29 @@ up_plan me q s = by_part s.durable.part s.durable.joining
     by_part None None = upping_none me q s v
     by_part None (Some j) = upping_none me q s v
 
+up_reads : (me q : ℕ) (s : State) → ReadsAreSettled s → (step_plan me s (input.Up q)).read_replies ≡ []
+up_reads me q s settled = by_part s.durable.part s.durable.joining
+  where
+    v : Volatile
+    v = s.volatile
+
+    by_member : (p : Part) (b : Bool) → (reading me s (input.Up q) (plan_of me s s.waiting (with_effects v (if b then saying v.role (message p.conf q body.PrepareReq ∷ []) else nothing v.role)))).read_replies ≡ []
+    by_member p true = quiet_reads me s (record v { role = v.role }) (message p.conf q body.PrepareReq ∷ []) (input.Up q) refl refl refl settled
+    by_member p false = quiet_reads me s (record v { role = v.role }) [] (input.Up q) refl refl refl settled
+
+    by_part : (o : Option Part) (j : Option Joining) → (reading me s (input.Up q) (plan_of me s s.waiting (up_at me o j v q))).read_replies ≡ []
+    by_part (Some p) None = by_member p (is_member nat_eq (others me p.members) q)
+    by_part (Some p) (Some j) = quiet_reads me s v [] (input.Up q) refl refl refl settled
+    by_part None None = quiet_reads me s v [] (input.Up q) refl refl refl settled
+    by_part None (Some j) = quiet_reads me s v [] (input.Up q) refl refl refl settled
+
 -- a Down gives out nothing
 pub record Silent (g : Given) : Type 0 where
   pub sends : g.sends ≡ []
   pub replies : g.replies ≡ []
 
 down_plan : (me q : ℕ) (s : State) → Silent (given_of (step_plan me s (input.Down q)))
-down_plan me q s = by_role s.volatile.role
+down_plan me q s = let d = by_role s.volatile.role in record { sends = d.sends; replies = d.replies }
   where
     silent : (r : Role) → Silent (of_plan me s (record s.volatile { role = r }) [])
     silent r = let quiet = quiet_plan me s (record s.volatile { role = r }) [] in record { sends = quiet.0; replies = quiet.1 }
@@ -97,6 +129,19 @@ down_plan me q s = by_role s.volatile.role
     by_role Idle = silent Idle
     by_role (Preparing x) = silent (Preparing x)
     by_role (Leading x) = silent (Leading (without_synced x q))
+
+down_reads : (me q : ℕ) (s : State) → ReadsAreSettled s → (step_plan me s (input.Down q)).read_replies ≡ []
+down_reads me q s settled = by_role s.volatile.role refl
+  where
+    r : Role
+    r = s.volatile.role
+
+    by_role : (x : Role) → r ≡ x → (reading me s (input.Down q) (plan_of me s s.waiting (with_effects s.volatile (session_down x q)))).read_replies ≡ []
+    by_role Idle e = quiet_reads me s (record s.volatile { role = Idle }) [] (input.Down q) refl (ap (λ (z : Role). leads_on z Idle) e ∙ sym (ap (λ (z : Role). leads_on z z) e)) (sym (ap adopted_of e)) settled
+    by_role (Preparing x) e = quiet_reads me s (record s.volatile { role = Preparing x }) [] (input.Down q) refl (ap (λ (z : Role). leads_on z (Preparing x)) e ∙ sym (ap (λ (z : Role). leads_on z z) e)) (sym (ap adopted_of e)) settled
+    by_role (Leading x) e =
+        let y = without_synced x q in
+        quiet_reads me s (record s.volatile { role = Leading y }) [] (input.Down q) refl (ap (λ (z : Role). leads_on z (Leading y)) e ∙ sym (ap (λ (z : Role). leads_on z z) e)) (sym (ap adopted_of e)) settled
 
 pub ups : (n : Standing) (q : ℕ) → Upping q (gives n (input.Up q))
 unfolding gives
@@ -113,3 +158,20 @@ downs n q = by_failed n.failed
     by_failed : (f : Option ℕ) → Silent (elim f [ None ↦ given_of (step_plan n.me n.state (input.Down q)) | Some count ↦ refused_with count (input.Down q) ])
     by_failed None = down_plan n.me q n.state
     by_failed (Some count) = record { sends = refl; replies = refl }
+
+-- where reads are settled, none is answered by either
+pub ups_read : (n : Standing) (q : ℕ) → ReadsAreSettled n.state → (gives n (input.Up q)).read_replies ≡ []
+unfolding gives
+ups_read n q settled = by_failed n.failed
+  where
+    by_failed : (f : Option ℕ) → let g : Given = elim f [ None ↦ given_of (step_plan n.me n.state (input.Up q)) | Some count ↦ refused_with count (input.Up q) ] in g.read_replies ≡ []
+    by_failed None = up_reads n.me q n.state settled
+    by_failed (Some count) = refl
+
+pub downs_read : (n : Standing) (q : ℕ) → ReadsAreSettled n.state → (gives n (input.Down q)).read_replies ≡ []
+unfolding gives
+downs_read n q settled = by_failed n.failed
+  where
+    by_failed : (f : Option ℕ) → let g : Given = elim f [ None ↦ given_of (step_plan n.me n.state (input.Down q)) | Some count ↦ refused_with count (input.Down q) ] in g.read_replies ≡ []
+    by_failed None = down_reads n.me q n.state settled
+    by_failed (Some count) = refl

@@ -1,5 +1,6 @@
 -- What every input, every end of a session and every read keeps, by what each of their parts keeps.
-use Rattle.std.proofs.Common.{◌≡◌, ◌⊎◌, inl, inr, subst, drop, ◌+◌, ◌∷◌, [], ℕ, zero, suc, Bool, true, false, List, length, take, map, nat_lt, Option, Some, None, if◌then◌else◌, refl, sym}
+use Rattle.std.proofs.Common.{◌≡◌, ◌⊎◌, inl, inr, subst, drop, ◌+◌, ◌++◌, ◌∷◌, [], ℕ, zero, suc, Bool, true, false, List, length, take, map, flat_map, nat_lt, Option, Some, None, if◌then◌else◌, refl, sym}
+use Rattle.std.specs.Map.{keys_of}
 use Rattle.op_types.specs.declared.events.Input.{Input}
 use Rattle.op_types.specs.declared.events.Input.TheVariants as input
 use Rattle.op_types.specs.declared.events.Request.{Request}
@@ -17,11 +18,28 @@ use Rattle.op_serving.specs.declared.kind.Kind.{Kind}
 use Rattle.op_serving.specs.declared.kind.Kind.TheVariants.{Unknown, Peer, Client}
 use Rattle.op_serving.specs.declared.session.Session.{Session}
 use Rattle.op_serving.specs.Cores.{Standing}
-use Rattle.op_serving.specs.State.{Loop, find, is_open, left_by, session_of}
+use Rattle.op_serving.specs.State.{Loop, find, is_open, left_by, session_of, counted, is_overfull, shed_at, shed_each, conn_of, shed}
 use Rattle.op_serving.specs.Losses.{size}
-use Rattle.op_serving.specs.Inputs.{hears, State, Luck, calm, enter, first_down, drained_in, drained, rest, give, noting, gathering, released, given_together, flushed, proposes, behind, leaves, over}
+use Rattle.op_serving.specs.Inputs.{hears, State, Luck, calm, enter, shedding, first_down, drained_in, drained, rest, give, noting, gathering, released, given_together, flushed, proposes, behind, leaves, over}
 use Rattle.op_command.specs.declared.said.Said.TheVariants as said
 use Rattle.op_serving.specs.Reading.{Front, partial, refused, hello, frame, framed, first_frame, greeted, greeting, client_stream, front_of, heard_in, tells, ending, on_heard, holding, linked, replaced, is_peer, at_frame, counted_if, up_if_open, met, dealt_front, dealt_at, dealt, feeds, held_in, read}
+
+-- what each end of a session keeps is kept where those end for which too many bytes wait
+module _ (Holds : Loop → Type 0) (counts : (s : Loop) → Holds s → Holds (counted s)) (leaves : (c : ℕ) (s : Loop) → Holds s → Holds (left_by c s)) where
+  shed_at_holds : (c : ℕ) (s : Loop) → Holds s → Holds (shed_at c s)
+  shed_at_holds c s h = by_length (is_overfull (find c s.sessions))
+    where
+      by_length : (b : Bool) → Holds (if b then counted (left_by c s) else s)
+      by_length true = counts (left_by c s) (leaves c s h)
+      by_length false = h
+
+  pub shed_each_holds : (cs : List ℕ) (s : Loop) → Holds s → Holds (shed_each cs s)
+  shed_each_holds [] s h = h
+  shed_each_holds (c ∷ cs) s h = shed_each_holds cs (shed_at c s) (shed_at_holds c s h)
+
+  pub shed_holds : (s : Loop) → Holds s → Holds (shed s)
+  unfolding shed
+  shed_holds s h = shed_each_holds (flat_map conn_of s.peers ++ keys_of s.sessions) s h
 
 -- nothing happened, and of the sessions and whose they are nothing changed
 pub record Unseen (s t : Loop) : Type 0 where
@@ -29,27 +47,35 @@ pub record Unseen (s t : Loop) : Type 0 where
   pub peers : t.peers ≡ s.peers
   pub sessions : t.sessions ≡ s.sessions
   pub lost : t.lost ≡ s.lost
+  pub askers : t.askers ≡ s.askers
   pub gathered : s.gathered ≡ [] → t.gathered ≡ []
 
-unseen : (s t : Loop) → t.me ≡ s.me → t.peers ≡ s.peers → t.sessions ≡ s.sessions → t.lost ≡ s.lost → (s.gathered ≡ [] → t.gathered ≡ []) → Unseen s t
-unseen s t me peers sessions marks gathered = record { me = me; peers = peers; sessions = sessions; lost = marks; gathered = gathered }
+unseen : (s t : Loop) → t.me ≡ s.me → t.peers ≡ s.peers → t.sessions ≡ s.sessions → t.lost ≡ s.lost → t.askers ≡ s.askers → (s.gathered ≡ [] → t.gathered ≡ []) → Unseen s t
+unseen s t me peers sessions marks askers gathered = record { me = me; peers = peers; sessions = sessions; lost = marks; askers = askers; gathered = gathered }
 
 -- what losses and Downs keep
 pub record Falls (l : Luck) (Holds : State → Type 0) : Type 0 where
   pub moves : (s : State) (t : Loop) → Unseen s.loop t → Holds s → Holds (record s { loop = t })
   pub calms : (s : State) → Holds s → Holds (calm l s)
   pub downs : (q : ℕ) (s : State) → Holds s → Holds (enter l [] (input.Down q) s)
+  pub leaves_one : (c : ℕ) (s : State) → Holds s → Holds (record s { loop = left_by c s.loop })
 
 module _ (l : Luck) (Holds : State → Type 0) (k : Falls l Holds) where
   first_holds : (ds : List ℕ) (s : State) → Holds s → Holds (first_down l ds s)
   first_holds [] s h = h
   first_holds (q ∷ qs) s h =
       let m : State = record s { loop = record s.loop { downs = qs } } in
-      k.downs q m (k.moves s m.loop (unseen s.loop m.loop refl refl refl refl (λ e. e)) h)
+      k.downs q m (k.moves s m.loop (unseen s.loop m.loop refl refl refl refl refl (λ e. e)) h)
+
+  sheds_holds : (s : State) → Holds s → Holds (shedding l s)
+  sheds_holds s h = k.calms (record s { loop = shed s.loop }) (shed_holds (λ t. Holds (record s { loop = t }))
+      (λ t m. k.moves (record s { loop = t }) (counted t) (unseen t (counted t) refl refl refl refl refl (λ e. e)) m)
+      (λ c t m. k.leaves_one c (record s { loop = t }) m) s.loop h)
 
   drained_in_holds : (n : ℕ) (s : State) → Holds s → Holds (drained_in n l s)
   drained_in_holds zero s h = h
-  drained_in_holds (suc n) s h = drained_in_holds n (first_down l s.loop.downs s) (first_holds s.loop.downs s h)
+  drained_in_holds (suc n) s h =
+      let t : State = shedding l s in drained_in_holds n (first_down l t.loop.downs t) (first_holds t.loop.downs t (sheds_holds s h))
 
   pub drained_holds : (s : State) → Holds s → Holds (drained l s)
   unfolding drained
@@ -62,7 +88,6 @@ module _ (l : Luck) (Holds : State → Type 0) (k : Falls l Holds) where
 -- and what inputs and ends keep
 pub record Steps (l : Luck) (Holds : State → Type 0) : Type 0 where
   pub falls : Falls l Holds
-  pub leaves_one : (c : ℕ) (s : State) → Holds s → Holds (record s { loop = left_by c s.loop })
   pub enters_one : (who : List ℕ) (i : Input) (s : State) → Holds s → Holds (enter l who i s)
 
 module _ (l : Luck) (Holds : State → Type 0) (k : Steps l Holds) where
@@ -73,13 +98,13 @@ module _ (l : Luck) (Holds : State → Type 0) (k : Steps l Holds) where
   together_holds [] s h = h
   together_holds (p ∷ ps) s h =
       give_holds (map (λ (e : ℕ × Command). e.0) (p ∷ ps)) (input.Commands (map (λ (e : ℕ × Command). e.1) (p ∷ ps))) (released s)
-      (k.falls.moves s (released s).loop (unseen s.loop (released s).loop refl refl refl refl (λ e. refl)) h)
+      (k.falls.moves s (released s).loop (unseen s.loop (released s).loop refl refl refl refl refl (λ e. refl)) h)
 
   pub flushed_holds : (s : State) → Holds s → Holds (flushed l s)
   flushed_holds s h = together_holds s.loop.gathered s h
 
   pub leaves_holds : (c : ℕ) (s : State) → Holds s → Holds (leaves l c s)
-  leaves_holds c s h = drained_holds l Holds k.falls (record s { loop = left_by c s.loop }) (k.leaves_one c s h)
+  leaves_holds c s h = drained_holds l Holds k.falls (record s { loop = left_by c s.loop }) (k.falls.leaves_one c s h)
 
   pub over_holds : (c : ℕ) (s : State) → Holds s → Holds (over l c s)
   over_holds c s h = leaves_holds c (flushed l s) (flushed_holds s h)
@@ -180,12 +205,13 @@ module _ (l : Luck) (line : Standing → List ℕ) (c : ℕ) (Holds : State → 
   ended_holds : (s : State) → Holds s → Holds (ending (tells c said.Ended s))
   ended_holds s h =
       let t : State = tells c said.Ended s in
-      k.steps.falls.moves t (ending t).loop (unseen t.loop (ending t).loop refl refl refl refl (λ e. e)) (k.says_one said.Ended s h)
+      k.steps.falls.moves t (ending t).loop (unseen t.loop (ending t).loop refl refl refl refl refl (λ e. e)) (k.says_one said.Ended s h)
 
   asked_holds : (r : Request) (s : State) → Holds s → Holds (on_heard l line c (Asks r) s)
   asked_holds (request.Command x) s h = command_holds x s h
   asked_holds (request.Stop members) s h = behind_holds l Holds k.steps c (give l (c ∷ []) (input.Stop members)) s h (λ u m. give_holds l Holds k.steps (c ∷ []) (input.Stop members) u m)
   asked_holds request.Trim s h = behind_holds l Holds k.steps c (give l (c ∷ []) input.TrimNow) s h (λ u m. give_holds l Holds k.steps (c ∷ []) input.TrimNow u m)
+  asked_holds (request.Read r) s h = behind_holds l Holds k.steps c (give l (c ∷ []) (input.Read r)) s h (λ u m. give_holds l Holds k.steps (c ∷ []) (input.Read r) u m)
   asked_holds request.Status s h = behind_holds l Holds k.steps c (λ u. tells c (said.Status (line u.node)) u) s h (λ u m. k.says_one (said.Status (line u.node)) u m)
   asked_holds request.End s h = behind_holds l Holds k.steps c (λ u. ending (tells c said.Ended u)) s h (λ u m. ended_holds u m)
 
@@ -209,7 +235,7 @@ module _ (l : Luck) (line : Standing → List ℕ) (c : ℕ) (Holds : State → 
         u = at_frame (n + 1) s
 
         by_open : (b : Bool) → Holds (if b then more (n + 1) (rest l u) else s)
-        by_open true = goes_on (n + 1) (rest l u) (rest_holds l Holds k.led.steps.falls u (k.led.steps.falls.moves s u.loop (unseen s.loop u.loop refl refl refl refl (λ e. e)) h))
+        by_open true = goes_on (n + 1) (rest l u) (rest_holds l Holds k.led.steps.falls u (k.led.steps.falls.moves s u.loop (unseen s.loop u.loop refl refl refl refl refl (λ e. e)) h))
         by_open false = h
 
     up_holds : (n q : ℕ) (s : State) → session_of q s.loop ≡ None → Holds s → Holds (up_if_open l line c more n q s)

@@ -15,6 +15,7 @@ use Rattle.op_connections.proofs.Walking.{give_holds, over_holds}
 use Rattle.op_connections.proofs.Fading.{Fades, fades_same, fading, Stays, stays_then, session_found, none_of, over_none}
 use Rattle.op_connections.proofs.Registering.{Registered, registered_taken}
 use Rattle.op_connections.proofs.Quieting.{stays_up, stays_gone}
+use Rattle.op_connections.proofs.Readers.{ReadsAreDone}
 
 -- ---- what is written next
 
@@ -96,10 +97,10 @@ written_full full new c s same is w d y lt there = elim (cases_eq c d) [
     below c d apart lt = omega arith
 
 -- or it has ended
-pub written_gone : (full new : ℕ → Bool) (c : ℕ) (l : Luck) (s : State) → s.loop.gathered ≡ [] → ((d : ℕ) → d < c → new d ≡ full d) → Written full c s.loop → Written new (c + 1) (over l c s).loop
-written_gone full new c l s none same w d y lt there = elim (cases_eq c d) [
+pub written_gone : (full new : ℕ → Bool) (c : ℕ) (l : Luck) (s : State) → ReadsAreDone s → s.loop.gathered ≡ [] → ((d : ℕ) → d < c → new d ≡ full d) → Written full c s.loop → Written new (c + 1) (over l c s).loop
+written_gone full new c l s reads none same w d y lt there = elim (cases_eq c d) [
   | inl own ↦ absurd (let bad : Some y ≡ None = sym there ∙ ap (λ n. find n (over l c s).loop.sessions) (sym own) ∙ none_of (find c (over l c s).loop.sessions) (over_none c l s) in cc)
-  | inr apart ↦ written_stays full new c s.loop (over l c s).loop (λ e less. stays_gone e c l s none) same w d y (below c d apart lt) there
+  | inr apart ↦ written_stays full new c s.loop (over l c s).loop (λ e less. stays_gone e c l s reads none) same w d y (below c d apart lt) there
 ]
   where
     below : (c d : ℕ) → (c ≡ d → ⊥) → d < c + 1 → d < c
@@ -121,8 +122,8 @@ up_is n q (Some (Peer p h)) e = (h - n, ap (λ v. Some (Peer v (h - n))) (by_hel
 up_is n q (Some Client) e = absurd cc
 
 -- some bytes were taken
-pub written_some : (full new : ℕ → Bool) (c n : ℕ) (l : Luck) (s : State) → Registered s.loop → ((d : ℕ) → d < c → new d ≡ full d) → Written full c s.loop → Written new c (wrote l c n s).loop
-written_some full new c n l s r same w = written_stays full new c s.loop (wrote l c n s).loop (λ d lt. others d lt) same w
+pub written_some : (full new : ℕ → Bool) (c n : ℕ) (l : Luck) (s : State) → Registered s.loop → ReadsAreDone s → ((d : ℕ) → d < c → new d ≡ full d) → Written full c s.loop → Written new c (wrote l c n s).loop
+written_some full new c n l s r reads same w = written_stays full new c s.loop (wrote l c n s).loop (λ d lt. others d lt) same w
   where
     t : State
     t = taken_by c n s
@@ -145,7 +146,7 @@ written_some full new c n l s r same w = written_stays full new c s.loop (wrote 
 
     upped : (d : ℕ) → d < c → (o : Option ℕ) → up_peer (kind_at c s.loop) (kind_at c t.loop) ≡ o → Stays d t.loop (up_at l o t).loop
     upped d lt None e = inr refl
-    upped d lt (Some q) e = stays_up d q l t (not_here d q lt e)
+    upped d lt (Some q) e = stays_up d q l t reads (not_here d q lt e)
 
     others : (d : ℕ) → d < c → Stays d s.loop (wrote l c n s).loop
     others d lt = stays_then d s.loop t.loop (wrote l c n s).loop (inr (found_other (without_bytes n) d c s.loop.sessions (λ e. omega (arith, e, lt)))) (upped d lt (up_peer (kind_at c s.loop) (kind_at c t.loop)) refl)

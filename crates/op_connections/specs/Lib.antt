@@ -1,3 +1,4 @@
 pub mod Runs
 pub mod Taking
 pub mod Hearing
+pub mod Waiting

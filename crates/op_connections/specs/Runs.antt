@@ -1,5 +1,6 @@
 -- Runs of the serving loop, from before its first turn.
 use Rattle.std.specs.Prelude.{◌≡◌, ◌++◌, ◌∷◌, [], ℕ, List}
+use Rattle.std.specs.FinMap as map
 use Rattle.op_types.specs.declared.events.Input.{Input}
 use Rattle.op_outside.specs.Nets.{Call}
 use Rattle.op_serving.specs.Cores.{Standing}
@@ -7,9 +8,11 @@ use Rattle.op_serving.specs.Fates.{Fate}
 use Rattle.op_serving.specs.Inputs.{State, Luck, Deed, enters, kept}
 use Rattle.op_serving.specs.Pump.{Settings, Pump, Answer, after, calls}
 
--- before the first turn no connection is open, no command is to be given, and nothing has happened
+-- before the first turn no connection is open, nobody waits, no command is to be given, and nothing has
+-- happened
 pub record Begins (s : State) : Type 0 where
   pub sessions : s.loop.sessions ≡ []
+  pub askers : s.loop.askers ≡ map.empty
   pub gathered : s.loop.gathered ≡ []
   pub lost : s.loop.lost ≡ []
   pub deeds : s.deeds ≡ []

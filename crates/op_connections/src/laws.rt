@@ -6,16 +6,23 @@ ghost use Rattle.op_serving.specs.Answers.{Answers};
 ghost use Rattle.op_serving.specs.Promise.{Keeps, folded};
 ghost use Rattle.op_connections.specs.Runs.{Begins, IsRun, inputs, calls_of};
 ghost use Rattle.op_connections.specs.Hearing.{HearsAll};
+ghost use Rattle.op_connections.specs.Waiting.{FramesAreShort, QueuesAreShort};
 ghost use Rattle.op_connections.specs.Taking.{IsBetween, IsDone};
 
 /// Whatever net and clock answer, and wherever memory is wanting: the inputs of each connection are those of the frames of the
 /// bytes that it read, in order, each command for its own connection, and no whole frame of an open one is left; the bytes that it
-/// took are the first of its hello and of the frames for it, and while it is open the others wait.
+/// took are the first of its hello and of the frames for it, and while it is open the others wait. No more bytes wait for it than
+/// may, so each frame that was said for it is short.
 pub fn connections_keep()
     ensures keeps { (o : Settings) (l : Luck) (line : Standing → List ℕ) (answers : List Answer) (p : Pump)
         → Begins p.driver → Answers o l line answers p → Keeps (after o l line answers p).driver }
     ensures hears { (o : Settings) (l : Luck) (line : Standing → List ℕ) (answers : List Answer) (p : Pump)
         → Begins p.driver → Answers o l line answers p → HearsAll (after o l line answers p).driver }
+    ensures queues { (o : Settings) (l : Luck) (line : Standing → List ℕ) (answers : List Answer) (p : Pump)
+        → Begins p.driver → Answers o l line answers p
+        → QueuesAreShort (after o l line answers p).driver.loop }
+    ensures frames { (o : Settings) (l : Luck) (line : Standing → List ℕ) (answers : List Answer) (p : Pump)
+        → Begins p.driver → Answers o l line answers p → FramesAreShort (after o l line answers p).driver }
 {}
 
 /// Between two turns, and at each end for which no fault of the net is the cause, no command waits to be given, and what an open

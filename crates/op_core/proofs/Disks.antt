@@ -26,7 +26,7 @@ use Rattle.op_store.proofs.KeptDisks.{keep_same, keep_both}
 use Rattle.op_bounds.specs.States.{IsNamed, StateInRange}
 use Rattle.op_bounds.proofs.Known.{servers}
 use Rattle.op_bounds.proofs.Steps.{steps_name}
-use Rattle.op_chain.specs.declared.given.Given.{Given as NodeGiven}
+use Rattle.op_server.specs.declared.given.Given.{Given as NodeGiven}
 use Rattle.op_node.specs.Nodes.{NodeState, node_of, stores, after_input, Stepped, IsRepresented}
 use Rattle.op_node.specs.Openings.{Opens, disks_with, durable_for, part_for, joining_for, opening_state}
 use Rattle.op_node.specs.Reopenings.{StoreOneOf, Reopens, RefusesAgain, count_kept}
@@ -81,7 +81,7 @@ joining_taken me None named = refl
 joining_taken me (Some j) named = cond-true (is_member nat_eq j.members me) (Some j) None named
 
 -- it takes all of what names it
-taken : (me : ℕ) (d : Durable) → IsNamed me d → durable_for me d ≡ d
+pub taken : (me : ℕ) (d : Durable) → IsNamed me d → durable_for me d ≡ d
 taken me d named =
     ap (λ (o : Option Part). let e : Durable = record { part = o; closed = d.closed; joining = joining_for me d.joining } in e) (part_taken me d.part named.part)
     ∙ ap (λ (o : Option Joining). let e : Durable = record { part = d.part; closed = d.closed; joining = o } in e) (joining_taken me d.joining named.joining)
@@ -238,7 +238,7 @@ module _ {D : Type 0} (state : D → DiskState) where
           record {
             fate = fates.finds (durable_for pid d);
             may = down;
-            tells = ap (λ (ss : List (ℕ × Msg)). handed_of (record { sends = ss; replies = []; outcome = None })) r.sends_are;
+            tells = ap (λ (ss : List (ℕ × Msg)). handed_of (record { sends = ss; replies = []; read_replies = []; outcome = None })) r.sends_are;
             node = is;
             stored = record {
               kept = r.opened.kept;

@@ -33,7 +33,7 @@ use Rattle.op_bounds.proofs.Steps.{steps_stay}
 use Rattle.op_bounds.proofs.Starts.{openings_stay}
 use Rattle.op_bounds.proofs.Known.{servers, ballot_any, members_any, entry_any, entries_any, durable_any}
 use Rattle.op_bounds.proofs.ReadBases.{base_if_read}
-use Rattle.op_chain.specs.declared.given.Given.{Given}
+use Rattle.op_server.specs.declared.given.Given.{Given}
 use Rattle.op_node.specs.Nodes as node
 use Rattle.op_node.specs.Nodes.{NodeState, node_of, stores, Stepped, AdmitsInput, IsSoundNode}
 use Rattle.op_node.specs.Openings.{Opens, durable_for, part_for, joining_for, opening_state}
@@ -102,6 +102,8 @@ body_of body.AskBase r w = tt
 body_of (body.BasePart at bytes) r w = (r, base_if_read bytes w)
 body_of (body.AskSegment from to) r w = r
 body_of (body.Segment at es) r w = (r.0, entries_any es r.1)
+body_of (body.Confirm n number) r w = (ballot_any n r.0, r.1)
+body_of (body.Confirmed n number) r w = (ballot_any n r.0, r.1)
 
 body_is : (b : Body) → known.BodyInRange IsPid b → BodyInRange b
 body_is (body.HeartbeatRequest round) r = r
@@ -124,6 +126,8 @@ body_is body.AskBase r = tt
 body_is (body.BasePart at bytes) r = r.0
 body_is (body.AskSegment from to) r = r
 body_is (body.Segment at es) r = (r.0, entries_is es r.1)
+body_is (body.Confirm n number) r = (r.0.range, r.1)
+body_is (body.Confirmed n number) r = (r.0.range, r.1)
 
 pub input_of : (x : Input) → InputInRange x → IsOfBytes x → known.InputInRange IsPid x
 input_of input.Tick r w = tt
@@ -131,6 +135,7 @@ input_of (input.Deliver q m) r w = (r.0, record { conf = r.1.conf; least = least
 input_of (input.Commands cs) r w = r
 input_of (input.Stop members) r w = members_any members r
 input_of input.TrimNow r w = tt
+input_of (input.Read x) r w = r
 input_of (input.Up q) r w = r
 input_of (input.Down q) r w = r
 
@@ -163,16 +168,18 @@ batch_in n x one range r w = batch_at n.me n.state n.failed x one range r w
 pub record Handed (g : Given) : Type 0 where
   pub sends : All SendInRange g.sends
   pub replies : All ReplyInRange g.replies
+  pub read_replies : All ReplyInRange g.read_replies
   pub outcome : IfSome g.outcome (known.OutcomeInRange IsPid)
 
 refused_at : (count : ℕ) (x : Input) → Handed (node.refused_with count x)
-refused_at count input.Tick = record { sends = All-nil SendInRange; replies = All-nil ReplyInRange; outcome = tt }
-refused_at count (input.Deliver q m) = record { sends = All-nil SendInRange; replies = All-nil ReplyInRange; outcome = tt }
-refused_at count (input.Commands cs) = record { sends = All-nil SendInRange; replies = All-nil ReplyInRange; outcome = tt }
-refused_at count (input.Stop members) = record { sends = All-nil SendInRange; replies = All-nil ReplyInRange; outcome = tt }
-refused_at count input.TrimNow = record { sends = All-nil SendInRange; replies = All-nil ReplyInRange; outcome = tt }
-refused_at count (input.Up q) = record { sends = All-nil SendInRange; replies = All-nil ReplyInRange; outcome = tt }
-refused_at count (input.Down q) = record { sends = All-nil SendInRange; replies = All-nil ReplyInRange; outcome = tt }
+refused_at count input.Tick = record { sends = All-nil SendInRange; replies = All-nil ReplyInRange; read_replies = All-nil ReplyInRange; outcome = tt }
+refused_at count (input.Deliver q m) = record { sends = All-nil SendInRange; replies = All-nil ReplyInRange; read_replies = All-nil ReplyInRange; outcome = tt }
+refused_at count (input.Commands cs) = record { sends = All-nil SendInRange; replies = All-nil ReplyInRange; read_replies = All-nil ReplyInRange; outcome = tt }
+refused_at count (input.Stop members) = record { sends = All-nil SendInRange; replies = All-nil ReplyInRange; read_replies = All-nil ReplyInRange; outcome = tt }
+refused_at count input.TrimNow = record { sends = All-nil SendInRange; replies = All-nil ReplyInRange; read_replies = All-nil ReplyInRange; outcome = tt }
+refused_at count (input.Read r) = record { sends = All-nil SendInRange; replies = All-nil ReplyInRange; read_replies = All-nil ReplyInRange; outcome = tt }
+refused_at count (input.Up q) = record { sends = All-nil SendInRange; replies = All-nil ReplyInRange; read_replies = All-nil ReplyInRange; outcome = tt }
+refused_at count (input.Down q) = record { sends = All-nil SendInRange; replies = All-nil ReplyInRange; read_replies = All-nil ReplyInRange; outcome = tt }
 
 handed_at : (me : ℕ) (s : State) (o : Option ℕ) (x : Input) → IsPid me → StateInRange IsPid s → InputInRange x → IsOfBytes x → Handed (node.gives (record { me = me; state = s; failed = o }) x)
 handed_at me s None x one range r w =
@@ -180,6 +187,7 @@ handed_at me s None x one range r w =
     record {
       sends = All-weaker (known.SendInRange IsPid) SendInRange send_is (step_plan me s x).sends p.sends;
       replies = All-weaker (known.ReplyInRange IsPid) ReplyInRange reply_is (step_plan me s x).replies p.replies;
+      read_replies = All-weaker (known.ReplyInRange IsPid) ReplyInRange reply_is (step_plan me s x).read_replies p.read_replies;
       outcome = p.outcome;
     }
 handed_at me s (Some count) x one range r w = refused_at count x
@@ -234,6 +242,7 @@ refuses_so count (input.Deliver q m) = refl
 refuses_so count (input.Commands cs) = refl
 refuses_so count (input.Stop members) = refl
 refuses_so count input.TrimNow = refl
+refuses_so count (input.Read r) = refl
 refuses_so count (input.Up q) = refl
 refuses_so count (input.Down q) = refl
 
@@ -252,7 +261,7 @@ pub gave : {D : Type 0} (n m : Node D) (x : Input) (result : Result Given StepFa
     → IfOk result (λ g. IfSome g.outcome (known.OutcomeInRange IsPid) → IfSome g.outcome OutcomeInRange) → IfOk (handed result) GivenInRange
 gave n m x (Ok given) s r w d fits =
     let h : Handed given = subst Handed (sym d.0) (given_in (node_of n) x s.me s.range r w) in
-    record { sends = h.sends; replies = h.replies; outcome = fits h.outcome }
+    record { sends = h.sends; replies = h.replies; read_replies = h.read_replies; outcome = fits h.outcome }
 gave n m x (Err (fails.DiskFail count)) s r w d fits = tt
 gave n m x (Err fails.NoMemory) s r w d fits = tt
 
@@ -290,6 +299,7 @@ opening_at me true d one r =
       stops = idle_ends (durable_for me d).part;
       service = first.state.service;
       order = first.state.order;
+      reads = tt;
     }
 opening_at me false d one r = (openings_stay IsPid servers me one (durable_for me d) (durable_any (durable_for me d) (durable_for_in me d r))).state
 
@@ -307,7 +317,7 @@ opened state me members old n sends o one =
 reopening_at : (me : ℕ) (s : State) (d : Durable) → IsPid me → DurableInRange d → StateInRange IsPid (state_after_reopening me s (durable_for me d))
 reopening_at me s d one r =
     let range = opening_at me false d one r in
-    record { durable = range.durable; volatile = range.volatile; stops = range.stops; service = range.service; order = range.order }
+    record { durable = range.durable; volatile = range.volatile; stops = range.stops; service = range.service; order = range.order; reads = tt }
 
 -- it can be served when it is opened again
 pub reopened : {D : Type 0} (state : D → DiskState) (d : Durable) (is_new : Bool) (n m : Node D) (sends : List (ℕ × Msg)) → Reopens state d is_new n m sends → IsSoundNode m → IsServable n → IsServable m
@@ -320,13 +330,14 @@ reopened state d is_new n m sends o sound s =
 
 -- what it sends then is in range
 pub given_again_in : {D : Type 0} (state : D → DiskState) (d : Durable) (is_new : Bool) (n m : Node D) (sends : List (ℕ × Msg)) → Reopens state d is_new n m sends → IsServable n
-    → GivenInRange (record { sends = sends; replies = []; outcome = None })
+    → GivenInRange (record { sends = sends; replies = []; read_replies = []; outcome = None })
 given_again_in state d is_new n m sends o s =
     let me : ℕ = (node_of n).me in
     let again : OpeningInRange IsPid me (durable_for me d) = openings_stay IsPid servers me s.me (durable_for me d) (durable_any (durable_for me d) (durable_for_in me d o.range)) in
     record {
       sends = subst (λ (ss : List (ℕ × Msg)). All SendInRange ss) (sym o.sends_are) (All-weaker (known.SendInRange IsPid) SendInRange send_is (sends_after_restart me (durable_for me d)) again.sends);
       replies = All-nil ReplyInRange;
+      read_replies = All-nil ReplyInRange;
       outcome = tt;
     }
 

@@ -18,7 +18,7 @@ use Rattle.op_store.specs.Stores.{disks_of}
 use Rattle.op_store.specs.declared.fail.StoreFail.{StoreFail}
 use Rattle.op_store.specs.declared.fail.StoreFail.TheVariants as store_fails
 use Rattle.op_bounds.specs.States.{StateInRange}
-use Rattle.op_chain.specs.declared.given.Given.{Given as NodeGiven}
+use Rattle.op_server.specs.declared.given.Given.{Given as NodeGiven}
 use Rattle.op_node.specs.Nodes.{NodeState, node_of, IsSoundNode}
 use Rattle.op_node.specs.declared.node.Node.{Node}
 use Rattle.op_node.specs.declared.fail.StepFail.{StepFail as NodeFail}
@@ -47,7 +47,8 @@ standing_of state n = standing_at (node_of n) (faults (disks_of state n.store))
 
 -- what a step did
 abbrev pub handed_of : NodeGiven → Given
-handed_of g = record { sends = g.sends; replies = g.replies; outcome = g.outcome }
+handed_of g =
+    record { sends = g.sends; replies = g.replies; read_replies = g.read_replies; outcome = g.outcome }
 
 abbrev pub handed : Result NodeGiven NodeFail → Result Given StepFail
 handed (Ok g) = Ok (handed_of g)
@@ -56,7 +57,7 @@ handed (Err node_fails.NoMemory) = Err fails.NoMemory
 
 -- what an opening of a node that failed did
 abbrev pub handed_again : Result (List (ℕ × Msg)) StoreFail → Result Given StepFail
-handed_again (Ok sends) = Ok (record { sends = sends; replies = []; outcome = None })
+handed_again (Ok sends) = Ok (record { sends = sends; replies = []; read_replies = []; outcome = None })
 handed_again (Err (store_fails.DiskFault count)) = Err (fails.DiskFail count)
 handed_again (Err (store_fails.Damaged area at)) = Err fails.Damaged
 handed_again (Err store_fails.NoMemory) = Err fails.NoMemory

@@ -72,6 +72,7 @@ fn reopens<D: Disk>(node: &Node<D>, input: &Input) -> bool
         | Input::Commands(_)
         | Input::Stop(_)
         | Input::TrimNow
+        | Input::Read(_)
         | Input::Up(_)
         | Input::Down(_) => false,
     }
@@ -129,11 +130,13 @@ fn hand_on(done: Result<NodeGiven, NodeFail>) -> Result<Given, StepFail>
             NodeGiven {
                 sends,
                 replies,
+                read_replies,
                 outcome,
             },
         ) => Ok(Given {
             sends,
             replies,
+            read_replies,
             outcome,
         }),
         Err(NodeFail::DiskFail { count }) => Err(StepFail::DiskFail { count }),
@@ -148,10 +151,11 @@ fn hand_on_again(done: Result<Sends, StoreFail>) -> Result<Given, StepFail>
     match done {
         Ok(sends) => {
             let sends = sends.into_vec();
-            let replies = Replies::new(*sends.allocator());
+            let alloc = *sends.allocator();
             Ok(Given {
                 sends: Sends::from_vec(sends),
-                replies,
+                replies: Replies::new(alloc),
+                read_replies: Replies::new(alloc),
                 outcome: None,
             })
         }

@@ -1,5 +1,5 @@
 -- What stands at the front of a session is dealt with.
-use Rattle.std.proofs.Common.{map, ◌≡◌, ◌<◌, ◌≤◌, ◌+◌, ◌++◌, ◌∷◌, ◌⊎◌, [], ℕ, zero, suc, add-one, Bool, true, false, List, length, Option, Some, None, is_some, option_map, Result, Ok, Err, OnOk, IfSome, IfNone, nat_lt, if◌then◌else◌, refl, sym, ◌∙◌, ap, subst, inl, inr, arith}
+use Rattle.std.proofs.Common.{map, ◌≡◌, ◌<◌, ◌≤◌, ◌+◌, ◌++◌, ◌∷◌, ◌⊎◌, [], ℕ, zero, suc, add-one, Bool, true, false, List, length, Option, Some, None, is_some, option_map, Result, Ok, Err, OnOk, nat_lt, if◌then◌else◌, refl, sym, ◌∙◌, ap, subst, inl, inr, arith}
 use Rattle.std.proofs.lemmas.Bool.{lt-ltb, le-ltb}
 use Rattle.std.proofs.lemmas.List.{append-nil}
 use Rattle.std.proofs.lemmas.List.Elements.{All-nil}
@@ -20,27 +20,40 @@ use Rattle.op_serving.specs.declared.mark.Place.{Place}
 use Rattle.op_serving.specs.declared.session.Session.{Session}
 use Rattle.op_serving.specs.Cores.{Standing}
 use Rattle.op_serving.specs.Wire.{client_frame}
-use Rattle.op_serving.specs.State.{Table, Loop, find, set, changed, changed_at, is_open, down_of, left_at, left_by}
+use Rattle.op_serving.specs.State.{Table, Loop, find, set, changed, changed_at, is_open, is_overfull, most_waiting, down_of, left_at, left_by}
 use Rattle.op_serving.specs.Losses.{most_marks, mark_at, noted, stopped_if, lost_by, settled, IsCalm, IsFrom, Foretells, Grew, Stays}
 use Rattle.op_serving.specs.Inputs.{Deed, hears, says, State, Luck, noting, give, gathers, flushed, given_together, released, proposes, behind, over, drained, rest}
 use Rattle.op_serving.specs.Reading.{tells, ending, on_frame, on_heard, joins_others, of_kind, holding, links, linked, is_peer, frames_at, at_frame, held_in, feeding, feeds, counted_if, met, dealt_front, dealt_at, dealt, read}
 use Rattle.op_serving.specs.Handing.{no_command}
 use Rattle.op_queues.specs.Hearing.{Alike, TakesOut}
-use Rattle.op_driver.specs.Driver.{Served, Stores, Went, with_deeds, Knows, Acts, FromCalm, Does, Gives, Loses, Rests}
-use Rattle.op_driver.specs.Dealing.{TakesOn, makes_way, tells_now, GathersOn, HandlesAlone, Handles, Next, Ends, Taken, framed, greeted, fronted, Deals, DealsAll}
-use Rattle.op_queues.proofs.Tables.{find_set, without_set, found_changed}
+use Rattle.op_driver.specs.Driver.{Served, Stores, Went, with_deeds, Knows, Acts, FromCalm, Does, Gives, Drained, Loses, IsDrained, Rests}
+use Rattle.op_driver.specs.Dealing.{TakesOn, makes_way, tells_now, GathersOn, DrainsAt, HandlesAlone, Handles, Next, Ends, Taken, framed, greeted, fronted, Deals, DealsAll}
+use Rattle.op_queues.proofs.Tables.{same_or_not, find_set, find_set_apart, without_set, found_changed}
 use Rattle.op_queues.proofs.Settling.{kinds_then, stays_same, stays_then, grew_still, grew_trans, foretold, lost_first}
 use Rattle.op_driver.proofs.Stepping.{Untouched, untouched, untouched_then, went_then, went_beside, went_none, went_still, went_from, went_to}
 use Rattle.op_driver.proofs.Calm.{calm_same, calm_frame}
-use Rattle.op_driver.proofs.Draining.{gives_does, rest_still, knew, known, split_deeds}
+use Rattle.op_driver.proofs.Draining.{no_items, gives_does, rest_still, knew, known, split_deeds}
 
 -- ---- it comes to rest
 
-pub rests_stays : {s t : Loop} → Stays s t → t.downs ≡ [] → Rests s t
+pub rests_stays : {s t : Loop} → Stays s t → IsDrained t → Rests s t
 rests_stays {s} {t} a none = record { turn = a.turn; at = a.at; none = none }
 
 pub rests_then : {s m t : Loop} → Rests s m → Rests m t → Rests s t
 rests_then {s} {m} {t} a b = record { turn = b.turn ∙ a.turn; at = b.at ∙ a.at; none = b.none }
+
+-- nothing is to end, whether a session is over or not
+pub drains_at : (c : ℕ) (s : Loop) → IsDrained s → DrainsAt c s
+drains_at c s h = (h.0, λ closed. h.1)
+
+-- a session that is open is not over
+drains_open : (c : ℕ) (s : Loop) → s.downs ≡ [] → is_open c s ≡ true → DrainsAt c s
+drains_open c s none there = (none, λ closed. absurd (let bad : true ≡ false = sym there ∙ closed in cc))
+
+module _ {K : Type 0} where
+  -- whoever is told something is still there
+  told_open : (c : ℕ) (what : Said) (d e : Served K) → e ≡ tells_now c what d → is_open c d.loop ≡ true → is_open c e.loop ≡ true
+  told_open c what d e is there = ap (λ (y : Served K). is_open c y.loop) is ∙ found_changed _ c c d.loop.sessions ∙ there
 
 module _ {K : Type 0} {stores : Stores K} where
   -- what is noted of one deed is known e before it
@@ -81,20 +94,20 @@ module _ {K : Type 0} {stores : Stores K} where
   given_handles line c heard f {d} {e} a same = record {
     does = does_as f (λ l s. on_frame l line c heard s) same (gives_does f a);
     stays = a.stays;
-    none = a.none;
+    none = drains_at c e.loop a.none;
   }
 
-  pub told_handles : (line : Standing → List ℕ) (c : ℕ) (heard : Heard) (what : Said) {d e : Served K} → d.loop.downs ≡ [] → ((l : Luck) (before : List Deed) → on_frame l line c heard (with_deeds before d) ≡ tells c what (with_deeds before d)) → e ≡ tells_now c what d → HandlesAlone stores line c heard d e
-  told_handles line c heard what {d} {e} none same is = record {
+  pub told_handles : (line : Standing → List ℕ) (c : ℕ) (heard : Heard) (what : Said) {d e : Served K} → IsDrained d.loop → is_open c d.loop ≡ true → ((l : Luck) (before : List Deed) → on_frame l line c heard (with_deeds before d) ≡ tells c what (with_deeds before d)) → e ≡ tells_now c what d → HandlesAlone stores line c heard d e
+  told_handles line c heard what {d} {e} none there same is = record {
     does = does_as (λ l s. tells c what s) (λ l s. on_frame l line c heard s) same (tells_does c what d e is);
     stays = stays_same (ap (λ (x : Served K). x.loop.place) is);
-    none = ap (λ (x : Served K). x.loop.downs) is ∙ none;
+    none = drains_open c e.loop (ap (λ (x : Served K). x.loop.downs) is ∙ none.0) (told_open c what d e is there);
   }
 
   -- an end request
-  pub ended_handles : (line : Standing → List ℕ) (c : ℕ) (heard : Heard) {d m e : Served K} → d.loop.downs ≡ [] → ((l : Luck) (before : List Deed) → on_frame l line c heard (with_deeds before d) ≡ ending (tells c said.Ended (with_deeds before d)))
+  pub ended_handles : (line : Standing → List ℕ) (c : ℕ) (heard : Heard) {d m e : Served K} → IsDrained d.loop → is_open c d.loop ≡ true → ((l : Luck) (before : List Deed) → on_frame l line c heard (with_deeds before d) ≡ ending (tells c said.Ended (with_deeds before d)))
       → m ≡ tells_now c said.Ended d → e ≡ record m { loop = record m.loop { ending = true } } → HandlesAlone stores line c heard d e
-  ended_handles line c heard {d} {m} {e} none same is_m is =
+  ended_handles line c heard {d} {m} {e} none there same is_m is =
       let deed : Deed = says (c, client_frame (no_command said.Ended)) in
       let lost : e.loop.lost ≡ d.loop.lost = ap (λ (x : Served K). x.loop.lost) is ∙ ap (λ (x : Served K). x.loop.lost) is_m in
       let place : e.loop.place ≡ d.loop.place = ap (λ (x : Served K). x.loop.place) is ∙ ap (λ (x : Served K). x.loop.place) is_m in
@@ -109,7 +122,7 @@ module _ {K : Type 0} {stores : Stores K} where
           calm = λ marks f calm_e. calm_same marks d.loop e.loop lost place (λ x. ap (λ (y : Served K). is_open x y.loop) is ∙ ap (λ (y : Served K). is_open x y.loop) is_m ∙ found_changed _ c x d.loop.sessions) calm_e;
         };
         stays = stays_same place;
-        none = ap (λ (x : Served K). x.loop.downs) is ∙ ap (λ (x : Served K). x.loop.downs) is_m ∙ none;
+        none = drains_open c e.loop (ap (λ (x : Served K). x.loop.downs) is ∙ ap (λ (x : Served K). x.loop.downs) is_m ∙ none.0) (ap (λ (y : Served K). is_open c y.loop) is ∙ told_open c said.Ended d m is_m there);
       }
   -- ---- a frame
 
@@ -127,30 +140,34 @@ grew_frame : (n : ℕ) (s : Loop) → s.place.frames ≤ n → Grew s (frames_at
 grew_frame n s le = record { added = []; lost = sym (append-nil s.lost); from = All-nil (IsFrom s.place); place = λ x h. from_frame s.place n x le h; counts = omega arith }
 
 module _ {K : Type 0} {stores : Stores K} where
-  -- it was dealt with, and its session is still there: it is counted
-  pub frame_counts : (line : Standing → List ℕ) (c n : ℕ) (heard : Heard) (d m e : Served K) → Handles stores line c heard d m → d.loop.place.frames ≡ n → is_open c m.loop ≡ true → e ≡ record m { loop = frames_at (n + 1) m.loop } → Taken stores (framed line c heard n) c n (Some (n + 1)) d e
-  frame_counts line c n heard d m e h at there is =
+  -- it was dealt with, and its session is still there: it is counted, and what is overfull then ends
+  pub frame_counts : (line : Standing → List ℕ) (c n : ℕ) (heard : Heard) (d m u e : Served K) → Handles stores line c heard d m → d.loop.place.frames ≡ n → is_open c m.loop ≡ true → u ≡ record m { loop = frames_at (n + 1) m.loop }
+      → Drained stores u e → Stays u.loop e.loop → IsDrained e.loop → Taken stores (framed line c heard n) c n (Some (n + 1)) d e
+  frame_counts line c n heard d m u e h at there is b stays none =
       let frames : m.loop.place.frames ≡ n = h.stays.frames ∙ at in
-      let grew_m : Grew m.loop e.loop = subst (λ (x : Served K). Grew m.loop x.loop) (sym is) (grew_frame (n + 1) m.loop (omega (arith, frames))) in
-      let calm_m : (marks : List Mark) → Foretells marks e.loop → IsCalm marks m.loop = λ marks f. calm_frame marks (n + 1) m.loop (omega (arith, frames)) (subst (λ (x : Served K). Foretells marks x.loop) is f) in
+      let grew_m : Grew m.loop u.loop = subst (λ (x : Served K). Grew m.loop x.loop) (sym is) (grew_frame (n + 1) m.loop (omega (arith, frames))) in
+      let calm_m : (marks : List Mark) → Foretells marks u.loop → IsCalm marks m.loop = λ marks f. calm_frame marks (n + 1) m.loop (omega (arith, frames)) (subst (λ (x : Served K). Foretells marks x.loop) is f) in
       record {
-        deeds = h.does.acts.deeds;
-        grew = grew_trans h.does.acts.grew grew_m;
-        went = went_to h.does.acts.went (untouched is);
+        deeds = h.does.acts.deeds ++ b.deeds;
+        grew = grew_trans h.does.acts.grew (grew_trans grew_m b.grew);
+        went = went_then (went_to h.does.acts.went (untouched is)) b.went;
         rests = record {
-          turn = ap (λ (x : Served K). x.loop.place.turn) is ∙ h.stays.turn;
-          at = ap (λ (x : Served K). x.loop.place.at) is ∙ h.stays.at;
-          none = ap (λ (x : Served K). x.loop.downs) is ∙ h.none;
+          turn = stays.turn ∙ ap (λ (x : Served K). x.loop.place.turn) is ∙ h.stays.turn;
+          at = stays.at ∙ ap (λ (x : Served K). x.loop.place.at) is ∙ h.stays.at;
+          none = none;
         };
-        counts = (ap (λ (x : Served K). x.loop.place.frames) is, omega arith);
+        counts = (stays.frames ∙ ap (λ (x : Served K). x.loop.place.frames) is, omega arith);
         is = (
-          λ marks f. h.does.calm marks (foretold grew_m f) (calm_m marks f),
+          λ marks f. let f_u : Foretells marks u.loop = foretold b.grew f in h.does.calm marks (foretold grew_m f_u) (calm_m marks f_u),
           λ l before more k.
               let all : List Deed = before ++ h.does.acts.deeds in
-              let k_m : Knows l (with_deeds all m) = record { marks = foretold grew_m k.marks; rest = k.rest; fates = k.fates } in
-              ap (counted_if l line c more n) (h.does.acts.is l before k_m (calm_m l.marks k.marks))
-              ∙ ap (λ b. if b then more (n + 1) (rest l (at_frame (n + 1) (with_deeds all m))) else with_deeds all m) there
-              ∙ ap (λ (x : Served K). more (n + 1) (rest l (with_deeds all x))) (sym is),
+              let k2 : Knows l (with_deeds (all ++ b.deeds) e) = known e before h.does.acts.deeds b.deeds k in
+              let k_u : Knows l (with_deeds all u) = knew u e all b.deeds b.grew k2 in
+              let k_m : Knows l (with_deeds all m) = record { marks = foretold grew_m k_u.marks; rest = k_u.rest; fates = k_u.fates } in
+              ap (counted_if l line c more n) (h.does.acts.is l before k_m (calm_m l.marks k_u.marks))
+              ∙ ap (λ o. if o then more (n + 1) (rest l (at_frame (n + 1) (with_deeds all m))) else with_deeds all m) there
+              ∙ ap (λ (x : Served K). more (n + 1) (rest l (with_deeds all x))) (sym is)
+              ∙ ap (more (n + 1)) (b.is l all k2 ∙ ap (λ x. rest l (with_deeds x e)) (sym (split_deeds before h.does.acts.deeds b.deeds))),
         );
       }
 
@@ -160,7 +177,7 @@ module _ {K : Type 0} {stores : Stores K} where
     deeds = h.does.acts.deeds;
     grew = h.does.acts.grew;
     went = h.does.acts.went;
-    rests = rests_stays h.stays h.none;
+    rests = rests_stays h.stays (h.none.0, h.none.1 closed);
     counts = tt;
     is = inr (
       h.does.calm,
@@ -173,11 +190,6 @@ module _ {K : Type 0} {stores : Stores K} where
   -- its session was lost
   pub taken_lost : (f : Luck → Next → State → State) (c n : ℕ) (d e : Served K) → Loses stores c d e → Taken stores f c n None d e
   taken_lost f c n d e h = record { deeds = h.deeds; grew = h.grew; went = h.went; rests = rests_stays h.stays h.none; counts = tt; is = inl h }
-
-  pub frame_counted : (line : Standing → List ℕ) (c n : ℕ) (heard : Heard) (d m e : Served K) (r : Option ℕ) → Handles stores line c heard d m → d.loop.place.frames ≡ n
-      → IfSome r (λ k. (k ≡ n + 1) × (is_open c m.loop ≡ true) × (e ≡ record m { loop = frames_at (n + 1) m.loop })) → IfNone r ((is_open c m.loop ≡ false) × (e ≡ m)) → Taken stores (framed line c heard n) c n r d e
-  frame_counted line c n heard d m e None h at some none = subst (λ (x : Served K). Taken stores (framed line c heard n) c n None d x) (sym none.1) (frame_ends line c n heard d m h none.0)
-  frame_counted line c n heard d m e (Some k) h at some none = subst (λ x. Taken stores (framed line c heard n) c n (Some x) d e) (sym some.0) (frame_counts line c n heard d m e h at some.1 some.2)
 
 module _ {K : Type 0} where
   -- ---- what stood at the front
@@ -192,6 +204,13 @@ module _ {K : Type 0} where
 
 abbrev with_session : ℕ → Session → Loop → Loop
 with_session c y s = record s { sessions = set c y s.sessions }
+
+-- as much waits as before
+over_set : (c n : ℕ) (x y : Session) (t : Table Session) → find c t ≡ Some x → is_overfull (Some y) ≡ is_overfull (Some x) → is_overfull (find n (set c y t)) ≡ is_overfull (find n t)
+over_set c n x y t e same = elim (same_or_not c n) [
+  | inl is ↦ ap (λ k. is_overfull (find k (set c y t))) (sym is) ∙ ap is_overfull (find_set c y x t e) ∙ same ∙ sym (ap is_overfull e) ∙ ap (λ k. is_overfull (find k t)) is
+  | inr apart ↦ ap is_overfull (find_set_apart c n y t apart)
+]
 
 opens_set : (c n : ℕ) (x y : Session) (t : Table Session) → find c t ≡ Some x → is_some (find n (set c y t)) ≡ is_some (find n t)
 opens_set c n x y t e = ap (λ o. is_some (find n (changed_at (λ _. y) c o t))) (sym e) ∙ found_changed (λ _. y) c n t
@@ -231,6 +250,10 @@ module _ {K : Type 0} {stores : Stores K} where
       rest_lost c v m e (ap (λ (x : Served K). lost_by c x.loop) h.is ∙ lost_alike c h.before h.now v.loop h.found h.alike) (ap is_some h.found) (subst (λ (x : Served K). length x.loop.lost < most_marks) h.is a.few) (ap (λ (x : Served K). x.node) h.is) a l before f
 
 module _ {K : Type 0} where
+  -- what is overfull is so after it
+  drained_take : (c : ℕ) (v m : Served K) → Same c v m → IsDrained v.loop → IsDrained m.loop
+  drained_take c v m h none = (ap (λ (x : Served K). x.loop.downs) h.is ∙ none.0, λ n. ap (λ (x : Served K). is_overfull (find n x.loop.sessions)) h.is ∙ over_set c n h.before h.now v.loop.sessions h.found (ap (λ q. nat_lt most_waiting (length q)) h.alike.queue) ∙ none.1 n)
+
   grew_take : (c : ℕ) {v m : Served K} → Same c v m → Grew v.loop m.loop
   grew_take c {v} {m} h = grew_still (ap (λ (x : Served K). x.loop.lost) h.is) (ap (λ (x : Served K). x.loop.place) h.is)
 
@@ -238,7 +261,7 @@ module _ {K : Type 0} where
   abbrev pub Fronts : (Standing → List ℕ) → ℕ → ℕ → (Luck → Next → State → State) → Served K → Served K → Type 0
   Fronts line c n f v m = (l : Luck) (before : List Deed) (more : Next) → dealt_at l line c more n (find c v.loop.sessions) (with_deeds before v) ≡ f l more (with_deeds before m)
 
-  rested : (line : Standing → List ℕ) (c n : ℕ) (f : Luck → Next → State → State) {v m : Served K} → Same c v m → v.loop.downs ≡ [] → (l : Luck) (before : List Deed) (more : Next) → Fronts line c n f v m → IsCalm l.marks m.loop
+  rested : (line : Standing → List ℕ) (c n : ℕ) (f : Luck → Next → State → State) {v m : Served K} → Same c v m → IsDrained v.loop → (l : Luck) (before : List Deed) (more : Next) → Fronts line c n f v m → IsCalm l.marks m.loop
       → fronted line c n l more (with_deeds before v) ≡ f l more (with_deeds before m)
   rested line c n f {v} {m} h none_v l before more front calm_m =
       ap (λ t. dealt_at l line c more n (find c t.loop.sessions) t) (rest_still l (with_deeds before v) (calm_before_take c v m h l.marks calm_m) none_v) ∙ front l before more
@@ -251,7 +274,7 @@ module _ {K : Type 0} where
   }
 
 module _ {K : Type 0} {stores : Stores K} where
-  module _ (line : Standing → List ℕ) (c n : ℕ) (f : Luck → Next → State → State) (v m e : Served K) (h : Same c v m) (none_v : v.loop.downs ≡ []) where
+  module _ (line : Standing → List ℕ) (c n : ℕ) (f : Luck → Next → State → State) (v m e : Served K) (h : Same c v m) (none_v : IsDrained v.loop) where
     deals_lost : Loses stores c m e → Deals stores line c n None v e
     deals_lost a = record {
       deeds = a.deeds;
@@ -301,7 +324,7 @@ changed_found c g x t e = ap (λ o. changed_at g c o t) e
 module _ {K : Type 0} {stores : Stores K} where
   -- it waits for more
   waits_at : (line : Standing → List ℕ) (c n : ℕ) (v e : Served K) (o : Option Session) → find c v.loop.sessions ≡ o → TakesOut c v.loop.me o v.loop.sessions (Ok found.Waits) e.loop.sessions → e ≡ record v { loop = record v.loop { sessions = e.loop.sessions } }
-      → v.loop.downs ≡ [] → Deals stores line c n None v e
+      → IsDrained v.loop → Deals stores line c n None v e
   waits_at line c n v e None look takes is none_v =
       let same : e ≡ v = is ∙ ap (λ t. record v { loop = record v.loop { sessions = t } }) takes.1 in
       subst (λ (x : Served K). Deals stores line c n None v x) (sym same) (record {
@@ -326,7 +349,7 @@ module _ {K : Type 0} {stores : Stores K} where
         deeds = [];
         grew = grew_still refl refl;
         went = went_none;
-        rests = record { turn = refl; at = refl; none = ap (λ (z : Served K). z.loop.downs) h.is ∙ none_v };
+        rests = record { turn = refl; at = refl; none = drained_take c v e h none_v };
         counts = tt;
         is = inr (λ marks f calm_e. calm_e, λ l before more known calm_e. ap (λ b. with_deeds b e) (sym (append-nil before)));
       })
@@ -335,13 +358,22 @@ module _ {K : Type 0} where
   whole_of : (c : ℕ) (v e : Served K) (r : Result Front AllocError) → TakesOn c v r e → e ≡ record v { loop = record v.loop { sessions = e.loop.sessions } }
   whole_of c v e r t = ap (λ (x : Loop). record e { loop = x }) t.takes.rest ∙ ap (λ n. record e { loop = record v.loop { sessions = e.loop.sessions }; node = n }) t.node ∙ ap (λ (k : K). record v { loop = record v.loop { sessions = e.loop.sessions }; core = k }) t.core
 
+over_out : (c n me : ℕ) (r : Result Front AllocError) (s t : Table Session) (o : Option Session) → find c s ≡ o → TakesOut c me o s r t → is_overfull (find n t) ≡ is_overfull (find n s)
+over_out c n me r s t None look takes = ap (λ u. is_overfull (find n u)) takes.1
+over_out c n me r s t (Some x) look takes = ap (λ u. is_overfull (find n u)) takes.3 ∙ over_set c n x takes.0 s look (ap (λ q. nat_lt most_waiting (length q)) takes.2.queue)
+
+module _ {K : Type 0} where
+  -- nor does it make any overfull
+  pub drained_taken : (c : ℕ) (r : Result Front AllocError) (v m : Served K) → TakesOn c v r m → IsDrained v.loop → IsDrained m.loop
+  drained_taken c r v m t none = (ap (λ (s : Loop). s.downs) t.takes.rest ∙ none.0, λ n. over_out c n v.loop.me r v.loop.sessions m.loop.sessions (find c v.loop.sessions) refl t.takes.takes ∙ none.1 n)
+
 module _ {K : Type 0} {stores : Stores K} where
-  pub deals_waits : (line : Standing → List ℕ) (c n : ℕ) (v e : Served K) → TakesOn c v (Ok found.Waits) e → v.loop.downs ≡ [] → Deals stores line c n None v e
+  pub deals_waits : (line : Standing → List ℕ) (c n : ℕ) (v e : Served K) → TakesOn c v (Ok found.Waits) e → IsDrained v.loop → Deals stores line c n None v e
   deals_waits line c n v e t none_v = waits_at line c n v e (find c v.loop.sessions) refl t.takes.takes (whole_of c v e (Ok found.Waits) t) none_v
 
   -- a frame
   frame_at : (line : Standing → List ℕ) (c n : ℕ) (heard : Heard) (v m e : Served K) (r : Option ℕ) (o : Option Session) → find c v.loop.sessions ≡ o → TakesOut c v.loop.me o v.loop.sessions (Ok (found.Frame heard)) m.loop.sessions
-      → m ≡ record v { loop = record v.loop { sessions = m.loop.sessions } } → v.loop.downs ≡ [] → Taken stores (framed line c heard n) c n r m e → Deals stores line c n r v e
+      → m ≡ record v { loop = record v.loop { sessions = m.loop.sessions } } → IsDrained v.loop → Taken stores (framed line c heard n) c n r m e → Deals stores line c n r v e
   frame_at line c n heard v m e r None look takes is none_v t = absurd (let k = takes.0 in cc)
   frame_at line c n heard v m e r (Some x) look takes is none_v t =
       let y : Session = takes.0 in
@@ -355,12 +387,12 @@ module _ {K : Type 0} {stores : Stores K} where
       ∙ ap (λ (z : Served K). framed line c heard n l more (with_deeds before z)) (sym h.is) in
       deals line c n (framed line c heard n) v m e h none_v r front t
 
-  pub deals_frame : (line : Standing → List ℕ) (c n : ℕ) (heard : Heard) (v m e : Served K) (r : Option ℕ) → TakesOn c v (Ok (found.Frame heard)) m → v.loop.downs ≡ [] → Taken stores (framed line c heard n) c n r m e → Deals stores line c n r v e
+  pub deals_frame : (line : Standing → List ℕ) (c n : ℕ) (heard : Heard) (v m e : Served K) (r : Option ℕ) → TakesOn c v (Ok (found.Frame heard)) m → IsDrained v.loop → Taken stores (framed line c heard n) c n r m e → Deals stores line c n r v e
   deals_frame line c n heard v m e r t none_v a = frame_at line c n heard v m e r (find c v.loop.sessions) refl t.takes.takes (whole_of c v m (Ok (found.Frame heard)) t) none_v a
 
   -- a peer's hello
   hello_at : (line : Standing → List ℕ) (c n q : ℕ) (v m e : Served K) (r : Option ℕ) (o : Option Session) → find c v.loop.sessions ≡ o → TakesOut c v.loop.me o v.loop.sessions (Ok (found.Hello q)) m.loop.sessions
-      → m ≡ record v { loop = record v.loop { sessions = m.loop.sessions } } → v.loop.downs ≡ [] → Taken stores (greeted line c q n) c n r m e → Deals stores line c n r v e
+      → m ≡ record v { loop = record v.loop { sessions = m.loop.sessions } } → IsDrained v.loop → Taken stores (greeted line c q n) c n r m e → Deals stores line c n r v e
   hello_at line c n q v m e r None look takes is none_v t = absurd (let k = takes.0 in cc)
   hello_at line c n q v m e r (Some x) look takes is none_v t =
       let y : Session = takes.0 in
@@ -373,12 +405,12 @@ module _ {K : Type 0} {stores : Stores K} where
       ∙ ap (λ (z : Served K). greeted line c q n l more (with_deeds before z)) (sym h.is) in
       deals line c n (greeted line c q n) v m e h none_v r front t
 
-  pub deals_hello : (line : Standing → List ℕ) (c n q : ℕ) (v m e : Served K) (r : Option ℕ) → TakesOn c v (Ok (found.Hello q)) m → v.loop.downs ≡ [] → Taken stores (greeted line c q n) c n r m e → Deals stores line c n r v e
+  pub deals_hello : (line : Standing → List ℕ) (c n q : ℕ) (v m e : Served K) (r : Option ℕ) → TakesOn c v (Ok (found.Hello q)) m → IsDrained v.loop → Taken stores (greeted line c q n) c n r m e → Deals stores line c n r v e
   deals_hello line c n q v m e r t none_v a = hello_at line c n q v m e r (find c v.loop.sessions) refl t.takes.takes (whole_of c v m (Ok (found.Hello q)) t) none_v a
 
   -- what is refused
   refused_at : (line : Standing → List ℕ) (c n : ℕ) (v m e : Served K) (o : Option Session) → find c v.loop.sessions ≡ o → TakesOut c v.loop.me o v.loop.sessions (Ok found.Refused) m.loop.sessions → m ≡ record v { loop = record v.loop { sessions = m.loop.sessions } }
-      → v.loop.downs ≡ [] → Does stores (λ l s. over l c s) m e → Rests m.loop e.loop → Deals stores line c n None v e
+      → IsDrained v.loop → Does stores (λ l s. over l c s) m e → Rests m.loop e.loop → Deals stores line c n None v e
   refused_at line c n v m e None look takes is none_v a rests = absurd (let k = takes.0 in cc)
   refused_at line c n v m e (Some x) look takes is none_v a rests =
       let y : Session = takes.0 in
@@ -398,23 +430,23 @@ module _ {K : Type 0} {stores : Stores K} where
         is = inr (a.calm, λ l before more known calm_e. a.acts.is l before known calm_e);
       })
 
-  pub deals_refused : (line : Standing → List ℕ) (c n : ℕ) (v m e : Served K) → TakesOn c v (Ok found.Refused) m → v.loop.downs ≡ [] → Does stores (λ l s. over l c s) m e → Rests m.loop e.loop → Deals stores line c n None v e
+  pub deals_refused : (line : Standing → List ℕ) (c n : ℕ) (v m e : Served K) → TakesOn c v (Ok found.Refused) m → IsDrained v.loop → Does stores (λ l s. over l c s) m e → Rests m.loop e.loop → Deals stores line c n None v e
   deals_refused line c n v m e t none_v a rests = refused_at line c n v m e (find c v.loop.sessions) refl t.takes.takes (whole_of c v m (Ok found.Refused) t) none_v a rests
 
   -- what finds no memory
   lost_at : (line : Standing → List ℕ) (c n : ℕ) (v m e : Served K) (w : AllocError) (o : Option Session) → find c v.loop.sessions ≡ o → TakesOut c v.loop.me o v.loop.sessions (Err w) m.loop.sessions → m ≡ record v { loop = record v.loop { sessions = m.loop.sessions } }
-      → v.loop.downs ≡ [] → Loses stores c m e → Deals stores line c n None v e
+      → IsDrained v.loop → Loses stores c m e → Deals stores line c n None v e
   lost_at line c n v m e w None look takes is none_v a = absurd (let k = takes.0 in cc)
   lost_at line c n v m e w (Some x) look takes is none_v a =
       let h : Same c v m = record { before = x; now = takes.0; found = look; alike = takes.2; is = is ∙ ap (λ t. record v { loop = record v.loop { sessions = t } }) takes.3 } in
       deals_when_lost line c n (λ l more s. s) v m e h none_v a
 
-  pub deals_lost_at : (line : Standing → List ℕ) (c n : ℕ) (v m e : Served K) (w : AllocError) → TakesOn c v (Err w) m → v.loop.downs ≡ [] → Loses stores c m e → Deals stores line c n None v e
+  pub deals_lost_at : (line : Standing → List ℕ) (c n : ℕ) (v m e : Served K) (w : AllocError) → TakesOn c v (Err w) m → IsDrained v.loop → Loses stores c m e → Deals stores line c n None v e
   deals_lost_at line c n v m e w t none_v a = lost_at line c n v m e w (find c v.loop.sessions) refl t.takes.takes (whole_of c v m (Err w) t) none_v a
 
   -- ---- a hello
 
-  pub greet_closed : (line : Standing → List ℕ) (c n q : ℕ) (d m : Served K) → is_peer q d.loop ≡ true → Does stores (λ l s. makes_way l c q s) d m → Stays d.loop m.loop → m.loop.downs ≡ [] → is_open c m.loop ≡ false → Taken stores (greeted line c q n) c n None d m
+  pub greet_closed : (line : Standing → List ℕ) (c n q : ℕ) (d m : Served K) → is_peer q d.loop ≡ true → Does stores (λ l s. makes_way l c q s) d m → Stays d.loop m.loop → IsDrained m.loop → is_open c m.loop ≡ false → Taken stores (greeted line c q n) c n None d m
   greet_closed line c n q d m peer a stays none closed = record {
     deeds = a.acts.deeds;
     grew = a.acts.grew;
@@ -554,6 +586,13 @@ module _ {K : Type 0} {stores : Stores K} where
 fed_alike : (bytes : List ℕ) (x : Session) → Alike x (feeding bytes x)
 fed_alike bytes x = record { queue = refl; down = refl }
 
+over_fed : (c n : ℕ) (bytes : List ℕ) (t : Table Session) (o : Option Session) → find c t ≡ o → is_overfull (find n (changed_at (feeding bytes) c o t)) ≡ is_overfull (find n t)
+over_fed c n bytes t None e = refl
+over_fed c n bytes t (Some x) e = over_set c n x (feeding bytes x) t e refl
+
+pub drained_fed : (c : ℕ) (bytes : List ℕ) (s : Loop) → IsDrained s → IsDrained (feeds c bytes s)
+drained_fed c bytes s none = (none.0, λ n. over_fed c n bytes s.sessions (find c s.sessions) refl ∙ none.1 n)
+
 lost_fed : (c : ℕ) (bytes : List ℕ) (s : Loop) (o : Option Session) → find c s.sessions ≡ o → lost_by c (feeds c bytes s) ≡ lost_by c s
 lost_fed c bytes s None e = ap (λ w. lost_by c (record s { sessions = changed_at (feeding bytes) c w s.sessions })) e
 lost_fed c bytes s (Some x) e = ap (λ w. lost_by c (record s { sessions = changed_at (feeding bytes) c w s.sessions })) e ∙ lost_alike c x (feeding bytes x) s e (fed_alike bytes x)
@@ -592,10 +631,6 @@ if_there c f l t = if is_open c t.loop then f l t else t
 
 heard_behind : (line : Standing → List ℕ) (c : ℕ) (heard : Heard) (l : Luck) (s : State) → joins_others heard ≡ false → on_heard l line c heard s ≡ behind l c (on_frame l line c heard) s
 heard_behind line c heard l s e = ap (λ b. if b then on_frame l line c heard s else behind l c (on_frame l line c heard) s) e
-
-no_items : {X : Type 0} (xs : List X) → length xs ≤ 0 → xs ≡ []
-no_items [] h = refl
-no_items (x ∷ xs) h = absurd (omega (arith, h))
 
 module _ {K : Type 0} {stores : Stores K} where
   same_does : (d : Served K) → Does stores (λ l s. s) d d
@@ -710,7 +745,7 @@ module _ {K : Type 0} {stores : Stores K} where
   closed_handles line c heard {d} {m} h g closed = record {
     does = does_as (λ l s. behind l c (on_frame l line c heard) s) (λ l s. on_heard l line c heard s) (λ l before. heard_behind line c heard l (with_deeds before d) h) (behind_closed c (λ l s. on_frame l line c heard s) (gives_does (λ l s. flushed l s) g) closed);
     stays = g.stays;
-    none = g.none;
+    none = drains_at c m.loop g.none;
   }
 
   pub behind_handles : (line : Standing → List ℕ) (c : ℕ) (heard : Heard) {d m e : Served K} → joins_others heard ≡ false → Gives stores (λ l s. flushed l s) d m → is_open c m.loop ≡ true → HandlesAlone stores line c heard m e → Handles stores line c heard d e
@@ -724,7 +759,7 @@ module _ {K : Type 0} {stores : Stores K} where
   lost_handles line c heard {d} {m} {e} h g a = record {
     does = does_as (λ l s. behind l c (on_frame l line c heard) s) (λ l s. on_heard l line c heard s) (λ l before. heard_behind line c heard l (with_deeds before d) h) (behind_lost c (λ l s. on_frame l line c heard s) g a);
     stays = stays_then g.stays a.stays;
-    none = a.none;
+    none = drains_at c e.loop a.none;
   }
 
 module _ {K : Type 0} where
@@ -739,7 +774,7 @@ module _ {K : Type 0} where
 
 module _ {K : Type 0} {stores : Stores K} where
   -- it waits for others
-  pub gathered_handles : (line : Standing → List ℕ) (c : ℕ) (x : Command) (d e : Served K) → d.loop.downs ≡ [] → GathersOn c x d None e → HandlesAlone stores line c (Asks (request.Command x)) d e
+  pub gathered_handles : (line : Standing → List ℕ) (c : ℕ) (x : Command) (d e : Served K) → IsDrained d.loop → GathersOn c x d None e → HandlesAlone stores line c (Asks (request.Command x)) d e
   gathered_handles line c x d e none a =
       let is : e ≡ with_gathered c x d = ap (λ (s : Loop). record e { loop = s }) a.gathers.0 ∙ ap (λ n. record e { loop = gathers c x d.loop; node = n }) a.node ∙ ap (λ (k : K). record d { loop = gathers c x d.loop; core = k }) a.core in
       let few : nat_lt (length (gathers c x d.loop).gathered) most_commands ≡ true = lt-ltb (length (gathers c x d.loop).gathered) most_commands (subst (λ (s : Loop). length s.gathered < most_commands) a.gathers.0 a.gathers.1) in
@@ -756,7 +791,7 @@ module _ {K : Type 0} {stores : Stores K} where
           calm = λ marks k calm_e. calm_same marks d.loop e.loop lost place (λ n. ap (λ (s : Loop). is_open n s) a.gathers.0) calm_e;
         };
         stays = stays_same place;
-        none = ap (λ (s : Loop). s.downs) a.gathers.0 ∙ none;
+        none = drains_at c e.loop (ap (λ (s : Loop). s.downs) a.gathers.0 ∙ none.0, λ n. ap (λ (s : Loop). is_overfull (find n s.sessions)) a.gathers.0 ∙ none.1 n);
       }
 
   -- it is the last of the most that one input may have
@@ -769,4 +804,4 @@ module _ {K : Type 0} {stores : Stores K} where
       run_gives (λ l s. on_frame l line c (Asks (request.Command x)) s) (λ before. with_deeds before (with_gathered c x d)) run d m e some (ap (λ (s : Loop). s.lost) a.gathers.2) (ap (λ (s : Loop). s.place) a.gathers.2) (ap (λ (s : Loop). s.sessions) a.gathers.2) (record { node = a.node; core = a.core })
       (λ l before. taken_in l c x d before false many ∙ ap (λ r. given_together l r (with_deeds before (with_gathered c x d))) (sym a.gathers.0))
       (λ before. ap (λ (s : Loop). record { loop = s; node = d.node; deeds = before }) (sym a.gathers.2) ∙ ap (λ n. record { loop = m.loop; node = n; deeds = before }) (sym a.node)) g in
-      record { does = gives_does (λ l s. on_frame l line c (Asks (request.Command x)) s) all; stays = all.stays; none = all.none }
+      record { does = gives_does (λ l s. on_frame l line c (Asks (request.Command x)) s) all; stays = all.stays; none = drains_at c e.loop all.none }

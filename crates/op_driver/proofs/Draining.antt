@@ -10,20 +10,25 @@ use Rattle.op_types.specs.declared.events.Input.TheVariants as input
 use Rattle.op_serving.specs.declared.mark.Mark.{Mark}
 use Rattle.op_serving.specs.Cores.{Standing}
 use Rattle.op_serving.specs.Cores as cores
-use Rattle.op_serving.specs.State.{Loop, find, is_open, kind_at, left_by, counted}
-use Rattle.op_serving.specs.Losses.{most_marks, mark_at, noted, stopped_if, marked, lost_by, lost_one, is_due, settle, settled, size, IsCalm, Foretells, Grew, Stays}
+use Rattle.op_serving.specs.State.{Loop, find, is_open, is_overfull, kind_at, left_by, next, counted, shed}
+use Rattle.op_serving.specs.Losses.{most_marks, mark_at, noted, stopped_if, marked, lost_by, lost_one, is_here, is_due, is_open_one, settle, settled, size, IsCalm, Foretells, Grew, KeepsKinds, Stays}
 use Rattle.op_serving.specs.declared.wanted.Wanted.{Wanted}
-use Rattle.op_serving.specs.Handing.{said_of_denial, said_at_once, told_all, asked, keys_that_wait, proposed, excused, handed_out}
-use Rattle.op_serving.specs.Inputs.{Deed, State, Luck, asked_by, kept, calm, loop_after, next_fate, entered_with, enter, leaves, first_down, drained_in, drained, rest}
+use Rattle.op_serving.specs.Handing.{said_of_denial, said_at_once, told_all, asked, is_read, keys_that_wait, proposed, excused, handed_out}
+use Rattle.op_serving.specs.Inputs.{Deed, State, Luck, asked_by, kept, calm, loop_after, next_fate, entered_with, enter, leaves, first_down, shedding, drained_in, drained, rest}
 use Rattle.op_serving.specs.Fates.{Fate, done, finds, faults, damaged, lost}
-use Rattle.op_driver.specs.Driver.{Served, Stores, with_deeds, Knows, Acts, FromCalm, Does, Enters, Gives, Drained, Loses}
-use Rattle.op_queues.proofs.Settling.{Blind, found_lost, kinds_then, gone, grew_trans, grew_still, foretold, lost_first, lost_grew, left_lost, left_place}
+use Rattle.op_driver.specs.Driver.{Served, Stores, with_deeds, IsShed, IsDrained, Knows, Acts, FromCalm, Does, Enters, Gives, Drained, Loses}
+use Rattle.op_queues.proofs.Settling.{Blind, settled_before, found_lost, kinds_then, gone, grew_trans, grew_still, foretold, lost_first, lost_grew, left_lost, left_place}
 use Rattle.op_queues.proofs.Sending.{blind_told_all, blind_handed}
 use Rattle.op_queues.proofs.Asking.{blind_asked}
 use Rattle.op_queues.proofs.Sizes.{size_settle, size_loop_after}
-use Rattle.op_driver.proofs.Calm.{calm_same, calm_past, calm_settled}
-use Rattle.op_driver.proofs.Stepping.{untouched, went_then, went_none, went_from}
+use Rattle.op_queues.proofs.Shedding.{Sheds, sheds, size_shed, shed_closed, thin_shed, shed_thin}
+use Rattle.op_driver.proofs.Calm.{no_right, calm_before, calm_same, calm_past, calm_settled}
+use Rattle.op_driver.proofs.Stepping.{untouched, went_then, went_none, went_still, went_from}
 use Rattle.op_driver.proofs.Entering.{kept_both}
+
+pub no_items : {X : Type 0} (xs : List X) → length xs ≤ 0 → xs ≡ []
+no_items [] h = refl
+no_items (x ∷ xs) h = absurd (omega (arith, h))
 
 -- ---- an input ends no session twice
 
@@ -42,48 +47,100 @@ popped qs s = record s { loop = record s.loop { downs = qs } }
 size_down : (l : Luck) (s : State) (q : ℕ) (qs : List ℕ) → s.loop.downs ≡ q ∷ qs → size (enter l [] (input.Down q) (popped qs s)).loop + 1 ≤ size s.loop
 size_down l s q qs e = omega (arith, size_enter l [] (input.Down q) (popped qs s), ap length e)
 
--- ---- Downs are given until none is left, however often one looks
+-- ---- sessions end, and Downs are given, until none is left, however often one looks
 
-none_given : (k : ℕ) (l : Luck) (s : State) → s.loop.downs ≡ [] → drained_in k l s ≡ s
-none_given zero l s e = refl
-none_given (suc k) l s e = ap (λ d. drained_in k l (first_down l d s)) e ∙ none_given k l s e
+-- in a loop without sessions none is lost
+none_open : (o : Option ℕ) (s : Loop) → s.sessions ≡ [] → is_open_one o s ≡ false
+none_open None s e = refl
+none_open (Some c) s e = ap (λ t. is_some (find c t)) e
+
+settle_closed : (ms : List Mark) (s : Loop) → s.sessions ≡ [] → settle ms s ≡ s
+settle_closed [] s e = refl
+settle_closed (m ∷ ms) s e =
+    let not_due : is_due m s ≡ false = no_right (nat_lt (length s.lost) most_marks) _ (no_right (is_here s.place m) _ (none_open m.conn s e)) in
+    rw not_due refl
+
+-- none is overfull behind a loss
+pub shed_one : (o : Option ℕ) (s : Loop) → IsShed s → IsShed (lost_one o s)
+shed_one None s h = h
+shed_one (Some d) s h = λ c. elim (found_lost c d s) [ inl e ↦ ap is_overfull e ∙ h c | inr e ↦ ap is_overfull e ]
+
+shed_settle : (ms : List Mark) (s : Loop) → IsShed s → IsShed (settle ms s)
+shed_settle [] s h = h
+shed_settle (m ∷ ms) s h = elim (cases_Bool (is_due m s)) [
+  | inl e ↦ rw e (shed_settle ms (lost_one m.conn s) (shed_one m.conn s h))
+  | inr e ↦ rw e h
+]
+
+blind_same : Blind (λ (s : Loop). s)
+blind_same = record { lost = λ s. refl; place = λ s. refl; opens = λ c s. refl; past = λ c s. refl }
+
+-- what was lost here is lost once
+calm_twice : (l : Luck) (s : State) → calm l (calm l s) ≡ calm l s
+calm_twice l s = ap (λ x. record s { loop = x }) (settled_before (λ (x : Loop). x) blind_same l.marks s.loop)
+
+shedding_shed : (l : Luck) (s : State) → IsShed (shedding l s).loop
+shedding_shed l s = shed_settle (drop (length (shed s.loop).lost) l.marks) (shed s.loop) (λ c. thin_shed c s.loop)
+
+-- where nothing is to end and no session is lost, nothing is done
+shedding_still : (l : Luck) (s : State) → IsShed s.loop → calm l s ≡ s → shedding l s ≡ s
+shedding_still l s h e = ap (λ x. calm l (record s { loop = x })) (shed_thin s.loop h) ∙ e
+
+shedding_twice : (l : Luck) (s : State) → shedding l (shedding l s) ≡ shedding l s
+shedding_twice l s = shedding_still l (shedding l s) (shedding_shed l s) (calm_twice l (record s { loop = shed s.loop }))
+
+size_shedding : (l : Luck) (s : State) → size (shedding l s).loop ≤ size s.loop
+size_shedding l s = omega (arith, size_settle (drop (length (shed s.loop).lost) l.marks) (shed s.loop), size_shed s.loop)
+
+none_given : (k : ℕ) (l : Luck) (s : State) → s.loop.downs ≡ [] → shedding l s ≡ s → drained_in k l s ≡ s
+none_given zero l s e h = refl
+none_given (suc k) l s e h = ap (λ (t : State). drained_in k l (first_down l t.loop.downs t)) h ∙ ap (λ d. drained_in k l (first_down l d s)) e ∙ none_given k l s e h
+
+-- without sessions and Downs nothing is done
+nothing_left : (k : ℕ) (l : Luck) (s : State) → size s.loop ≤ 0 → drained_in k l s ≡ s
+nothing_left k l s h =
+    let closed : s.loop.sessions ≡ [] = no_items s.loop.sessions (omega (arith, h)) in
+    none_given k l s (no_items s.loop.downs (omega (arith, h))) (shedding_still l s (λ c. ap (λ t. is_overfull (find c t)) closed) (ap (λ x. record s { loop = x }) (settle_closed (drop (length s.loop.lost) l.marks) s.loop closed)))
 
 -- so many looks are enough as there are Downs and sessions
-enough_at : (j k : ℕ) (l : Luck) (s : State) (ds : List ℕ) → s.loop.downs ≡ ds → size s.loop ≤ j → size s.loop ≤ k → drained_in j l s ≡ drained_in k l s
-enough_at j k l s [] e h g = none_given j l s e ∙ sym (none_given k l s e)
-enough_at zero k l s (q ∷ qs) e h g = absurd (omega (arith, ap length e))
-enough_at (suc j) zero l s (q ∷ qs) e h g = absurd (omega (arith, ap length e))
-enough_at (suc j) (suc k) l s (q ∷ qs) e h g =
-    let t : State = enter l [] (input.Down q) (popped qs s) in
-    let less : size t.loop + 1 ≤ size s.loop = size_down l s q qs e in
-    ap (λ d. drained_in j l (first_down l d s)) e ∙ enough_at j k l t t.loop.downs refl (omega (arith, less, h)) (omega (arith, less, g)) ∙ sym (ap (λ d. drained_in k l (first_down l d s)) e)
+enough_at : (j k : ℕ) (l : Luck) (s t : State) (ds : List ℕ) → shedding l s ≡ t → t.loop.downs ≡ ds → size s.loop ≤ j → size s.loop ≤ k → drained_in j l s ≡ drained_in k l s
+enough_at zero k l s t ds is e h g = sym (nothing_left k l s h)
+enough_at (suc j) zero l s t ds is e h g = nothing_left (suc j) l s g
+enough_at (suc j) (suc k) l s t [] is e h g =
+    let still : shedding l t ≡ t = ap (shedding l) (sym is) ∙ shedding_twice l s ∙ is in
+    let one : (n : ℕ) → drained_in (suc n) l s ≡ t = λ n. ap (λ (x : State). drained_in n l (first_down l x.loop.downs x)) is ∙ ap (λ d. drained_in n l (first_down l d t)) e ∙ none_given n l t e still in
+    one j ∙ sym (one k)
+enough_at (suc j) (suc k) l s t (q ∷ qs) is e h g =
+    let u : State = enter l [] (input.Down q) (popped qs t) in
+    let less : size u.loop + 1 ≤ size s.loop = omega (arith, size_down l t q qs e, size_shedding l s, ap (λ (x : State). size x.loop) is) in
+    let one : (n : ℕ) → drained_in (suc n) l s ≡ drained_in n l u = λ n. ap (λ (x : State). drained_in n l (first_down l x.loop.downs x)) is ∙ ap (λ d. drained_in n l (first_down l d t)) e in
+    one j ∙ enough_at j k l u (shedding l u) (shedding l u).loop.downs refl refl (omega (arith, less, h)) (omega (arith, less, g)) ∙ sym (one k)
+
+enough : (j k : ℕ) (l : Luck) (s : State) → size s.loop ≤ j → size s.loop ≤ k → drained_in j l s ≡ drained_in k l s
+enough j k l s h g = enough_at j k l s (shedding l s) (shedding l s).loop.downs refl refl h g
 
 size_first : (l : Luck) (s : State) (ds : List ℕ) → s.loop.downs ≡ ds → size (first_down l ds s).loop ≤ size s.loop
 size_first l s [] e = omega arith
 size_first l s (q ∷ qs) e = omega (arith, size_down l s q qs e)
 
--- one Down, and then the others
-pub drained_more : (l : Luck) (s : State) → drained l s ≡ drained l (first_down l s.loop.downs s)
+-- one look, and then the others
+abbrev looked : Luck → State → State
+looked l s = first_down l s.loop.downs s
+
+drained_more : (l : Luck) (s : State) → drained l s ≡ drained l (looked l (shedding l s))
 unfolding drained
 drained_more l s =
-    let t : State = first_down l s.loop.downs s in
-    enough_at (size s.loop) (suc (size s.loop)) l s s.loop.downs refl (omega arith) (omega arith) ∙ enough_at (size s.loop) (size t.loop) l t t.loop.downs refl (size_first l s s.loop.downs refl) (omega arith)
+    let t : State = shedding l s in
+    let u : State = looked l t in
+    enough (size s.loop) (suc (size s.loop)) l s (omega arith) (omega arith) ∙ enough (size s.loop) (size u.loop) l u (omega (arith, size_first l t t.loop.downs refl, size_shedding l s)) (omega arith)
 
-pub drained_still : (l : Luck) (s : State) → s.loop.downs ≡ [] → drained l s ≡ s
+drained_still : (l : Luck) (s : State) → s.loop.downs ≡ [] → shedding l s ≡ s → drained l s ≡ s
 unfolding drained
-drained_still l s e = none_given (size s.loop) l s e
+drained_still l s e h = none_given (size s.loop) l s e h
 
-none_left_at : (k : ℕ) (l : Luck) (s : State) (ds : List ℕ) → s.loop.downs ≡ ds → size s.loop ≤ k → (drained_in k l s).loop.downs ≡ []
-none_left_at k l s [] e h = ap (λ (t : State). t.loop.downs) (none_given k l s e) ∙ e
-none_left_at zero l s (q ∷ qs) e h = absurd (omega (arith, ap length e))
-none_left_at (suc k) l s (q ∷ qs) e h =
-    let t : State = enter l [] (input.Down q) (popped qs s) in
-    ap (λ d. (drained_in k l (first_down l d s)).loop.downs) e ∙ none_left_at k l t t.loop.downs refl (omega (arith, size_down l s q qs e))
-
--- none is left
-pub none_left : (l : Luck) (s : State) → (drained l s).loop.downs ≡ []
-unfolding drained
-none_left l s = none_left_at (size s.loop) l s s.loop.downs refl (omega arith)
+-- sessions that are over make no difference
+drained_shedding : (l : Luck) (s : State) → drained l s ≡ drained l (shedding l s)
+drained_shedding l s = drained_more l s ∙ ap (λ t. drained l (looked l t)) (sym (shedding_twice l s)) ∙ sym (drained_more l (shedding l s))
 
 -- ---- where it comes to rest
 
@@ -94,8 +151,8 @@ pub rest_drained : (l : Luck) (s : State) → IsCalm l.marks s.loop → rest l s
 unfolding rest
 rest_drained l s h = ap (drained l) (calm_is l s h)
 
-pub rest_still : (l : Luck) (s : State) → IsCalm l.marks s.loop → s.loop.downs ≡ [] → rest l s ≡ s
-rest_still l s h none = rest_drained l s h ∙ drained_still l s none
+pub rest_still : (l : Luck) (s : State) → IsCalm l.marks s.loop → IsDrained s.loop → rest l s ≡ s
+rest_still l s h none = rest_drained l s h ∙ drained_still l s none.0 (shedding_still l s none.1 (calm_is l s h))
 
 -- ---- one after the other
 module _ {K : Type 0} where
@@ -156,10 +213,36 @@ module _ {K : Type 0} where
   with_downs qs d = record d { loop = record d.loop { downs = qs } }
 
 module _ {K : Type 0} {stores : Stores K} where
-  -- one Down
-  pub drained_one : (q : ℕ) (qs : List ℕ) (d e : Served K) → d.loop.downs ≡ q ∷ qs → Enters stores (λ l s. enter l [] (input.Down q) s) (with_downs qs d) e → Drained stores d e
+  -- sessions for which too many bytes wait end, and what is lost then is of a later place
+  shed_later : (d e : Served K) → e ≡ record d { loop = shed d.loop } → d.loop.place.inputs ≤ next d.loop.place.inputs → Grew (counted d.loop) (shed d.loop) → Drained stores d e
   unfolding rest
-  drained_one q qs d e downs does =
+  shed_later d e is up later =
+      let a : Sheds d.loop (shed d.loop) = sheds d.loop up in
+      let loop_is : e.loop ≡ shed d.loop = ap (λ (x : Served K). x.loop) is in
+      let calm_d : (marks : List Mark) → Foretells marks e.loop → IsCalm marks d.loop = λ marks f. calm_before marks d.loop e.loop (subst (λ x. Grew (counted d.loop) x) (sym loop_is) later) f in
+      record {
+        deeds = [];
+        grew = subst (λ x. Grew d.loop x) (sym loop_is) a.grew;
+        went = went_still (untouched is);
+        kinds = subst (λ x. KeepsKinds d.loop x) (sym loop_is) a.kinds;
+        calm = λ marks f c. calm_d marks f;
+        is = λ l before k.
+            ap (drained l) (calm_is l (with_deeds before d) (calm_d l.marks k.marks))
+            ∙ drained_shedding l (with_deeds before d)
+            ∙ ap (λ (x : Served K). drained l (calm l (with_deeds before x))) (sym is)
+            ∙ ap (λ b. drained l (calm l (with_deeds b e))) (sym (append-nil before));
+      }
+
+  pub drained_shed : (d e : Served K) → e ≡ record d { loop = shed d.loop } → d.loop.place.inputs ≤ next d.loop.place.inputs → Drained stores d e
+  drained_shed d e is up = elim (sheds d.loop up).moves [
+    | inl same ↦ subst (λ (x : Served K). Drained stores d x) (sym (is ∙ ap (λ x. record d { loop = x }) same)) (drained_none d)
+    | inr later ↦ shed_later d e is up later
+  ]
+
+  -- one Down
+  pub drained_one : (q : ℕ) (qs : List ℕ) (d e : Served K) → d.loop.downs ≡ q ∷ qs → IsShed d.loop → Enters stores (λ l s. enter l [] (input.Down q) s) (with_downs qs d) e → Drained stores d e
+  unfolding rest
+  drained_one q qs d e downs thin does =
       let calm_d : (marks : List Mark) → Foretells marks e.loop → IsCalm marks d.loop = λ marks f. calm_same marks d.loop (with_downs qs d).loop refl refl (λ x. refl) (does.sure marks f) in
       record {
         deeds = does.deeds;
@@ -168,14 +251,16 @@ module _ {K : Type 0} {stores : Stores K} where
         kinds = does.kinds;
         calm = λ marks f c. calm_d marks f;
         is = λ l before k.
-            ap (drained l) (calm_is l (with_deeds before d) (calm_d l.marks k.marks))
+            let calm_now : calm l (with_deeds before d) ≡ with_deeds before d = calm_is l (with_deeds before d) (calm_d l.marks k.marks) in
+            ap (drained l) calm_now
             ∙ drained_more l (with_deeds before d)
+            ∙ ap (λ t. drained l (looked l t)) (shedding_still l (with_deeds before d) thin calm_now)
             ∙ ap (λ x. drained l (first_down l x (with_deeds before d))) downs
             ∙ ap (drained l) (does.is l before k);
       }
 
   -- an input, and then the Downs
-  pub gives : (f : Luck → State → State) {d m e : Served K} → Enters stores f d m → Drained stores m e → Stays d.loop e.loop → e.loop.downs ≡ [] → Gives stores (λ l s. drained l (f l s)) d e
+  pub gives : (f : Luck → State → State) {d m e : Served K} → Enters stores f d m → Drained stores m e → Stays d.loop e.loop → IsDrained e.loop → Gives stores (λ l s. drained l (f l s)) d e
   unfolding rest
   gives f {d} {m} {e} a b stays none = record {
     deeds = a.deeds ++ b.deeds;
@@ -203,7 +288,7 @@ module _ {K : Type 0} {stores : Stores K} where
   }
 
   -- a session ends
-  pub ends : (c : ℕ) (d m e : Served K) → m ≡ record d { loop = left_by c d.loop } → Drained stores m e → e.loop.downs ≡ [] → Acts stores (λ l s. leaves l c s) d e
+  pub ends : (c : ℕ) (d m e : Served K) → m ≡ record d { loop = left_by c d.loop } → Drained stores m e → IsDrained e.loop → Acts stores (λ l s. leaves l c s) d e
   ends c d m e is b none = record {
     deeds = b.deeds;
     went = went_from (untouched is) b.went;
@@ -246,7 +331,7 @@ closed_stopped c false s e = refl
 closed_proposed : (w : Option Wanted) (o : Option Outcome) (c : ℕ) (s : Loop) → find c s.sessions ≡ None → find c (proposed w o s).sessions ≡ None
 closed_proposed None o c s e = e
 closed_proposed (Some w) o c s e =
-    closed_blind (told_all (said_at_once w o)) (blind_told_all (said_at_once w o)) c (asked (keys_that_wait w o) s) (closed_blind (asked (keys_that_wait w o)) (blind_asked (keys_that_wait w o)) c s e)
+    closed_blind (told_all (said_at_once w o)) (blind_told_all (said_at_once w o)) c (asked (is_read w) (keys_that_wait w o) s) (closed_blind (asked (is_read w) (keys_that_wait w o)) (blind_asked (is_read w) (keys_that_wait w o)) c s e)
 
 closed_excused : (w : Option Wanted) (why : Option Refusal) (c : ℕ) (s : Loop) → find c s.sessions ≡ None → find c (excused w why s).sessions ≡ None
 closed_excused None why c s e = e
@@ -265,19 +350,23 @@ closed_enter_if true l from i c s e =
     closed_settle c (drop (length t.lost) l.marks) t (closed_after (asked_by from i) i (next_fate l i s) s.node c s.loop e)
 closed_enter_if false l from i c s e = e
 
-closed_in : (k : ℕ) (l : Luck) (c : ℕ) (s : State) (ds : List ℕ) → s.loop.downs ≡ ds → find c s.loop.sessions ≡ None → find c (drained_in k l s).loop.sessions ≡ None
-closed_in zero l c s ds h e = e
-closed_in (suc k) l c s [] h e = ap (λ d. find c (drained_in k l (first_down l d s)).loop.sessions) h ∙ closed_in k l c s [] h e
-closed_in (suc k) l c s (q ∷ qs) h e =
-    let t : State = enter l [] (input.Down q) (popped qs s) in
-    ap (λ d. find c (drained_in k l (first_down l d s)).loop.sessions) h ∙ closed_in k l c t t.loop.downs refl (closed_enter_if (nat_lt (length s.loop.lost) most_marks) l [] (input.Down q) c (popped qs s) e)
+closed_shedding : (l : Luck) (c : ℕ) (s : State) → find c s.loop.sessions ≡ None → find c (shedding l s).loop.sessions ≡ None
+closed_shedding l c s e = closed_settle c (drop (length (shed s.loop).lost) l.marks) (shed s.loop) (shed_closed c s.loop e)
+
+closed_first : (l : Luck) (c : ℕ) (s : State) (ds : List ℕ) → find c s.loop.sessions ≡ None → find c (first_down l ds s).loop.sessions ≡ None
+closed_first l c s [] e = e
+closed_first l c s (q ∷ qs) e = closed_enter_if (nat_lt (length s.loop.lost) most_marks) l [] (input.Down q) c (popped qs s) e
+
+closed_in : (k : ℕ) (l : Luck) (c : ℕ) (s : State) → find c s.loop.sessions ≡ None → find c (drained_in k l s).loop.sessions ≡ None
+closed_in zero l c s e = e
+closed_in (suc k) l c s e = let t : State = shedding l s in closed_in k l c (looked l t) (closed_first l c t t.loop.downs (closed_shedding l c s e))
 
 pub closed_drained : (l : Luck) (c : ℕ) (s : State) → find c s.loop.sessions ≡ None → find c (drained l s).loop.sessions ≡ None
 unfolding drained
-closed_drained l c s e = closed_in (size s.loop) l c s s.loop.downs refl e
+closed_drained l c s e = closed_in (size s.loop) l c s e
 
 module _ {K : Type 0} {stores : Stores K} where
-  pub loses : (c : ℕ) (d m e : Served K) → is_open c d.loop ≡ true → length d.loop.lost < most_marks → m ≡ record d { loop = lost_by c d.loop } → Drained stores m e → Stays d.loop e.loop → e.loop.downs ≡ [] → Loses stores c d e
+  pub loses : (c : ℕ) (d m e : Served K) → is_open c d.loop ≡ true → length d.loop.lost < most_marks → m ≡ record d { loop = lost_by c d.loop } → Drained stores m e → Stays d.loop e.loop → IsDrained e.loop → Loses stores c d e
   unfolding rest
   loses c d m e there few is b stays none =
       let marked_is : (marks : List Mark) → Foretells marks e.loop → Foretells marks (lost_by c d.loop) = λ marks f. subst (λ (x : Served K). Foretells marks x.loop) is (foretold b.grew f) in

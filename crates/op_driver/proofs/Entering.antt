@@ -1,5 +1,5 @@
 -- An input is counted before what it gives out is queued, so that no mark of before is due behind it.
-use Rattle.std.proofs.Common.{◌≡◌, ◌<◌, ◌≤◌, ◌+◌, ◌++◌, ◌∷◌, [], ℕ, List, length, drop, map, false, not, is_some, if◌then◌else◌, nat_lt, Option, Some, None, Ok, Err, All, refl, sym, ◌∙◌, ap, subst, inl, inr, arith, append_assoc, slice_get}
+use Rattle.std.proofs.Common.{◌≡◌, ◌<◌, ◌≤◌, ◌+◌, ◌++◌, ◌∷◌, [], ℕ, List, length, drop, map, false, not, is_some, if◌then◌else◌, nat_lt, Option, Some, None, Ok, Err, All, refl, sym, ◌∙◌, ap, subst, inl, arith, append_assoc, slice_get}
 use Rattle.std.proofs.lemmas.Bool.{le-ltb, lt-ltb}
 use Rattle.std.proofs.lemmas.List.{append-nil}
 use Rattle.std.proofs.lemmas.List.Elements.{All-nil, All-cons, All-head}
@@ -18,7 +18,7 @@ use Rattle.op_serving.specs.Fates.{Fate, done, finds, faults, damaged, lost, aft
 use Rattle.op_driver.specs.Driver.{Served, Stores, with_deeds, Knows, Enters}
 use Rattle.op_serving.specs.Losses as losses
 use Rattle.op_serving.specs.Losses.{most_marks, mark_at, noted, marked, is_here, is_due, settle, settled, IsCalm, IsFrom, Foretells, Grew, KeepsKinds}
-use Rattle.op_queues.proofs.Settling.{kinds_then, marked_kinds, grew_trans, grew_still, stopped_lost, stopped_place, from_own, here_own}
+use Rattle.op_queues.proofs.Settling.{kinds_then, marked_kinds, grew_trans, grew_still, stopped_lost, stopped_place, from_own, here_own, from_counted, counted_grew}
 use Rattle.op_queues.proofs.Sending.{does_nothing}
 use Rattle.op_driver.proofs.Stepping.{steps_says, walks_says, went_none}
 use Rattle.op_driver.proofs.Calm.{no_left, not_here, went_up, later_marks, split_marks, calm_before, calm_lost, calm_full}
@@ -120,20 +120,6 @@ module _ {K : Type 0} {stores : Stores K} where
         ∙ ap (λ r. record { loop = r; node = after_fate d.node i f; deeds = before ++ deeds_of from i f d }) (ap (settled l.marks) is_out ∙ h.is l.marks k.marks)
         ∙ ap (λ n. record { loop = settled l.marks e.loop; node = n; deeds = before ++ deeds_of from i f d }) (sym comes.node);
   }
-
--- a later count is from this one
-from_counted : (s : Loop) → s.place.inputs ≤ next s.place.inputs → (m : Mark) → IsFrom (counted s).place m → IsFrom s.place m
-from_counted s up m (inl h) = inl h
-from_counted s up m (inr h) = inr (
-  h.0,
-  elim h.1 [
-    | inl g ↦ inl g
-    | inr g ↦ inr (g.0, omega (arith, up, g.1), g.2)
-  ],
-)
-
-pub counted_grew : (s : Loop) → s.place.inputs ≤ next s.place.inputs → Grew s (counted s)
-counted_grew s up = record { added = []; lost = sym (append-nil s.lost); from = All-nil (IsFrom s.place); place = from_counted s up; counts = up }
 
 module _ {K : Type 0} {stores : Stores K} where
   -- it was not lost

@@ -1,6 +1,7 @@
 -- Connections that begin, and bytes that were written.
 use Rattle.std.proofs.Common.{◌≡◌, ◌<◌, ◌≤◌, ◌-◌, ◌+◌, ◌++◌, ◌∷◌, [], ℕ, Bool, true, false, not, List, length, drop, take, Option, Some, None, is_some, option_map, arith, ◌&&◌, ◌||◌, ◌==◌, nat_lt, refl, sym, ◌∙◌, ap, subst, inl, inr, append_assoc}
-use Rattle.std.proofs.lemmas.Bool.{cases_Bool, eq-eqb}
+use Rattle.std.proofs.lemmas.Bool.{cases_Bool, eq-eqb, le-ltb, ltb-false}
+use Rattle.std.proofs.lemmas.List.{length-drop}
 use Rattle.std.proofs.Math.Seq.{drop-append_seam, drop-nil}
 use Rattle.std.specs.BTreeMap.{is_at, insert_entry}
 use Rattle.std.specs.Ordering.{nat_cmp}
@@ -9,18 +10,19 @@ use Rattle.op_serving.specs.declared.kind.Kind.{Kind}
 use Rattle.op_serving.specs.declared.kind.Kind.TheVariants.{Unknown, Peer, Client}
 use Rattle.op_serving.specs.declared.mark.Mark.{Mark}
 use Rattle.op_serving.specs.declared.session.Session.{Session}
-use Rattle.op_serving.specs.State.{Table, Loop, find, changed_at, is_open, kind_at, down_of, left_at, left_by}
+use Rattle.op_serving.specs.State.{Table, Loop, find, changed_at, is_open, is_overfull, most_waiting, kind_at, down_of, left_at, left_by}
 use Rattle.op_serving.specs.Losses.{most_marks, mark_at, noted, stopped_if, is_here, has_threat, is_open_one, lost_by, settled, IsCalm, Foretells, Grew, KeepsKinds}
 use Rattle.op_serving.specs.Inputs.{Deed, begins, takes, give}
 use Rattle.op_serving.specs.Turns.{hello_less, first_bytes, made_session, joining, joined, queue_in, without_bytes, taken_of, up_peer, up_at, wrote}
-use Rattle.op_driver.specs.Driver.{Served, Stores, with_deeds, Knows, Acts, FromCalm, Does, Gives, Rests, hello_of, hello_left}
-use Rattle.op_queues.proofs.Tables.{find_set, found_changed}
+use Rattle.op_driver.specs.Driver.{Served, Stores, with_deeds, Knows, Acts, FromCalm, Does, Gives, IsShed, IsDrained, Rests, hello_of, hello_left}
+use Rattle.op_queues.proofs.Tables.{same_or_not, find_set, find_set_apart, found_changed}
 use Rattle.op_conns.proofs.Numbers.{is_at_own}
 use Rattle.op_queues.proofs.Settling.{grew_still, grew_trans, foretold, lost_first, lost_grew, lost_lost, lost_place}
 use Rattle.op_driver.proofs.Calm.{no_right, calm_same, calm_settled}
 use Rattle.op_queues.proofs.Joining.{order_cases, find_put}
+use Rattle.op_queues.proofs.Filling.{made_thin}
 use Rattle.op_driver.proofs.Stepping.{untouched, went_beside, went_still, went_from}
-use Rattle.op_driver.proofs.Draining.{known, split_deeds, rest_still}
+use Rattle.op_driver.proofs.Draining.{known, shed_one, split_deeds, rest_still}
 
 -- ---- a table with a new entry
 
@@ -64,6 +66,18 @@ threat_less (m ∷ ms) s t l p h e =
     ap (λ x. nat_lt (length x) most_marks && (is_here s.place m && (is_some m.conn && (is_open_one m.conn t || not (s.place.at == 0))))) (sym l)
     ∙ ap (λ q. nat_lt (length t.lost) most_marks && (is_here q m && (is_some m.conn && (is_open_one m.conn t || not (q.at == 0))))) (sym p) ∙ e in
     less_open (nat_lt (length s.lost) most_marks) (is_here s.place m) (is_some m.conn) (is_open_one m.conn s) (is_open_one m.conn t) (not (s.place.at == 0)) (open_less m.conn s t h) e2
+
+-- a new entry for which no more waits
+over_put : (c n : ℕ) (x : Session) (t : Table Session) → is_overfull (Some x) ≡ false → is_overfull (find n t) ≡ false → is_overfull (find n (insert_entry nat_cmp t c x)) ≡ false
+over_put c n x [] h e = elim (cases_Bool (is_at (nat_cmp n) c)) [ inl g ↦ rw g h | inr g ↦ rw g refl ]
+over_put c n x (d ∷ t) h e = elim (order_cases (nat_cmp c d.0)) [
+  | inl o ↦ rw o (elim (cases_Bool (is_at (nat_cmp n) c)) [ inl g ↦ rw g h | inr g ↦ rw g e ])
+  | inr (inl o) ↦ rw o (elim (cases_Bool (is_at (nat_cmp n) d.0)) [ inl g ↦ rw g h | inr g ↦ rw g (rw g at e) ])
+  | inr (inr o) ↦ rw o (elim (cases_Bool (is_at (nat_cmp n) d.0)) [ inl g ↦ rw g (rw g at e) | inr g ↦ rw g (over_put c n x t h (rw g at e)) ])
+]
+
+shed_joined : (c : ℕ) (kind : Kind) (s : Loop) → IsShed s → IsShed (joining c kind s)
+shed_joined c kind s h = λ n. over_put c n (made_session kind s.me) s.sessions (le-ltb most_waiting (length (made_session kind s.me).queue) (made_thin kind s.me)) (h n)
 
 -- ---- a new connection
 
@@ -113,15 +127,25 @@ module _ {K : Type 0} {stores : Stores K} where
       }
 
 module _ {K : Type 0} where
-  pub joins_lost_rests : (c : ℕ) (kind : Kind) (d e : Served K) → is_open c d.loop ≡ false → down_of kind ≡ [] → d.loop.downs ≡ [] → e ≡ record d { loop = lost_by c (joining c kind d.loop) } → Rests d.loop e.loop
+  pub joins_lost_rests : (c : ℕ) (kind : Kind) (d e : Served K) → is_open c d.loop ≡ false → down_of kind ≡ [] → IsDrained d.loop → e ≡ record d { loop = lost_by c (joining c kind d.loop) } → Rests d.loop e.loop
   joins_lost_rests c kind d e new down none is =
       let j : Loop = joining c kind d.loop in
       let place : e.loop.place ≡ d.loop.place = ap (λ (x : Served K). x.loop.place) is ∙ lost_place c j in
       record {
         turn = ap (λ p. p.turn) place;
         at = ap (λ p. p.at) place;
-        none = ap (λ (x : Served K). x.loop.downs) is ∙ down_new c kind (nat_lt (length d.loop.lost + 1) most_marks) (noted (mark_at d.loop.place (Some c)) d.loop) new down none;
+        none = (
+          ap (λ (x : Served K). x.loop.downs) is ∙ down_new c kind (nat_lt (length d.loop.lost + 1) most_marks) (noted (mark_at d.loop.place (Some c)) d.loop) new down none.0,
+          subst (λ (x : Served K). IsShed x.loop) (sym is) (shed_one (Some c) j (shed_joined c kind d.loop none.1)),
+        );
       }
+
+  pub joins_rests : (c : ℕ) (kind : Kind) (d e : Served K) → IsDrained d.loop → e ≡ joined_of c kind d → Rests d.loop e.loop
+  joins_rests c kind d e none is = record {
+    turn = ap (λ (x : Served K). x.loop.place.turn) is;
+    at = ap (λ (x : Served K). x.loop.place.at) is;
+    none = (ap (λ (x : Served K). x.loop.downs) is ∙ none.0, subst (λ (x : Served K). IsShed x.loop) (sym is) (shed_joined c kind d.loop none.1));
+  }
 
   -- among the dials its mark says nothing of the sessions before it
   pub joins_lost_calm : (c : ℕ) (kind : Kind) (d e : Served K) → is_open c d.loop ≡ false → d.loop.place.at ≡ 0 → e ≡ record d { loop = lost_by c (joining c kind d.loop) } → FromCalm d e
@@ -185,6 +209,29 @@ found_took c n t (Some x) e = find_set c (without_bytes n x) x t e
 
 found_taken : (c n : ℕ) (s : Loop) → find c (taken_of c n s).sessions ≡ option_map (without_bytes n) (find c s.sessions)
 found_taken c n s = found_took c n s.sessions (find c s.sessions) refl
+
+-- less waits than before
+over_less : (n : ℕ) (o : Option Session) → is_overfull o ≡ false → is_overfull (option_map (without_bytes n) o) ≡ false
+over_less n None e = refl
+over_less n (Some x) e = le-ltb most_waiting (length (drop n x.queue)) (omega (arith, length-drop n x.queue, ltb-false most_waiting (length x.queue) e))
+
+over_taken : (c k n : ℕ) (s : Loop) → is_overfull (find k s.sessions) ≡ false → is_overfull (find k (taken_of c n s).sessions) ≡ false
+over_taken c k n s e = elim (same_or_not c k) [
+  | inl is ↦ ap (λ i. is_overfull (find i (taken_of c n s).sessions)) (sym is) ∙ ap is_overfull (found_taken c n s) ∙ over_less n (find c s.sessions) (ap (λ i. is_overfull (find i s.sessions)) is ∙ e)
+  | inr apart ↦ ap is_overfull (found_other c k n s apart (find c s.sessions)) ∙ e
+]
+  where
+    found_other : (c k n : ℕ) (s : Loop) → (c ≡ k → ⊥) → (o : Option Session) → find k (changed_at (without_bytes n) c o s.sessions) ≡ find k s.sessions
+    found_other c k n s apart None = refl
+    found_other c k n s apart (Some x) = find_set_apart c k (without_bytes n x) s.sessions apart
+
+module _ {K : Type 0} where
+  pub wrote_rests : (c n : ℕ) (d m : Served K) → IsDrained d.loop → m ≡ record d { loop = taken_of c n d.loop } → Rests d.loop m.loop
+  wrote_rests c n d m none is = record {
+    turn = ap (λ (x : Served K). x.loop.place.turn) is;
+    at = ap (λ (x : Served K). x.loop.place.at) is;
+    none = (ap (λ (x : Served K). x.loop.downs) is ∙ none.0, subst (λ (x : Served K). IsShed x.loop) (sym is) (λ k. over_taken c k n d.loop (none.1 k)));
+  }
 
 abbrev kind_in : Option Session → Option Kind
 kind_in o = option_map (λ x. x.kind) o

@@ -1,17 +1,17 @@
 -- What the driver does with what stands at the front of a session.
-use Rattle.std.specs.Prelude.{◌≡◌, ◌≤◌, ◌+◌, ◌++◌, ◌⊎◌, if◌then◌else◌, [], ℕ, List, Option, Some, None, Result}
+use Rattle.std.specs.Prelude.{◌≡◌, ◌≤◌, ◌+◌, ◌++◌, ◌⊎◌, if◌then◌else◌, [], ℕ, List, false, Option, Some, None, Result}
 use Rattle.std.specs.declared.alloc.AllocError.{AllocError}
 use Rattle.op_queues.specs.declared.front.Front.{Front}
 use Rattle.op_serving.specs.declared.hearing.Heard.{Heard}
 use Rattle.op_serving.specs.Cores.{Standing}
-use Rattle.op_serving.specs.State.{find, session_of}
+use Rattle.op_serving.specs.State.{Loop, find, is_open, session_of}
 use Rattle.op_serving.specs.Losses.{IsCalm, Grew, Stays}
 use Rattle.op_serving.specs.Inputs.{State, Deed, Luck, behind, over, rest}
 use Rattle.op_serving.specs.Reading.{on_frame, on_heard, counted_if, is_peer, met, replaced, dealt_at, dealt}
 use Rattle.op_types.specs.declared.log.Command.{Command}
 use Rattle.op_queues.specs.Hearing.{TakesAt}
 use Rattle.op_queues.specs.Gathering.{Gathers}
-use Rattle.op_driver.specs.Driver.{Served, with_deeds, Knows, FromCalm, Sure, Stores, Went, Does, Loses, Rests}
+use Rattle.op_driver.specs.Driver.{Served, with_deeds, Knows, FromCalm, Sure, Stores, Went, Does, Loses, IsShed, Rests}
 use Rattle.op_command.specs.declared.said.Said.{Said}
 use Rattle.op_serving.specs.Handing.{told, no_command}
 
@@ -37,18 +37,22 @@ module _ {K : Type 0} where
     pub node : e.node ≡ d.node
     pub core : e.core ≡ d.core
 
+-- no Down is to be given, and where a session is over, nothing is to end
+abbrev pub DrainsAt : ℕ → Loop → Type 0
+DrainsAt c s = (s.downs ≡ []) × (is_open c s ≡ false → IsShed s)
+
 module _ {K : Type 0} (stores : Stores K) where
   -- what a frame says was dealt with by itself
   pub record HandlesAlone (line : Standing → List ℕ) (c : ℕ) (heard : Heard) (d e : Served K) : Type 0 where
     pub does : Does stores (λ l s. on_frame l line c heard s) d e
     pub stays : Stays d.loop e.loop
-    pub none : e.loop.downs ≡ []
+    pub none : DrainsAt c e.loop
 
   -- what a frame says was dealt with
   pub record Handles (line : Standing → List ℕ) (c : ℕ) (heard : Heard) (d e : Served K) : Type 0 where
     pub does : Does stores (λ l s. on_heard l line c heard s) d e
     pub stays : Stays d.loop e.loop
-    pub none : e.loop.downs ≡ []
+    pub none : DrainsAt c e.loop
 
 -- one thing was done for what stands at the front, and then comes more, so many frames of this read behind it
 abbrev pub Next : Type 0

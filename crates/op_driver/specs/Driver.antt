@@ -1,10 +1,10 @@
 -- What the driver is to its caller, and what it does whatever was done before and is lost behind.
-use Rattle.std.specs.Prelude.{◌≡◌, ◌<◌, ◌++◌, [], ℕ, List, length, true, Option, None, Some}
+use Rattle.std.specs.Prelude.{◌≡◌, ◌<◌, ◌++◌, [], ℕ, List, length, true, false, Option, None, Some}
 use Rattle.op_serving.specs.declared.mark.Mark.{Mark}
 use Rattle.op_serving.specs.declared.kind.Kind.{Kind}
 use Rattle.op_serving.specs.Counts.{hello_in}
 use Rattle.op_serving.specs.Cores.{Standing}
-use Rattle.op_serving.specs.State.{Loop, find, is_open, kind_at}
+use Rattle.op_serving.specs.State.{Loop, find, is_open, is_overfull, kind_at}
 use Rattle.op_serving.specs.Losses.{most_marks, lost_by, IsCalm, Foretells, Grew, KeepsKinds, Stays}
 use Rattle.op_types.specs.declared.events.Input.{Input}
 use Rattle.op_serving.specs.Inputs.{State, Deed, Luck, kept, calm, rest}
@@ -25,6 +25,14 @@ module _ {K : Type 0} where
   -- its connections that were to be closed are closed
   abbrev pub emptied : Served K → Served K
   emptied d = record d { loop = record d.loop { closes = [] } }
+
+-- for no session more bytes wait than may
+abbrev pub IsShed : Loop → Type 0
+IsShed s = (c : ℕ) → is_overfull (find c s.sessions) ≡ false
+
+-- nor is a Down to be given
+abbrev pub IsDrained : Loop → Type 0
+IsDrained s = (s.downs ≡ []) × IsShed s
 
 -- what comes of inputs is known beforehand
 pub record Knows (l : Luck) (s : State) : Type 0 where
@@ -82,11 +90,11 @@ module _ {K : Type 0} (stores : Stores K) where
     pub kinds : KeepsKinds d.loop e.loop
     pub sure : Sure d e
     pub stays : Stays d.loop e.loop
-    pub none : e.loop.downs ≡ []
+    pub none : IsDrained e.loop
     pub is : (l : Luck) (before : List Deed) → Knows l (with_deeds (before ++ deeds) e)
         → f l (with_deeds before d) ≡ rest l (with_deeds (before ++ deeds) e)
 
-  -- Downs were given, and it comes to rest where it did
+  -- sessions ended and Downs were given, and it comes to rest where it did
   pub record Drained (d e : Served K) : Type 0 where
     pub deeds : List Deed
     pub grew : Grew d.loop e.loop
@@ -104,18 +112,18 @@ module _ {K : Type 0} (stores : Stores K) where
     pub grew : Grew d.loop e.loop
     pub went : Went d deeds e
     pub stays : Stays d.loop e.loop
-    pub none : e.loop.downs ≡ []
+    pub none : IsDrained e.loop
     pub marked : (marks : List Mark) → Foretells marks e.loop → Foretells marks (lost_by c d.loop)
     pub closed : (l : Luck) (before : List Deed) → Knows l (with_deeds (before ++ deeds) e)
         → find c (rest l (with_deeds before d)).loop.sessions ≡ None
     pub is : (l : Luck) (before : List Deed) → Knows l (with_deeds (before ++ deeds) e)
         → rest l (with_deeds before d) ≡ rest l (with_deeds (before ++ deeds) e)
 
--- a call is over: it is the same turn and happening, and no Down is left
+-- a call is over: it is the same turn and happening, and nothing is left to be given or to end
 pub record Rests (s t : Loop) : Type 0 where
   pub turn : t.place.turn ≡ s.place.turn
   pub at : t.place.at ≡ s.place.at
-  pub none : t.downs ≡ []
+  pub none : IsDrained t
 
 -- how much of the own hello is still to be written to a connection, by its session's kind
 abbrev pub hello_of : Option Kind → ℕ
@@ -125,8 +133,8 @@ hello_of (Some kind) = hello_in kind
 abbrev pub hello_left : ℕ → Loop → ℕ
 hello_left c s = hello_of (kind_at c s)
 
--- nothing is to be closed, no Down is to be given, and serving goes on
+-- nothing is to be closed, to be given or to end, and serving goes on
 pub record IsIdle (s : Loop) : Type 0 where
   pub closes : s.closes ≡ []
-  pub none : s.downs ≡ []
+  pub none : IsDrained s
   pub few : length s.lost < most_marks

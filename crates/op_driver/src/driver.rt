@@ -6,7 +6,7 @@ ghost use Rattle.op_types.specs.declared.events.Request.TheVariants as request;
 ghost use Rattle.op_command.specs.Ranges.{RequestInRange, SaidInRange};
 ghost use Rattle.op_command.specs.declared.said.Said.TheVariants.{Status};
 ghost use Rattle.op_serving.specs.declared.hearing.Heard.TheVariants.{Asks};
-ghost use Rattle.op_serving.specs.State.{down_of, find, is_open, kind_at, left_by, session_of};
+ghost use Rattle.op_serving.specs.State.{down_of, find, is_open, kind_at, left_by, next, session_of, shed};
 ghost use Rattle.op_serving.specs.Ranges.{InputInRange, GivenInRange, KindInRange, WantedInRange};
 ghost use Rattle.op_serving.specs.Losses.{most_marks, lost_by, settled, size, Stays, Does as SessionsDo};
 ghost use Rattle.op_serving.specs.Counts.{hello_in, most_inputs};
@@ -16,7 +16,7 @@ ghost use Rattle.op_serving.specs.Reading.{feeds, frames_at, held_in, is_peer, j
 ghost use Rattle.op_serving.specs.Turns.{happens_at, joined, joining, queue_in, taken_of, ticked, turn_begins, waiting_from, wrote};
 ghost use Rattle.op_queues.specs.Hearing.{FoundInRange, HeardInRange, least_taken};
 ghost use Rattle.op_queues.specs.Gathering.{RunInRange};
-ghost use Rattle.op_driver.specs.Driver.{Acts, Does, FromCalm, Drained, Enters, Gives, IsIdle, Loses, Rests, hello_left};
+ghost use Rattle.op_driver.specs.Driver.{Acts, Does, FromCalm, Drained, Enters, Gives, IsIdle, Loses, Rests, IsDrained, IsShed, hello_left};
 ghost use Rattle.op_driver.specs.Dealing.{Deals, DealsAll, GathersOn, Handles, HandlesAlone, TakesOn, Taken, framed, greeted, makes_way, tells_now};
 
 use op_command::Said;
@@ -136,7 +136,7 @@ impl<K: Core> Driver<K> {
 
     /// The commands that were gathered are given as one input.
     pub fn flush(&mut self)
-        requires { self.old.loop.downs ≡ [] }
+        requires { IsDrained self.old.loop }
         ensures does { Does K.stores (λ l s. flushed l s) self.old self.new }
         ensures rests { Rests self.old.loop self.new.loop }
         ensures frames { self.new.loop.place.frames ≡ self.old.loop.place.frames }
@@ -150,7 +150,7 @@ impl<K: Core> Driver<K> {
     /// A session ends, behind the commands that were gathered, and its peer goes down.
     pub fn end(&mut self, conn: Conn)
         requires at { self.old.loop.place.at ≢ 0 }
-        requires none { self.old.loop.downs ≡ [] }
+        requires none { IsDrained self.old.loop }
         ensures does { Does K.stores (λ l s. over l conn s) self.old self.new }
         ensures rests { Rests self.old.loop self.new.loop }
         ensures frames { self.new.loop.place.frames ≡ self.old.loop.place.frames }
@@ -170,7 +170,7 @@ impl<K: Core> Driver<K> {
         ensures acts { Acts K.stores (λ l s. joined l conn kind s) self.old self.new }
         ensures calm { self.old.loop.place.at ≡ 0 → FromCalm self.old self.new }
         ensures rests { Rests self.old.loop self.new.loop }
-        ensures most { most_inputs self.new.loop ≤ most_inputs self.old.loop + 1 + hello_in kind }
+        ensures most { most_inputs self.new.loop ≤ most_inputs self.old.loop + 2 + hello_in kind }
         ensures core { self.new.core ≡ self.old.core }
     {
         match self.admit(conn, kind) {
@@ -218,7 +218,7 @@ impl<K: Core> Driver<K> {
     /// peer goes up.
     pub fn wrote(&mut self, conn: Conn, n: usize)
         requires taken { n ≤ length (queue_in (find conn self.old.loop.sessions)) }
-        requires none { self.old.loop.downs ≡ [] }
+        requires none { IsDrained self.old.loop }
         ensures does { Does K.stores (λ l s. wrote l conn n s) self.old self.new }
         ensures hello { hello_left conn self.new.loop ≤ hello_left conn self.old.loop - n }
         ensures pours { hello_left conn self.old.loop ≡ 0 → queue_in (find conn self.new.loop.sessions)
@@ -240,7 +240,7 @@ impl<K: Core> Driver<K> {
         requires open { is_open conn self.old.loop ≡ true }
         requires at { self.old.loop.place.at ≢ 0 }
         requires frames { self.old.loop.place.frames ≡ 0 }
-        requires none { self.old.loop.downs ≡ [] }
+        requires none { IsDrained self.old.loop }
         ensures acts { Acts K.stores (λ l s. read l K.line conn bytes.now s) self.old self.new }
         ensures rests { Rests self.old.loop self.new.loop }
         ensures most { most_inputs self.new.loop ≤ most_inputs self.old.loop + length bytes.now }
@@ -275,7 +275,7 @@ impl<K: Core> Driver<K> {
         requires { self.old.loop.place.at ≢ 0 }
         ensures does { Does K.stores (λ l s. leaves l conn s) self.old self.new }
         ensures stays { Stays self.old.loop self.new.loop }
-        ensures none { self.new.loop.downs ≡ [] }
+        ensures none { IsDrained self.new.loop }
         ensures most { most_inputs self.new.loop ≤ most_inputs self.old.loop }
     {
         self.take_out(conn);
@@ -374,7 +374,7 @@ impl<K: Core> Driver<K> {
     fn deal_all(&mut self, conn: Conn, most: usize)
         requires at { self.old.loop.place.at ≢ 0 }
         requires frames { self.old.loop.place.frames ≡ 0 }
-        requires none { self.old.loop.downs ≡ [] }
+        requires none { IsDrained self.old.loop }
         ensures deals { DealsAll K.stores K.line conn most self.old self.new }
         ensures most { most_inputs self.new.loop ≤ most_inputs self.old.loop }
     {
@@ -403,7 +403,7 @@ impl<K: Core> Driver<K> {
     fn deal_front(&mut self, conn: Conn, frames: u64) -> Option<u64>
         requires at { self.old.loop.place.at ≢ 0 }
         requires frames { self.old.loop.place.frames ≡ frames }
-        requires none { self.old.loop.downs ≡ [] }
+        requires none { IsDrained self.old.loop }
         requires room { frames < u64.MAX }
         ensures deals { Deals K.stores K.line conn frames result self.old self.new }
         ensures most { most_inputs self.new.loop ≤ most_inputs self.old.loop }
@@ -428,7 +428,7 @@ impl<K: Core> Driver<K> {
     fn greet(&mut self, conn: Conn, peer: Pid, frames: u64) -> Option<u64>
         requires at { self.old.loop.place.at ≢ 0 }
         requires frames { self.old.loop.place.frames ≡ frames }
-        requires none { self.old.loop.downs ≡ [] }
+        requires none { IsDrained self.old.loop }
         ensures taken { Taken K.stores (greeted K.line conn peer frames) conn frames result
             self.old self.new }
         ensures most { most_inputs self.new.loop ≤ most_inputs self.old.loop + 1 }
@@ -449,10 +449,10 @@ impl<K: Core> Driver<K> {
     /// What was gathered is given, and then the earlier session of a peer ends, if this connection still has one.
     fn make_way(&mut self, conn: Conn, peer: Pid)
         requires at { self.old.loop.place.at ≢ 0 }
-        requires none { self.old.loop.downs ≡ [] }
+        requires none { IsDrained self.old.loop }
         ensures does { Does K.stores (λ l s. makes_way l conn peer s) self.old self.new }
         ensures stays { Stays self.old.loop self.new.loop }
-        ensures none { self.new.loop.downs ≡ [] }
+        ensures none { IsDrained self.new.loop }
         ensures most { most_inputs self.new.loop ≤ most_inputs self.old.loop }
     {
         self.flush();
@@ -464,10 +464,10 @@ impl<K: Core> Driver<K> {
     /// The session of a peer ends, if it has one.
     fn replace(&mut self, peer: Pid)
         requires at { self.old.loop.place.at ≢ 0 }
-        requires none { self.old.loop.downs ≡ [] }
+        requires none { IsDrained self.old.loop }
         ensures does { Does K.stores (λ l s. replaced l (session_of peer self.old.loop) s) self.old self.new }
         ensures stays { Stays self.old.loop self.new.loop }
-        ensures none { self.new.loop.downs ≡ [] }
+        ensures none { IsDrained self.new.loop }
         ensures most { most_inputs self.new.loop ≤ most_inputs self.old.loop }
     {
         if let Some(earlier) = self.session_of(peer) {
@@ -496,16 +496,19 @@ impl<K: Core> Driver<K> {
         requires open { is_open conn self.old.loop ≡ true }
         requires at { self.old.loop.place.at ≢ 0 }
         requires frames { self.old.loop.place.frames ≡ frames }
-        requires none { self.old.loop.downs ≡ [] }
+        requires none { IsDrained self.old.loop }
         requires range { HeardInRange heard × (frames < u64.MAX) }
         ensures taken { Taken K.stores (framed K.line conn heard frames) conn frames result
             self.old self.new }
         ensures most { most_inputs self.new.loop ≤ most_inputs self.old.loop + 1 }
     {
         match self.hear(conn, heard) {
-            Ok(()) => self.count_frame(conn, frames),
-            Err(_) => None,
+            Ok(()) => {}
+            Err(_) => return None,
         }
+        let counted = self.count_frame(conn, frames)?;
+        self.drain();
+        Some(counted)
     }
 
     /// One more frame of this read was dealt with, if its session is still there.
@@ -535,7 +538,7 @@ impl<K: Core> Driver<K> {
     fn hear(&mut self, conn: Conn, heard: Heard) -> Result<(), NoMemory>
         requires open { is_open conn self.old.loop ≡ true }
         requires at { self.old.loop.place.at ≢ 0 }
-        requires none { self.old.loop.downs ≡ [] }
+        requires none { IsDrained self.old.loop }
         requires range { HeardInRange heard }
         ensures ok { OnOk result (Handles K.stores K.line conn heard self.old self.new) }
         ensures err { OnErr result (Loses K.stores conn self.old self.new) }
@@ -568,7 +571,7 @@ impl<K: Core> Driver<K> {
     fn hear_alone(&mut self, conn: Conn, heard: Heard) -> Result<(), NoMemory>
         requires open { is_open conn self.old.loop ≡ true }
         requires at { self.old.loop.place.at ≢ 0 }
-        requires none { self.old.loop.downs ≡ [] }
+        requires none { IsDrained self.old.loop }
         requires range { HeardInRange heard }
         ensures ok { OnOk result (HandlesAlone K.stores K.line conn heard self.old self.new) }
         ensures err { OnErr result (Loses K.stores conn self.old self.new) }
@@ -592,7 +595,7 @@ impl<K: Core> Driver<K> {
     /// What a client asks.
     fn ask(&mut self, conn: Conn, request: Request) -> Result<(), NoMemory>
         requires open { is_open conn self.old.loop ≡ true }
-        requires none { self.old.loop.downs ≡ [] }
+        requires none { IsDrained self.old.loop }
         requires range { RequestInRange request }
         ensures ok { OnOk result (HandlesAlone K.stores K.line conn (Asks request) self.old self.new) }
         ensures err { OnErr result (Loses K.stores conn self.old self.new) }
@@ -606,6 +609,10 @@ impl<K: Core> Driver<K> {
             }
             Request::Trim => {
                 self.give(&[conn], Input::TrimNow);
+                Ok(())
+            }
+            Request::Read(read) => {
+                self.give(&[conn], Input::Read(read));
                 Ok(())
             }
             Request::Status => self.tell_status(conn),
@@ -627,7 +634,7 @@ impl<K: Core> Driver<K> {
     /// A client's command is gathered; the most that one input may have are given at once.
     fn propose(&mut self, conn: Conn, command: Command) -> Result<(), NoMemory>
         requires open { is_open conn self.old.loop ≡ true }
-        requires none { self.old.loop.downs ≡ [] }
+        requires none { IsDrained self.old.loop }
         requires range { CommandInRange command }
         ensures ok { OnOk result
             (HandlesAlone K.stores K.line conn (Asks (request.Command command)) self.old self.new) }
@@ -691,16 +698,38 @@ impl<K: Core> Driver<K> {
         }
     }
 
-    /// Gives the Downs of the sessions that are over, until none is left.
+    /// Ends the sessions for which more bytes wait than may, and gives the Downs of those that are over, until none
+    /// is left.
     fn drain(&mut self)
         ensures drained { Drained K.stores self.old self.new }
         ensures stays { Stays self.old.loop self.new.loop }
-        ensures none { self.new.loop.downs ≡ [] }
+        ensures none { IsDrained self.new.loop }
         ensures most { most_inputs self.new.loop ≤ most_inputs self.old.loop }
     {
+        self.shed();
         'downs: while let Some(peer) = self.next_down() {
             self.enter(&[], Input::Down(peer));
+            self.shed();
         }
+    }
+
+    /// Ends the sessions for which more bytes wait than may, but for their Downs.
+    fn shed(&mut self)
+        ensures drained { Drained K.stores self.old self.new }
+        ensures stays { Stays self.old.loop self.new.loop }
+        ensures shed { IsShed self.new.loop }
+        ensures ends { size self.new.loop ≤ size self.old.loop }
+        ensures most { most_inputs self.new.loop ≤ most_inputs self.old.loop }
+    {
+        self.shed_all();
+    }
+
+    /// The same, told exactly.
+    fn shed_all(&mut self)
+        ensures is { self.new ≡ record self.old { loop = shed self.old.loop } }
+        ensures up { self.old.loop.place.inputs ≤ next self.old.loop.place.inputs }
+    {
+        self.sessions.shed();
     }
 
     /// The first peer whose Down is to be given.
@@ -755,11 +784,13 @@ fn hand_out(sessions: &mut Sessions, wanted: Option<Wanted>, given: Given)
     let Given {
         sends,
         replies,
+        read_replies,
         outcome,
     } = given;
     sessions.propose(wanted, outcome);
     sessions.send_all(&sends);
-    sessions.reply_all(replies);
+    sessions.reply_all(false, replies);
+    sessions.reply_all(true, read_replies);
 }
 
 /// Whether a frame says a command, or nothing to this node. What else it says comes behind the commands that were

@@ -113,7 +113,7 @@ state_of s n = record { loop = s; node = n; deeds = [] }
 
 knows_begins : (ps : List (ℕ × Addr)) (s : Loop) (n : Standing) → Begins (state_of s n) → Begins (state_of (knows ps s) n)
 knows_begins [] s n b = b
-knows_begins (p ∷ ps) s n b = knows_begins ps (knowing p.0 s) n (record { sessions = b.sessions; gathered = b.gathered; lost = b.lost; deeds = b.deeds })
+knows_begins (p ∷ ps) s n b = knows_begins ps (knowing p.0 s) n (record { sessions = b.sessions; askers = b.askers; gathered = b.gathered; lost = b.lost; deeds = b.deeds })
 
 knows_me : (ps : List (ℕ × Addr)) (s : Loop) → (knows ps s).me ≡ s.me
 knows_me [] s = refl
@@ -138,7 +138,7 @@ runs o line end marks n start answers made last at led = record {
     p = started o n start
 
     begin : Begins p.driver
-    begin = knows_begins o.peers (fresh n.me) n (record { sessions = refl; gathered = refl; lost = refl; deeds = refl })
+    begin = knows_begins o.peers (fresh n.me) n (record { sessions = refl; askers = refl; gathered = refl; lost = refl; deeds = refl })
 
 module _ {K : Type 0} {standing : K → Standing} {stores : Stores K} where
   pub serves : (o : Settings) (line : Standing → List ℕ) (end : ServeEnd) (marks : List Mark) (start : ℕ) (u : Timer) (d e : Served K) (net0 net1 : NetSeen) (clock0 clock1 clock2 : Option (List ℕ))
@@ -176,4 +176,4 @@ knows_idle [] s h = h
 knows_idle (p ∷ ps) s h = knows_idle ps (knowing p.0 s) (record { idle = record { closes = h.idle.closes; none = h.idle.none; few = h.idle.few }; turn = h.turn; at = h.at })
 
 pub begun_idle : (peers : List (ℕ × Addr)) (me : ℕ) (s : Loop) → s ≡ begun peers me → IsIdleAt 0 0 s
-begun_idle peers me s e = subst (λ x. IsIdleAt 0 0 x) (sym e) (knows_idle peers (fresh me) (record { idle = record { closes = refl; none = refl; few = omega arith }; turn = refl; at = refl }))
+begun_idle peers me s e = subst (λ x. IsIdleAt 0 0 x) (sym e) (knows_idle peers (fresh me) (record { idle = record { closes = refl; none = (refl, λ c. refl); few = omega arith }; turn = refl; at = refl }))

@@ -6,9 +6,9 @@ use Rattle.op_setup.specs.declared.config.Settings.{Settings}
 use Rattle.op_serving.specs.Pump.{piece_len}
 use Rattle.op_serving.specs.Reading.{hello_len}
 
--- of a connection that is dialled: its Down, and no more Ups than its hello has bytes
+-- of a connection that is dialled: its end and its Down, and no more Ups than its hello has bytes
 abbrev pub most_of_dial : ℕ
-most_of_dial = 1 + hello_len
+most_of_dial = 2 + hello_len
 
 -- of a turn: a tick, a dial of each of so many peers, and no more frames than its reads give bytes
 abbrev pub most_in_turn : ℕ → ℕ

@@ -95,7 +95,7 @@ impl<K: Core> Pump<K> {
         requires at { self.old.driver.loop.place.at ≢ 0 }
         ensures acts { Acts K.stores (λ l s. happened l happening s) self.old.driver self.new.driver }
         ensures rests { Rests self.old.driver.loop self.new.driver.loop }
-        ensures most { most_inputs self.new.driver.loop ≤ most_inputs self.old.driver.loop + 1 }
+        ensures most { most_inputs self.new.driver.loop ≤ most_inputs self.old.driver.loop + 2 }
         ensures timer { self.new.timer ≡ self.old.timer }
     {
         match happening {

@@ -2,7 +2,7 @@ ghost use Rattle.std.specs.Prelude.{◌≡◌, ◌≤◌, ◌+◌, [], OnOk};
 ghost use Rattle.op_serving.specs.Counts.{hello_in, most_inputs};
 ghost use Rattle.op_serving.specs.State.{down_of};
 ghost use Rattle.op_serving.specs.Ranges.{KindInRange};
-ghost use Rattle.op_driver.specs.Driver.{Acts, FromCalm, Rests, IsIdle};
+ghost use Rattle.op_driver.specs.Driver.{Acts, FromCalm, Rests, IsIdle, IsDrained};
 ghost use Rattle.op_pump.specs.Moments.{StaysIdle, IsIdleAt, Closes, Settles, admitted};
 
 use crate::room::Room;
@@ -25,7 +25,7 @@ pub struct Pump<K: Core> {
 impl<K: Core> Pump<K> {
     /// Closes the connections that the driver gave, in their order. With the last mark serving stops.
     pub fn settle<N: Net>(&mut self, net: &mut N) -> Result<(), ServeEnd>
-        requires { self.old.driver.loop.downs ≡ [] }
+        requires { IsDrained self.old.driver.loop }
         ensures settles { Settles self.old.driver result self.new.driver
             (N.told net.old, N.fault_count net.old) (N.told net.new, N.fault_count net.new) }
         ensures most { most_inputs self.new.driver.loop ≤ most_inputs self.old.driver.loop }
@@ -62,7 +62,7 @@ impl<K: Core> Pump<K> {
         ensures calm { self.old.driver.loop.place.at ≡ 0 → FromCalm self.old.driver self.new.driver }
         ensures rests { Rests self.old.driver.loop self.new.driver.loop }
         ensures most { most_inputs self.new.driver.loop ≤ most_inputs self.old.driver.loop
-            + 1 + hello_in kind }
+            + 2 + hello_in kind }
         ensures core { self.new.driver.core ≡ self.old.driver.core }
         ensures timer { self.new.timer ≡ self.old.timer }
     {

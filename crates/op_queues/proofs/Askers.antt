@@ -1,8 +1,8 @@
--- Who asked last for which command: what is forgotten, and what a table by client and number says of it.
-use Rattle.std.proofs.Common.{◌≡◌, ◌∷◌, [], ℕ, Bool, true, false, not, List, Option, Some, None, ◌==◌, cond, if◌then◌else◌, refl, sym, ◌∙◌, ap, inl, inr, arith, filter}
+-- Who asked last for which command or read: what is forgotten, and what a table says of it.
+use Rattle.std.proofs.Common.{◌≡◌, ◌∷◌, [], ℕ, Bool, true, false, not, List, Option, Some, None, ◌==◌, cond, if◌then◌else◌, refl, sym, ◌∙◌, ap, inl, inr, filter}
 use Rattle.std.proofs.lemmas.Bool.{cases_Bool, eq-eqb}
 use Rattle.std.specs.FinMap as map
-use Rattle.std.specs.Cmp.{IsTotalOrder, nat_cmp_is, nat_cmp_total}
+use Rattle.std.specs.Cmp.{tied_itself}
 use Rattle.std.specs.Map.{lookup, keys_of}
 use Rattle.std.specs.List.{AllByRecursion}
 use Rattle.std.specs.List.Sorted.{IsStrictlySortedBy}
@@ -10,63 +10,28 @@ use Rattle.std.proofs.lemmas.Map.Keys.{sorted_head, sorted_tail}
 use Rattle.std.specs.declared.cmp.Ordering.{Ordering}
 use Rattle.std.specs.declared.cmp.Ordering.TheVariants.{Less, Equal, Greater}
 use Rattle.std.specs.BTreeMap.{is_at}
-use Rattle.std.specs.Ordering.{nat_cmp, is_eq, ordering_then, ordering_reverse}
-use Rattle.op_conns.proofs.Numbers.{compared, is_at_own, is_at_one}
-use Rattle.op_serving.specs.State.{Askers, askers_in, pair_cmp, is_conn, without_asker}
+use Rattle.std.specs.Ordering.{is_eq}
+use Rattle.op_serving.specs.State.{Askers, Awaited, askers_in, awaited_cmp, is_conn, without_asker}
+use Rattle.op_serving.proofs.KeyOrder.{key_exact, key_total}
 
--- ---- the order of commands
+-- ---- the order of what is waited for
 
--- a key is at itself alone
-pub key_is : (p q : ℕ × ℕ) → is_at (pair_cmp p) q ≡ true → p ≡ q
-key_is p q e = elim (compared p.0 q.0) [
-  | inl h ↦ absurd (let k = rw h.1 at e in cc)
-  | inr (inl h) ↦ (let k = rw h.1 at e in let second : p.1 ≡ q.1 = is_at_one p.1 q.1 k in ap (λ x. (x, p.1)) h.0 ∙ ap (λ y. (q.0, y)) second)
-  | inr (inr h) ↦ absurd (let k = rw h.1 at e in cc)
-]
+equal_of : (o : Ordering) → is_eq o ≡ true → o ≡ Equal
+equal_of Less e = absurd cc
+equal_of Equal e = refl
+equal_of Greater e = absurd cc
 
-pub key_own : (p : ℕ × ℕ) → is_at (pair_cmp p) p ≡ true
-key_own p = elim (compared p.0 p.0) [
-  | inl h ↦ absurd (omega (arith, h.0))
-  | inr (inl h) ↦ rw h.1 (is_at_own p.1)
-  | inr (inr h) ↦ absurd (omega (arith, h.0))
-]
+-- it is at itself alone
+pub key_is : (p q : Awaited) → is_at (awaited_cmp p) q ≡ true → p ≡ q
+key_is p q e = key_exact p q (equal_of (awaited_cmp p q) e)
 
-pub key_exact : (p q : ℕ × ℕ) → pair_cmp p q ≡ Equal → p ≡ q
-key_exact p q e = key_is p q (ap is_eq e)
-
-reversed : (a b c d : Ordering) → a ≡ ordering_reverse b → c ≡ ordering_reverse d → ordering_then a c ≡ ordering_reverse (ordering_then b d)
-reversed a Less c d e f = rw e refl
-reversed a Equal c d e f = rw e f
-reversed a Greater c d e f = rw e refl
-
-less_then : (p q r : ℕ × ℕ) → pair_cmp p q ≡ Less → pair_cmp q r ≡ Less → pair_cmp p r ≡ Less
-less_then p q r e f = elim (compared p.0 q.0) [
-  | inl h ↦ elim (compared q.0 r.0) [
-    | inl g ↦ (let k : nat_cmp p.0 r.0 ≡ Less = sym (nat_cmp_is p.0 r.0 Less (omega (arith, h.0, g.0))) in ap (λ o. ordering_then o (nat_cmp p.1 r.1)) k)
-    | inr (inl g) ↦ (let k : nat_cmp p.0 r.0 ≡ Less = sym (nat_cmp_is p.0 r.0 Less (omega (arith, h.0, g.0))) in ap (λ o. ordering_then o (nat_cmp p.1 r.1)) k)
-    | inr (inr g) ↦ absurd (let k = rw g.1 at f in cc)
-  ]
-  | inr (inl h) ↦ elim (compared q.0 r.0) [
-    | inl g ↦ (let k : nat_cmp p.0 r.0 ≡ Less = sym (nat_cmp_is p.0 r.0 Less (omega (arith, h.0, g.0))) in ap (λ o. ordering_then o (nat_cmp p.1 r.1)) k)
-    | inr (inl g) ↦ (
-        let k : nat_cmp p.0 r.0 ≡ Equal = sym (nat_cmp_is p.0 r.0 Equal (h.0 ∙ g.0)) in
-        ap (λ o. ordering_then o (nat_cmp p.1 r.1)) k ∙ nat_cmp_total.trans p.1 q.1 r.1 (rw h.1 at e) (rw g.1 at f))
-    | inr (inr g) ↦ absurd (let k = rw g.1 at f in cc)
-  ]
-  | inr (inr h) ↦ absurd (let k = rw h.1 at e in cc)
-]
-
-pub key_total : IsTotalOrder pair_cmp
-key_total = record {
-  antisymm = λ p q. reversed (nat_cmp p.0 q.0) (nat_cmp q.0 p.0) (nat_cmp p.1 q.1) (nat_cmp q.1 p.1) (nat_cmp_total.antisymm p.0 q.0) (nat_cmp_total.antisymm p.1 q.1);
-  trans = less_then;
-  congr = λ p q r e. ap (λ k. pair_cmp k r) (key_exact p q e);
-}
+pub key_own : (p : Awaited) → is_at (awaited_cmp p) p ≡ true
+key_own p = ap is_eq (tied_itself key_total p)
 
 -- ---- who asks
 
 -- two that say the same of each command are one
-pub same_askers : (t u : Askers) → ((q : ℕ × ℕ) → map.get t q ≡ map.get u q) → t ≡ u
+pub same_askers : (t u : Askers) → ((q : Awaited) → map.get t q ≡ map.get u q) → t ≡ u
 same_askers t u h = map.same_map key_total key_exact t u h
 
 -- who asks, unless it is this connection
@@ -78,7 +43,7 @@ unless_is : (c : ℕ) (o : Option ℕ) → cond (not (is_conn c o)) o None ≡ u
 unless_is c None = refl
 unless_is c (Some d) = elim (cases_Bool (d == c)) [ inl h ↦ rw h refl | inr h ↦ rw h refl ]
 
-pub get_without : (c : ℕ) (t : Askers) (q : ℕ × ℕ) → map.get (without_asker c t) q ≡ unless_at c (map.get t q)
+pub get_without : (c : ℕ) (t : Askers) (q : Awaited) → map.get (without_asker c t) q ≡ unless_at c (map.get t q)
 get_without c t q = map.get-retain_keys t (λ key. not (is_conn c (map.get t key))) q (λ x e. ap (λ k. not (is_conn c (map.get t k))) (sym (key_exact q x e))) ∙ unless_is c (map.get t q)
 
 either_way : {A : Type 0} (b : Bool) (x : A) → cond b x x ≡ x
@@ -88,26 +53,26 @@ either_way false x = refl
 abbrev pub nobody : Askers
 nobody = map.empty
 
-pub nobody_asks : (key : ℕ × ℕ) → nobody ≡ map.remove nobody key
-nobody_asks key = same_askers nobody (map.remove nobody key) (λ q. map.get-empty pair_cmp q ∙ sym (map.get-remove key_total nobody key q ∙ ap (cond (is_at (pair_cmp q) key) None) (map.get-empty pair_cmp q) ∙ either_way (is_at (pair_cmp q) key) None))
+pub nobody_asks : (key : Awaited) → nobody ≡ map.remove nobody key
+nobody_asks key = same_askers nobody (map.remove nobody key) (λ q. map.get-empty awaited_cmp q ∙ sym (map.get-remove key_total nobody key q ∙ ap (cond (is_at (awaited_cmp q) key) None) (map.get-empty awaited_cmp q) ∙ either_way (is_at (awaited_cmp q) key) None))
 
 nobody_if : (d : ℕ) (b : Bool) (o : Option ℕ) → unless_at d (cond b None o) ≡ cond b None (unless_at d o)
 nobody_if d true o = refl
 nobody_if d false o = refl
 
-pub nobody_without : (d : ℕ) (key : ℕ × ℕ) (t : Askers) → without_asker d (map.remove t key) ≡ map.remove (without_asker d t) key
+pub nobody_without : (d : ℕ) (key : Awaited) (t : Askers) → without_asker d (map.remove t key) ≡ map.remove (without_asker d t) key
 nobody_without d key t = same_askers _ _ (λ q.
-    get_without d (map.remove t key) q ∙ ap (unless_at d) (map.get-remove key_total t key q) ∙ nobody_if d (is_at (pair_cmp q) key) (map.get t q)
-    ∙ sym (map.get-remove key_total (without_asker d t) key q ∙ ap (cond (is_at (pair_cmp q) key) None) (get_without d t q)))
+    get_without d (map.remove t key) q ∙ ap (unless_at d) (map.get-remove key_total t key q) ∙ nobody_if d (is_at (awaited_cmp q) key) (map.get t q)
+    ∙ sym (map.get-remove key_total (without_asker d t) key q ∙ ap (cond (is_at (awaited_cmp q) key) None) (get_without d t q)))
 
 -- who asked where nobody had asked, and is gone, leaves nobody
 gone_if : (c : ℕ) (b : Bool) (o : Option ℕ) → (b ≡ true → o ≡ None) → unless_at c (cond b (Some c) o) ≡ unless_at c o
 gone_if c true o h = ap (λ x. if x then None else Some c) (eq-eqb c c refl) ∙ sym (ap (unless_at c) (h refl))
 gone_if c false o h = refl
 
-pub asked_in_vain : (c : ℕ) (key : ℕ × ℕ) (t : Askers) → map.get t key ≡ None → without_asker c (map.insert t key c) ≡ without_asker c t
+pub asked_in_vain : (c : ℕ) (key : Awaited) (t : Askers) → map.get t key ≡ None → without_asker c (map.insert t key c) ≡ without_asker c t
 asked_in_vain c key t none = same_askers _ _ (λ q.
-    get_without c (map.insert t key c) q ∙ ap (unless_at c) (map.get-insert key_total t key c q) ∙ gone_if c (is_at (pair_cmp q) key) (map.get t q) (λ e. ap (map.get t) (key_is q key e) ∙ none)
+    get_without c (map.insert t key c) q ∙ ap (unless_at c) (map.get-insert key_total t key c q) ∙ gone_if c (is_at (awaited_cmp q) key) (map.get t q) (λ e. ap (map.get t) (key_is q key e) ∙ none)
     ∙ sym (get_without c t q))
 
 -- what was asked for last decides, whatever was before
@@ -116,85 +81,85 @@ asks_over c true o = ap (λ x. if x then None else Some c) (eq-eqb c c refl)
 asks_over c false o = refl
 
 -- who asks for a command and is gone leaves nobody who asks for it
-pub asked_gone : (c : ℕ) (key : ℕ × ℕ) (t : Askers) → without_asker c (map.insert t key c) ≡ map.remove (without_asker c t) key
+pub asked_gone : (c : ℕ) (key : Awaited) (t : Askers) → without_asker c (map.insert t key c) ≡ map.remove (without_asker c t) key
 asked_gone c key t = same_askers _ _ (λ q.
-    get_without c (map.insert t key c) q ∙ ap (unless_at c) (map.get-insert key_total t key c q) ∙ asks_over c (is_at (pair_cmp q) key) (map.get t q)
-    ∙ sym (map.get-remove key_total (without_asker c t) key q ∙ ap (cond (is_at (pair_cmp q) key) None) (get_without c t q)))
+    get_without c (map.insert t key c) q ∙ ap (unless_at c) (map.get-insert key_total t key c q) ∙ asks_over c (is_at (awaited_cmp q) key) (map.get t q)
+    ∙ sym (map.get-remove key_total (without_asker c t) key q ∙ ap (cond (is_at (awaited_cmp q) key) None) (get_without c t q)))
 
 -- another's end leaves it
 asks_apart : (c d : ℕ) (b : Bool) (o : Option ℕ) → (c == d) ≡ false → unless_at d (cond b (Some c) o) ≡ cond b (Some c) (unless_at d o)
 asks_apart c d true o e = ap (λ x. if x then None else Some c) e
 asks_apart c d false o e = refl
 
-pub asked_apart : (c d : ℕ) (key : ℕ × ℕ) (t : Askers) → (c == d) ≡ false → without_asker d (map.insert t key c) ≡ map.insert (without_asker d t) key c
+pub asked_apart : (c d : ℕ) (key : Awaited) (t : Askers) → (c == d) ≡ false → without_asker d (map.insert t key c) ≡ map.insert (without_asker d t) key c
 asked_apart c d key t e = same_askers _ _ (λ q.
-    get_without d (map.insert t key c) q ∙ ap (unless_at d) (map.get-insert key_total t key c q) ∙ asks_apart c d (is_at (pair_cmp q) key) (map.get t q) e
-    ∙ sym (map.get-insert key_total (without_asker d t) key c q ∙ ap (cond (is_at (pair_cmp q) key) (Some c)) (get_without d t q)))
+    get_without d (map.insert t key c) q ∙ ap (unless_at d) (map.get-insert key_total t key c q) ∙ asks_apart c d (is_at (awaited_cmp q) key) (map.get t q) e
+    ∙ sym (map.get-insert key_total (without_asker d t) key c q ∙ ap (cond (is_at (awaited_cmp q) key) (Some c)) (get_without d t q)))
 
 -- ---- in a table
 
 abbrev pub Entries : Type 0
-Entries = List ((ℕ × ℕ) × ℕ)
+Entries = List (Awaited × ℕ)
 
-find_is : (q : ℕ × ℕ) (es : Entries) → map.find pair_cmp q es ≡ lookup (is_at (pair_cmp q)) es
+find_is : (q : Awaited) (es : Entries) → map.find awaited_cmp q es ≡ lookup (is_at (awaited_cmp q)) es
 find_is q [] = refl
-find_is q (e ∷ es) = ap (cond (is_at (pair_cmp q) e.0) (Some e.1)) (find_is q es)
+find_is q (e ∷ es) = ap (cond (is_at (awaited_cmp q) e.0) (Some e.1)) (find_is q es)
 
-pub get_in : (es : Entries) (q : ℕ × ℕ) → map.get (askers_in es) q ≡ lookup (is_at (pair_cmp q)) es
+pub get_in : (es : Entries) (q : Awaited) → map.get (askers_in es) q ≡ lookup (is_at (awaited_cmp q)) es
 get_in es q = map.get-from_entries key_total es q ∙ find_is q es
 
-turned : (p q : ℕ × ℕ) → is_at (pair_cmp p) q ≡ is_at (pair_cmp q) p
-turned p q = elim (cases_Bool (is_at (pair_cmp p) q)) [
-  | inl h ↦ h ∙ sym (ap (λ k. is_at (pair_cmp q) k) (key_is p q h) ∙ key_own q)
-  | inr h ↦ elim (cases_Bool (is_at (pair_cmp q) p)) [
-    | inl g ↦ absurd (let k : is_at (pair_cmp p) q ≡ true = ap (λ x. is_at (pair_cmp x) q) (sym (key_is q p g)) ∙ key_own q in let bad : true ≡ false = sym k ∙ h in cc)
+turned : (p q : Awaited) → is_at (awaited_cmp p) q ≡ is_at (awaited_cmp q) p
+turned p q = elim (cases_Bool (is_at (awaited_cmp p) q)) [
+  | inl h ↦ h ∙ sym (ap (λ k. is_at (awaited_cmp q) k) (key_is p q h) ∙ key_own q)
+  | inr h ↦ elim (cases_Bool (is_at (awaited_cmp q) p)) [
+    | inl g ↦ absurd (let k : is_at (awaited_cmp p) q ≡ true = ap (λ x. is_at (awaited_cmp x) q) (sym (key_is q p g)) ∙ key_own q in let bad : true ≡ false = sym k ∙ h in cc)
     | inr g ↦ h ∙ sym g
   ]
 ]
 
-pub put_in : (key : ℕ × ℕ) (c : ℕ) (es fs : Entries) → ((q : ℕ × ℕ) → lookup (is_at (pair_cmp q)) fs ≡ cond (is_at (pair_cmp key) q) (Some c) (lookup (is_at (pair_cmp q)) es)) → askers_in fs ≡ map.insert (askers_in es) key c
+pub put_in : (key : Awaited) (c : ℕ) (es fs : Entries) → ((q : Awaited) → lookup (is_at (awaited_cmp q)) fs ≡ cond (is_at (awaited_cmp key) q) (Some c) (lookup (is_at (awaited_cmp q)) es)) → askers_in fs ≡ map.insert (askers_in es) key c
 put_in key c es fs h = same_askers _ _ (λ q.
-    get_in fs q ∙ h q ∙ ap (λ b. cond b (Some c) (lookup (is_at (pair_cmp q)) es)) (turned key q) ∙ sym (map.get-insert key_total (askers_in es) key c q ∙ ap (cond (is_at (pair_cmp q) key) (Some c)) (get_in es q)))
+    get_in fs q ∙ h q ∙ ap (λ b. cond b (Some c) (lookup (is_at (awaited_cmp q)) es)) (turned key q) ∙ sym (map.get-insert key_total (askers_in es) key c q ∙ ap (cond (is_at (awaited_cmp q) key) (Some c)) (get_in es q)))
 
-pub removed_in : (key : ℕ × ℕ) (es fs : Entries) → ((q : ℕ × ℕ) → lookup (is_at (pair_cmp q)) fs ≡ cond (is_at (pair_cmp key) q) None (lookup (is_at (pair_cmp q)) es)) → askers_in fs ≡ map.remove (askers_in es) key
+pub removed_in : (key : Awaited) (es fs : Entries) → ((q : Awaited) → lookup (is_at (awaited_cmp q)) fs ≡ cond (is_at (awaited_cmp key) q) None (lookup (is_at (awaited_cmp q)) es)) → askers_in fs ≡ map.remove (askers_in es) key
 removed_in key es fs h = same_askers _ _ (λ q.
-    get_in fs q ∙ h q ∙ ap (λ b. cond b None (lookup (is_at (pair_cmp q)) es)) (turned key q) ∙ sym (map.get-remove key_total (askers_in es) key q ∙ ap (cond (is_at (pair_cmp q) key) None) (get_in es q)))
+    get_in fs q ∙ h q ∙ ap (λ b. cond b None (lookup (is_at (awaited_cmp q)) es)) (turned key q) ∙ sym (map.get-remove key_total (askers_in es) key q ∙ ap (cond (is_at (awaited_cmp q) key) None) (get_in es q)))
 
 -- what is kept where one connection is forgotten
-abbrev kept_from : ℕ → (ℕ × ℕ) × ℕ → Bool
+abbrev kept_from : ℕ → Awaited × ℕ → Bool
 kept_from c e = not (e.1 == c)
 
-not_behind : (q k : ℕ × ℕ) (c : ℕ) (t : Entries) → q ≡ k → AllByRecursion (λ y. pair_cmp k y ≡ Less) (keys_of t) → lookup (is_at (pair_cmp q)) (filter (kept_from c) t) ≡ None
+not_behind : (q k : Awaited) (c : ℕ) (t : Entries) → q ≡ k → AllByRecursion (λ y. awaited_cmp k y ≡ Less) (keys_of t) → lookup (is_at (awaited_cmp q)) (filter (kept_from c) t) ≡ None
 not_behind q k c [] same h = refl
 not_behind q k c (e ∷ t) same h =
-    let away : is_at (pair_cmp q) e.0 ≡ false = ap (λ n. is_eq (pair_cmp n e.0)) same ∙ ap is_eq h.0 in
+    let away : is_at (awaited_cmp q) e.0 ≡ false = ap (λ n. is_eq (awaited_cmp n e.0)) same ∙ ap is_eq h.0 in
     elim (cases_Bool (kept_from c e)) [
-      | inl y ↦ ap (λ b. lookup (is_at (pair_cmp q)) (cond b (e ∷ filter (kept_from c) t) (filter (kept_from c) t))) y ∙ ap (λ b. cond b (Some e.1) (lookup (is_at (pair_cmp q)) (filter (kept_from c) t))) away ∙ not_behind q k c t same h.1
-      | inr y ↦ ap (λ b. lookup (is_at (pair_cmp q)) (cond b (e ∷ filter (kept_from c) t) (filter (kept_from c) t))) y ∙ not_behind q k c t same h.1
+      | inl y ↦ ap (λ b. lookup (is_at (awaited_cmp q)) (cond b (e ∷ filter (kept_from c) t) (filter (kept_from c) t))) y ∙ ap (λ b. cond b (Some e.1) (lookup (is_at (awaited_cmp q)) (filter (kept_from c) t))) away ∙ not_behind q k c t same h.1
+      | inr y ↦ ap (λ b. lookup (is_at (awaited_cmp q)) (cond b (e ∷ filter (kept_from c) t) (filter (kept_from c) t))) y ∙ not_behind q k c t same h.1
     ]
 
-filtered_at : (c : ℕ) (q : ℕ × ℕ) (t : Entries) → IsStrictlySortedBy pair_cmp (keys_of t) → lookup (is_at (pair_cmp q)) (filter (kept_from c) t) ≡ unless_at c (lookup (is_at (pair_cmp q)) t)
+filtered_at : (c : ℕ) (q : Awaited) (t : Entries) → IsStrictlySortedBy awaited_cmp (keys_of t) → lookup (is_at (awaited_cmp q)) (filter (kept_from c) t) ≡ unless_at c (lookup (is_at (awaited_cmp q)) t)
 filtered_at c q [] s = refl
 filtered_at c q (e ∷ t) s =
-    let rest : List ((ℕ × ℕ) × ℕ) = filter (kept_from c) t in
-    elim (cases_Bool (is_at (pair_cmp q) e.0)) [
+    let rest : List (Awaited × ℕ) = filter (kept_from c) t in
+    elim (cases_Bool (is_at (awaited_cmp q) e.0)) [
       | inl h ↦ elim (cases_Bool (e.1 == c)) [
         | inl y ↦
-            ap (λ b. lookup (is_at (pair_cmp q)) (cond (not b) (e ∷ rest) rest)) y ∙ not_behind q e.0 c t (key_is q e.0 h) (sorted_head pair_cmp e.0 (keys_of t) s)
-            ∙ sym (ap (λ b. unless_at c (cond b (Some e.1) (lookup (is_at (pair_cmp q)) t))) h ∙ ap (λ b. if b then None else Some e.1) y)
+            ap (λ b. lookup (is_at (awaited_cmp q)) (cond (not b) (e ∷ rest) rest)) y ∙ not_behind q e.0 c t (key_is q e.0 h) (sorted_head awaited_cmp e.0 (keys_of t) s)
+            ∙ sym (ap (λ b. unless_at c (cond b (Some e.1) (lookup (is_at (awaited_cmp q)) t))) h ∙ ap (λ b. if b then None else Some e.1) y)
         | inr y ↦
-            ap (λ b. lookup (is_at (pair_cmp q)) (cond (not b) (e ∷ rest) rest)) y ∙ ap (λ b. cond b (Some e.1) (lookup (is_at (pair_cmp q)) rest)) h
-            ∙ sym (ap (λ b. unless_at c (cond b (Some e.1) (lookup (is_at (pair_cmp q)) t))) h ∙ ap (λ b. if b then None else Some e.1) y)
+            ap (λ b. lookup (is_at (awaited_cmp q)) (cond (not b) (e ∷ rest) rest)) y ∙ ap (λ b. cond b (Some e.1) (lookup (is_at (awaited_cmp q)) rest)) h
+            ∙ sym (ap (λ b. unless_at c (cond b (Some e.1) (lookup (is_at (awaited_cmp q)) t))) h ∙ ap (λ b. if b then None else Some e.1) y)
       ]
       | inr h ↦ elim (cases_Bool (e.1 == c)) [
         | inl y ↦
-            ap (λ b. lookup (is_at (pair_cmp q)) (cond (not b) (e ∷ rest) rest)) y ∙ filtered_at c q t (sorted_tail pair_cmp e.0 (keys_of t) s)
-            ∙ sym (ap (λ b. unless_at c (cond b (Some e.1) (lookup (is_at (pair_cmp q)) t))) h)
+            ap (λ b. lookup (is_at (awaited_cmp q)) (cond (not b) (e ∷ rest) rest)) y ∙ filtered_at c q t (sorted_tail awaited_cmp e.0 (keys_of t) s)
+            ∙ sym (ap (λ b. unless_at c (cond b (Some e.1) (lookup (is_at (awaited_cmp q)) t))) h)
         | inr y ↦
-            ap (λ b. lookup (is_at (pair_cmp q)) (cond (not b) (e ∷ rest) rest)) y ∙ ap (λ b. cond b (Some e.1) (lookup (is_at (pair_cmp q)) rest)) h ∙ filtered_at c q t (sorted_tail pair_cmp e.0 (keys_of t) s)
-            ∙ sym (ap (λ b. unless_at c (cond b (Some e.1) (lookup (is_at (pair_cmp q)) t))) h)
+            ap (λ b. lookup (is_at (awaited_cmp q)) (cond (not b) (e ∷ rest) rest)) y ∙ ap (λ b. cond b (Some e.1) (lookup (is_at (awaited_cmp q)) rest)) h ∙ filtered_at c q t (sorted_tail awaited_cmp e.0 (keys_of t) s)
+            ∙ sym (ap (λ b. unless_at c (cond b (Some e.1) (lookup (is_at (awaited_cmp q)) t))) h)
       ]
     ]
 
-pub filtered : (c : ℕ) (t : Entries) → IsStrictlySortedBy pair_cmp (keys_of t) → askers_in (filter (λ e. not (e.1 == c)) t) ≡ without_asker c (askers_in t)
+pub filtered : (c : ℕ) (t : Entries) → IsStrictlySortedBy awaited_cmp (keys_of t) → askers_in (filter (λ e. not (e.1 == c)) t) ≡ without_asker c (askers_in t)
 filtered c t s = same_askers _ _ (λ q. get_in (filter (kept_from c) t) q ∙ filtered_at c q t s ∙ ap (unless_at c) (sym (get_in t q)) ∙ sym (get_without c (askers_in t) q))

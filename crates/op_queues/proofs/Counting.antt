@@ -1,5 +1,5 @@
 -- How many inputs may yet come of what is left by each thing that is done.
-use Rattle.std.proofs.Common.{◌≡◌, ◌≤◌, ◌+◌, ◌∷◌, [], ℕ, Bool, true, false, List, length, drop, Option, Some, None, option_map, nat_lt, ◌==◌, ◌-◌, refl, ◌∙◌, sym, ap, inl, inr, arith}
+use Rattle.std.proofs.Common.{◌≡◌, ◌≤◌, ◌+◌, ◌∷◌, [], ℕ, Bool, true, false, List, length, drop, Option, Some, None, is_some, option_map, nat_lt, ◌==◌, ◌-◌, refl, ◌∙◌, sym, ap, inl, inr, arith}
 use Rattle.std.proofs.lemmas.Bool.{cases_Bool, eqb-true, eqb-false}
 use Rattle.std.proofs.lemmas.List.{length-append, length-drop}
 use Rattle.std.proofs.lemmas.List.Sums.{sum_by-cons}
@@ -12,7 +12,7 @@ use Rattle.op_types.specs.declared.log.Command.{Command}
 use Rattle.op_serving.specs.declared.kind.Kind.{Kind}
 use Rattle.op_serving.specs.declared.kind.Kind.TheVariants.{Unknown, Peer, Client}
 use Rattle.op_serving.specs.declared.session.Session.{Session}
-use Rattle.op_serving.specs.State.{Table, Loop, find, kind_at, set, without, changed, changed_at, down_of, with_bytes, waits_for, left_at, left_by, counted}
+use Rattle.op_serving.specs.State.{Table, Loop, find, is_open, kind_at, set, without, changed, changed_at, down_of, with_bytes, waits_for, left_at, left_by, counted}
 use Rattle.op_serving.specs.Losses.{most_marks, mark_at, noted, stopped_if, marked, lost_by}
 use Rattle.op_serving.specs.Counts.{hello_in, most_of, most_inputs}
 use Rattle.op_serving.specs.Inputs.{gathers, releases}
@@ -100,6 +100,15 @@ most_left_at c (Some x) s e =
 pub most_left : (c : ℕ) (s : Loop) → most_inputs (left_by c s) ≤ most_inputs s
 most_left c s = most_left_at c (find c s.sessions) s refl
 
+-- one that is there leaves one input less
+most_ended_at : (c : ℕ) (o : Option Session) (s : Loop) → find c s.sessions ≡ o → is_some o ≡ true → most_inputs (left_at c (option_map (λ x. x.kind) o) s) + 1 ≤ most_inputs s
+most_ended_at c None s e h = absurd cc
+most_ended_at c (Some x) s e h =
+    omega (arith, most_is s, most_is (left_at c (Some x.kind) s), length-append s.downs (down_of x.kind), one_down x.kind, without_short c s.gathered, most_taken_out c x s.sessions e)
+
+pub most_ended : (c : ℕ) (s : Loop) → is_open c s ≡ true → most_inputs (left_by c s) + 1 ≤ most_inputs s
+most_ended c s h = most_ended_at c (find c s.sessions) s refl h
+
 most_none : most_in [] ≡ 0
 unfolding most_in
 most_none = refl
@@ -159,12 +168,12 @@ most_up c n q s h = most_up_at c n q (find c s.sessions) s refl h
 
 -- ---- sessions begin
 
-most_made : (kind : Kind) (me : ℕ) → most_of (made_session kind me) ≡ 1 + hello_in kind
+most_made : (kind : Kind) (me : ℕ) → most_of (made_session kind me) ≡ 2 + hello_in kind
 most_made Unknown me = omega arith
 most_made (Peer q h) me = omega arith
 most_made Client me = omega arith
 
-pub most_joining : (c : ℕ) (kind : Kind) (s : Loop) → most_inputs (joining c kind s) ≤ most_inputs s + 1 + hello_in kind
+pub most_joining : (c : ℕ) (kind : Kind) (s : Loop) → most_inputs (joining c kind s) ≤ most_inputs s + 2 + hello_in kind
 most_joining c kind s =
     let x : Session = made_session kind s.me in
     let t : Table Session = insert_entry nat_cmp s.sessions c x in

@@ -13,3 +13,5 @@ pub mod Joining
 pub mod Waiting
 pub mod Runs
 pub mod Framings
+pub mod Filling
+pub mod Shedding

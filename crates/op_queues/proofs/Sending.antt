@@ -9,7 +9,7 @@ use Rattle.op_serving.specs.declared.kind.Kind.TheVariants.{Unknown, Peer, Clien
 use Rattle.op_serving.specs.declared.node.Given.{Given}
 use Rattle.op_serving.specs.declared.session.Session.{Session}
 use Rattle.op_serving.specs.Wire.{peer_frame, client_frame}
-use Rattle.op_serving.specs.State.{Key, Loop, pair_cmp, without, find, is_open, kind_at, if_its, open_of, session_of, left_at, left_by}
+use Rattle.op_serving.specs.State.{Awaited, Key, Loop, awaited_cmp, without, find, is_open, kind_at, if_its, open_of, session_of, left_at, left_by}
 use Rattle.op_serving.specs.Losses.{most_marks, mark_at, noted, stopped_if, lost_by, settled, Does}
 use Rattle.op_types.specs.declared.answers.Reply.{Reply}
 use Rattle.op_command.specs.declared.reply.ClientReply.{ClientReply}
@@ -112,25 +112,25 @@ blind_said : (o : Option ℕ) (b : List ℕ) (d : ℕ) (s : Loop) → lost_by d 
 blind_said None b d s = refl
 blind_said (Some c) b d s = (blind_waits c b).past d s
 
-left_forgotten : (key : ℕ × ℕ) (d : ℕ) (k : Option Kind) (s : Loop) → left_at d k (forgotten key s) ≡ forgotten key (left_at d k s)
+left_forgotten : (key : Awaited) (d : ℕ) (k : Option Kind) (s : Loop) → left_at d k (forgotten key s) ≡ forgotten key (left_at d k s)
 left_forgotten key d None s = refl
 left_forgotten key d (Some k) s = ap (λ t. record (left_at d (Some k) s) { askers = t }) (nobody_without d key s.askers)
 
-stopped_forgotten : (key : ℕ × ℕ) (d : ℕ) (b : Bool) (s : Loop) → left_by d (stopped_if b (forgotten key s)) ≡ forgotten key (left_by d (stopped_if b s))
+stopped_forgotten : (key : Awaited) (d : ℕ) (b : Bool) (s : Loop) → left_by d (stopped_if b (forgotten key s)) ≡ forgotten key (left_by d (stopped_if b s))
 stopped_forgotten key d true s = left_forgotten key d (kind_at d s) s
 stopped_forgotten key d false s = ap (λ t. record (left_by d (stopped_if false s)) { askers = t }) (nobody_asks key)
 
-lost_forgotten : (key : ℕ × ℕ) (d : ℕ) (s : Loop) → lost_by d (forgotten key s) ≡ forgotten key (lost_by d s)
+lost_forgotten : (key : Awaited) (d : ℕ) (s : Loop) → lost_by d (forgotten key s) ≡ forgotten key (lost_by d s)
 lost_forgotten key d s = stopped_forgotten key d (nat_lt (length s.lost + 1) most_marks) (noted (mark_at s.place (Some d)) s)
 
 some_same : {A : Type 0} {x y : A} → Some x ≡ Some y → x ≡ y
 some_same e = cc
 
 -- who asked is the same, or is gone
-abbrev Goes : ℕ × ℕ → Loop → Loop → Type 0
+abbrev Goes : Awaited → Loop → Loop → Type 0
 Goes key s u = (map.get u.askers key ≡ map.get s.askers key) ⊎ ((map.get u.askers key ≡ None) × ((c : ℕ) → map.get s.askers key ≡ Some c → find c u.sessions ≡ None))
 
-goes_left : (key : ℕ × ℕ) (d : ℕ) (o : Option Kind) (s : Loop) (w : Option ℕ) → map.get s.askers key ≡ w → Goes key s (left_at d o s)
+goes_left : (key : Awaited) (d : ℕ) (o : Option Kind) (s : Loop) (w : Option ℕ) → map.get s.askers key ≡ w → Goes key s (left_at d o s)
 goes_left key d None s w e = inl refl
 goes_left key d (Some k) s None e = inl (get_without d s.askers key ∙ ap (unless_at d) e ∙ sym e)
 goes_left key d (Some k) s (Some c) e = elim (cases_Bool (c == d)) [
@@ -141,20 +141,20 @@ goes_left key d (Some k) s (Some c) e = elim (cases_Bool (c == d)) [
   | inr h ↦ inl (get_without d s.askers key ∙ ap (unless_at d) e ∙ ap (λ b. if b then None else Some c) h ∙ sym e)
 ]
 
-goes_if : (key : ℕ × ℕ) (d : ℕ) (b : Bool) (s : Loop) → Goes key s (left_by d (stopped_if b s))
+goes_if : (key : Awaited) (d : ℕ) (b : Bool) (s : Loop) → Goes key s (left_by d (stopped_if b s))
 goes_if key d true s = goes_left key d (kind_at d s) s (map.get s.askers key) refl
-goes_if key d false s = inr (map.get-empty pair_cmp key, λ c e. refl)
+goes_if key d false s = inr (map.get-empty awaited_cmp key, λ c e. refl)
 
-goes_lost : (key : ℕ × ℕ) (d : ℕ) (s : Loop) → Goes key s (lost_by d s)
+goes_lost : (key : Awaited) (d : ℕ) (s : Loop) → Goes key s (lost_by d s)
 goes_lost key d s = goes_if key d (nat_lt (length s.lost + 1) most_marks) (noted (mark_at s.place (Some d)) s)
 
-said_to_none : (key : ℕ × ℕ) (b : List ℕ) (u : Loop) (o : Option ℕ) → ((c : ℕ) → o ≡ Some c → find c u.sessions ≡ None) → said_at o b (forgotten key u) ≡ forgotten key u
+said_to_none : (key : Awaited) (b : List ℕ) (u : Loop) (o : Option ℕ) → ((c : ℕ) → o ≡ Some c → find c u.sessions ≡ None) → said_at o b (forgotten key u) ≡ forgotten key u
 said_to_none key b u None h = refl
 said_to_none key b u (Some c) h = closed_waits c b (forgotten key u) (h c refl)
 
-past_replied : (r : Reply) (d : ℕ) (s : Loop) → lost_by d (replied r s) ≡ replied r (lost_by d s)
-past_replied r d s =
-    let key : ℕ × ℕ = (r.client, r.seq) in
+past_replied : (read : Bool) (r : Reply) (d : ℕ) (s : Loop) → lost_by d (replied read r s) ≡ replied read r (lost_by d s)
+past_replied read r d s =
+    let key : Awaited = (read, (r.client, r.seq)) in
     let b : List ℕ = client_frame (answered r) in
     let u : Loop = lost_by d s in
     blind_said (map.get s.askers key) b d (forgotten key s) ∙ ap (said_at (map.get s.askers key) b) (lost_forgotten key d s) ∙ elim (goes_lost key d s) [
@@ -162,18 +162,18 @@ past_replied r d s =
       | inr gone ↦ said_to_none key b u (map.get s.askers key) gone.1 ∙ sym (ap (λ o. said_at o b (forgotten key u)) gone.0)
     ]
 
-pub blind_replied : (r : Reply) → Blind (replied r)
-blind_replied r = record {
-  lost = λ s. said_lost (map.get s.askers (r.client, r.seq)) (client_frame (answered r)) (forgotten (r.client, r.seq) s);
-  place = λ s. said_place (map.get s.askers (r.client, r.seq)) (client_frame (answered r)) (forgotten (r.client, r.seq) s);
-  opens = λ d s. said_opens d (map.get s.askers (r.client, r.seq)) (client_frame (answered r)) (forgotten (r.client, r.seq) s);
-  past = λ d s. past_replied r d s;
+pub blind_replied : (read : Bool) (r : Reply) → Blind (replied read r)
+blind_replied read r = record {
+  lost = λ s. said_lost (map.get s.askers (read, (r.client, r.seq))) (client_frame (answered r)) (forgotten (read, (r.client, r.seq)) s);
+  place = λ s. said_place (map.get s.askers (read, (r.client, r.seq))) (client_frame (answered r)) (forgotten (read, (r.client, r.seq)) s);
+  opens = λ d s. said_opens d (map.get s.askers (read, (r.client, r.seq))) (client_frame (answered r)) (forgotten (read, (r.client, r.seq)) s);
+  past = λ d s. past_replied read r d s;
 }
 
 -- one answer more
-pub replied_more : (xs : List Reply) (r : Reply) (s : Loop) → replied_all (xs ++ r ∷ []) s ≡ replied r (replied_all xs s)
-replied_more [] r s = refl
-replied_more (x ∷ xs) r s = replied_more xs r (replied x s)
+pub replied_more : (read : Bool) (xs : List Reply) (r : Reply) (s : Loop) → replied_all read (xs ++ r ∷ []) s ≡ replied read r (replied_all read xs s)
+replied_more read [] r s = refl
+replied_more read (x ∷ xs) r s = replied_more read xs r (replied read x s)
 
 -- one message more
 pub sent_more : (xs : List (ℕ × Msg)) (m : ℕ × Msg) (s : Loop) → sent_all (xs ++ m ∷ []) s ≡ sent m (sent_all xs s)
@@ -198,9 +198,9 @@ blind_then f g a b = record {
   past = λ c s. b.past c (f s) ∙ ap g (a.past c s);
 }
 
-pub blind_replied_all : (rs : List Reply) → Blind (replied_all rs)
-blind_replied_all [] = record { lost = λ s. refl; place = λ s. refl; opens = λ c s. refl; past = λ c s. refl }
-blind_replied_all (r ∷ rs) = blind_then (replied r) (replied_all rs) (blind_replied r) (blind_replied_all rs)
+pub blind_replied_all : (read : Bool) (rs : List Reply) → Blind (replied_all read rs)
+blind_replied_all read [] = record { lost = λ s. refl; place = λ s. refl; opens = λ c s. refl; past = λ c s. refl }
+blind_replied_all read (r ∷ rs) = blind_then (replied read r) (replied_all read rs) (blind_replied read r) (blind_replied_all read rs)
 
 pub blind_sent_all : (ms : List (ℕ × Msg)) → Blind (sent_all ms)
 blind_sent_all [] = record { lost = λ s. refl; place = λ s. refl; opens = λ c s. refl; past = λ c s. refl }
@@ -229,4 +229,6 @@ said_more [] p what = refl
 said_more (k ∷ keys) p what = ap (λ rs. (k.0, of_command k.1 what) ∷ rs) (said_more keys p what)
 
 pub blind_handed : (g : Given) → Blind (handed_out g)
-blind_handed g = blind_then (sent_all g.sends) (replied_all g.replies) (blind_sent_all g.sends) (blind_replied_all g.replies)
+blind_handed g =
+    blind_then (λ (s : Loop). replied_all false g.replies (sent_all g.sends s)) (replied_all true g.read_replies)
+    (blind_then (sent_all g.sends) (replied_all false g.replies) (blind_sent_all g.sends) (blind_replied_all false g.replies)) (blind_replied_all true g.read_replies)

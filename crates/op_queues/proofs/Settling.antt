@@ -8,7 +8,7 @@ use Rattle.op_serving.specs.declared.kind.Kind.{Kind}
 use Rattle.op_serving.specs.declared.mark.Mark.{Mark}
 use Rattle.op_serving.specs.declared.mark.Place.{Place}
 use Rattle.op_serving.specs.declared.session.Session.{Session}
-use Rattle.op_serving.specs.State.{Table, Loop, find, is_open, kind_at, with_bytes, waits_for, left_at, left_by}
+use Rattle.op_serving.specs.State.{Table, Loop, find, is_open, kind_at, with_bytes, waits_for, left_at, left_by, next, counted}
 use Rattle.op_serving.specs.Losses.{most_marks, size, mark_at, noted, marked, stopped_if, lost_by, lost_one, lost_if_open, is_due, is_here, is_open_one, settle, settled, IsFrom, Foretells, Grew, KeepsKinds, Stays, Does}
 use Rattle.op_serving.specs.Counts.{most_inputs}
 use Rattle.op_queues.proofs.Sizes.{size_waits, size_lost}
@@ -60,7 +60,7 @@ pub gone : (c : ℕ) (s : Loop) → find c (lost_by c s).sessions ≡ None
 gone c s = gone_if c (nat_lt (length s.lost + 1) most_marks) (noted (mark_at s.place (Some c)) s)
 
 -- a session is as before, or gone
-found_left : (c d : ℕ) (k : Option Kind) (s : Loop) → (find c (left_at d k s).sessions ≡ find c s.sessions) ⊎ (find c (left_at d k s).sessions ≡ None)
+pub found_left : (c d : ℕ) (k : Option Kind) (s : Loop) → (find c (left_at d k s).sessions ≡ find c s.sessions) ⊎ (find c (left_at d k s).sessions ≡ None)
 found_left c d None s = inl refl
 found_left c d (Some k) s = elim (same_or_not c d) [
   | inl same ↦ inr (ap (λ n. find n (left_at d (Some k) s).sessions) same ∙ find_without d s.sessions)
@@ -310,3 +310,17 @@ pub lost_first : (c : ℕ) (s : Loop) (marks : List Mark) → is_open c s ≡ tr
 lost_first c s marks h few f =
     let due : is_due (mark_at s.place (Some c)) s ≡ true = rw (is_few (length s.lost) few, here_own s.place (Some c), h) refl in
     ap (λ r. settle r s) (next_mark c s marks f) ∙ rw due refl ∙ sym (ap (λ r. settle r (lost_by c s)) (after_mark c s marks f))
+
+-- a later count is from this one
+pub from_counted : (s : Loop) → s.place.inputs ≤ next s.place.inputs → (m : Mark) → IsFrom (counted s).place m → IsFrom s.place m
+from_counted s up m (inl h) = inl h
+from_counted s up m (inr h) = inr (
+  h.0,
+  elim h.1 [
+    | inl g ↦ inl g
+    | inr g ↦ inr (g.0, omega (arith, up, g.1), g.2)
+  ],
+)
+
+pub counted_grew : (s : Loop) → s.place.inputs ≤ next s.place.inputs → Grew s (counted s)
+counted_grew s up = record { added = []; lost = sym (append-nil s.lost); from = All-nil (IsFrom s.place); place = from_counted s up; counts = up }

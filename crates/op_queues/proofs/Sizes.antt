@@ -22,7 +22,7 @@ use Rattle.op_serving.specs.Cores.{Standing, gives, given_again}
 use Rattle.op_serving.specs.State.{Key, Table, Loop, find, changed_at, down_of, left_at, left_by, session_of, waits_for, counted}
 use Rattle.op_serving.specs.Wire.{peer_frame, client_frame}
 use Rattle.op_serving.specs.Losses.{most_marks, mark_at, noted, stopped_if, marked, lost_by, lost_one, is_due, settle, size}
-use Rattle.op_serving.specs.Handing.{said_at, sent, sent_all, forgotten, answered, replied, replied_all, handed_out, said_of_denial, said_at_once, Told, told_all, asked_by_one, asked, keys_that_wait, proposed, excused}
+use Rattle.op_serving.specs.Handing.{said_at, sent, sent_all, forgotten, answered, replied, replied_all, handed_out, said_of_denial, said_at_once, Told, told_all, asked_by_one, asked, is_read, keys_that_wait, proposed, excused}
 use Rattle.op_serving.specs.Inputs.{loop_after}
 use Rattle.op_serving.specs.Fates.{Fate, done, finds, faults, damaged, lost}
 use Rattle.op_queues.proofs.Tables.{without_less}
@@ -86,27 +86,29 @@ size_sent_all : (ms : List (ℕ × Msg)) (s : Loop) → size (sent_all ms s) ≡
 size_sent_all [] s = refl
 size_sent_all (m ∷ ms) s = size_sent_all ms (sent m s) ∙ size_sent m s
 
-pub size_replied : (r : Reply) (s : Loop) → size (replied r s) ≡ size s
-size_replied r s = size_said (map.get s.askers (r.client, r.seq)) (client_frame (answered r)) (forgotten (r.client, r.seq) s)
+pub size_replied : (read : Bool) (r : Reply) (s : Loop) → size (replied read r s) ≡ size s
+size_replied read r s = size_said (map.get s.askers (read, (r.client, r.seq))) (client_frame (answered r)) (forgotten (read, (r.client, r.seq)) s)
 
-size_replied_all : (rs : List Reply) (s : Loop) → size (replied_all rs s) ≡ size s
-size_replied_all [] s = refl
-size_replied_all (r ∷ rs) s = size_replied_all rs (replied r s) ∙ size_replied r s
+size_replied_all : (read : Bool) (rs : List Reply) (s : Loop) → size (replied_all read rs s) ≡ size s
+size_replied_all read [] s = refl
+size_replied_all read (r ∷ rs) s = size_replied_all read rs (replied read r s) ∙ size_replied read r s
 
 size_handed : (g : Given) (s : Loop) → size (handed_out g s) ≡ size s
-size_handed g s = size_replied_all g.replies (sent_all g.sends s) ∙ size_sent_all g.sends s
+size_handed g s =
+    let t : Loop = sent_all g.sends s in
+    size_replied_all true g.read_replies (replied_all false g.replies t) ∙ size_replied_all false g.replies t ∙ size_sent_all g.sends s
 
 size_told_all : (rs : List Told) (s : Loop) → size (told_all rs s) ≡ size s
 size_told_all [] s = refl
 size_told_all (r ∷ rs) s = size_told_all rs (waits_for r.0 (client_frame r.1) s) ∙ size_waits r.0 (client_frame r.1) s
 
-size_asked : (keys : List (ℕ × Key)) (s : Loop) → size (asked keys s) ≡ size s
-size_asked [] s = refl
-size_asked (p ∷ ps) s = size_asked ps (asked_by_one p s)
+size_asked : (read : Bool) (keys : List (ℕ × Key)) (s : Loop) → size (asked read keys s) ≡ size s
+size_asked read [] s = refl
+size_asked read (p ∷ ps) s = size_asked read ps (asked_by_one read p s)
 
 size_proposed : (w : Option Wanted) (o : Option Outcome) (s : Loop) → size (proposed w o s) ≡ size s
 size_proposed None o s = refl
-size_proposed (Some w) o s = size_told_all (said_at_once w o) (asked (keys_that_wait w o) s) ∙ size_asked (keys_that_wait w o) s
+size_proposed (Some w) o s = size_told_all (said_at_once w o) (asked (is_read w) (keys_that_wait w o) s) ∙ size_asked (is_read w) (keys_that_wait w o) s
 
 size_excused : (w : Option Wanted) (why : Option Refusal) (s : Loop) → size (excused w why s) ≡ size s
 size_excused None why s = refl

@@ -22,6 +22,7 @@ pub fn asked_by(who: &[Conn], input: &Input) -> Option<Wanted>
         Input::Commands(commands) => Some(Wanted::Commands(keys_of(who, commands.as_slice()))),
         Input::Stop(_) => Some(Wanted::Stop(*first)),
         Input::TrimNow => Some(Wanted::Trim(*first)),
+        Input::Read(read) => Some(Wanted::Read(*first, (read.client, read.seq))),
         _ => None,
     }
 }
@@ -39,7 +40,7 @@ fn keys_of(who: &[Conn], commands: &[Command]) -> Keys
     keys
 }
 
-/// What is said of a command.
+/// What is said of a command or a read.
 pub fn of_command(key: Key, said: Said) -> ClientReply
     ensures { result ≡ of_command key said }
 {

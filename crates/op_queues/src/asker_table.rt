@@ -3,12 +3,16 @@ ghost use Rattle.std.specs.FinMap as map;
 ghost use Rattle.op_serving.specs.State.{askers_in, without_asker};
 
 use op_outside::Conn;
-use op_serving::Key;
+use op_serving::Awaited;
 use op_types::NoMemory;
 use std::collections::BTreeMap;
 
-/// A connection is the last to have asked for a command. Without memory nobody had asked.
-pub fn put_asker(askers: &mut BTreeMap<Key, Conn>, conn: Conn, key: Key) -> Result<(), NoMemory>
+/// A connection is the last to have asked for a command or a read. Without memory nobody had asked.
+pub fn put_asker(
+    askers: &mut BTreeMap<Awaited, Conn>,
+    conn: Conn,
+    key: Awaited,
+) -> Result<(), NoMemory>
     ensures ok { OnOk result (askers_in askers.new.entries
         ≡ map.insert (askers_in askers.old.entries) key conn) }
     ensures err { OnErr result (askers_in askers.new.entries ≡ askers_in askers.old.entries) }
@@ -18,8 +22,8 @@ pub fn put_asker(askers: &mut BTreeMap<Key, Conn>, conn: Conn, key: Key) -> Resu
     Ok(())
 }
 
-/// Nobody waits for the answer to a command from now on. Gives who waited.
-pub fn forget(askers: &mut BTreeMap<Key, Conn>, key: Key) -> Option<Conn>
+/// Nobody waits for the answer to a command or a read from now on. Gives who waited.
+pub fn forget(askers: &mut BTreeMap<Awaited, Conn>, key: Awaited) -> Option<Conn>
     ensures was { result ≡ map.get (askers_in askers.old.entries) key }
     ensures rest { askers_in askers.new.entries ≡ map.remove (askers_in askers.old.entries) key }
 {
@@ -27,7 +31,7 @@ pub fn forget(askers: &mut BTreeMap<Key, Conn>, key: Key) -> Option<Conn>
 }
 
 /// Whoever asked at a connection waits no more.
-pub fn forget_all(askers: &mut BTreeMap<Key, Conn>, conn: Conn)
+pub fn forget_all(askers: &mut BTreeMap<Awaited, Conn>, conn: Conn)
     ensures { askers_in askers.new.entries
         ≡ without_asker conn (askers_in askers.old.entries) }
 {

@@ -1,13 +1,14 @@
-ghost use Rattle.std.specs.Prelude.{◌≡◌, ◌<◌, ◌≤◌, ◌+◌, ◌++◌, [], All, vec_len, vec_capacity, length, OnOk, OnErr, IfOk, IfNone, IfSome, Some};
+ghost use Rattle.std.specs.Prelude.{◌≡◌, ◌<◌, ◌≤◌, ◌+◌, ◌++◌, [], All, vec_len, vec_capacity, length, false, OnOk, OnErr, IfOk, IfNone, IfSome, Some};
 ghost use Rattle.std.specs.List.{sum_by};
 ghost use Rattle.std.specs.Map.{keys_of, values_of};
 ghost use Rattle.op_types.specs.Ranges.{IsPid};
-ghost use Rattle.op_serving.specs.State.{find, changed, with_bytes, without, down_of};
+ghost use Rattle.op_serving.specs.State.{find, changed, is_overfull, with_bytes, without, down_of};
 ghost use Rattle.op_serving.specs.Counts.{most_of};
 ghost use Rattle.op_serving.specs.Ranges.{KindInRange, SessionInRange};
 ghost use Rattle.op_serving.specs.Reading.{feeding, held_in};
 ghost use Rattle.op_serving.specs.Turns.{dialled_to, queue_in, without_bytes};
 ghost use Rattle.op_queues.specs.Hearing.{TakesOut, FoundInRange, least_taken};
+ghost use Rattle.op_queues.specs.Filling.{IsThin};
 
 use crate::front::{Front, take_front};
 use op_outside::Conn;
@@ -16,19 +17,30 @@ use op_types::{NoMemory, Pid};
 use std::alloc::Global;
 use std::collections::BTreeMap;
 
-/// Adds bytes to what waits for a connection. Without memory nothing changes.
-#[tactic(auto, using(std::proofs::lemmas::Map::Steps::set_value_same, crate::proofs::InRange::set_session, crate::proofs::InRange::found_in_range))]
-pub fn add(sessions: &mut BTreeMap<Conn, Session>, conn: Conn, bytes: &[u8]) -> Result<(), NoMemory>
+/// Adds bytes to what waits for a connection. Gives whether more wait then than may. Without memory nothing
+/// changes.
+#[tactic(auto, using(std::proofs::lemmas::Map::Steps::set_value_same, crate::proofs::InRange::set_session, crate::proofs::InRange::found_in_range, crate::proofs::Filling::set_thin, crate::proofs::Filling::not_overfull))]
+pub fn add(
+    sessions: &mut BTreeMap<Conn, Session>,
+    conn: Conn,
+    bytes: &[u8],
+) -> Result<bool, NoMemory>
     ensures ok { OnOk result
         (sessions.new.entries ≡ changed (with_bytes bytes.now) conn sessions.old.entries) }
     ensures err { OnErr result (sessions.new.entries ≡ sessions.old.entries) }
     ensures len { length sessions.new.entries ≡ length sessions.old.entries }
     ensures range { All SessionInRange (values_of sessions.old.entries) →
         All SessionInRange (values_of sessions.new.entries) }
+    ensures over { IfOk result (λ over. over ≡ is_overfull (find conn sessions.new.entries)) }
+    ensures thin { IfOk result (λ over. over ≡ false → All IsThin (values_of sessions.old.entries) →
+        All IsThin (values_of sessions.new.entries)) }
 {
     match sessions.get_mut(&conn) {
-        Some(session) => session.queue.add(bytes),
-        None => Ok(()),
+        Some(session) => {
+            session.queue.add(bytes)?;
+            Ok(session.is_overfull())
+        }
+        None => Ok(false),
     }
 }
 
@@ -41,6 +53,7 @@ pub fn take_out(sessions: &mut BTreeMap<Conn, Session>, conn: Conn) -> Option<Se
     ensures len { IfSome result (λ _. length sessions.new.entries + 1 ≡ length sessions.old.entries) }
     ensures range { All SessionInRange (values_of sessions.old.entries) →
         IfSome result SessionInRange × All SessionInRange (values_of sessions.new.entries) }
+    ensures thin { All IsThin (values_of sessions.old.entries) → All IsThin (values_of sessions.new.entries) }
 {
     let _count = sessions.len();
     sessions.remove(&conn)
@@ -60,7 +73,7 @@ pub fn note_down(downs: &mut Vec<Pid>, kind: Kind)
 }
 
 /// Adds bytes to what a session has read. Gives how many it holds then. Without memory nothing changes.
-#[tactic(auto, using(std::proofs::lemmas::Map::Steps::set_value_same, crate::proofs::InRange::set_session, crate::proofs::InRange::found_in_range))]
+#[tactic(auto, using(std::proofs::lemmas::Map::Steps::set_value_same, crate::proofs::InRange::set_session, crate::proofs::Filling::set_thin, crate::proofs::Filling::found_thin, crate::proofs::InRange::found_in_range))]
 pub fn feed(
     sessions: &mut BTreeMap<Conn, Session>,
     conn: Conn,
@@ -72,6 +85,7 @@ pub fn feed(
     ensures len { length sessions.new.entries ≡ length sessions.old.entries }
     ensures range { All SessionInRange (values_of sessions.old.entries) →
         All SessionInRange (values_of sessions.new.entries) }
+    ensures thin { All IsThin (values_of sessions.old.entries) → All IsThin (values_of sessions.new.entries) }
 {
     match sessions.get_mut(&conn) {
         Some(session) => {
@@ -83,7 +97,7 @@ pub fn feed(
 }
 
 /// Takes what stands at the front of what a session has read.
-#[tactic(auto, using(crate::proofs::InRange::set_session, crate::proofs::InRange::found_in_range))]
+#[tactic(auto, using(crate::proofs::InRange::set_session, crate::proofs::Filling::set_thin, crate::proofs::Filling::found_thin, crate::proofs::InRange::found_in_range))]
 pub fn take_front_at(
     sessions: &mut BTreeMap<Conn, Session>,
     conn: Conn,
@@ -98,6 +112,7 @@ pub fn take_front_at(
     ensures len { length sessions.new.entries ≡ length sessions.old.entries }
     ensures range { All SessionInRange (values_of sessions.old.entries) →
         All SessionInRange (values_of sessions.new.entries) }
+    ensures thin { All IsThin (values_of sessions.old.entries) → All IsThin (values_of sessions.new.entries) }
 {
     match sessions.get_mut(&conn) {
         Some(session) => take_front(session, me, alloc),
@@ -106,7 +121,7 @@ pub fn take_front_at(
 }
 
 /// Whose a session is from now on.
-#[tactic(auto, using(crate::proofs::InRange::set_session))]
+#[tactic(auto, using(crate::proofs::InRange::set_session, crate::proofs::Filling::set_thin, crate::proofs::Filling::found_thin))]
 pub fn set_kind(sessions: &mut BTreeMap<Conn, Session>, conn: Conn, kind: Kind)
     requires { KindInRange kind }
     ensures is { sessions.new.entries
@@ -114,6 +129,7 @@ pub fn set_kind(sessions: &mut BTreeMap<Conn, Session>, conn: Conn, kind: Kind)
     ensures len { length sessions.new.entries ≡ length sessions.old.entries }
     ensures range { All SessionInRange (values_of sessions.old.entries) →
         All SessionInRange (values_of sessions.new.entries) }
+    ensures thin { All IsThin (values_of sessions.old.entries) → All IsThin (values_of sessions.new.entries) }
 {
     if let Some(session) = sessions.get_mut(&conn) {
         session.kind = kind;
@@ -142,13 +158,14 @@ pub fn dial_link(peers: &mut BTreeMap<Pid, Option<Conn>>, kind: Kind, conn: Conn
 }
 
 /// A connection took so many bytes of what waits for it.
-#[tactic(auto, using(crate::proofs::InRange::set_session, crate::proofs::InRange::found_in_range, crate::proofs::Joining::queue_within))]
+#[tactic(auto, using(crate::proofs::InRange::set_session, crate::proofs::Filling::set_thin, crate::proofs::Filling::found_thin, crate::proofs::InRange::found_in_range, crate::proofs::Joining::queue_within))]
 pub fn took_at(sessions: &mut BTreeMap<Conn, Session>, conn: Conn, n: usize)
     requires { n ≤ length (queue_in (find conn sessions.old.entries)) }
     ensures is { sessions.new.entries ≡ changed (without_bytes n) conn sessions.old.entries }
     ensures len { length sessions.new.entries ≡ length sessions.old.entries }
     ensures range { All SessionInRange (values_of sessions.old.entries) →
         All SessionInRange (values_of sessions.new.entries) }
+    ensures thin { All IsThin (values_of sessions.old.entries) → All IsThin (values_of sessions.new.entries) }
 {
     if let Some(session) = sessions.get_mut(&conn) {
         session.queue.took(n);

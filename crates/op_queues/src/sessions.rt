@@ -1,4 +1,5 @@
-ghost use Rattle.std.specs.Prelude.{◌≡◌, ◌<◌, ◌≤◌, ◌+◌, ◌∷◌, drop, ◌↔◌, [], All, ℕ, List, length, IsTrue, OnOk, OnErr, IfOk, IfNone, IfSome, None, true, false};
+ghost use Rattle.std.specs.Map.{keys_of, values_of};
+ghost use Rattle.std.specs.Prelude.{◌≡◌, ◌<◌, ◌≤◌, ◌+◌, ◌∷◌, drop, flat_map, ◌↔◌, [], All, ℕ, List, length, IsTrue, OnOk, OnErr, IfOk, IfNone, IfSome, None, true, false};
 ghost use Rattle.std.specs.FinMap as map;
 ghost use Rattle.op_types.specs.Limits.{most_commands};
 ghost use Rattle.op_types.specs.Ranges.{IsPid, CommandInRange};
@@ -7,15 +8,16 @@ ghost use Rattle.op_command.specs.Replies.{said_of as denied};
 ghost use Rattle.op_command.specs.Ranges.{ReplyInRange, DenialInRange, OutcomeInRange, RefusalInRange, SaidInRange};
 ghost use Rattle.op_serving.specs.declared.wanted.Wanted.TheVariants.{Trim};
 ghost use Rattle.op_serving.specs.Wire.{peer_frame, client_frame};
-ghost use Rattle.op_serving.specs.State.{find, is_open, kind_at, session_of, waits_for, left_by, next, counted, down_of};
+ghost use Rattle.op_serving.specs.State.{find, is_open, is_overfull, kind_at, session_of, shed, waits_for, left_by, next, conn_of, counted, down_of};
 ghost use Rattle.op_serving.specs.Ranges.{KindInRange, KeyInRange, KeyAtInRange, WantedInRange, SendInRange, ReplyInRange as AnswerInRange};
 ghost use Rattle.op_serving.specs.Losses.{most_marks, marked, settled, lost_by, lost_if_open, Does};
-ghost use Rattle.op_serving.specs.Handing.{sent, sent_all, forgotten, replied, replied_all, asked, asked_by_one, of_command, no_command, said_each, said_of_refusal, said_of_outcome, said_of_denial, told, told_all, waits_unless, proposed, excused};
+ghost use Rattle.op_serving.specs.Handing.{sent, sent_all, forgotten, replied, replied_all, asked, asked_by_one, of_command, no_command, said_each, said_of_refusal, said_of_outcome, said_of_read, said_of_denial, told, told_all, waits_if_asked, waits_unless, proposed, excused};
 ghost use Rattle.op_serving.specs.Inputs.{releases};
 ghost use Rattle.op_serving.specs.Reading.{feeds, frames_at, held_in, is_peer, links};
 ghost use Rattle.op_serving.specs.Turns.{closed_new, dialled_to, fresh, joining, knowing, queue_in, waiting_from, taken_of, turn_begins, happens_at};
 ghost use Rattle.op_serving.specs.Counts.{most_inputs};
 ghost use Rattle.op_queues.specs.Hearing.{TakesAt, FoundInRange, least_taken};
+ghost use Rattle.op_queues.specs.Filling.{IsThin, first_over, over_of};
 ghost use Rattle.op_queues.specs.Gathering.{Gathers, RunInRange};
 
 use crate::asked::{denied, of_command, of_no_command, refusal};
@@ -28,7 +30,7 @@ use crate::session_table::{
 };
 use op_command::{ClientReply, Said};
 use op_outside::Conn;
-use op_serving::{Key, Kind, Mark, Place, Session, Wanted};
+use op_serving::{Awaited, Key, Kind, Mark, Place, Session, Wanted};
 use op_types::{
     Command, MOST_COMMANDS, Msg, NoMemory, Outcome, Pid, Refusal, Replies, Reply, Sends,
 };
@@ -48,8 +50,10 @@ pub struct Sessions {
     /// Each peer, and the connection of its last session.
     peers: BTreeMap<Pid, Option<Conn>>,
     sessions: BTreeMap<Conn, Session>,
-    /// Who asked last for a command, by its client and number: the connection of a session that is there.
-    askers: BTreeMap<Key, Conn>,
+    /// Where it is not set, no more bytes wait for any of them than may.
+    overfull: bool,
+    /// Who asked last for a command or a read: the connection of a session that is there.
+    askers: BTreeMap<Awaited, Conn>,
     gathered: Run,
     place: Place,
     /// There is room for all of them.
@@ -65,7 +69,7 @@ pub struct Sessions {
 }
 
 impl Model for Sessions {
-    ghost use Rattle.std.specs.Prelude.{◌≡◌, ◌<◌, ◌≤◌, ◌+◌, [], length, vec_capacity, All};
+    ghost use Rattle.std.specs.Prelude.{◌≡◌, ◌<◌, ◌≤◌, ◌+◌, [], length, vec_capacity, All, false};
     ghost use Rattle.std.specs.Map.{keys_of, values_of};
     ghost use Rattle.op_types.specs.Limits.{most_commands};
     ghost use Rattle.op_types.specs.Ranges.{IsPid};
@@ -74,6 +78,7 @@ impl Model for Sessions {
     ghost use Rattle.op_serving.specs.Ranges.{SessionInRange, GatheredInRange};
     ghost use Rattle.op_serving.specs.Codes.{askers_code};
     ghost use Rattle.op_serving.specs.Losses.{most_marks};
+    ghost use Rattle.op_queues.specs.Filling.{IsThin};
 
     ghost Value = { Loop };
 
@@ -100,7 +105,8 @@ impl Model for Sessions {
         × (most_marks ≤ length s.lost.items → s.sessions.entries ≡ [])
         × (length s.gathered < most_commands) × All GatheredInRange s.gathered
         × IsPid s.me × All IsPid (keys_of s.peers.entries) × All IsPid s.downs.items
-        × All SessionInRange (values_of s.sessions.entries) };
+        × All SessionInRange (values_of s.sessions.entries)
+        × (s.overfull ≡ false → All IsThin (values_of s.sessions.entries)) };
 }
 
 impl Sessions {
@@ -113,6 +119,7 @@ impl Sessions {
             me,
             peers: BTreeMap::new(alloc),
             sessions: BTreeMap::new(alloc),
+            overfull: false,
             askers: BTreeMap::new(alloc),
             gathered: Run::new(alloc),
             place: Place {
@@ -245,7 +252,7 @@ impl Sessions {
     }
 
     /// A new connection has a session, and there is room for its end. Without memory nothing changes.
-    #[tactic(auto, using(crate::proofs::InRange::put_session, crate::proofs::Joining::length_put))]
+    #[tactic(auto, using(crate::proofs::InRange::put_session, crate::proofs::Joining::length_put, crate::proofs::Filling::put_thin, crate::proofs::Filling::made_thin))]
     fn admit(&mut self, conn: Conn, kind: Kind) -> Result<(), NoMemory>
         requires new { is_open conn self.old ≡ false }
         requires few { length self.old.lost < most_marks }
@@ -422,6 +429,70 @@ impl Sessions {
         note_down(&mut self.downs, session.kind);
     }
 
+    /// Each session for which more bytes wait than may is over, those of peers first, by rising id. This takes no
+    /// memory, and looks at the sessions only where there may be such a one.
+    pub fn shed(&mut self)
+        ensures is { self.new ≡ shed self.old }
+        ensures up { self.old.place.inputs ≤ next self.old.place.inputs }
+    {
+        if !self.overfull {
+            return;
+        }
+        'overfull: while let Some(conn) = self.next_overfull() {
+            self.leave(conn);
+            self.count_input();
+        }
+        self.overfull = false;
+    }
+
+    /// The first connection for which more bytes wait than may: of peers' last sessions by rising id, or else of all.
+    fn next_overfull(&self) -> Option<Conn>
+        ensures next { result ≡ over_of self.now }
+        ensures thin { IfNone result (All IsThin (values_of self.now.sessions)) }
+    {
+        match self.overfull_peer() {
+            Some(conn) => Some(conn),
+            None => self.overfull_session(),
+        }
+    }
+
+    /// The first of the peers' last sessions for which more bytes wait than may.
+    fn overfull_peer(&self) -> Option<Conn>
+        ensures { result ≡ first_over self.now.sessions (flat_map conn_of self.now.peers) }
+    {
+        for (_peer, link) in self.peers.iter() {
+            if let Some(conn) = link {
+                if self.is_overfull(*conn) {
+                    return Some(*conn);
+                }
+            }
+        }
+        None
+    }
+
+    /// The first session for which more bytes wait than may.
+    fn overfull_session(&self) -> Option<Conn>
+        ensures first { result ≡ first_over self.now.sessions (keys_of self.now.sessions) }
+        ensures thin { IfNone result (All IsThin (values_of self.now.sessions)) }
+    {
+        for (conn, _session) in self.sessions.iter() {
+            if self.is_overfull(*conn) {
+                return Some(*conn);
+            }
+        }
+        None
+    }
+
+    /// Whether more bytes wait for a connection than may.
+    fn is_overfull(&self, conn: Conn) -> bool
+        ensures { result ≡ is_overfull (find conn self.now.sessions) }
+    {
+        match self.sessions.get(&conn) {
+            Some(session) => session.is_overfull(),
+            None => false,
+        }
+    }
+
     /// A session is lost for want of memory.
     pub fn lose(&mut self, conn: Conn)
         ensures lost { self.new ≡ lost_if_open conn self.old }
@@ -522,7 +593,9 @@ impl Sessions {
         ensures err { OnErr result (self.new ≡ self.old) }
     {
         put_message(&mut self.frame, self.me, to, message)?;
-        add(&mut self.sessions, conn, self.frame.as_slice())
+        let is_over = add(&mut self.sessions, conn, self.frame.as_slice())?;
+        self.overfull = self.overfull || is_over;
+        Ok(())
     }
 
     /// How many commands were gathered.
@@ -556,31 +629,31 @@ impl Sessions {
         mem::replace(&mut self.gathered, Run::new(self.alloc))
     }
 
-    /// Where the answer to a command goes: to the session that asked last. Then nobody waits.
-    fn asker(&mut self, key: Key) -> Option<Conn>
+    /// Where the answer to a command or a read goes: to the session that asked last. Then nobody waits.
+    fn asker(&mut self, key: Awaited) -> Option<Conn>
         ensures conn { result ≡ map.get self.old.askers key }
         ensures new { self.new ≡ forgotten key self.old }
     {
         forget(&mut self.askers, key)
     }
 
-    /// A command is asked for: who asked for it before waits no more, and this session does. Where that finds no
-    /// memory, the session is lost.
-    fn ask(&mut self, conn: Conn, key: Key)
-        ensures { Does (λ marks s. settled marks (asked_by_one (conn, key) s)) self.old self.new }
+    /// A command or a read is asked for: who asked for it before waits no more, and this session does. Where that
+    /// finds no memory, the session is lost.
+    fn ask(&mut self, read: bool, conn: Conn, key: Key)
+        ensures { Does (λ marks s. settled marks (asked_by_one read (conn, key) s)) self.old self.new }
     {
         if !self.is_open(conn) {
-            self.asker(key);
+            self.asker((read, key));
             return;
         }
-        match self.note(conn, key) {
+        match self.note(conn, (read, key)) {
             Ok(()) => {}
             Err(_) => self.lose(conn),
         }
     }
 
-    /// Notes who asks last for a command. Without memory nothing changes, and nobody had asked.
-    fn note(&mut self, conn: Conn, key: Key) -> Result<(), NoMemory>
+    /// Notes who asks last for a command or a read. Without memory nothing changes, and nobody had asked.
+    fn note(&mut self, conn: Conn, key: Awaited) -> Result<(), NoMemory>
         ensures ok { OnOk result
             (self.new ≡ record self.old { askers = map.insert self.old.askers key conn }) }
         ensures err { OnErr result (self.new ≡ self.old) }
@@ -591,15 +664,15 @@ impl Sessions {
 
     /// Commands are asked for, in their order.
     fn ask_all(&mut self, keys: &[(Conn, Key)])
-        ensures { Does (λ marks s. settled marks (asked keys.now s)) self.old self.new }
+        ensures { Does (λ marks s. settled marks (asked false keys.now s)) self.old self.new }
     {
         for (conn, key) in keys {
-            self.ask(*conn, *key);
+            self.ask(false, *conn, *key);
         }
     }
 
     /// What becomes of what was asked for: commands wait for their answers, or each is told why it is refused;
-    /// of a stop-sign or a trim all is told.
+    /// a read waits where the members are asked, and of all else what becomes of it is told.
     pub fn propose(&mut self, wanted: Option<Wanted>, outcome: Option<Outcome>)
         requires wanted { IfSome wanted WantedInRange }
         requires outcome { IfSome outcome OutcomeInRange }
@@ -610,6 +683,7 @@ impl Sessions {
             Some(Wanted::Commands(keys)) => self.propose_all(keys.as_slice(), refusal(outcome)),
             Some(Wanted::Stop(conn)) => self.tell_outcome(conn, outcome),
             Some(Wanted::Trim(conn)) => self.tell_outcome(conn, outcome),
+            Some(Wanted::Read(conn, key)) => self.propose_read(conn, key, outcome),
         }
     }
 
@@ -618,12 +692,36 @@ impl Sessions {
         requires keys { All KeyAtInRange keys.now }
         requires why { IfSome why RefusalInRange }
         ensures { Does (λ marks s. settled marks (told_all (said_of_refusal keys.now why)
-            (asked (waits_unless why keys.now) s))) self.old self.new }
+            (asked false (waits_unless why keys.now) s))) self.old self.new }
     {
         match why {
             None => self.ask_all(keys),
             Some(why) => self.deny_all(keys, Some(why)),
         }
+    }
+
+    /// A read waits for its answer where the members are asked; else what becomes of it is told.
+    fn propose_read(&mut self, conn: Conn, key: Key, outcome: Option<Outcome>)
+        requires key { KeyInRange key }
+        requires outcome { IfSome outcome OutcomeInRange }
+        ensures { Does (λ marks s. settled marks (told_all (said_of_read conn key outcome)
+            (asked true (waits_if_asked conn key outcome) s))) self.old self.new }
+    {
+        match outcome {
+            None => {}
+            Some(Outcome::Asked) => self.ask(true, conn, key),
+            Some(outcome) => self.tell_key(conn, key, Said::Outcome(outcome)),
+        }
+    }
+
+    /// A client is told something of a command or a read.
+    fn tell_key(&mut self, conn: Conn, key: Key, said: Said)
+        requires key { KeyInRange key }
+        requires said { SaidInRange said }
+        ensures { Does (λ marks s. settled marks (told conn (of_command key said) s)) self.old self.new }
+    {
+        let what = of_command(key, said);
+        self.answer(conn, &what);
     }
 
     /// An outcome is told, if there is one.
@@ -649,6 +747,7 @@ impl Sessions {
             Some(Wanted::Commands(keys)) => self.deny_all(keys.as_slice(), why),
             Some(Wanted::Stop(conn)) => self.tell(conn, denied(why)),
             Some(Wanted::Trim(conn)) => self.deny_trim(conn, why),
+            Some(Wanted::Read(conn, key)) => self.deny(conn, key, why),
         }
     }
 
@@ -664,15 +763,14 @@ impl Sessions {
         }
     }
 
-    /// A command is told why it was not done.
+    /// A command or a read is told why it was not done.
     fn deny(&mut self, conn: Conn, key: Key, why: Option<Refusal>)
         requires key { KeyInRange key }
         requires why { DenialInRange why }
         ensures { Does (λ marks s. settled marks (told conn (of_command key (denied why)) s))
             self.old self.new }
     {
-        let what = of_command(key, denied(why));
-        self.answer(conn, &what);
+        self.tell_key(conn, key, denied(why));
     }
 
     /// Who asked for trimming is told why it was not done, but not that it was lost.
@@ -696,17 +794,17 @@ impl Sessions {
         self.answer(conn, &what);
     }
 
-    /// The answer to a command goes to the session that asked last for it.
-    pub fn reply(&mut self, decided: Reply)
+    /// The answer to a command, or to a read, goes to the session that asked last for it.
+    pub fn reply(&mut self, read: bool, decided: Reply)
         requires { AnswerInRange decided }
-        ensures { Does (λ marks s. settled marks (replied decided s)) self.old self.new }
+        ensures { Does (λ marks s. settled marks (replied read decided s)) self.old self.new }
     {
         let Reply {
             client,
             seq,
             answer,
         } = decided;
-        let Some(conn) = self.asker((client, seq)) else {
+        let Some(conn) = self.asker((read, (client, seq))) else {
             return;
         };
         let told = ClientReply {
@@ -717,13 +815,13 @@ impl Sessions {
         self.answer(conn, &told);
     }
 
-    /// Answers to commands, in their order.
-    pub fn reply_all(&mut self, replies: Replies)
+    /// Answers to commands, or to reads, in their order.
+    pub fn reply_all(&mut self, read: bool, replies: Replies)
         requires { All AnswerInRange replies }
-        ensures { Does (λ marks s. settled marks (replied_all replies s)) self.old self.new }
+        ensures { Does (λ marks s. settled marks (replied_all read replies s)) self.old self.new }
     {
         for decided in replies.into_vec() {
-            self.reply(decided);
+            self.reply(read, decided);
         }
     }
 
@@ -746,6 +844,8 @@ impl Sessions {
         ensures err { OnErr result (self.new ≡ self.old) }
     {
         put_reply(&mut self.frame, told)?;
-        add(&mut self.sessions, conn, self.frame.as_slice())
+        let is_over = add(&mut self.sessions, conn, self.frame.as_slice())?;
+        self.overfull = self.overfull || is_over;
+        Ok(())
     }
 }

@@ -3,14 +3,12 @@
 use Rattle.std.specs.Prelude.{ℕ, [], Bool, false, is_some, Option, Some, None}
 use Rattle.op_types.specs.declared.durable.Durable.{Durable}
 use Rattle.op_types.specs.declared.answers.Outcome.{Outcome}
-use Rattle.op_types.specs.declared.answers.Outcome.TheVariants.{Refused}
-use Rattle.op_types.specs.declared.answers.Refusal.TheVariants.{StorageFailed}
 use Rattle.op_types.specs.declared.events.Input.{Input}
 use Rattle.op_types.specs.declared.events.Input.TheVariants as input
 use Rattle.op_protocol.specs.State.{State, Planned, state_after}
 use Rattle.op_protocol.specs.Rows.{step_plan}
 use Rattle.op_protocol.specs.Starting.{sends_after_restart}
-use Rattle.op_runs.specs.World.{state_after_reopening}
+use Rattle.op_runs.specs.World.{failed_outcome, state_after_reopening}
 use Rattle.op_serving.specs.declared.node.Given.{Given}
 
 -- whose node it is, its state in the step table, the count with which it failed,
@@ -23,18 +21,16 @@ pub record Standing : Type 0 where
 
 -- what a plan gives out
 abbrev pub given_of : Planned → Given
-given_of p = record { sends = p.sends; replies = p.replies; outcome = p.outcome }
+given_of p =
+    record { sends = p.sends; replies = p.replies; read_replies = p.read_replies; outcome = p.outcome }
 
 -- an outcome alone is given out
 abbrev pub saying : Option Outcome → Given
-saying o = record { sends = []; replies = []; outcome = o }
+saying o = record { sends = []; replies = []; read_replies = []; outcome = o }
 
--- a node that has failed refuses what is proposed, and to trim, and does nothing else
+-- a node that has failed refuses what is proposed, to trim and to read, and does nothing else
 abbrev pub refused_with : ℕ → Input → Given
-refused_with count (input.Commands cs) = saying (Some (Refused (StorageFailed count)))
-refused_with count (input.Stop members) = saying (Some (Refused (StorageFailed count)))
-refused_with count input.TrimNow = saying (Some (Refused (StorageFailed count)))
-refused_with count x = saying None
+refused_with count x = saying (failed_outcome count x)
 
 -- what an input gives out
 unfoldable pub gives : Standing → Input → Given
@@ -63,4 +59,5 @@ reopened d n = record n { state = state_after_reopening n.me n.state d; failed =
 
 -- and it sends what it does after a restart
 unfoldable pub given_again : Standing → Durable → Given
-given_again n d = record { sends = sends_after_restart n.me d; replies = []; outcome = None }
+given_again n d =
+    record { sends = sends_after_restart n.me d; replies = []; read_replies = []; outcome = None }

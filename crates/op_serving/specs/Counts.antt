@@ -13,10 +13,10 @@ hello_in Unknown = 0
 hello_in (Peer q h) = h
 hello_in Client = 0
 
--- so many inputs may yet come of a session: its Down, no more Ups than bytes of the own hello are left, and
--- no more frames than bytes are held
+-- so much may yet be counted of a session: its end where too many bytes wait, its Down, no more Ups than
+-- bytes of the own hello are left, and no more frames than bytes are held
 abbrev pub most_of : Session → ℕ
-most_of x = 1 + hello_in x.kind + length x.frames.held
+most_of x = 2 + hello_in x.kind + length x.frames.held
 
 -- so many came, or may yet come of what is there: Downs, commands that were gathered, and sessions
 unfoldable pub most_inputs : Loop → ℕ

@@ -1,8 +1,8 @@
 -- What is handed out of a step, in ample memory: what each connection is told, and what then waits for it.
-use Rattle.std.specs.Prelude.{◌++◌, ◌∷◌, [], ℕ, List, map as each, Option, Some, None, if◌then◌else◌}
+use Rattle.std.specs.Prelude.{◌++◌, ◌∷◌, [], ℕ, Bool, true, false, List, map as each, Option, Some, None, if◌then◌else◌}
 use Rattle.std.specs.FinMap as map
 use Rattle.op_types.specs.declared.answers.Outcome.{Outcome}
-use Rattle.op_types.specs.declared.answers.Outcome.TheVariants.{Refused}
+use Rattle.op_types.specs.declared.answers.Outcome.TheVariants.{Refused, Asked}
 use Rattle.op_types.specs.declared.answers.Refusal.{Refusal}
 use Rattle.op_types.specs.declared.answers.Reply.{Reply}
 use Rattle.op_types.specs.declared.messages.Msg.{Msg}
@@ -11,10 +11,10 @@ use Rattle.op_command.specs.declared.said.Said.{Said}
 use Rattle.op_command.specs.declared.said.Said.TheVariants as said
 use Rattle.op_command.specs.Replies.{said_of as denied}
 use Rattle.op_serving.specs.declared.wanted.Wanted.{Wanted}
-use Rattle.op_serving.specs.declared.wanted.Wanted.TheVariants.{Commands, Stop, Trim}
+use Rattle.op_serving.specs.declared.wanted.Wanted.TheVariants.{Commands, Stop, Trim, Read}
 use Rattle.op_serving.specs.declared.node.Given.{Given}
 use Rattle.op_serving.specs.Wire.{peer_frame, client_frame}
-use Rattle.op_serving.specs.State.{Key, Loop, is_open, session_of, waits_for}
+use Rattle.op_serving.specs.State.{Key, Awaited, Loop, is_open, session_of, waits_for}
 
 -- a frame for a connection
 abbrev pub Frame : Type 0
@@ -45,33 +45,36 @@ frames_sent (m ∷ ms) s = frame_at (session_of m.0 s) (peer_frame s.me m.0 m.1)
 abbrev pub told : ℕ → ClientReply → Loop → Loop
 told c x s = waits_for c (client_frame x) s
 
--- the answer to a command goes to the session that asked last; then nobody waits
-abbrev pub forgotten : Key → Loop → Loop
+-- the answer to a command, or to a read, goes to the session that asked last; then nobody waits
+abbrev pub forgotten : Awaited → Loop → Loop
 forgotten key s = record s { askers = map.remove s.askers key }
 
 abbrev pub answered : Reply → ClientReply
 answered r = record { client = r.client; seq = r.seq; said = said.Answer r.answer }
 
-abbrev pub replied : Reply → Loop → Loop
-replied r s =
-    let key : Key = (r.client, r.seq) in
+abbrev pub replied : Bool → Reply → Loop → Loop
+replied read r s =
+    let key : Awaited = (read, (r.client, r.seq)) in
     said_at (map.get s.askers key) (client_frame (answered r)) (forgotten key s)
 
-abbrev pub replied_all : List Reply → Loop → Loop
-replied_all [] s = s
-replied_all (r ∷ rs) s = replied_all rs (replied r s)
+abbrev pub replied_all : Bool → List Reply → Loop → Loop
+replied_all read [] s = s
+replied_all read (r ∷ rs) s = replied_all read rs (replied read r s)
 
-abbrev pub frames_replied : List Reply → Loop → List Frame
-frames_replied [] s = []
-frames_replied (r ∷ rs) s =
-    frame_at (map.get s.askers (r.client, r.seq)) (client_frame (answered r))
-    ++ frames_replied rs (replied r s)
+abbrev pub frames_replied : Bool → List Reply → Loop → List Frame
+frames_replied read [] s = []
+frames_replied read (r ∷ rs) s =
+    frame_at (map.get s.askers (read, (r.client, r.seq))) (client_frame (answered r))
+    ++ frames_replied read rs (replied read r s)
 
+-- messages go first, then the answers to commands, and then those to reads
 abbrev pub handed_out : Given → Loop → Loop
-handed_out g s = replied_all g.replies (sent_all g.sends s)
+handed_out g s = replied_all true g.read_replies (replied_all false g.replies (sent_all g.sends s))
 
 abbrev pub frames_handed : Given → Loop → List Frame
-frames_handed g s = frames_sent g.sends s ++ frames_replied g.replies (sent_all g.sends s)
+frames_handed g s =
+    frames_sent g.sends s ++ frames_replied false g.replies (sent_all g.sends s)
+    ++ frames_replied true g.read_replies (replied_all false g.replies (sent_all g.sends s))
 
 -- ---- what clients ask for
 
@@ -79,7 +82,7 @@ frames_handed g s = frames_sent g.sends s ++ frames_replied g.replies (sent_all 
 abbrev pub Told : Type 0
 Told = ℕ × ClientReply
 
--- what is said of a command
+-- what is said of a command or a read
 abbrev pub of_command : Key → Said → ClientReply
 of_command key what = record { client = key.0; seq = key.1; said = what }
 
@@ -106,11 +109,18 @@ abbrev pub said_of_outcome : ℕ → Option Outcome → List Told
 said_of_outcome c None = []
 said_of_outcome c (Some o) = (c, no_command (said.Outcome o)) ∷ []
 
+-- of a read all but that its members are asked
+abbrev pub said_of_read : ℕ → Key → Option Outcome → List Told
+said_of_read c key None = []
+said_of_read c key (Some Asked) = []
+said_of_read c key (Some o) = (c, of_command key (said.Outcome o)) ∷ []
+
 -- what is told at once of what becomes of what was asked for
 abbrev pub said_at_once : Wanted → Option Outcome → List Told
 said_at_once (Commands keys) o = said_of_refusal keys (refusal_of o)
 said_at_once (Stop c) o = said_of_outcome c o
 said_at_once (Trim c) o = said_of_outcome c o
+said_at_once (Read c key) o = said_of_read c key o
 
 -- what is said where an input was not done, for this cause or for want of memory;
 -- a trim that is lost is told nothing
@@ -119,6 +129,7 @@ said_of_denial (Commands keys) why = said_each keys (denied why)
 said_of_denial (Stop c) why = (c, no_command (denied why)) ∷ []
 said_of_denial (Trim c) None = []
 said_of_denial (Trim c) (Some why) = (c, no_command (denied (Some why))) ∷ []
+said_of_denial (Read c key) why = (c, of_command key (denied why)) ∷ []
 
 -- clients are told all this
 abbrev pub told_all : List Told → Loop → Loop
@@ -129,32 +140,45 @@ told_all (r ∷ rs) s = told_all rs (told r.0 r.1 s)
 abbrev pub frames_told : List Told → List Frame
 frames_told rs = each (λ r. (r.0, client_frame r.1)) rs
 
--- A command is asked for: who asked for it before waits no more, and a connection with a session does.
-abbrev pub asked_by_one : ℕ × Key → Loop → Loop
-asked_by_one p s = record s {
-  askers = if is_open p.0 s then map.insert s.askers p.1 p.0 else map.remove s.askers p.1;
+-- A command or a read is asked for: who asked for it before waits no more, and a connection with a session
+-- does.
+abbrev pub asked_by_one : Bool → ℕ × Key → Loop → Loop
+asked_by_one read p s = record s {
+  askers = if is_open p.0 s
+      then map.insert s.askers (read, p.1) p.0
+      else map.remove s.askers (read, p.1);
 }
 
 -- so is each of these
-abbrev pub asked : List (ℕ × Key) → Loop → Loop
-asked [] s = s
-asked (p ∷ ps) s = asked ps (asked_by_one p s)
+abbrev pub asked : Bool → List (ℕ × Key) → Loop → Loop
+asked read [] s = s
+asked read (p ∷ ps) s = asked read ps (asked_by_one read p s)
 
 -- commands that are not refused wait for their answers
 abbrev pub waits_unless : Option Refusal → List (ℕ × Key) → List (ℕ × Key)
 waits_unless None keys = keys
 waits_unless (Some why) keys = []
 
--- which commands wait for their answers
+-- a read waits for its answer where the members are asked
+abbrev pub waits_if_asked : ℕ → Key → Option Outcome → List (ℕ × Key)
+waits_if_asked c key (Some Asked) = (c, key) ∷ []
+waits_if_asked c key o = []
+
+-- what waits for its answer
 abbrev pub keys_that_wait : Wanted → Option Outcome → List (ℕ × Key)
 keys_that_wait (Commands keys) o = waits_unless (refusal_of o) keys
 keys_that_wait (Stop c) o = []
 keys_that_wait (Trim c) o = []
+keys_that_wait (Read c key) o = waits_if_asked c key o
+
+abbrev pub is_read : Wanted → Bool
+is_read (Read c key) = true
+is_read w = false
 
 -- what becomes of what was asked for
 abbrev pub proposed : Option Wanted → Option Outcome → Loop → Loop
 proposed None o s = s
-proposed (Some w) o s = told_all (said_at_once w o) (asked (keys_that_wait w o) s)
+proposed (Some w) o s = told_all (said_at_once w o) (asked (is_read w) (keys_that_wait w o) s)
 
 -- the frames of that
 abbrev pub frames_proposed : Option Wanted → Option Outcome → List Frame

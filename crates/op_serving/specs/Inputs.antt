@@ -7,12 +7,12 @@ use Rattle.op_types.specs.declared.events.Input.{Input}
 use Rattle.op_types.specs.declared.events.Input.TheVariants as input
 use Rattle.op_types.specs.declared.log.Command.{Command}
 use Rattle.op_serving.specs.declared.wanted.Wanted.{Wanted}
-use Rattle.op_serving.specs.declared.wanted.Wanted.TheVariants.{Commands, Stop, Trim}
+use Rattle.op_serving.specs.declared.wanted.Wanted.TheVariants.{Commands, Stop, Trim, Read}
 use Rattle.op_serving.specs.declared.mark.Mark.{Mark}
 use Rattle.op_serving.specs.Cores.{Standing, gives, reopens, given_again}
 use Rattle.op_serving.specs.Fates.{Fate, done, finds, faults, damaged, lost, after_fate}
 use Rattle.op_serving.specs.Handing.{Frame, handed_out, frames_handed, proposed, frames_proposed, excused, frames_excused}
-use Rattle.op_serving.specs.State.{Key, Loop, is_open, left_by, counted}
+use Rattle.op_serving.specs.State.{Key, Loop, is_open, left_by, shed, counted}
 use Rattle.op_serving.specs.Losses.{most_marks, is_here, marked, settled, size}
 
 -- what happens to connections and to the node
@@ -48,6 +48,7 @@ asked_by [] i = None
 asked_by (c ∷ cs) (input.Commands xs) = Some (Commands (zip (c ∷ cs) (map key_of xs)))
 asked_by (c ∷ cs) (input.Stop members) = Some (Stop c)
 asked_by (c ∷ cs) input.TrimNow = Some (Trim c)
+asked_by (c ∷ cs) (input.Read r) = Some (Read c (r.client, r.seq))
 asked_by (c ∷ cs) _ = None
 
 -- what is kept after an input with this fate
@@ -117,15 +118,20 @@ abbrev pub first_down : Luck → List ℕ → State → State
 first_down l [] s = s
 first_down l (q ∷ qs) s = enter l [] (input.Down q) (record s { loop = record s.loop { downs = qs } })
 
+-- sessions for which too many bytes wait are over, and then those that are lost here
+abbrev pub shedding : Luck → State → State
+shedding l s = calm l (record s { loop = shed s.loop })
+
 -- right after an input come the Downs of the sessions that it ended: a session ends once
 abbrev pub drained_in : ℕ → Luck → State → State
 drained_in zero l s = s
-drained_in (suc k) l s = drained_in k l (first_down l s.loop.downs s)
+drained_in (suc k) l s =
+    let t : State = shedding l s in drained_in k l (first_down l t.loop.downs t)
 
 unfoldable pub drained : Luck → State → State
 drained l s = drained_in (size s.loop) l s
 
--- where it comes to rest: what is lost here is lost, and the Downs are given
+-- where it comes to rest: what is lost here is lost, what is overfull is over, and the Downs are given
 unfoldable pub rest : Luck → State → State
 rest l s = drained l (calm l s)
 

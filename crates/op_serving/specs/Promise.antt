@@ -74,6 +74,7 @@ inputs_of (Message q m) = input.Deliver q m ∷ []
 inputs_of (Asks (request.Command x)) = alone x ∷ []
 inputs_of (Asks (request.Stop members)) = input.Stop members ∷ []
 inputs_of (Asks request.Trim) = input.TrimNow ∷ []
+inputs_of (Asks (request.Read r)) = input.Read r ∷ []
 inputs_of _ = []
 
 -- bytes are whole frames, of which these are the inputs

@@ -1,6 +1,6 @@
 -- What is in range, so that it can be encoded.
 use Rattle.std.specs.Prelude.{ℕ, All, IfSome}
-use Rattle.op_types.specs.Ranges.{IsPid, IsNumber, MembersInRange, CommandInRange, AreCommands}
+use Rattle.op_types.specs.Ranges.{IsPid, IsNumber, MembersInRange, CommandInRange, ReadInRange, AreCommands}
 use Rattle.op_types.specs.declared.answers.Reply.{Reply}
 use Rattle.op_types.specs.declared.events.Input.{Input}
 use Rattle.op_types.specs.declared.events.Input.TheVariants as input
@@ -13,7 +13,7 @@ use Rattle.op_serving.specs.declared.kind.Kind.TheVariants.{Unknown, Peer, Clien
 use Rattle.op_serving.specs.declared.node.Given.{Given}
 use Rattle.op_serving.specs.declared.session.Session.{Session}
 use Rattle.op_serving.specs.declared.wanted.Wanted.{Wanted}
-use Rattle.op_serving.specs.declared.wanted.Wanted.TheVariants.{Commands, Stop, Trim}
+use Rattle.op_serving.specs.declared.wanted.Wanted.TheVariants.{Commands, Stop, Trim, Read}
 use Rattle.op_serving.specs.State.{Key}
 
 -- ---- what a node is given, and what it gives out
@@ -25,6 +25,7 @@ InputInRange (input.Deliver q m) = IsPid q × MsgInRange m
 InputInRange (input.Commands cs) = AreCommands cs
 InputInRange (input.Stop members) = MembersInRange members
 InputInRange input.TrimNow = Unit {0}
+InputInRange (input.Read r) = ReadInRange r
 InputInRange (input.Up q) = IsPid q
 InputInRange (input.Down q) = IsPid q
 
@@ -32,7 +33,7 @@ InputInRange (input.Down q) = IsPid q
 abbrev pub SendInRange : ℕ × Msg → Type 0
 SendInRange s = IsPid s.0 × MsgInRange s.1
 
--- an answer to a command; client and number are 0 where a buffered stop-sign is given up
+-- an answer to a command or a read; client and number are 0 where a buffered stop-sign is given up
 pub record ReplyInRange (r : Reply) : Type 0 where
   pub asked : IsAsked r.client r.seq
   pub answer : AnswerInRange r.answer
@@ -41,6 +42,7 @@ pub record ReplyInRange (r : Reply) : Type 0 where
 pub record GivenInRange (g : Given) : Type 0 where
   pub sends : All SendInRange g.sends
   pub replies : All ReplyInRange g.replies
+  pub read_replies : All ReplyInRange g.read_replies
   pub outcome : IfSome g.outcome OutcomeInRange
 
 -- ---- sessions, and what clients ask for
@@ -54,7 +56,7 @@ KindInRange Client = Unit {0}
 abbrev pub SessionInRange : Session → Type 0
 SessionInRange x = KindInRange x.kind
 
--- a command's client and number are in range
+-- the client and the number of a command or a read are in range
 abbrev pub KeyInRange : Key → Type 0
 KeyInRange key = IsNumber key.0 × IsNumber key.1
 
@@ -66,6 +68,7 @@ abbrev pub WantedInRange : Wanted → Type 0
 WantedInRange (Commands keys) = All KeyAtInRange keys
 WantedInRange (Stop c) = Unit {0}
 WantedInRange (Trim c) = Unit {0}
+WantedInRange (Read c key) = KeyInRange key
 
 -- and the commands that were gathered
 abbrev pub GatheredInRange : ℕ × Command → Type 0

@@ -118,6 +118,7 @@ on_request l line c (request.Command x) s = proposes l c x s
 on_request l line c (request.Stop members) s = give l (c ∷ []) (input.Stop members) s
 on_request l line c request.Trim s = give l (c ∷ []) input.TrimNow s
 on_request l line c request.Status s = tells c (said.Status (line s.node)) s
+on_request l line c (request.Read r) s = give l (c ∷ []) (input.Read r) s
 on_request l line c request.End s = ending (tells c said.Ended s)
 
 -- what a frame leads to by itself

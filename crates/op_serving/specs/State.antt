@@ -1,8 +1,8 @@
 -- What is kept beside a node that is served, and what each thing that is done makes of it in ample memory.
-use Rattle.std.specs.Prelude.{◌+◌, ◌++◌, ◌∷◌, [], ℕ, min, List, Bool, false, not, ◌==◌, if◌then◌else◌, Option, Some, None, is_some, option_map}
-use Rattle.std.specs.Map.{lookup, set_value}
+use Rattle.std.specs.Prelude.{◌+◌, ◌++◌, ◌∷◌, [], ℕ, min, List, length, flat_map, Bool, false, not, ◌==◌, nat_lt, if◌then◌else◌, Option, Some, None, is_some, option_map}
+use Rattle.std.specs.Map.{lookup, set_value, keys_of}
 use Rattle.std.specs.BTreeMap.{is_at}
-use Rattle.std.specs.Ordering.{nat_cmp, ordering_then}
+use Rattle.std.specs.Ordering.{nat_cmp, bool_cmp, ordering_then}
 use Rattle.std.specs.FinMap as map
 use Rattle.std.specs.declared.cmp.Ordering.{Ordering}
 use Rattle.op_types.specs.declared.log.Command.{Command}
@@ -40,19 +40,26 @@ changed f c t = changed_at f c (find c t) t
 
 -- ---- what is kept
 
--- a command, by its client and its number
+-- a command or a read, by its client and its number
 abbrev pub Key : Type 0
 Key = ℕ × ℕ
 
--- who asked last for a command: the connection of a session that is there
 abbrev pub pair_cmp : Key → Key → Ordering
 pair_cmp p q = ordering_then (nat_cmp p.0 q.0) (nat_cmp p.1 q.1)
 
+-- what a client waits for: whether it is a read, and which one
+abbrev pub Awaited : Type 0
+Awaited = Bool × Key
+
+abbrev pub awaited_cmp : Awaited → Awaited → Ordering
+awaited_cmp p q = ordering_then (bool_cmp p.0 q.0) (pair_cmp p.1 q.1)
+
+-- who asked last for it: the connection of a session that is there
 abbrev pub Askers : Type 0
-Askers = map.FinMap pair_cmp ℕ
+Askers = map.FinMap awaited_cmp ℕ
 
 -- the askers that a table names
-abbrev pub askers_in : List (Key × ℕ) → Askers
+abbrev pub askers_in : List (Awaited × ℕ) → Askers
 askers_in es = map.from_entries es
 
 -- whoever asked at a connection waits no more
@@ -135,3 +142,32 @@ next n = min (n + 1) 18446744073709551615
 -- one more input came
 abbrev pub counted : Loop → Loop
 counted s = record s { place = record s.place { inputs = next s.place.inputs } }
+
+-- ---- how much may wait
+
+-- how many bytes may wait for a connection
+abbrev pub most_waiting : ℕ
+most_waiting = 16777216
+
+-- more bytes wait for a session than may
+abbrev pub is_overfull : Option Session → Bool
+is_overfull None = false
+is_overfull (Some x) = nat_lt most_waiting (length x.queue)
+
+-- Such a session is over. That counts as an input does: what is lost before it is of another place than what
+-- is lost behind it.
+abbrev pub shed_at : ℕ → Loop → Loop
+shed_at c s = if is_overfull (find c s.sessions) then counted (left_by c s) else s
+
+abbrev pub shed_each : List ℕ → Loop → Loop
+shed_each [] s = s
+shed_each (c ∷ cs) s = shed_each cs (shed_at c s)
+
+-- the connection of a peer's last session
+abbrev pub conn_of : ℕ × Option ℕ → List ℕ
+conn_of (q, None) = []
+conn_of (q, Some c) = c ∷ []
+
+-- all such sessions are over: first those of peers, by rising id
+unfoldable pub shed : Loop → Loop
+shed s = shed_each (flat_map conn_of s.peers ++ keys_of s.sessions) s

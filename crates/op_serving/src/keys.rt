@@ -6,11 +6,11 @@ use op_outside::Conn;
 use op_types::MOST_COMMANDS;
 use std::marker::Model;
 
-/// A command, by its client and its number.
+/// A command or a read, by its client and its number.
 pub type Key = (u64, u64);
 
-/// Commands that are asked for together, each by its connection, and by its client and number. They lie in the
-/// value itself.
+/// What a client waits for: whether it is a read, and which one.
+pub type Awaited = (bool, Key);
 
 /// Commands that are asked for together, each by its connection, and by its client and number. They lie in
 /// the value itself.

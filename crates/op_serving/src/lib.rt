@@ -14,7 +14,7 @@ mod wanted;
 
 pub use greeting::{Greeting, HELLO_LEN, read_greeting};
 pub use hearing::Heard;
-pub use keys::{Key, Keys};
+pub use keys::{Awaited, Key, Keys};
 pub use kind::{Kind, goes_up};
 pub use mark::{Mark, Place};
 pub use node::{Core, Given, StepFail};

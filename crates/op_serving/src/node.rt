@@ -16,7 +16,9 @@ pub struct Given {
     pub sends: Sends,
     /// Answers, each to a client that waited here.
     pub replies: Replies,
-    /// What a proposal is answered at once.
+    /// Answers to reads, each to the client that asked.
+    pub read_replies: Replies,
+    /// What a proposal, a wish to trim or a read is answered at once.
     pub outcome: Option<Outcome>,
 }
 

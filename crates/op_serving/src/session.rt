@@ -1,4 +1,5 @@
 ghost use Rattle.std.specs.Prelude.{◌≡◌, Some, IfOk};
+ghost use Rattle.op_serving.specs.State.{is_overfull};
 ghost use Rattle.op_serving.specs.Turns.{queue_in, made_session};
 
 use crate::greeting::put_hello;
@@ -19,6 +20,9 @@ pub const CLIENT_LIMIT: u64 = 65_536;
 
 /// The longest body of a peer's frame.
 pub const PEER_LIMIT: u64 = u64::MAX;
+
+/// How many bytes may wait for a connection: 16 MiB. A session for which more wait is over.
+pub const MOST_WAITING: usize = 16_777_216;
 
 /// A session, which is what a connection is used for.
 #[derive(Drop)]
@@ -49,6 +53,13 @@ impl Session {
             frames,
             queue,
         })
+    }
+
+    /// Whether more bytes wait for it than may.
+    pub fn is_overfull(&self) -> bool
+        ensures { result ≡ is_overfull (Some self.now) }
+    {
+        self.queue.as_slice().len() > MOST_WAITING
     }
 
     /// What waits for it; what is left of a dialler's hello goes out first.

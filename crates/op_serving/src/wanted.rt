@@ -1,4 +1,4 @@
-use crate::keys::Keys;
+use crate::keys::{Key, Keys};
 use op_outside::Conn;
 
 /// What clients ask a node to do.
@@ -10,4 +10,6 @@ pub enum Wanted {
     Stop(Conn),
     /// Trimming. What becomes of it is told at once at this connection, but for its loss.
     Trim(Conn),
+    /// A read, by its client and its number. It waits for its answer at this connection, or is refused at once.
+    Read(Conn, Key),
 }

@@ -3,6 +3,7 @@ use Rattle.std.specs.BTreeMap.{is_at}
 use Rattle.std.specs.Ordering.{nat_cmp}
 use Rattle.std.proofs.lemmas.Map.Views.{All-map-remove_entry}
 use Rattle.op_serving.specs.Ranges.{SessionInRange}
+use Rattle.op_queues.specs.Filling.{IsThin}
 use Rattle.op_queues.proofs.InRange.{found_in_range}
 use Rattle.op_queues.proofs.Tables.{removed_all}
 use Rattle.op_queues.proofs.session_table.take_out.Goals as goal
@@ -12,3 +13,6 @@ returns-clause-rest c = c.remove.ensures.entries ∙ removed_all c.args.conn c.a
 
 pub returns-clause-range : goal.returns-clause-range
 returns-clause-range c all = (rw c.remove.ensures.value (found_in_range c.args.conn c.args.sessions.now.entries all), rw c.remove.ensures.entries (All-map-remove_entry (is_at (nat_cmp c.args.conn)) (λ e. e.1) SessionInRange c.args.sessions.now.entries all))
+
+pub returns-clause-thin : goal.returns-clause-thin
+returns-clause-thin c all = rw c.remove.ensures.entries (All-map-remove_entry (is_at (nat_cmp c.args.conn)) (λ e. e.1) IsThin c.args.sessions.now.entries all)

@@ -25,13 +25,17 @@ pub returns-in-Trim-clause-ok : goal.returns-in-Trim-clause-ok
 returns-in-Trim-clause-ok g c =
     given_handles g.K.Core.line c.args.conn (Asks c.args.request) (λ l s. give l (c.args.conn ∷ []) input.TrimNow s) c.give-in-Trim.ensures.gives (λ l before. ap (λ (r : Request). on_frame l g.K.Core.line c.args.conn (Asks r) (with_deeds before c.args.self.now)) c.in-Trim.is)
 
+pub returns-in-Read-clause-ok : goal.returns-in-Read-clause-ok
+returns-in-Read-clause-ok g c =
+    given_handles g.K.Core.line c.args.conn (Asks c.args.request) (λ l s. give l (c.args.conn ∷ []) (input.Read c.in-Read.read) s) c.give-in-Read.ensures.gives (λ l before. ap (λ (r : Request). on_frame l g.K.Core.line c.args.conn (Asks r) (with_deeds before c.args.self.now)) c.in-Read.is)
+
 pub returns-in-Status-clause-ok : goal.returns-in-Status-clause-ok
 returns-in-Status-clause-ok g c =
-    on_ok_as c.tell_status.result (told_handles g.K.Core.line c.args.conn (Asks c.args.request) (said.Status (g.K.Core.line c.args.self.now.node)) c.requires.none (λ l before. ap (λ (r : Request). on_frame l g.K.Core.line c.args.conn (Asks r) (with_deeds before c.args.self.now)) c.in-Status.is)) c.tell_status.ensures.ok
+    on_ok_as c.tell_status.result (told_handles g.K.Core.line c.args.conn (Asks c.args.request) (said.Status (g.K.Core.line c.args.self.now.node)) c.requires.none c.requires.open (λ l before. ap (λ (r : Request). on_frame l g.K.Core.line c.args.conn (Asks r) (with_deeds before c.args.self.now)) c.in-Status.is)) c.tell_status.ensures.ok
 
 pub returns-in_ok-tell-in-End-clause-ok : goal.returns-in_ok-tell-in-End-clause-ok
 returns-in_ok-tell-in-End-clause-ok g c =
-    ended_handles g.K.Core.line c.args.conn (Asks c.args.request) {m = c.tell.new.self} c.requires.none (λ l before. ap (λ (r : Request). on_frame l g.K.Core.line c.args.conn (Asks r) (with_deeds before c.args.self.now)) c.in-End.is) c.in_ok-tell-in-End.ensures.ok c.note_end.ensures
+    ended_handles g.K.Core.line c.args.conn (Asks c.args.request) {m = c.tell.new.self} c.requires.none c.requires.open (λ l before. ap (λ (r : Request). on_frame l g.K.Core.line c.args.conn (Asks r) (with_deeds before c.args.self.now)) c.in-End.is) c.in_ok-tell-in-End.ensures.ok c.note_end.ensures
 
 pub returns-in_ok-tell-in-End-clause-most : goal.returns-in_ok-tell-in-End-clause-most
 returns-in_ok-tell-in-End-clause-most g c =

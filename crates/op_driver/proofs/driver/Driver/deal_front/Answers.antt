@@ -1,6 +1,6 @@
 use Rattle.std.proofs.Common.{Ok, Err}
 use Rattle.op_queues.specs.declared.front.Front.TheVariants as found
-use Rattle.op_driver.proofs.Dealing.{deals_waits, deals_refused, deals_hello, deals_frame, deals_lost_at, open_taken}
+use Rattle.op_driver.proofs.Dealing.{deals_waits, deals_refused, deals_hello, deals_frame, deals_lost_at, open_taken, drained_taken}
 use Rattle.op_driver.proofs.driver.Driver.deal_front.Goals as goal
 
 pub returns-in-Ok-Waits-clause-deals : goal.returns-in-Ok-Waits-clause-deals
@@ -27,3 +27,12 @@ lose-requires g c = open_taken c.args.conn (Err c.in-Err.field-0) c.args.self.no
 
 pub returns-in-Err-clause-deals : goal.returns-in-Err-clause-deals
 returns-in-Err-clause-deals g c = deals_lost_at g.K.Core.line c.args.conn c.args.frames c.args.self.now c.take_front.new.self c.lose.new.self c.in-Err.field-0 c.in-Err.ensures.takes c.requires.none c.lose.ensures.loses
+
+pub end-requires-clause-none : goal.end-requires-clause-none
+end-requires-clause-none g c = drained_taken c.args.conn (Ok found.Refused) c.args.self.now c.take_front.new.self (rw c.in-Ok-Refused.field-0-is at c.in-Ok-Refused.ensures.takes) c.requires.none
+
+pub greet-requires-clause-none : goal.greet-requires-clause-none
+greet-requires-clause-none g c = drained_taken c.args.conn (Ok (found.Hello c.in-Ok-Hello.peer)) c.args.self.now c.take_front.new.self (rw c.in-Ok-Hello.field-0-is at c.in-Ok-Hello.ensures.takes) c.requires.none
+
+pub take_frame-requires-clause-none : goal.take_frame-requires-clause-none
+take_frame-requires-clause-none g c = drained_taken c.args.conn (Ok (found.Frame c.in-Ok-Frame.heard)) c.args.self.now c.take_front.new.self (rw c.in-Ok-Frame.field-0-is at c.in-Ok-Frame.ensures.takes) c.requires.none

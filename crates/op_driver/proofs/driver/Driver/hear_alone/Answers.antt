@@ -5,7 +5,7 @@ use Rattle.op_serving.specs.Inputs.{give}
 use Rattle.op_serving.specs.Reading.{on_frame}
 use Rattle.op_driver.specs.Driver.{with_deeds}
 use Rattle.op_queues.proofs.Settling.{stays_same}
-use Rattle.op_driver.proofs.Dealing.{nothing_does, on_ok_as, given_handles, told_handles}
+use Rattle.op_driver.proofs.Dealing.{nothing_does, on_ok_as, given_handles, told_handles, drains_at}
 use Rattle.op_driver.proofs.driver.Driver.hear_alone.Goals as goal
 
 pub returns-in-Message-clause-ok : goal.returns-in-Message-clause-ok
@@ -16,9 +16,9 @@ pub returns-in-Foreign-clause-ok : goal.returns-in-Foreign-clause-ok
 returns-in-Foreign-clause-ok g c = record {
   does = nothing_does (λ l s. on_frame l g.K.Core.line c.args.conn c.args.heard s) c.args.self.now (λ l s. ap (λ h. on_frame l g.K.Core.line c.args.conn h s) c.in-Foreign.is);
   stays = stays_same refl;
-  none = c.requires.none;
+  none = drains_at c.args.conn c.args.self.now.loop c.requires.none;
 }
 
 pub returns-in-Mistake-clause-ok : goal.returns-in-Mistake-clause-ok
 returns-in-Mistake-clause-ok g c =
-    on_ok_as c.tell.result (told_handles g.K.Core.line c.args.conn c.args.heard (said.BadRequest c.in-Mistake.at) c.requires.none (λ l before. ap (λ h. on_frame l g.K.Core.line c.args.conn h (with_deeds before c.args.self.now)) c.in-Mistake.is)) c.tell.ensures.ok
+    on_ok_as c.tell.result (told_handles g.K.Core.line c.args.conn c.args.heard (said.BadRequest c.in-Mistake.at) c.requires.none c.requires.open (λ l before. ap (λ h. on_frame l g.K.Core.line c.args.conn h (with_deeds before c.args.self.now)) c.in-Mistake.is)) c.tell.ensures.ok

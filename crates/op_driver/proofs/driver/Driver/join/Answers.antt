@@ -1,4 +1,4 @@
-use Rattle.op_driver.proofs.Turning.{joins, joins_calm, joins_lost, joins_lost_calm, joins_lost_rests}
+use Rattle.op_driver.proofs.Turning.{joins, joins_calm, joins_rests, joins_lost, joins_lost_calm, joins_lost_rests}
 use Rattle.std.proofs.Common.{ap, arith}
 use Rattle.op_serving.specs.Counts.{most_inputs}
 use Rattle.op_driver.specs.Driver.{Served}
@@ -17,6 +17,9 @@ returns-in-Err-clause-acts g c = joins_lost c.args.conn c.args.kind c.args.self.
 
 pub returns-in-Err-clause-calm : goal.returns-in-Err-clause-calm
 returns-in-Err-clause-calm g c = λ dials. joins_lost_calm c.args.conn c.args.kind c.args.self.now c.admit.new.self c.requires.new dials c.in-Err.ensures.err
+
+pub returns-in-Ok-clause-rests : goal.returns-in-Ok-clause-rests
+returns-in-Ok-clause-rests g c = joins_rests c.args.conn c.args.kind c.args.self.now c.admit.new.self c.requires.idle.none c.in-Ok.ensures.ok
 
 pub returns-in-Err-clause-rests : goal.returns-in-Err-clause-rests
 returns-in-Err-clause-rests g c = joins_lost_rests c.args.conn c.args.kind c.args.self.now c.admit.new.self c.requires.new c.requires.kind c.requires.idle.none c.in-Err.ensures.err

@@ -1,7 +1,7 @@
 use Rattle.std.proofs.Common.{rules, ◌≡◌, None, Some, ap, sym, ◌∙◌, arith}
 use Rattle.op_serving.specs.State.{kind_at}
 use Rattle.op_serving.specs.Turns.{up_peer}
-use Rattle.op_driver.proofs.Turning.{wrote_some, wrote_hello, wrote_less, wrote_less_then, wrote_pours, wrote_no_up}
+use Rattle.op_driver.proofs.Turning.{wrote_some, wrote_rests, wrote_hello, wrote_less, wrote_less_then, wrote_pours, wrote_no_up}
 use Rattle.op_serving.specs.Counts.{most_inputs}
 use Rattle.op_driver.specs.Driver.{Served}
 use Rattle.op_queues.proofs.Counting.{most_took, most_up}
@@ -11,6 +11,9 @@ pub returns-in_default-clause-does : goal.returns-in_default-clause-does
 returns-in_default-clause-does g c =
     let none : up_peer (kind_at c.args.conn c.args.self.now.loop) (kind_at c.args.conn c.took.new.self.loop) ≡ None = search rules in
     wrote_some c.args.conn c.args.n c.args.self.now c.took.new.self c.took.ensures none
+
+pub returns-in_default-clause-rests : goal.returns-in_default-clause-rests
+returns-in_default-clause-rests g c = wrote_rests c.args.conn c.args.n c.args.self.now c.took.new.self c.requires.none c.took.ensures
 
 pub returns-in-Some-clause-does : goal.returns-in-Some-clause-does
 returns-in-Some-clause-does g c =

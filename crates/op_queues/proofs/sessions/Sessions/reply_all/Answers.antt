@@ -17,7 +17,7 @@ loop-decided-init c =
     let h = c.into_iter-decided-iterator.ensures.into_iter_gives in
     let e : c.args.replies ≡ into_iter_items c.into_iter-decided-iterator.result = sym (h.0 ∙ c.into_vec-decided-items.ensures) in
     let l : into_iter_len c.into_iter-decided-iterator.result ≡ length (into_iter_items c.into_iter-decided-iterator.result) = h.1 ∙ (let k : vec_len c.into_vec-decided-items.result ≡ length c.into_vec-decided-items.result.items = search rules in k ∙ ap length (sym h.0)) in
-    ([], e, l, does_nothing (replied_all []) c.args.self.now refl)
+    ([], e, l, does_nothing (replied_all c.args.read []) c.args.self.now refl)
 
 pub loop-decided-preserved : goal.loop-decided-preserved
 loop-decided-preserved c =
@@ -28,7 +28,7 @@ loop-decided-preserved c =
       i.0 ++ x ∷ [],
       i.1 ∙ ap (λ l. i.0 ++ l) s.0 ∙ sym (append_assoc i.0 (x ∷ []) (into_iter_items c.next.new.self)),
       omega (arith, lens, s.1, i.2),
-      does_as (λ s. replied x (replied_all i.0 s)) (replied_all (i.0 ++ x ∷ [])) (sym (replied_more i.0 x c.args.self.now)) (does_then (replied_all i.0) (replied x) (blind_replied x) i.3 c.reply.ensures),
+      does_as (λ s. replied c.args.read x (replied_all c.args.read i.0 s)) (replied_all c.args.read (i.0 ++ x ∷ [])) (sym (replied_more c.args.read i.0 x c.args.self.now)) (does_then (replied_all c.args.read i.0) (replied c.args.read x) (blind_replied c.args.read x) i.3 c.reply.ensures),
     )
 
 pub returns : goal.returns
@@ -36,4 +36,4 @@ returns c =
     let i = c.loop-decided.invariant in
     let none : into_iter_items c.loop-decided.decided-iterator ≡ [] = nil_of_length _ (sym i.2 ∙ c.in-None.ensures.steps.0) in
     let all : c.args.replies ≡ i.0 = i.1 ∙ ap (λ l. i.0 ++ l) none ∙ append-nil i.0 in
-    does_as (replied_all i.0) (replied_all c.args.replies) (ap (λ l. replied_all l c.args.self.now) (sym all)) i.3
+    does_as (replied_all c.args.read i.0) (replied_all c.args.read c.args.replies) (ap (λ l. replied_all c.args.read l c.args.self.now) (sym all)) i.3

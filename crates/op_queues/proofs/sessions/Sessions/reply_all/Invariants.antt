@@ -9,4 +9,4 @@ abbrev pub invariant-loop-decided : goal.invariant-loop-decided
 invariant-loop-decided l =
     (front : List Reply) × (l.fn.replies ≡ front ++ into_iter_items l.decided-iterator)
     × (into_iter_len l.decided-iterator ≡ length (into_iter_items l.decided-iterator))
-    × Does (λ marks s. settled marks (replied_all front s)) l.fn.self l.self
+    × Does (λ marks s. settled marks (replied_all l.read front s)) l.fn.self l.self
