@@ -1,5 +1,5 @@
 -- Deeds that are added to others: what they leave of what was read and given out, and that each comes from those before it.
-use Rattle.std.proofs.Common.{◌≡◌, ◌++◌, ◌∷◌, [], ℕ, List, map, Option, Some, None, refl, sym, ◌∙◌, ap, subst, inl, inr, append_assoc, append-nil, arith}
+use Rattle.std.proofs.Common.{◌≡◌, ◌++◌, ◌∷◌, [], ℕ, Bool, true, false, List, map, Option, Some, None, refl, sym, ◌∙◌, ap, subst, inl, inr, append_assoc, append-nil, arith}
 use Rattle.std.specs.Prelude.{fold}
 use Rattle.std.specs.List.{Contains}
 use Rattle.std.proofs.lemmas.List.Sums.{fold-append}
@@ -7,10 +7,12 @@ use Rattle.std.proofs.lemmas.List.Elements.{Contains-append_left, Contains-appen
 use Rattle.op_types.specs.declared.answers.Reply.{Reply}
 use Rattle.op_types.specs.declared.events.Input.{Input}
 use Rattle.op_types.specs.declared.events.Request.{Request}
+use Rattle.op_types.specs.declared.events.Request.TheVariants as request
 use Rattle.op_types.specs.declared.messages.Msg.{Msg}
 use Rattle.op_serving.specs.Cores.{Standing}
 use Rattle.op_serving.specs.Fates.{Fate}
 use Rattle.op_serving.specs.Handing.{Frame}
+use Rattle.op_serving.specs.State.{Key}
 use Rattle.op_serving.specs.Inputs.{Deed, enters, says}
 use Rattle.op_fields.specs.Form.{encoded}
 use Rattle.op_serving.specs.Reading.{client_byte, peer_byte}
@@ -18,9 +20,9 @@ use Rattle.op_serving.specs.Turns.{hello}
 use Rattle.op_serving.specs.Promise.{Life, life, and_then, folded}
 use Rattle.op_connections.proofs.Queueing.{bytes_for}
 use Rattle.op_connections.proofs.Coming.{life_more, lived_says}
-use Rattle.op_cluster_laws.specs.Outputs.{after_deed, given_at, sent_in, replied_in}
+use Rattle.op_cluster_laws.specs.Outputs.{after_deed, given_at, sent_in, answers_of, answered_in}
 use Rattle.op_cluster_laws.specs.Readings.{began_then, began, IsPeers, IsOfPeer, IsClients, WasRead, WasAsked}
-use Rattle.op_cluster_laws.specs.Causes.{IsTold, IsGiven, IsCaused, CausedBehind, AreCaused}
+use Rattle.op_cluster_laws.specs.Causes.{MayAnswer, IsTold, IsGiven, IsCaused, CausedBehind, AreCaused}
 use Rattle.op_cluster_laws.proofs.Lists.{Each, each_map}
 use Rattle.op_cluster_laws.proofs.Tracing.{folded_one, sent_push}
 
@@ -134,11 +136,11 @@ pub folded_says : (n : Standing) (fs : List Frame) → folded n (map says fs) �
 folded_says n [] = refl
 folded_says n (f ∷ fs) = folded_says n fs
 
-pub replied_push : (n : Standing) (ds : List Deed) (d : Deed) → replied_in n (ds ++ d ∷ []) ≡ replied_in n ds ++ ((given_at (folded n ds) d).replies ++ [])
-replied_push n [] d = refl
-replied_push n (e ∷ ds) d =
-    ap (λ l. (given_at n e).replies ++ l) (replied_push (after_deed n e) ds d ∙ ap (λ m. replied_in (after_deed n e) ds ++ ((given_at m d).replies ++ [])) (sym (folded_one n e ds)))
-    ∙ sym (append_assoc (given_at n e).replies (replied_in (after_deed n e) ds) ((given_at (folded n (e ∷ ds)) d).replies ++ []))
+pub replied_push : (read : Bool) (n : Standing) (ds : List Deed) (d : Deed) → answered_in read n (ds ++ d ∷ []) ≡ answered_in read n ds ++ (answers_of read (given_at (folded n ds) d) ++ [])
+replied_push read n [] d = refl
+replied_push read n (e ∷ ds) d =
+    ap (λ l. answers_of read (given_at n e) ++ l) (replied_push read (after_deed n e) ds d ∙ ap (λ m. answered_in read (after_deed n e) ds ++ (answers_of read (given_at m d) ++ [])) (sym (folded_one n e ds)))
+    ∙ sym (append_assoc (answers_of read (given_at n e)) (answered_in read (after_deed n e) ds) (answers_of read (given_at (folded n (e ∷ ds)) d) ++ []))
 
 module _ (n : Standing) (ds : List Deed) (d : Deed) where
   pub sent_kept : (x : ℕ × Msg) → Contains (sent_in n ds) x → Contains (sent_in n (ds ++ d ∷ [])) x
@@ -148,12 +150,12 @@ module _ (n : Standing) (ds : List Deed) (d : Deed) where
   sent_now x c = subst (λ (l : List (ℕ × Msg)). Contains l x) (sym (sent_push n ds d))
       (Contains-append_right (sent_in n ds) ((given_at (folded n ds) d).sends ++ []) x (Contains-append_left (given_at (folded n ds) d).sends [] x c))
 
-  pub replied_kept : (x : Reply) → Contains (replied_in n ds) x → Contains (replied_in n (ds ++ d ∷ [])) x
-  replied_kept x c = subst (λ (l : List Reply). Contains l x) (sym (replied_push n ds d)) (Contains-append_left (replied_in n ds) ((given_at (folded n ds) d).replies ++ []) x c)
+  pub replied_kept : (read : Bool) (x : Reply) → Contains (answered_in read n ds) x → Contains (answered_in read n (ds ++ d ∷ [])) x
+  replied_kept read x c = subst (λ (l : List Reply). Contains l x) (sym (replied_push read n ds d)) (Contains-append_left (answered_in read n ds) (answers_of read (given_at (folded n ds) d) ++ []) x c)
 
-  pub replied_now : (x : Reply) → Contains (given_at (folded n ds) d).replies x → Contains (replied_in n (ds ++ d ∷ [])) x
-  replied_now x c = subst (λ (l : List Reply). Contains l x) (sym (replied_push n ds d))
-      (Contains-append_right (replied_in n ds) ((given_at (folded n ds) d).replies ++ []) x (Contains-append_left (given_at (folded n ds) d).replies [] x c))
+  pub replied_now : (read : Bool) (x : Reply) → Contains (answers_of read (given_at (folded n ds) d)) x → Contains (answered_in read n (ds ++ d ∷ [])) x
+  replied_now read x c = subst (λ (l : List Reply). Contains l x) (sym (replied_push read n ds d))
+      (Contains-append_right (answered_in read n ds) (answers_of read (given_at (folded n ds) d) ++ []) x (Contains-append_left (answers_of read (given_at (folded n ds) d)) [] x c))
 
 -- ---- causes
 
@@ -169,13 +171,17 @@ pub caused_front : (me : ℕ) (n : Standing) (before early later : List Deed) �
 caused_front me n before [] later h = tt
 caused_front me n before (e ∷ early) later h = (h.0, caused_front me n (before ++ e ∷ []) early later h.1)
 
-pub told_kept : (n : Standing) (ds : List Deed) (d : Deed) (x : _) → IsTold (replied_in n ds) x → IsTold (replied_in n (ds ++ d ∷ [])) x
-told_kept n ds d x (inl (r, c, e)) = inl (r, replied_kept n ds d r c, e)
-told_kept n ds d x (inr none) = inr none
+pub may_answer_more : (read : Bool) (ds more : List Deed) (c : ℕ) (key : Key) → MayAnswer read ds c key → MayAnswer read (ds ++ more) c key
+may_answer_more false ds more c key a = tt
+may_answer_more true ds more c key a = (a.0, a.1, was_asked_more ds more c (request.Read a.0) a.2)
+
+pub told_kept : (n : Standing) (ds : List Deed) (d : Deed) (c : ℕ) (x : _) → IsTold n ds c x → IsTold n (ds ++ d ∷ []) c x
+told_kept n ds d c x (inl (read, r, there, asked, e)) = inl (read, r, replied_kept n ds d read r there, may_answer_more read ds (d ∷ []) c (r.client, r.seq) asked, e)
+told_kept n ds d c x (inr none) = inr none
 
 given_kept : (me : ℕ) (n : Standing) (ds : List Deed) (g : Frame) (c : ℕ) (frame : List ℕ) → IsGiven me n ds c frame → IsGiven me n (ds ++ says g ∷ []) c frame
 given_kept me n ds g c frame (inl (d, m, sent, peer, e)) = inl (d, m, sent_kept n ds (says g) (d, m) sent, peers_says me c ds g peer, e)
-given_kept me n ds g c frame (inr (x, told, client, e)) = inr (x, told_kept n ds (says g) x told, clients_says c ds g client, e)
+given_kept me n ds g c frame (inr (x, told, client, e)) = inr (x, told_kept n ds (says g) c x told, clients_says c ds g client, e)
 
 pub caused_says : (me : ℕ) (n : Standing) (ds : List Deed) (fs : List Frame) → AreCaused me n ds → Each (λ f. IsGiven me n ds f.0 f.1) fs → AreCaused me n (ds ++ map says fs)
 caused_says me n ds [] h g = subst (λ l. AreCaused me n l) (sym (append-nil ds)) h

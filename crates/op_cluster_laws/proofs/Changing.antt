@@ -22,6 +22,8 @@ use Rattle.op_serving.specs.Inputs.{Deed, begins, hears, says, takes, State, Luc
 use Rattle.op_serving.specs.Reading.{client_byte, feeding, feeds, tells}
 use Rattle.op_serving.specs.Turns.{hello, first_bytes, dialled_to, made_session, joining, joined, queue_in, waiting, hello_less, without_bytes, taken_of, taken_by}
 use Rattle.op_serving.specs.Promise.{Life, newborn, and_then, life, folded}
+use Rattle.std.specs.Prelude.{All}
+use Rattle.op_connections.specs.Waiting.{frames_for, MayWait}
 use Rattle.op_connections.proofs.Tables.{find_insert, find_insert_apart, found_own, found_other}
 use Rattle.op_connections.proofs.Queueing.{bytes_for, Queues, queues_one}
 use Rattle.op_connections.proofs.Coming.{life_more, lived_says}
@@ -29,7 +31,7 @@ use Rattle.op_connections.proofs.Keeping.{formed}
 use Rattle.op_cluster_laws.specs.Readings.{began, Reads, WasAsked}
 use Rattle.op_cluster_laws.specs.Causes.{TakesSaid, IsCaused}
 use Rattle.op_cluster_laws.proofs.Lists.{Each, each_map}
-use Rattle.op_cluster_laws.proofs.Causing.{life_push, began_push, was_asked_more, caused_push}
+use Rattle.op_cluster_laws.proofs.Causing.{may_answer_more, life_push, began_push, was_asked_more, caused_push}
 use Rattle.op_cluster_laws.proofs.Fronting.{reads_none}
 use Rattle.op_cluster_laws.proofs.Knowing.{Unread, all_held, ReadsAs, Seat, WaitsAt, Knows, clients_are, seat_queued, waits_queued, kind_queued, knows_calm}
 use Rattle.op_cluster_laws.proofs.Tracing.{folded_one, folded_push}
@@ -85,7 +87,7 @@ module _ (me : ℕ) (n : Standing) (u v : Unread) (f : Session → Session) (c :
           (subst (λ (o : Option Session). WaitsAt (life c s.deeds) o) (sym found_here) (subst (λ (o : Option Session). WaitsAt (life c s.deeds) o) there (h.waits c) ∙ ap (λ l. (life c s.deeds).taken ++ l) (sym queue)))
       | inr apart ↦ subst (λ (o : Option Session). WaitsAt (life d s.deeds) o) (sym (found_there d apart)) (h.waits d)
     ];
-    askers = λ key d e. clients_stay stays d (h.askers key d (ap (λ a. map.get a key) (sym askers) ∙ e));
+    askers = λ key d e. let a = h.askers key d (ap (λ a. map.get a key) (sym askers) ∙ e) in (clients_stay stays d a.0, a.1);
     gathered = subst (λ l. Each (λ e. (kind_at e.0 t ≡ Some Client) × WasAsked s.deeds e.0 (request.Command e.1)) l) (sym gathered)
         (each_map (λ e. (kind_at e.0 s.loop ≡ Some Client) × WasAsked s.deeds e.0 (request.Command e.1)) (λ e. (kind_at e.0 t ≡ Some Client) × WasAsked s.deeds e.0 (request.Command e.1))
         (λ e k. (clients_stay stays e.0 k.0, k.1)) s.loop.gathered h.gathered);
@@ -111,7 +113,7 @@ module _ (me : ℕ) (n : Standing) (s : State) (h : Knows me n all_held s) (t : 
     me_is = own ∙ h.me_is;
     seats = seats;
     waits = waits;
-    askers = λ key c e. stays c (h.askers key c (ap (λ a. map.get a key) (sym askers) ∙ e));
+    askers = λ key c e. let a = h.askers key c (ap (λ a. map.get a key) (sym askers) ∙ e) in (stays c a.0, may_answer_more key.0 s.deeds (d ∷ []) c key.1 a.1);
     gathered = subst (λ l. Each (λ e. (kind_at e.0 t ≡ Some Client) × WasAsked (s.deeds ++ d ∷ []) e.0 (request.Command e.1)) l) (sym gathered)
         (each_map (λ e. (kind_at e.0 s.loop ≡ Some Client) × WasAsked s.deeds e.0 (request.Command e.1)) (λ e. (kind_at e.0 t ≡ Some Client) × WasAsked (s.deeds ++ d ∷ []) e.0 (request.Command e.1))
         (λ e k. (stays e.0 k.0, was_asked_more s.deeds (d ∷ []) e.0 (request.Command e.1) k.1)) s.loop.gathered h.gathered);
@@ -243,7 +245,7 @@ reads_less k me c o heard Client z r = r
 client_less : (k : ℕ) (kind : Kind) → kind ≡ Client → hello_less k kind ≡ Client
 client_less k kind e = ap (hello_less k) e
 
-module _ (me : ℕ) (n : Standing) (k c : ℕ) (s : State) (le : k ≤ length (waiting c s)) (h : Knows me n all_held s) where
+module _ (me : ℕ) (n : Standing) (k c : ℕ) (s : State) (le : k ≤ length (waiting c s)) (short : All MayWait (frames_for c s.deeds)) (h : Knows me n all_held s) where
   abbrev piece : List ℕ
   piece = take k (waiting c s)
 
@@ -283,7 +285,7 @@ module _ (me : ℕ) (n : Standing) (k c : ℕ) (s : State) (le : k ≤ length (w
       let other : (d : ℕ) → (c ≡ d → ⊥) → find d t.sessions ≡ find d s.loop.sessions = λ d apart. found_other (without_bytes k) d c s.loop.sessions apart in
       let d0 : Deed = takes c piece in
       let heard : (d : ℕ) → (life d (s.deeds ++ d0 ∷ [])).heard ≡ (life d s.deeds).heard = λ d. ap (λ (x : Life). x.heard) (life_push d s.deeds d0) in
-      knows_deed me n s h t d0 (takes_said (life c s.deeds) (find c s.loop.sessions) le (h.waits c)) (λ m. refl) refl
+      knows_deed me n s h t d0 (takes_said (life c s.deeds) (find c s.loop.sessions) le (h.waits c), short) (λ m. refl) refl
       (λ d e. elim (cases_eq c d) [
         | inl same ↦ ap (λ j. kind_at j t) (sym same) ∙ ap kind_in own ∙ less_kind (find c s.loop.sessions) (ap (λ j. kind_at j s.loop) same ∙ e)
         | inr apart ↦ ap kind_in (other d apart) ∙ e

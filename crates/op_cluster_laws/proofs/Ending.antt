@@ -10,7 +10,7 @@ use Rattle.op_serving.specs.declared.kind.Kind.{Kind}
 use Rattle.op_serving.specs.declared.kind.Kind.TheVariants.{Unknown, Peer, Client}
 use Rattle.op_serving.specs.declared.mark.Mark.{Mark}
 use Rattle.op_serving.specs.declared.session.Session.{Session}
-use Rattle.op_serving.specs.State.{Key, Loop, Table, pair_cmp, find, without, kind_at, down_of, left_at, left_by}
+use Rattle.op_serving.specs.State.{Awaited, Loop, Table, awaited_cmp, find, without, kind_at, down_of, left_at, left_by}
 use Rattle.op_serving.specs.Losses.{most_marks, mark_at, noted, stopped_if, marked, lost_by, lost_one, is_due, settle}
 use Rattle.op_serving.specs.Inputs.{State, Luck, calm}
 use Rattle.op_queues.proofs.Askers.{unless_at, get_without}
@@ -21,7 +21,7 @@ pub record Quiet (s t : Loop) : Type 1 where
   pub me : t.me ≡ s.me
   pub peers : t.peers ≡ s.peers
   pub sessions : (c : ℕ) (y : Session) → find c t.sessions ≡ Some y → find c s.sessions ≡ Some y
-  pub askers : (key : Key) (c : ℕ) → map.get t.askers key ≡ Some c → (map.get s.askers key ≡ Some c) × (find c t.sessions ≡ find c s.sessions)
+  pub askers : (key : Awaited) (c : ℕ) → map.get t.askers key ≡ Some c → (map.get s.askers key ≡ Some c) × (find c t.sessions ≡ find c s.sessions)
   pub gathered : (Q : ℕ × Command → Type 0) → Each Q s.gathered → Each (λ e. Q e × (find e.0 t.sessions ≡ find e.0 s.sessions)) t.gathered
   pub fewer : length t.gathered ≤ length s.gathered
   pub downs : (Q : ℕ → Type 0) → ((c q h : ℕ) → kind_at c s ≡ Some (Peer q h) → Q q) → Each Q s.downs → Each Q t.downs
@@ -118,8 +118,8 @@ quiet_left d s = quiet_over d (kind_at d s) s refl
 
 -- ---- losses
 
-none_got : (key : Key) (c : ℕ) → map.get (map.empty {R = pair_cmp}) key ≡ Some c → ⊥
-none_got key c e = let bad : None ≡ Some c = sym (map.get-empty pair_cmp key) ∙ e in cc
+none_got : (key : Awaited) (c : ℕ) → map.get (map.empty {R = awaited_cmp}) key ≡ Some c → ⊥
+none_got key c e = let bad : None ≡ Some c = sym (map.get-empty awaited_cmp key) ∙ e in cc
 
 quiet_stopped : (b : Bool) (s : Loop) → Quiet s (stopped_if b s)
 quiet_stopped true s = quiet_like s s refl refl refl refl refl (λ Q h. h)

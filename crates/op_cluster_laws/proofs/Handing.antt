@@ -4,7 +4,8 @@ use Rattle.std.specs.FinMap as map
 use Rattle.std.specs.BTreeMap.{is_at}
 use Rattle.op_types.specs.declared.answers.Answer.{Answer}
 use Rattle.op_types.specs.declared.answers.Outcome.{Outcome}
-use Rattle.op_types.specs.declared.answers.Outcome.TheVariants.{Refused}
+use Rattle.op_types.specs.declared.answers.Outcome.TheVariants as outcome
+use Rattle.op_types.specs.declared.answers.Outcome.TheVariants.{Refused, Asked}
 use Rattle.op_types.specs.declared.answers.Refusal.{Refusal}
 use Rattle.op_types.specs.declared.answers.Reply.{Reply}
 use Rattle.op_types.specs.declared.messages.Msg.{Msg}
@@ -14,36 +15,38 @@ use Rattle.op_command.specs.declared.said.Said.TheVariants as said
 use Rattle.op_command.specs.Replies.{said_of as denied}
 use Rattle.op_serving.specs.declared.node.Given.{Given}
 use Rattle.op_serving.specs.declared.wanted.Wanted.{Wanted}
-use Rattle.op_serving.specs.declared.wanted.Wanted.TheVariants.{Commands, Stop, Trim}
+use Rattle.op_serving.specs.declared.wanted.Wanted.TheVariants.{Commands, Stop, Trim, Read}
 use Rattle.op_serving.specs.Wire.{peer_frame, client_frame}
-use Rattle.op_serving.specs.State.{find, changed, with_bytes, if_its, open_of, Key, Loop, Askers, pair_cmp, is_open, session_of, waits_for}
-use Rattle.op_serving.specs.Handing.{Frame, frame_at, said_at, sent, sent_all, frames_sent, forgotten, answered, replied, replied_all, frames_replied, handed_out, frames_handed, Told, said_each, refusal_of, said_of_refusal, said_of_outcome, said_at_once, said_of_denial, told, told_all, frames_told, asked_by_one, asked, waits_unless, keys_that_wait, proposed, frames_proposed, excused, frames_excused}
+use Rattle.op_serving.specs.State.{find, changed, with_bytes, if_its, open_of, Key, Awaited, Loop, Askers, awaited_cmp, is_open, session_of, waits_for}
+use Rattle.op_serving.specs.Handing.{Frame, frame_at, said_at, sent, sent_all, frames_sent, forgotten, answered, replied, replied_all, frames_replied, handed_out, frames_handed, Told, said_each, refusal_of, said_of_refusal, said_of_outcome, said_of_read, said_at_once, said_of_denial, told, told_all, frames_told, asked_by_one, asked, waits_unless, waits_if_asked, keys_that_wait, is_read, proposed, frames_proposed, excused, frames_excused}
 use Rattle.op_serving.specs.declared.session.Session.{Session}
 use Rattle.std.proofs.lemmas.Bool.{cases_eq}
 use Rattle.op_connections.proofs.Tables.{found_own, found_other}
+use Rattle.op_cluster_laws.specs.Outputs.{answers_of}
 use Rattle.op_connections.proofs.Queueing.{queued}
-use Rattle.op_queues.proofs.Askers.{key_total}
+use Rattle.op_serving.proofs.KeyOrder.{key_total}
+use Rattle.op_queues.proofs.Askers.{key_is}
 use Rattle.op_cluster_laws.proofs.Lists.{Each, each_both}
 
--- whoever asked for a command is such a connection
-abbrev pub AskersAre : (ℕ → Type 0) → Loop → Type 0
-AskersAre P s = (key : Key) (c : ℕ) → map.get s.askers key ≡ Some c → P c
+-- whoever asked for a command or a read is such a connection
+abbrev pub AskersAre : (Awaited → ℕ → Type 0) → Loop → Type 0
+AskersAre P s = (key : Awaited) (c : ℕ) → map.get s.askers key ≡ Some c → P key c
 
 unless_some : (b : Bool) (x : Option ℕ) (c : ℕ) → cond b None x ≡ Some c → x ≡ Some c
 unless_some true x c e = absurd cc
 unless_some false x c e = e
 
-if_some : (b : Bool) (v : ℕ) (x : Option ℕ) (c : ℕ) → cond b (Some v) x ≡ Some c → (v ≡ c) ⊎ (x ≡ Some c)
-if_some true v x c e = inl cc
-if_some false v x c e = inr e
-
 -- one that is no more asked for
-pub got_removed : (t : Askers) (key other : Key) (c : ℕ) → map.get (map.remove t key) other ≡ Some c → map.get t other ≡ Some c
-got_removed t key other c e = unless_some (is_at (pair_cmp other) key) (map.get t other) c (sym (map.get-remove key_total t key other) ∙ e)
+pub got_removed : (t : Askers) (key other : Awaited) (c : ℕ) → map.get (map.remove t key) other ≡ Some c → map.get t other ≡ Some c
+got_removed t key other c e = unless_some (is_at (awaited_cmp other) key) (map.get t other) c (sym (map.get-remove key_total t key other) ∙ e)
 
 -- one that is asked for
-got_inserted : (t : Askers) (key other : Key) (d c : ℕ) → map.get (map.insert t key d) other ≡ Some c → (d ≡ c) ⊎ (map.get t other ≡ Some c)
-got_inserted t key other d c e = if_some (is_at (pair_cmp other) key) d (map.get t other) c (sym (map.get-insert key_total t key d other) ∙ e)
+got_inserted : (t : Askers) (key other : Awaited) (d c : ℕ) → map.get (map.insert t key d) other ≡ Some c → ((d ≡ c) × (key ≡ other)) ⊎ (map.get t other ≡ Some c)
+got_inserted t key other d c e = by_place (is_at (awaited_cmp other) key) refl (sym (map.get-insert key_total t key d other) ∙ e)
+  where
+    by_place : (b : Bool) → is_at (awaited_cmp other) key ≡ b → cond b (Some d) (map.get t other) ≡ Some c → ((d ≡ c) × (key ≡ other)) ⊎ (map.get t other ≡ Some c)
+    by_place true is k = inl (cc, sym (key_is other key is))
+    by_place false is k = inr k
 
 -- what holds of the connections at which an input was asked for
 abbrev pub WantedBy : (ℕ → Type 0) → Option Wanted → Type 0
@@ -51,6 +54,15 @@ WantedBy P None = Unit {0}
 WantedBy P (Some (Commands keys)) = Each (λ p. P p.0) keys
 WantedBy P (Some (Stop c)) = P c
 WantedBy P (Some (Trim c)) = P c
+WantedBy P (Some (Read c key)) = P c
+
+-- the same of those that wait, by what they wait for
+abbrev pub AwaitedBy : (Awaited → ℕ → Type 0) → Option Wanted → Type 0
+AwaitedBy P None = Unit {0}
+AwaitedBy P (Some (Commands keys)) = Each (λ p. P (false, p.1) p.0) keys
+AwaitedBy P (Some (Stop c)) = Unit {0}
+AwaitedBy P (Some (Trim c)) = Unit {0}
+AwaitedBy P (Some (Read c key)) = P (true, key) c
 
 -- it is not the answer to a command
 abbrev pub NoAnswer : ClientReply → Type 0
@@ -83,7 +95,7 @@ session_waits q d bytes s = by_peer (find q s.peers)
 peers_waits : (R : ℕ → Type 0) (d : ℕ) (bytes : List ℕ) (s : Loop) → PeersAre R s → PeersAre R (waits_for d bytes s)
 peers_waits R d bytes s h q c e = h q c (sym (session_waits q d bytes s) ∙ e)
 
-module _ (P R : ℕ → Type 0) (G : Frame → Type 0) (me : ℕ) where
+module _ (P : Awaited → ℕ → Type 0) (R : ℕ → Type 0) (G : Frame → Type 0) (me : ℕ) where
   -- these frames are handed out of one to the other
   pub record Hands (s : Loop) (fs : List Frame) (t : Loop) : Type 0 where
     pub me_is : t.me ≡ s.me
@@ -125,24 +137,35 @@ module _ (P R : ℕ → Type 0) (G : Frame → Type 0) (me : ℕ) where
   -- ---- replies
 
   -- they may be told to whoever asks
-  abbrev pub MayBeReplied : Reply → Type 0
-  MayBeReplied r = (c : ℕ) → P c → G (c, client_frame (answered r))
+  abbrev pub MayBeReplied : Bool → Reply → Type 0
+  MayBeReplied read r = (c : ℕ) → P (read, (r.client, r.seq)) c → G (c, client_frame (answered r))
 
-  hands_reply : (r : Reply) (s : Loop) (o : Option ℕ) → map.get s.askers (r.client, r.seq) ≡ o → MayBeReplied r → Hands s (frame_at o (client_frame (answered r))) (said_at o (client_frame (answered r)) (forgotten (r.client, r.seq) s))
-  hands_reply r s None e h = record { me_is = refl; downs = refl; askers = λ a key c k. a key c (got_removed s.askers (r.client, r.seq) key c k); peers = λ p. p; frames = λ is a p. tt }
-  hands_reply r s (Some c) e h = record { me_is = refl; downs = refl; askers = λ a key d k. a key d (got_removed s.askers (r.client, r.seq) key d k); peers = peers_waits R c (client_frame (answered r)) s; frames = λ is a p. (h c (a (r.client, r.seq) c e), tt) }
+  module _ (read : Bool) where
+    hands_reply : (r : Reply) (s : Loop) (o : Option ℕ) → map.get s.askers (read, (r.client, r.seq)) ≡ o → MayBeReplied read r
+        → Hands s (frame_at o (client_frame (answered r))) (said_at o (client_frame (answered r)) (forgotten (read, (r.client, r.seq)) s))
+    hands_reply r s None e h = record { me_is = refl; downs = refl; askers = λ a key c k. a key c (got_removed s.askers (read, (r.client, r.seq)) key c k); peers = λ p. p; frames = λ is a p. tt }
+    hands_reply r s (Some c) e h = record {
+      me_is = refl;
+      downs = refl;
+      askers = λ a key d k. a key d (got_removed s.askers (read, (r.client, r.seq)) key d k);
+      peers = peers_waits R c (client_frame (answered r)) s;
+      frames = λ is a p. (h c (a (read, (r.client, r.seq)) c e), tt);
+    }
 
-  hands_replied : (rs : List Reply) (s : Loop) → Each MayBeReplied rs → Hands s (frames_replied rs s) (replied_all rs s)
-  hands_replied [] s h = hands_none s
-  hands_replied (r ∷ rs) s h =
-      let o : Option ℕ = map.get s.askers (r.client, r.seq) in
-      hands_then s (replied r s) (replied_all rs (replied r s)) (frame_at o (client_frame (answered r))) (frames_replied rs (replied r s))
-      (hands_reply r s o refl h.0) (hands_replied rs (replied r s) h.1)
+    hands_replied : (rs : List Reply) (s : Loop) → Each (MayBeReplied read) rs → Hands s (frames_replied read rs s) (replied_all read rs s)
+    hands_replied [] s h = hands_none s
+    hands_replied (r ∷ rs) s h =
+        let o : Option ℕ = map.get s.askers (read, (r.client, r.seq)) in
+        hands_then s (replied read r s) (replied_all read rs (replied read r s)) (frame_at o (client_frame (answered r))) (frames_replied read rs (replied read r s))
+        (hands_reply r s o refl h.0) (hands_replied rs (replied read r s) h.1)
 
-  hands_handed : (g : Given) (s : Loop) → Each MayBeSent g.sends → Each MayBeReplied g.replies → Hands s (frames_handed g s) (handed_out g s)
-  hands_handed g s sends replies =
+  hands_handed : (g : Given) (s : Loop) → Each MayBeSent g.sends → ((read : Bool) → Each (MayBeReplied read) (answers_of read g)) → Hands s (frames_handed g s) (handed_out g s)
+  hands_handed g s sends answers =
       let m : Loop = sent_all g.sends s in
-      hands_then s m (replied_all g.replies m) (frames_sent g.sends s) (frames_replied g.replies m) (hands_sent g.sends s sends) (hands_replied g.replies m replies)
+      let u : Loop = replied_all false g.replies m in
+      hands_then s u (handed_out g s) (frames_sent g.sends s ++ frames_replied false g.replies m) (frames_replied true g.read_replies u)
+      (hands_then s m u (frames_sent g.sends s) (frames_replied false g.replies m) (hands_sent g.sends s sends) (hands_replied false g.replies m (answers false)))
+      (hands_replied true g.read_replies u (answers true))
 
   -- ---- what is told at once
 
@@ -171,10 +194,20 @@ module _ (P R : ℕ → Type 0) (G : Frame → Type 0) (me : ℕ) where
   told_outcome c None h = tt
   told_outcome c (Some o) h = (h _ (no_outcome o), tt)
 
+  told_read : (c : ℕ) (key : Key) (o : Option Outcome) → MayBeTold c → Each (λ r. G (r.0, client_frame r.1)) (said_of_read c key o)
+  told_read c key None h = tt
+  told_read c key (Some outcome.Asked) h = tt
+  told_read c key (Some (outcome.Refused why)) h = (h _ (no_outcome (outcome.Refused why)), tt)
+  told_read c key (Some (outcome.Appended conf pos)) h = (h _ (no_outcome (outcome.Appended conf pos)), tt)
+  told_read c key (Some outcome.Buffered) h = (h _ (no_outcome outcome.Buffered), tt)
+  told_read c key (Some (outcome.Forwarded p)) h = (h _ (no_outcome (outcome.Forwarded p)), tt)
+  told_read c key (Some outcome.NotLeading) h = (h _ (no_outcome outcome.NotLeading), tt)
+
   told_once : (w : Wanted) (o : Option Outcome) → WantedBy MayBeTold (Some w) → Each (λ r. G (r.0, client_frame r.1)) (said_at_once w o)
   told_once (Commands keys) o h = told_refusal keys (refusal_of o) h
   told_once (Stop c) o h = told_outcome c o h
   told_once (Trim c) o h = told_outcome c o h
+  told_once (Read c key) o h = told_read c key o h
 
   denied_no_answer : (why : Option Refusal) (a : Answer) → denied why ≡ said.Answer a → ⊥
   denied_no_answer None a e = cc
@@ -185,59 +218,78 @@ module _ (P R : ℕ → Type 0) (G : Frame → Type 0) (me : ℕ) where
   told_denial (Stop c) why h = (h _ (denied_no_answer why), tt)
   told_denial (Trim c) None h = tt
   told_denial (Trim c) (Some why) h = (h _ (denied_no_answer (Some why)), tt)
+  told_denial (Read c key) why h = (h _ (denied_no_answer why), tt)
 
   -- ---- who asks
 
-  asked_one : (p : ℕ × Key) (s : Loop) → (is_open p.0 s ≡ true → P p.0) → AskersAre P s → AskersAre P (asked_by_one p s)
-  asked_one p s own a key c e = by_open (is_open p.0 s) refl e
-    where
-      by_open : (b : Bool) → is_open p.0 s ≡ b → map.get (if b then map.insert s.askers p.1 p.0 else map.remove s.askers p.1) key ≡ Some c → P c
-      by_open true is k = elim (got_inserted s.askers p.1 key p.0 c k) [ inl same ↦ subst P same (own is) | inr before ↦ a key c before ]
-      by_open false is k = a key c (got_removed s.askers p.1 key c k)
-
-  asked_are : (ps : List (ℕ × Key)) (s : Loop) → Each (λ p. is_open p.0 s ≡ true → P p.0) ps → AskersAre P s → AskersAre P (asked ps s)
-  asked_are [] s h a = a
-  asked_are (p ∷ ps) s h a = asked_are ps (asked_by_one p s) h.1 (asked_one p s h.0 a)
-
-  asked_me : (ps : List (ℕ × Key)) (s : Loop) → (asked ps s).me ≡ s.me
-  asked_me [] s = refl
-  asked_me (p ∷ ps) s = asked_me ps (asked_by_one p s)
-
-  asked_downs : (ps : List (ℕ × Key)) (s : Loop) → (asked ps s).downs ≡ s.downs
-  asked_downs [] s = refl
-  asked_downs (p ∷ ps) s = asked_downs ps (asked_by_one p s)
-
-  asked_peers : (ps : List (ℕ × Key)) (s : Loop) → PeersAre R s → PeersAre R (asked ps s)
-  asked_peers [] s h = h
-  asked_peers (p ∷ ps) s h = asked_peers ps (asked_by_one p s) h
-
   -- where it is open it may ask
-  abbrev pub MayAsk : Loop → ℕ → Type 0
-  MayAsk s c = is_open c s ≡ true → P c
+  abbrev pub MayAsk : Loop → Awaited → ℕ → Type 0
+  MayAsk s key c = is_open c s ≡ true → P key c
 
-  waiting_ones : (why : Option Refusal) (keys : List (ℕ × Key)) (s : Loop) → Each (λ p. MayAsk s p.0) keys → Each (λ p. MayAsk s p.0) (waits_unless why keys)
+  module _ (read : Bool) where
+    asked_one : (p : ℕ × Key) (s : Loop) → MayAsk s (read, p.1) p.0 → AskersAre P s → AskersAre P (asked_by_one read p s)
+    asked_one p s own a key c e = by_open (is_open p.0 s) refl e
+      where
+        by_open : (b : Bool) → is_open p.0 s ≡ b → map.get (if b then map.insert s.askers (read, p.1) p.0 else map.remove s.askers (read, p.1)) key ≡ Some c → P key c
+        by_open true is k = elim (got_inserted s.askers (read, p.1) key p.0 c k) [ inl same ↦ subst (P key) same.0 (subst (λ z. P z p.0) same.1 (own is)) | inr before ↦ a key c before ]
+        by_open false is k = a key c (got_removed s.askers (read, p.1) key c k)
+
+    asked_are : (ps : List (ℕ × Key)) (s : Loop) → Each (λ p. MayAsk s (read, p.1) p.0) ps → AskersAre P s → AskersAre P (asked read ps s)
+    asked_are [] s h a = a
+    asked_are (p ∷ ps) s h a = asked_are ps (asked_by_one read p s) h.1 (asked_one p s h.0 a)
+
+    asked_me : (ps : List (ℕ × Key)) (s : Loop) → (asked read ps s).me ≡ s.me
+    asked_me [] s = refl
+    asked_me (p ∷ ps) s = asked_me ps (asked_by_one read p s)
+
+    asked_downs : (ps : List (ℕ × Key)) (s : Loop) → (asked read ps s).downs ≡ s.downs
+    asked_downs [] s = refl
+    asked_downs (p ∷ ps) s = asked_downs ps (asked_by_one read p s)
+
+    asked_peers : (ps : List (ℕ × Key)) (s : Loop) → PeersAre R s → PeersAre R (asked read ps s)
+    asked_peers [] s h = h
+    asked_peers (p ∷ ps) s h = asked_peers ps (asked_by_one read p s) h
+
+  waiting_ones : (why : Option Refusal) (keys : List (ℕ × Key)) (s : Loop) → Each (λ p. MayAsk s (false, p.1) p.0) keys → Each (λ p. MayAsk s (false, p.1) p.0) (waits_unless why keys)
   waiting_ones None keys s h = h
   waiting_ones (Some why) keys s h = tt
 
-  waiting_keys : (w : Wanted) (o : Option Outcome) (s : Loop) → WantedBy (MayAsk s) (Some w) → Each (λ p. MayAsk s p.0) (keys_that_wait w o)
+  waiting_read : (c : ℕ) (key : Key) (o : Option Outcome) (s : Loop) → MayAsk s (true, key) c → Each (λ p. MayAsk s (true, p.1) p.0) (waits_if_asked c key o)
+  waiting_read c key None s h = tt
+  waiting_read c key (Some outcome.Asked) s h = (h, tt)
+  waiting_read c key (Some (outcome.Refused why)) s h = tt
+  waiting_read c key (Some (outcome.Appended conf pos)) s h = tt
+  waiting_read c key (Some outcome.Buffered) s h = tt
+  waiting_read c key (Some (outcome.Forwarded p)) s h = tt
+  waiting_read c key (Some outcome.NotLeading) s h = tt
+
+  waiting_keys : (w : Wanted) (o : Option Outcome) (s : Loop) → AwaitedBy (MayAsk s) (Some w) → Each (λ p. MayAsk s (is_read w, p.1) p.0) (keys_that_wait w o)
   waiting_keys (Commands keys) o s h = waiting_ones (refusal_of o) keys s h
   waiting_keys (Stop c) o s h = tt
   waiting_keys (Trim c) o s h = tt
+  waiting_keys (Read c key) o s h = waiting_read c key o s h
 
-  hands_proposed : (w : Option Wanted) (o : Option Outcome) (s : Loop) → WantedBy (MayAsk s) w → WantedBy MayBeTold w → Hands s (frames_proposed w o) (proposed w o s)
+  hands_proposed : (w : Option Wanted) (o : Option Outcome) (s : Loop) → AwaitedBy (MayAsk s) w → WantedBy MayBeTold w → Hands s (frames_proposed w o) (proposed w o s)
   hands_proposed None o s a t = hands_none s
   hands_proposed (Some w) o s a t =
       let ps : List (ℕ × Key) = keys_that_wait w o in
-      hands_then s (asked ps s) (told_all (said_at_once w o) (asked ps s)) [] (frames_told (said_at_once w o))
-      (record { me_is = asked_me ps s; downs = asked_downs ps s; askers = asked_are ps s (waiting_keys w o s a); peers = asked_peers ps s; frames = λ e h r. tt })
-      (hands_told (said_at_once w o) (asked ps s) (told_once w o t))
+      let m : Loop = asked (is_read w) ps s in
+      hands_then s m (told_all (said_at_once w o) m) [] (frames_told (said_at_once w o))
+      (record {
+        me_is = asked_me (is_read w) ps s;
+        downs = asked_downs (is_read w) ps s;
+        askers = asked_are (is_read w) ps s (waiting_keys w o s a);
+        peers = asked_peers (is_read w) ps s;
+        frames = λ e h r. tt;
+      })
+      (hands_told (said_at_once w o) m (told_once w o t))
 
   pub hands_excused : (w : Option Wanted) (why : Option Refusal) (s : Loop) → WantedBy MayBeTold w → Hands s (frames_excused w why) (excused w why s)
   hands_excused None why s t = hands_none s
   hands_excused (Some w) why s t = hands_told (said_of_denial w why) s (told_denial w why t)
 
-  pub hands_given : (w : Option Wanted) (g : Given) (o : Option Outcome) (s : Loop) → WantedBy (MayAsk s) w → WantedBy MayBeTold w → Each MayBeSent g.sends → Each MayBeReplied g.replies
-      → Hands s (frames_proposed w o ++ frames_handed g (proposed w o s)) (handed_out g (proposed w o s))
-  hands_given w g o s a t sends replies =
+  pub hands_given : (w : Option Wanted) (g : Given) (o : Option Outcome) (s : Loop) → AwaitedBy (MayAsk s) w → WantedBy MayBeTold w → Each MayBeSent g.sends
+      → ((read : Bool) → Each (MayBeReplied read) (answers_of read g)) → Hands s (frames_proposed w o ++ frames_handed g (proposed w o s)) (handed_out g (proposed w o s))
+  hands_given w g o s a t sends answers =
       let m : Loop = proposed w o s in
-      hands_then s m (handed_out g m) (frames_proposed w o) (frames_handed g m) (hands_proposed w o s a t) (hands_handed g m sends replies)
+      hands_then s m (handed_out g m) (frames_proposed w o) (frames_handed g m) (hands_proposed w o s a t) (hands_handed g m sends answers)

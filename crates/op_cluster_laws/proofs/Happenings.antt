@@ -20,6 +20,7 @@ pub data Says (messages : List Sent) (pid : ℕ) : Input → What → Type 0 whe
   proposes : {cs : _} → Says messages pid (input.Commands cs) (what.Commands pid cs)
   stops : {members : _} → Says messages pid (input.Stop members) (what.Stop pid members)
   trims : Says messages pid input.TrimNow (what.Trim pid)
+  looks_up : {r : _} → Says messages pid (input.Read r) (what.Read pid r)
   goes_up : {q : ℕ} → Says messages pid (input.Up q) (what.Up pid q)
   goes_down : {q : ℕ} → Says messages pid (input.Down q) (what.Down pid q)
 
@@ -34,6 +35,7 @@ deed_said ms p x w (delivers i e) = rw e refl
 deed_said ms p x w proposes = refl
 deed_said ms p x w stops = refl
 deed_said ms p x w trims = refl
+deed_said ms p x w looks_up = refl
 deed_said ms p x w goes_up = refl
 deed_said ms p x w goes_down = refl
 

@@ -59,8 +59,8 @@ adding l ds = record {
     moves = λ s t u a. a;
     calms = λ s a. a;
     downs = λ q s a. adds_enter l ds [] (input.Down q) s a;
+    leaves_one = λ c s a. a;
   };
-  leaves_one = λ c s a. a;
   enters_one = λ who i s a. adds_enter l ds who i s a;
 }
 
@@ -152,6 +152,8 @@ module _ (me : ℕ) (n : Standing) (l : Luck) (line : Standing → List ℕ) (c 
       (λ u k b e. knows_give me n all_held l (c ∷ []) (input.Stop members) u k (c, refl, asked_behind s u (request.Stop members) b asked) (b.kinds Client client e))
   knows_request request.Trim s h client asked = knows_behind (give l (c ∷ []) input.TrimNow) s h
       (λ u k b e. knows_give me n all_held l (c ∷ []) input.TrimNow u k (c, refl, asked_behind s u request.Trim b asked) (b.kinds Client client e))
+  knows_request (request.Read r) s h client asked = knows_behind (give l (c ∷ []) (input.Read r)) s h
+      (λ u k b e. knows_give me n all_held l (c ∷ []) (input.Read r) u k (c, refl, asked_behind s u (request.Read r) b asked) (b.kinds Client client e))
   knows_request request.Status s h client asked = knows_behind (λ u. tells c (said.Status (line u.node)) u) s h
       (λ u k b e. knows_tells me n c (said.Status (line u.node)) u (λ a is. cc) (b.kinds Client client e) k)
   knows_request request.End s h client asked = knows_behind (λ u. ending (tells c said.Ended u)) s h

@@ -1,8 +1,7 @@
 -- In a cluster each message that a node takes was given out before, by the node that it names, to this node: where what that
 -- node gave out can be read again.
 use Rattle.std.proofs.Common.{◌≡◌, ℕ, zero, suc, List, [], ◌∷◌, ◌++◌, Some, length, flat_map, refl, sym, ◌∙◌, ap, subst, append_assoc, arith, Result, Ok, ◌⊎◌, inl, inr}
-use Rattle.std.proofs.lemmas.List.Elements.{Contains-append_cases, All-head, All-tail}
-use Rattle.std.specs.Prelude.{All}
+use Rattle.std.proofs.lemmas.List.Elements.{Contains-append_cases}
 use Rattle.std.specs.List.{Contains}
 use Rattle.op_types.specs.Ranges.{IsMember}
 use Rattle.op_types.specs.declared.messages.Msg.{Msg}
@@ -11,22 +10,24 @@ use Rattle.std.specs.Int.{w32}
 use Rattle.op_frame.specs.Framing.{frame_of}
 use Rattle.op_runs.specs.World.{node_ids}
 use Rattle.op_serving.specs.Cores.{Standing}
-use Rattle.op_serving.specs.Wire.{peer_head, message_in}
+use Rattle.op_serving.specs.Wire.{peer_head, message_in, client_frame}
 use Rattle.op_serving.specs.Reading.{client_byte, peer_byte, hello_len}
 use Rattle.op_serving.specs.Turns.{hello}
 use Rattle.op_serving.specs.Inputs.{Deed}
 use Rattle.op_serving.specs.Promise.{life}
-use Rattle.op_cluster_laws.specs.Outputs.{sent_in, replied_in}
+use Rattle.op_connections.specs.Waiting.{frames_for, MayWait}
+use Rattle.op_connections.proofs.Waiting.{joined_up}
+use Rattle.op_cluster_laws.specs.Outputs.{sent_in}
 use Rattle.op_cluster_laws.specs.Readings.{IsShort, HasFrame, IsPeers, IsClients, WasRead, began}
 use Rattle.op_cluster_laws.specs.Causes.{IsTold, AreCaused}
 use Rattle.op_cluster_laws.specs.Orders.{ClientsTakeReplies}
 use Rattle.op_cluster_laws.specs.Traces.{Happened, Lived, lived_at}
 use Rattle.op_cluster_laws.specs.Nets.{End, heard_at, taken_at, IsDialled, IsAccepted, AreJoined, ReadsPeer}
-use Rattle.op_cluster_laws.specs.Clusters.{SaysShort, end_at, IsCluster}
-use Rattle.op_cluster_laws.proofs.Lists.{Each, each_all}
+use Rattle.op_cluster_laws.specs.Clusters.{end_at, IsCluster}
+use Rattle.op_cluster_laws.proofs.Lists.{Each, each_map, each_all}
 use Rattle.op_cluster_laws.proofs.Serving.{deeds_are_caused}
-use Rattle.op_cluster_laws.proofs.Prefixes.{Short, body_is_sent, cut_same}
-use Rattle.op_cluster_laws.proofs.Saying.{client_took, TookFirst, took_first, base_of, text_of, frames_of, IsSent, Says, what_is_said}
+use Rattle.op_cluster_laws.proofs.Prefixes.{body_is_sent, cut_same}
+use Rattle.op_cluster_laws.proofs.Saying.{client_took, TookFirst, took_first, said_is, base_of, text_of, frames_of, IsSent, Says, what_is_said, took_sent}
 use Rattle.op_cluster_laws.proofs.Tracing.{first_me, lifted}
 
 -- ---- a hello
@@ -53,7 +54,7 @@ some_head x y xs ys e = cc
 -- some bytes were read
 some_read : (heard body : List ℕ) (h : HasFrame peer_head heard [] body) → heard ≡ [] → ⊥
 some_read heard body h empty =
-    let c : Contains {X = List ℕ} [] body = body_is_sent h.reads.bodies [] body h.after h.reads.short tt h.short (sym h.reads.is ∙ empty) in
+    let c : Contains {X = List ℕ} [] body = body_is_sent peer_head (inr refl) h.reads.bodies [] body h.after h.reads.short tt h.short (sym h.reads.is ∙ empty) in
     omega (arith, c.1)
 
 -- whose bytes it reads
@@ -83,7 +84,7 @@ module _ (me : ℕ) (n : Standing) (ds : List Deed) where
   abbrev pub CanBeRead : Type 0
   CanBeRead = (d : ℕ) (m : Msg) → Contains (sent_in n ds) (d, m) → IsShort peer_head (text_of me (d, m)) → message_in (text_of me (d, m)) ≡ Ok (me, d, m)
 
-  texts_short : (ms : List (ℕ × Msg)) → Each (IsSent me n ds) ms → Each Short (texts me ms)
+  texts_short : (ms : List (ℕ × Msg)) → Each (IsSent me n ds) ms → Each (IsShort peer_head) (texts me ms)
   unfolding texts
   texts_short [] h = tt
   texts_short (m ∷ ms) h = (h.0.1, texts_short ms h.1)
@@ -104,26 +105,22 @@ module _ (me : ℕ) (n : Standing) (ds : List Deed) where
   ]
 
   -- a body that was read at the other end is one of those that were sent
-  from_end : (heard first body base taken said rest more : List ℕ) (h : HasFrame peer_head heard first body) (ms : List (ℕ × Msg)) (q to : ℕ) (m : Msg)
-      → Each (IsSent me n ds) ms → CanBeRead → message_in body ≡ Ok (q, to, m) → length first ≡ length base → taken ≡ heard ++ rest → said ≡ taken ++ more → said ≡ base ++ frames_of me ms
+  from_end : (heard first body base taken rest more : List ℕ) (h : HasFrame peer_head heard first body) (ms : List (ℕ × Msg)) (q to : ℕ) (m : Msg)
+      → Each (IsSent me n ds) ms → CanBeRead → message_in body ≡ Ok (q, to, m) → length first ≡ length base → taken ≡ heard ++ rest → base ++ frames_of me ms ≡ taken ++ more
       → (q ≡ me) × Contains (sent_in n ds) (to, m)
-  from_end heard first body base taken said rest more h ms q to m g can says len took all is =
+  from_end heard first body base taken rest more h ms q to m g can says len took all =
       let F : List ℕ = flat_map (frame_of peer_head) h.reads.bodies in
       let frame : List ℕ = frame_of peer_head body in
       let tail : List ℕ = rest ++ more in
       let whole : first ++ (F ++ (frame ++ (h.after ++ tail))) ≡ base ++ flat_map (frame_of peer_head) (texts me ms) =
       sym (ap (λ l. l ++ tail) h.reads.is ∙ append_assoc first (F ++ (frame ++ h.after)) tail
       ∙ ap (λ l. first ++ l) (append_assoc F (frame ++ h.after) tail ∙ ap (λ l. F ++ l) (append_assoc frame h.after tail)))
-      ∙ sym (append_assoc heard rest more) ∙ ap (λ l. l ++ more) (sym took) ∙ sym all ∙ is ∙ ap (λ l. base ++ l) (frames_are me ms) in
+      ∙ sym (append_assoc heard rest more) ∙ ap (λ l. l ++ more) (sym took) ∙ sym all ∙ ap (λ l. base ++ l) (frames_are me ms) in
       found_text ms body q to m g can says
-      (body_is_sent h.reads.bodies (texts me ms) body (h.after ++ tail) h.reads.short (texts_short ms g) h.short
+      (body_is_sent peer_head (inr refl) h.reads.bodies (texts me ms) body (h.after ++ tail) h.reads.short (texts_short ms g) h.short
       (cut_same first base (F ++ (frame ++ (h.after ++ tail))) (flat_map (frame_of peer_head) (texts me ms)) len whole))
 
 -- ---- a cluster
-
-each_short : (ds : List Deed) → All SaysShort ds → Each SaysShort ds
-each_short [] h = tt
-each_short (d ∷ ds) h = (All-head SaysShort d ds h, each_short ds (All-tail SaysShort d ds h))
 
 module _ (members spares : List ℕ) (counts : ℕ → ℕ) (trace : List Happened) (c : IsCluster members spares counts trace) where
   abbrev pub IsNode : ℕ → Type 0
@@ -138,7 +135,7 @@ module _ (members spares : List ℕ) (counts : ℕ → ℕ) (trace : List Happen
     caused_now = subst (λ me. AreCaused me (L p now).first (L p now).deeds) (first_me members counts p now) (deeds_are_caused (L p now).first (L p now).deeds (c.lives now later split p is).serves)
 
     says_now : (conn : ℕ) → Says p (L p now).first conn (L p now).deeds
-    says_now conn = what_is_said p (L p now).first conn (L p now).deeds caused_now (each_short (L p now).deeds (c.lives now later split p is).short)
+    says_now conn = what_is_said p (L p now).first conn (L p now).deeds caused_now
 
     took_now : (conn : ℕ) → TookFirst (life conn (L p now).deeds)
     took_now conn = took_first p (L p now).first conn (L p now).deeds caused_now
@@ -148,11 +145,7 @@ module _ (members spares : List ℕ) (counts : ℕ → ℕ) (trace : List Happen
 
   -- an end that dialled said its hello first
   says_hello : (p conn : ℕ) (now later : List Happened) → trace ≡ now ++ later → IsNode p → IsDialled (at p conn now) → (more : List ℕ) × ((life conn (L p now).deeds).said ≡ hello p ++ more)
-  says_hello p conn now later split is dialled = by_kind (says_now p is now later split conn)
-    where
-      by_kind : Says p (L p now).first conn (L p now).deeds → (more : List ℕ) × ((life conn (L p now).deeds).said ≡ hello p ++ more)
-      by_kind (inl k) = absurd (hello_some p (sym dialled ∙ k.0.accepted))
-      by_kind (inr k) = (frames_of p k.sent, k.said ∙ ap (λ o. base_of o ++ frames_of p k.sent) dialled)
+  says_hello p conn now later split is dialled = (_, said_is conn (L p now).deeds ∙ ap (λ o. base_of o ++ joined_up (frames_for conn (L p now).deeds)) dialled)
 
   -- the other end of a peer's connection is no client's
   no_client : (p conn q other : ℕ) (now later before : List Happened) → trace ≡ now ++ later → IsNode p → AreJoined (at p conn now) (at q other before) → IsClients other (L q before).deeds → ⊥
@@ -200,10 +193,11 @@ module _ (members spares : List ℕ) (counts : ℕ → ℕ) (trace : List Happen
       elim (says_now r node before (since ++ (l.since ++ later)) whole other) [
         | inl k ↦ absurd (no_client p w.conn r other now (l.since ++ later) before all is joined k.0)
         | inr k ↦ (
-            let t = took_now r node before (since ++ (l.since ++ later)) whole other in
-            let found = from_end r (L r before).first (L r before).deeds (heard_at a) w.first w.body (base_of (began other (L r before).deeds)) (taken_at b)
-            (life other (L r before).deeds).said joined.onward.0 t.0 has k.sent q p m k.given (can r node before (since ++ l.since) here) w.says
-            (same_length a b w.first peers joined.ends) joined.onward.1 t.1 k.said in
+            let t = took_sent r (L r before).first other (L r before).deeds (caused_now r node before (since ++ (l.since ++ later)) whole) k in
+            let base : List ℕ = base_of (began other (L r before).deeds) in
+            let found = from_end r (L r before).first (L r before).deeds (heard_at a) w.first w.body base (taken_at b)
+            joined.onward.0 t.rest has t.sent q p m t.given (can r node before (since ++ l.since) here) w.says
+            (same_length a b w.first peers joined.ends) joined.onward.1 t.is in
             (subst IsNode (sym found.0) node, (before, since ++ l.since, here, subst (λ z. Contains (sent_in (L z before).first (L z before).deeds) (p, m)) (sym found.0) found.1)))
       ]
 
@@ -211,5 +205,10 @@ module _ (members spares : List ℕ) (counts : ℕ → ℕ) (trace : List Happen
   pub takes_replies : ClientsTakeReplies members spares counts trace
   takes_replies now later split p conn is client =
       let l : Lived = L p now in
-      let k = client_took p l.first conn l.deeds (caused_now p is now later split) (each_short l.deeds (c.lives now later split p is).short) client in
-      record { told = k.0; taken = k.1; are = each_all (IsTold (replied_in l.first l.deeds)) k.0 k.2 }
+      let k = client_took p l.first conn l.deeds (caused_now p is now later split) client in
+      record {
+        told = k.told;
+        taken = (k.rest, k.is);
+        are = each_all (IsTold l.first l.deeds conn) k.told
+            (each_map (λ x. IsTold l.first l.deeds conn x × MayWait (client_frame x)) (IsTold l.first l.deeds conn) (λ x h. h.0) k.told k.are);
+      }

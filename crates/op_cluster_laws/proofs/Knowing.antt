@@ -23,22 +23,23 @@ use Rattle.op_serving.specs.declared.wanted.Wanted.TheVariants as wanted
 use Rattle.op_serving.specs.Cores.{Standing, gives, reopens, given_again}
 use Rattle.op_serving.specs.Fates.{Fate, done, finds, faults, damaged, lost, after_fate}
 use Rattle.op_serving.specs.Wire.{peer_head, client_head}
-use Rattle.op_serving.specs.State.{if_its, open_of, session_of, Loop, find, with_bytes, kind_at, left_by, counted}
+use Rattle.op_serving.specs.State.{Awaited, if_its, open_of, session_of, Loop, find, with_bytes, kind_at, left_by, counted, shed}
 use Rattle.op_serving.specs.Losses.{most_marks, size, marked, settled}
 use Rattle.op_serving.specs.Handing.{Frame, proposed, frames_proposed, handed_out, frames_handed, excused, frames_excused}
-use Rattle.op_serving.specs.Inputs.{Deed, enters, says, State, Luck, key_of, kept, asked_by, loop_after, frames_after, is_lost_here, fate_of, next_fate, calm, entered_with, enter, first_down, drained_in, drained, rest, give, released, given_together, flushed, leaves, over}
+use Rattle.op_serving.specs.Inputs.{Deed, enters, says, State, Luck, key_of, kept, asked_by, loop_after, frames_after, is_lost_here, fate_of, next_fate, calm, entered_with, enter, shedding, first_down, drained_in, drained, rest, give, released, given_together, flushed, leaves, over}
 use Rattle.op_serving.specs.Reading.{client_byte}
 use Rattle.op_serving.specs.Promise.{Life, life, and_then, folded}
 use Rattle.op_connections.proofs.Tables.{zipped}
 use Rattle.op_connections.proofs.Queueing.{bytes_for, queued, Queues, queues_none, queues_given, queues_excused}
 use Rattle.op_connections.proofs.Keeping.{formed}
-use Rattle.op_cluster_laws.specs.Outputs.{given_at}
+use Rattle.op_connections.proofs.Walking.{shed_holds}
+use Rattle.op_cluster_laws.specs.Outputs.{given_at, answers_of}
 use Rattle.op_cluster_laws.specs.Readings.{began, Reads, IsPeers, IsOfPeer, IsClients, WasAsked}
-use Rattle.op_cluster_laws.specs.Causes.{WasHeard, MayFind, IsGiven, IsCaused, AreCaused}
+use Rattle.op_cluster_laws.specs.Causes.{MayAnswer, WasHeard, MayFind, IsGiven, IsCaused, AreCaused}
 use Rattle.op_cluster_laws.proofs.Lists.{Each, each_map, each_own, each_all}
-use Rattle.op_cluster_laws.proofs.Handing.{PeersAre, AskersAre, WantedBy, Hands, MayBeSent, MayBeReplied, MayBeTold, MayAsk, hands_none, hands_given, hands_excused}
+use Rattle.op_cluster_laws.proofs.Handing.{PeersAre, AskersAre, WantedBy, AwaitedBy, Hands, MayBeSent, MayBeReplied, MayBeTold, MayAsk, hands_none, hands_given, hands_excused}
 use Rattle.op_cluster_laws.proofs.Ending.{Quiet, kind_found, kind_before, quiet_then, quiet_like, quiet_left, quiet_marked, quiet_settle, quiet_calm}
-use Rattle.op_cluster_laws.proofs.Causing.{peers_entered, began_entered, life_entered, clients_entered, was_asked_more, folded_more, folded_says, sent_now, replied_now, caused_push, caused_says}
+use Rattle.op_cluster_laws.proofs.Causing.{may_answer_more, peers_entered, began_entered, life_entered, clients_entered, was_asked_more, folded_more, folded_says, sent_now, replied_now, caused_push, caused_says}
 use Rattle.op_cluster_laws.proofs.Tracing.{folded_push}
 
 -- ---- a session
@@ -84,13 +85,17 @@ waits_none x (Some y) h = (y.queue, h)
 
 -- ---- a state
 
+-- where a read is waited for it was asked for
+abbrev pub AskedFor : List Deed → Awaited → ℕ → Type 0
+AskedFor ds key c = MayAnswer key.0 ds c key.1
+
 pub record Knows (me : ℕ) (n : Standing) (u : Unread) (s : State) : Type 0 where
   pub caused : AreCaused me n s.deeds
   pub node : s.node ≡ folded n s.deeds
   pub me_is : s.loop.me ≡ me
   pub seats : (c : ℕ) (y : Session) → find c s.loop.sessions ≡ Some y → Seat me u c (began c s.deeds) (life c s.deeds).heard y
   pub waits : (c : ℕ) → WaitsAt (life c s.deeds) (find c s.loop.sessions)
-  pub askers : AskersAre (λ c. kind_at c s.loop ≡ Some Client) s.loop
+  pub askers : AskersAre (λ key c. (kind_at c s.loop ≡ Some Client) × AskedFor s.deeds key c) s.loop
   pub gathered : Each (λ e. (kind_at e.0 s.loop ≡ Some Client) × WasAsked s.deeds e.0 (request.Command e.1)) s.loop.gathered
   pub few : length s.loop.gathered < most_commands
   pub peers : (q : ℕ) (o : Option ℕ) → find q s.loop.peers ≡ Some o → IsPid q
@@ -152,7 +157,7 @@ module _ (me : ℕ) (n : Standing) (u : Unread) where
     me_is = q.me ∙ h.me_is;
     seats = λ c y e. h.seats c y (q.sessions c y e);
     waits = λ c. waits_less (life c s.deeds) (find c s.loop.sessions) (find c t.sessions) (q.sessions c) (h.waits c);
-    askers = λ key c e. let k = q.askers key c e in ap (option_map (λ (x : Session). x.kind)) k.1 ∙ h.askers key c k.0;
+    askers = λ key c e. let k = q.askers key c e in let a = h.askers key c k.0 in (ap (option_map (λ (x : Session). x.kind)) k.1 ∙ a.0, a.1);
     gathered = each_map
         (λ e. ((kind_at e.0 s.loop ≡ Some Client) × WasAsked s.deeds e.0 (request.Command e.1)) × (find e.0 t.sessions ≡ find e.0 s.loop.sessions))
         (λ e. (kind_at e.0 t ≡ Some Client) × WasAsked s.deeds e.0 (request.Command e.1))
@@ -201,8 +206,8 @@ module _ (me : ℕ) (n : Standing) (u : Unread) where
     abbrev may_hear : ℕ → Type 0
     may_hear c = IsOfPeer me c s.deeds
 
-    abbrev may_ask : Loop → ℕ → Type 0
-    may_ask m c = (kind_at c m ≡ Some Client) × IsClients c s.deeds
+    abbrev may_ask : Loop → Awaited → ℕ → Type 0
+    may_ask m key c = (kind_at c m ≡ Some Client) × IsClients c s.deeds × AskedFor s.deeds key c
 
     -- it leaves this, and these frames are handed out
     knows_handed : (m t : Loop) (fs : List Frame) → Quiet s.loop m → ((c : ℕ) → Queues c m fs t) → Hands (may_ask m) may_hear may_say me m fs t
@@ -217,7 +222,7 @@ module _ (me : ℕ) (n : Standing) (u : Unread) where
           (find c m.sessions) (find c t.sessions) (began_entered c s.deeds who i f fs) (ap (λ (x : Life). x.heard) (life_entered c s.deeds who i f fs)) (qs c).found (k.seats c);
       waits = λ c. subst (λ (x : Life). WaitsAt x (find c t.sessions)) (sym (life_entered c s.deeds who i f fs))
           (waits_queued (and_then c (life c s.deeds) (enters who i f)) (bytes_for c fs) (find c m.sessions) (find c t.sessions) (qs c).found (k.waits c));
-      askers = λ key c e. kinds c ∙ (hands.askers asks key c e).0;
+      askers = λ key c e. let a = hands.askers asks key c e in (kinds c ∙ a.0, may_answer_more key.0 s.deeds (enters who i f ∷ mapped says fs) c key.1 a.2);
       gathered = subst (λ l. Each (λ e. (kind_at e.0 t ≡ Some Client) × WasAsked (s.deeds ++ enters who i f ∷ mapped says fs) e.0 (request.Command e.1)) l) (sym (qs 0).gathered)
           (each_map (λ e. (kind_at e.0 m ≡ Some Client) × WasAsked s.deeds e.0 (request.Command e.1)) (λ e. (kind_at e.0 t ≡ Some Client) × WasAsked (s.deeds ++ enters who i f ∷ mapped says fs) e.0 (request.Command e.1))
           (λ e j. (kinds e.0 ∙ j.0, was_asked_more s.deeds (enters who i f ∷ mapped says fs) e.0 (request.Command e.1) j.1)) m.gathered k.gathered);
@@ -230,7 +235,7 @@ module _ (me : ℕ) (n : Standing) (u : Unread) where
         k = knows_quiet s m q h
 
         asks : AskersAre (may_ask m) m
-        asks key c e = let a = k.askers key c e in (a, clients_are s h c (kind_before s.loop m q c Client a))
+        asks key c e = let a = k.askers key c e in (a.0, clients_are s h c (kind_before s.loop m q c Client a.0), a.1)
 
         peers : PeersAre may_hear m
         peers p c e = peers_are (record s { loop = m }) k c p e
@@ -240,14 +245,14 @@ module _ (me : ℕ) (n : Standing) (u : Unread) where
 
     -- ---- who asked for it
 
-    open_kind : (m : Loop) → Quiet s.loop m → (c : ℕ) → kind_at c s.loop ≡ Some Client → MayAsk (may_ask m) may_hear may_say me m c
-    open_kind m q c e o = by_session (find c m.sessions) refl o
+    open_kind : (m : Loop) → Quiet s.loop m → (key : Awaited) (c : ℕ) → (kind_at c s.loop ≡ Some Client) × AskedFor s.deeds key c → MayAsk (may_ask m) may_hear may_say me m key c
+    open_kind m q key c e o = by_session (find c m.sessions) refl o
       where
-        by_session : (z : Option Session) → find c m.sessions ≡ z → is_some z ≡ true → may_ask m c
+        by_session : (z : Option Session) → find c m.sessions ≡ z → is_some z ≡ true → may_ask m key c
         by_session None is there = absurd cc
-        by_session (Some y) is there = (ap (option_map (λ (x : Session). x.kind)) (is ∙ sym (q.sessions c y is)) ∙ e, clients_are s h c e)
+        by_session (Some y) is there = (ap (option_map (λ (x : Session). x.kind)) (is ∙ sym (q.sessions c y is)) ∙ e.0, clients_are s h c e.0, e.1)
 
-    may_be_told : (c : ℕ) → kind_at c s.loop ≡ Some Client → (P : ℕ → Type 0) → MayBeTold P may_hear may_say me c
+    may_be_told : (c : ℕ) → kind_at c s.loop ≡ Some Client → (P : Awaited → ℕ → Type 0) → MayBeTold P may_hear may_say me c
     may_be_told c e P x none = inr (x, inr none, clients_entered c s.deeds who i f [] (clients_are s h c e), refl)
 
     wanted_map : (P Q : ℕ → Type 0) → ((c : ℕ) → P c → Q c) → (w : Option Wanted) → WantedBy P w → WantedBy Q w
@@ -255,6 +260,32 @@ module _ (me : ℕ) (n : Standing) (u : Unread) where
     wanted_map P Q g (Some (wanted.Commands keys)) a = each_map (λ p. P p.0) (λ p. Q p.0) (λ p b. g p.0 b) keys a
     wanted_map P Q g (Some (wanted.Stop c)) a = g c a
     wanted_map P Q g (Some (wanted.Trim c)) a = g c a
+    wanted_map P Q g (Some (wanted.Read c key)) a = g c a
+
+    awaited_map : (P Q : Awaited → ℕ → Type 0) → ((key : Awaited) (c : ℕ) → P key c → Q key c) → (w : Option Wanted) → AwaitedBy P w → AwaitedBy Q w
+    awaited_map P Q g None a = tt
+    awaited_map P Q g (Some (wanted.Commands keys)) a = each_map (λ p. P (false, p.1) p.0) (λ p. Q (false, p.1) p.0) (λ p b. g (false, p.1) p.0 b) keys a
+    awaited_map P Q g (Some (wanted.Stop c)) a = tt
+    awaited_map P Q g (Some (wanted.Trim c)) a = tt
+    awaited_map P Q g (Some (wanted.Read c key)) a = g (true, key) c a
+
+    -- those that asked for it
+    abbrev asked_client : Awaited → ℕ → Type 0
+    asked_client key c = (kind_at c s.loop ≡ Some Client) × AskedFor s.deeds key c
+
+    awaited_of : (cs : List ℕ) (x : Input) → WasHeard me s.deeds cs x → WantedBy (λ c. kind_at c s.loop ≡ Some Client) (asked_by cs x) → AwaitedBy asked_client (asked_by cs x)
+    awaited_of [] x heard a = tt
+    awaited_of (c ∷ cs) input.Tick heard a = tt
+    awaited_of (c ∷ cs) (input.Deliver q m) heard a = tt
+    awaited_of (c ∷ cs) (input.Commands xs) heard a = each_map (λ p. kind_at p.0 s.loop ≡ Some Client) (λ p. asked_client (false, p.1) p.0) (λ p b. (b, tt)) (zip (c ∷ cs) (mapped key_of xs)) a
+    awaited_of (c ∷ cs) (input.Stop members) heard a = tt
+    awaited_of (c ∷ cs) input.TrimNow heard a = tt
+    awaited_of (c ∷ cs) (input.Read r) heard a = (a, (r, refl, subst (λ d. WasAsked s.deeds d (request.Read r)) (first_is c heard.0 cs heard.1) heard.2))
+      where
+        first_is : (x y : ℕ) (xs : List ℕ) → x ∷ xs ≡ y ∷ [] → y ≡ x
+        first_is x y xs e = cc
+    awaited_of (c ∷ cs) (input.Up q) heard a = tt
+    awaited_of (c ∷ cs) (input.Down q) heard a = tt
 
     module _ (clients : WantedBy (λ c. kind_at c s.loop ≡ Some Client) (asked_by who i)) where
       abbrev w : Option Wanted
@@ -263,10 +294,10 @@ module _ (me : ℕ) (n : Standing) (u : Unread) where
       same : Quiet s.loop (counted s.loop)
       same = quiet_like s.loop (counted s.loop) refl refl refl refl refl (λ Q k. k)
 
-      asks : (m : Loop) → Quiet s.loop m → WantedBy (MayAsk (may_ask m) may_hear may_say me m) w
-      asks m q = wanted_map (λ c. kind_at c s.loop ≡ Some Client) (MayAsk (may_ask m) may_hear may_say me m) (λ c e. open_kind m q c e) w clients
+      asks : (m : Loop) → Quiet s.loop m → AwaitedBy (MayAsk (may_ask m) may_hear may_say me m) w
+      asks m q = awaited_map asked_client (MayAsk (may_ask m) may_hear may_say me m) (λ key c e. open_kind m q key c e) w (awaited_of who i cause.0 clients)
 
-      tells : (P : ℕ → Type 0) → WantedBy (MayBeTold P may_hear may_say me) w
+      tells : (P : Awaited → ℕ → Type 0) → WantedBy (MayBeTold P may_hear may_say me) w
       tells P = wanted_map (λ c. kind_at c s.loop ≡ Some Client) (MayBeTold P may_hear may_say me) (λ c e. may_be_told c e P) w clients
 
       knows_given : (g : Given) (o : Option Outcome) → given_at s.node (enters who i f) ≡ g
@@ -278,15 +309,26 @@ module _ (me : ℕ) (n : Standing) (u : Unread) where
           (hands_given (may_ask m) may_hear may_say me w g o m (asks m same) (tells (may_ask m))
           (each_map (λ x. Contains g.sends x) (MayBeSent (may_ask m) may_hear may_say me)
           (λ x there c peer. inl (x.0, x.1, sent_now n s.deeds (enters who i f) x (subst (λ (z : Given). Contains z.sends x) (sym gave) there), peers_entered me c s.deeds who i f [] peer, refl)) g.sends (each_own g.sends))
-          (each_map (λ r. Contains g.replies r) (MayBeReplied (may_ask m) may_hear may_say me)
-          (λ r there c ask. inr (_, inl (r, replied_now n s.deeds (enters who i f) r (subst (λ (z : Given). Contains z.replies r) (sym gave) there), refl), clients_entered c s.deeds who i f [] ask.1, refl)) g.replies (each_own g.replies)))
+          (λ read. each_map (λ r. Contains (answers_of read g) r) (MayBeReplied (may_ask m) may_hear may_say me read)
+          (λ r there c ask. inr (
+            _,
+            inl (
+              read,
+              r,
+              replied_now n s.deeds (enters who i f) read r (subst (λ (z : Given). Contains (answers_of read z) r) (sym gave) there),
+              may_answer_more read s.deeds (enters who i f ∷ []) c (r.client, r.seq) ask.2,
+              refl,
+            ),
+            clients_entered c s.deeds who i f [] ask.1,
+            refl,
+          )) (answers_of read g) (each_own (answers_of read g))))
 
       knows_excused : (m : Loop) (why : Option Refusal) → Quiet s.loop m
           → Knows me n u (record { loop = excused w why m; node = after_fate s.node i f; deeds = s.deeds ++ enters who i f ∷ mapped says (frames_excused w why) })
       knows_excused m why q = knows_handed m (excused w why m) (frames_excused w why) q (λ c. queues_excused c w why m) (hands_excused (may_ask m) may_hear may_say me w why m (tells (may_ask m)))
 
       knows_silent : Knows me n u (record { loop = counted s.loop; node = after_fate s.node i f; deeds = s.deeds ++ enters who i f ∷ [] })
-      knows_silent = let m : Loop = counted s.loop in knows_handed m m [] same (λ c. queues_none c m m refl refl refl refl refl) (hands_none (may_ask m) may_hear may_say me m)
+      knows_silent = let m : Loop = counted s.loop in knows_handed m m [] same (λ c. queues_none c m m refl refl refl refl refl refl) (hands_none (may_ask m) may_hear may_say me m)
 
   -- an input, before losses
   abbrev entered_by : List ℕ → Input → Fate → State → State
@@ -350,9 +392,17 @@ module _ (me : ℕ) (n : Standing) (u : Unread) where
       knows_enter l [] (input.Down q) (record s { loop = m })
       (knows_quiet s m (quiet_like s.loop m refl refl refl refl refl (λ Q k. (subst (λ l. Each Q l) e k).1)) h) own.0 tt
 
+  knows_shed : (l : Luck) (s : State) → Knows me n u s → Knows me n u (shedding l s)
+  knows_shed l s h = knows_calm l (record s { loop = shed s.loop })
+      (shed_holds (λ t. Knows me n u (record s { loop = t }))
+      (λ t k. knows_quiet (record s { loop = t }) (counted t) (quiet_like t (counted t) refl refl refl refl refl (λ Q d. d)) k)
+      (λ c t k. knows_quiet (record s { loop = t }) (left_by c t) (quiet_left c t) k) s.loop h)
+
   knows_drained_in : (k : ℕ) (l : Luck) (s : State) → Knows me n u s → Knows me n u (drained_in k l s)
   knows_drained_in zero l s h = h
-  knows_drained_in (suc k) l s h = knows_drained_in k l (first_down l s.loop.downs s) (knows_first l s.loop.downs s refl h)
+  knows_drained_in (suc k) l s h =
+      let t : State = shedding l s in
+      knows_drained_in k l (first_down l t.loop.downs t) (knows_first l t.loop.downs t refl (knows_shed l s h))
 
   pub knows_drained : (l : Luck) (s : State) → Knows me n u s → Knows me n u (drained l s)
   unfolding drained

@@ -14,5 +14,11 @@ pub mod Prefixes
 pub mod Saying
 pub mod Ranges
 pub mod Joining
+pub mod Answering
 pub mod Proposing
 pub mod Running
+pub mod Reading
+pub mod Opened
+pub mod Lasting
+pub mod Currency
+pub mod Current

@@ -91,6 +91,7 @@ module _ (b : Command) where
       no_stop : {s : _} → entry.Stop s ≡ entry.Command b → ⊥
       no_stop j = cc
   proposed_input m me s input.TrimNow conf k = inl k
+  proposed_input m me s (input.Read r) conf k = inl k
   proposed_input m me s (input.Up q) conf k = inl k
   proposed_input m me s (input.Down q) conf k = inl k
 
@@ -123,6 +124,7 @@ module _ (b : Command) where
   proposed_by m nodes ms (what.Commands p cs) conf k = proposed_at m (node_at nodes p) (Steps (input.Commands cs)) conf k
   proposed_by m nodes ms (what.Stop p members) conf k = proposed_at m (node_at nodes p) (Steps (input.Stop members)) conf k
   proposed_by m nodes ms (what.Trim p) conf k = proposed_at m (node_at nodes p) (Steps input.TrimNow) conf k
+  proposed_by m nodes ms (what.Read p r) conf k = proposed_at m (node_at nodes p) (Steps (input.Read r)) conf k
   proposed_by m nodes ms (what.Deliver i) conf k = proposed_delivery m nodes (slice_get ms i) conf k
   proposed_by m nodes ms (what.Up p q) conf k = proposed_at m (node_at nodes p) (Steps (input.Up q)) conf k
   proposed_by m nodes ms (what.Down p q) conf k = proposed_at m (node_at nodes p) (Steps (input.Down q)) conf k

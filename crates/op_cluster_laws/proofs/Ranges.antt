@@ -78,6 +78,8 @@ body_is body.AskBase r = tt
 body_is (body.BasePart at bytes) r = r.0
 body_is (body.AskSegment from to) r = r
 body_is (body.Segment at es) r = (r.0, entries_is es r.1)
+body_is (body.Confirm n number) r = (r.0.range, r.1)
+body_is (body.Confirmed n number) r = (r.0.range, r.1)
 
 sent_is : (m : Sent) → SentInRange IsPid m → AddressedInRange (m.from, m.to, m.message)
 sent_is m r = record {

@@ -1,5 +1,5 @@
 -- A cluster is a run of the world: deed by deed, the messages that are taken are among those that were given out.
-use Rattle.std.proofs.Common.{◌⊎◌, ◌≡◌, ◌<◌, ◌≤◌, ◌+◌, ◌^◌, ℕ, zero, suc, true, false, List, [], ◌∷◌, ◌++◌, map, length, Option, Some, None, refl, sym, ◌∙◌, ap, subst, append_assoc, append-nil, nat_eq, inl, inr, arith}
+use Rattle.std.proofs.Common.{◌⊎◌, ◌≡◌, ◌<◌, ◌≤◌, ◌+◌, ◌^◌, ℕ, zero, suc, Bool, true, false, List, [], ◌∷◌, ◌++◌, map, length, Option, Some, None, refl, sym, ◌∙◌, ap, subst, append_assoc, append-nil, nat_eq, inl, inr, arith}
 use Rattle.std.specs.Prelude.{All, zip}
 use Rattle.std.specs.List.{Contains}
 use Rattle.std.specs.Set.{is_member}
@@ -9,7 +9,9 @@ use Rattle.op_types.specs.Ranges.{IsPid, IsMember, MembersInRange}
 use Rattle.op_types.specs.declared.durable.Durable.{Durable}
 use Rattle.op_types.specs.declared.events.Input.{Input}
 use Rattle.op_types.specs.declared.events.Input.TheVariants as input
+use Rattle.op_types.specs.declared.events.Request.{Request}
 use Rattle.op_types.specs.declared.events.Request.TheVariants as request
+use Rattle.op_types.specs.declared.read.Read.{Read}
 use Rattle.op_types.specs.declared.log.Command.{Command}
 use Rattle.op_types.specs.declared.log.Entry.{Entry}
 use Rattle.op_types.specs.declared.log.Entry.TheVariants as entry
@@ -30,27 +32,34 @@ use Rattle.op_runs.specs.declared.events.What.{What}
 use Rattle.op_runs.specs.declared.events.What.TheVariants as what
 use Rattle.op_runs.specs.Possible.{SparesInRange, WhatInRange, HappeningsInRange, proposals_of, proposals_in}
 use Rattle.op_runs.specs.Run.{Execution, first_execution, execution_of, execution_with, IsSound, MeetsFrom, ServesDecided}
-use Rattle.op_runs.specs.World.{World, Node, Sent, Happening, first_node, first_world, node_ids, run_of, node_at, answer_line}
-use Rattle.op_bounds.specs.Laws.{SentInRange}
+use Rattle.op_runs.specs.World.{World, Sent, Happening, first_node, first_world, node_ids, run_of, node_at, answer_line}
+use Rattle.op_bounds.specs.Laws.{SentInRange, WorldInRange}
+use Rattle.op_bounds.specs.Messages as known
 use Rattle.op_bounds.proofs.Known.{nodes_are_ids, all_runs_stay}
 use Rattle.op_refinement.proofs.EveryRun.{every_run_meets}
+use Rattle.op_laws.proofs.Greatest.{greatest_stays}
 use Rattle.op_laws.proofs.Reached.{world_of_run, run_append, execution_append, front_in_range}
+use Rattle.op_serving.specs.Cores.{saying, gives}
+use Rattle.op_serving.specs.Fates.{done, finds, faults, damaged, lost}
 use Rattle.op_serving.specs.Inputs.{Deed, begins, hears, enters, says, takes}
-use Rattle.op_cluster_laws.specs.Outputs.{given_at, sent_in, replied_in}
+use Rattle.op_cluster_laws.specs.Outputs.{given_at, sent_in, answers_of, answered_in}
 use Rattle.op_cluster_laws.specs.Readings.{WasRead, WasAsked}
 use Rattle.op_cluster_laws.specs.Causes.{WasHeard, IsCaused, AreCaused}
 use Rattle.op_cluster_laws.specs.Traces.{Event, does, ends, killed, opens, Happened, Lived, stands, unstored_in, left_between, lived_by, lived_at, sent_then, messages_behind, input_of, proposed_by, proposed_in}
 use Rattle.op_cluster_laws.specs.Lives.{Serves}
 use Rattle.op_cluster_laws.proofs.Serving.{deeds_are_caused}
 use Rattle.op_cluster_laws.specs.Clusters.{IsLife, MayOpen, IsCluster}
+use Rattle.op_cluster_laws.specs.Currency.{WasAskedOf}
 use Rattle.op_cluster_laws.specs.Worlds.{StandsAt, StandTogether, history_after, IsFrom, IsMoment, IsRun, DeliveriesWereGiven, AreFirst, NodesAgree, OfClusters, ClustersAreRuns}
 use Rattle.op_cluster_laws.proofs.Causing.{replied_push, caused_at}
 use Rattle.op_cluster_laws.proofs.Tracing.{cut_last, lived_own, lived_other, first_me, folded_push, sent_push, unstored_push, FindsAt, finds_at}
-use Rattle.op_cluster_laws.proofs.Happenings.{sent, Says, ticks, delivers, proposes, stops, trims, goes_up, goes_down}
-use Rattle.op_cluster_laws.proofs.Executions.{Numbered, says_of, EventOf, Moves, others_stand, MayCome, moves, crashes, dies_in, opened}
+use Rattle.op_cluster_laws.proofs.Happenings.{sent, Says, ticks, delivers, proposes, stops, trims, looks_up, goes_up, goes_down}
+use Rattle.op_cluster_laws.proofs.Executions.{told_line, nobody, silent, Numbered, says_of, EventOf, Moves, others_stand, MayCome, moves, crashes, dies_in, opened}
+use Rattle.op_cluster_laws.proofs.Answering.{all_found, input_fits, again_none, answers_fit}
 use Rattle.op_cluster_laws.proofs.Ranges.{numbered_all, numbered_within, can_be_read, request_fits, commands_fit}
 use Rattle.op_cluster_laws.specs.Orders.{ClientsTakeReplies, IsAnswer, IsServedBefore, AnswersComeFirst}
 use Rattle.op_cluster_laws.proofs.Proposing.{commands_of, commands_in, commands_more, proposed_run}
+use Rattle.op_cluster_laws.proofs.Currency.{reads_of, reads_in, reads_more}
 use Rattle.op_cluster_laws.proofs.Joining.{CanBeRead, read_was_given, takes_replies}
 
 -- ---- lists
@@ -115,6 +124,7 @@ says_fits ms p ds who i w (delivers {q} {m} k e) h pid few = (let lt = numbered_
 says_fits ms p ds who i w (proposes {cs}) h pid few = ((pid, commands_fit ds who cs h.0 h.1 h.2 h.3), omega arith)
 says_fits ms p ds who i w (stops {members}) h pid few = ((pid, request_fits ds h.0 (request.Stop members) h.2), omega arith)
 says_fits ms p ds who i w trims h pid few = (pid, omega arith)
+says_fits ms p ds who i w (looks_up {r}) h pid few = ((pid, request_fits ds h.0 (request.Read r) h.2), omega arith)
 says_fits ms p ds who i w (goes_up {q}) h pid few = ((pid, h), omega arith)
 says_fits ms p ds who i w (goes_down {q}) h pid few = ((pid, h), omega arith)
 
@@ -144,6 +154,7 @@ says_asked ms p ds who i w c (delivers n e) h k = absurd k
 says_asked ms p ds who i w c (proposes {cs}) h k = asked_among ds who cs c h.0 h.3 k
 says_asked ms p ds who i w c stops h k = absurd k
 says_asked ms p ds who i w c trims h k = absurd k
+says_asked ms p ds who i w c looks_up h k = absurd k
 says_asked ms p ds who i w c goes_up h k = absurd k
 says_asked ms p ds who i w c goes_down h k = absurd k
 
@@ -161,6 +172,33 @@ event_asked ms p ds ends w c crash h k = absurd (none_asked (what.Crash p) w c c
 event_asked ms p ds (killed who i) w c (inl said) h k = says_asked ms p ds who i w c said h k
 event_asked ms p ds (killed who i) w c (inr crash) h k = absurd (none_asked (what.Crash p) w c crash (λ z. z) k)
 event_asked ms p ds (opens d count) w c start h k = absurd (none_asked (what.Start p) w c start (λ z. z) k)
+
+-- so was a read of an event
+says_read : (ms : List Sent) (p : ℕ) (ds : List Deed) (who : List ℕ) (i : Input) (w : What) (r : Read) → Says ms p i w → WasHeard p ds who i → IsAmong (reads_of w) r → (conn : ℕ) × WasAsked ds conn (request.Read r)
+says_read ms p ds who i w r ticks h k = absurd k
+says_read ms p ds who i w r (delivers n e) h k = absurd k
+says_read ms p ds who i w r proposes h k = absurd k
+says_read ms p ds who i w r stops h k = absurd k
+says_read ms p ds who i w r trims h k = absurd k
+says_read ms p ds who i w r looks_up h (inl same) = (h.0, subst (λ z. WasAsked ds h.0 (request.Read z)) same h.2)
+says_read ms p ds who i w r looks_up h (inr none) = absurd none
+says_read ms p ds who i w r goes_up h k = absurd k
+says_read ms p ds who i w r goes_down h k = absurd k
+
+none_read : (v w : What) (r : Read) → w ≡ v → (IsAmong (reads_of v) r → ⊥) → IsAmong (reads_of w) r → ⊥
+none_read v w r e none k = none (subst (λ z. IsAmong (reads_of z) r) e k)
+
+event_read : (ms : List Sent) (p : ℕ) (ds : List Deed) (e : Event) (w : What) (r : Read) → OfEvent ms p e w → HeardSo p ds e → IsAmong (reads_of w) r → (conn : ℕ) × WasAsked ds conn (request.Read r)
+event_read ms p ds (does (enters who i fate)) w r (inl said) h k = says_read ms p ds who i w r said h k
+event_read ms p ds (does (enters who i fate)) w r (inr start) h k = absurd (none_read (what.Start p) w r start (λ z. z) k)
+event_read ms p ds (does (begins d bytes)) w r e h k = absurd e
+event_read ms p ds (does (hears d bytes)) w r e h k = absurd e
+event_read ms p ds (does (says f)) w r e h k = absurd e
+event_read ms p ds (does (takes d bytes)) w r e h k = absurd e
+event_read ms p ds ends w r crash h k = absurd (none_read (what.Crash p) w r crash (λ z. z) k)
+event_read ms p ds (killed who i) w r (inl said) h k = says_read ms p ds who i w r said h k
+event_read ms p ds (killed who i) w r (inr crash) h k = absurd (none_read (what.Crash p) w r crash (λ z. z) k)
+event_read ms p ds (opens d count) w r start h k = absurd (none_read (what.Start p) w r start (λ z. z) k)
 
 only_one : (c : Command) (cs : List Command) → IsAmong (cs ++ []) c → IsAmong cs c
 only_one c cs k = subst (λ l. IsAmong l c) (append-nil cs) k
@@ -185,18 +223,20 @@ module _ (members spares : List ℕ) (counts : ℕ → ℕ) (ms : MembersInRange
   abbrev world : List Happening → World
   world hs = run_of (first_world members spares) hs
 
-  -- a node has read a request for this command, in one of its lives
-  abbrev AskedBy : List Happened → Command → Type 0
-  AskedBy now c = (before since : List Happened) × (now ≡ before ++ since) × (p conn : ℕ) × IsNode p × WasAsked (L p before).deeds conn (request.Command c)
+  -- a node has read this request, in one of its lives
+  abbrev AskedBy : List Happened → Request → Type 0
+  AskedBy now r = WasAskedOf members spares counts now r
 
-  asked_later : (now xs : List Happened) (c : Command) → AskedBy now c → AskedBy (now ++ xs) c
-  asked_later now xs c a = (a.0, a.1 ++ xs, ap (λ l. l ++ xs) a.2 ∙ append_assoc a.0 a.1 xs, a.3, a.4, a.5, a.6)
+  asked_later : (now xs : List Happened) (r : Request) → AskedBy now r → AskedBy (now ++ xs) r
+  asked_later now xs r a = (a.0, a.1 ++ xs, ap (λ l. l ++ xs) a.2 ∙ append_assoc a.0 a.1 xs, a.3, a.4, a.5, a.6)
 
   record Beside (now : List Happened) (hs : List Happening) : Type 0 where
     nodes : StandTogether members spares counts now hs
     messages : (before since : List Happened) → now ≡ before ++ since → (p : ℕ) → IsNode p → (d : ℕ) (m : Msg) → Contains (sent_in (L p before).first (L p before).deeds) (d, m) → Numbered (world hs).messages (sent p d m)
-    replies : (p : ℕ) → IsNode p → (r : Reply) → Contains (replied_in (L p now).first (L p now).deeds) r → Contains (world hs).lines (answer_line p r.client r.seq r.answer)
-    asked : (c : Command) → IsAmong (commands_in hs) c → AskedBy now c
+    replies : (read : Bool) (p : ℕ) → IsNode p → (r : Reply) → Contains (answered_in read (L p now).first (L p now).deeds) r → Contains (world hs).lines (told_line read p r)
+    answers : (read : Bool) (p : ℕ) → IsNode p → (r : Reply) → Contains (answered_in read (L p now).first (L p now).deeds) r → known.ReplyInRange IsPid r
+    asked : (c : Command) → IsAmong (commands_in hs) c → AskedBy now (request.Command c)
+    read : (r : Read) → IsAmong (reads_in hs) r → AskedBy now (request.Read r)
     count : length (world hs).messages ≤ messages_behind members counts [] now
     range : All (λ h. WhatInRange h.event.what) hs
     proposals : proposals_in hs ≤ proposed_in now
@@ -206,8 +246,10 @@ module _ (members spares : List ℕ) (counts : ℕ → ℕ) (ms : MembersInRange
     nodes = λ p is. record { me = refl; found = first_node members p; there = first_found members (node_ids members spares) p is; pid = refl; state = refl; runs = refl };
     messages = λ before since e p is d m c. absurd (let none : before ≡ [] = none_left before since e in
         omega (arith, (subst (λ l. Contains (sent_in (L p l).first (L p l).deeds) (d, m)) none c).1));
-    replies = λ p is r c. absurd (omega (arith, c.1));
+    replies = λ read p is r c. absurd (omega (arith, c.1));
+    answers = λ read p is r c. absurd (omega (arith, c.1));
     asked = λ c k. absurd k;
+    read = λ r k. absurd k;
     count = omega arith;
     range = All-nil (λ h. WhatInRange h.event.what);
     proposals = omega arith;
@@ -222,14 +264,14 @@ module _ (members spares : List ℕ) (counts : ℕ → ℕ) (ms : MembersInRange
       let same = ap (λ l. length (sent_then (L x.pid l) x.event)) seam in
       omega (arith, k, same)
 
-  -- what a node replies then
-  abbrev replied_then : Lived → Event → List Reply
-  replied_then l (does d) = (given_at (stands l) d).replies
-  replied_then l e = []
+  -- what a node answers then
+  abbrev answered_then : Lived → Event → Bool → List Reply
+  answered_then l (does d) = λ read. answers_of read (given_at (stands l) d)
+  answered_then l e = nobody
 
   -- what becomes of the world then
   abbrev Goes : World → ℕ → Lived → Event → Type 0
-  Goes w p l e = Moves w p (OfEvent w.messages p e) (sent_then l e) (replied_then l e) (stands (lived_by l e)) (lived_by l e).left (unstored_in (lived_by l e))
+  Goes w p l e = Moves w p (OfEvent w.messages p e) (sent_then l e) (answered_then l e) (stands (lived_by l e)) (lived_by l e).left (unstored_in (lived_by l e))
 
   -- what may come
   abbrev MayBe : List Sent → ℕ → Lived → Event → Type 0
@@ -281,14 +323,14 @@ module _ (members spares : List ℕ) (counts : ℕ → ℕ) (ms : MembersInRange
     sent_event l (killed who i) y c = inl c
     sent_event l (opens d count) y c = absurd (omega (arith, c.1))
 
-    replied_event : (l : Lived) (e : Event) (y : Reply) → Contains (replied_in (lived_by l e).first (lived_by l e).deeds) y → Contains (replied_in l.first l.deeds) y ⊎ Contains (replied_then l e) y
-    replied_event l (does d) y c = elim (Contains-append_cases (replied_in l.first l.deeds) ((given_at (stands l) d).replies ++ []) y (subst (λ (z : List Reply). Contains z y) (replied_push l.first l.deeds d) c)) [
+    replied_event : (read : Bool) (l : Lived) (e : Event) (y : Reply) → Contains (answered_in read (lived_by l e).first (lived_by l e).deeds) y → Contains (answered_in read l.first l.deeds) y ⊎ Contains (answered_then l e read) y
+    replied_event read l (does d) y c = elim (Contains-append_cases (answered_in read l.first l.deeds) (answers_of read (given_at (stands l) d) ++ []) y (subst (λ (z : List Reply). Contains z y) (replied_push read l.first l.deeds d) c)) [
       | inl old ↦ inl old
-      | inr new ↦ inr (subst (λ (z : List Reply). Contains z y) (append-nil (given_at (stands l) d).replies) new)
+      | inr new ↦ inr (subst (λ (z : List Reply). Contains z y) (append-nil (answers_of read (given_at (stands l) d))) new)
     ]
-    replied_event l ends y c = inl c
-    replied_event l (killed who i) y c = inl c
-    replied_event l (opens d count) y c = absurd (omega (arith, c.1))
+    replied_event read l ends y c = inl c
+    replied_event read l (killed who i) y c = inl c
+    replied_event read l (opens d count) y c = absurd (omega (arith, c.1))
 
     now_messages : (p : ℕ) → IsNode p → (d : ℕ) (msg : Msg) → Contains (sent_in (L p (now ++ x ∷ [])).first (L p (now ++ x ∷ [])).deeds) (d, msg) → Numbered (run_of (world hs) m.happenings).messages (sent p d msg)
     now_messages p is d msg c = elim (cases_eq x.pid p) [
@@ -305,23 +347,64 @@ module _ (members spares : List ℕ) (counts : ℕ → ℕ) (ms : MembersInRange
       | inr part ↦ m.messages (sent p d msg) (b.messages before part.0 part.1 p is d msg c)
     ])
 
-    next_replies : (p : ℕ) → IsNode p → (r : Reply) → Contains (replied_in (L p (now ++ x ∷ [])).first (L p (now ++ x ∷ [])).deeds) r → Contains (world (hs ++ m.happenings)).lines (answer_line p r.client r.seq r.answer)
-    next_replies p is r c = subst (λ v. Contains v.lines (answer_line p r.client r.seq r.answer)) (sym all) (elim (cases_eq x.pid p) [
-      | inl e ↦ elim (replied_event (L p now) x.event r (subst (λ (l : Lived). Contains (replied_in l.first l.deeds) r) (lived_own members counts p now x e) c)) [
-        | inl old ↦ m.lines (answer_line p r.client r.seq r.answer) (b.replies p is r old)
-        | inr new ↦ subst (λ z. Contains (replied_then (L z now) x.event) r → Contains (run_of (world hs) m.happenings).lines (answer_line z r.client r.seq r.answer)) e (m.replied r) new
+    next_replies : (read : Bool) (p : ℕ) → IsNode p → (r : Reply) → Contains (answered_in read (L p (now ++ x ∷ [])).first (L p (now ++ x ∷ [])).deeds) r → Contains (world (hs ++ m.happenings)).lines (told_line read p r)
+    next_replies read p is r c = subst (λ v. Contains v.lines (told_line read p r)) (sym all) (elim (cases_eq x.pid p) [
+      | inl e ↦ elim (replied_event read (L p now) x.event r (subst (λ (l : Lived). Contains (answered_in read l.first l.deeds) r) (lived_own members counts p now x e) c)) [
+        | inl old ↦ m.lines (told_line read p r) (b.replies read p is r old)
+        | inr new ↦ subst (λ z. Contains (answered_then (L z now) x.event read) r → Contains (run_of (world hs) m.happenings).lines (told_line read z r)) e (m.replied read r) new
       ]
-      | inr n ↦ m.lines (answer_line p r.client r.seq r.answer) (b.replies p is r (subst (λ (l : Lived). Contains (replied_in l.first l.deeds) r) (lived_other members counts p now x n) c))
+      | inr n ↦ m.lines (told_line read p r) (b.replies read p is r (subst (λ (l : Lived). Contains (answered_in read l.first l.deeds) r) (lived_other members counts p now x n) c))
     ])
 
-    next_asked : (c : Command) → IsAmong (commands_in (hs ++ m.happenings)) c → AskedBy (now ++ x ∷ []) c
+    -- what is answered then is in range
+    event_answers : (e : Event) → MayBe (world hs).messages x.pid (L x.pid now) e → HeardSo x.pid (L x.pid now).deeds e → (read : Bool) (r : Reply) → Contains (answered_then (L x.pid now) e read) r → known.ReplyInRange IsPid r
+    event_answers (does (enters who i done)) come heard read r c =
+        let l : Lived = L x.pid now in
+        let w : WorldInRange IsPid (world hs) = all_runs_stay members spares ms ss hs b.range in
+        let fit : known.InputInRange IsPid i = input_fits x.pid l.deeds who i (world hs).messages w.messages heard come.1.0 in
+        all_contains (known.ReplyInRange IsPid) (answers_of read (gives (stands l) i)) r (answers_fit read (world hs) x.pid (stands l) l.left (unstored_in l) i w (b.nodes x.pid node) fit) c
+    event_answers (does (enters who i (finds d))) come heard read r c =
+        absurd (let none = subst (λ (l : List Reply). Contains l r) (again_none read (stands (L x.pid now)) d) c in omega (arith, none.1))
+    event_answers (does (enters who i (faults k))) come heard read r c = absurd (silent (saying None) refl refl read r c)
+    event_answers (does (enters who i damaged)) come heard read r c = absurd (silent (saying None) refl refl read r c)
+    event_answers (does (enters who i lost)) come heard read r c = absurd (silent (saying None) refl refl read r c)
+    event_answers (does (begins d bytes)) come heard read r c = absurd (silent (saying None) refl refl read r c)
+    event_answers (does (hears d bytes)) come heard read r c = absurd (silent (saying None) refl refl read r c)
+    event_answers (does (says f)) come heard read r c = absurd (silent (saying None) refl refl read r c)
+    event_answers (does (takes d bytes)) come heard read r c = absurd (silent (saying None) refl refl read r c)
+    event_answers ends come heard read r c = absurd (omega (arith, c.1))
+    event_answers (killed who i) come heard read r c = absurd (omega (arith, c.1))
+    event_answers (opens d count) come heard read r c = absurd (omega (arith, c.1))
+
+    next_answers : (read : Bool) (p : ℕ) → IsNode p → (r : Reply) → Contains (answered_in read (L p (now ++ x ∷ [])).first (L p (now ++ x ∷ [])).deeds) r → known.ReplyInRange IsPid r
+    next_answers read p is r c = elim (cases_eq x.pid p) [
+      | inl e ↦ elim (replied_event read (L p now) x.event r (subst (λ (l : Lived). Contains (answered_in read l.first l.deeds) r) (lived_own members counts p now x e) c)) [
+        | inl old ↦ b.answers read p is r old
+        | inr new ↦ event_answers x.event may heard read r (subst (λ z. Contains (answered_then (L z now) x.event read) r) (sym e) new)
+      ]
+      | inr n ↦ b.answers read p is r (subst (λ (l : Lived). Contains (answered_in read l.first l.deeds) r) (lived_other members counts p now x n) c)
+    ]
+
+    next_asked : (c : Command) → IsAmong (commands_in (hs ++ m.happenings)) c → AskedBy (now ++ x ∷ []) (request.Command c)
     next_asked c k = elim (from_both c (commands_in hs) (commands_in m.happenings) (subst (λ l. IsAmong l c) (commands_more hs m.happenings) k)) [
-      | inl old ↦ asked_later now (x ∷ []) c (b.asked c old)
+      | inl old ↦ asked_later now (x ∷ []) (request.Command c) (b.asked c old)
       | inr new ↦ elim m.is [
         | inl none ↦ absurd (rw none at new)
         | inr one ↦ (
             let named : IsAmong (commands_of (one.0).event.what) c = only_one c (commands_of (one.0).event.what) (rw one.1 at new) in
             let a = event_asked (world hs).messages x.pid (L x.pid now).deeds x.event (one.0).event.what c one.2 heard named in
+            (now, x ∷ [], refl, x.pid, a.0, node, a.1))
+      ]
+    ]
+
+    next_read : (r : Read) → IsAmong (reads_in (hs ++ m.happenings)) r → AskedBy (now ++ x ∷ []) (request.Read r)
+    next_read r k = elim (from_both r (reads_in hs) (reads_in m.happenings) (subst (λ l. IsAmong l r) (reads_more hs m.happenings) k)) [
+      | inl old ↦ asked_later now (x ∷ []) (request.Read r) (b.read r old)
+      | inr new ↦ elim m.is [
+        | inl none ↦ absurd (rw none at new)
+        | inr one ↦ (
+            let named : IsAmong (reads_of (one.0).event.what) r = subst (λ l. IsAmong l r) (append-nil (reads_of (one.0).event.what)) (rw one.1 at new) in
+            let a = event_read (world hs).messages x.pid (L x.pid now).deeds x.event (one.0).event.what r one.2 heard named in
             (now, x ∷ [], refl, x.pid, a.0, node, a.1))
       ]
     ]
@@ -342,7 +425,9 @@ module _ (members spares : List ℕ) (counts : ℕ → ℕ) (ms : MembersInRange
         nodes = next_nodes;
         messages = next_messages;
         replies = next_replies;
+        answers = next_answers;
         asked = next_asked;
+        read = next_read;
         count = (let e = ap (λ v. length v.messages) all in let k = messages_more [] now x in let c = m.count in let o = b.count in omega (arith, e, k, c, o));
         range = All-append (λ h. WhatInRange h.event.what) hs m.happenings b.range next_range.0;
         proposals = (let e = proposals_more hs m.happenings in let k = proposed_more now (x ∷ []) in let n = next_range.1 in let o = b.proposals in omega (arith, e, k, n, o));
@@ -482,7 +567,7 @@ module _ (members spares : List ℕ) (counts : ℕ → ℕ) (ms : MembersInRange
           replies = λ p is r c.
               any_line (history_after members spares first) p 0 r
               (all_contains (IfReplyServed (history_after members spares first)) t.world.lines (answer_line p r.client r.seq r.answer) (every_reply_is_served members spares first run)
-              (subst (λ v. Contains v.lines (answer_line p r.client r.seq r.answer)) (sym (world_of_run (first_execution members spares) first)) (b.replies p is r c)));
+              (subst (λ v. Contains v.lines (answer_line p r.client r.seq r.answer)) (sym (world_of_run (first_execution members spares) first)) (b.replies false p is r c)));
         }
 
     is_run : IsRun members spares counts trace whole.more
@@ -507,26 +592,16 @@ every_delivery_was_given members spares ms ss counts trace c = deliveries_were_g
 
 -- ---- agreement
 
-all_found : (P : Node → Type 0) (nodes : List Node) (p : ℕ) (k : Node) → All P nodes → node_at nodes p ≡ Some k → P k
-all_found P [] p k h e = absurd cc
-all_found P (j ∷ nodes) p k h e = elim (cases_eq j.pid p) [
-  | inl same ↦ (let is : Some j ≡ Some k = (rw (eq-eqb j.pid p same) at e) in subst P (some_is j k is) (All-head P j nodes h))
-  | inr apart ↦ all_found P nodes p k (All-tail P j nodes h) (rw (ne_eqb j.pid p apart) at e)
-]
-  where
-    some_is : (a b : Node) → Some a ≡ Some b → a ≡ b
-    some_is a b e = cc
-
 module _ (members : List ℕ) where
-  sound_behind : (t : Execution) (hs : List Happening) → IsSound members t → MeetsFrom members t hs → IsSound members (execution_of t hs)
+  pub sound_behind : (t : Execution) (hs : List Happening) → IsSound members t → MeetsFrom members t hs → IsSound members (execution_of t hs)
   sound_behind t [] s m = s
   sound_behind t (h ∷ hs) s m = sound_behind (execution_with t h) hs m.0.sound m.1
 
-  meets_behind : (t : Execution) (hs gs : List Happening) → MeetsFrom members t (hs ++ gs) → MeetsFrom members t hs × MeetsFrom members (execution_of t hs) gs
+  pub meets_behind : (t : Execution) (hs gs : List Happening) → MeetsFrom members t (hs ++ gs) → MeetsFrom members t hs × MeetsFrom members (execution_of t hs) gs
   meets_behind t [] gs m = (tt, m)
   meets_behind t (h ∷ hs) gs m = let k = meets_behind (execution_with t h) hs gs m.1 in ((m.0, k.0), k.1)
 
-  lists_grow : (t : Execution) (hs : List Happening) → MeetsFrom members t hs → AreFirst t.machine.lists (execution_of t hs).machine.lists
+  pub lists_grow : (t : Execution) (hs : List Happening) → MeetsFrom members t hs → AreFirst t.machine.lists (execution_of t hs).machine.lists
   lists_grow t [] m conf = ([], sym (append-nil (t.machine.lists conf)))
   lists_grow t (h ∷ hs) m conf =
       let one = m.0.grows.lists conf in
@@ -613,10 +688,11 @@ answers_come_first members spares ms ss counts trace c =
           let sound = sound_behind members t0 first run.meets.0 two.0 in
           let all : end ≡ execution_of t j.1 = ap (execution_of t0) j.2 ∙ execution_append t0 first j.1 in
           let grown : AreFirst t.machine.lists end.machine.lists = subst (λ (e : Execution). AreFirst t.machine.lists e.machine.lists) (sym all) (lists_grow members t j.1 two.1) in
+          let most : known ≤ greatest_conf end.world.nodes = subst (λ l. known ≤ greatest_conf (execution_of t0 l).world.nodes) (sym j.2)
+          (greatest_stays members spares ms ss first j.1 (subst HappeningsInRange j.2 run.range)) in
           let moment = moment_of members spares counts ms ss trace c now first j.1 j.2 j.3 in (
             known,
-            λ p is r there answered x none count le.
-                let on = history_grows t.machine.lists end.machine.lists (record { grown = grown; ends = end_sound.safe.after_stop }) known count 1 (Some members) le in
+            λ p is r there answered x none.
                 let history : List Entry = history_from t.machine.lists known 1 (Some members) in
                 let absent : IsAmong history (entry.Command x) → ⊥ = λ k.
                 (let a = among_lists t.machine.lists known 1 (Some members) (entry.Command x) k in
@@ -624,9 +700,49 @@ answers_come_first members spares ms ss counts trace c =
                   | inl before ↦ before
                   | inr asked ↦ (let q = j.3.asked x asked in none q.0 q.1 q.2 q.3 q.4 q.5 q.6)
                 ]) in
-                subst (λ l. IsServedBefore l r x) (sym on.1) (served_before history on.0 r x absent (served_answer history r (moment.replies p is r there) answered)),
+                let served : (count : ℕ) → known ≤ count → IsServedBefore (history_from end.machine.lists count 1 (Some members)) r x = λ count le.
+                (let on = history_grows t.machine.lists end.machine.lists (record { grown = grown; ends = end_sound.safe.after_stop }) known count 1 (Some members) le in
+                subst (λ l. IsServedBefore l r x) (sym on.1) (served_before history on.0 r x absent (served_answer history r (moment.replies p is r there) answered))) in
+                record { run = served (greatest_conf end.world.nodes) most; lists = served },
           ),
     )
 
+-- What stands beside the world at a moment: the lines of answers to reads, and who asked for the reads.
+pub record Reached (members spares : List ℕ) (counts : ℕ → ℕ) (now : List Happened) (happenings : List Happening) : Type 0 where
+  pub first : List Happening
+  pub later : List Happening
+  pub split : happenings ≡ first ++ later
+  pub moment : IsMoment members spares counts now first
+  pub lines : (p : ℕ) → IsMember (node_ids members spares) p → (r : Reply) → Contains (answered_in true (lived_at members counts p now).first (lived_at members counts p now).deeds) r
+      → Contains (run_of (first_world members spares) first).lines (told_line true p r)
+  pub read : (r : Read) → IsAmong (reads_in first) r → WasAskedOf members spares counts now (request.Read r)
+
+-- so it is at each moment of a run
+abbrev pub ReachedAlways : List ℕ → List ℕ → (ℕ → ℕ) → List Happened → List Happening → Type 0
+ReachedAlways members spares counts trace happenings = (now later : List Happened) → trace ≡ now ++ later → Reached members spares counts now happenings
+
+pub always_reached : OfClusters (λ members spares counts trace. (happenings : List Happening) × IsRun members spares counts trace happenings × ReachedAlways members spares counts trace happenings)
+always_reached members spares ms ss counts trace c = (
+  (whole members spares counts ms ss trace c).more,
+  is_run members spares counts ms ss trace c,
+  λ now later split.
+      let j = (whole members spares counts ms ss trace c).moments now later split in
+      record {
+        first = j.0;
+        later = j.1;
+        split = j.2;
+        moment = moment_of members spares counts ms ss trace c now j.0 j.1 j.2 j.3;
+        lines = λ p is r there. (j.3).replies true p is r there;
+        read = (j.3).read;
+      },
+)
+
+-- what a node has answered has an encoding
+pub answers_in_range : (members spares : List ℕ) (counts : ℕ → ℕ) → MembersInRange members → SparesInRange members spares → (trace : List Happened) → IsCluster members spares counts trace
+    → (now later : List Happened) → trace ≡ now ++ later → (p : ℕ) → IsMember (node_ids members spares) p → (read : Bool) (r : Reply)
+    → Contains (answered_in read (lived_at members counts p now).first (lived_at members counts p now).deeds) r → known.ReplyInRange IsPid r
+answers_in_range members spares counts ms ss trace c now later split p is read r there =
+    let j = (whole members spares counts ms ss trace c).moments now later split in (j.3).answers read p is r there
+
 pub clients_take_replies : OfClusters ClientsTakeReplies
-clients_take_replies members spares ms ss faults trace c = takes_replies members spares faults trace c
+clients_take_replies members spares ms ss counts trace c = takes_replies members spares counts trace c

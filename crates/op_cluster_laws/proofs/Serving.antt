@@ -1,5 +1,5 @@
 -- Whatever net and clock answer, each deed of a node that serves comes from those before it.
-use Rattle.std.proofs.Common.{◌≡◌, ◌≤◌, ◌+◌, ◌∷◌, [], ℕ, Bool, true, false, List, length, Option, Some, None, ◌==◌, nat_lt, if◌then◌else◌, refl, sym, ◌∙◌, ap, subst, arith, inl, inr}
+use Rattle.std.proofs.Common.{◌≡◌, ◌≤◌, ◌+◌, ◌∷◌, [], ℕ, Bool, true, false, List, length, Option, Some, None, is_some, ◌==◌, nat_lt, if◌then◌else◌, refl, sym, ◌∙◌, ap, subst, arith, inl, inr}
 use Rattle.std.proofs.lemmas.Bool.{cases_eq}
 use Rattle.std.specs.FinMap as map
 use Rattle.std.specs.Prelude.{All}
@@ -15,13 +15,19 @@ use Rattle.op_serving.specs.declared.kind.Kind.TheVariants.{Unknown, Peer, Clien
 use Rattle.op_serving.specs.declared.serve_end.ServeEnd.TheVariants as ends
 use Rattle.op_serving.specs.Cores.{Standing}
 use Rattle.op_serving.specs.Losses.{most_marks}
-use Rattle.op_serving.specs.State.{Loop, pair_cmp, find, kind_at, is_open}
+use Rattle.op_serving.specs.State.{Loop, awaited_cmp, find, kind_at, is_open}
 use Rattle.op_serving.specs.Inputs.{State, Luck, flushed}
 use Rattle.op_serving.specs.Reading.{hello_len}
-use Rattle.op_serving.specs.Turns.{at_happening, turn_begun, joined, accepted, dialled, ticked, waiting, waiting_from, up_peer, up_at, taken_by, wrote, fresh, knowing}
+use Rattle.op_serving.specs.Turns.{at_happening, turn_begun, joined, accepted, dialled, ticked, queue_in, waiting, waiting_from, up_peer, up_at, taken_by, wrote, fresh, knowing}
 use Rattle.op_serving.specs.Pump.{writes_place, next_due, Settings, Stage, turn, time, dials, asks, reads, writes, stop, Pump, Answer, was_waited, was_told, was_dialled, was_readied, was_seen, was_written, no_answer, write_next, ask, to, has_waited, has_told, has_dialled, happens, has_read, writes_at, answered, shut, after}
 use Rattle.op_serving.specs.Answers.{IsAnswer, Answers}
+use Rattle.op_setup.specs.declared.config.Settings.{Settings as Config}
+use Rattle.op_connections.specs.Waiting.{frames_for, MayWait}
 use Rattle.op_connections.proofs.Tables.{find_insert_apart}
+use Rattle.op_connections.proofs.Pumping.{Goes, answer_kept}
+use Rattle.op_connections.proofs.Shedding.{fit_short}
+use Rattle.op_connections.proofs.Waiting.{Waits, frames_short, waits_closed, waits_none}
+use Rattle.op_serving.specs.declared.session.Session.{Session}
 use Rattle.op_cluster_laws.specs.Causes.{AreCaused}
 use Rattle.op_cluster_laws.specs.Lives.{RunsServe, DeedsAreCaused}
 use Rattle.op_pump.specs.Moments.{set_of}
@@ -85,17 +91,25 @@ module _ (me : ℕ) (n : Standing) (o : Settings) (l : Luck) (line : Standing �
       by_written true f = absurd cc
       by_written false f = by_left (left == 0) f
 
-  knows_wrote : (c k : ℕ) (s : State) → k ≤ length (waiting c s) → K s → K (wrote l c k s)
-  knows_wrote c k s le h = by_peer (up_peer (kind_at c s.loop) (kind_at c t.loop)) refl
+  -- a connection that takes bytes is open, and what was said for it is short
+  waits_open : (o : Option Session) (k : ℕ) → 1 ≤ k → k ≤ length (queue_in o) → is_some o ≡ true
+  waits_open None k some le = absurd (omega (arith, some, le))
+  waits_open (Some y) k some le = refl
+
+  knows_wrote : (c k : ℕ) (s : State) → 1 ≤ k → k ≤ length (waiting c s) → Waits s → K s → K (wrote l c k s)
+  knows_wrote c k s some le w h = by_peer (up_peer (kind_at c s.loop) (kind_at c t.loop)) refl
     where
       t : State
       t = taken_by c k s
 
+      short : All MayWait (frames_for c s.deeds)
+      short = frames_short s (fit_short s.loop w.fit) w.await c (waits_open (find c s.loop.sessions) k some le)
+
       by_peer : (p : Option ℕ) → up_peer (kind_at c s.loop) (kind_at c t.loop) ≡ p → K (up_at l p t)
-      by_peer None e = knows_taken me n k c s le h
+      by_peer None e = knows_taken me n k c s le short h
       by_peer (Some q) e =
           let kind = upped (kind_at c s.loop) (kind_at c t.loop) q e in
-          knows_give me n all_held l [] (input.Up q) t (knows_taken me n k c s le h) (servers_are me n all_held s h c q kind.0 kind.1) tt
+          knows_give me n all_held l [] (input.Up q) t (knows_taken me n k c s le short h) (servers_are me n all_held s h c q kind.0 kind.1) tt
 
   -- ---- one answer
 
@@ -170,27 +184,27 @@ module _ (me : ℕ) (n : Standing) (o : Settings) (l : Luck) (line : Standing �
     good_read c i k (was_written a) is = record { knows = h; stage = tt }
     good_read c i k no_answer is = record { knows = h; stage = tt }
 
-    good_writes : (c : Option ℕ) (a : Answer) → IsAnswer (write_next o l line c p.driver) a → Good (writes_at o l line c a p)
-    good_writes None a is = record { knows = h; stage = tt }
-    good_writes (Some c) (was_written None) is = record { knows = h; stage = tt }
-    good_writes (Some c) (was_written (Some (took.Bytes k))) is = record { knows = knows_wrote c k p.driver is.1 h; stage = tt }
-    good_writes (Some c) (was_written (Some took.NotYet)) is = record { knows = h; stage = tt }
-    good_writes (Some c) (was_written (Some took.Ended)) is = record { knows = knows_over me n all_held l c p.driver h; stage = tt }
-    good_writes (Some c) (was_waited a) is = record { knows = h; stage = tt }
-    good_writes (Some c) (was_told t) is = record { knows = h; stage = tt }
-    good_writes (Some c) (was_dialled a) is = record { knows = h; stage = tt }
-    good_writes (Some c) (was_readied a) is = record { knows = h; stage = tt }
-    good_writes (Some c) (was_seen a) is = record { knows = h; stage = tt }
-    good_writes (Some c) no_answer is = record { knows = h; stage = tt }
+    good_writes : (c : Option ℕ) (a : Answer) → Waits p.driver → IsAnswer (write_next o l line c p.driver) a → Good (writes_at o l line c a p)
+    good_writes None a w is = record { knows = h; stage = tt }
+    good_writes (Some c) (was_written None) w is = record { knows = h; stage = tt }
+    good_writes (Some c) (was_written (Some (took.Bytes k))) w is = record { knows = knows_wrote c k p.driver is.0 is.1 w h; stage = tt }
+    good_writes (Some c) (was_written (Some took.NotYet)) w is = record { knows = h; stage = tt }
+    good_writes (Some c) (was_written (Some took.Ended)) w is = record { knows = knows_over me n all_held l c p.driver h; stage = tt }
+    good_writes (Some c) (was_waited a) w is = record { knows = h; stage = tt }
+    good_writes (Some c) (was_told t) w is = record { knows = h; stage = tt }
+    good_writes (Some c) (was_dialled a) w is = record { knows = h; stage = tt }
+    good_writes (Some c) (was_readied a) w is = record { knows = h; stage = tt }
+    good_writes (Some c) (was_seen a) w is = record { knows = h; stage = tt }
+    good_writes (Some c) no_answer w is = record { knows = h; stage = tt }
 
-  good_stage : (p : Pump) (st : Stage) (a : Answer) → K p.driver → StageSo st → IsAnswer (ask o l line (record p { at = st })) a → Good (answered o l line a (record p { at = st }))
-  good_stage p turn a h g is = good_waited (record p { at = turn }) h a
-  good_stage p (time k) a h g is = good_told (record p { at = time k }) h k a refl
-  good_stage p (dials ps k) a h g is = good_dialled (record p { at = dials ps k }) h ps k a g
-  good_stage p (asks i k) a h g is = good_happens (record p { at = asks i k }) h i k a
-  good_stage p (reads c i k) a h g is = good_read (record p { at = reads c i k }) h c i k a is
-  good_stage p (writes low) a h g is = good_writes (record p { at = writes low }) h (waiting_from low p.driver.loop.sessions) a is
-  good_stage p (stop e) a h g is = record { knows = h; stage = tt }
+  good_stage : (p : Pump) (st : Stage) (a : Answer) → K p.driver → Waits p.driver → StageSo st → IsAnswer (ask o l line (record p { at = st })) a → Good (answered o l line a (record p { at = st }))
+  good_stage p turn a h w g is = good_waited (record p { at = turn }) h a
+  good_stage p (time k) a h w g is = good_told (record p { at = time k }) h k a refl
+  good_stage p (dials ps k) a h w g is = good_dialled (record p { at = dials ps k }) h ps k a g
+  good_stage p (asks i k) a h w g is = good_happens (record p { at = asks i k }) h i k a
+  good_stage p (reads c i k) a h w g is = good_read (record p { at = reads c i k }) h c i k a is
+  good_stage p (writes low) a h w g is = good_writes (record p { at = writes low }) h (waiting_from low p.driver.loop.sessions) a w is
+  good_stage p (stop e) a h w g is = record { knows = h; stage = tt }
 
   good_shut : (q : Pump) → Good q → Good (shut o l line q)
   good_shut q g = record {
@@ -202,14 +216,14 @@ module _ (me : ℕ) (n : Standing) (o : Settings) (l : Luck) (line : Standing �
       by_marks true = g.stage
       by_marks false = tt
 
-  good_run : (given : List Answer) (p : Pump) → Answers o l line given p → Good p → Good (after o l line given p)
-  good_run [] p is g = g
-  good_run (a ∷ more) p is g =
+  good_run : (given : List Answer) (p : Pump) → Answers o l line given p → Goes o l line Waits (waits_closed l line) p → Good p → Good (after o l line given p)
+  good_run [] p is w g = g
+  good_run (a ∷ more) p is w g =
       let q : Pump = answered o l line a p in
-      good_run more (shut o l line q) is.1 (good_shut q (good_stage p p.at a g.knows g.stage is.0))
+      good_run more (shut o l line q) is.1 (answer_kept o l line Waits (waits_closed l line) p a is.0 w) (good_shut q (good_stage p p.at a g.knows w.holds g.stage is.0))
 
-  pub run_caused : (given : List Answer) (p : Pump) → Answers o l line given p → K p.driver → StageSo p.at → AreCaused me n (after o l line given p).driver.deeds
-  run_caused given p is h g = (good_run given p is (record { knows = h; stage = g })).knows.caused
+  pub run_caused : (given : List Answer) (p : Pump) → Answers o l line given p → Goes o l line Waits (waits_closed l line) p → K p.driver → StageSo p.at → AreCaused me n (after o l line given p).driver.deeds
+  run_caused given p is w h g = (good_run given p is w (record { knows = h; stage = g })).knows.caused
 
 -- ---- from the start
 
@@ -224,12 +238,13 @@ record Fresh (s t : Loop) : Type 0 where
   askers : t.askers ≡ s.askers
   gathered : t.gathered ≡ s.gathered
   downs : t.downs ≡ s.downs
+  lost : t.lost ≡ s.lost
 
 fresh_known : (ps : List (ℕ × Addr)) (s : Loop) → Fresh s (knows ps s)
-fresh_known [] s = record { me = refl; sessions = refl; askers = refl; gathered = refl; downs = refl }
+fresh_known [] s = record { me = refl; sessions = refl; askers = refl; gathered = refl; downs = refl; lost = refl }
 fresh_known (p ∷ ps) s =
     let k = fresh_known ps (knowing p.0 s) in
-    record { me = k.me; sessions = k.sessions; askers = k.askers; gathered = k.gathered; downs = k.downs }
+    record { me = k.me; sessions = k.sessions; askers = k.askers; gathered = k.gathered; downs = k.downs; lost = k.lost }
 
 abbrev PeersAre : Loop → Type 0
 PeersAre s = (q : ℕ) (o : Option ℕ) → find q s.peers ≡ Some o → IsPid q
@@ -250,18 +265,23 @@ knows_start n ps each =
       me_is = k.me;
       seats = λ c y e. absurd (let bad : None ≡ Some y = sym (ap (find c) k.sessions) ∙ e in cc);
       waits = λ c. rw k.sessions ([], refl);
-      askers = λ key c e. absurd (let bad : None ≡ Some c = sym (map.get-empty pair_cmp key) ∙ ap (λ a. map.get a key) (sym k.askers) ∙ e in cc);
+      askers = λ key c e. absurd (let bad : None ≡ Some c = sym (map.get-empty awaited_cmp key) ∙ ap (λ a. map.get a key) (sym k.askers) ∙ e in cc);
       gathered = rw k.gathered tt;
       few = rw k.gathered (omega arith);
       peers = peers_known ps (fresh n.me) each (λ q o e. absurd cc);
       downs = rw k.downs tt;
     }
 
+waits_start : (o : Config) (n : Standing) (l : Luck) (line : Standing → List ℕ) (start : ℕ) → Goes (set_of o) l line Waits (waits_closed l line) (started o n start)
+waits_start o n l line start =
+    let k = fresh_known o.peers (fresh n.me) in
+    record { holds = waits_none (started o n start).driver k.sessions; runs = inr (rw k.lost (omega arith)) }
+
 pub deeds_are_caused : DeedsAreCaused
 deeds_are_caused n deeds h =
     let each = each_peer h.settings.peers h.peers in
     caused_front n.me n [] deeds h.later (subst (λ l. AreCaused n.me n l) h.are
-    (run_caused n.me n (set_of h.settings) h.luck h.line each h.answers (started h.settings n h.start) h.fit (knows_start n h.settings.peers each) tt))
+    (run_caused n.me n (set_of h.settings) h.luck h.line each h.answers (started h.settings n h.start) h.fit (waits_start h.settings n h.luck h.line h.start) (knows_start n h.settings.peers each) tt))
 
 pub runs_serve : RunsServe
 runs_serve o line end lost n start answers made last peers run deeds later are = record {

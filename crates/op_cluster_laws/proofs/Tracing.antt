@@ -104,7 +104,7 @@ me_deed n (enters who i fate) = me_fate n i fate
 me_deed n (says f) = refl
 me_deed n (takes c bytes) = refl
 
-folded_me : (n : Standing) (ds : List Deed) → (folded n ds).me ≡ n.me
+pub folded_me : (n : Standing) (ds : List Deed) → (folded n ds).me ≡ n.me
 folded_me n [] = refl
 folded_me n (d ∷ ds) = ap (λ m. m.me) (folded_one n d ds) ∙ folded_me (after_deed n d) ds ∙ me_deed n d
 

@@ -1,26 +1,19 @@
 -- Nodes that serve together.
-use Rattle.std.specs.Prelude.{◌≡◌, ◌<◌, ◌^◌, ◌++◌, ◌∷◌, ◌⊎◌, [], ℕ, List, length, Option, Some, None, All}
+use Rattle.std.specs.Prelude.{◌≡◌, ◌<◌, ◌^◌, ◌++◌, ◌∷◌, ◌⊎◌, [], ℕ, List, Option, Some, None, All}
 use Rattle.op_types.specs.Ranges.{IsMember}
 use Rattle.op_types.specs.declared.durable.Durable.{Durable}
 use Rattle.op_runs.specs.World.{node_ids}
 use Rattle.op_serving.specs.Fates.{Fate}
-use Rattle.op_serving.specs.Inputs.{Deed, enters, says}
+use Rattle.op_serving.specs.Inputs.{enters}
 use Rattle.op_serving.specs.Reopenings.{FindStored}
 use Rattle.op_cluster_laws.specs.Lives.{Serves}
 use Rattle.op_cluster_laws.specs.Traces.{Event, does, ends, killed, opens, Happened, Lived, stands, lived_at, messages_behind, proposed_in}
 use Rattle.op_cluster_laws.specs.Nets.{End, AreJoined, ReadsPeer}
 
--- a frame that is said has fewer bytes than eight bytes can count
-abbrev pub SaysShort : Deed → Type 0
-SaysShort (says f) = length f.1 < 2 ^ 64
-SaysShort _ = Unit {0}
-
--- A life is the first part of a run by the loop's rules. Its disks keep what is stored, and its frames are
--- short.
+-- a life is the first part of a run by the loop's rules, and its disks keep what is stored
 pub record IsLife (l : Lived) : Type 0 where
   pub serves : Serves l.first l.deeds
   pub stored : FindStored l.first l.unstored l.deeds
-  pub short : All SaysShort l.deeds
 
 -- an opening finds what the node has stored, or what else its disks may leave
 abbrev pub MayOpen : Lived → Option Durable → Durable → Type 0

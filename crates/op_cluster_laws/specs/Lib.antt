@@ -7,3 +7,4 @@ pub mod Lives
 pub mod Clusters
 pub mod Worlds
 pub mod Orders
+pub mod Currency

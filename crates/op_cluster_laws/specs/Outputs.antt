@@ -1,5 +1,5 @@
 -- What a node gave out, as the deeds of its run tell.
-use Rattle.std.specs.Prelude.{◌++◌, ◌∷◌, [], ℕ, List, None}
+use Rattle.std.specs.Prelude.{◌++◌, ◌∷◌, [], ℕ, Bool, true, false, List, None}
 use Rattle.op_types.specs.declared.answers.Reply.{Reply}
 use Rattle.op_types.specs.declared.messages.Msg.{Msg}
 use Rattle.op_serving.specs.declared.node.Given.{Given}
@@ -23,7 +23,16 @@ abbrev pub sent_in : Standing → List Deed → List (ℕ × Msg)
 sent_in n [] = []
 sent_in n (d ∷ ds) = (given_at n d).sends ++ sent_in (after_deed n d) ds
 
--- and the replies
+-- the answers that are given out: those to reads, or those to commands
+abbrev pub answers_of : Bool → Given → List Reply
+answers_of true g = g.read_replies
+answers_of false g = g.replies
+
+-- all of them
+abbrev pub answered_in : Bool → Standing → List Deed → List Reply
+answered_in read n [] = []
+answered_in read n (d ∷ ds) = answers_of read (given_at n d) ++ answered_in read (after_deed n d) ds
+
+-- the replies, which are answers to commands
 abbrev pub replied_in : Standing → List Deed → List Reply
-replied_in n [] = []
-replied_in n (d ∷ ds) = (given_at n d).replies ++ replied_in (after_deed n d) ds
+replied_in n ds = answered_in false n ds

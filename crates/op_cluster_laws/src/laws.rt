@@ -1,5 +1,6 @@
+ghost use Rattle.op_cluster_laws.specs.Currency.{ReadsAreCurrent};
 ghost use Rattle.op_cluster_laws.specs.Lives.{DeedsAreCaused, RunsServe};
-ghost use Rattle.op_cluster_laws.specs.Orders.{AnswersComeFirst, ClientsTakeReplies};
+ghost use Rattle.op_cluster_laws.specs.Orders.{AnswersComeFirst, ClientsReadReplies, ClientsTakeReplies};
 ghost use Rattle.op_cluster_laws.specs.Worlds.{OfClusters, ClustersAreRuns, DeliveriesWereGiven, NodesAgree};
 
 /// Each deed of a node that serves by the loop's rules comes from those before it: a message that it takes was read whole from a
@@ -22,10 +23,19 @@ pub fn clusters_are_executions()
     ensures agree { OfClusters NodesAgree }
 {}
 
-/// What clients of a cluster are answered is of one order: what a client's connection took is the first part of frames of which each
-/// answer is that of a reply that the node had given out; each such answer is the service's to a command of the run's history, after
-/// all that stands before it; and that command stands before each other one for which no node had read a request by then.
+/// What clients of a cluster are answered is of one order: what a client's connection took is the first part of frames of which
+/// each answer is one that the node had given out, to a command or to a read that was asked for at that connection, and what is read
+/// whole of it is one of them; each answer to a command is the service's to a command of the run's history, after all that stands
+/// before it; and that command stands before each other one for which no node had read a request by then.
 pub fn answers_are_of_one_order()
     ensures taken { OfClusters ClientsTakeReplies }
+    ensures read { OfClusters ClientsReadReplies }
     ensures order { OfClusters AnswersComeFirst }
+{}
+
+/// A read that a node of a cluster answers sees all that was answered before it was asked for: its answer is the value of its key, or
+/// that there is none, in the service after a first part of the run's history. That has the whole history of each moment by which
+/// no node had read a request for the read, and so serves each reply that any node had given out by then.
+pub fn reads_are_current()
+    ensures current { OfClusters ReadsAreCurrent }
 {}

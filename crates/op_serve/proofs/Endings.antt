@@ -31,6 +31,7 @@ use Rattle.op_core.specs.Disks.{Stores, CoreStores}
 use Rattle.op_core.specs.NodeCores.{standing_of, status_line}
 use Rattle.op_core.specs.declared.node_core.NodeCore.{NodeCore}
 use Rattle.op_core.proofs.Disks.{opened_stores_so, runs_keep, runs_find, runs_store}
+use Rattle.op_pump.specs.Moments.{PeersInRange}
 use Rattle.op_pump.specs.Serving as loop
 use Rattle.op_serving.specs.declared.serve_end.ServeEnd.{ServeEnd}
 use Rattle.op_serving.specs.declared.mark.Mark.{Mark}
@@ -39,15 +40,16 @@ use Rattle.op_serving.specs.Inputs.{Deed}
 use Rattle.op_status.specs.declared.status.Status.{Status}
 use Rattle.op_status.specs.declared.status.Status.TheVariants as status
 use Rattle.op_input.specs.Inputs.{IsMisconfigured, input_limit}
+use Rattle.op_serve.proofs.Living.{served_lives, unserved_lives}
 use Rattle.op_serve.specs.Nodes.{Around, Serves, is_misconfigured, Goes, is_unheard, cannot_begin, has_served, Ends, cannot_open, is_damaged, has_no_memory, is_opened, IsHeard, IsNodeOf, IsOwn, IsReady, Holds, HoldsOver, KeepsStored, around, status_of, status_of_refusal}
 
 module _ {D : Type 0} (state : D → DiskState) where
   -- what stood for what was stored may be known by less
   goes_by : (id : ℕ) (o : Settings) (n : NodeState) (P Q : Type 0) (old new : Around D) (s : Status) (lost : List Mark) → (Q → P)
       → Goes state id o n P old new s lost → Goes state id o n Q old new s lost
-  goes_by id o n P Q old new s lost f (is_unheard h same) = is_unheard h same
-  goes_by id o n P Q old new s lost f (cannot_begin t r c same) = cannot_begin t r c same
-  goes_by id o n P Q old new s lost f (has_served net r run kept stored) = has_served net r run kept (λ q. stored (f q))
+  goes_by id o n P Q old new s lost f (is_unheard h same lives) = is_unheard h same (λ q. lives (f q))
+  goes_by id o n P Q old new s lost f (cannot_begin t r c same lives) = cannot_begin t r c same (λ q. lives (f q))
+  goes_by id o n P Q old new s lost f (has_served net r run kept stored lives) = has_served net r run kept (λ q. stored (f q)) (λ q. lives (f q))
 
   -- ---- what an opening keeps
 
@@ -167,20 +169,20 @@ module _ {D : Type 0} (state : D → DiskState) where
   -- ---- how an open node ends
 
   -- it is not heard
-  pub goes_unheard : (id : ℕ) (o : Settings) (n : NodeState) (stood : Type 0) (first second : D) (net0 net1 : NetSeen) (clock : Option (List ℕ)) (out0 out1 : StreamSeen)
+  pub goes_unheard : (id : ℕ) (o : Settings) (k : Node D) (net0 net1 : NetSeen) (clock : Option (List ℕ)) (out0 out1 : StreamSeen)
       (a b : D) (told s : Status) (lost : List Mark)
-      → IsHeard {T = Unit {0}} id o (Err told) net0 net1 out0 out1 → a ≡ first → b ≡ second → s ≡ told → lost ≡ []
-      → Goes state id o n stood (around first second net0 clock out0) (around a b net1 clock out1) s lost
-  goes_unheard id o n stood first second net0 net1 clock out0 out1 a b told s lost heard at_first at_second is no_loss =
-      rw (at_first, at_second, is, no_loss) (is_unheard heard refl)
+      → PeersInRange o → IsHeard {T = Unit {0}} id o (Err told) net0 net1 out0 out1 → a ≡ k.store.first → b ≡ k.store.second → s ≡ told → lost ≡ []
+      → Goes state id o (node_of k) (Stores state (node_of k).state.durable k) (around k.store.first k.store.second net0 clock out0) (around a b net1 clock out1) s lost
+  goes_unheard id o k net0 net1 clock out0 out1 a b told s lost peers heard at_first at_second is no_loss =
+      rw (at_first, at_second, is, no_loss) (is_unheard heard refl (λ stood. unserved_lives state o k peers stood))
 
   -- it finds no memory to begin
-  pub goes_unserved : (id : ℕ) (o : Settings) (n : NodeState) (stood : Type 0) (first second : D) (net0 mid net1 : NetSeen) (clock0 clock1 : Option (List ℕ)) (out0 out1 : StreamSeen)
+  pub goes_unserved : (id : ℕ) (o : Settings) (k : Node D) (net0 mid net1 : NetSeen) (clock0 clock1 : Option (List ℕ)) (out0 out1 : StreamSeen)
       (a b : D) (t : ℕ) (s : Status) (lost : List Mark)
-      → IsReady id o net0 mid out0 out1 → net1 ≡ mid → Grows clock0 (t ∷ []) clock1 → a ≡ first → b ≡ second → s ≡ status.NoMemory → lost ≡ []
-      → Goes state id o n stood (around first second net0 clock0 out0) (around a b net1 clock1 out1) s lost
-  goes_unserved id o n stood first second net0 mid net1 clock0 clock1 out0 out1 a b t s lost ready same grows at_first at_second is no_loss =
-      rw (same, at_first, at_second, is, no_loss) (cannot_begin t ready grows refl)
+      → PeersInRange o → IsReady id o net0 mid out0 out1 → net1 ≡ mid → Grows clock0 (t ∷ []) clock1 → a ≡ k.store.first → b ≡ k.store.second → s ≡ status.NoMemory → lost ≡ []
+      → Goes state id o (node_of k) (Stores state (node_of k).state.durable k) (around k.store.first k.store.second net0 clock0 out0) (around a b net1 clock1 out1) s lost
+  goes_unserved id o k net0 mid net1 clock0 clock1 out0 out1 a b t s lost peers ready same grows at_first at_second is no_loss =
+      rw (same, at_first, at_second, is, no_loss) (cannot_begin t ready grows refl (λ stood. unserved_lives state o k peers stood))
 
   -- what is stored at the end of a run of a node, and was found in it
   holds_over : (k m : NodeCore D) (deeds : List Deed) (net0 net1 : NetSeen) (clock0 clock1 : Option (List ℕ)) (out0 out1 : StreamSeen) → Walks (CoreStores state) k deeds m → Stores state (node_of k.node).state.durable k.node
@@ -196,14 +198,17 @@ module _ {D : Type 0} (state : D → DiskState) where
   -- it has served
   pub goes_served : (id : ℕ) (o : Settings) (k m : NodeCore D) (end : ServeEnd) (net0 mid net1 : NetSeen) (clock0 clock1 : Option (List ℕ)) (out0 out1 : StreamSeen)
       (a b : D) (s : Status) (lost : List Mark)
-      → IsReady id o net0 mid out0 out1
+      → PeersInRange o → IsReady id o net0 mid out0 out1
       → loop.ServesNode (λ (c : NodeCore D). standing_of state c.node) (CoreStores state) o status_line end lost k m mid net1 clock0 clock1
       → a ≡ m.node.store.first → b ≡ m.node.store.second → s ≡ status_of end
       → Goes state id o (node_of k.node) (Stores state (node_of k.node).state.durable k.node) (around k.node.store.first k.node.store.second net0 clock0 out0) (around a b net1 clock1 out1) s lost
-  goes_served id o k m end net0 mid net1 clock0 clock1 out0 out1 a b s lost ready served at_first at_second is =
-      let deeds : List Deed = served.serves.last.driver.deeds in
+  goes_served id o k m end net0 mid net1 clock0 clock1 out0 out1 a b s lost peers ready served at_first at_second is =
+      let run = served.serves in
+      let deeds : List Deed = run.last.driver.deeds in
+      let d : Durable = (node_of k.node).state.durable in
       rw (at_first, at_second, is)
-      (has_served mid ready served.serves (runs_keep state k m deeds served.walks) (λ stood. holds_over k m deeds net0 net1 clock0 clock1 out0 out1 served.walks stood))
+      (has_served mid ready run (runs_keep state k m deeds served.walks) (λ stood. holds_over k m deeds net0 net1 clock0 clock1 out0 out1 served.walks stood)
+      (λ stood. served_lives state o end lost k.node m.node run.start run.answers run.made run.last peers run.run (runs_find state k m deeds d served.walks stood) run.fold (runs_store state k m deeds d served.walks stood)))
 
 -- ---- its settings
 

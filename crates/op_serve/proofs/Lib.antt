@@ -1,2 +1,4 @@
 pub mod Peers
+pub mod Living
+pub mod Processes
 pub mod Endings

@@ -30,6 +30,7 @@ use Rattle.op_serving.specs.declared.serve_end.ServeEnd.TheVariants as ends
 use Rattle.op_serving.specs.declared.mark.Mark.{Mark}
 use Rattle.op_serving.specs.Inputs.{Deed}
 use Rattle.op_serving.specs.Reopenings.{FindStored, unstored_behind}
+use Rattle.op_serve.specs.Lives.{Lives}
 use Rattle.op_input.specs.Inputs.{IsConfigured, IsMisconfigured, input_limit}
 use Rattle.op_status.specs.declared.status.Status.{Status}
 use Rattle.op_status.specs.declared.status.Status.TheVariants as status
@@ -165,14 +166,17 @@ module _ {D : Type 0} (state : D → DiskState) where
 
   -- How an open node ends: it could not listen, or could not tell that it does;
   -- there was no memory to begin; or it has served, and each disk is itself at the end.
-  -- If the disks stood for what it had stored, so they do over all deeds of that run.
+  -- If the disks stood for what it had stored, so they do over all deeds of that run, and what it did is a
+  -- life as the theorem of a cluster has it, which leaves the disks so that the next one can begin.
   pub data Goes (id : ℕ) (o : Settings) (n : NodeState) (stood : Type 0)
       (old new : Around D) : Status → List Mark → Type 0 where
     is_unheard : {s : Status} → IsHeard {T = Unit {0}} id o (Err s) old.net new.net old.output new.output
-        → new ≡ record old { net = new.net; output = new.output } → Goes id o n stood old new s []
+        → new ≡ record old { net = new.net; output = new.output }
+        → (stood → Lives n (faults_of old) [] (disks_in new)) → Goes id o n stood old new s []
     cannot_begin : (t : ℕ) → IsReady id o old.net new.net old.output new.output
         → Grows old.clock (t ∷ []) new.clock
         → new ≡ record old { net = new.net; output = new.output; clock = new.clock }
+        → (stood → Lives n (faults_of old) [] (disks_in new))
         → Goes id o n stood old new status.NoMemory []
     has_served : {m : NodeState} {end : ServeEnd} {lost : List Mark} (net : NetSeen)
         → IsReady id o old.net net old.output new.output
@@ -180,6 +184,7 @@ module _ {D : Type 0} (state : D → DiskState) where
         (standing_at m (faults_of new)) net new.net old.clock new.clock)
         → KeepBoth (disks_in old) (disks_in new)
         → (stood → HoldsOver run.last.driver.deeds n m old new)
+        → (stood → Lives n (faults_of old) run.last.driver.deeds (disks_in new))
         → Goes id o n stood old new (status_of end) lost
 
   -- How a node ends, and what it leaves. Each end has its cause,

@@ -3,7 +3,9 @@
 
 mod command;
 mod ending;
+mod laws;
 mod serving;
 
 pub use command::serve_as;
 pub use ending::Ending;
+pub use laws::{openings_begin_lives, processes_are_lives};

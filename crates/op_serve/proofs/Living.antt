@@ -1,0 +1,233 @@
+-- What a node does that is served is a life as the theorem of a cluster has it, and its next opening begins the next one.
+use Rattle.std.proofs.Common.{◌≡◌, ◌⊎◌, ◌++◌, ◌∷◌, [], ℕ, nat_eq, Bool, true, false, List, Option, Some, None, ◌==◌, if◌then◌else◌, refl, sym, ◌∙◌, ap, subst, inl, inr, arith}
+use Rattle.std.specs.Set.{is_member}
+use Rattle.op_types.specs.Changes.{empty_durable}
+use Rattle.op_types.specs.declared.durable.Durable.{Durable}
+use Rattle.op_types.specs.declared.ballot.Ballot.{Ballot}
+use Rattle.op_outside.specs.Disks.{DiskState}
+use Rattle.op_outside.specs.Nets.{Call}
+use Rattle.op_setup.specs.declared.config.Settings.{Settings}
+use Rattle.op_spec.specs.Service.{Service, new_service}
+use Rattle.op_kv.specs.Bases.{HasBase}
+use Rattle.op_protocol.specs.State.{State}
+use Rattle.op_protocol.specs.Starting.{first_volatile, state_after_restart}
+use Rattle.op_protocol.proofs.Bases.{service_in_base}
+use Rattle.op_runs.specs.World.{first_durable}
+use Rattle.op_bounds.proofs.ReadBases.{new_service_in}
+use Rattle.op_store.specs.Openings.{IsOpenedAs}
+use Rattle.op_store.specs.Stored.{Disks}
+use Rattle.op_store.specs.Stores.{Represents, disks_of}
+use Rattle.op_store.proofs.CommitCrashes.{open_stored, image_stored, rests_first, rests_second}
+use Rattle.op_store.proofs.UniquePairs.{one_stored, nothing_or_stored}
+use Rattle.op_chain.specs.Chains.{first_state}
+use Rattle.op_node.specs.Nodes.{NodeState, node_of}
+use Rattle.op_node.specs.Openings.{durable_for, fresh_for, opening_state}
+use Rattle.op_node.specs.Reopenings.{IsOneOf, StoreOneOf}
+use Rattle.op_node.specs.declared.node.Node.{Node}
+use Rattle.op_core.specs.Disks.{Stores}
+use Rattle.op_core.specs.NodeCores.{standing_at, standing_of, status_line}
+use Rattle.op_core.proofs.Disks.{taken}
+use Rattle.op_serving.specs.declared.mark.Mark.{Mark}
+use Rattle.op_serving.specs.declared.serve_end.ServeEnd.{ServeEnd}
+use Rattle.op_serving.specs.Cores.{Standing}
+use Rattle.op_serving.specs.Fates.{after_fate}
+use Rattle.op_serving.specs.Inputs.{Deed, begins, hears, enters, says, takes}
+use Rattle.op_serving.specs.Promise.{folded}
+use Rattle.op_serving.specs.Pump.{Answer, Pump}
+use Rattle.op_serving.specs.Reopenings.{FindStored, unstored_after, unstored_behind}
+use Rattle.op_pump.specs.Moments.{PeersInRange}
+use Rattle.op_pump.specs.Serving as loop
+use Rattle.op_cluster_laws.specs.Clusters.{IsLife, MayOpen}
+use Rattle.op_cluster_laws.specs.Lives as lives
+use Rattle.op_cluster_laws.specs.Traces.{Lived, opens, stands, left_between, lived_by}
+use Rattle.op_cluster_laws.proofs.Serving.{runs_serve}
+use Rattle.op_serve.specs.Lives.{life_of, life_ended, TakesWhole, Leaves, Lives, MayFollow, IsNext, IsFirst}
+use Rattle.op_serve.specs.Nodes.{Around, IsOpened, ObeyIn, disks_in, faults_of}
+
+-- ---- a run is a life
+
+-- what was found in a first part of deeds
+front_found : (n : Standing) (u : Durable) (xs ys : List Deed) → FindStored n u (xs ++ ys) → FindStored n u xs
+front_found n u [] ys h = tt
+front_found n u (enters who i f ∷ xs) ys h = (h.0, front_found (after_fate n i f) (unstored_after n i f u) xs ys h.1)
+front_found n u (begins c bytes ∷ xs) ys h = front_found n u xs ys h
+front_found n u (hears c bytes ∷ xs) ys h = front_found n u xs ys h
+front_found n u (says f ∷ xs) ys h = front_found n u xs ys h
+front_found n u (takes c bytes ∷ xs) ys h = front_found n u xs ys h
+
+lives_of : (n : NodeState) (count : ℕ) (deeds : List Deed) → ((first later : List Deed) → deeds ≡ first ++ later → lives.Serves (standing_at n count) first)
+    → FindStored (standing_at n count) n.state.durable deeds → (first later : List Deed) → deeds ≡ first ++ later → IsLife (life_of n count first)
+lives_of n count deeds serves found first later split =
+    record { serves = serves first later split; stored = front_found (standing_at n count) n.state.durable first later (subst (λ l. FindStored (standing_at n count) n.state.durable l) split found) }
+
+-- nothing was done yet
+none_served : (o : Settings) (n : Standing) → PeersInRange o → (first later : List Deed) → [] ≡ first ++ later → lives.Serves n first
+none_served o n peers first later split = record {
+  settings = o;
+  peers = peers;
+  line = status_line;
+  luck = record { marks = []; fates = [] };
+  start = 0;
+  answers = [];
+  fit = tt;
+  later = later;
+  are = split;
+}
+
+-- ---- what a life leaves
+
+module _ {D : Type 0} (state : D → DiskState) where
+  -- disks that stand for one durable state store it
+  one_left : (n : Node D) (d : Durable) → Represents state d n.store → StoreOneOf d d (disks_of state n.store)
+  one_left n d r =
+      let s = n.store in (
+      record {
+        obey = ((rests_first d s.is_second s.generation s.end s.base s.is_closed (disks_of state s) r).obeys, (rests_second d s.is_second s.generation s.end s.base s.is_closed (disks_of state s) r).obeys);
+        read = inl (open_stored d s.is_second s.generation s.end s.base s.is_closed (disks_of state s) r);
+        left = λ x y at_first at_second. inl (image_stored d s.is_second s.generation s.end s.base s.is_closed (disks_of state s) r x y at_first at_second);
+      })
+
+  leaves_then : (k m : Node D) (count : ℕ) (deeds : List Deed) → standing_of state m ≡ folded (standing_at (node_of k) count) deeds
+      → Stores state (unstored_behind (standing_at (node_of k) count) (node_of k).state.durable deeds) m → Leaves (life_ended (node_of k) count deeds) (disks_of state m.store)
+  leaves_then k m count deeds fold there = by_end (node_of m).failed refl
+    where
+      l : Lived
+      l = life_of (node_of k) count deeds
+
+      now : standing_at (node_of m) (standing_of state m).faults ≡ stands l
+      now = fold
+
+      own : TakesWhole (stands l).me (stands l).state.durable
+      own = subst (λ (s : Standing). TakesWhole s.me s.state.durable) now (taken (node_of m).me (node_of m).state.durable there.named)
+
+      by_end : (o : Option ℕ) → (node_of m).failed ≡ o → Leaves (life_ended (node_of k) count deeds) (disks_of state m.store)
+      by_end None e = record {
+        left = (stands l).state.durable;
+        is = ap (λ (f : Option ℕ). Some (left_between f l)) (ap (λ (s : Standing). s.failed) (sym now) ∙ e);
+        stored = subst (λ (s : Standing). StoreOneOf s.state.durable s.state.durable (disks_of state m.store)) now (one_left m (node_of m).state.durable (there.up e));
+        whole = (own, own);
+      }
+      by_end (Some faults) e =
+          let u : Durable = unstored_behind (standing_at (node_of k) count) (node_of k).state.durable deeds in
+          record {
+            left = u;
+            is = ap (λ (f : Option ℕ). Some (left_between f l)) (ap (λ (s : Standing). s.failed) (sym now) ∙ e);
+            stored = subst (λ (s : Standing). StoreOneOf s.state.durable u (disks_of state m.store)) now (there.failed (λ none. let bad : None ≡ Some faults = sym none ∙ e in cc));
+            whole = (own, subst (λ (s : Standing). TakesWhole s.me u) now (taken (node_of m).me u there.unstored_named));
+          }
+
+  -- it has served
+  pub served_lives : (o : Settings) (end : ServeEnd) (lost : List Mark) (k m : Node D) (start : ℕ) (answers : List Answer) (made : List Call) (last : Pump) → PeersInRange o
+      → loop.Runs o status_line end lost (standing_of state k) start answers made last → FindStored (standing_of state k) (node_of k).state.durable last.driver.deeds
+      → standing_of state m ≡ folded (standing_of state k) last.driver.deeds → Stores state (unstored_behind (standing_of state k) (node_of k).state.durable last.driver.deeds) m
+      → Lives (node_of k) (standing_of state k).faults last.driver.deeds (disks_of state m.store)
+  served_lives o end lost k m start answers made last peers run found fold there = record {
+    lives = lives_of (node_of k) (standing_of state k).faults last.driver.deeds (runs_serve o status_line end lost (standing_of state k) start answers made last peers run) found;
+    leaves = leaves_then k m (standing_of state k).faults last.driver.deeds fold there;
+  }
+
+  -- it did nothing
+  pub unserved_lives : (o : Settings) (k : Node D) → PeersInRange o → Stores state (node_of k).state.durable k → Lives (node_of k) (standing_of state k).faults [] (disks_of state k.store)
+  unserved_lives o k peers there = record {
+    lives = lives_of (node_of k) (standing_of state k).faults [] (none_served o (standing_of state k) peers) tt;
+    leaves = leaves_then k k (standing_of state k).faults [] refl there;
+  }
+
+-- ---- what the next opening finds
+
+-- of two durable states one is found, and not nothing
+one_found : (fresh before after d : Durable) (is_new : Bool) (x y : List ℕ) → IsOneOf before after x y → IsOpenedAs fresh x y d is_new → (is_new ≡ false) × ((d ≡ before) ⊎ (d ≡ after))
+one_found fresh before after d false x y (inl here) found = (refl, inl (one_stored x y d before found here))
+one_found fresh before after d false x y (inr here) found = (refl, inr (one_stored x y d after found here))
+one_found fresh before after d true x y (inl here) found = absurd (nothing_or_stored x y before found.0 here)
+one_found fresh before after d true x y (inr here) found = absurd (nothing_or_stored x y after found.0 here)
+
+follows_one : (before after : Durable) (old new : Disks) → StoreOneOf before after old → MayFollow old new → IsOneOf before after new.first.content new.second.content
+follows_one before after old new s (inl same) =
+    subst (λ (b : List ℕ). IsOneOf before after new.first.content b) (sym same.1) (subst (λ (a : List ℕ). IsOneOf before after a old.second.content) (sym same.0) s.read)
+follows_one before after old new s (inr left) = s.left new.first.content new.second.content left.0 left.1
+
+-- a node that takes all that it found
+opened_life : (id count : ℕ) (d : Durable) (n : NodeState) (l : Lived) → (stands l).me ≡ id → TakesWhole id d
+    → n ≡ record { me = id; state = state_after_restart id (durable_for id d); failed = None } → life_of n count [] ≡ lived_by l (opens d count)
+opened_life id count d n l me whole is =
+    ap (λ (k : NodeState). life_of k count []) (is ∙ ap (λ (e : Durable). let k : NodeState = record { me = id; state = state_after_restart id e; failed = None } in k) whole)
+    ∙ ap (λ (j : ℕ). let k : NodeState = record { me = j; state = state_after_restart j d; failed = None } in life_of k count []) (sym me)
+
+module _ {D : Type 0} (state : D → DiskState) where
+  pub next_life : (id : ℕ) (members : List ℕ) (l : Lived) (disks : Disks) (old new : Around D) (n : NodeState) (opened : IsOpened state id members old new n) → (stands l).me ≡ id → Leaves l disks
+      → MayFollow disks (disks_in state old) → ObeyIn state old → IsNext id l opened.durable opened.is_new n (faults_of state new)
+  next_life id members l disks old new n opened me leaves follows obey = record {
+    there = one.0;
+    may = subst (λ (o : Option Durable). MayOpen l o d) (sym leaves.is) one.1;
+    whole = whole;
+    next = opened_life id (faults_of state new) d n l me whole
+        (opened.node ∙ ap (λ (b : Bool). let k : NodeState = record { me = id; state = opening_state id b d; failed = None } in k) one.0);
+  }
+    where
+      d : Durable
+      d = opened.durable
+
+      one : (opened.is_new ≡ false) × ((d ≡ (stands l).state.durable) ⊎ (d ≡ leaves.left))
+      one = one_found (fresh_for id members) (stands l).state.durable leaves.left d opened.is_new (state old.first).content (state old.second).content
+          (follows_one (stands l).state.durable leaves.left disks (disks_in state old) leaves.stored follows) (opened.found obey)
+
+      whole : TakesWhole id d
+      whole = elim one.1 [
+        | inl is ↦ subst (λ (j : ℕ). TakesWhole j d) me (subst (λ (e : Durable). TakesWhole (stands l).me e) (sym is) leaves.whole.0)
+        | inr is ↦ subst (λ (j : ℕ). TakesWhole j d) me (subst (λ (e : Durable). TakesWhole (stands l).me e) (sym is) leaves.whole.1)
+      ]
+
+-- ---- a first start
+
+fresh_whole : (id : ℕ) (members : List ℕ) → TakesWhole id (fresh_for id members)
+fresh_whole id members = by (is_member nat_eq members id) refl
+  where
+    by : (b : Bool) → is_member nat_eq members id ≡ b → TakesWhole id (if b then first_durable members else empty_durable)
+    by true h = ap (λ (b : Bool). let e : Durable = record (first_durable members) { part = if b then (first_durable members).part else None } in e) h
+    by false h = refl
+
+new_base : HasBase new_service
+new_base = record { range = new_service_in.range; order = new_service_in.order; pairs = omega arith; clients = omega arith }
+
+-- it begins as one does that is opened again with what it begins with
+fresh_state : (id : ℕ) (members : List ℕ) → first_state id (fresh_for id members) ≡ state_after_restart id (fresh_for id members)
+fresh_state id members = by (is_member nat_eq members id)
+  where
+    ballot : (b : Bool) → (if b then (let x : Ballot = record { number = 1; pid = id } in x) else record { number = 1; pid = id }) ≡ record { number = 1; pid = id }
+    ballot true = refl
+    ballot false = refl
+
+    by : (b : Bool) → first_state id (if b then first_durable members else empty_durable) ≡ state_after_restart id (if b then first_durable members else empty_durable)
+    by false = refl
+    by true =
+        let d : Durable = first_durable members in
+        ap (λ (x : Ballot). let s : State = record (first_state id d) { volatile = record (first_volatile id) { own = x } } in s) (sym (ballot (0 == id)))
+        ∙ ap (λ (v : Service). let s : State = record (state_after_restart id d) { service = v } in s) (sym (service_in_base new_service new_base))
+
+module _ {D : Type 0} (state : D → DiskState) where
+  pub first_start : (id : ℕ) (members : List ℕ) (old new : Around D) (n : NodeState) (opened : IsOpened state id members old new n) → opened.is_new ≡ true → ObeyIn state old
+      → IsFirst id members opened.durable n (faults_of state new)
+  first_start id members old new n opened fresh obey = record {
+    is = is;
+    whole = whole;
+    first = λ faulted e. ap (λ (k : NodeState). life_of k count []) node ∙ ap (λ (j : ℕ). let k : NodeState = record { me = id; state = first_state id d0; failed = None } in life_of k j []) (sym e);
+    again = λ l me. opened_life id count opened.durable n l me whole
+        (node ∙ ap (λ (s : State). let k : NodeState = record { me = id; state = s; failed = None } in k) (fresh_state id members ∙ ap (state_after_restart id) (sym is ∙ sym whole)));
+  }
+    where
+      count : ℕ
+      count = faults_of state new
+
+      d0 : Durable
+      d0 = fresh_for id members
+
+      is : opened.durable ≡ d0
+      is = (subst (λ (b : Bool). IsOpenedAs d0 (state old.first).content (state old.second).content opened.durable b) fresh (opened.found obey)).1
+
+      whole : TakesWhole id opened.durable
+      whole = subst (TakesWhole id) (sym is) (fresh_whole id members)
+
+      node : n ≡ record { me = id; state = first_state id d0; failed = None }
+      node = opened.node ∙ ap (λ (b : Bool). let k : NodeState = record { me = id; state = opening_state id b opened.durable; failed = None } in k) fresh
+          ∙ ap (λ (e : Durable). let k : NodeState = record { me = id; state = first_state id e; failed = None } in k) (whole ∙ is)

@@ -1,0 +1,64 @@
+-- The life of a node that is served, as the theorem of a cluster has it: what a run of it is, what it leaves
+-- on the disks, and how the next one begins.
+use Rattle.std.specs.Prelude.{◌≡◌, ◌⊎◌, ◌++◌, [], ℕ, Bool, false, List, Some, None}
+use Rattle.op_types.specs.declared.durable.Durable.{Durable}
+use Rattle.op_outside.specs.Disks.{MayLeave}
+use Rattle.op_runs.specs.World.{durable_at_start}
+use Rattle.op_store.specs.Stored.{Disks}
+use Rattle.op_node.specs.Nodes.{NodeState}
+use Rattle.op_node.specs.Openings.{durable_for}
+use Rattle.op_node.specs.Reopenings.{StoreOneOf}
+use Rattle.op_core.specs.NodeCores.{standing_at}
+use Rattle.op_serving.specs.Inputs.{Deed}
+use Rattle.op_cluster_laws.specs.Traces.{ends, opens, Lived, stands, lived_by, first_life}
+use Rattle.op_cluster_laws.specs.Clusters.{IsLife, MayOpen}
+
+-- a node that was opened when its disks had failed so often, and what it has done since
+abbrev pub life_of : NodeState → ℕ → List Deed → Lived
+life_of n count deeds =
+    record { first = standing_at n count; unstored = n.state.durable; deeds = deeds; left = None }
+
+-- the same, once it ends
+abbrev pub life_ended : NodeState → ℕ → List Deed → Lived
+life_ended n count deeds = lived_by (life_of n count deeds) ends
+
+-- a server takes this whole of what its disks store
+abbrev pub TakesWhole : ℕ → Durable → Type 0
+TakesWhole id d = durable_for id d ≡ d
+
+-- A life is over: its disks store what the node has stored, or what else they may leave, and so does what a
+-- crash leaves of them. The node takes either whole.
+pub record Leaves (l : Lived) (disks : Disks) : Type 0 where
+  pub left : Durable
+  pub is : l.left ≡ Some left
+  pub stored : StoreOneOf (stands l).state.durable left disks
+  pub whole : TakesWhole (stands l).me (stands l).state.durable × TakesWhole (stands l).me left
+
+-- each first part of these deeds is a life of the node so far, and these disks are what all of it leaves
+pub record Lives (n : NodeState) (count : ℕ) (deeds : List Deed) (disks : Disks) : Type 0 where
+  pub lives : (first later : List Deed) → deeds ≡ first ++ later → IsLife (life_of n count first)
+  pub leaves : Leaves (life_ended n count deeds) disks
+
+-- ---- the next life
+
+-- disks of which a read gives what one gave of these, or what a crash left of them
+abbrev pub MayFollow : Disks → Disks → Type 0
+MayFollow old new = ((new.first.content ≡ old.first.content) × (new.second.content ≡ old.second.content))
+    ⊎ (MayLeave old.first new.first.content × MayLeave old.second new.second.content)
+
+-- What an opening found is what the life before may leave, the node takes it whole, and its next life begins
+-- as the theorem of a cluster has it.
+pub record IsNext (id : ℕ) (l : Lived) (d : Durable) (is_new : Bool) (n : NodeState)
+    (count : ℕ) : Type 0 where
+  pub there : is_new ≡ false
+  pub may : MayOpen l l.left d
+  pub whole : TakesWhole id d
+  pub next : life_of n count [] ≡ lived_by l (opens d count)
+
+-- An opening over disks that store nothing: the node takes what it begins with whole, and that is its first
+-- life, and the same as an opening that finds what a node of the world stores at its start.
+pub record IsFirst (id : ℕ) (members : List ℕ) (d : Durable) (n : NodeState) (count : ℕ) : Type 0 where
+  pub is : d ≡ durable_at_start members id
+  pub whole : TakesWhole id d
+  pub first : (faulted : ℕ → ℕ) → faulted id ≡ count → life_of n count [] ≡ first_life members faulted id
+  pub again : (l : Lived) → (stands l).me ≡ id → life_of n count [] ≡ lived_by l (opens d count)

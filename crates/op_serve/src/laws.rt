@@ -1,0 +1,42 @@
+ghost use Rattle.std.specs.Prelude.{◌≡◌, ◌⊎◌, ℕ, List, true};
+ghost use Rattle.op_setup.specs.declared.config.Settings.{Settings};
+ghost use Rattle.op_store.specs.Stored.{HaveImages};
+ghost use Rattle.op_serving.specs.declared.mark.Mark.{Mark};
+ghost use Rattle.op_status.specs.declared.status.Status.{Status};
+ghost use Rattle.op_node.specs.Nodes.{NodeState};
+ghost use Rattle.op_cluster_laws.specs.Traces.{Lived, first_life, stands};
+ghost use Rattle.op_serve.specs.Lives.{IsFirst, IsNext, Leaves, MayFollow};
+ghost use Rattle.op_serve.specs.Processes.{Follow, Lasts, Process, events_of, events_then};
+ghost use Rattle.op_serve.specs.Nodes.{Around, Ends, IsOpened, KeepsStored, ObeyIn, disks_in, faults_of};
+
+use op_outside::Disk;
+
+/// Where a life of a node left its disks, an opening of them, or of what a crash left of them, finds what the node had stored, or
+/// what else that life may leave, and the next life of the node begins with it. Over disks that store nothing an opening begins the
+/// first life.
+pub fn openings_begin_lives<D: Disk>()
+    ensures next { (id : ℕ) (members : List ℕ) (l : Lived) (gone old new : Around D) (n : NodeState)
+        (opened : IsOpened D.state id members old new n) → (stands l).me ≡ id
+        → Leaves l (disks_in D.state gone) → MayFollow (disks_in D.state gone) (disks_in D.state old)
+        → ObeyIn D.state old → IsNext id l opened.durable opened.is_new n (faults_of D.state new) }
+    ensures first { (id : ℕ) (members : List ℕ) (old new : Around D) (n : NodeState)
+        (opened : IsOpened D.state id members old new n) → opened.is_new ≡ true → ObeyIn D.state old
+        → IsFirst id members opened.durable n (faults_of D.state new) }
+{}
+
+/// What `serve_as` says of a process that ends by itself makes it one of these, or its opening was refused, and keeps what a life
+/// left. Over such processes of one node, the first over disks that store nothing and each other one over what the one before
+/// left, what happens is at each moment a life of the node as the theorem of a cluster has it, and each thing that happens may
+/// happen then.
+pub fn processes_are_lives<D: Disk>()
+    ensures ends { (id : ℕ) (o : Settings) (old new : Around D) (s : Status) (lost : List Mark)
+        → Ends D.state id o old new s lost → ObeyIn D.state old → KeepsStored D.state id o.members old new
+        ⊎ ((p : Process D.state id o.members) × (p.old ≡ old) × (p.new ≡ new)) }
+    ensures refused { (id : ℕ) (members : List ℕ) (l : Lived) (old new : Around D)
+        → KeepsStored D.state id members old new → HaveImages (disks_in D.state old)
+        → Leaves l (disks_in D.state old) → Leaves l (disks_in D.state new) }
+    ensures lasts { (id : ℕ) (members : List ℕ) (p : Process D.state id members)
+        (ps : List (Process D.state id members)) (faulted : ℕ → ℕ) → p.opened.is_new ≡ true
+        → faulted id ≡ faults_of D.state p.mid → Follow D.state (disks_in D.state p.new) ps
+        → Lasts (first_life members faulted id) (events_of D.state p (events_then D.state ps)) }
+{}
