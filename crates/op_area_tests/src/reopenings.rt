@@ -101,9 +101,9 @@ fn a_failed_put_is_found_whole_or_not_at_all(rt: HostRuntime) -> Result<(), Fail
 const REFUSALS: [(&[u64], &[u64]); 3] = [(&[15], &[]), (&[15, 16], &[2]), (&[15, 16, 17], &[2, 3])];
 
 /// The count with which a disk fails at a tick, if it does.
-fn fault_at_tick(core: &mut NodeCore<MemDisk>) -> Option<u64>
-    requires { IsServable core.old.node }
-    ensures { IsServable core.new.node }
+fn fault_at_tick<K: Core>(core: &mut K) -> Option<u64>
+    requires { K.ready core.old }
+    ensures { K.ready core.new }
 {
     match core.step(Input::Tick) {
         Err(StepFail::DiskFail { count }) => Some(count),

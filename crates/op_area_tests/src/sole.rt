@@ -72,19 +72,19 @@ pub fn opened(alloc: Global, first: MemDisk, second: MemDisk) -> Result<NodeCore
 }
 
 /// Whether this put is stored.
-pub fn puts(alloc: Global, core: &mut NodeCore<MemDisk>, seq: u64) -> Result<bool, Fail>
-    requires ready { IsServable core.old.node }
+pub fn puts<K: Core>(alloc: Global, core: &mut K, seq: u64) -> Result<bool, Fail>
+    requires ready { K.ready core.old }
     requires number { IsNumber seq }
-    ensures { IsServable core.new.node }
+    ensures { K.ready core.new }
 {
     let input = put(alloc, seq)?;
     Ok(core.step(input).is_ok())
 }
 
 /// It leads after a tick. One that failed is opened again at it.
-pub fn ticks(core: &mut NodeCore<MemDisk>) -> Result<(), Fail>
-    requires { IsServable core.old.node }
-    ensures { IsServable core.new.node }
+pub fn ticks<K: Core>(core: &mut K) -> Result<(), Fail>
+    requires { K.ready core.old }
+    ensures { K.ready core.new }
 {
     match core.step(Input::Tick) {
         Ok(_) => Ok(()),

@@ -47,8 +47,8 @@ fn requests_are_written_as_their_bytes(rt: HostRuntime) -> Result<(), Fail> {
     Ok(())
 }
 
-/// Requests of client 7: to delete `a`, to get it, and to replace its value `x` by an empty one.
-const REQUESTS: [&[u8]; 3] = [
+/// Requests of client 7: to delete `a`, to get it, to replace its value `x` by an empty one, and to read `b`.
+const REQUESTS: [&[u8]; 4] = [
     &[
         1, 0, 0, 0, 0, 0, 0, 0, 7, 0, 0, 0, 0, 0, 0, 0, 2, 2, 1, b'a',
     ],
@@ -58,7 +58,11 @@ const REQUESTS: [&[u8]; 3] = [
     &[
         1, 0, 0, 0, 0, 0, 0, 0, 7, 0, 0, 0, 0, 0, 0, 0, 4, 4, 1, b'a', 0, 1, b'x', 0, 0,
     ],
+    READ,
 ];
+
+/// Client 7's read 2 of `b`.
+const READ: &[u8] = &[6, 0, 0, 0, 0, 0, 0, 0, 7, 0, 0, 0, 0, 0, 0, 0, 2, 1, b'b'];
 
 /// Whether these bytes are a request's, which is written in them too.
 fn is_request(alloc: Global, bytes: &[u8]) -> bool {
@@ -85,6 +89,22 @@ fn the_next_members_are_asked(rt: HostRuntime) -> Result<(), Fail> {
     let asked = take_request(rt.alloc(), STOP);
     assert!(rt; matches!(&asked, Ok(Request::Stop(ids)) if ids.as_slice() == [1, 2, 5].as_slice()));
     assert!(rt; is_request(rt.alloc(), STOP));
+    Ok(())
+}
+
+/// Whether this asks for client 7's read 2 of `b`.
+fn is_read(request: &Request) -> bool {
+    match request {
+        Request::Read(read) => {
+            read.client == 7 && read.seq == 2 && read.key.as_slice() == b"b".as_slice()
+        }
+        _ => false,
+    }
+}
+
+#[test]
+fn a_read_is_asked(rt: HostRuntime) -> Result<(), Fail> {
+    assert!(rt; matches!(&take_request(rt.alloc(), READ), Ok(read) if is_read(read)));
     Ok(())
 }
 
@@ -222,10 +242,16 @@ fn replies_are_read_from_their_bytes(rt: HostRuntime) -> Result<(), Fail> {
 }
 
 /// Bytes that are no request, and the place at which they are bad.
-const NO_REQUESTS: [(&[u8], usize); 11] = [
+const NO_REQUESTS: [(&[u8], usize); 14] = [
     (b"", 0),
     (&[0, 0, 0, 0], 0),
-    (&[6], 0),
+    (&[6], 1),
+    (&[7], 0),
+    (
+        &[6, 0, 0, 0, 0, 0, 0, 0, 7, 0, 0, 0, 0, 0, 0, 0, 0, 1, b'b'],
+        9,
+    ),
+    (&[6, 0, 0, 0, 0, 0, 0, 0, 7, 0, 0, 0, 0, 0, 0, 0, 2, 0], 17),
     (&[2, 0], 1),
     (&[2, 10, 0, 0, 0, 1], 1),
     (&[2, 2, 0, 0, 0, 5, 0, 0, 0, 5], 6),

@@ -1,4 +1,4 @@
-//! Messages of trimming, of joining, and of several commands.
+//! Messages of trimming, of joining, of several commands, and of reads.
 
 use crate::pieces::{Tail, bytes_of};
 use crate::puts::are_puts;
@@ -23,13 +23,16 @@ enum Wanted<'a> {
     Segment(u64, usize),
     /// How many commands `put 7 1 a x` are forwarded.
     Forwards(usize),
+    /// The leader's ballot, and the number of a read.
+    Confirm(Ballot, u64),
+    Confirmed(Ballot, u64),
 }
 
 /// The ballot of number 5 and owner 3.
 const LEADER: Ballot = Ballot { number: 5, pid: 3 };
 
 /// Messages from 2 to 3 in configuration 4: their bytes from the tag on, and what they say.
-const MESSAGES: [(&[u8], Tail, Wanted<'static>); 9] = [
+const MESSAGES: [(&[u8], Tail, Wanted<'static>); 11] = [
     (
         &[12, 0, 0, 0, 4, 0, 0, 0, 0, 0, 0, 0, 5, 0, 0, 0, 3],
         Tail::Nothing,
@@ -78,13 +81,27 @@ const MESSAGES: [(&[u8], Tail, Wanted<'static>); 9] = [
         Wanted::Segment(6, 1),
     ),
     (
+        &[
+            23, 0, 0, 0, 4, 0, 0, 0, 0, 0, 0, 0, 5, 0, 0, 0, 3, 0, 0, 0, 0, 0, 0, 1, 2,
+        ],
+        Tail::Nothing,
+        Wanted::Confirm(LEADER, 258),
+    ),
+    (
+        &[
+            24, 0, 0, 0, 4, 0, 0, 0, 0, 0, 0, 0, 5, 0, 0, 0, 3, 0, 0, 0, 0, 0, 0, 0, 1,
+        ],
+        Tail::Nothing,
+        Wanted::Confirmed(LEADER, 1),
+    ),
+    (
         &[28, 0, 0, 0, 4, 0, 0, 0, 0, 0, 0, 0, 2],
         Tail::Puts(2),
         Wanted::Forwards(2),
     ),
 ];
 
-/// Whether a leader's message or a proposal says this.
+/// Whether a leader's message, an answer to one or a proposal says this.
 fn is_led(body: &Body, wanted: Wanted) -> bool {
     match (body, wanted) {
         (Body::TrimAsk(ballot), Wanted::TrimAsk(leader)) => *ballot == leader,
@@ -92,6 +109,12 @@ fn is_led(body: &Body, wanted: Wanted) -> bool {
             *ballot == leader && *len == count
         }
         (Body::Trim(len), Wanted::Trim(count)) => *len == count,
+        (Body::Confirm(ballot, number), Wanted::Confirm(leader, read)) => {
+            *ballot == leader && *number == read
+        }
+        (Body::Confirmed(ballot, number), Wanted::Confirmed(leader, read)) => {
+            *ballot == leader && *number == read
+        }
         (Body::Forwards(entries), Wanted::Forwards(count)) => are_puts(entries.as_slice(), count),
         _ => false,
     }
@@ -153,8 +176,10 @@ fn messages_are_read_and_written(rt: HostRuntime) -> Result<(), Fail> {
 }
 
 /// Bytes from the tag on that are no message's, and the place that is named.
-const BAD: [(&[u8], Tail, usize); 10] = [
+const BAD: [(&[u8], Tail, usize); 13] = [
     (&[20, 0, 0, 0, 4], Tail::Nothing, 8),
+    (&[22, 0, 0, 0, 4], Tail::Nothing, 8),
+    (&[25, 0, 0, 0, 4], Tail::Nothing, 8),
     (&[27, 0, 0, 0, 4], Tail::Nothing, 8),
     (&[29, 0, 0, 0, 4], Tail::Nothing, 8),
     // news of the first configuration
@@ -177,6 +202,14 @@ const BAD: [(&[u8], Tail, usize); 10] = [
         ],
         Tail::Nothing,
         21,
+    ),
+    // the number 0 of a read
+    (
+        &[
+            23, 0, 0, 0, 4, 0, 0, 0, 0, 0, 0, 0, 5, 0, 0, 0, 3, 0, 0, 0, 0, 0, 0, 0, 0,
+        ],
+        Tail::Nothing,
+        25,
     ),
     // one command alone
     (&[28, 0, 0, 0, 4, 0, 0, 0, 0, 0, 0, 0, 1], Tail::Puts(1), 13),

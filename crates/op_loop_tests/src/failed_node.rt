@@ -11,7 +11,7 @@ use op_serving::{Core, Given, StepFail};
 use op_types::{Blob, Input, NoMemory, Outcome, Pid, Refusal, Replies, Sends};
 use std::alloc::Global;
 
-/// A spare's node that has failed: it refuses what is proposed, and does nothing else. What its disks store is damaged.
+/// A spare's node that has failed: it refuses what is proposed and reads, and does nothing else. What its disks store is damaged.
 #[derive(Drop)]
 pub struct FailedNode {
     pub me: Pid,
@@ -36,6 +36,7 @@ impl Core for FailedNode {
         volatile = first_volatile n.me;
         service = new_service;
         waiting = [];
+        reads = None;
       };
       failed = Some n.count;
       faults = n.count;
@@ -49,10 +50,10 @@ impl Core for FailedNode {
 
     #[tactic(auto, unfolding(op_serving::specs::Cores::gives, op_serving::specs::Cores::after_input))]
     fn step(&mut self, input: Input) -> Result<Given, StepFail> {
-        match input {
+        match &input {
             Input::Commands(_) if self.is_scarce => Err(StepFail::NoMemory),
             Input::Tick => Err(StepFail::Damaged),
-            other => Ok(refused(self.alloc, self.count, &other)),
+            _ => Ok(refused(self.alloc, self.count, &input)),
         }
     }
 
@@ -77,7 +78,7 @@ fn refused(alloc: Global, count: u64, input: &Input) -> Given
     ensures range { GivenInRange result }
 {
     let outcome = match input {
-        Input::Commands(_) | Input::Stop(_) | Input::TrimNow => {
+        Input::Commands(_) | Input::Stop(_) | Input::TrimNow | Input::Read(_) => {
             Some(Outcome::Refused(Refusal::StorageFailed { count }))
         }
         Input::Tick | Input::Deliver(..) | Input::Up(_) | Input::Down(_) => None,
@@ -85,6 +86,7 @@ fn refused(alloc: Global, count: u64, input: &Input) -> Given
     Given {
         sends: Sends::new(alloc),
         replies: Replies::new(alloc),
+        read_replies: Replies::new(alloc),
         outcome,
     }
 }

@@ -16,7 +16,13 @@ mod disks;
 #[cfg(test)]
 mod ends;
 #[cfg(test)]
+mod malformed;
+#[cfg(test)]
 mod peers;
+#[cfg(test)]
+mod queues;
+#[cfg(test)]
+mod reads;
 #[cfg(test)]
 mod requests;
 #[cfg(test)]

@@ -9,7 +9,7 @@ use crate::FailedNode;
 use op_core::{NodeCore, opened_nodes_can_be_served};
 use op_memory::{FakeClock, Incoming, KeptCall, MemDisk, NetScript, ScriptNet};
 use op_node::Node;
-use op_outside::{Addr, Conn, Happening};
+use op_outside::{Addr, Conn, Happening, Took};
 use op_pump::{ServeEnd, Served, serve};
 use op_setup::{MOST_TURNS, Peers, Settings};
 use op_types::{Members, NoMemory, Pid};
@@ -39,6 +39,33 @@ fn puts(alloc: Global, count: u64) -> Result<Vec<u8>, NoMemory> {
         bytes.extend_from_slice(b"\0\0\0\x17\x01\0\0\0\0\0\0\0\x07")?;
         bytes.extend_from_slice(&(seq + 1).to_be_bytes())?;
         bytes.extend_from_slice(b"\x01\x01a\0\x01x")?;
+    }
+    Ok(bytes)
+}
+
+/// How many bytes the value is that a long put puts.
+const LONG_VALUE: u64 = 4096;
+
+/// A client's first byte, and the put of such a value at `a`, of client 8 and number 1.
+fn long_put(alloc: Global) -> Result<Vec<u8>, NoMemory> {
+    let mut bytes = Vec::from_slice(alloc, b"C\0\0\x10\x16\x01\0\0\0\0\0\0\0\x08")?;
+    bytes.extend_from_slice(b"\0\0\0\0\0\0\0\x01\x01\x01a\x10\0")?;
+    for _ in 0..LONG_VALUE {
+        bytes.push(120)?;
+    }
+    Ok(bytes)
+}
+
+/// Gets of `a`, of client 7 and these numbers; before the first stands a client's first byte.
+fn gets(alloc: Global, first: u64, last: u64) -> Result<Vec<u8>, NoMemory> {
+    let mut bytes = Vec::new(alloc);
+    if first == 1 {
+        bytes.push(67)?;
+    }
+    for seq in first..=last {
+        bytes.extend_from_slice(b"\0\0\0\x14\x01\0\0\0\0\0\0\0\x07")?;
+        bytes.extend_from_slice(&seq.to_be_bytes())?;
+        bytes.extend_from_slice(b"\x03\x01a")?;
     }
     Ok(bytes)
 }
@@ -79,6 +106,13 @@ fn sole() -> Result<Members, NoMemory>
     Members::from_slice(&[1])
 }
 
+/// The members 1 and 2.
+fn pair() -> Result<Members, NoMemory>
+    ensures { IfOk result MembersInRange }
+{
+    Members::from_slice(&[1, 2])
+}
+
 /// What a script does next.
 #[derive(Clone, Copy)]
 pub enum Step<'a> {
@@ -92,6 +126,12 @@ pub enum Step<'a> {
     ComesMostOfTheLongest,
     /// A read gives a client's first byte and so many puts, of client 7 and numbers from 1.
     ComesPuts(u64),
+    /// A read gives a client's first byte and client 8's first put, of 4096 bytes at `a`.
+    ComesLongPut,
+    /// A read gives gets of `a`, of client 7 and the numbers from the one to the other; before number 1 stands a client's first byte.
+    ComesGets(u64, u64),
+    /// A write takes so much.
+    Takes(Took),
     /// A dial gives this connection.
     Dials(Conn),
     /// This call fails.
@@ -113,6 +153,9 @@ fn add(script: &mut NetScript, alloc: Global, step: Step) -> Result<(), NoMemory
         Step::Comes(bytes) => comes(script, Vec::from_slice(alloc, bytes)?),
         Step::ComesMostOfTheLongest => comes(script, most_of_the_longest(alloc)?),
         Step::ComesPuts(count) => comes(script, puts(alloc, count)?),
+        Step::ComesLongPut => comes(script, long_put(alloc)?),
+        Step::ComesGets(first, last) => comes(script, gets(alloc, first, last)?),
+        Step::Takes(took) => Ok(script.writes.push_back(took)?),
         Step::Dials(conn) => Ok(script.dials.push_back(Some(conn))?),
         Step::Fails(call) => Ok(script.fails.push(call)?),
     }
@@ -191,14 +234,15 @@ fn disk(alloc: Global, fails: Option<u64>) -> Result<MemDisk, NoMemory> {
     Ok(disk)
 }
 
-/// Opens node 1, the only member, on new disks, of the first of which this call fails, if one does.
-fn opened(alloc: Global, fails: Option<u64>) -> Result<Node<MemDisk>, Fail>
+/// Opens node 1 of these members on new disks, of the first of which this call fails, if one does.
+fn opened(alloc: Global, members: &Members, fails: Option<u64>) -> Result<Node<MemDisk>, Fail>
+    requires { MembersInRange members.now }
     ensures { IfOk result IsServable }
 {
     opened_nodes_can_be_served::<MemDisk>();
     let first = disk(alloc, fails)?;
     let second = disk(alloc, None)?;
-    match Node::open(alloc, 1, &sole()?, first, second) {
+    match Node::open(alloc, 1, members, first, second) {
         Ok((node, _sends)) => Ok(node),
         Err(_) => Err("it is not opened".into()),
     }
@@ -206,19 +250,32 @@ fn opened(alloc: Global, fails: Option<u64>) -> Result<Node<MemDisk>, Fail>
 
 /// Serves with node 1, the only member.
 pub fn served_alone(alloc: Global, steps: &[Step], turns: u64) -> Result<Run, Fail> {
-    served_over(alloc, None, steps, turns)
+    served_over(alloc, &sole()?, None, steps, turns)
 }
 
-/// The same where this call of its first disk fails.
+/// Serves with node 1, where 2 is the other member.
+pub fn served_beside(alloc: Global, steps: &[Step], turns: u64) -> Result<Run, Fail> {
+    served_over(alloc, &pair()?, None, steps, turns)
+}
+
+/// Serves with node 1, the only member, where this call of its first disk fails.
 pub fn served_failing(alloc: Global, call: u64, steps: &[Step], turns: u64) -> Result<Run, Fail> {
-    served_over(alloc, Some(call), steps, turns)
+    served_over(alloc, &sole()?, Some(call), steps, turns)
 }
 
-fn served_over(alloc: Global, fails: Option<u64>, steps: &[Step], turns: u64) -> Result<Run, Fail> {
+fn served_over(
+    alloc: Global,
+    members: &Members,
+    fails: Option<u64>,
+    steps: &[Step],
+    turns: u64,
+) -> Result<Run, Fail>
+    requires { MembersInRange members.now }
+{
     let settings = settings(alloc, turns)?;
     let mut net = ScriptNet::new(alloc, script_of(alloc, steps)?);
     let mut clock = FakeClock::new(alloc, VecDeque::new(alloc), 1);
-    let node = opened(alloc, fails)?;
+    let node = opened(alloc, members, fails)?;
     let Served { end, .. } = serve(alloc, NodeCore { node }, &mut net, &mut clock, &settings);
     let (end, lost) = end?;
     Ok((end, lost.len(), net))
@@ -232,6 +289,8 @@ pub enum Wrote<'a> {
     Reply(&'a [u8]),
     /// That so many puts are done, of client 7 and numbers from 1.
     Dones(u64),
+    /// So many bytes.
+    Long(usize),
     Something,
     /// Something or nothing.
     Any,
@@ -279,6 +338,7 @@ fn is_written(alloc: Global, net: &ScriptNet, conn: Conn, wrote: Wrote) -> Resul
         Wrote::Bytes(wanted) => bytes.as_slice() == wanted,
         Wrote::Reply(said) => bytes.as_slice() == reply(alloc, said)?.as_slice(),
         Wrote::Dones(count) => bytes.as_slice() == dones(alloc, count)?.as_slice(),
+        Wrote::Long(len) => bytes.len() == len,
         Wrote::Something => !bytes.is_empty(),
         Wrote::Any => true,
     })

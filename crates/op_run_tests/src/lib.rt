@@ -12,6 +12,8 @@ mod fates;
 #[cfg(test)]
 mod letters;
 #[cfg(test)]
+mod reads;
+#[cfg(test)]
 mod replays;
 #[cfg(test)]
 mod runs;

@@ -28,6 +28,8 @@ enum Wanted<'a> {
     /// The members of the next configuration.
     Stop(Addr, &'a [Pid]),
     Trim(Addr),
+    /// The client, the number of its read, and the key.
+    Read(Addr, u64, u64, &'a [u8]),
     Status(Addr),
     End(Addr),
     Drill(u64, u64),
@@ -35,7 +37,7 @@ enum Wanted<'a> {
 }
 
 /// Words, each with what they ask for.
-const TASKS: [(&[&str], Wanted<'static>); 12] = [
+const TASKS: [(&[&str], Wanted<'static>); 13] = [
     (&["replay"], Wanted::Replay),
     (&["cluster"], Wanted::Cluster),
     (&["node", "999"], Wanted::Node(999)),
@@ -61,6 +63,10 @@ const TASKS: [(&[&str], Wanted<'static>); 12] = [
         Wanted::Stop(ADDR, &[1, 2, 3, 4, 5, 6, 7, 8, 10]),
     ),
     (&["call", "10.0.0.2:7000", "trim"], Wanted::Trim(ADDR)),
+    (
+        &["call", "10.0.0.2:7000", "read", "7", "1", "caf%C3%A9"],
+        Wanted::Read(ADDR, 7, 1, b"caf\xc3\xa9"),
+    ),
     (&["call", "10.0.0.2:7000", "status"], Wanted::Status(ADDR)),
     (&["call", "10.0.0.2:7000", "end"], Wanted::End(ADDR)),
     (&["drill", "0", "1"], Wanted::Drill(0, 1)),
@@ -86,6 +92,12 @@ fn is_wanted(task: &Task, asked: Wanted) -> bool {
             *addr == expected && members.as_slice() == ids
         }
         (Task::Call(addr, Request::Trim), Wanted::Trim(expected)) => *addr == expected,
+        (Task::Call(addr, Request::Read(read)), Wanted::Read(expected, client, seq, key)) => {
+            *addr == expected
+                && read.client == client
+                && read.seq == seq
+                && read.key.as_slice() == key
+        }
         (Task::Call(addr, Request::Status), Wanted::Status(expected)) => *addr == expected,
         (Task::Call(addr, Request::End), Wanted::End(expected)) => *addr == expected,
         (Task::Drill(seed, events), Wanted::Drill(expected, count)) => {
@@ -172,7 +184,7 @@ fn other_words_are_refused(rt: HostRuntime) -> Result<(), Fail> {
 /// So are words of a call that are no request's, of an address that is none, and of an operation that isn't served yet.
 #[test]
 fn other_calls_are_refused(rt: HostRuntime) -> Result<(), Fail> {
-    let rows: [&[&str]; 22] = [
+    let rows: [&[&str]; 25] = [
         &["call"],
         &["call", "10.0.0.2:7000"],
         &["call", "10.0.0.2:07000", "status"],
@@ -185,6 +197,9 @@ fn other_calls_are_refused(rt: HostRuntime) -> Result<(), Fail> {
         &["call", "10.0.0.2:7000", "put", "0", "1", "a", "x"],
         &["call", "10.0.0.2:7000", "put", "7", "1", "a"],
         &["call", "10.0.0.2:7000", "del", "7", "1"],
+        &["call", "10.0.0.2:7000", "read", "7", "1"],
+        &["call", "10.0.0.2:7000", "read", "0", "1", "a"],
+        &["call", "10.0.0.2:7000", "read", "7", "1", "a", "x"],
         &["call", "10.0.0.2:7000", "get", "7", "1", "a", "x"],
         &["call", "10.0.0.2:7000", "cas", "7", "1", "a", "x"],
         &["call", "10.0.0.2:7000", "trim", "1"],

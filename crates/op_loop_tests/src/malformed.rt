@@ -1,0 +1,75 @@
+//! What no client and no peer sends, or not so: each closes its own session, or waits, and changes no other.
+use crate::scripts::{Conduct, Step, Wrote, seen_of, served_alone};
+use op_outside::{Happening, Took};
+use op_pump::ServeEnd;
+use std::test::Fail;
+
+/// A client's first byte, and a request for the status.
+const STATUS: &[u8] = b"C\0\0\0\x01\x04";
+
+/// The reply to it.
+const LINE: &[u8] = b"\x0c\0\x23node 1 config 1 decided 0 trimmed 0";
+
+/// The connection of session 3 ends after a write of three bytes. Session 4 sends the longest head of a client's frame, 5 a message of
+/// no kind, 6 the longest head of a peer's frame, 7 two bytes of a hello, 8 a request in single bytes, and 9 one in one piece.
+const MALFORMED: &[Step] = &[
+    Step::Happens(&[
+        Happening::Accepted(3),
+        Happening::Accepted(4),
+        Happening::Accepted(5),
+        Happening::Accepted(6),
+        Happening::Accepted(7),
+        Happening::Accepted(8),
+        Happening::Accepted(9),
+        Happening::Readable(3),
+    ]),
+    Step::Comes(STATUS),
+    Step::Takes(Took::Bytes(3)),
+    Step::Takes(Took::Ended),
+    Step::Happens(&[
+        Happening::Readable(4),
+        Happening::Readable(5),
+        Happening::Readable(6),
+        Happening::Readable(7),
+        Happening::Readable(8),
+        Happening::Readable(8),
+        Happening::Readable(8),
+        Happening::Readable(8),
+        Happening::Readable(8),
+        Happening::Readable(8),
+        Happening::Readable(9),
+    ]),
+    Step::Comes(b"C\xff\xff\xff\xff"),
+    Step::Comes(b"P\0\0\0\x03\0\0\0\0\0\0\0\x0d\0\0\0\x03\0\0\0\x01\x63\0\0\0\x01"),
+    Step::Comes(b"P\0\0\0\x02\xff\xff\xff\xff\xff\xff\xff\xff"),
+    Step::Comes(b"P\0"),
+    Step::Comes(b"C"),
+    Step::Comes(b"\0"),
+    Step::Comes(b"\0"),
+    Step::Comes(b"\0"),
+    Step::Comes(b"\x01"),
+    Step::Comes(b"\x04"),
+    Step::Comes(STATUS),
+];
+
+/// Sessions 3 to 5 are closed; 6 and 7 wait for more, and 8 and 9 are answered.
+const EACH_ALONE: &[Conduct] = &[
+    (3, Wrote::Any, 1),
+    (4, Wrote::Bytes(b""), 1),
+    (5, Wrote::Bytes(b""), 1),
+    (6, Wrote::Any, 0),
+    (7, Wrote::Bytes(b""), 0),
+    (8, Wrote::Reply(LINE), 0),
+    (9, Wrote::Reply(LINE), 0),
+];
+
+#[test]
+fn each_malformed_session_is_closed_or_waits_alone(rt: HostRuntime) -> Result<(), Fail> {
+    let alloc = rt.alloc();
+    let seen = seen_of(alloc, served_alone(alloc, MALFORMED, 3)?, EACH_ALONE)?;
+    assert_eq!(rt;
+        (seen.end, seen.lost, seen.wrong),
+        (ServeEnd::TurnsOver, 0, None)
+    );
+    Ok(())
+}

@@ -1,0 +1,237 @@
+//! Reads, each answered without an entry of the log, behind the commands that came before it.
+use crate::scripts::{
+    Conduct, Step, Wrote, seen_of, served, served_alone, served_beside, served_failing,
+};
+use op_outside::{Conn, Happening};
+use op_pump::ServeEnd;
+use std::alloc::Global;
+use std::test::Fail;
+
+/// After so many turns there is a tick, at which the only member leads.
+const TICK: usize = 10;
+
+/// The turns before the next tick, at which the only member leads, where one turn was taken.
+const NEXT_TICK: usize = 9;
+
+/// A client's first byte, and client 7's read 1 of `a`.
+const READ: &[u8] = b"C\0\0\0\x13\x06\0\0\0\0\0\0\0\x07\0\0\0\0\0\0\0\x01\x01a";
+
+/// A client's first byte, client 7's command 1, which puts `x` at `a`, and its read 1 of `a`.
+const PUT_AND_READ: &[u8] =
+    b"C\0\0\0\x17\x01\0\0\0\0\0\0\0\x07\0\0\0\0\0\0\0\x01\x01\x01a\0\x01x\0\0\0\x13\x06\0\0\0\0\0\0\0\x07\0\0\0\0\0\0\0\x01\x01a";
+
+/// A client's first byte, and client 8's read 3 of `b`.
+const READ_B: &[u8] = b"C\0\0\0\x13\x06\0\0\0\0\0\0\0\x08\0\0\0\0\0\0\0\x03\x01b";
+
+/// A read before the node leads, and after it a put and two reads.
+const READS: &[Step] = &[
+    Step::Happens(&[Happening::Accepted(5), Happening::Readable(5)]),
+    Step::Comes(READ),
+    Step::Idles(NEXT_TICK),
+    Step::Happens(&[
+        Happening::Accepted(6),
+        Happening::Readable(6),
+        Happening::Accepted(7),
+        Happening::Readable(7),
+    ]),
+    Step::Comes(PUT_AND_READ),
+    Step::Comes(READ_B),
+];
+
+#[test]
+fn a_leader_answers_reads(rt: HostRuntime) -> Result<(), Fail> {
+    let alloc = rt.alloc();
+    let conns: &[Conduct] = &[
+        // The tag of NotLeading.
+        (
+            5,
+            Wrote::Bytes(b"\0\0\0\x11\0\0\0\0\0\0\0\x07\0\0\0\0\0\0\0\x01\x0b"),
+            0,
+        ),
+        // The put is done, and then the value is `x`.
+        (
+            6,
+            Wrote::Bytes(
+                b"\0\0\0\x11\0\0\0\0\0\0\0\x07\0\0\0\0\0\0\0\x01\x01\0\0\0\x14\0\0\0\0\0\0\0\x07\0\0\0\0\0\0\0\x01\x02\0\x01x",
+            ),
+            0,
+        ),
+        // There is no value.
+        (
+            7,
+            Wrote::Bytes(b"\0\0\0\x11\0\0\0\0\0\0\0\x08\0\0\0\0\0\0\0\x03\x03"),
+            0,
+        ),
+    ];
+    let seen = seen_of(alloc, served_alone(alloc, READS, 11)?, conns)?;
+    assert_eq!(rt;
+        (seen.end, seen.lost, seen.wrong),
+        (ServeEnd::TurnsOver, 0, None)
+    );
+    Ok(())
+}
+
+#[test]
+fn a_failed_node_refuses_a_read(rt: HostRuntime) -> Result<(), Fail> {
+    let alloc = rt.alloc();
+    let steps = &[
+        Step::Happens(&[Happening::Accepted(5), Happening::Readable(5)]),
+        Step::Comes(READ),
+    ];
+    // Refused, since the disks have failed 7 times.
+    let refused = Wrote::Bytes(
+        b"\0\0\0\x1a\0\0\0\0\0\0\0\x07\0\0\0\0\0\0\0\x01\x06\x01\0\0\0\0\0\0\0\x07",
+    );
+    let seen = seen_of(alloc, served(alloc, steps, 1)?, &[(5, refused, 0)])?;
+    assert_eq!(rt;
+        (seen.end, seen.lost, seen.wrong),
+        (ServeEnd::TurnsOver, 0, None)
+    );
+    Ok(())
+}
+
+/// The first call of the first disk behind the opening and the first tick: nine are made at the opening, and four for each
+/// record.
+const CALL_AFTER_TICK: u64 = 9 + 4 + 1;
+
+/// A client's first byte, and client 7's command 1, which puts `x` at `a`.
+const PUT: &[u8] = b"C\0\0\0\x17\x01\0\0\0\0\0\0\0\x07\0\0\0\0\0\0\0\x01\x01\x01a\0\x01x";
+
+/// Client 7's read 1 is answered that there is no value.
+const ABSENT: &[u8] = b"\0\0\0\x11\0\0\0\0\0\0\0\x07\0\0\0\0\0\0\0\x01\x03";
+
+/// A read, and then a put.
+const READ_AND_PUT: &[Step] = &[
+    Step::Idles(TICK),
+    Step::Happens(&[
+        Happening::Accepted(5),
+        Happening::Readable(5),
+        Happening::Accepted(6),
+        Happening::Readable(6),
+    ]),
+    Step::Comes(READ),
+    Step::Comes(PUT),
+];
+
+#[test]
+fn a_read_makes_no_call_of_a_disk(rt: HostRuntime) -> Result<(), Fail> {
+    let alloc = rt.alloc();
+    let conns: &[Conduct] = &[
+        (5, Wrote::Bytes(ABSENT), 0),
+        // The call that fails is the put's.
+        (
+            6,
+            Wrote::Bytes(
+                b"\0\0\0\x1a\0\0\0\0\0\0\0\x07\0\0\0\0\0\0\0\x01\x06\x01\0\0\0\0\0\0\0\x01",
+            ),
+            0,
+        ),
+    ];
+    let served = served_failing(alloc, CALL_AFTER_TICK, READ_AND_PUT, 11)?;
+    let seen = seen_of(alloc, served, conns)?;
+    assert_eq!(rt;
+        (seen.end, seen.lost, seen.wrong),
+        (ServeEnd::TurnsOver, 0, None)
+    );
+    Ok(())
+}
+
+/// Node 2's first bytes.
+const HELLO: &[u8] = b"P\0\0\0\x02";
+
+/// Its reply in heartbeat round 1: it stands for the ballot (1, 2), and hasn't heard a majority.
+const REPLY: &[u8] =
+    b"\0\0\0\0\0\0\0\x22\0\0\0\x02\0\0\0\x01\x02\0\0\0\x01\0\0\0\0\0\0\0\x01\0\0\0\0\0\0\0\x01\0\0\0\x02\0";
+
+/// Its promise of the ballot (1, 1), with an empty log.
+const PROMISE: &[u8] =
+    b"\0\0\0\0\0\0\0\x45\0\0\0\x02\0\0\0\x01\x04\0\0\0\x01\0\0\0\0\0\0\0\x01\0\0\0\x01\
+\0\0\0\0\0\0\0\0\0\0\0\0\0\0\0\0\0\0\0\0\0\0\0\0\0\0\0\0\0\0\0\0\0\0\0\0\0\0\0\0\0\0\0\0";
+
+/// It confirms that ballot for the reads of numbers 1 and 2.
+const CONFIRMED: &[u8] =
+    b"\0\0\0\0\0\0\0\x21\0\0\0\x02\0\0\0\x01\x18\0\0\0\x01\0\0\0\0\0\0\0\x01\0\0\0\x01\0\0\0\0\0\0\0\x01\
+\0\0\0\0\0\0\0\x21\0\0\0\x02\0\0\0\x01\x18\0\0\0\x01\0\0\0\0\0\0\0\x01\0\0\0\x01\0\0\0\0\0\0\0\x02";
+
+/// It asks for a promise of the ballot (5, 2).
+const PREPARE: &[u8] =
+    b"\0\0\0\0\0\0\0\x35\0\0\0\x02\0\0\0\x01\x03\0\0\0\x01\0\0\0\0\0\0\0\x05\0\0\0\x02\
+\0\0\0\0\0\0\0\0\0\0\0\0\0\0\0\0\0\0\0\0\0\0\0\0\0\0\0\0";
+
+/// What sessions 6 and 7 ask of node 1, which leads with node 2; what node 2 then says; and what comes of it.
+const WAITING: [(&[u8], &[u8], &[u8], &[Conduct]); 2] = [
+    // The same read twice is answered once, where it was asked last.
+    (
+        READ,
+        READ,
+        CONFIRMED,
+        &[
+            (5, Wrote::Something, 0),
+            (6, Wrote::Bytes(b""), 0),
+            (7, Wrote::Bytes(ABSENT), 0),
+        ],
+    ),
+    // Two reads are given up for a greater ballot.
+    (
+        READ,
+        READ_B,
+        PREPARE,
+        &[
+            (5, Wrote::Something, 0),
+            (
+                6,
+                Wrote::Bytes(
+                    b"\0\0\0\x1e\0\0\0\0\0\0\0\x07\0\0\0\0\0\0\0\x01\x05\x01\0\0\0\0\0\0\0\x05\0\0\0\x02",
+                ),
+                0,
+            ),
+            (
+                7,
+                Wrote::Bytes(
+                    b"\0\0\0\x1e\0\0\0\0\0\0\0\x08\0\0\0\0\0\0\0\x03\x05\x01\0\0\0\0\0\0\0\x05\0\0\0\x02",
+                ),
+                0,
+            ),
+        ],
+    ),
+];
+
+/// The first connection with which it goes otherwise.
+fn otherwise(
+    alloc: Global,
+    first: &[u8],
+    second: &[u8],
+    said: &[u8],
+    conns: &[Conduct],
+) -> Result<Option<Conn>, Fail> {
+    let steps = [
+        Step::Happens(&[Happening::Accepted(5), Happening::Readable(5)]),
+        Step::Comes(HELLO),
+        Step::Idles(NEXT_TICK),
+        Step::Happens(&[Happening::Readable(5)]),
+        Step::Comes(REPLY),
+        Step::Idles(NEXT_TICK),
+        Step::Happens(&[
+            Happening::Readable(5),
+            Happening::Accepted(6),
+            Happening::Readable(6),
+            Happening::Accepted(7),
+            Happening::Readable(7),
+            Happening::Readable(5),
+        ]),
+        Step::Comes(PROMISE),
+        Step::Comes(first),
+        Step::Comes(second),
+        Step::Comes(said),
+    ];
+    let seen = seen_of(alloc, served_beside(alloc, &steps, 21)?, conns)?;
+    Ok(seen.wrong)
+}
+
+#[test]
+fn reads_wait_for_a_majority(rt: HostRuntime) -> Result<(), Fail> {
+    for (first, second, said, conns) in WAITING {
+        assert_eq!(rt; otherwise(rt.alloc(), first, second, said, conns)?, None);
+    }
+    Ok(())
+}
