@@ -76,10 +76,11 @@ class Cluster:
         return time.monotonic() - started
 
     def leader(self):
+        """The node that answers a read: no other does."""
         for it in self.ids:
-            if self.call(it, "put", "1", str(time.monotonic_ns()), "leader", "x")[0] == "done":
+            if self.call(it, "read", "1", "1", "leader")[0] != "notleading":
                 return it
-        return 1
+        return self.ids[0]
 
     def end(self):
         """Ends the nodes, and gives what `omni cluster` printed."""

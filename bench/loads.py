@@ -1,4 +1,4 @@
-"""Closed loops of puts: each connection sends one, waits for its answer, and sends the next. The connections are spread over several
+"""Closed loops of puts, or of reads: each connection sends one, waits for its answer, and sends the next. The connections are spread over several
 processes, so that no client is the limit, and over all nodes. One that is refused, cut or hears nothing for a while asks again under the
 same number at the next node; its time runs on from when it first asked."""
 import base64
@@ -14,12 +14,12 @@ import sys
 import time
 
 sys.path.insert(0, os.path.join(os.path.dirname(os.path.abspath(__file__)), "..", "examples"))
-from client import DONE, entry  # noqa: E402
+from client import ABSENT, DONE, VALUE as FOUND, request  # noqa: E402
 
 VALUE = b"v" * 100
 KEYS = 1000
 PROCESSES = 4
-SILENCE, PAUSE = 2.0, 0.05  # seconds: that an answer is waited for, and before a refused put is asked again
+SILENCE, PAUSE = 2.0, 0.05  # seconds: that an answer is waited for, and before what was refused is asked again
 
 
 def next_key(number):
@@ -27,37 +27,50 @@ def next_key(number):
 
 
 class OmniWire:
-    """A client of omni: a command has its client's number, which stays when it is asked again."""
-    greeting = b"C"
+    """A client of omni that puts: a command has its client's number, which stays when it is asked again."""
+    asks, greeting, answers = "puts", b"C", (DONE,)
 
     def __init__(self):
         self.client, self.number = random.randrange(1, 2**62), 0
 
-    def put(self, is_new):
+    def words(self):
+        return "put", next_key(self.number), VALUE
+
+    def next(self, is_new):
         self.number += is_new
-        body = entry(self.client, self.number, "put", next_key(self.number), VALUE)
+        body = request(self.client, self.number, *self.words())
         return struct.pack(">I", len(body)) + body
 
     def answer(self, heard):
-        """None while no answer is whole; else what is left, and whether the put is done."""
+        """None while no answer is whole; else what is left, and whether it is what was asked for."""
         if len(heard) < 21 or len(heard) < 4 + struct.unpack(">I", heard[:4])[0]:
             return None
         length, _, number, tag = struct.unpack(">IQQB", heard[:21])
-        return heard[4 + length:], tag == DONE and number == self.number
+        return heard[4 + length:], tag in self.answers and number == self.number
+
+
+class OmniReads(OmniWire):
+    """One that reads. Where a node doesn't lead the next one is asked, so that all come to the leader."""
+    asks, answers = "reads", (FOUND, ABSENT)
+
+    def words(self):
+        return "read", next_key(self.number)
 
 
 class EtcdWire:
-    """A client of etcd's JSON gateway, on one connection that stays open."""
-    greeting = b""
+    """A client of etcd's JSON gateway that puts, on one connection that stays open."""
+    asks, greeting, path = "puts", b"", b"put"
 
     def __init__(self):
         self.number = random.randrange(KEYS)
 
-    def put(self, is_new):
+    def fields(self):
+        return {"key": next_key(self.number), "value": VALUE}
+
+    def next(self, is_new):
         self.number += is_new
-        pair = {"key": next_key(self.number), "value": VALUE}
-        body = json.dumps({name: base64.b64encode(it).decode() for name, it in pair.items()}).encode()
-        return b"POST /v3/kv/put HTTP/1.1\r\nHost: etcd\r\nContent-Length: %d\r\n\r\n" % len(body) + body
+        body = json.dumps({name: base64.b64encode(it).decode() for name, it in self.fields().items()}).encode()
+        return b"POST /v3/kv/%s HTTP/1.1\r\nHost: etcd\r\nContent-Length: %d\r\n\r\n" % (self.path, len(body)) + body
 
     def answer(self, heard):
         head, end, rest = heard.partition(b"\r\n\r\n")
@@ -68,6 +81,14 @@ class EtcdWire:
         return (rest[length:], head.startswith(b"HTTP/1.1 200")) if len(rest) >= length else None
 
 
+class EtcdReads(EtcdWire):
+    """One that reads. A range is linearizable unless it asks not to be, and any node takes it."""
+    asks, path = "reads", b"range"
+
+    def fields(self):
+        return {"key": next_key(self.number)}
+
+
 class Connection:
     def __init__(self, wire, addresses):
         self.wire, self.addresses = wire(), collections.deque(addresses)
@@ -75,7 +96,7 @@ class Connection:
         self.asked_at = self.began = 0.0
 
     def ask(self, selector, is_new):
-        """Asks for the next put, or for the same one again, at the next node where there is no connection."""
+        """Asks for the next one, or for the same one again, at the next node where there is no connection."""
         self.asked_at = time.monotonic()
         self.began = self.asked_at if is_new else self.began
         try:
@@ -85,7 +106,7 @@ class Connection:
                 self.heard = b""
                 selector.register(self.socket, selectors.EVENT_READ, self)
                 self.socket.sendall(self.wire.greeting)
-            self.socket.sendall(self.wire.put(is_new))
+            self.socket.sendall(self.wire.next(is_new))
         except OSError:
             self.leave(selector)
 
@@ -114,7 +135,7 @@ class Connection:
             self.ask(selector, True)
 
     def look(self, selector, now):
-        """Asks again where the put was refused, or nothing was heard for too long."""
+        """Asks again where it was refused, or nothing was heard for too long."""
         if self.socket is None and now - self.asked_at > PAUSE:
             self.ask(selector, False)
         elif self.socket is not None and now - self.asked_at > SILENCE:
@@ -150,6 +171,7 @@ class Load:
         for it in children:
             it.join()
         answers = sorted((began + took, took) for times, _ in got for began, took in times)
+        self.asks = wire.asks
         self.times = sorted(took for _, took in answers)
         self.refused = sum(refused for _, refused in got)
         self.rate = len(answers) / seconds
@@ -157,9 +179,9 @@ class Load:
         self.silence = max((b - a for a, b in zip(moments, moments[1:])), default=seconds)
 
     def part(self, share):
-        """The time within which this share of the puts was answered, in milliseconds."""
+        """The time within which this share was answered, in milliseconds."""
         return self.times[min(int(len(self.times) * share), len(self.times) - 1)] * 1e3 if self.times else float("nan")
 
     def __str__(self):
-        return (f"{self.rate:8.0f} puts a second, p50 {self.part(0.5):7.2f} ms, p99 {self.part(0.99):7.2f} ms, longest silence "
+        return (f"{self.rate:8.0f} {self.asks} a second, p50 {self.part(0.5):7.2f} ms, p99 {self.part(0.99):7.2f} ms, longest silence "
                 f"{self.silence * 1e3:6.0f} ms, {self.refused} asked again")

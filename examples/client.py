@@ -1,10 +1,11 @@
 #!/usr/bin/env python3
 """A client of a cluster's key-value service.
 
-    client.py HOST:PORT[,HOST:PORT..] put KEY VALUE | del KEY | get KEY | cas KEY OLD NEW
+    client.py HOST:PORT[,HOST:PORT..] put KEY VALUE | del KEY | get KEY | cas KEY OLD NEW | read KEY
 
-It asks one node after the other until a node answers, each time under the same number, so that the command takes effect
-once at most, however often it is sent. Written from docs/FORMATS.md alone.
+It asks one node after the other until a node answers, each time under the same number, so that a command takes effect
+once at most, however often it is sent. A `get` stands in the log, and any node takes it; a `read` doesn't, and only the node
+that leads answers it: the others say that they don't lead. Written from docs/FORMATS.md alone.
 """
 import random
 import socket
@@ -12,6 +13,7 @@ import struct
 import sys
 import time
 
+COMMAND, READ = 1, 6  # a request's tag
 TAGS = {"put": 1, "del": 2, "get": 3, "cas": 4}
 DONE, VALUE, ABSENT, STALE = 1, 2, 3, 4  # a reply's tag
 SILENCE, PAUSE = 3.0, 0.1  # seconds: that an answer is waited for, and between two tries
@@ -19,7 +21,14 @@ SILENCE, PAUSE = 3.0, 0.1  # seconds: that an answer is waited for, and between 
 
 def entry(client, number, operation, key, *values):
     texts = b"".join(struct.pack(">H", len(value)) + value for value in values)
-    return struct.pack(">BQQBB", 1, client, number, TAGS[operation], len(key)) + key + texts
+    return struct.pack(">BQQBB", COMMAND, client, number, TAGS[operation], len(key)) + key + texts
+
+
+def request(client, number, operation, key, *values):
+    """The body of a read, or of a command."""
+    if operation == "read":
+        return struct.pack(">BQQB", READ, client, number, len(key)) + key
+    return entry(client, number, operation, key, *values)
 
 
 def exactly(connection, count):
@@ -45,7 +54,7 @@ class Client:
         self.connection.sendall(b"C")
 
     def once(self, body):
-        """One try: the reply's tag and what follows it, if it answers this command."""
+        """One try: the reply's tag and what follows it, if it answers this request."""
         if self.connection is None:
             self.connect()
         self.connection.sendall(struct.pack(">I", len(body)) + body)
@@ -58,7 +67,7 @@ class Client:
     def ask(self, operation, *texts):
         """The value, True for done, or None for absent; it tries until a node answers."""
         self.number += 1
-        body = entry(self.client, self.number, operation, *texts)
+        body = request(self.client, self.number, operation, *texts)
         while True:
             try:
                 tag, rest = self.once(body)
@@ -66,7 +75,7 @@ class Client:
                     return {DONE: True, VALUE: rest[2:], ABSENT: None, STALE: False}[tag]
             except OSError:
                 pass
-            # Refused, given up or not reached: the next node.
+            # Refused, given up, not led or not reached: the next node.
             self.addresses = self.addresses[1:] + self.addresses[:1]
             if self.connection:
                 self.connection.close()
