@@ -197,11 +197,11 @@ const WAITING: [(&[u8], &[u8], &[u8], &[Conduct]); 2] = [
 ];
 
 /// The first connection with which it goes otherwise.
-fn otherwise(
+fn otherwise<'a>(
     alloc: Global,
-    first: &[u8],
-    second: &[u8],
-    said: &[u8],
+    first: &'a [u8],
+    second: &'a [u8],
+    said: &'a [u8],
     conns: &[Conduct],
 ) -> Result<Option<Conn>, Fail> {
     let steps = [
