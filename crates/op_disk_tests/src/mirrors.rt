@@ -82,7 +82,7 @@ fn a_copy_that_fails_in_an_opening_is_out(rt: HostRuntime) -> Result<(), Fail> {
         // Once the first copy has failed only the second one's sync is left.
         (1, 0, (false, 1, one), (true, 1, two)),
         (2, 0, (false, 2, one), (true, 1, two)),
-        (3, 0, (false, 3, one), (true, 3, two)),
+        (3, 0, (false, 3, one), (true, 2, two)),
         // Once the second one has failed nothing is left.
         (0, 1, (true, 2, one), (false, 1, two)),
         (0, 2, (true, 3, one), (false, 2, two)),
