@@ -72,6 +72,7 @@ deed_in Known ms (what.Down p q) each fit known = fit.1
 deed_in Known ms (what.Crash p) each fit known = tt
 deed_in Known ms (what.CrashAt p call image) each fit known = tt
 deed_in Known ms (what.Fail p call) each fit known = tt
+deed_in Known ms (what.Kill p disk) each fit known = tt
 deed_in Known ms (what.Start p) each fit known = tt
 deed_in Known ms (what.Show p) each fit known = tt
 deed_in Known ms (what.Ballots p) each fit known = tt

@@ -45,6 +45,7 @@ deed_possible ids ms sent (what.Down p q) each can fit = record { pid = (and_par
 deed_possible ids ms sent (what.Crash p) each can fit = record { pid = can; doing = tt }
 deed_possible ids ms sent (what.CrashAt p call image) each can fit = tt
 deed_possible ids ms sent (what.Fail p call) each can fit = tt
+deed_possible ids ms sent (what.Kill p disk) each can fit = tt
 deed_possible ids ms sent (what.Start p) each can fit = record { pid = can; doing = tt }
 deed_possible ids ms sent (what.Show p) each can fit = record { pid = can; doing = tt }
 deed_possible ids ms sent (what.Ballots p) each can fit = record { pid = can; doing = tt }

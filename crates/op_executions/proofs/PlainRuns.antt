@@ -1,6 +1,6 @@
--- A schedule that tells of no stop and no failure in a call of a disk: each of its events is done.
+-- A schedule that tells of no stop and no failure in a call of a disk, and kills none: each of its events is done.
 use Rattle.std.proofs.Common.{◌≡◌, ◌<◌, ◌⊎◌, inl, inr, ℕ, zero, suc, Bool, true, false, nat_eq, List, [], ◌∷◌, ◌++◌, length, Option, Some, None, All, slice_get, IfSome, if◌then◌else◌, refl, sym, ap, subst, ◌∙◌, arith}
-use Rattle.std.proofs.lemmas.Bool.{cond_both, ltb-true}
+use Rattle.std.proofs.lemmas.Bool.{cond_both, false≢true, ltb-true}
 use Rattle.std.proofs.lemmas.List.Elements.{All-nil, All-cons, All-head, All-tail, All-map}
 use Rattle.op_types.specs.declared.durable.Durable.{Durable}
 use Rattle.op_protocol.specs.State.{State, state_after}
@@ -8,10 +8,10 @@ use Rattle.op_protocol.specs.Rows.{step_plan}
 use Rattle.op_runs.specs.declared.events.Event.{Event}
 use Rattle.op_runs.specs.declared.events.What.{What}
 use Rattle.op_runs.specs.declared.events.What.TheVariants as what
-use Rattle.op_runs.specs.World.{World, Node, NodeStatus, Up, Down, Failed, Sent, Done, Happening, Doing, Steps, Stops, Opens, Tells, Deed, node_ids, first_node, first_world, node_at, with_node, deed_of, delivery, world_opening, world_by_status, world_at_node, world_with, world_after, run_of, done_event, all_done}
+use Rattle.op_runs.specs.World.{World, Node, NodeStatus, Up, Down, Failed, Sent, Fate, Done, Happening, Doing, Steps, Stops, Opens, Tells, Deed, node_ids, first_node, first_world, node_at, with_node, deed_of, delivery, world_opening, world_by_status, world_at_node, world_with, world_after, run_of, done_event, all_done}
 use Rattle.op_runs.specs.Run.{Execution, execution_with, execution_of, first_execution, machine_showing_all, machine_proposing_by}
 use Rattle.op_runs.specs.Possible.{is_possible, is_possible_in, ArePossibleFrom}
-use Rattle.op_runs.specs.Schedules.{Awaited, Nothing, Awaiting, nothing_awaits, awaiting_with, is_awaited, happening_of, MayBecome, BecomesAt, BecomesBy, Becomes, drops, awaiting_by, awaiting_after, RunsFrom, FailsFrom, TellsNoFault}
+use Rattle.op_runs.specs.Schedules.{Nothing, DiskPlan, DiskPlans, no_plan, no_plans, plans_with, awaiting, is_lost, is_awaited, CallsDisks, happening_of, MayEnd, happenings_of, BecomesAt, BecomesBy, Becomes, drops, plans_by, plans_after, RunsFrom, FailsFrom, TellsNoFault}
 use Rattle.op_executions.specs.PlainRuns.{ArePlain, PlainRunsAreDone, PlainEventsCanBeDone, PlainRunsAreNotRefused, PlainRefusalsAreOne}
 use Rattle.op_executions.proofs.Deeds.{node_found}
 
@@ -83,23 +83,25 @@ pub stays_plain : (o : Option Deed) (e : Event) (w : World) → StopsBetween w �
 stays_plain None e w each = each
 stays_plain (Some x) e w each = stays_at (node_at w.nodes x.pid) x.doing e w (node_found IsPlain w.nodes x.pid each) each
 
--- ---- where nothing awaits any node
+-- ---- where nothing is planned for any node's disks
 
-abbrev pub NothingAwaits : Awaiting → Type 0
-NothingAwaits awaiting = (pid : ℕ) → awaiting pid ≡ Nothing
+abbrev pub NothingIsPlanned : DiskPlans → Type 0
+NothingIsPlanned plans = (pid : ℕ) → plans pid ≡ no_plan
 
-nothing_with : (awaiting : Awaiting) (pid : ℕ) → NothingAwaits awaiting → NothingAwaits (awaiting_with awaiting pid Nothing)
-nothing_with awaiting pid none q = cond_both (nat_eq q pid) Nothing (awaiting q) (λ (x : Awaited). x ≡ Nothing) (λ here. refl) (λ away. none q)
+nothing_with : (plans : DiskPlans) (pid : ℕ) → NothingIsPlanned plans → NothingIsPlanned (plans_with plans pid (awaiting (plans pid) Nothing))
+nothing_with plans pid none q =
+    cond_both (nat_eq q pid) (awaiting (plans pid) Nothing) (plans q) (λ (x : DiskPlan). x ≡ no_plan) (λ here. ap (λ (x : DiskPlan). awaiting x Nothing) (none pid)) (λ away. none q)
 
-nothing_by : (o : Option Deed) (w : World) (awaiting : Awaiting) → NothingAwaits awaiting → NothingAwaits (awaiting_by o w awaiting)
-nothing_by None w awaiting none = none
-nothing_by (Some x) w awaiting none =
-    cond_both (drops x.doing (node_at w.nodes x.pid)) (awaiting_with awaiting x.pid Nothing) awaiting NothingAwaits (λ here. nothing_with awaiting x.pid none) (λ away. none)
+nothing_by : (o : Option Deed) (w : World) (plans : DiskPlans) → NothingIsPlanned plans → NothingIsPlanned (plans_by o w plans)
+nothing_by None w plans none = none
+nothing_by (Some x) w plans none =
+    cond_both (drops x.doing (node_at w.nodes x.pid)) (plans_with plans x.pid (awaiting (plans x.pid) Nothing)) plans NothingIsPlanned (λ here. nothing_with plans x.pid none) (λ away. none)
 
-pub nothing_after : (w : World) (awaiting : Awaiting) (x : What) → TellsNoFault x → NothingAwaits awaiting → NothingAwaits (awaiting_after w awaiting x)
-nothing_after w awaiting (what.CrashAt p call image) plain none = absurd plain
-nothing_after w awaiting (what.Fail p call) plain none = absurd plain
-nothing_after w awaiting x plain none = nothing_by (deed_of w.messages x) w awaiting none
+pub nothing_after : (w : World) (plans : DiskPlans) (x : What) → TellsNoFault x → NothingIsPlanned plans → NothingIsPlanned (plans_after w plans x)
+nothing_after w plans (what.CrashAt p call image) plain none = absurd plain
+nothing_after w plans (what.Fail p call) plain none = absurd plain
+nothing_after w plans (what.Kill p disk) plain none = absurd plain
+nothing_after w plans x plain none = nothing_by (deed_of w.messages x) w plans none
 
 -- ---- so an event becomes one happening, which is done
 
@@ -117,6 +119,7 @@ does : (nodes : List ℕ) (messages : List Sent) (x : What) → TellsNoFault x �
 does nodes messages (what.Deliver i) plain can = delivers messages i (ltb-true i (length messages) can)
 does nodes messages (what.CrashAt p call image) plain can = absurd plain
 does nodes messages (what.Fail p call) plain can = absurd plain
+does nodes messages (what.Kill p disk) plain can = absurd plain
 does nodes messages x plain can = record { deed = _; is = refl }
 
 -- it is done, with whichever state an opening is said to find
@@ -124,19 +127,53 @@ pub record IsDone (e : Event) (hs : List Happening) : Type 0 where
   pub finds_after : Bool
   pub is : hs ≡ happening_of e Done finds_after ∷ []
 
-nothing_awaited : (b : Bool) (x : Awaited) → x ≡ Nothing → (if b then x else Nothing) ≡ Nothing
-nothing_awaited true x none = none
-nothing_awaited false x none = refl
+-- no area is lost
+none_lost : (mirrored : Bool) → is_lost mirrored no_plan ≡ false
+none_lost false = refl
+none_lost true = refl
 
-done_at : (o : Option Node) (x : Awaited) (d : Doing) (e : Event) (hs : List Happening) → x ≡ Nothing → BecomesAt o x d e hs → IsDone e hs
-done_at None x d e hs none becomes = record { finds_after = false; is = becomes }
-done_at (Some n) x d e hs none becomes =
-    record { finds_after = becomes.0; is = subst (λ (y : Awaited). MayBecome y e n d becomes.0 hs) (nothing_awaited (is_awaited n.status d) x none) becomes.1 }
+nothing_for : (b : Bool) (x : DiskPlan) → x ≡ no_plan → (if b then x else no_plan) ≡ no_plan
+nothing_for true x none = none
+nothing_for false x none = refl
 
-pub done_one : (nodes : List ℕ) (w : World) (awaiting : Awaiting) (e : Event) (hs : List Happening) → NothingAwaits awaiting → TellsNoFault e.what → is_possible_in nodes w e ≡ true → Becomes w awaiting e hs → IsDone e hs
-done_one nodes w awaiting e hs none plain can becomes =
-    let one : IsDeed (deed_of w.messages e.what) = does nodes w.messages e.what plain can in
-    done_at (node_at w.nodes (one.deed).pid) (awaiting (one.deed).pid) (one.deed).doing e hs (none (one.deed).pid) (subst (λ (o : Option Deed). BecomesBy o w awaiting e hs) one.is becomes)
+-- so what is done ends in one way
+ends_done : (lost : Bool) (calls : Type 0) (fate : Fate) (is_due : Bool) → lost ≡ false → MayEnd Nothing lost calls fate is_due → (fate ≡ Done) × (is_due ≡ false)
+ends_done lost calls fate is_due none (inl done, due) = (done, due)
+ends_done lost calls fate is_due none (inr failed, due) = absurd (false≢true (sym none ∙ failed.0))
+
+-- how what is done may end by a plan for the node's disks
+abbrev EndsBy : Bool → Node → Doing → Fate → Bool → DiskPlan → Type 0
+EndsBy mirrored n d fate is_due plan = MayEnd plan.awaited (is_lost mirrored plan) (CallsDisks n d) fate is_due
+
+done_at : (mirrored : Bool) (o : Option Node) (x : DiskPlan) (d : Doing) (e : Event) (hs : List Happening) → x ≡ no_plan → BecomesAt mirrored o x d e hs → IsDone e hs
+done_at mirrored None x d e hs none becomes = record { finds_after = false; is = becomes }
+done_at mirrored (Some n) x d e hs none becomes =
+    let fate : Fate = becomes.0 in
+    let is_due : Bool = becomes.1 in
+    let ends : EndsBy mirrored n d fate is_due no_plan = subst (EndsBy mirrored n d fate is_due) (nothing_for (is_awaited n.status d) x none) becomes.3.0 in
+    let one = ends_done (is_lost mirrored no_plan) (CallsDisks n d) fate is_due (none_lost mirrored) ends in
+    record {
+      finds_after = becomes.2;
+      is = becomes.3.1 ∙ ap (λ (f : Fate). happenings_of e n.pid f is_due becomes.2) one.0 ∙ ap (λ (due : Bool). happenings_of e n.pid Done due becomes.2) one.1;
+    }
+
+is_done_at : (mirrored : Bool) (o : Option Node) (x : DiskPlan) (d : Doing) (e : Event) → x ≡ no_plan → BecomesAt mirrored o x d e (done_event e ∷ [])
+is_done_at mirrored None x d e none = refl
+is_done_at mirrored (Some n) x d e none =
+    (Done, false, false, (subst (EndsBy mirrored n d Done false) (sym (nothing_for (is_awaited n.status d) x none)) (inl refl, refl), refl))
+
+module _ (mirrored : Bool) (nodes : List ℕ) where
+  pub done_one : (w : World) (plans : DiskPlans) (e : Event) (hs : List Happening) → NothingIsPlanned plans → TellsNoFault e.what → is_possible_in nodes w e ≡ true → Becomes mirrored w plans e hs → IsDone e hs
+  done_one w plans e hs none plain can becomes =
+      let one : IsDeed (deed_of w.messages e.what) = does nodes w.messages e.what plain can in
+      done_at mirrored (node_at w.nodes (one.deed).pid) (plans (one.deed).pid) (one.deed).doing e hs (none (one.deed).pid)
+      (subst (λ (o : Option Deed). BecomesBy mirrored o w plans e hs) one.is becomes)
+
+  pub is_done : (w : World) (plans : DiskPlans) (e : Event) → NothingIsPlanned plans → TellsNoFault e.what → is_possible_in nodes w e ≡ true → Becomes mirrored w plans e (done_event e ∷ [])
+  is_done w plans e none plain can =
+      let one : IsDeed (deed_of w.messages e.what) = does nodes w.messages e.what plain can in
+      subst (λ (o : Option Deed). BecomesBy mirrored o w plans e (done_event e ∷ [])) (sym one.is)
+      (is_done_at mirrored (node_at w.nodes (one.deed).pid) (plans (one.deed).pid) (one.deed).doing e (none (one.deed).pid))
 
 -- ---- runs
 
@@ -147,90 +184,80 @@ with_world t e w = record { world = w; machine = machine_showing_all (machine_pr
 pub same_execution : (t : Execution) (e : Event) (b : Bool) → StopsBetween t.world → execution_with t (happening_of e Done b) ≡ execution_with t (done_event e)
 same_execution t e b each = ap (λ (w : World). with_world t e w) (same_deed (deed_of t.world.messages e.what) e b t.world each)
 
--- no event tells of a stop or a failure in a call of a disk, nothing awaits any node, and each stops between two steps
-pub record PlainFrom (w : World) (awaiting : Awaiting) (events : List Event) : Type 0 where
+-- no event tells of a stop or a failure in a call of a disk or kills one, nothing is planned, and each node stops between two steps
+pub record PlainFrom (w : World) (plans : DiskPlans) (events : List Event) : Type 0 where
   pub stops : StopsBetween w
-  pub nothing : NothingAwaits awaiting
+  pub nothing : NothingIsPlanned plans
   pub events_are : ArePlain events
 
-pub plain_first : (members spares : List ℕ) (events : List Event) → ArePlain events → PlainFrom (first_world members spares) nothing_awaits events
+pub plain_first : (members spares : List ℕ) (events : List Event) → ArePlain events → PlainFrom (first_world members spares) no_plans events
 plain_first members spares events plain = record { stops = first_plain members spares; nothing = λ pid. refl; events_are = plain }
 
-module _ (nodes : List ℕ) (w : World) (awaiting : Awaiting) (e : Event) (events : List Event) (p : PlainFrom w awaiting (e ∷ events)) where
+module _ (mirrored : Bool) (nodes : List ℕ) (w : World) (plans : DiskPlans) (e : Event) (events : List Event) (p : PlainFrom w plans (e ∷ events)) where
   quiet : TellsNoFault e.what
   quiet = All-head (λ (x : Event). TellsNoFault x.what) e events p.events_are
 
-  pub plain_next : PlainFrom (world_after w (done_event e)) (awaiting_after w awaiting e.what) events
+  pub plain_next : PlainFrom (world_after w (done_event e)) (plans_after w plans e.what) events
   plain_next = record {
     stops = stays_plain (deed_of w.messages e.what) e w p.stops;
-    nothing = nothing_after w awaiting e.what quiet p.nothing;
+    nothing = nothing_after w plans e.what quiet p.nothing;
     events_are = All-tail (λ (x : Event). TellsNoFault x.what) e events p.events_are;
   }
 
   -- what the event may become is that it is done
-  pub becomes_done : (now : List Happening) → is_possible_in nodes w e ≡ true → Becomes w awaiting e now → IsDone e now
-  becomes_done now can becomes = done_one nodes w awaiting e now p.nothing quiet can becomes
+  pub becomes_done : (now : List Happening) → is_possible_in nodes w e ≡ true → Becomes mirrored w plans e now → IsDone e now
+  becomes_done now can becomes = done_one mirrored nodes w plans e now p.nothing quiet can becomes
 
-  pub world_done : (now : List Happening) → is_possible_in nodes w e ≡ true → Becomes w awaiting e now → run_of w now ≡ world_after w (done_event e)
+  pub world_done : (now : List Happening) → is_possible_in nodes w e ≡ true → Becomes mirrored w plans e now → run_of w now ≡ world_after w (done_event e)
   world_done now can becomes =
       let one : IsDone e now = becomes_done now can becomes in
       ap (λ (xs : List Happening). run_of w xs) one.is ∙ same_deed (deed_of w.messages e.what) e one.finds_after w p.stops
 
-plain_from : (nodes : List ℕ) (t : Execution) (awaiting : Awaiting) (events : List Event) (hs : List Happening) → PlainFrom t.world awaiting events → RunsFrom nodes t.world awaiting events hs
+plain_from : (mirrored : Bool) (nodes : List ℕ) (t : Execution) (plans : DiskPlans) (events : List Event) (hs : List Happening) → PlainFrom t.world plans events → RunsFrom mirrored nodes t.world plans events hs
     → execution_of t hs ≡ execution_of t (all_done events)
-plain_from nodes t awaiting [] hs p run = ap (λ (xs : List Happening). execution_of t xs) run
-plain_from nodes t awaiting (e ∷ events) hs p run =
+plain_from mirrored nodes t plans [] hs p run = ap (λ (xs : List Happening). execution_of t xs) run
+plain_from mirrored nodes t plans (e ∷ events) hs p run =
     let now = run.0 in
     let later = run.1 in
-    let one : IsDone e now = becomes_done nodes t.world awaiting e events p now run.3 run.4 in
+    let one : IsDone e now = becomes_done mirrored nodes t.world plans e events p now run.3 run.4 in
     let h : Happening = happening_of e Done one.finds_after in
     let u : Execution = execution_with t (done_event e) in
     let is : hs ≡ h ∷ later = run.2 ∙ ap (λ (xs : List Happening). xs ++ later) one.is in
-    let world : run_of t.world now ≡ u.world = world_done nodes t.world awaiting e events p now run.3 run.4 in
-    let rest : RunsFrom nodes u.world (awaiting_after t.world awaiting e.what) events later = subst (λ (w : World). RunsFrom nodes w (awaiting_after t.world awaiting e.what) events later) world run.5 in
+    let world : run_of t.world now ≡ u.world = world_done mirrored nodes t.world plans e events p now run.3 run.4 in
+    let rest : RunsFrom mirrored nodes u.world (plans_after t.world plans e.what) events later = subst (λ (w : World). RunsFrom mirrored nodes w (plans_after t.world plans e.what) events later) world run.5 in
     ap (λ (xs : List Happening). execution_of t xs) is ∙ ap (λ (v : Execution). execution_of v later) (same_execution t e one.finds_after p.stops)
-    ∙ plain_from nodes u (awaiting_after t.world awaiting e.what) events later (plain_next nodes t.world awaiting e events p) rest
+    ∙ plain_from mirrored nodes u (plans_after t.world plans e.what) events later (plain_next mirrored nodes t.world plans e events p) rest
 
 pub plain_runs_are_done : PlainRunsAreDone
-plain_runs_are_done members spares events hs plain run =
-    plain_from (node_ids members spares) (first_execution members spares) nothing_awaits events hs (plain_first members spares events plain) run
+plain_runs_are_done members spares mirrored events hs plain run =
+    plain_from mirrored (node_ids members spares) (first_execution members spares) no_plans events hs (plain_first members spares events plain) run
 
 -- ---- each event done
 
-possible_from : (nodes : List ℕ) (w : World) (awaiting : Awaiting) (events : List Event) (hs : List Happening) → PlainFrom w awaiting events → RunsFrom nodes w awaiting events hs → ArePossibleFrom nodes w events
-possible_from nodes w awaiting [] hs p run = tt
-possible_from nodes w awaiting (e ∷ events) hs p run =
-    let next : Awaiting = awaiting_after w awaiting e.what in (
+possible_from : (mirrored : Bool) (nodes : List ℕ) (w : World) (plans : DiskPlans) (events : List Event) (hs : List Happening) → PlainFrom w plans events → RunsFrom mirrored nodes w plans events hs → ArePossibleFrom nodes w events
+possible_from mirrored nodes w plans [] hs p run = tt
+possible_from mirrored nodes w plans (e ∷ events) hs p run =
+    let next : DiskPlans = plans_after w plans e.what in (
       run.3,
-      possible_from nodes (world_after w (done_event e)) next events run.1 (plain_next nodes w awaiting e events p)
-          (subst (λ (x : World). RunsFrom nodes x next events run.1) (world_done nodes w awaiting e events p run.0 run.3 run.4) run.5),
+      possible_from mirrored nodes (world_after w (done_event e)) next events run.1 (plain_next mirrored nodes w plans e events p)
+          (subst (λ (x : World). RunsFrom mirrored nodes x next events run.1) (world_done mirrored nodes w plans e events p run.0 run.3 run.4) run.5),
     )
 
-is_done_at : (o : Option Node) (x : Awaited) (d : Doing) (e : Event) → x ≡ Nothing → BecomesAt o x d e (done_event e ∷ [])
-is_done_at None x d e none = refl
-is_done_at (Some n) x d e none = (false, subst (λ (y : Awaited). MayBecome y e n d false (done_event e ∷ [])) (sym (nothing_awaited (is_awaited n.status d) x none)) refl)
-
-pub is_done : (nodes : List ℕ) (w : World) (awaiting : Awaiting) (e : Event) → NothingAwaits awaiting → TellsNoFault e.what → is_possible_in nodes w e ≡ true → Becomes w awaiting e (done_event e ∷ [])
-is_done nodes w awaiting e none plain can =
-    let one : IsDeed (deed_of w.messages e.what) = does nodes w.messages e.what plain can in
-    subst (λ (o : Option Deed). BecomesBy o w awaiting e (done_event e ∷ [])) (sym one.is)
-    (is_done_at (node_at w.nodes (one.deed).pid) (awaiting (one.deed).pid) (one.deed).doing e (none (one.deed).pid))
-
-done_from : (nodes : List ℕ) (w : World) (awaiting : Awaiting) (events : List Event) → PlainFrom w awaiting events → ArePossibleFrom nodes w events → RunsFrom nodes w awaiting events (all_done events)
-done_from nodes w awaiting [] p can = refl
-done_from nodes w awaiting (e ∷ events) p can = (
+done_from : (mirrored : Bool) (nodes : List ℕ) (w : World) (plans : DiskPlans) (events : List Event) → PlainFrom w plans events → ArePossibleFrom nodes w events → RunsFrom mirrored nodes w plans events (all_done events)
+done_from mirrored nodes w plans [] p can = refl
+done_from mirrored nodes w plans (e ∷ events) p can = (
   done_event e ∷ [],
   all_done events,
   refl,
   can.0,
-  is_done nodes w awaiting e p.nothing (quiet nodes w awaiting e events p) can.0,
-  done_from nodes (world_after w (done_event e)) (awaiting_after w awaiting e.what) events (plain_next nodes w awaiting e events p) can.1,
+  is_done mirrored nodes w plans e p.nothing (quiet mirrored nodes w plans e events p) can.0,
+  done_from mirrored nodes (world_after w (done_event e)) (plans_after w plans e.what) events (plain_next mirrored nodes w plans e events p) can.1,
 )
 
 pub plain_events_can_be_done : PlainEventsCanBeDone
-plain_events_can_be_done members spares events hs plain run =
+plain_events_can_be_done members spares mirrored events hs plain run =
     let first = plain_first members spares events plain in
-    done_from (node_ids members spares) (first_world members spares) nothing_awaits events first (possible_from (node_ids members spares) (first_world members spares) nothing_awaits events hs first run)
+    done_from mirrored (node_ids members spares) (first_world members spares) no_plans events first (possible_from mirrored (node_ids members spares) (first_world members spares) no_plans events hs first run)
 
 -- ---- refusals
 
@@ -240,16 +267,16 @@ IsFirstBadFrom nodes w [] i = ⊥
 IsFirstBadFrom nodes w (e ∷ es) i =
     ((i ≡ 0) × (is_possible_in nodes w e ≡ false)) ⊎ ((j : ℕ) × (i ≡ suc j) × (is_possible_in nodes w e ≡ true) × IsFirstBadFrom nodes (world_after w (done_event e)) es j)
 
-bad_from : (nodes : List ℕ) (w : World) (awaiting : Awaiting) (events : List Event) (i : ℕ) → PlainFrom w awaiting events → FailsFrom nodes w awaiting events i → IsFirstBadFrom nodes w events i
-bad_from nodes w awaiting [] i p bad = bad
-bad_from nodes w awaiting (e ∷ events) i p (inl bad) = inl bad
-bad_from nodes w awaiting (e ∷ events) i p (inr bad) =
-    let next : Awaiting = awaiting_after w awaiting e.what in inr (
+bad_from : (mirrored : Bool) (nodes : List ℕ) (w : World) (plans : DiskPlans) (events : List Event) (i : ℕ) → PlainFrom w plans events → FailsFrom mirrored nodes w plans events i → IsFirstBadFrom nodes w events i
+bad_from mirrored nodes w plans [] i p bad = bad
+bad_from mirrored nodes w plans (e ∷ events) i p (inl bad) = inl bad
+bad_from mirrored nodes w plans (e ∷ events) i p (inr bad) =
+    let next : DiskPlans = plans_after w plans e.what in inr (
       bad.0,
       bad.1,
       bad.2,
-      bad_from nodes (world_after w (done_event e)) next events bad.0 (plain_next nodes w awaiting e events p)
-          (subst (λ (x : World). FailsFrom nodes x next events bad.0) (world_done nodes w awaiting e events p bad.3 bad.2 bad.4) bad.5),
+      bad_from mirrored nodes (world_after w (done_event e)) next events bad.0 (plain_next mirrored nodes w plans e events p)
+          (subst (λ (x : World). FailsFrom mirrored nodes x next events bad.0) (world_done mirrored nodes w plans e events p bad.3 bad.2 bad.4) bad.5),
     )
 
 none_bad : (nodes : List ℕ) (w : World) (events : List Event) (i : ℕ) → ArePossibleFrom nodes w events → IsFirstBadFrom nodes w events i → ⊥
@@ -265,15 +292,15 @@ one_bad nodes w (e ∷ events) i j (inr bad) (inl worse) = absurd (let both : tr
 one_bad nodes w (e ∷ events) i j (inr bad) (inr worse) = bad.1 ∙ ap suc (one_bad nodes (world_after w (done_event e)) events bad.0 worse.0 bad.3 worse.3) ∙ sym worse.1
 
 pub plain_runs_are_not_refused : PlainRunsAreNotRefused
-plain_runs_are_not_refused members spares events hs i plain run bad =
+plain_runs_are_not_refused members spares mirrored events hs i plain run bad =
     let first = plain_first members spares events plain in
     let nodes = node_ids members spares in
     let w = first_world members spares in
-    none_bad nodes w events i (possible_from nodes w nothing_awaits events hs first run) (bad_from nodes w nothing_awaits events i first bad)
+    none_bad nodes w events i (possible_from mirrored nodes w no_plans events hs first run) (bad_from mirrored nodes w no_plans events i first bad)
 
 pub plain_refusals_are_one : PlainRefusalsAreOne
-plain_refusals_are_one members spares events i j plain bad worse =
+plain_refusals_are_one members spares mirrored events i j plain bad worse =
     let first = plain_first members spares events plain in
     let nodes = node_ids members spares in
     let w = first_world members spares in
-    one_bad nodes w events i j (bad_from nodes w nothing_awaits events i first bad) (bad_from nodes w nothing_awaits events j first worse)
+    one_bad nodes w events i j (bad_from mirrored nodes w no_plans events i first bad) (bad_from mirrored nodes w no_plans events j first worse)

@@ -1,51 +1,51 @@
 -- A run of a schedule's events, one after the other.
-use Rattle.std.proofs.Common.{◌≡◌, ◌+◌, ℕ, suc, true, false, List, [], ◌∷◌, ◌++◌, length, refl, sym, ap, subst, ◌∙◌, inl, inr, arith, append_assoc, length-append}
+use Rattle.std.proofs.Common.{◌≡◌, ◌+◌, ℕ, suc, Bool, true, false, List, [], ◌∷◌, ◌++◌, length, refl, sym, ap, subst, ◌∙◌, inl, inr, arith, append_assoc, length-append}
 use Rattle.std.proofs.lemmas.List.{append-nil}
 use Rattle.op_runs.specs.declared.events.Event.{Event}
 use Rattle.op_runs.specs.World.{World, Happening, node_ids, first_world, run_of}
 use Rattle.op_runs.specs.Possible.{is_possible_in}
-use Rattle.op_runs.specs.Schedules.{Awaiting, nothing_awaits, Becomes, awaiting_after, RunsFrom, FailsFrom, IsRunOf, IsFirstRefused}
+use Rattle.op_runs.specs.Schedules.{DiskPlans, no_plans, Becomes, plans_after, RunsFrom, FailsFrom, IsRunOf, IsFirstRefused}
 use Rattle.op_laws.proofs.Reached.{run_append}
 
--- These events became these happenings, which came to this world, with what awaits its nodes: what more events become
+-- These events became these happenings, which came to this world, with what is planned for its nodes' disks: what more events become
 -- from here on comes behind them.
-pub record ComesTo (members spares : List ℕ) (w : World) (awaiting : Awaiting) (events : List Event) (hs : List Happening) : Type 0 where
+pub record ComesTo (members spares : List ℕ) (mirrored : Bool) (w : World) (plans : DiskPlans) (events : List Event) (hs : List Happening) : Type 0 where
   pub world : w ≡ run_of (first_world members spares) hs
-  pub runs : (more : List Event) (later : List Happening) → RunsFrom (node_ids members spares) w awaiting more later → IsRunOf members spares (events ++ more) (hs ++ later)
-  pub fails : (more : List Event) (i : ℕ) → FailsFrom (node_ids members spares) w awaiting more i → IsFirstRefused members spares (events ++ more) (length events + i)
+  pub runs : (more : List Event) (later : List Happening) → RunsFrom mirrored (node_ids members spares) w plans more later → IsRunOf members spares mirrored (events ++ more) (hs ++ later)
+  pub fails : (more : List Event) (i : ℕ) → FailsFrom mirrored (node_ids members spares) w plans more i → IsFirstRefused members spares mirrored (events ++ more) (length events + i)
 
-module _ (members spares : List ℕ) where
-  pub comes_first : ComesTo members spares (first_world members spares) nothing_awaits [] []
+module _ (members spares : List ℕ) (mirrored : Bool) where
+  pub comes_first : ComesTo members spares mirrored (first_world members spares) no_plans [] []
   comes_first = record {
     world = refl;
     runs = λ more later run. run;
-    fails = λ more i bad. let whole : i ≡ 0 + i = omega arith in subst (λ (j : ℕ). IsFirstRefused members spares more j) whole bad;
+    fails = λ more i bad. let whole : i ≡ 0 + i = omega arith in subst (λ (j : ℕ). IsFirstRefused members spares mirrored more j) whole bad;
   }
 
-  module _ (w : World) (awaiting : Awaiting) (events : List Event) (hs : List Happening) (c : ComesTo members spares w awaiting events hs) where
+  module _ (w : World) (plans : DiskPlans) (events : List Event) (hs : List Happening) (c : ComesTo members spares mirrored w plans events hs) where
     -- one event more
-    pub comes_next : (e : Event) (now : List Happening) → is_possible_in (node_ids members spares) w e ≡ true → Becomes w awaiting e now
-        → ComesTo members spares (run_of w now) (awaiting_after w awaiting e.what) (events ++ e ∷ []) (hs ++ now)
+    pub comes_next : (e : Event) (now : List Happening) → is_possible_in (node_ids members spares) w e ≡ true → Becomes mirrored w plans e now
+        → ComesTo members spares mirrored (run_of w now) (plans_after w plans e.what) (events ++ e ∷ []) (hs ++ now)
     comes_next e now can becomes = record {
       world = ap (λ (x : World). run_of x now) c.world ∙ sym (run_append (first_world members spares) hs now);
       runs = λ more later run.
-          subst (λ (xs : List Happening). IsRunOf members spares ((events ++ e ∷ []) ++ more) xs) (sym (append_assoc hs now later))
-          (subst (λ (es : List Event). IsRunOf members spares es (hs ++ (now ++ later))) (sym (append_assoc events (e ∷ []) more))
+          subst (λ (xs : List Happening). IsRunOf members spares mirrored ((events ++ e ∷ []) ++ more) xs) (sym (append_assoc hs now later))
+          (subst (λ (es : List Event). IsRunOf members spares mirrored es (hs ++ (now ++ later))) (sym (append_assoc events (e ∷ []) more))
           (c.runs (e ∷ more) (now ++ later) (now, later, refl, can, becomes, run)));
       fails = λ more i bad.
           let same : length events + suc i ≡ length (events ++ e ∷ []) + i = omega (arith, length-append events (e ∷ [])) in
-          subst (λ (j : ℕ). IsFirstRefused members spares ((events ++ e ∷ []) ++ more) j) same
-          (subst (λ (es : List Event). IsFirstRefused members spares es (length events + suc i)) (sym (append_assoc events (e ∷ []) more))
+          subst (λ (j : ℕ). IsFirstRefused members spares mirrored ((events ++ e ∷ []) ++ more) j) same
+          (subst (λ (es : List Event). IsFirstRefused members spares mirrored es (length events + suc i)) (sym (append_assoc events (e ∷ []) more))
           (c.fails (e ∷ more) (suc i) (inr (i, refl, can, now, becomes, bad))));
     }
 
     -- no event more
-    pub comes_whole : IsRunOf members spares events hs
+    pub comes_whole : IsRunOf members spares mirrored events hs
     comes_whole =
-        subst (λ (es : List Event). IsRunOf members spares es hs) (append-nil events) (subst (λ (xs : List Happening). IsRunOf members spares (events ++ []) xs) (append-nil hs) (c.runs [] [] refl))
+        subst (λ (es : List Event). IsRunOf members spares mirrored es hs) (append-nil events) (subst (λ (xs : List Happening). IsRunOf members spares mirrored (events ++ []) xs) (append-nil hs) (c.runs [] [] refl))
 
     -- an event that can't come, and whatever stands behind it
-    pub comes_refused : (e : Event) (rest : List Event) → is_possible_in (node_ids members spares) w e ≡ false → IsFirstRefused members spares (events ++ e ∷ rest) (length events)
+    pub comes_refused : (e : Event) (rest : List Event) → is_possible_in (node_ids members spares) w e ≡ false → IsFirstRefused members spares mirrored (events ++ e ∷ rest) (length events)
     comes_refused e rest cannot =
         let same : length events + 0 ≡ length events = omega arith in
-        subst (λ (j : ℕ). IsFirstRefused members spares (events ++ e ∷ rest) j) same (c.fails (e ∷ rest) 0 (inl (refl, cannot)))
+        subst (λ (j : ℕ). IsFirstRefused members spares mirrored (events ++ e ∷ rest) j) same (c.fails (e ∷ rest) 0 (inl (refl, cannot)))

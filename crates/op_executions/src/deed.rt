@@ -59,7 +59,7 @@ pub fn deed_of(alloc: Global, messages: &[Sent], what: What) -> Result<Option<De
             pid,
             doing: Doing::Stops,
         },
-        What::CrashAt(..) | What::Fail(..) => return Ok(None),
+        What::CrashAt(..) | What::Fail(..) | What::Kill(..) => return Ok(None),
         What::Start(pid) => Deed {
             pid,
             doing: Doing::Opens,

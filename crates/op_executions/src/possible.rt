@@ -17,6 +17,7 @@ pub fn is_possible(nodes: &[Pid], sent: u64, what: &What) -> bool
         | What::Crash(pid)
         | What::CrashAt(pid, ..)
         | What::Fail(pid, _)
+        | What::Kill(pid, _)
         | What::Start(pid)
         | What::Show(pid)
         | What::Ballots(pid) => is_among(nodes, *pid),

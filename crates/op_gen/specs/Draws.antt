@@ -1,5 +1,5 @@
 -- The events that a drill draws, by the words of a generator.
-use Rattle.std.specs.Prelude.{◌≡◌, ◌==◌, ◌+◌, ◌-◌, ◌%◌, ℕ, min, nat_lt, if◌then◌else◌, List, [], ◌∷◌, ◌++◌, length, codes, decimal}
+use Rattle.std.specs.Prelude.{◌≡◌, ◌==◌, ◌+◌, ◌-◌, ◌%◌, ℕ, min, nat_lt, if◌then◌else◌, Bool, false, List, [], ◌∷◌, ◌++◌, length, codes, decimal}
 use Rattle.rand_pcg.specs.Lcg.{Lcg, started, increment_of}
 use Rattle.rand_pcg.specs.Pcg.{multiplier_64, pcg32}
 use Rattle.op_types.specs.declared.log.Command.{Command}
@@ -9,7 +9,7 @@ use Rattle.op_runs.specs.declared.events.What.TheVariants as what
 use Rattle.op_runs.specs.declared.events.Event.{Event}
 use Rattle.op_runs.specs.World.{World, Happening, first_world, run_of}
 use Rattle.op_runs.specs.Possible.{images}
-use Rattle.op_runs.specs.Schedules.{Awaiting, nothing_awaits, Becomes, awaiting_after}
+use Rattle.op_runs.specs.Schedules.{DiskPlans, no_plans, Becomes, plans_after}
 use Rattle.op_gen.specs.declared.generator.Gen.{Gen}
 use Rattle.op_gen.specs.declared.kind.Kind.{Kind}
 use Rattle.op_gen.specs.declared.kind.Kind.TheVariants as kind
@@ -167,18 +167,21 @@ drill_nodes = 1 ∷ 2 ∷ 3 ∷ 4 ∷ 5 ∷ []
 abbrev pub gen_of : ℕ → Gen
 gen_of seed = record { words = words_of seed; number = 1 }
 
--- from this world on, where this awaits the nodes, each event is the next one that is drawn where those
--- before it happened, and they become these happenings
-abbrev pub DrawnFrom : World → Awaiting → Gen → List Event → List Happening → Type 0
-DrawnFrom w awaiting g [] hs = hs ≡ []
-DrawnFrom w awaiting g (e ∷ es) hs =
+-- a drill's disks are not mirrored
+abbrev pub drill_mirrored : Bool
+drill_mirrored = false
+
+-- from this world on, where this is planned for the nodes' disks, each event is the next one that is drawn
+-- where those before it happened, and they become these happenings
+abbrev pub DrawnFrom : World → DiskPlans → Gen → List Event → List Happening → Type 0
+DrawnFrom w plans g [] hs = hs ≡ []
+DrawnFrom w plans g (e ∷ es) hs =
     (now : List Happening) × (later : List Happening) × (hs ≡ now ++ later)
-    × (e ≡ (event_drawn (length w.messages) g).0) × Becomes w awaiting e now
-    × DrawnFrom (run_of w now) (awaiting_after w awaiting e.what)
-    (event_drawn (length w.messages) g).1 es later
+    × (e ≡ (event_drawn (length w.messages) g).0) × Becomes drill_mirrored w plans e now
+    × DrawnFrom (run_of w now) (plans_after w plans e.what) (event_drawn (length w.messages) g).1 es later
 
 -- a drill's events are these, so many, as its seed draws them where they become these happenings
 abbrev pub AreDrawn : ℕ → ℕ → List Event → List Happening → Type 0
 AreDrawn seed count events hs =
     (length events ≡ count)
-    × DrawnFrom (first_world drill_members drill_spares) nothing_awaits (gen_of seed) events hs
+    × DrawnFrom (first_world drill_members drill_spares) no_plans (gen_of seed) events hs

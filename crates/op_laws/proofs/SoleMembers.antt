@@ -148,6 +148,7 @@ deed_rises messages (what.Down p q) k = tt
 deed_rises messages (what.Crash p) k = tt
 deed_rises messages (what.CrashAt p call image) k = tt
 deed_rises messages (what.Fail p call) k = tt
+deed_rises messages (what.Kill p disk) k = tt
 deed_rises messages (what.Start p) k = tt
 deed_rises messages (what.Show p) k = tt
 deed_rises messages (what.Ballots p) k = tt

@@ -289,6 +289,7 @@ delivered_sent messages (what.Down r s) p q m e = absurd (false≢true (ap is_de
 delivered_sent messages (what.Crash r) p q m e = absurd (false≢true (ap is_delivery e))
 delivered_sent messages (what.CrashAt r call image) p q m e = absurd (false≢true (ap is_delivery e))
 delivered_sent messages (what.Fail r call) p q m e = absurd (false≢true (ap is_delivery e))
+delivered_sent messages (what.Kill r disk) p q m e = absurd (false≢true (ap is_delivery e))
 delivered_sent messages (what.Start r) p q m e = absurd (false≢true (ap is_delivery e))
 delivered_sent messages (what.Show r) p q m e = absurd (false≢true (ap is_delivery e))
 delivered_sent messages (what.Ballots r) p q m e = absurd (false≢true (ap is_delivery e))

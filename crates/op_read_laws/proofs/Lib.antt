@@ -1,7 +1,6 @@
 pub mod PlainSends
 pub mod Happened
 pub mod Moments
-pub mod Asking
 pub mod Holding
 pub mod NextMoment
 pub mod ReadsFresh

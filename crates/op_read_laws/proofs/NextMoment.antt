@@ -33,7 +33,7 @@ use Rattle.op_laws.proofs.Moves.{JoiningIsAbove, IfKept, Moves, step_moves}
 use Rattle.op_laws.proofs.Reached.{joining_above}
 use Rattle.op_read_laws.proofs.Happened.{Acts, Happened, Rested, Halted, Acted, Begun, Becomes, Stayed, Stepped, Opened, becomes}
 use Rattle.op_read_laws.proofs.Moments.{Followed, world_at, ks, Seat, seen, node_rel, members_stay, Promises, Leads, leader_promises, leads_middle}
-use Rattle.op_read_laws.proofs.Asking.{TakesRead, TakesConfirmed, Asked, Keeps, Takes, Confirms, asked, asked_counts, leads_on_is, plan, decided, adopted, left_is, left_goes}
+use Rattle.op_laws.proofs.Asking.{TakesRead, TakesConfirmed, Asked, Keeps, Takes, Confirms, asked, asked_counts, leads_on_is, plan, decided, adopted, left_is, left_goes}
 use Rattle.op_read_laws.proofs.PlainSends as plain
 use Rattle.op_read_laws.proofs.PlainSends.{IsPlain, ArePlain, Answers, Says, table_says, opening_plain}
 use Rattle.op_read_laws.proofs.Holding.{Came, MomentWith, moment_at, taken, leads_seat, came_leads, Confirmed, confirmed_later, Waits, waits_later, AreReads, reads_later, AllWait, WasAsked, asked_later, Vouched, IsTrue, SentIsTrue, true_later, plain_true, AreCounted, Holds}

@@ -36,7 +36,7 @@ use Rattle.op_read_laws.specs.Fresh.{EveryReadIsFresh}
 use Rattle.op_read_laws.proofs.Happened.{Acts, Happened, Rested, Halted, Acted, Begun}
 use Rattle.op_read_laws.proofs.Moments.{Followed, run_at, world_at, ks, n_up, front, Seat, there, takes, node_rel, Leads, pure_leads, confirms_in}
 use Rattle.op_read_laws.proofs.Moments as moments
-use Rattle.op_read_laws.proofs.Asking.{plan, Ready, ready_is, LeadsOn, leads_on_is}
+use Rattle.op_laws.proofs.Asking.{plan, Ready, ready_is, LeadsOn, leads_on_is}
 use Rattle.op_read_laws.proofs.Holding.{Came, Confirmed, Waits, AreReads, Holds, moment_at, came_leads}
 use Rattle.op_read_laws.proofs.NextMoment.{asked_reads, after, there_after, LedOn, led_on, holds_next}
 

@@ -21,7 +21,7 @@ use Rattle.op_paxos.proofs.Membership.{in_append}
 use Rattle.op_read_laws.specs.Told.{IsGiven, EveryLineIsFresh}
 use Rattle.op_read_laws.proofs.Happened.{Acts, Happened, Rested, Halted, Acted, Begun, read_among}
 use Rattle.op_read_laws.proofs.Moments.{Followed, world_at}
-use Rattle.op_read_laws.proofs.Asking.{Ready, ready_is}
+use Rattle.op_laws.proofs.Asking.{Ready, ready_is}
 use Rattle.op_read_laws.proofs.Holding.{moment_at}
 use Rattle.op_read_laws.proofs.ReadsFresh.{AnsweredFresh, among_map, read, answered_fresh, front_next, split_at, came_fresh, followed}
 

@@ -36,6 +36,7 @@ event_fit (what.Down p q) k = tt
 event_fit (what.Crash p) k = tt
 event_fit (what.CrashAt p call image) k = tt
 event_fit (what.Fail p call) k = tt
+event_fit (what.Kill p disk) k = tt
 event_fit (what.Start p) k = tt
 event_fit (what.Show p) k = tt
 event_fit (what.Ballots p) k = tt

@@ -561,6 +561,7 @@ module _ (go : StepsGo) (Fine : Entry → Type 0) (reads : FineRuns Fine) (first
   deed_is (what.Crash p) f l = tt
   deed_is (what.CrashAt p call image) f l = tt
   deed_is (what.Fail p call) f l = tt
+  deed_is (what.Kill p disk) f l = tt
   deed_is (what.Start p) f l = tt
   deed_is (what.Show p) f l = tt
   deed_is (what.Ballots p) f l = tt

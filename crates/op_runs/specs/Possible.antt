@@ -1,6 +1,6 @@
 -- Which events can come: those that name nodes of the world, and messages that were sent.
 -- And which worlds and happenings the laws are about.
-use Rattle.std.specs.Prelude.{◌≡◌, ◌≤◌, ◌<◌, ◌+◌, ◌*◌, ◌^◌, ◌&&◌, ℕ, nat_eq, nat_lt, Bool, true, false, List, [], ◌∷◌, length, All}
+use Rattle.std.specs.Prelude.{◌≡◌, ◌≤◌, ◌<◌, ◌+◌, ◌*◌, ◌^◌, ◌&&◌, ℕ, nat_eq, nat_lt, Bool, true, List, [], ◌∷◌, length, All}
 use Rattle.std.specs.Set.{is_member}
 use Rattle.op_runs.specs.declared.events.Event.{Event}
 use Rattle.op_runs.specs.declared.events.What.{What}
@@ -27,6 +27,7 @@ is_possible nodes sent (what.Down p q) = is_member nat_eq nodes p && is_member n
 is_possible nodes sent (what.Crash p) = is_member nat_eq nodes p
 is_possible nodes sent (what.CrashAt p call image) = is_member nat_eq nodes p
 is_possible nodes sent (what.Fail p call) = is_member nat_eq nodes p
+is_possible nodes sent (what.Kill p disk) = is_member nat_eq nodes p
 is_possible nodes sent (what.Start p) = is_member nat_eq nodes p
 is_possible nodes sent (what.Show p) = is_member nat_eq nodes p
 is_possible nodes sent (what.Ballots p) = is_member nat_eq nodes p
@@ -43,13 +44,21 @@ ArePossibleFrom nodes w (e ∷ es) =
 
 -- ---- ranges
 
+-- how many disks of a node can be named: that of each area, and then the second copies
+abbrev pub most_disks : ℕ
+most_disks = 4
+
+-- the number of a disk
+abbrev pub IsDisk : ℕ → Type 0
+IsDisk disk = (1 ≤ disk) × (disk ≤ most_disks)
+
 -- how many calls of each disk can be named
 abbrev pub calls_of_disk : ℕ
 calls_of_disk = 50
 
--- the number of a call: those of the first disk, and then those of the second
+-- the number of a call: those of the first disk, then those of the second, and so on
 abbrev pub IsCall : ℕ → Type 0
-IsCall call = (1 ≤ call) × (call ≤ 2 * calls_of_disk)
+IsCall call = (1 ≤ call) × (call ≤ most_disks * calls_of_disk)
 
 -- how many images of a disk a stop in a call may leave, numbered from 0
 abbrev pub images : ℕ
@@ -68,6 +77,7 @@ WhatInRange (what.Down p q) = IsPid p × IsPid q
 WhatInRange (what.Crash p) = IsPid p
 WhatInRange (what.CrashAt p call image) = IsPid p × IsCall call × (image < images)
 WhatInRange (what.Fail p call) = IsPid p × IsCall call
+WhatInRange (what.Kill p disk) = IsPid p × IsDisk disk
 WhatInRange (what.Start p) = IsPid p
 WhatInRange (what.Show p) = IsPid p
 WhatInRange (what.Ballots p) = IsPid p

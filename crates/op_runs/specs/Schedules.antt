@@ -1,6 +1,7 @@
 -- The runs of a schedule: which happenings its events become, where a stop or a failure in a call of a disk
--- may await a node.
-use Rattle.std.specs.Prelude.{◌≡◌, ◌≢◌, ◌==◌, ◌⊎◌, ℕ, suc, Bool, true, false, List, [], ◌∷◌, ◌++◌, Option, Some, None, if◌then◌else◌, All}
+-- may await a node, and some of its disks may be dead.
+use Rattle.std.specs.Prelude.{◌≡◌, ◌≢◌, ◌==◌, ◌&&◌, ◌||◌, ◌⊎◌, ℕ, suc, nat_eq, Bool, true, false, List, [], ◌∷◌, ◌++◌, Option, Some, None, if◌then◌else◌}
+use Rattle.std.specs.Set.{is_member}
 use Rattle.op_protocol.specs.Rows.{step_plan}
 use Rattle.op_runs.specs.declared.events.Event.{Event}
 use Rattle.op_runs.specs.declared.events.What.{What}
@@ -14,17 +15,44 @@ pub data Awaited : Type 0 where
   Stop : Awaited
   Failure : Awaited
 
--- what awaits each node
-abbrev pub Awaiting : Type 0
-Awaiting = ℕ → Awaited
+-- what a schedule has planned for a node's disks: what awaits its next step or opening, and which are killed
+pub record DiskPlan : Type 0 where
+  pub awaited : Awaited
+  pub killed : List ℕ
 
--- nothing awaits any node
-abbrev pub nothing_awaits : Awaiting
-nothing_awaits pid = Nothing
+-- what it has planned for each node's
+abbrev pub DiskPlans : Type 0
+DiskPlans = ℕ → DiskPlan
 
--- from now on this awaits a node, in the place of what did before
-abbrev pub awaiting_with : Awaiting → ℕ → Awaited → Awaiting
-awaiting_with awaiting pid x = λ q. if q == pid then x else awaiting q
+-- nothing awaits a node, and none of its disks is killed
+abbrev pub no_plan : DiskPlan
+no_plan = record { awaited = Nothing; killed = [] }
+
+-- the same of each node
+abbrev pub no_plans : DiskPlans
+no_plans pid = no_plan
+
+-- from now on this is planned for a node, in the place of what was before
+abbrev pub plans_with : DiskPlans → ℕ → DiskPlan → DiskPlans
+plans_with plans pid x = λ q. if q == pid then x else plans q
+
+-- this awaits it
+abbrev pub awaiting : DiskPlan → Awaited → DiskPlan
+awaiting plan x = record plan { awaited = x }
+
+-- this disk of it is killed
+abbrev pub killing : DiskPlan → ℕ → DiskPlan
+killing plan disk = record plan { killed = disk ∷ plan.killed }
+
+-- whether a disk is killed
+abbrev pub is_killed : DiskPlan → ℕ → Bool
+is_killed plan disk = is_member nat_eq plan.killed disk
+
+-- Whether an area is lost: its disk is killed and, where the disks are mirrored, the second copy too.
+-- Disks 1 and 2 hold the areas, 3 and 4 the second copies.
+abbrev pub is_lost : Bool → DiskPlan → Bool
+is_lost false plan = is_killed plan 1 || is_killed plan 2
+is_lost true plan = (is_killed plan 1 && is_killed plan 3) || (is_killed plan 2 && is_killed plan 4)
 
 -- ---- what an event becomes
 
@@ -60,34 +88,48 @@ happening_of e fate finds_after = record { event = e; fate = fate; finds_after =
 abbrev pub stop_after : Event → ℕ → Happening
 stop_after e pid = done_event (record { line = e.line; what = what.Crash pid })
 
--- What becomes of an event that this awaits at a node. The node stops in a call, or after the step where that
--- call isn't made; a call fails, or isn't made.
-abbrev pub MayBecome : Awaited → Event → Node → Doing → Bool → List Happening → Type 0
-MayBecome Nothing e n d finds_after hs = hs ≡ happening_of e Done finds_after ∷ []
-MayBecome Stop e n d finds_after hs =
-    (CallsDisks n d × (hs ≡ happening_of e Stopped finds_after ∷ []))
-    ⊎ (hs ≡ happening_of e Done finds_after ∷ stop_after e n.pid ∷ [])
-MayBecome Failure e n d finds_after hs =
-    (CallsDisks n d × (count : ℕ) × (hs ≡ happening_of e (Faulted count) finds_after ∷ []))
-    ⊎ (hs ≡ happening_of e Done finds_after ∷ [])
+-- it is done or, where a call may fail, one did
+abbrev pub MayFail : Bool → Type 0 → Fate → Type 0
+MayFail may calls fate = (fate ≡ Done) ⊎ ((may ≡ true) × calls × (count : ℕ) × (fate ≡ Faulted count))
 
--- what becomes of what an event does at a node
-abbrev pub BecomesAt : Option Node → Awaited → Doing → Event → List Happening → Type 0
-BecomesAt None awaited d e hs = hs ≡ done_event e ∷ []
-BecomesAt (Some n) awaited d e hs =
-    (finds_after : Bool)
-    × MayBecome (if is_awaited n.status d then awaited else Nothing) e n d finds_after hs
+-- How what is done at a node may end, and whether the node stops after it: by what awaits it, by whether an
+-- area is lost, and by whether it calls the node's disks. It stops in a call, or after it where that isn't
+-- made.
+abbrev pub MayEnd : Awaited → Bool → Type 0 → Fate → Bool → Type 0
+MayEnd Nothing lost calls fate is_due = MayFail lost calls fate × (is_due ≡ false)
+MayEnd Stop lost calls fate is_due =
+    (calls × (fate ≡ Stopped) × (is_due ≡ false)) ⊎ (MayFail lost calls fate × (is_due ≡ true))
+MayEnd Failure lost calls fate is_due = MayFail true calls fate × (is_due ≡ false)
+
+-- the happenings of what is done so
+abbrev pub happenings_of : Event → ℕ → Fate → Bool → Bool → List Happening
+happenings_of e pid fate is_due finds_after =
+    happening_of e fate finds_after ∷ (if is_due then stop_after e pid ∷ [] else [])
+
+-- whether what is planned for a node's disks bears on what is done at it
+abbrev pub plan_for : NodeStatus → Doing → DiskPlan → DiskPlan
+plan_for status d plan = if is_awaited status d then plan else no_plan
+
+-- what becomes of what an event does at a node, for whose disks this is planned
+abbrev pub BecomesAt : Bool → Option Node → DiskPlan → Doing → Event → List Happening → Type 0
+BecomesAt mirrored None plan d e hs = hs ≡ done_event e ∷ []
+BecomesAt mirrored (Some n) plan d e hs =
+    (fate : Fate) × (is_due : Bool) × (finds_after : Bool)
+    × let now = plan_for n.status d plan in
+    MayEnd now.awaited (is_lost mirrored now) (CallsDisks n d) fate is_due
+    × (hs ≡ happenings_of e n.pid fate is_due finds_after)
 
 -- the same, of what an event does, if it does something
-abbrev pub BecomesBy : Option Deed → World → Awaiting → Event → List Happening → Type 0
-BecomesBy None w awaiting e hs = hs ≡ []
-BecomesBy (Some x) w awaiting e hs = BecomesAt (node_at w.nodes x.pid) (awaiting x.pid) x.doing e hs
+abbrev pub BecomesBy : Bool → Option Deed → World → DiskPlans → Event → List Happening → Type 0
+BecomesBy mirrored None w plans e hs = hs ≡ []
+BecomesBy mirrored (Some x) w plans e hs =
+    BecomesAt mirrored (node_at w.nodes x.pid) (plans x.pid) x.doing e hs
 
--- which happenings an event may become in this world
-abbrev pub Becomes : World → Awaiting → Event → List Happening → Type 0
-Becomes w awaiting e hs = BecomesBy (deed_of w.messages e.what) w awaiting e hs
+-- which happenings an event may become in this world, where the disks are mirrored or not
+abbrev pub Becomes : Bool → World → DiskPlans → Event → List Happening → Type 0
+Becomes mirrored w plans e hs = BecomesBy mirrored (deed_of w.messages e.what) w plans e hs
 
--- ---- what awaits the nodes afterwards
+-- ---- what is planned afterwards
 
 -- whether what is done at a node drops what awaits it: it is what was awaited, or the node stops
 abbrev pub drops : Doing → Option Node → Bool
@@ -95,50 +137,55 @@ drops Stops n = true
 drops d None = false
 drops d (Some n) = is_awaited n.status d
 
--- what awaits the nodes after what an event does
-abbrev pub awaiting_by : Option Deed → World → Awaiting → Awaiting
-awaiting_by None w awaiting = awaiting
-awaiting_by (Some x) w awaiting =
-    if drops x.doing (node_at w.nodes x.pid) then awaiting_with awaiting x.pid Nothing else awaiting
+-- what is planned after what an event does
+abbrev pub plans_by : Option Deed → World → DiskPlans → DiskPlans
+plans_by None w plans = plans
+plans_by (Some x) w plans =
+    if drops x.doing (node_at w.nodes x.pid) then plans_with plans x.pid (awaiting (plans x.pid) Nothing)
+    else plans
 
--- what awaits the nodes after an event that comes in this world
-abbrev pub awaiting_after : World → Awaiting → What → Awaiting
-awaiting_after w awaiting (what.CrashAt pid call image) = awaiting_with awaiting pid Stop
-awaiting_after w awaiting (what.Fail pid call) = awaiting_with awaiting pid Failure
-awaiting_after w awaiting x = awaiting_by (deed_of w.messages x) w awaiting
+-- what is planned after an event that comes in this world
+abbrev pub plans_after : World → DiskPlans → What → DiskPlans
+plans_after w plans (what.CrashAt pid call image) = plans_with plans pid (awaiting (plans pid) Stop)
+plans_after w plans (what.Fail pid call) = plans_with plans pid (awaiting (plans pid) Failure)
+plans_after w plans (what.Kill pid disk) = plans_with plans pid (killing (plans pid) disk)
+plans_after w plans x = plans_by (deed_of w.messages x) w plans
 
 -- ---- runs
 
--- from this world on each event can come where it stands, and they become these happenings
-abbrev pub RunsFrom : List ℕ → World → Awaiting → List Event → List Happening → Type 0
-RunsFrom nodes w awaiting [] hs = hs ≡ []
-RunsFrom nodes w awaiting (e ∷ es) hs =
-    (now : List Happening) × (later : List Happening) × (hs ≡ now ++ later)
-    × (is_possible_in nodes w e ≡ true) × Becomes w awaiting e now
-    × RunsFrom nodes (run_of w now) (awaiting_after w awaiting e.what) es later
+-- where the disks are mirrored or not, at these nodes
+module _ (mirrored : Bool) (nodes : List ℕ) where
+  -- from this world on each event can come where it stands, and they become these happenings
+  abbrev pub RunsFrom : World → DiskPlans → List Event → List Happening → Type 0
+  RunsFrom w plans [] hs = hs ≡ []
+  RunsFrom w plans (e ∷ es) hs =
+      (now : List Happening) × (later : List Happening) × (hs ≡ now ++ later)
+      × (is_possible_in nodes w e ≡ true) × Becomes mirrored w plans e now
+      × RunsFrom (run_of w now) (plans_after w plans e.what) es later
 
--- from this world on, where those before it become some happenings, the event of this number, from 0, is the
--- first that can't come
-abbrev pub FailsFrom : List ℕ → World → Awaiting → List Event → ℕ → Type 0
-FailsFrom nodes w awaiting [] i = ⊥
-FailsFrom nodes w awaiting (e ∷ es) i =
-    ((i ≡ 0) × (is_possible_in nodes w e ≡ false))
-    ⊎ ((j : ℕ) × (i ≡ suc j) × (is_possible_in nodes w e ≡ true)
-    × (now : List Happening) × Becomes w awaiting e now
-    × FailsFrom nodes (run_of w now) (awaiting_after w awaiting e.what) es j)
+  -- from this world on, where those before it become some happenings, the event of this number, from 0, is
+  -- the first that can't come
+  abbrev pub FailsFrom : World → DiskPlans → List Event → ℕ → Type 0
+  FailsFrom w plans [] i = ⊥
+  FailsFrom w plans (e ∷ es) i =
+      ((i ≡ 0) × (is_possible_in nodes w e ≡ false))
+      ⊎ ((j : ℕ) × (i ≡ suc j) × (is_possible_in nodes w e ≡ true)
+      × (now : List Happening) × Becomes mirrored w plans e now
+      × FailsFrom (run_of w now) (plans_after w plans e.what) es j)
 
--- a schedule's events at these members and spares become these happenings
-abbrev pub IsRunOf : List ℕ → List ℕ → List Event → List Happening → Type 0
-IsRunOf members spares events hs =
-    RunsFrom (node_ids members spares) (first_world members spares) nothing_awaits events hs
+-- a schedule's events at these members and spares, with mirrored disks or not, become these happenings
+abbrev pub IsRunOf : List ℕ → List ℕ → Bool → List Event → List Happening → Type 0
+IsRunOf members spares mirrored events hs =
+    RunsFrom mirrored (node_ids members spares) (first_world members spares) no_plans events hs
 
 -- the event of this number, from 0, is the first of a schedule's that can't come
-abbrev pub IsFirstRefused : List ℕ → List ℕ → List Event → ℕ → Type 0
-IsFirstRefused members spares events i =
-    FailsFrom (node_ids members spares) (first_world members spares) nothing_awaits events i
+abbrev pub IsFirstRefused : List ℕ → List ℕ → Bool → List Event → ℕ → Type 0
+IsFirstRefused members spares mirrored events i =
+    FailsFrom mirrored (node_ids members spares) (first_world members spares) no_plans events i
 
--- no stop and no failure in a call of a disk is told
+-- no stop and no failure in a call of a disk is told, and no disk is killed
 abbrev pub TellsNoFault : What → Type 0
 TellsNoFault (what.CrashAt pid call image) = ⊥
 TellsNoFault (what.Fail pid call) = ⊥
+TellsNoFault (what.Kill pid disk) = ⊥
 TellsNoFault _ = Unit {0}

@@ -135,6 +135,7 @@ deed_of messages (what.Down p q) = Some (record { pid = p; doing = Steps (input.
 deed_of messages (what.Crash p) = Some (record { pid = p; doing = Stops })
 deed_of messages (what.CrashAt p call image) = None
 deed_of messages (what.Fail p call) = None
+deed_of messages (what.Kill p disk) = None
 deed_of messages (what.Start p) = Some (record { pid = p; doing = Opens })
 deed_of messages (what.Show p) = Some (record { pid = p; doing = Tells ThePairs })
 deed_of messages (what.Ballots p) = Some (record { pid = p; doing = Tells TheBallots })

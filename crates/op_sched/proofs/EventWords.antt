@@ -17,11 +17,11 @@ use Rattle.op_sched.specs.declared.reading.forms.Form.{Form}
 use Rattle.op_sched.specs.declared.reading.forms.Form.TheVariants as form
 use Rattle.op_sched.specs.declared.reading.operations.OpForm.{OpForm}
 use Rattle.op_sched.specs.declared.reading.operations.OpForm.TheVariants as op_form
-use Rattle.op_sched.specs.Forms.{op_form_name, form_name, ArePeers, AreCallOf, AreStopOf}
+use Rattle.op_sched.specs.Forms.{op_form_name, form_name, ArePeers, AreCallOf, AreDiskOf, AreStopOf}
 use Rattle.std.proofs.lemmas.List.Elements.{All-nil, All-cons}
 use Rattle.op_text.specs.Operations.{IsReadOf, OpIsOfBytes, AreOperandsOf, op_name, operands, read_words}
 use Rattle.op_text.proofs.Operations.{first, after_first, is_op_name, no_op}
-use Rattle.op_sched.specs.Grammar.{ProposesOne, AreWordsOf, op_words, what_words}
+use Rattle.op_sched.specs.Grammar.{ProposesOne, AreWordsOf, IsMirrorLine, op_words, what_words, words_of}
 use Rattle.op_sched.proofs.WordLists.{word_at}
 
 -- ---- the name
@@ -47,6 +47,7 @@ form_by (what.Down p q) = form.Drop
 form_by (what.Crash p) = form.Crash
 form_by (what.CrashAt p call image) = form.Crash
 form_by (what.Fail p call) = form.Fail
+form_by (what.Kill p disk) = form.Kill
 form_by (what.Start p) = form.Start
 form_by (what.Show p) = form.Show
 form_by (what.Ballots p) = form.Ballots
@@ -76,6 +77,7 @@ named (what.Down p q) one = refl
 named (what.Crash p) one = refl
 named (what.CrashAt p call image) one = refl
 named (what.Fail p call) one = refl
+named (what.Kill p disk) one = refl
 named (what.Start p) one = refl
 named (what.Show p) one = refl
 named (what.Ballots p) one = refl
@@ -98,6 +100,19 @@ no_command now words f short (what.Commands p (c ∷ [])) h =
     let long : map now words ≡ decimal p ∷ decimal c.client ∷ decimal c.seq ∷ operands c.op = ap after_first h.written in
     omega (arith, short, sym (length-map words now) ∙ ap length long)
 no_command now words f short w h = false≢true (sym (ap is_op_name (ap first h.written)) ∙ form_has_op_name f)
+
+-- a line that mirrors the disks is no event's
+no_form_of_mirror : (f : Form) → codes "mirror" ≡ form_name f → ⊥
+no_form_of_mirror (form.Command f) e = false≢true (ap is_op_name e ∙ form_has_op_name f)
+no_form_of_mirror f e = absurd (false≢true ((bytes_eq-Decides (codes "mirror") (form_name f)).1 e))
+
+pub no_mirror : (line : List ℕ) (w : What) → IsMirrorLine line → AreWordsOf (words_of line) w → ⊥
+no_mirror line w e h = no_form_of_mirror (form_by w) (ap (λ (l : List ℕ). first (words_of l)) (sym e) ∙ ap first h.written ∙ named w h.one)
+
+-- nor of spares
+pub no_mirror_of_spares : (line : List ℕ) (ids : List (List ℕ)) → IsMirrorLine line → words_of line ≡ codes "spares" ∷ ids → ⊥
+no_mirror_of_spares line ids e is =
+    false≢true ((bytes_eq-Decides (codes "mirror") (codes "spares")).1 (ap (λ (l : List ℕ). first (words_of l)) (sym e) ∙ ap first is))
 
 -- a line of spares is no event's
 no_form_of_spares : (f : Form) → codes "spares" ≡ form_name f → ⊥
@@ -230,3 +245,11 @@ no_failure words none (what.Commands p []) h = absurd (omega (arith, h.one))
 no_failure words none (what.Commands p (c ∷ (d ∷ cs))) h = absurd (omega (arith, h.one))
 no_failure words none (what.Commands p (c ∷ [])) h = no_op c.op (codes "fail") refl (sym (ap first h.written))
 no_failure words none w h = absurd (false≢true ((bytes_eq-Decides (codes "fail") (name_of w)).1 (ap first h.written)))
+
+-- words that name no disk of a server kill none
+pub no_kill : (words : List (List ℕ)) → ((x : ℕ × ℕ) → AreDiskOf words x → ⊥) → (w : What) → AreWordsOf (codes "kill" ∷ words) w → ⊥
+no_kill words none (what.Kill p disk) h = none (p, disk) (h.in_range.0, h.in_range.1, ap after_first h.written)
+no_kill words none (what.Commands p []) h = absurd (omega (arith, h.one))
+no_kill words none (what.Commands p (c ∷ (d ∷ cs))) h = absurd (omega (arith, h.one))
+no_kill words none (what.Commands p (c ∷ [])) h = no_op c.op (codes "kill") refl (sym (ap first h.written))
+no_kill words none w h = absurd (false≢true ((bytes_eq-Decides (codes "kill") (name_of w)).1 (ap first h.written)))

@@ -3,7 +3,7 @@
 use Rattle.std.specs.Prelude.{◌≡◌, ◌≤◌, ◌<◌, ◌&&◌, ℕ, nat_eq, Bool, true, not, List, [], ◌∷◌, length, codes, map, decimal}
 use Rattle.std.specs.Set.{is_member}
 use Rattle.op_types.specs.Ranges.{IsPid, AreRising, MembersInRange}
-use Rattle.op_runs.specs.Possible.{SparesInRange, IsCall, images}
+use Rattle.op_runs.specs.Possible.{SparesInRange, IsCall, IsDisk, images}
 use Rattle.op_sched.specs.declared.reading.forms.Form.{Form}
 use Rattle.op_sched.specs.declared.reading.forms.Form.TheVariants as form
 use Rattle.op_sched.specs.declared.reading.operations.OpForm.{OpForm}
@@ -28,6 +28,7 @@ form_name form.Up = codes "up"
 form_name form.Drop = codes "drop"
 form_name form.Crash = codes "crash"
 form_name form.Fail = codes "fail"
+form_name form.Kill = codes "kill"
 form_name form.Start = codes "start"
 form_name form.Show = codes "show"
 form_name form.Ballots = codes "ballots"
@@ -39,6 +40,10 @@ ArePeers p q = IsPid p × IsPid q × (p ≡ q → ⊥)
 -- the words are a server and a call of its disks
 abbrev pub AreCallOf : List (List ℕ) → ℕ × ℕ → Type 0
 AreCallOf words x = IsPid x.0 × IsCall x.1 × (words ≡ decimal x.0 ∷ decimal x.1 ∷ [])
+
+-- the words are a server and one of its disks
+abbrev pub AreDiskOf : List (List ℕ) → ℕ × ℕ → Type 0
+AreDiskOf words x = IsPid x.0 × IsDisk x.1 × (words ≡ decimal x.0 ∷ decimal x.1 ∷ [])
 
 -- the words are a server, a call of its disks, and an image of them
 abbrev pub AreStopOf : List (List ℕ) → ℕ × ℕ × ℕ → Type 0

@@ -1,10 +1,11 @@
--- The schedule grammar: a header line, perhaps one of spares, and then a line for each event.
+-- The schedule grammar: a header line, perhaps one of spares, perhaps one that mirrors the disks, and then a
+-- line for each event.
 -- Empty lines and comments may stand anywhere.
-use Rattle.std.specs.Prelude.{◌≡◌, ◌==◌, ◌≤◌, ◌⊎◌, ℕ, ◌+◌, Bool, true, if◌then◌else◌}
+use Rattle.std.specs.Prelude.{◌≡◌, ◌==◌, ◌≤◌, ◌⊎◌, ℕ, ◌+◌, ◌*◌, Bool, true, false, if◌then◌else◌}
 use Rattle.std.specs.Prelude.{List, [], ◌∷◌, length, map, All, codes, decimal}
 use Rattle.std.specs.List.{slice_split}
 use Rattle.op_types.specs.Ranges.{MembersInRange}
-use Rattle.op_runs.specs.Possible.{WhatInRange, SparesInRange}
+use Rattle.op_runs.specs.Possible.{WhatInRange, SparesInRange, most_disks, calls_of_disk}
 use Rattle.op_types.specs.declared.log.Op.{Op}
 use Rattle.op_types.specs.declared.log.Command.{Command}
 use Rattle.op_runs.specs.declared.events.What.{What}
@@ -57,7 +58,7 @@ numbered_lines n text = numbered n (lines_of text)
 abbrev pub words_of : List ℕ → List (List ℕ)
 words_of line = slice_split (λ b. b == space) line
 
--- ---- the header
+-- ---- the headers
 
 -- the words name the members
 pub record AreHeaderWords (words : List (List ℕ)) (members : List ℕ) : Type 0 where
@@ -77,6 +78,10 @@ pub record AreSpareWords (members : List ℕ) (words : List (List ℕ)) (spares 
 -- the line names spares beside these members
 abbrev pub IsSpareLine : List ℕ → List ℕ → List ℕ → Type 0
 IsSpareLine members line spares = AreSpareWords members (words_of line) spares
+
+-- the line mirrors the disks
+abbrev pub IsMirrorLine : List ℕ → Type 0
+IsMirrorLine line = line ≡ codes "mirror"
 
 -- ---- events
 
@@ -102,6 +107,7 @@ what_words (what.Down p q) = codes "drop" ∷ decimal p ∷ decimal q ∷ []
 what_words (what.Crash p) = codes "crash" ∷ decimal p ∷ []
 what_words (what.CrashAt p call image) = codes "crash" ∷ decimal p ∷ decimal call ∷ decimal image ∷ []
 what_words (what.Fail p call) = codes "fail" ∷ decimal p ∷ decimal call ∷ []
+what_words (what.Kill p disk) = codes "kill" ∷ decimal p ∷ decimal disk ∷ []
 what_words (what.Start p) = codes "start" ∷ decimal p ∷ []
 what_words (what.Show p) = codes "show" ∷ decimal p ∷ []
 what_words (what.Ballots p) = codes "ballots" ∷ decimal p ∷ []
@@ -131,9 +137,26 @@ pub record AreWordsOf (words : List (List ℕ)) (w : What) : Type 0 where
   pub one : ProposesOne w
   pub written : words ≡ what_words w
 
--- the line says what happens
-abbrev pub IsEventLine : List ℕ → What → Type 0
-IsEventLine line w = AreWordsOf (words_of line) w
+-- how many disks a node has: that of each area and, where they are mirrored, the second copies
+abbrev pub disks_of : Bool → ℕ
+disks_of false = 2
+disks_of true = most_disks
+
+-- how many calls of them can be named
+abbrev pub calls_of : Bool → ℕ
+calls_of mirrored = disks_of mirrored * calls_of_disk
+
+-- It suits the nodes' disks: a call is one of theirs. One fails only where they are not mirrored, and a disk
+-- is killed only where they are.
+abbrev pub SuitsDisks : Bool → What → Type 0
+SuitsDisks mirrored (what.CrashAt p call image) = call ≤ calls_of mirrored
+SuitsDisks mirrored (what.Fail p call) = (mirrored ≡ false) × (call ≤ calls_of mirrored)
+SuitsDisks mirrored (what.Kill p disk) = mirrored ≡ true
+SuitsDisks mirrored w = Unit {0}
+
+-- the line says what happens, and it suits the nodes' disks, which are mirrored or not
+abbrev pub IsEventLine : Bool → List ℕ → What → Type 0
+IsEventLine mirrored line w = AreWordsOf (words_of line) w × SuitsDisks mirrored w
 
 -- each event is in range
 abbrev pub AreInRange : List Event → Type 0
@@ -147,30 +170,44 @@ AreOfBytes events = All (λ e. IsOfBytes e.what) events
 abbrev pub AreBetweenTwo : List Event → Type 0
 AreBetweenTwo events = All (λ e. IsBetweenTwo e.what) events
 
+-- each event suits the nodes' disks
+abbrev pub EachSuitsDisks : Bool → List Event → Type 0
+EachSuitsDisks mirrored events = All (λ e. SuitsDisks mirrored e.what) events
+
 -- ---- the text of a schedule
 
--- the numbered lines are these events', one each
-abbrev pub AreEvents : List (ℕ × List ℕ) → List Event → Type 0
-AreEvents [] [] = Unit {0}
-AreEvents [] (e ∷ events) = ⊥
-AreEvents (line ∷ lines) [] = ⊥
-AreEvents (line ∷ lines) (e ∷ events) = (e.line ≡ line.0) × IsEventLine line.1 e.what × AreEvents lines events
+-- the numbered lines are these events', one each, at nodes whose disks are mirrored or not
+abbrev pub AreEvents : Bool → List (ℕ × List ℕ) → List Event → Type 0
+AreEvents mirrored [] [] = Unit {0}
+AreEvents mirrored [] (e ∷ events) = ⊥
+AreEvents mirrored (line ∷ lines) [] = ⊥
+AreEvents mirrored (line ∷ lines) (e ∷ events) =
+    (e.line ≡ line.0) × IsEventLine mirrored line.1 e.what × AreEvents mirrored lines events
 
--- the first of the numbered lines names these spares beside these members, and the others are these events'
-abbrev pub AreSparesAndEvents : List ℕ → List (ℕ × List ℕ) → List ℕ → List Event → Type 0
-AreSparesAndEvents members [] spares events = ⊥
-AreSparesAndEvents members (line ∷ lines) spares events =
-    IsSpareLine members line.1 spares × AreEvents lines events
+-- the numbered lines are these events' and, where the disks are mirrored, a line before them says so
+abbrev pub AreAfterSpares : List (ℕ × List ℕ) → Bool → List Event → Type 0
+AreAfterSpares lines false events = AreEvents false lines events
+AreAfterSpares [] true events = ⊥
+AreAfterSpares (line ∷ lines) true events = IsMirrorLine line.1 × AreEvents true lines events
 
--- the numbered lines after the header are of these spares, if there are any, and of these events
-abbrev pub AreAfterHeader : List ℕ → List (ℕ × List ℕ) → List ℕ → List Event → Type 0
-AreAfterHeader members lines spares events =
-    AreSparesAndEvents members lines spares events ⊎ ((spares ≡ []) × AreEvents lines events)
+-- the first of the numbered lines names these spares beside these members, and the others come after it
+abbrev pub AreSparesAndMore : List ℕ → List (ℕ × List ℕ) → List ℕ → Bool → List Event → Type 0
+AreSparesAndMore members [] spares mirrored events = ⊥
+AreSparesAndMore members (line ∷ lines) spares mirrored events =
+    IsSpareLine members line.1 spares × AreAfterSpares lines mirrored events
+
+-- the numbered lines after the header are of these spares, if there are any, of mirrored disks or not, and of
+-- these events
+abbrev pub AreAfterHeader : List ℕ → List (ℕ × List ℕ) → List ℕ → Bool → List Event → Type 0
+AreAfterHeader members lines spares mirrored events =
+    AreSparesAndMore members lines spares mirrored events
+    ⊎ ((spares ≡ []) × AreAfterSpares lines mirrored events)
 
 -- the numbered lines are this schedule's
 abbrev pub AreLines : List (ℕ × List ℕ) → Schedule → Type 0
 AreLines [] s = ⊥
-AreLines (header ∷ lines) s = IsHeader header.1 s.members × AreAfterHeader s.members lines s.spares s.events
+AreLines (header ∷ lines) s =
+    IsHeader header.1 s.members × AreAfterHeader s.members lines s.spares s.is_mirrored s.events
 
 -- the text is this schedule's
 abbrev pub IsSchedule : List ℕ → Schedule → Type 0
@@ -179,18 +216,26 @@ IsSchedule text s = AreLines (numbered_lines 1 text) s
 -- ---- the first line that isn't in the grammar
 
 -- the line is some event's
-abbrev pub IsAnEvent : List ℕ → Type 0
-IsAnEvent line = (w : What) × IsEventLine line w
+abbrev pub IsAnEvent : Bool → List ℕ → Type 0
+IsAnEvent mirrored line = (w : What) × IsEventLine mirrored line w
 
 -- the line is some header
 abbrev pub IsAHeader : List ℕ → Type 0
 IsAHeader line = (members : List ℕ) × IsHeader line members
 
 -- of numbered lines, n is the number of the first that is no event's
-abbrev pub IsFirstBadEvent : List (ℕ × List ℕ) → ℕ → Type 0
-IsFirstBadEvent [] n = ⊥
-IsFirstBadEvent (line ∷ lines) n =
-    ((n ≡ line.0) × (IsAnEvent line.1 → ⊥)) ⊎ (IsAnEvent line.1 × IsFirstBadEvent lines n)
+abbrev pub IsFirstBadEvent : Bool → List (ℕ × List ℕ) → ℕ → Type 0
+IsFirstBadEvent mirrored [] n = ⊥
+IsFirstBadEvent mirrored (line ∷ lines) n =
+    ((n ≡ line.0) × (IsAnEvent mirrored line.1 → ⊥))
+    ⊎ (IsAnEvent mirrored line.1 × IsFirstBadEvent mirrored lines n)
+
+-- of numbered lines after the members and the spares, n is the number of the first that isn't in the grammar
+abbrev pub IsFirstBadAfterSpares : List (ℕ × List ℕ) → ℕ → Type 0
+IsFirstBadAfterSpares [] n = ⊥
+IsFirstBadAfterSpares (line ∷ lines) n =
+    (IsMirrorLine line.1 × IsFirstBadEvent true lines n)
+    ⊎ ((IsMirrorLine line.1 → ⊥) × IsFirstBadEvent false (line ∷ lines) n)
 
 -- the line names some spares beside these members
 abbrev pub NamesSpares : List ℕ → List ℕ → Type 0
@@ -200,8 +245,8 @@ NamesSpares members line = (spares : List ℕ) × IsSpareLine members line spare
 abbrev pub IsFirstBadAfter : List ℕ → List (ℕ × List ℕ) → ℕ → Type 0
 IsFirstBadAfter members [] n = ⊥
 IsFirstBadAfter members (line ∷ lines) n =
-    (NamesSpares members line.1 × IsFirstBadEvent lines n)
-    ⊎ ((NamesSpares members line.1 → ⊥) × IsFirstBadEvent (line ∷ lines) n)
+    (NamesSpares members line.1 × IsFirstBadAfterSpares lines n)
+    ⊎ ((NamesSpares members line.1 → ⊥) × IsFirstBadAfterSpares (line ∷ lines) n)
 
 -- n is the number of the first that isn't in the grammar,
 -- and where there are no lines the number after the last

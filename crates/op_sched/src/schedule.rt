@@ -11,6 +11,8 @@ pub struct Schedule {
     pub members: Members,
     /// The servers beside them, which a later configuration may name.
     pub spares: Members,
+    /// Whether the nodes' disks are mirrored.
+    pub is_mirrored: bool,
     /// What happens, in the order of the lines.
     pub events: Events,
 }

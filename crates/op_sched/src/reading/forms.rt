@@ -3,9 +3,9 @@ ghost use Rattle.std.specs.Prelude.{◌≡◌, ◌∷◌, [], map, codes, decima
 ghost use Rattle.op_types.specs.Ranges.{IsPid};
 ghost use Rattle.op_text.specs.Found.{IsFound};
 ghost use Rattle.op_sched.specs.Grammar.{AreHeaderWords, AreSpareWords, AreWordsOf};
-ghost use Rattle.op_sched.specs.Forms.{op_form_name, form_name, ArePeers, AreCallOf, AreIdsOf, AreMembersOf, AreStopOf, AreSparesOf, are_apart};
+ghost use Rattle.op_sched.specs.Forms.{op_form_name, form_name, ArePeers, AreCallOf, AreDiskOf, AreIdsOf, AreMembersOf, AreStopOf, AreSparesOf, are_apart};
 
-use crate::reading::calls::{call, image};
+use crate::reading::calls::{call, disk, image};
 use crate::reading::operations::{OpForm, op_form_of, operation};
 use crate::reading::reads::client_read;
 use crate::reading::words::is_name;
@@ -163,6 +163,16 @@ fn one_call(words: &[&[u8]]) -> Option<(Pid, u8)>
     }
 }
 
+/// The server and the one of its disks that words name.
+fn one_disk(words: &[&[u8]]) -> Option<(Pid, u8)>
+    ensures { IsFound (AreDiskOf (map (λ x. x.now) words.now)) result }
+{
+    match words {
+        [id, at] => Some((pid(id)?, disk(at)?)),
+        _ => None,
+    }
+}
+
 /// The server, the call of its disks and the image of them that words name.
 fn one_stop(words: &[&[u8]]) -> Option<(Pid, u8, u8)>
     ensures { IsFound (AreStopOf (map (λ x. x.now) words.now)) result }
@@ -192,6 +202,15 @@ fn failure(words: &[&[u8]]) -> Option<What>
 {
     let (id, call) = one_call(words)?;
     Some(What::Fail(id, call))
+}
+
+/// `kill`: a server, and the one of its disks that fails from now on.
+#[tactic(auto, using(crate::proofs::EventWords::no_kill))]
+fn kill(words: &[&[u8]]) -> Option<What>
+    ensures { IsFound (AreWordsOf (codes "kill" ∷ map (λ x. x.now) words.now)) result }
+{
+    let (id, disk) = one_disk(words)?;
+    Some(What::Kill(id, disk))
 }
 
 /// `start`: a server.
@@ -301,6 +320,8 @@ pub enum Form {
     Crash,
     /// `fail`
     Fail,
+    /// `kill`
+    Kill,
     /// `start`
     Start,
     /// `show`
@@ -333,6 +354,8 @@ fn form_of(word: &[u8]) -> Option<Form>
         Some(Form::Crash)
     } else if is_name(word, b"fail") {
         Some(Form::Fail)
+    } else if is_name(word, b"kill") {
+        Some(Form::Kill)
     } else if is_name(word, b"start") {
         Some(Form::Start)
     } else if is_name(word, b"show") {
@@ -365,6 +388,7 @@ pub fn event(alloc: Global, words: &[&[u8]]) -> Result<Option<What>, NoMemory>
         Form::Drop => Ok(down(words)),
         Form::Crash => Ok(crash(words)),
         Form::Fail => Ok(failure(words)),
+        Form::Kill => Ok(kill(words)),
         Form::Start => Ok(start(words)),
         Form::Show => Ok(show(words)),
         Form::Ballots => Ok(ballots(words)),

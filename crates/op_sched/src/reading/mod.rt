@@ -1,9 +1,10 @@
 //! A schedule, read from its text.
-ghost use Rattle.std.specs.Prelude.{◌+◌, ◌<◌, ◌^◌, length, IfOk};
+ghost use Rattle.std.specs.Prelude.{◌≡◌, false, [], ◌+◌, ◌<◌, ◌^◌, length, IfOk};
 ghost use Rattle.op_sched.specs.Failing.{IfBadLine};
 ghost use Rattle.op_text.specs.Found.{IsFound};
-ghost use Rattle.op_sched.specs.Grammar.{numbered_lines, IsHeader, IsSpareLine, IsEventLine, AreEvents, AreAfterHeader, IsSchedule};
-ghost use Rattle.op_sched.specs.Grammar.{IsFirstBadEvent, IsFirstBadAfter, IsFirstBadLine};
+ghost use Rattle.op_sched.specs.Grammar.{numbered_lines, words_of, IsHeader, IsSpareLine, AreWordsOf, IsEventLine, AreEvents};
+ghost use Rattle.op_sched.specs.Grammar.{AreAfterSpares, AreAfterHeader, IsSchedule};
+ghost use Rattle.op_sched.specs.Grammar.{IsFirstBadEvent, IsFirstBadAfterSpares, IsFirstBadAfter, IsFirstBadLine};
 
 mod calls;
 mod forms;
@@ -13,11 +14,12 @@ mod reads;
 mod words;
 
 use crate::schedule::{SchedFail, Schedule};
+use calls::suits_disks;
 use lines::next_numbered;
 use op_runs::{Event, Events, What};
 use op_types::{Members, NoMemory};
 use std::alloc::Global;
-use words::words;
+use words::{is_name, words};
 
 /// The schedule that a text says. `BadLine` names the first line that isn't in the grammar, and `NoMemory` comes
 /// only where the allocator has none.
@@ -34,11 +36,12 @@ pub fn read(alloc: Global, text: &[u8]) -> Result<Schedule, SchedFail>
             line: header.number,
         });
     };
-    let (spares, events) = after_header(alloc, &members, header.number + 1, header.after)?;
+    let (spares, course) = after_header(alloc, &members, header.number + 1, header.after)?;
     Ok(Schedule {
         members,
         spares,
-        events,
+        is_mirrored: course.is_mirrored,
+        events: course.events,
     })
 }
 
@@ -50,24 +53,34 @@ fn members(alloc: Global, line: &[u8]) -> Result<Option<Members>, NoMemory>
     forms::members(&words)
 }
 
-/// The spares and the events after a header with these members, of a text whose first line has this number.
+/// What the lines after the members and the spares say.
+#[derive(Drop)]
+struct Course {
+    /// Whether the nodes' disks are mirrored.
+    is_mirrored: bool,
+    /// What happens, in the order of the lines.
+    events: Events,
+}
+
+/// The spares, and what comes after them, behind a header with these members, of a text whose first line has this number.
 #[tactic(none)]
 fn after_header(
     alloc: Global,
     members: &Members,
     number: u64,
     text: &[u8],
-) -> Result<(Members, Events), SchedFail>
+) -> Result<(Members, Course), SchedFail>
     requires fits { number + length text.now < 2 ^ 64 }
-    ensures found { IfOk result (λ x. AreAfterHeader members.now (numbered_lines number text.now) x.0 x.1) }
+    ensures found { IfOk result (λ x.
+        AreAfterHeader members.now (numbered_lines number text.now) x.0 x.1.is_mirrored x.1.events) }
     ensures bad { IfBadLine result (IsFirstBadAfter members.now (numbered_lines number text.now)) }
 {
     let Ok(next) = next_numbered(number, text) else {
-        return Ok((Members::new(), Events::new(alloc)));
+        return Ok((Members::new(), no_course(alloc)));
     };
     match spares(alloc, members, next.line)? {
-        Some(spares) => Ok((spares, events(alloc, next.number + 1, next.after)?)),
-        None => Ok((Members::new(), events(alloc, number, text)?)),
+        Some(spares) => Ok((spares, after_spares(alloc, next.number + 1, next.after)?)),
+        None => Ok((Members::new(), after_spares(alloc, number, text)?)),
     }
 }
 
@@ -79,17 +92,50 @@ fn spares(alloc: Global, members: &Members, line: &[u8]) -> Result<Option<Member
     forms::spares(&words, members)
 }
 
-/// The events of a text whose first line has this number.
-fn events(alloc: Global, number: u64, text: &[u8]) -> Result<Events, SchedFail>
+/// Whether the disks are mirrored, which a first line says, and the events, of a text whose first line has this number.
+fn after_spares(alloc: Global, number: u64, text: &[u8]) -> Result<Course, SchedFail>
     requires fits { number + length text.now < 2 ^ 64 }
-    ensures found { IfOk result (λ events. AreEvents (numbered_lines number text.now) events) }
-    ensures bad { IfBadLine result (IsFirstBadEvent (numbered_lines number text.now)) }
+    ensures found { IfOk result (λ x.
+        AreAfterSpares (numbered_lines number text.now) x.is_mirrored x.events) }
+    ensures bad { IfBadLine result (IsFirstBadAfterSpares (numbered_lines number text.now)) }
+{
+    let Ok(next) = next_numbered(number, text) else {
+        return Ok(no_course(alloc));
+    };
+    if is_name(next.line, b"mirror") {
+        Ok(Course {
+            is_mirrored: true,
+            events: events(alloc, true, next.number + 1, next.after)?,
+        })
+    } else {
+        Ok(Course {
+            is_mirrored: false,
+            events: events(alloc, false, number, text)?,
+        })
+    }
+}
+
+/// What no lines say.
+fn no_course(alloc: Global) -> Course
+    ensures { result ≡ record { is_mirrored = false; events = [] } }
+{
+    Course {
+        is_mirrored: false,
+        events: Events::new(alloc),
+    }
+}
+
+/// The events of a text whose first line has this number, at nodes whose disks are mirrored or not.
+fn events(alloc: Global, is_mirrored: bool, number: u64, text: &[u8]) -> Result<Events, SchedFail>
+    requires fits { number + length text.now < 2 ^ 64 }
+    ensures found { IfOk result (λ events. AreEvents is_mirrored (numbered_lines number text.now) events) }
+    ensures bad { IfBadLine result (IsFirstBadEvent is_mirrored (numbered_lines number text.now)) }
 {
     let mut events = Events::new(alloc);
     let mut at = number;
     let mut rest = text;
     while let Ok(next) = next_numbered(at, rest) {
-        let Some(what) = event(alloc, next.line)? else {
+        let Some(what) = event(alloc, is_mirrored, next.line)? else {
             return Err(SchedFail::BadLine { line: next.number });
         };
         events.push(Event {
@@ -102,9 +148,19 @@ fn events(alloc: Global, number: u64, text: &[u8]) -> Result<Events, SchedFail>
     Ok(events)
 }
 
-/// What an event's line says.
-fn event(alloc: Global, line: &[u8]) -> Result<Option<What>, NoMemory>
-    ensures { IfOk result (IsFound (IsEventLine line.now)) }
+/// What an event's line says, at nodes whose disks are mirrored or not.
+fn event(alloc: Global, is_mirrored: bool, line: &[u8]) -> Result<Option<What>, NoMemory>
+    ensures { IfOk result (IsFound (IsEventLine is_mirrored line.now)) }
+{
+    match said(alloc, line)? {
+        Some(what) if suits_disks(is_mirrored, &what) => Ok(Some(what)),
+        _ => Ok(None),
+    }
+}
+
+/// What an event's line says, whichever disks it suits.
+fn said(alloc: Global, line: &[u8]) -> Result<Option<What>, NoMemory>
+    ensures { IfOk result (IsFound (AreWordsOf (words_of line.now))) }
 {
     let words = words(alloc, line)?;
     forms::event(alloc, &words)
