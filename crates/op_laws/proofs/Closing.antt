@@ -112,28 +112,28 @@ got_within [] n e h = absurd (none_some e h)
 got_within (x ∷ es) zero e h = omega arith
 got_within (x ∷ es) (suc n) e h = omega (arith, got_within es n e h)
 
--- ---- the row of an Accepted decides, or does nothing
-abbrev OnlyDecides : PartStep → Type 0
-OnlyDecides y = (y.batch ≡ []) ⊎ ((x : ℕ) × (y.batch ≡ change.Decided x ∷ []))
+-- ---- the row of an Accepted decides at a leader, or does nothing
+abbrev pub OnlyDecides : Volatile → PartStep → Type 0
+OnlyDecides v y = (y.batch ≡ []) ⊎ ((x : ℕ) × (y.batch ≡ change.Decided x ∷ []) × (l : Leading) × (v.role ≡ role.Leading l))
 
 module _ (me : ℕ) (v : Volatile) (q : ℕ) (b : Ballot) (x : ℕ) where
-  leads_only : (p : Part) (ρ : Role) → OnlyDecides (with_effects v (on_accepted me p ρ q b x))
-  leads_only p role.Idle = inl refl
-  leads_only p (role.Preparing r) = inl refl
-  leads_only p (role.Leading l) =
+  leads_only : (p : Part) (ρ : Role) → v.role ≡ ρ → OnlyDecides v (with_effects v (on_accepted me p ρ q b x))
+  leads_only p role.Idle is = inl refl
+  leads_only p (role.Preparing r) is = inl refl
+  leads_only p (role.Leading l) is =
       let k : Leading = with_acknowledged l (record { from = q; len = x }) in
-      cond_both (is_same_ballot b l.ballot && leb x (len_of p)) _ _ (λ (e : Effects). OnlyDecides (with_effects v e))
-      (λ _. cond_both (ltb p.decided (counted me p.members (len_of p) k.acknowledged)) _ _ (λ (e : Effects). OnlyDecides (with_effects v e)) (λ _. inr (_, refl)) (λ _. inl refl))
+      cond_both (is_same_ballot b l.ballot && leb x (len_of p)) _ _ (λ (e : Effects). OnlyDecides v (with_effects v e))
+      (λ _. cond_both (ltb p.decided (counted me p.members (len_of p) k.acknowledged)) _ _ (λ (e : Effects). OnlyDecides v (with_effects v e)) (λ _. inr (_, refl, l, is)) (λ _. inl refl))
       (λ _. inl refl)
 
-  at_part : (o : Option Part) (c : ℕ) → OnlyDecides (message_at me o v q (record { conf = c; body = body.Accepted b x }))
+  at_part : (o : Option Part) (c : ℕ) → OnlyDecides v (message_at me o v q (record { conf = c; body = body.Accepted b x }))
   at_part None c = inl refl
-  at_part (Some p) c = cond_both (eqb c p.conf && true) _ _ OnlyDecides (λ _. leads_only p v.role) (λ _. inl refl)
+  at_part (Some p) c = cond_both (eqb c p.conf && true) _ _ (OnlyDecides v) (λ _. leads_only p v.role refl) (λ _. inl refl)
 
-  message_only : (d : Durable) (c : ℕ) → OnlyDecides (message_step me d v q (record { conf = c; body = body.Accepted b x }))
+  pub message_only : (d : Durable) (c : ℕ) → OnlyDecides v (message_step me d v q (record { conf = c; body = body.Accepted b x }))
   message_only d c =
-      cond_both (is_some d.joining && true) _ _ OnlyDecides (λ _. inl refl)
-      (λ _. cond_both (ltb c (latest_of d)) _ _ OnlyDecides (λ _. inl refl) (λ _. cond_both (ltb (latest_of d) c && true) _ _ OnlyDecides (λ _. inl refl) (λ _. at_part d.part c)))
+      cond_both (is_some d.joining && true) _ _ (OnlyDecides v) (λ _. inl refl)
+      (λ _. cond_both (ltb c (latest_of d)) _ _ (OnlyDecides v) (λ _. inl refl) (λ _. cond_both (ltb (latest_of d) c && true) _ _ (OnlyDecides v) (λ _. inl refl) (λ _. at_part d.part c)))
 
 nothing_brought : (o : Option Joining) (t : Bool) (c : ℕ) (b : Ballot) (x : ℕ) → cond t None (brought_to o c (body.Accepted b x)) ≡ None
 nothing_brought o true c b x = refl
@@ -244,7 +244,7 @@ module _ (first : List ℕ) (ks late : List worlds.Happening) (t : Execution) (h
   batch_of : (bs : List Change) → row.batch ≡ bs → plan.batch ≡ based_batch (Some p) bs
   batch_of bs e = ap (λ (o : Option Part). based_batch o row.batch) x.has ∙ ap (based_batch (Some p)) e
 
-  decides : (y : ℕ) × (plan.batch ≡ change.Decided y ∷ [])
+  decides : (y : ℕ) × (plan.batch ≡ change.Decided y ∷ []) × (l : Leading) × (s.volatile.role ≡ role.Leading l)
   unfolding ends_of
   decides =
       ⊎_elim
@@ -252,8 +252,12 @@ module _ (first : List ℕ) (ks late : List worlds.Happening) (t : Execution) (h
       let none : decided_since p (part_after p plan.batch) ≡ [] =
       ap (λ (bs : List Change). decided_since p (part_after p bs)) (batch_of [] e) ∙ drop_of_length-le (take (p.decided - p.trimmed) p.tail.items) (omega (arith, length-take (p.decided - p.trimmed) p.tail.items)) in
       absurd (false≢true (sym (ap (λ (es : List Entry). is_some (stop_at_end es)) none) ∙ closes)))
-      (λ (e : (y : ℕ) × (row.batch ≡ change.Decided y ∷ [])). (e.0, batch_of (change.Decided e.0 ∷ []) e.1))
+      (λ (e : (y : ℕ) × (row.batch ≡ change.Decided y ∷ []) × (l : Leading) × (s.volatile.role ≡ role.Leading l)). (e.0, batch_of (change.Decided e.0 ∷ []) e.1, e.2, e.3))
       (message_only n.pid s.volatile x.from x.ballot x.size s.durable p.conf)
+
+  -- as a leader
+  pub leads_then : (l : Leading) × (s.volatile.role ≡ role.Leading l)
+  leads_then = let d = decides in (d.2, d.3)
 
   -- all of the log
   abbrev q : Part
@@ -280,7 +284,7 @@ module _ (first : List ℕ) (ks late : List worlds.Happening) (t : Execution) (h
       ∙ ap (λ (o : Option Part). (durable_closing o (durable_after s.durable plan.batch) named (base_bytes plan.service)).closed) part_is
 
   -- ---- what is known then
-  known_then : (k : ℕ) (e : Entry) → slice_get p.tail.items k ≡ Some e → IsKnownAt u.machine p.conf n.pid e (p.trimmed + k)
+  pub known_then : (k : ℕ) (e : Entry) → slice_get p.tail.items k ≡ Some e → IsKnownAt u.machine p.conf n.pid e (p.trimmed + k)
   known_then k e got =
       let after : Node = x.after in
       let machine : u.machine ≡ machine_of first (ks ++ late) = later.machine in

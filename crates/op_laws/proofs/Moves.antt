@@ -39,7 +39,7 @@ use Rattle.op_protocol.proofs.Plans.{after_both}
 use Rattle.op_protocol.proofs.StepBatches.{IsInside, inside_after, inside_closed, inside_none, inside_all_based, step_inside, Rises, above_after, step_above}
 use Rattle.op_protocol.proofs.Based.{based_after}
 use Rattle.op_laws.specs.Elected.{elected_of, elected_by}
-use Rattle.op_laws.proofs.Placed.{conf_after}
+use Rattle.op_laws.proofs.Placed.{conf_after, members_after}
 
 none_some : {A : Type 0} (a : A) → None ≡ Some a → ⊥
 none_some a e = cc
@@ -210,6 +210,7 @@ pub record StaysIn (me : ℕ) (s : State) (x : Input) (pl : Planned) : Type 0 wh
   pub leader : StepOk s.volatile.leader pl.volatile.leader (elected_step me s.volatile s.durable x)
   pub part : IfKept s.durable.part (durable_after s.durable pl.batch).part
   pub closed : (durable_after s.durable pl.batch).closed ≡ s.durable.closed
+  pub members : (p q : Part) → s.durable.part ≡ Some p → (durable_after s.durable pl.batch).part ≡ Some q → q.members ≡ p.members
   -- what the row promises is promised
   pub promised : brought_by s.durable x ≡ None → (p : Part) → s.durable.part ≡ Some p
       → (q : Part) × ((durable_after s.durable pl.batch).part ≡ Some q) × (q.promised ≡ (part_after p (step_at me s.durable s.volatile x).batch).promised)
@@ -241,6 +242,7 @@ module _ (me : ℕ) (s : State) (x : Input) (above : JoiningIsAbove s.durable) w
         leader = subst (λ (v : Volatile). StepOk s.volatile.leader v.leader (elected_step me s.volatile d x)) (sym volatile_is) (row_ok me s.volatile d x);
         part = subst (λ (o : Option Part). IfKept o (durable_after d (plan_of me s w row).batch).part) (sym e) (ap (λ (b : List Change). (durable_after d b).part) batch_is ∙ inside_none d row.batch inside e);
         closed = ap (λ (b : List Change). (durable_after d b).closed) batch_is ∙ inside_closed d row.batch inside;
+        members = λ p q h i. absurd (none_some p (sym e ∙ h));
         promised = λ n p h. absurd (none_some p (sym e ∙ h));
       }
 
@@ -281,6 +283,7 @@ module _ (me : ℕ) (s : State) (x : Input) (above : JoiningIsAbove s.durable) w
       leader = row_ok me s.volatile d x;
       part = subst (λ (o : Option Part). IfKept o (durable_after d plan.batch).part) (sym e) (q, part_is, conf_after p batch, promised_is);
       closed = closed_is;
+      members = λ r y h i. ap (λ (z : Part). z.members) (some_part y q (sym i ∙ part_is)) ∙ members_after p batch ∙ ap (λ (z : Part). z.members) (some_part p r (sym e ∙ h));
       promised = λ n r h. (q, part_is, ap (λ (y : Part). y.promised) (based_after p p p.base row.batch).1 ∙ ap (λ (y : Part). (part_after y row.batch).promised) (some_part p r (sym e ∙ h)));
     }
 
@@ -331,6 +334,7 @@ module _ (me : ℕ) (s : State) (x : Input) (above : JoiningIsAbove s.durable) w
       leader = inl (refl, is_tick);
       part = subst (IfKept d.part) (sym k.part) (kept_same d.part);
       closed = k.closed;
+      members = λ p q h i. ap (λ (z : Part). z.members) (some_part q p (sym i ∙ k.part ∙ h));
       promised = λ n p h. absurd (brings n);
     }
 
@@ -451,7 +455,7 @@ module _ (me : ℕ) (s : State) (x : Input) (above : JoiningIsAbove s.durable) w
   -- what comes of reads touches nothing of this
   reading_moves : Moves me s x (table_plan me s x) → Moves me s x (step_plan me s x)
   reading_moves (inl r) = inl r
-  reading_moves (inr k) = inr (record { leader = k.leader; part = k.part; closed = k.closed; promised = k.promised })
+  reading_moves (inr k) = inr (record { leader = k.leader; part = k.part; closed = k.closed; members = k.members; promised = k.promised })
 
   -- each step
   pub step_moves : Moves me s x (step_plan me s x)

@@ -59,6 +59,25 @@ pub conf_after : (p : Part) (batch : List Change) → (part_after p batch).conf 
 conf_after p [] = refl
 conf_after p (c ∷ batch) = conf_after (part_with p c) batch ∙ conf_one p c
 
+-- and its members
+members_one : (p : Part) (c : Change) → (part_with p c).members ≡ p.members
+members_one p (change.Promise n) = refl
+members_one p (change.Accept n) = refl
+members_one p (change.CutTo n) = refl
+members_one p (change.Append es) = refl
+members_one p (change.Decided x) = refl
+members_one p (change.Trim x base) = refl
+members_one p (change.Close named base) = refl
+members_one p (change.JoinBegin conf members olds len) = refl
+members_one p (change.JoinDonor q trimmed) = refl
+members_one p (change.JoinBase at base) = refl
+members_one p (change.JoinPart at es) = refl
+members_one p (change.JoinDone base) = refl
+
+pub members_after : (p : Part) (batch : List Change) → (part_after p batch).members ≡ p.members
+members_after p [] = refl
+members_after p (c ∷ batch) = members_after (part_with p c) batch ∙ members_one p c
+
 -- ---- the part that a step leaves
 
 module _ (first : List ℕ) (lists : ℕ → List Entry) (me : ℕ) (s : State) (p : Part) (has : s.durable.part ≡ Some p) (low : p.trimmed ≤ p.decided) (waiting : Waiting) (x : Input)

@@ -1,5 +1,5 @@
 -- Who prepares before and after a step in which the promise doesn't rise decides nothing and tells nobody.
-use Rattle.std.proofs.Common.{◌≡◌, ℕ, ◌-◌, ◌+◌, min, inl, inr, true, false, not, ◌&&◌, eqb, ltb, leb, nat_eq, List, [], ◌∷◌, ◌++◌, length, take, drop, Option, Some, None, refl, sym, ap, ◌∙◌, arith}
+use Rattle.std.proofs.Common.{◌≡◌, ℕ, ◌-◌, ◌+◌, min, inl, inr, true, false, not, ◌&&◌, eqb, ltb, leb, nat_eq, List, [], ◌∷◌, ◌++◌, length, take, drop, Option, Some, None, refl, sym, ap, ◌∙◌, arith, append-nil}
 use Rattle.std.proofs.lemmas.Bool.{cond_both, both_ways, and_parts}
 use Rattle.std.proofs.lemmas.List.{drop_all, length-take}
 use Rattle.std.specs.Set.{is_member}
@@ -7,7 +7,7 @@ use Rattle.op_types.specs.Ballots.{is_below, is_same_ballot}
 use Rattle.op_types.specs.Changes.{len_of, part_with}
 use Rattle.op_types.specs.Effects.{Effects}
 use Rattle.op_types.specs.Limits.{positions_end}
-use Rattle.op_types.specs.RoleStates.{Preparing, Leading, with_promise, with_acknowledged, with_report, without_reports}
+use Rattle.op_types.specs.RoleStates.{Preparing, Leading, with_promise, with_buffered, with_acknowledged, with_report, without_reports}
 use Rattle.op_types.specs.Roles as role
 use Rattle.op_types.specs.Roles.{Role}
 use Rattle.op_types.specs.declared.answers.Refusal.{Refusal}
@@ -26,6 +26,7 @@ use Rattle.op_types.specs.declared.log.Entry.TheVariants as entry
 use Rattle.op_types.specs.declared.messages.Body.{Body}
 use Rattle.op_types.specs.declared.messages.Body.TheVariants as body
 use Rattle.op_types.specs.declared.messages.Msg.{Msg}
+use Rattle.op_types.specs.declared.role.Buffered.{Buffered}
 use Rattle.op_types.specs.declared.role.Promised.{Promised}
 use Rattle.op_types.specs.declared.verdict.Verdict.{Verdict}
 use Rattle.op_types.specs.declared.verdict.Verdict.TheVariants as verdict
@@ -33,7 +34,7 @@ use Rattle.op_protocol.specs.State.{State, Volatile, Waiting, PartStep}
 use Rattle.op_protocol.specs.Election.{Ended, round_end}
 use Rattle.op_protocol.specs.Parts.{pending, is_admitted_body, part_after, part_in_round, cutting, appending, others, message, nothing, first}
 use Rattle.op_protocol.specs.Promises.{has_quorum, is_usable, Choice, own_choice, best, chosen_stop, chosen_len, chosen_log, fitting}
-use Rattle.op_protocol.specs.Leader.{counted, count, first_leading, leading_with, adopt, on_promise, on_accepted, on_prepare_req, propose, on_forward_leading, on_forward, session_down, lead}
+use Rattle.op_protocol.specs.Leader.{counted, count, first_leading, leading_with, adopt, on_promise, on_accepted, on_prepare_req, waiting_as, propose, on_forward_leading, on_forward, session_down, lead}
 use Rattle.op_protocol.specs.Follower.{suffix_start, promise_body, on_prepare, on_accept_sync, on_accept, on_decide}
 use Rattle.op_protocol.specs.Tick.{candidate_of, next_round_state, by_verdict}
 use Rattle.op_protocol.specs.Serving.{serving, dropping}
@@ -75,10 +76,11 @@ IsApart p = (n : Ballot) → is_same_ballot p.promised n ≡ true → is_same_ba
 abbrev Stays : Part → Effects → Type 0
 Stays p e = is_below p.promised (part_after p e.batch).promised ≡ false
 
--- Of who prepares then, where the promise doesn't rise: it prepared before; and if its promised round isn't accepted,
--- it tells nobody and decides nothing.
+-- Of who prepares then, where the promise doesn't rise: it prepared before, what it buffered stays; and if its promised round
+-- isn't accepted, it tells nobody and decides nothing.
 pub record IsQuiet (p : Part) (ρ : Role) (e : Effects) : Type 0 where
   pub prepared : (s : Preparing) → e.role ≡ role.Preparing s → Stays p e → (r : Preparing) × (ρ ≡ role.Preparing r)
+  pub grown : (r s : Preparing) → ρ ≡ role.Preparing r → e.role ≡ role.Preparing s → Stays p e → (more : List Buffered) × (s.buffer ≡ r.buffer ++ more)
   pub quiet : (r s : Preparing) → ρ ≡ role.Preparing r → e.role ≡ role.Preparing s → Stays p e → IsApart p → (e.replies ≡ []) × ((part_after p e.batch).decided ≡ p.decided)
 
 idle_prepares : {P : Type 0} (s : Preparing) (ρ : Role) → ρ ≡ role.Idle → ρ ≡ role.Preparing s → P
@@ -95,23 +97,37 @@ leader_prepares s l ρ a b = absurd (differ s l (sym a ∙ b))
 
 -- it is idle then
 idles : (p : Part) (ρ : Role) (e : Effects) → e.role ≡ role.Idle → IsQuiet p ρ e
-idles p ρ e is = record { prepared = λ s at stays. idle_prepares s e.role is at; quiet = λ r s was at stays apart. idle_prepares s e.role is at }
+idles p ρ e is = record { prepared = λ s at stays. idle_prepares s e.role is at; grown = λ r s was at stays. idle_prepares s e.role is at; quiet = λ r s was at stays apart. idle_prepares s e.role is at }
 
 -- it leads then
 leads : (p : Part) (ρ : Role) (e : Effects) (l : Leading) → e.role ≡ role.Leading l → IsQuiet p ρ e
-leads p ρ e l is = record { prepared = λ s at stays. leader_prepares s l e.role is at; quiet = λ r s was at stays apart. leader_prepares s l e.role is at }
+leads p ρ e l is = record { prepared = λ s at stays. leader_prepares s l e.role is at; grown = λ r s was at stays. leader_prepares s l e.role is at; quiet = λ r s was at stays apart. leader_prepares s l e.role is at }
 
 -- the promise rises
 raises : (p : Part) (ρ : Role) (e : Effects) → is_below p.promised (part_after p e.batch).promised ≡ true → IsQuiet p ρ e
-raises p ρ e up = record { prepared = λ s at stays. absurd (both_ways _ stays up); quiet = λ r s was at stays apart. absurd (both_ways _ stays up) }
+raises p ρ e up = record { prepared = λ s at stays. absurd (both_ways _ stays up); grown = λ r s was at stays. absurd (both_ways _ stays up); quiet = λ r s was at stays apart. absurd (both_ways _ stays up) }
 
 -- it was prepared before
-keeps_on : (p : Part) (r : Preparing) (e : Effects) → e.replies ≡ [] → Each IsUndecided e.batch → IsQuiet p (role.Preparing r) e
-keeps_on p r e none few = record { prepared = λ s at stays. (r, refl); quiet = λ x s was at stays apart. (none, undecided_after p e.batch few) }
+same_prep : (r s : Preparing) → role.Preparing r ≡ role.Preparing s → r ≡ s
+same_prep r s h = cc
+
+keeps_on : (p : Part) (r : Preparing) (e : Effects) → e.replies ≡ [] → Each IsUndecided e.batch → (k : Preparing) → e.role ≡ role.Preparing k → (more : List Buffered) → k.buffer ≡ r.buffer ++ more → IsQuiet p (role.Preparing r) e
+keeps_on p r e none few k is more longer = record {
+  prepared = λ s at stays. (r, refl);
+  grown = λ x s was at stays. (
+    more,
+    ap (λ (z : Preparing). z.buffer) (same_prep s k (sym at ∙ is)) ∙ longer ∙ ap (λ (z : Preparing). z.buffer ++ more) (same_prep r x was),
+  );
+  quiet = λ x s was at stays apart. (none, undecided_after p e.batch few);
+}
 
 -- its role is as it was
 same_role : (p : Part) (ρ : Role) (e : Effects) → e.role ≡ ρ → e.replies ≡ [] → Each IsUndecided e.batch → IsQuiet p ρ e
-same_role p ρ e is none few = record { prepared = λ s at stays. (s, sym is ∙ at); quiet = λ r s was at stays apart. (none, undecided_after p e.batch few) }
+same_role p ρ e is none few = record {
+  prepared = λ s at stays. (s, sym is ∙ at);
+  grown = λ r s was at stays. ([], ap (λ (z : Preparing). z.buffer) (same_prep s r (sym at ∙ is ∙ was)) ∙ sym (append-nil r.buffer));
+  quiet = λ r s was at stays apart. (none, undecided_after p e.batch few);
+}
 
 -- ---- the rows
 count_leads : (me : ℕ) (p : Part) (len : ℕ) (l : Leading) (other : List (ℕ × Msg)) → (count me p len l other).role ≡ role.Leading l
@@ -128,8 +144,8 @@ promise_quiet me p role.Idle n k = idles p _ _ refl
 promise_quiet me p (role.Preparing r) n k =
     cond_both (is_same_ballot n r.ballot && is_usable p k) _ _ (IsQuiet p (role.Preparing r))
     (λ _. cond_both (has_quorum me p.members (with_promise r k).promises) (adopt me p (with_promise r k)) (nothing (role.Preparing (with_promise r k))) (IsQuiet p (role.Preparing r))
-    (λ _. adopt_leads me p (role.Preparing r) (with_promise r k)) (λ _. keeps_on p r _ refl tt))
-    (λ _. keeps_on p r _ refl tt)
+    (λ _. adopt_leads me p (role.Preparing r) (with_promise r k)) (λ _. keeps_on p r _ refl tt (with_promise r k) refl [] (sym (append-nil r.buffer))))
+    (λ _. keeps_on p r _ refl tt r refl [] (sym (append-nil r.buffer)))
 promise_quiet me p (role.Leading l) n k = cond_both (is_same_ballot n l.ballot) _ _ (IsQuiet p (role.Leading l)) (λ _. leads p _ _ _ refl) (λ _. leads p _ _ _ refl)
 
 prepare_quiet : (p : Part) (ρ : Role) (q : ℕ) (n na : Ballot) (nl nd : ℕ) → IsQuiet p ρ (on_prepare p ρ q n na nl nd)
@@ -160,25 +176,26 @@ decide_quiet p ρ n x =
     cond_both (is_same_ballot p.promised n && (is_same_ballot p.accepted n && ltb p.decided (min x (len_of p)))) _ _ (IsQuiet p ρ)
     (λ h. record {
       prepared = λ s at stays. (s, at);
+      grown = λ r s was at stays. ([], ap (λ (z : Preparing). z.buffer) (same_prep s r (sym at ∙ was)) ∙ sym (append-nil r.buffer));
       quiet = λ r s was at stays apart. let both = and_parts (is_same_ballot p.promised n) _ h in absurd (apart n both.0 (and_parts (is_same_ballot p.accepted n) _ both.1).0);
     })
     (λ _. same_role p ρ _ refl refl tt)
 
 accepted_quiet : (me : ℕ) (p : Part) (ρ : Role) (q : ℕ) (n : Ballot) (x : ℕ) → IsQuiet p ρ (on_accepted me p ρ q n x)
 accepted_quiet me p role.Idle q n x = idles p _ _ refl
-accepted_quiet me p (role.Preparing r) q n x = keeps_on p r _ refl tt
+accepted_quiet me p (role.Preparing r) q n x = keeps_on p r _ refl tt r refl [] (sym (append-nil r.buffer))
 accepted_quiet me p (role.Leading l) q n x =
     cond_both (is_same_ballot n l.ballot && leb x (len_of p)) _ _ (IsQuiet p (role.Leading l))
     (λ _. leads p _ _ _ (count_leads me p (len_of p) (with_acknowledged l (record { from = q; len = x })) _)) (λ _. leads p _ _ _ refl)
 
 prepare_req_quiet : (p : Part) (ρ : Role) (q : ℕ) → IsQuiet p ρ (on_prepare_req p ρ q)
 prepare_req_quiet p role.Idle q = idles p _ _ refl
-prepare_req_quiet p (role.Preparing r) q = keeps_on p r _ refl tt
+prepare_req_quiet p (role.Preparing r) q = keeps_on p r _ refl tt r refl [] (sym (append-nil r.buffer))
 prepare_req_quiet p (role.Leading l) q = leads p _ _ _ refl
 
 propose_quiet : (me : ℕ) (p : Part) (ρ : Role) (e : List Entry) → IsQuiet p ρ (propose me p ρ e)
 propose_quiet me p role.Idle e = idles p _ _ refl
-propose_quiet me p (role.Preparing r) e = keeps_on p r _ refl tt
+propose_quiet me p (role.Preparing r) e = keeps_on p r _ refl tt (with_buffered r (waiting_as true e)) refl (waiting_as true e) refl
 propose_quiet me p (role.Leading l) e = leads p _ _ _ (count_leads me p (len_of p + length e) l [])
 
 forward_leading_quiet : (me : ℕ) (p : Part) (l : Leading) (e : List Entry) (o : Option ℕ) → IsQuiet p (role.Leading l) (on_forward_leading me p l e o)
@@ -187,12 +204,12 @@ forward_leading_quiet me p l e None = cond_both (leb (len_of p + length e) posit
 
 forward_quiet : (me : ℕ) (p : Part) (ρ : Role) (e : List Entry) → IsQuiet p ρ (on_forward me p ρ e)
 forward_quiet me p role.Idle e = idles p _ _ refl
-forward_quiet me p (role.Preparing r) e = keeps_on p r _ refl tt
+forward_quiet me p (role.Preparing r) e = keeps_on p r _ refl tt (with_buffered r (waiting_as false e)) refl (waiting_as false e) refl
 forward_quiet me p (role.Leading l) e = forward_leading_quiet me p l e (pending p)
 
 down_quiet : (p : Part) (ρ : Role) (q : ℕ) → IsQuiet p ρ (session_down ρ q)
 down_quiet p role.Idle q = idles p _ _ refl
-down_quiet p (role.Preparing r) q = keeps_on p r _ refl tt
+down_quiet p (role.Preparing r) q = keeps_on p r _ refl tt r refl [] (sym (append-nil r.buffer))
 down_quiet p (role.Leading l) q = leads p _ _ _ refl
 
 -- ---- trimming
@@ -205,12 +222,12 @@ leader_stays me p l (Some x) = (without_reports l, cond_both (ltb p.trimmed x) _
 
 trim_now_quiet : (me : ℕ) (p : Part) (ρ : Role) → IsQuiet p ρ (trim_now me p ρ)
 trim_now_quiet me p role.Idle = idles p _ _ refl
-trim_now_quiet me p (role.Preparing r) = keeps_on p r _ refl tt
+trim_now_quiet me p (role.Preparing r) = keeps_on p r _ refl tt r refl [] (sym (append-nil r.buffer))
 trim_now_quiet me p (role.Leading l) = let k = leader_stays me p (without_reports l) (least_reported (without_reports l).reports (others me p.members) p.decided) in leads p _ _ k.0 k.1
 
 progress_quiet : (me : ℕ) (p : Part) (ρ : Role) (q : ℕ) (n : Ballot) (x : ℕ) → IsQuiet p ρ (on_progress me p ρ q n x)
 progress_quiet me p role.Idle q n x = idles p _ _ refl
-progress_quiet me p (role.Preparing r) q n x = keeps_on p r _ refl tt
+progress_quiet me p (role.Preparing r) q n x = keeps_on p r _ refl tt r refl [] (sym (append-nil r.buffer))
 progress_quiet me p (role.Leading l) q n x =
     let m : Leading = with_report l (record { from = q; decided = x }) in
     cond_both (is_same_ballot n l.ballot) _ _ (IsQuiet p (role.Leading l)) (λ _. let k = leader_stays me p m (least_reported m.reports (others me p.members) p.decided) in leads p _ _ k.0 k.1) (λ _. leads p _ _ l refl)

@@ -6,11 +6,9 @@ use Rattle.op_types.specs.RoleStates.{Leading}
 use Rattle.op_types.specs.Roles.{Role}
 use Rattle.op_types.specs.Roles as role
 use Rattle.op_types.specs.declared.durable.Part.{Part as StoredPart}
-use Rattle.op_types.specs.declared.log.Command.{Command}
 use Rattle.op_types.specs.declared.log.Entry.{Entry}
 use Rattle.op_spec.specs.Machine.{Machine, IsAmong, members_of}
 use Rattle.op_spec.specs.Laws.{IsSafe}
-use Rattle.op_protocol.specs.Rows.{entries_of}
 use Rattle.op_runs.specs.World.{Node, Happening}
 use Rattle.op_runs.specs.Run.{Execution, first_execution, execution_of}
 use Rattle.op_paxos.specs.Logs.{overflows}
@@ -27,7 +25,6 @@ use Rattle.op_configurations.specs.Worlds as worlds
 use Rattle.op_configurations.proofs.Standing.{safe, stands}
 use Rattle.op_refinement.proofs.Pure as pure
 use Rattle.op_refinement.proofs.View.{view_role}
-use Rattle.op_refinement.proofs.PartRows.{commands_end}
 use Rattle.op_refinement.proofs.Relation.{PartRel, all_before, IfPartRel}
 use Rattle.op_refinement.proofs.Steps.{AllRead}
 use Rattle.op_refinement.proofs.Worlds.{lists_of, world_of, state_of, facts_of}
@@ -36,7 +33,9 @@ use Rattle.op_refinement.proofs.NodeLists.{IfThere, found}
 use Rattle.op_refinement.proofs.Proposals.{taken}
 use Rattle.op_refinement.proofs.Runs.{Track}
 use Rattle.op_refinement.proofs.EveryRun.{every_track}
+use Rattle.op_laws.specs.Proposals.{Proposal, entries_for}
 use Rattle.op_laws.specs.Alone.{TakesAlone}
+use Rattle.op_laws.proofs.Proposals.{ends_late}
 use Rattle.op_laws.specs.Runs.{RunInRange}
 use Rattle.op_laws.proofs.Reached.{front_in_range}
 use Rattle.op_laws.proofs.MemberBallots.{IsOurs, AllLed, ballots_are_ours}
@@ -108,12 +107,12 @@ leading_of (role.Preparing r) l e = absurd (differ _ e)
     differ r e = cc
 leading_of (role.Leading k) l e = (k, refl)
 
-module _ (first : List ℕ) (ks : List worlds.Happening) (t : Execution) (b : IsBeside first ks t) (read : AllRead (lists_of first ks)) (rise : (c : ℕ) → AreRising 0 (members_of first t.machine.lists c)) (h : Happening) (commands : List Command) (x : TakesAlone t h commands) where
+module _ (first : List ℕ) (ks : List worlds.Happening) (t : Execution) (b : IsBeside first ks t) (read : AllRead (lists_of first ks)) (rise : (c : ℕ) → AreRising 0 (members_of first t.machine.lists c)) (h : Happening) (proposal : Proposal) (x : TakesAlone t h proposal) where
   abbrev n : Node
   n = x.node
 
   abbrev es : List Entry
-  es = entries_of commands
+  es = entries_for x.node proposal
 
   rel : NodeRel first ks t.world.messages n
   rel = (subst (λ (o : Option Node). IfThere (NodeRel first ks t.world.messages) n.pid o) x.is (found (NodeRel first ks t.world.messages) t.world.nodes b.nodes n.pid)).1
@@ -121,7 +120,7 @@ module _ (first : List ℕ) (ks : List worlds.Happening) (t : Execution) (b : Is
   takes : server.may_propose n.pid (state_of first ks n.pid) (state_of first ks n.pid).part es ≡ true
   takes =
       (taken (lists_of first (ks ++ [])) (world_of first ks).soup n.pid n.state (state_of first ks n.pid)
-      (facts_of first ks [] n.pid n.state rel.low (subst (λ (l : List worlds.Happening). AllRead (lists_of first l)) (sym (append-nil ks)) read) rel.rel rel.serves) es (commands_end commands) x.free).may
+      (facts_of first ks [] n.pid n.state rel.low (subst (λ (l : List worlds.Happening). AllRead (lists_of first l)) (sym (append-nil ks)) read) rel.rel rel.serves) es (ends_late n.state.durable.part proposal) x.free).may
 
   leads_by : (pt : Part) → (state_of first ks n.pid).part ≡ Some pt → PartRel (all_before (lists_of first ks) pt.conf) x.part n.state.volatile.role pt → (l : Leading) × (n.state.volatile.role ≡ role.Leading l)
   leads_by pt has r =
@@ -139,10 +138,10 @@ module _ (first : List ℕ) (ks : List worlds.Happening) (t : Execution) (b : Is
       of_part (Some pt) has r = leads_by pt has r
 
 -- so it is after every run
-pub sole_leads : (members spares : List ℕ) (early : List Happening) (h : Happening) → RunInRange members spares (early ++ h ∷ []) → (commands : List Command)
-    → (x : TakesAlone (execution_of (first_execution members spares) early) h commands) → (l : Leading) × (x.node.state.volatile.role ≡ role.Leading l)
-sole_leads members spares early h range commands x =
+pub sole_leads : (members spares : List ℕ) (early : List Happening) (h : Happening) → RunInRange members spares (early ++ h ∷ []) → (proposal : Proposal)
+    → (x : TakesAlone (execution_of (first_execution members spares) early) h proposal) → (l : Leading) × (x.node.state.volatile.role ≡ role.Leading l)
+sole_leads members spares early h range proposal x =
     let t : Execution = execution_of (first_execution members spares) early in
     let r : Track members t (h ∷ []) = every_track members spares range.first range.others early (h ∷ []) range.happenings in
     let safe_there : IsSafe members t.machine = subst (IsSafe members) (sym (r.beside 0).machine) (safe members (r.ks 0)) in
-    leads_here members (r.ks 0) t (r.beside 0) (r.read 0) (members_rise members spares early (front_in_range members spares early (h ∷ []) range) safe_there) h commands x
+    leads_here members (r.ks 0) t (r.beside 0) (r.read 0) (members_rise members spares early (front_in_range members spares early (h ∷ []) range) safe_there) h proposal x

@@ -1,10 +1,9 @@
 -- What may be answered of the reads that wait is answered by the step that allows it: after each step none is left.
-use Rattle.std.proofs.Common.{◌≡◌, ◌≤◌, ℕ, Bool, true, false, cond, not, leb, eqb, List, [], ◌∷◌, ◌++◌, filter, map, Option, Some, None, refl, sym, ap, ◌∙◌}
+use Rattle.std.proofs.Common.{◌≡◌, ◌≤◌, ℕ, Bool, true, false, cond, not, leb, List, [], ◌∷◌, ◌++◌, filter, map, Option, Some, None, refl, sym, ap, ◌∙◌}
 use Rattle.std.specs.Prelude.{option_map}
-use Rattle.std.proofs.lemmas.Bool.{cond_both, le-leb}
+use Rattle.std.proofs.lemmas.Bool.{le-leb}
 use Rattle.op_types.specs.Changes.{durable_after}
 use Rattle.op_types.specs.declared.answers.Reply.{Reply}
-use Rattle.op_types.specs.declared.durable.Durable.{Durable}
 use Rattle.op_types.specs.declared.events.Input.{Input}
 use Rattle.op_reads.specs.declared.asked_read.AskedRead.{AskedRead}
 use Rattle.op_reads.specs.Reads.{WaitingRead, Reads, is_confirmed, answered, without_answered}
@@ -12,10 +11,9 @@ use Rattle.op_protocol.specs.State.{State, Planned, state_after}
 use Rattle.op_protocol.specs.Reading.{asking_by, read_reply, dropped_read, why_given_up, decided_of, leads_on, adopted_of, answered_of, asked_of, reading}
 use Rattle.op_protocol.specs.Configurations.{latest_of}
 use Rattle.op_protocol.specs.Rows.{table_plan, step_plan}
-use Rattle.op_protocol.specs.Starting.{state_after_restart}
-use Rattle.op_runs.specs.World.{World, Node, NodeStatus, Up, Down, Failed, Fate, Done, Stopped, Faulted, Happening, Doing, Steps, Stops, Opens, Tells, Deed, deed_of, node_at, first_node, first_world, node_ids, state_after_reopening, stored_by, world_by_fate, world_opening, world_reopening, world_by_status, world_at_node, world_with, world_after, run_of}
-use Rattle.op_refinement.proofs.NodeLists.{IfThere, found}
-use Rattle.op_laws.proofs.Elections.{replaced, each_unit}
+use Rattle.op_runs.specs.World.{Node, Happening, node_at, first_world, run_of}
+use Rattle.op_laws.specs.Runs.{RunInRange}
+use Rattle.op_laws.proofs.ReadsKept as kept
 
 -- none of the reads that wait may be answered
 abbrev pub AreTried : State → Type 0
@@ -90,56 +88,9 @@ tells_of_none me s x p tried same leads adopted low =
 
 -- so at this node
 abbrev pub IfTried : Option Node → Type 0
-IfTried None = Unit {0}
-IfTried (Some n) = AreTried n.state
+IfTried o = kept.IfHolds (λ me s. AreTried s) o
 
-module _ (pid : ℕ) where
-  fated : (w : World) (n : Node) (x : Input) (line : ℕ) (f : Fate) → node_at w.nodes n.pid ≡ Some n → IfTried (node_at w.nodes pid) → IfTried (node_at (world_by_fate f line w n x).nodes pid)
-  fated w n x line Done at k = replaced IfTried w.nodes n (record n { state = state_after n.state (step_plan n.pid n.state x) }) pid at refl (λ e r. step_tried n.pid n.state x) k
-  fated w n x line Stopped at k = replaced IfTried w.nodes n (record n { status = Down (stored_by n x) }) pid at refl (λ e r. r) k
-  fated w n x line (Faulted count) at k = replaced IfTried w.nodes n (record n { status = Failed count (stored_by n x) }) pid at refl (λ e r. r) k
-
-  -- an opening finds no reads
-  opened : (w : World) (n : Node) (d : Durable) (f : Fate) → node_at w.nodes n.pid ≡ Some n → IfTried (node_at w.nodes pid) → IfTried (node_at (world_opening f w n d).nodes pid)
-  opened w n d Done at k = replaced IfTried w.nodes n (record n { state = state_after_restart n.pid d; status = Up }) pid at refl (λ e r. refl) k
-  opened w n d Stopped at k = k
-  opened w n d (Faulted count) at k = k
-
-  reopened : (w : World) (n : Node) (after d : Durable) (f : Fate) → node_at w.nodes n.pid ≡ Some n → IfTried (node_at w.nodes pid) → IfTried (node_at (world_reopening f after w n d).nodes pid)
-  reopened w n after d Done at k = replaced IfTried w.nodes n (record n { state = state_after_reopening n.pid n.state d; status = Up }) pid at refl (λ e r. refl) k
-  reopened w n after d Stopped at k = replaced IfTried w.nodes n (record n { status = Down after }) pid at refl (λ e r. r) k
-  reopened w n after d (Faulted count) at k = replaced IfTried w.nodes n (record n { status = Failed count after }) pid at refl (λ e r. r) k
-
-  by_status : (w : World) (n : Node) (d : Doing) (h : Happening) (s : NodeStatus) → node_at w.nodes n.pid ≡ Some n → IfTried (node_at w.nodes pid) → IfTried (node_at (world_by_status s d h w n).nodes pid)
-  by_status w n (Steps x) h Up at k = fated w n x h.event.line h.fate at k
-  by_status w n Stops h Up at k = replaced IfTried w.nodes n (record n { status = Down n.state.durable }) pid at refl (λ e r. r) k
-  by_status w n Opens h Up at k = k
-  by_status w n (Tells told) h Up at k = k
-  by_status w n (Steps x) h (Down after) at k = k
-  by_status w n Stops h (Down after) at k = k
-  by_status w n Opens h (Down after) at k = opened w n (cond h.finds_after after n.state.durable) h.fate at k
-  by_status w n (Tells told) h (Down after) at k = k
-  by_status w n (Steps x) h (Failed count after) at k = k
-  by_status w n Stops h (Failed count after) at k = replaced IfTried w.nodes n (record n { status = Down after }) pid at refl (λ e r. r) k
-  by_status w n Opens h (Failed count after) at k = reopened w n after (cond h.finds_after after n.state.durable) h.fate at k
-  by_status w n (Tells told) h (Failed count after) at k = k
-
-  there : (w : World) (q : ℕ) (d : Doing) (h : Happening) (o : Option Node) → node_at w.nodes q ≡ o → IfThere (λ n. Unit {0}) q o → IfTried (node_at w.nodes pid) → IfTried (node_at (world_at_node o d h w).nodes pid)
-  there w q d h None at is k = k
-  there w q d h (Some n) at is k = by_status w n d h n.status (ap (node_at w.nodes) is.0 ∙ at) k
-
-  by_deed : (w : World) (h : Happening) (o : Option Deed) → IfTried (node_at w.nodes pid) → IfTried (node_at (world_with o h w).nodes pid)
-  by_deed w h None k = k
-  by_deed w h (Some d) k = there w d.pid d.doing h (node_at w.nodes d.pid) refl (found (λ n. Unit {0}) w.nodes (each_unit w.nodes) d.pid) k
-
-  run_tried : (w : World) (hs : List Happening) → IfTried (node_at w.nodes pid) → IfTried (node_at (run_of w hs).nodes pid)
-  run_tried w [] k = k
-  run_tried w (h ∷ hs) k = run_tried (world_after w h) hs (by_deed w h (deed_of w.messages h.event.what) k)
-
-  first_tried : (members ids : List ℕ) → IfTried (node_at (Rattle.std.specs.Prelude.map (first_node members) ids) pid)
-  first_tried members [] = tt
-  first_tried members (q ∷ ids) = cond_both (eqb q pid) (Some (first_node members q)) (node_at (Rattle.std.specs.Prelude.map (first_node members) ids) pid) IfTried (λ _. refl) (λ _. first_tried members ids)
-
-  -- so it is after every run
-  pub always_tried : (members spares : List ℕ) (hs : List Happening) → IfTried (node_at (run_of (first_world members spares) hs).nodes pid)
-  always_tried members spares hs = run_tried (first_world members spares) hs (first_tried members (node_ids members spares))
+-- so it is after every run
+pub always_tried : (pid : ℕ) (members spares : List ℕ) (hs : List Happening) → RunInRange members spares hs → IfTried (node_at (run_of (first_world members spares) hs).nodes pid)
+always_tried pid members spares hs range =
+    kept.always (λ me s. AreTried s) (λ me s x above k. step_tried me s x) (λ me s none. ap (λ (o : Option Reads). answered_of o (decided_of s.durable.part) (adopted_of s.volatile.role)) none) pid members spares hs range

@@ -1,31 +1,32 @@
 -- A node that is a majority of its configuration alone, and what comes at it.
-use Rattle.std.specs.Prelude.{◌≡◌, ◌<◌, ◌+◌, ◌==◌, ◌&&◌, ℕ, Bool, true, List, [], ◌∷◌, ◌++◌, length, Some, None, slice_get, if◌then◌else◌}
+use Rattle.std.specs.Prelude.{◌≡◌, ◌<◌, ◌≤◌, ◌+◌, ◌==◌, ◌&&◌, ℕ, Bool, true, List, [], ◌∷◌, ◌++◌, length, Option, Some, None, slice_get, if◌then◌else◌}
 use Rattle.std.specs.List.{list_any}
 use Rattle.op_quorum.specs.Quorums.{is_majority, passing}
-use Rattle.op_types.specs.Changes.{len_of}
+use Rattle.op_types.specs.Changes.{len_of, closed_len}
+use Rattle.op_types.specs.declared.durable.Closed.{Closed}
 use Rattle.op_types.specs.declared.durable.Part.{Part}
 use Rattle.op_types.specs.declared.log.Command.{Command}
 use Rattle.op_types.specs.declared.log.Entry.{Entry}
-use Rattle.op_types.specs.declared.log.Entry.TheVariants as entry
 use Rattle.op_types.specs.declared.answers.Outcome.TheVariants as outcome
-use Rattle.op_runs.specs.declared.events.What.TheVariants as what
 use Rattle.op_runs.specs.declared.summary.Line.{Line}
 use Rattle.op_runs.specs.declared.summary.Line.TheVariants as line
 use Rattle.op_spec.specs.Machine.{Machine}
 use Rattle.op_spec.specs.Service.{Service, service_with, answer_of, service_of}
 use Rattle.op_spec.specs.Stands.{prefix_of}
-use Rattle.op_protocol.specs.Rows.{entries_of, refusal_of}
-use Rattle.op_runs.specs.World.{Node, Up, Happening, Done, node_at}
+use Rattle.op_protocol.specs.Configurations.{latest_of}
+use Rattle.op_runs.specs.World.{Node, Up, Happening, Done, node_at, world_after}
 use Rattle.op_runs.specs.Run.{Execution, first_execution, execution_with, execution_of}
 use Rattle.op_laws.specs.Runs.{RunInRange}
+use Rattle.op_laws.specs.Proposals.{Proposal, event_of, entries_for, IsTaken}
+use Rattle.op_laws.specs.Proposals as proposed
 
 -- the entry stands in the configuration's list at this place, which the node knows
 abbrev pub IsKnownAt : Machine → ℕ → ℕ → Entry → ℕ → Type 0
 IsKnownAt m conf p e place = (place < m.known p conf) × (slice_get (m.lists conf) place ≡ Some e)
 
--- commands come at a node that is up, that is a majority of its configuration alone and refuses none of them,
--- and its step is done
-pub record TakesAlone (t : Execution) (h : Happening) (commands : List Command) : Type 0 where
+-- commands or a stop-sign come at a node that is up, that is a majority of its configuration alone and
+-- refuses none of them, and its step is done
+pub record TakesAlone (t : Execution) (h : Happening) (proposal : Proposal) : Type 0 where
   pub node : Node
   pub is : node_at t.world.nodes node.pid ≡ Some node
   pub up : node.status ≡ Up
@@ -33,26 +34,44 @@ pub record TakesAlone (t : Execution) (h : Happening) (commands : List Command) 
   pub has : node.state.durable.part ≡ Some part
   pub majority :
       is_majority (passing (λ q. q == node.pid) part.members) (length part.members) ≡ true
-  pub comes : h.event.what ≡ what.Commands node.pid commands
-  pub free :
-      refusal_of node.pid node.state.volatile.role node.state.durable (entries_of commands) ≡ None
+  pub comes : h.event.what ≡ event_of node.pid proposal
+  pub free : IsTaken node proposal
   pub done : h.fate ≡ Done
 
--- what these commands leave, in the node's configuration
-pub record DecidedAlone (t : Execution) (h : Happening) (commands : List Command)
-    (x : TakesAlone t h commands) : Type 0 where
+-- a node has left this part with its whole list, which a stop-sign with these members ended
+abbrev pub HasClosed : Part → List ℕ → Option Node → Type 0
+HasClosed p members None = ⊥
+HasClosed p members (Some n) =
+    (l : Closed) × (n.state.durable.closed ≡ Some l) × (l.conf ≡ p.conf) × (l.next ≡ members)
+    × (closed_len l ≡ len_of p + 1) × (latest_of n.state.durable ≡ p.conf + 1)
+
+-- if it is a stop-sign, the node closes its configuration
+abbrev pub ClosesBy : Proposal → Part → Option Node → Type 0
+ClosesBy (proposed.Commands commands) p n = Unit {0}
+ClosesBy (proposed.Stop members) p n = HasClosed p members n
+
+-- what these entries leave, in the node's configuration
+pub record DecidedAlone (t : Execution) (h : Happening) (proposal : Proposal)
+    (x : TakesAlone t h proposal) : Type 0 where
   -- the list is as long as the node's log
   pub behind : len_of x.part ≡ length (t.machine.lists x.part.conf)
-  -- the commands come behind it, in their order, and nothing else
+  -- the entries come behind it, in their order, and nothing else
   pub list :
-      (execution_with t h).machine.lists x.part.conf ≡ t.machine.lists x.part.conf ++ entries_of commands
-  -- and the node knows each of them there
-  pub known : (k : ℕ) (c : Command) → slice_get commands k ≡ Some c
-      → IsKnownAt (execution_with t h).machine x.part.conf x.node.pid (entry.Command c) (len_of x.part + k)
+      (execution_with t h).machine.lists x.part.conf
+      ≡ t.machine.lists x.part.conf ++ entries_for x.node proposal
+  -- the node knows each of them there
+  pub known : (k : ℕ) (e : Entry) → slice_get (entries_for x.node proposal) k ≡ Some e
+      → IsKnownAt (execution_with t h).machine x.part.conf x.node.pid e (len_of x.part + k)
+  -- and no more
+  pub whole :
+      (execution_with t h).machine.known x.node.pid x.part.conf
+      ≤ len_of x.part + length (entries_for x.node proposal)
+  -- by a stop-sign it leaves its configuration
+  pub closes : ClosesBy proposal x.part (node_at (world_after t.world h).nodes x.node.pid)
 
 -- the happening itself then decides each of them
 abbrev pub DecidesAlone : Execution → Happening → Type 0
-DecidesAlone t h = (commands : List Command) (x : TakesAlone t h commands) → DecidedAlone t h commands x
+DecidesAlone t h = (proposal : Proposal) (x : TakesAlone t h proposal) → DecidedAlone t h proposal x
 
 -- so it is from whatever state a run has come to
 abbrev pub LeadersDecideAlone : Type 0
@@ -76,15 +95,20 @@ reply_lines pid s before (c ∷ cs) =
     (if is_asked before c then [] else line.Reply pid c.client c.seq (answer_of s c) ∷ [])
     ++ reply_lines pid (service_with s c) (c ∷ before) cs
 
--- That very happening also answers the client of each of them, by the service of all that stands before in
--- the lists. Its lines are the outcome, with the configuration and the place of the first command, and these
+-- what a node's clients are told of a proposal: nothing of a stop-sign
+abbrev pub lines_told : ℕ → Service → Proposal → List Line
+lines_told pid s (proposed.Commands commands) = reply_lines pid s [] commands
+lines_told pid s (proposed.Stop members) = []
+
+-- That very happening also answers the client of each command, by the service of all that stands before in
+-- the lists. Its lines are the outcome, with the configuration and the place of the first entry, and these
 -- replies. There are no others.
 abbrev pub AnswersAlone : Execution → Happening → Type 0
 AnswersAlone t h =
-    (commands : List Command) (x : TakesAlone t h commands)
+    (proposal : Proposal) (x : TakesAlone t h proposal)
     → (execution_with t h).world.lines
     ≡ t.world.lines ++ line.Answer h.event.line (outcome.Appended x.part.conf (len_of x.part))
-    ∷ reply_lines x.node.pid (service_of (prefix_of t.machine.lists x.part.conf (len_of x.part))) [] commands
+    ∷ lines_told x.node.pid (service_of (prefix_of t.machine.lists x.part.conf (len_of x.part))) proposal
 
 -- so it is from whatever state a run has come to
 abbrev pub LeadersAnswerAlone : Type 0

@@ -14,7 +14,6 @@ use Rattle.op_types.specs.declared.ballot.Ballot.{Ballot}
 use Rattle.op_types.specs.declared.durable.Part.{Part}
 use Rattle.op_types.specs.declared.events.Input.TheVariants as input
 use Rattle.op_runs.specs.declared.events.What.TheVariants as what
-use Rattle.op_types.specs.declared.log.Command.{Command}
 use Rattle.op_types.specs.declared.log.Entry.{Entry}
 use Rattle.op_types.specs.declared.log.Entry.TheVariants as entry
 use Rattle.op_types.specs.declared.messages.Body.{Body}
@@ -24,11 +23,12 @@ use Rattle.op_runs.specs.declared.summary.Line.{Line}
 use Rattle.op_runs.specs.declared.summary.Line.TheVariants as line
 use Rattle.op_spec.specs.Machine.{IsAmong}
 use Rattle.op_protocol.specs.Parts.{pending}
-use Rattle.op_protocol.specs.Rows.{entries_of, refusal_of}
+use Rattle.op_protocol.specs.Configurations.{latest_of}
 use Rattle.op_runs.specs.World.{World, Node, Up, Happening, Doing, Steps, Deed, deed_of, node_at, run_of}
 use Rattle.op_runs.specs.Run.{Execution, first_execution, execution_of}
 use Rattle.op_laws.specs.Runs.{RunInRange}
 use Rattle.op_laws.specs.Led.{IsBelowAt}
+use Rattle.op_laws.specs.Proposals.{Proposal, event_of, entries_for, IsTaken}
 use Rattle.op_laws.specs.Alone.{IsKnownAt}
 
 -- a ballot of a configuration, and the node that leads it
@@ -101,11 +101,17 @@ abbrev pub KeepsSessionsOf : List ℕ → ℕ → Option Deed → Type 0
 KeepsSessionsOf others q None = Unit {0}
 KeepsSessionsOf others q (Some d) = d.pid ≡ q → KeepsSessions others d.doing
 
--- from happening number i on, q keeps to the term, and no session of it with one of the others ends
-pub record IsCalm (w : World) (hs : List Happening) (x : Term) (others : List ℕ) (q i : ℕ) : Type 0 where
-  pub up : (j : ℕ) → i ≤ j → IfKeepsTo x (node_before w hs j q)
-  pub sessions : (j : ℕ) (h : Happening) → i ≤ j → slice_get hs j ≡ Some h
+-- from happening number i to number end, q keeps to the term before each, and no happening before that end
+-- ends a session of it with one of the others
+pub record IsCalm (w : World) (hs : List Happening) (x : Term) (others : List ℕ) (q i end : ℕ) : Type 0 where
+  pub up : (j : ℕ) → i ≤ j → j ≤ end → IfKeepsTo x (node_before w hs j q)
+  pub sessions : (j : ℕ) (h : Happening) → i ≤ j → j < end → slice_get hs j ≡ Some h
       → KeepsSessionsOf others q (deed_of (before w hs j).messages h.event.what)
+
+-- the node is there, and up
+abbrev pub IsUpThere : Option Node → Type 0
+IsUpThere None = ⊥
+IsUpThere (Some n) = n.status ≡ Up
 
 -- ---- where what is proposed comes to stand
 
@@ -131,7 +137,7 @@ pub record Begins (w : World) (p : ℕ) (hs : List Happening) (i : ℕ) : Type 0
   pub preparing : node_role (node_before w hs i p) ≡ role.Preparing preparation
   pub leading : node_role (node_before w hs (suc i) p) ≡ role.Leading leadership
 
--- where in a run a command is proposed: the number of the happening, and its place among what is proposed
+-- where in a run an entry is proposed: the number of the happening, and its place among what is proposed
 -- there
 abbrev pub Proposed : Type 0
 Proposed = ℕ × ℕ
@@ -178,12 +184,17 @@ pub record IsDropped (w : World) (p : ℕ) (hs : List Happening) (at : Proposed)
   pub why : Cause
   pub full : IsFullAt why (node_before w hs (suc buffered.adds_at) p)
 
--- by happening number i, p's client of the command is told that it is dropped, and why: as p's log is then
-abbrev pub IsToldDropped : World → ℕ → List Happening → Command → ℕ → Type 0
-IsToldDropped w p hs c i =
+-- who is told of an entry: the client of a command, by its number; of a stop-sign 0 and 0
+abbrev pub asker_of : Entry → ℕ × ℕ
+asker_of (entry.Command c) = (c.client, c.seq)
+asker_of (entry.Stop s) = (0, 0)
+
+-- by happening number i, p tells whoever proposed the entry that it is dropped, and why: as p's log is then
+abbrev pub IsToldDropped : World → ℕ → List Happening → Entry → ℕ → Type 0
+IsToldDropped w p hs e i =
     (why : Cause) × IsFullAt why (node_before w hs (suc i) p)
     × (new : List Line) × ((before w hs (suc i)).lines ≡ (before w hs i).lines ++ new)
-    × IsAmong new (line.Dropped p c.client c.seq why)
+    × IsAmong new (line.Dropped p (asker_of e).0 (asker_of e).1 why)
 
 -- ---- the exchange with one other
 
@@ -255,10 +266,19 @@ Prepares b role.Idle = ⊥
 Prepares b (role.Preparing r) = r.ballot ≡ b
 Prepares b (role.Leading l) = ⊥
 
--- the node doesn't refuse these commands
-abbrev pub Takes : List Command → Option Node → Type 0
-Takes commands None = ⊥
-Takes commands (Some n) = refusal_of n.pid n.state.volatile.role n.state.durable (entries_of commands) ≡ None
+-- the node takes what is proposed, and the entry stands at this place in it
+abbrev pub Takes : Proposal → ℕ → Entry → Option Node → Type 0
+Takes proposal place e None = ⊥
+Takes proposal place e (Some n) =
+    IsTaken n proposal × (slice_get (entries_for n proposal) place ≡ Some e)
+
+-- the entry comes at p there, a stop-sign or a command, alone or with others, and isn't refused
+pub record Comes (w : World) (p : ℕ) (hs : List Happening) (at : Proposed) (e : Entry) : Type 0 where
+  pub happening : Happening
+  pub is : slice_get hs at.0 ≡ Some happening
+  pub proposal : Proposal
+  pub proposes : happening.event.what ≡ event_of p proposal
+  pub taken : Takes proposal at.1 e (node_before w hs at.0 p)
 
 -- a part's members
 abbrev pub part_members : Option Part → List ℕ
@@ -270,42 +290,62 @@ abbrev pub members_at : Option Node → List ℕ
 members_at None = []
 members_at (Some n) = part_members n.state.durable.part
 
--- the leader of a term, which prepares its ballot in w, does the five steps with each of the others, that
--- with it are a majority of its configuration, and the command comes at the leader meanwhile
+-- ---- how it ends
+
+-- each of the others has done its five steps by happening number last, and nothing disturbs it from its step
+-- 1 on until it has answered last
+pub record AllAnswer (w : World) (hs : List Happening) (x : Term) (others : List ℕ) (at : Proposed) (last : ℕ)
+    : Type 0 where
+  pub steps : (q : ℕ) → IsOne others q → FiveSteps w hs x q at
+  pub by_last : (q : ℕ) (i : IsOne others q) → (steps q i).ack_at ≤ last
+  pub calm : (q : ℕ) (i : IsOne others q)
+      → IsCalm w hs x (x.leader ∷ []) q (steps q i).prepare_at (suc (steps q i).ack_sent)
+
+-- the node is past the term's configuration
+abbrev pub IsPast : Term → Option Node → Type 0
+IsPast x None = ⊥
+IsPast x (Some n) = x.conf < latest_of n.state.durable
+
+-- at happening number i an Accepted comes at the leader, by which it closes its configuration
+pub record ClosesAt (w : World) (hs : List Happening) (x : Term) (i : ℕ) : Type 0 where
+  pub from : ℕ
+  pub ballot : Ballot
+  pub size : ℕ
+  pub delivery : Delivery w hs x.conf i from x.leader (body.Accepted ballot size)
+  pub then : IsPast x (node_before w hs (suc i) x.leader)
+
+-- The leader of a term prepares its ballot in w, and the entry comes at it meanwhile. Each of the others, who
+-- with it are a majority of its configuration, does the five steps with it, or it closes its configuration.
 pub record Exchange (w : World) (hs : List Happening) (x : Term) (others : List ℕ)
-    (c : Command) : Type 0 where
+    (e : Entry) : Type 0 where
   pub preparing : Prepares x.ballot (node_role (node_at w.nodes x.leader))
   pub are_members : (q : ℕ) → IsOne others q
       → IsOne (members_at (node_at w.nodes x.leader)) q × (q ≡ x.leader → ⊥)
   pub majority :
       is_majority (passing (λ q. q == x.leader || is_member nat_eq others q)
       (members_at (node_at w.nodes x.leader))) (length (members_at (node_at w.nodes x.leader))) ≡ true
-  -- the command comes at the leader, alone or with others, and isn't refused
   pub proposed_at : Proposed
-  pub happening : Happening
-  pub is : slice_get hs proposed_at.0 ≡ Some happening
-  pub commands : List Command
-  pub proposes : happening.event.what ≡ what.Commands x.leader commands
-  pub among : slice_get commands proposed_at.1 ≡ Some c
-  pub taken : Takes commands (node_before w hs proposed_at.0 x.leader)
-  pub steps : (q : ℕ) → IsOne others q → FiveSteps w hs x q proposed_at
-  -- nothing disturbs the leader, nor q from its step 1 on
-  pub calm : IsCalm w hs x others x.leader 0
-  pub calm_other : (q : ℕ) (i : IsOne others q)
-      → IsCalm w hs x (x.leader ∷ []) q (steps q i).prepare_at
+  pub comes : Comes w x.leader hs proposed_at e
+  -- the entry comes before the happening of this number, with which the exchange ends
+  pub last : ℕ
+  pub in_time : proposed_at.0 < last
+  pub ends : AllAnswer w hs x others proposed_at last ⊎ ClosesAt w hs x last
+  -- until then nothing disturbs the leader, and it is up after that
+  pub calm : IsCalm w hs x others x.leader 0 last
+  pub done : IsUpThere (node_before w hs (suc last) x.leader)
 
 -- ---- what it decides
 
--- An exchange in what comes decides the command that is proposed in it, in its configuration's list and at
--- its place, unless that is dropped after a stop-sign or at the end of positions: then its client is told so
--- by the very step that drops it.
+-- An exchange in what comes decides the entry that is proposed in it, in its configuration's list and at its
+-- place, unless that is dropped after a stop-sign or at the end of positions: then whoever proposed it is
+-- told so by the very step that drops it.
 abbrev pub ExchangesDecide : Execution → List Happening → Type 0
 ExchangesDecide t hs =
-    (x : Term) (others : List ℕ) (c : Command) (y : Exchange t.world hs x others c)
+    (x : Term) (others : List ℕ) (e : Entry) (y : Exchange t.world hs x others e)
     → ((place : ℕ) × IsPlaced t.world x.leader hs y.proposed_at place ×
-    IsKnownAt (execution_of t hs).machine x.conf x.leader (entry.Command c) place)
-    ⊎ ((d : IsDropped t.world x.leader hs y.proposed_at (entry.Command c))
-    × IsToldDropped t.world x.leader hs c d.buffered.adds_at)
+    IsKnownAt (execution_of t hs).machine x.conf x.leader e place)
+    ⊎ ((d : IsDropped t.world x.leader hs y.proposed_at e)
+    × IsToldDropped t.world x.leader hs e d.buffered.adds_at)
 
 -- so it is from whatever state a run has come to
 abbrev pub ExchangeDecides : Type 0

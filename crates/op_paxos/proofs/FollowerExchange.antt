@@ -86,8 +86,8 @@ module _ (ms : List ℕ) (w : World) (es : List Event) where
   within i p q m d = slice_get_within es i (Delivers d.number) d.event
 
 -- ---- one other
-module _ (ms : List ℕ) (w : World) (g : History) (good : Good ms w g) (es : List Event) (p b : ℕ) (others : List ℕ) (members : (q : ℕ) → IsAmong others q → IsAmong ms q × (q ≡ p → ⊥)) (calm : IsCalm ms w es b others p 0)
-    (q : ℕ) (mine : IsAmong others q) (come : Proposed) (s : Needs ms w es b p q come) (calm_q : IsCalm ms w es b (p ∷ []) q s.prepare_at) where
+module _ (ms : List ℕ) (w : World) (g : History) (good : Good ms w g) (es : List Event) (p b : ℕ) (others : List ℕ) (members : (q : ℕ) → IsAmong others q → IsAmong ms q × (q ≡ p → ⊥)) (calm : IsCalm ms w es b others p 0 (length es))
+    (q : ℕ) (mine : IsAmong others q) (come : Proposed) (s : Needs ms w es b p q come) (calm_q : IsCalm ms w es b (p ∷ []) q s.prepare_at (suc s.ack_sent)) where
   abbrev pub at : ℕ → World
   at i = W ms w es i
 
@@ -113,10 +113,10 @@ module _ (ms : List ℕ) (w : World) (g : History) (good : Good ms w g) (es : Li
     accepted : (here i).accepted ≡ b
     long : n ≤ length (here i).log
 
-  holds : (n i : ℕ) → s.prepare_at ≤ i → Has n i → Holds n i
-  holds n i le h =
+  holds : (n i : ℕ) → s.prepare_at ≤ i → i ≤ suc s.ack_sent → Has n i → Holds n i
+  holds n i le up_to h =
       let o = (inv_at i).nodes q in
-      let low = calm_q.promised i le in
+      let low = calm_q.promised i le up_to in
       let up = o.last b (omega (arith, h)) in
       let is : (here i).accepted ≡ b = omega (arith, up, low, o.within) in
       record { promised = omega (arith, up, low, o.within); accepted = is; long = omega (arith, h, o.vote, ap ((hist i).acc q) is) }
@@ -151,7 +151,7 @@ module _ (ms : List ℕ) (w : World) (g : History) (good : Good ms w g) (es : Li
   promised_then : (here s.sync_at).promised ≡ b
   promised_then =
       let k = (inv_at s.sync_at).packets (packet p q (AcceptSync b s.start s.rest)) synced_in in
-      omega (arith, k.promised, calm_q.promised s.sync_at (omega (arith, after_one)))
+      omega (arith, k.promised, calm_q.promised s.sync_at (omega (arith, after_one)) (omega (arith, s.after_sync)))
 
   sync_fits : (s.start ≤ length (here s.sync_at).log) × (((here s.sync_at).accepted ≡ b) ⊎ (((here s.sync_at).accepted < b) × ((here s.sync_at).decided ≤ s.start)))
   sync_fits =
@@ -189,10 +189,10 @@ module _ (ms : List ℕ) (w : World) (g : History) (good : Good ms w g) (es : Li
   pub the_stream : Stream ms w g good es p b others members calm q (suc s.sync_sent) top end
   the_stream = stream_to end (omega (arith, s.after_sending, sync_early))
 
-  accept_now : (i a : ℕ) (es' : List Entry) → Delivery ms w es i p q (Accept b a es') → s.prepare_at ≤ i → Has a i → Has (a + length es') (suc i)
+  accept_now : (i a : ℕ) (es' : List Entry) → Delivery ms w es i p q (Accept b a es') → s.prepare_at ≤ i → i ≤ suc s.ack_sent → Has a i → Has (a + length es') (suc i)
   unfolding step on_msg
-  accept_now i a es' d le h =
-      let o = holds a i le h in
+  accept_now i a es' d le up_to h =
+      let o = holds a i le up_to h in
       let t = takes_accept q (here i) p b a es' o.promised o.accepted o.long in
       let now : here (suc i) ≡ (on_accept q (here i) p b a es').node = ap (λ (y : World). y.nodes q) (delivered ms w es i p q (Accept b a es') d) ∙ upd_here (at i).nodes q q _ refl in
       has_from (a + length es') (suc i) (ap (λ (n : Node). n.accepted) now ∙ t.0) (omega (arith, t.1, ap (λ (n : Node). length n.log) now))
@@ -201,7 +201,7 @@ module _ (ms : List ℕ) (w : World) (g : History) (good : Good ms w g) (es : Li
   covered_below zero i a es' lt first up h = absurd (omega arith)
   covered_below (suc bound) i a es' lt first up h =
       let d = s.accepted i a es' first up h in
-      accept_now (s.accept_at i) a es' d.1 (omega (arith, after_one, d.0))
+      accept_now (s.accept_at i) a es' d.1 (omega (arith, after_one, d.0)) (omega (arith, s.after_accepts i a es' first up h))
       (⊎_elim (λ (x : a ≤ top). low x d.0)
       (λ (x : (0 < a) × Reaching ms w g good es p b others members calm q (suc s.sync_sent) i (a - 1)).
       let z = x.1 in
@@ -227,7 +227,7 @@ module _ (ms : List ℕ) (w : World) (g : History) (good : Good ms w g) (es : Li
       let k = sender ms w es s.ack_sent (s.acknowledged).number q p (Accepted b s.size) (s.acknowledged).new (s.acknowledged).is in
       let r = ack_by ms k.node ((at s.ack_sent).nodes k.node) k.input (step ms k.node ((at s.ack_sent).nodes k.node) k.input) (step_moves ms k.node ((at s.ack_sent).nodes k.node) k.input) q p b s.size k.sent in
       let now : here (suc s.ack_sent) ≡ (step ms k.node ((at s.ack_sent).nodes k.node) k.input).node = ap (λ y. (at (suc s.ack_sent)).nodes y) (sym r.from) ∙ k.here in
-      let o = holds n (suc s.ack_sent) (omega (arith, after_one, s.after_sync)) h in
+      let o = holds n (suc s.ack_sent) (omega (arith, after_one, s.after_sync)) (omega arith) h in
       omega (arith, o.long, r.size, ap (λ (y : Node). length y.log) now)
 
   -- p notes it

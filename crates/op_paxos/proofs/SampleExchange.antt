@@ -213,6 +213,6 @@ module _ (c : Command) where
     among = refl;
     taken = refl;
     steps = λ q i. ⊎_elim (λ (e : 2 ≡ q). subst (λ y. Steps members first events 1 1 y (2, 0)) e the_steps) (λ (x : ⊥). absurd x) i;
-    calm = record { promised = λ j le. low_1 j; alone = λ j e le h. all_alone (2 ∷ []) 1 j e h };
-    calm_other = λ q i. record { promised = λ j le. ⊎_elim (λ (e : 2 ≡ q). subst (λ y. ((at j).nodes y).promised ≤ 1) e (low_2 j)) (λ (x : ⊥). absurd x) i; alone = λ j e le h. all_alone (1 ∷ []) q j e h };
+    calm = record { promised = λ j le up. low_1 j; alone = λ j e le up h. all_alone (2 ∷ []) 1 j e h };
+    calm_other = λ q i. record { promised = λ j le up. ⊎_elim (λ (e : 2 ≡ q). subst (λ y. ((at j).nodes y).promised ≤ 1) e (low_2 j)) (λ (x : ⊥). absurd x) i; alone = λ j e le up h. all_alone (1 ∷ []) q j e h };
   }

@@ -3,6 +3,7 @@ use Rattle.std.proofs.Common.{◌≡◌, ℕ, suc, ◌+◌, ◌-◌, ◌<◌, �
 use Rattle.std.specs.Prelude.{slice_get}
 use Rattle.std.proofs.lemmas.Bool.{cases_lt}
 use Rattle.std.proofs.lemmas.List.{length-drop}
+use Rattle.std.proofs.lemmas.Option.{slice_get_within}
 use Rattle.op_types.specs.declared.log.Entry.{Entry}
 use Rattle.op_spec.specs.Machine.{IsAmong}
 use Rattle.op_paxos.specs.Nodes.{LeadingState, Leading, Node}
@@ -17,7 +18,7 @@ use Rattle.op_paxos.proofs.NumberedWorlds.{get_right, in_get, stable, W, Moves, 
 use Rattle.op_paxos.proofs.Senders.{sync_by, accept_by}
 use Rattle.op_paxos.proofs.Undisturbed.{LeadsOn, leads_on}
 
-module _ (ms : List ℕ) (w : World) (g : History) (good : Good ms w g) (es : List Event) (p b : ℕ) (others : List ℕ) (members : (q : ℕ) → IsAmong others q → IsAmong ms q × (q ≡ p → ⊥)) (calm : IsCalm ms w es b others p 0) where
+module _ (ms : List ℕ) (w : World) (g : History) (good : Good ms w g) (es : List Event) (p b : ℕ) (others : List ℕ) (members : (q : ℕ) → IsAmong others q → IsAmong ms q × (q ≡ p → ⊥)) (calm : IsCalm ms w es b others p 0 (length es)) where
   abbrev at : ℕ → World
   at i = W ms w es i
 
@@ -62,7 +63,7 @@ module _ (ms : List ℕ) (w : World) (g : History) (good : Good ms w g) (es : Li
       }
 
       moved : Moves ms w es others p i → LeadNext i l
-      moved m = by m (leads_on ms (at i) (G ms w es g good i) (good_at ms w es g good i).inv p m.input m.known (step ms p ((at i).nodes p) m.input) others m.alone l was (omega (arith, is, calm.promised (suc i) (omega arith), ap (λ (n : Node). n.promised) m.here)) (step_moves ms p ((at i).nodes p) m.input))
+      moved m = by m (leads_on ms (at i) (G ms w es g good i) (good_at ms w es g good i).inv p m.input m.known (step ms p ((at i).nodes p) m.input) others m.alone l was (omega (arith, is, calm.promised (suc i) (omega arith) (slice_get_within es i m.event m.is), ap (λ (n : Node). n.promised) m.here)) (step_moves ms p ((at i).nodes p) m.input))
 
   -- between these events an Accept was sent to q that reaches over this place
   pub record Reaching (q i0 i y : ℕ) : Type 0 where

@@ -58,11 +58,12 @@ abbrev pub LeavesAlone : List ℕ → ℕ → World → Event → Type 0
 LeavesAlone others x w e =
     (i : Input) → input_of w e ≡ Some (x, i) → (is_stopped e ≡ false) × (Interrupts others i → ⊥)
 
--- from event number i on, x promises nothing above b, and no event disturbs it
+-- from event number i to event number end, x promises nothing above b, and no event before that end disturbs
+-- it
 pub record IsCalm (members : List ℕ) (w : World) (events : List Event) (b : ℕ) (others : List ℕ)
-    (x i : ℕ) : Type 0 where
-  pub promised : (j : ℕ) → i ≤ j → (node_before members w events j x).promised ≤ b
-  pub alone : (j : ℕ) (e : Event) → i ≤ j → slice_get events j ≡ Some e
+    (x i end : ℕ) : Type 0 where
+  pub promised : (j : ℕ) → i ≤ j → j ≤ end → (node_before members w events j x).promised ≤ b
+  pub alone : (j : ℕ) (e : Event) → i ≤ j → j < end → slice_get events j ≡ Some e
       → LeavesAlone others x (world_before members w events j) e
 
 -- ---- where what is proposed comes to stand
@@ -192,10 +193,10 @@ pub record Exchange (members : List ℕ) (w : World) (p b : ℕ) (others : List 
   pub among : slice_get entries proposed_at.1 ≡ Some e
   pub taken : refuses (node_before members w events proposed_at.0 p) entries ≡ false
   pub steps : (q : ℕ) → IsAmong others q → Steps members w events b p q proposed_at
-  -- nothing disturbs p, nor q from its step 1 on
-  pub calm : IsCalm members w events b others p 0
+  -- nothing disturbs p, nor q from its step 1 on until it has answered last
+  pub calm : IsCalm members w events b others p 0 (length events)
   pub calm_other : (q : ℕ) (i : IsAmong others q)
-      → IsCalm members w events b (p ∷ []) q (steps q i).prepare_at
+      → IsCalm members w events b (p ∷ []) q (steps q i).prepare_at (suc (steps q i).ack_sent)
 
 -- ---- what it decides
 
