@@ -8,3 +8,5 @@ pub mod Pending
 pub mod Wholes
 pub mod Calling
 pub mod Sound
+pub mod Stops
+pub mod Gathering

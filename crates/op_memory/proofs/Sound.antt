@@ -1,5 +1,4 @@
 -- What holds of a disk in memory at each moment, and what its calls make pending.
-use Rattle.std.proofs.Common.{◌≡◌, List, subst}
 use Rattle.op_outside.specs.Disks.{IsSound}
 use Rattle.op_memory.specs.declared.disk.MemDisk.{MemDisk}
 use Rattle.op_memory.specs.MemDisks.{known_disk}

@@ -3,7 +3,7 @@ use Rattle.std.specs.Prelude.{◌≡◌, ℕ}
 use Rattle.op_outside.specs.Disks.{DiskState}
 use Rattle.op_memory.specs.declared.call.Call.{Call}
 use Rattle.op_memory.specs.declared.disk_history.DiskHistory.{DiskHistory}
-use Rattle.op_memory.specs.Images.{State, state_of, fresh, after, known, IfSync, LeftNow}
+use Rattle.op_memory.specs.Images.{State, state_of, fresh, without_stop, after, known, IfSync, LeftNow}
 
 -- what is known of a disk with this history that counts so many faults and so many device calls
 abbrev pub known_of : DiskHistory → ℕ → ℕ → DiskState
@@ -12,6 +12,10 @@ known_of h faults made = known h.start.items h.calls.items h.bytes.items faults 
 -- what is pending, and what a read gives
 abbrev pub history_state : DiskHistory → State
 history_state h = state_of (fresh h.start.items) h.calls.items
+
+-- the same before a last call in which the disk stopped
+abbrev pub state_before : DiskHistory → State
+state_before h = state_of (fresh h.start.items) (without_stop h.calls.items)
 
 -- one call more was made
 pub record Adds (call : Call) (old new : DiskHistory) : Type 0 where

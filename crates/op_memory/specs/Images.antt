@@ -1,5 +1,5 @@
 -- What a crash may leave of a disk in memory: its images after its calls.
-use Rattle.std.specs.Prelude.{◌≡◌, ◌⊎◌, ℕ, ◌+◌, ◌<◌, ◌≤◌, List, [], ◌∷◌, ◌++◌, length, take, drop, slice_index}
+use Rattle.std.specs.Prelude.{◌≡◌, ◌⊎◌, ℕ, ◌+◌, ◌<◌, ◌≤◌, List, [], ◌∷◌, ◌++◌, length, take, drop, slice_index, Bool, true, false, if◌then◌else◌}
 use Rattle.op_outside.specs.Disks.{DiskState, Only, Edit}
 use Rattle.op_outside.specs.Pendings.{Pending, synced, written, shortened, Uncovered, IsImage}
 use Rattle.op_outside.specs.Disks.Edit.{Nothing, Write as Writes, Cut as Cuts}
@@ -69,6 +69,26 @@ completed Sync bytes = bytes
 abbrev pub state_of : State → List Call → State
 state_of s [] = s
 state_of s (call ∷ calls) = state_of (after call s) calls
+
+-- the disk stopped in this call
+abbrev pub is_stop : Call → Bool
+is_stop (Write at piece) = false
+is_stop (StoppedWrite at piece) = true
+is_stop (Cut n) = false
+is_stop (StoppedCut n) = true
+is_stop Sync = false
+
+-- these calls without a last one in which the disk stopped
+abbrev pub without_stop : List Call → List Call
+without_stop [] = []
+without_stop (call ∷ []) = if is_stop call then [] else call ∷ []
+without_stop (call ∷ next ∷ calls) = call ∷ without_stop (next ∷ calls)
+
+-- the last of these calls is one in which the disk stopped
+abbrev pub ends_in_stop : List Call → Bool
+ends_in_stop [] = false
+ends_in_stop (call ∷ []) = is_stop call
+ends_in_stop (call ∷ next ∷ calls) = ends_in_stop (next ∷ calls)
 
 -- some write covers this place
 abbrev pub Covered : List (ℕ × ℕ) → ℕ → Type 0

@@ -10,3 +10,4 @@ pub mod Fakes
 pub mod FakeClocks
 pub mod FakeSpawners
 pub mod ScriptNets
+pub mod Pends

@@ -1,14 +1,15 @@
 -- A disk in memory, as its calls made it.
-use Rattle.std.specs.Prelude.{◌≡◌, ◌≢◌, ◌⊎◌, ◌↔◌, ◌<◌, ℕ, ◌+◌, min, List, [], length, take, IsTrue, None, false, Result, OnOk, OnErr}
+use Rattle.std.specs.Prelude.{◌≡◌, ◌≢◌, ◌⊎◌, ◌↔◌, ◌<◌, ℕ, Bool, ◌+◌, min, List, [], length, IsTrue, None, true, false, if◌then◌else◌, Result, OnOk, OnErr}
 use Rattle.op_outside.specs.Causes.{last_count}
 use Rattle.op_outside.specs.Disks.{DiskState, MayLeave, IsAtRest, disk_end}
 use Rattle.op_memory.specs.declared.disk.MemDisk.{MemDisk}
 use Rattle.op_memory.specs.Syncs.{HasNoSync}
-use Rattle.op_memory.specs.FaultScripts.{next_fate, IsScript, IsSameScript, MakesCall}
+use Rattle.op_memory.specs.FaultScripts.{fate_where, IsScript, IsSameScript, MakesCallWhere}
+use Rattle.op_memory.specs.declared.call_fate.CallFate.{CallFate}
 use Rattle.op_memory.specs.declared.call_fate.CallFate.TheVariants.{Runs, Stops}
 use Rattle.op_memory.specs.declared.call_fate.CallFate.TheVariants as fate
-use Rattle.op_memory.specs.Images.{State, fresh, wrote, stopped_in_write, cut_to, stopped_in_cut, IsFilled}
-use Rattle.op_memory.specs.Histories.{known_of, history_state}
+use Rattle.op_memory.specs.Images.{State, fresh, wrote, stopped_in_write, cut_to, stopped_in_cut, ends_in_stop, IsFilled}
+use Rattle.op_memory.specs.Histories.{known_of, history_state, state_before}
 
 -- what is known of it; its device calls are those that its script counts
 abbrev pub known_disk : MemDisk → DiskState
@@ -35,11 +36,12 @@ pub record Holds (bytes : List ℕ) (d : MemDisk) : Type 0 where
   pub state : disk_state d ≡ fresh bytes
   pub seen : seen_of d ≡ bytes
   pub count : fault_count_of d ≡ 0
-  pub script : IsScript 0 [] None false d.script
+  pub script : IsScript 0 [] None false false d.script
+  pub power : d.power ≡ None
   pub fed : d.faults.is_starved ≡ false
   pub rests : IsAtRest (known_disk d)
 
--- nothing but the script has changed
+-- nothing but the script and the switch has changed
 pub record IsUnchanged (old new : MemDisk) : Type 0 where
   pub history : new.history ≡ old.history
   pub faults : new.faults ≡ old.faults
@@ -63,6 +65,7 @@ pub record Forgets (old new : MemDisk) : Type 0 where
   pub seen : seen_of new ≡ seen_of old
   pub faults : new.faults ≡ old.faults
   pub script : IsSameScript old.script new.script
+  pub power : new.power ≡ old.power
 
 -- The image of this number: 0 of what was synced, 1 of all that is pending,
 -- and else of that byte wherever a write is pending.
@@ -72,7 +75,43 @@ pub record IsImageOf (d : MemDisk) (number : ℕ) (x : List ℕ) : Type 0 where
   pub whole : number ≡ 1 → x ≡ (disk_state d).whole
   pub filled : 1 < number → IsFilled (disk_state d).pending number x
 
+-- The image of this number without the write or the cut in which the disk stopped:
+-- at 1 what a read gives. Of a disk that has not stopped it is the image.
+pub record IsImageBefore (d : MemDisk) (number : ℕ) (x : List ℕ) : Type 0 where
+  pub left : MayLeave (known_disk d) x
+  pub synced : number ≡ 0 → x ≡ (disk_state d).pending.base
+  pub runs : d.script.is_stopped ≡ false → IsImageOf d number x
+  pub seen : d.script.is_stopped ≡ true → number ≡ 1 → x ≡ seen_of d
+  pub filled : d.script.is_stopped ≡ true → 1 < number → IsFilled (state_before d.history).pending number x
+
+-- the disk stopped in a call that it doesn't keep: in a sync, or in one that changes nothing
+abbrev pub stopped_in_none : MemDisk → Bool
+stopped_in_none d =
+    if d.script.is_stopped then (if ends_in_stop d.history.calls.items then false else true) else false
+
+-- The image of this number as if the call in which the disk stopped had been done: what a read gives
+-- where that was a sync, and the image where it was a write or a cut, which is pending, or it has not
+-- stopped.
+pub record IsImageDone (d : MemDisk) (number : ℕ) (x : List ℕ) : Type 0 where
+  pub left : MayLeave (known_disk d) x
+  pub synced : stopped_in_none d ≡ true → x ≡ seen_of d
+  pub runs : stopped_in_none d ≡ false → IsImageOf d number x
+
+-- the same is pending of two disks
+abbrev pub PendAlike : MemDisk → MemDisk → Type 0
+PendAlike d e = (known_disk d).pending ≡ (known_disk e).pending
+
 -- ---- one call
+
+-- The power was off or on in a call, which no clause can tell, since a switch is shared:
+-- of a disk that shares none it was on.
+pub record KeepsPower (old new : MemDisk) : Type 0 where
+  pub same : new.power ≡ old.power
+  pub unshared : old.power ≡ None → new.was_off ≡ false
+
+-- what became of the call: that of the script, or a stop where the power was off
+abbrev pub fate_of : MemDisk → MemDisk → CallFate
+fate_of old new = fate_where new.was_off old.script
 
 -- what a caller asks a disk for: its length, a read of so many bytes from a place on,
 -- a write there, a cut to a length, a sync
@@ -121,20 +160,21 @@ stopped_of AskSync d = disk_state d
 pub record FailsAsScripted (request : Request) (old new : MemDisk) : Type 0 where
   pub count : fault_count_of new ≡ min (fault_count_of old + 1) last_count
   pub seen : seen_of new ≡ seen_of old
-  pub cause : (next_fate old.script ≢ Runs) ⊎ IsOut request old ⊎ HasStarved request new
-  pub fed : (next_fate old.script ≡ fate.Fails) ⊎ IsOut request old ⊎ (HasStarved request new → ⊥)
+  pub cause : (fate_of old new ≢ Runs) ⊎ IsOut request old ⊎ HasStarved request new
+  pub fed : (fate_of old new ≡ fate.Fails) ⊎ IsOut request old ⊎ (HasStarved request new → ⊥)
       → new.faults.is_starved ≡ old.faults.is_starved
   pub state : (disk_state new ≡ disk_state old)
-      ⊎ ((next_fate old.script ≡ Stops) × (disk_state new ≡ stopped_of request old))
-  pub pending : next_fate old.script ≡ Stops → (disk_state new ≡ stopped_of request old)
+      ⊎ ((fate_of old new ≡ Stops) × (disk_state new ≡ stopped_of request old))
+  pub pending : fate_of old new ≡ Stops → (disk_state new ≡ stopped_of request old)
       ⊎ ((disk_state new ≡ disk_state old) × (IsOut request old ⊎ HasStarved request new))
 
 -- What a call does beside what a call of every disk does: it counts in the script, is done only where it was
 -- to run and then leaves this state, and fails as scripted.
 pub record Performs {T E : Type 0} (request : Request) (old new : MemDisk)
     (result : Result T E) : Type 0 where
-  pub script : MakesCall old.script new.script
-  pub runs : OnOk result (next_fate old.script ≡ Runs)
+  pub script : MakesCallWhere new.was_off old.script new.script
+  pub power : KeepsPower old new
+  pub runs : OnOk result (fate_of old new ≡ Runs)
   pub state : OnOk result (disk_state new ≡ done_of request old)
   pub fed : OnOk result (new.faults.is_starved ≡ old.faults.is_starved)
   pub err : OnErr result (FailsAsScripted request old new)
