@@ -12,6 +12,8 @@ mod mirrored_stores;
 #[cfg(test)]
 mod mirrors;
 #[cfg(test)]
+mod powers;
+#[cfg(test)]
 mod silent;
 #[cfg(test)]
 mod store_damage;

@@ -162,3 +162,33 @@ fn copies_that_both_live_are_written_alike(rt: HostRuntime) -> Result<(), Fail> 
     assert_eq!(rt; (first.calls(), second.calls()), (9, 7));
     Ok(())
 }
+
+/// The mirror, with its first or its second copy killed.
+fn killed(mirror: Mirror<MemDisk>, is_first: bool) -> Mirror<MemDisk> {
+    let (mut first, mut second, halves) = mirror.apart();
+    if is_first {
+        first.kill();
+    } else {
+        second.kill();
+    }
+    Mirror::together(first, second, halves)
+}
+
+#[test]
+fn a_killed_copy_is_out_over_starts(rt: HostRuntime) -> Result<(), Fail> {
+    for is_first in [true, false] {
+        let mut mirror = killed(mirror(rt.alloc(), 0, 0)?, is_first);
+        assert!(rt; change(&mut mirror).is_ok());
+        assert!(rt; mirror.has_first() != is_first && mirror.has_second() == is_first);
+        assert_eq!(rt; mirror.reads_second(), is_first);
+        let (first, second, _) = mirror.apart();
+        let Ok(mut again) = Mirror::open(rt.alloc(), first, second) else {
+            return Err("it is not opened".into());
+        };
+        assert_eq!(rt; again.living(), 1);
+        let mut bytes = [0u8; 5];
+        assert!(rt; again.read(0, &mut bytes).is_ok());
+        assert!(rt; bytes == *b"abcxy");
+    }
+    Ok(())
+}

@@ -48,6 +48,21 @@ fn an_area_without_damage_is_opened(rt: HostRuntime) -> Result<(), Fail> {
     Ok(())
 }
 
+#[test]
+fn an_area_whose_first_gate_is_not_open_is_begun_anew(rt: HostRuntime) -> Result<(), Fail> {
+    let whole = &WHOLE;
+    let areas: [&[&[u8]]; 2] = [
+        // Any byte but that of an open gate.
+        &[&[0x37], &whole[1..], &[0]],
+        // An open gate, and nothing behind it.
+        &[&whole[..1]],
+    ];
+    for parts in areas {
+        check_opens(&rt, parts, true, &[], &[whole, &[0]])?;
+    }
+    Ok(())
+}
+
 /// An area of these parts is damaged at this place, and it is left as it is.
 fn check_damage(
     rt: &(impl Abort + Alloc<A = Global>),
@@ -62,7 +77,13 @@ fn check_damage(
 #[test]
 fn damage_is_told_at_its_place(rt: HostRuntime) -> Result<(), Fail> {
     let (whole, step) = (&WHOLE, &FIRST_STEP);
-    let areas: [(&[&[u8]], u64); 6] = [
+    let areas: [(&[&[u8]], u64); 9] = [
+        // The header's magic is another one.
+        (&[&whole[..1], b"X", &whole[2..], &[0]], 0),
+        // The gate of the first record is closed.
+        (&[&whole[..17], &[0], &whole[18..], &[0]], 0),
+        // The first record tells more bytes than there are.
+        (&[&whole[..18], &[1], &whole[19..], &[0]], 17),
         // The first change has no change's tag.
         (&[whole, &step[..11], &[13], &step[12..], &[0]], 111),
         // More is decided than there are entries.

@@ -4,3 +4,6 @@ pub mod Pending
 pub mod Filling
 pub mod FirstCalls
 pub mod Takings
+pub mod Crashes
+pub mod Starts
+pub mod Marks

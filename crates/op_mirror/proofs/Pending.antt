@@ -1,5 +1,5 @@
 -- What a call of a mirror makes pending, and that its copies stay alike.
-use Rattle.std.proofs.Common.{◌≡◌, ◌⊎◌, inl, inr, ℕ, List, Bool, true, false, not, ◌&&◌, ◌||◌, refl, sym, ◌∙◌, ap, subst, Result, Ok, Err, is_ok}
+use Rattle.std.proofs.Common.{◌≡◌, ◌⊎◌, inl, ℕ, List, Bool, true, false, not, ◌&&◌, ◌||◌, refl, sym, ◌∙◌, ap, subst, Result, Ok, Err, is_ok}
 use Rattle.std.proofs.lemmas.Bool.{true≢false, false≢true}
 use Rattle.std.specs.Prelude.{OnOk, IsErr}
 use Rattle.op_outside.specs.Pendings.{Pending, synced}

@@ -91,6 +91,12 @@ EitherLeft gone a b (Both (At n) (At m)) c = ⊥
 EitherLeft gone a b (Both (Both s t) u) c = ⊥
 EitherLeft gone a b (At n) c = ⊥
 
+-- the second copy is read, since the first one failed first
+abbrev pub reads_second : Gone → Bool
+reads_second Neither = false
+reads_second First = true
+reads_second Second = false
+
 -- the copy that is read
 abbrev pub read_copy : Gone → DiskState → DiskState → DiskState
 read_copy Neither a b = a

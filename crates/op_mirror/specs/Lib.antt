@@ -7,3 +7,6 @@ pub mod Opens
 pub mod Joins
 pub mod Takes
 pub mod Crashes
+pub mod Starts
+pub mod Marks
+pub mod Risings

@@ -1,7 +1,9 @@
 -- What the opening of a mirror gives, and when it refuses.
 use Rattle.std.specs.Prelude.{◌≡◌, ◌↔◌, ℕ, [], ◌∷◌, false}
 use Rattle.op_outside.specs.Causes.{Rises}
-use Rattle.op_outside.specs.Disks.{DiskState}
+use Rattle.op_outside.specs.Disks.{DiskState, MayLeave, LeavesOnly, IsSound, GoesOn}
+use Rattle.op_outside.specs.Disks.Edit.{Nothing}
+use Rattle.op_mirror.specs.Crashes.{LeavesMixes, IsOneCall}
 use Rattle.op_mirror.specs.declared.gone.Gone.{Gone}
 use Rattle.op_mirror.specs.declared.gone.Gone.TheVariants.{Neither, First, Second}
 use Rattle.op_mirror.specs.declared.mirror.Mirror.{Mirror}
@@ -21,6 +23,14 @@ UnlessOut Neither P = P
 UnlessOut First P = Unit {0}
 UnlessOut Second P = P
 
+-- What a crash in the opening, or after it, leaves: of the first copy what it might have left before, and of
+-- the second one that or what mixes both copies' bytes with an image of then. Where the first copy failed in
+-- its first call the second one is only synced.
+pub record LeavesBoth (a b a' b' : DiskState) : Type 0 where
+  pub first : a.obeys → LeavesOnly (MayLeave a) a a'
+  pub second : a.obeys → LeavesMixes a.content b.content b b'
+  pub at_once : a.obeys → b.obeys → IsOneCall a a' → GoesOn Nothing b b'
+
 -- A mirror of these two: at least one of them lives, and one is out only where it failed in the opening.
 -- It reads as the first one did, unless that failed.
 pub record Opens {D : Type 0} {g : _} (state : D → DiskState) (a b : D) (m : Mirror D g) : Type 0 where
@@ -31,6 +41,9 @@ pub record Opens {D : Type 0} {g : _} (state : D → DiskState) (a b : D) (m : M
   pub rose : RoseAt m.gone (state a).faults (state m.first).faults (state b).faults (state m.second).faults
   pub first_mark : (state m.first).mark ≡ (state a).mark
   pub second_mark : (state m.second).mark ≡ (state b).mark
+  pub leaves : LeavesBoth (state a) (state b) (state m.first) (state m.second)
+  pub at_once : (state a).obeys → IsOneCall (state a) (state m.first) → m.gone ≡ First
+  pub sound : (known_mirror state m).obeys → IsSound (known_mirror state m)
   pub content : UnlessOut m.gone
       ((state a).obeys → (state b).obeys → (known_mirror state m).content ≡ (state a).content)
 
@@ -41,3 +54,4 @@ RefusedFor state a b a' b' cause.DiskFail =
     Rises (state a).faults (state a').faults × Rises (state b).faults (state b').faults
     × ((state a').obeys ↔ (state a).obeys) × ((state b').obeys ↔ (state b).obeys)
     × ((state a').mark ≡ (state a).mark) × ((state b').mark ≡ (state b).mark)
+    × LeavesBoth (state a) (state b) (state a') (state b')

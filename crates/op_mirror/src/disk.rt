@@ -11,6 +11,7 @@ impl<D: Disk> Disk for Mirror<D> {
     ghost use Rattle.op_outside.specs.Disks.Edit.{Nothing, Write, Cut};
     ghost use Rattle.op_mirror.specs.Crashes.{LeavesAllMixes};
     ghost use Rattle.op_mirror.specs.Mirrors.{known_mirror};
+    ghost use Rattle.op_mirror.specs.Risings.{HasRisen};
     ghost use Rattle.op_mirror.specs.Takes.{TakesOut};
 
     ghost state = { λ m. known_mirror D.state m };
@@ -21,6 +22,7 @@ impl<D: Disk> Disk for Mirror<D> {
         ensures sound { (known_mirror D.state self.now).obeys → IsSound (known_mirror D.state self.now) }
 
         ensures mixes { LeavesAllMixes D.state self.now }
+        ensures marks { HasRisen D.state self.now }
     {
         let _first = self.first.faults();
         let _second = self.second.faults();
@@ -104,7 +106,8 @@ impl<D: Disk> Disk for Mirror<D> {
         );
         self.calls = self.calls.saturating_add(1);
         self.gone = gone_after(self.gone, first, second);
-        if is_read_ok(self.gone, first, second) {
+        let is_done = is_read_ok(self.gone, first, second);
+        if is_done {
             return Ok(());
         }
         self.is_dead = true;

@@ -1,9 +1,11 @@
-ghost use Rattle.std.specs.Prelude.{◌≡◌, ◌≤◌, ◌+◌, ◌-◌, ◌↔◌, not, min, length, take, drop};
-ghost use Rattle.op_outside.specs.Causes.{RisesIf};
-ghost use Rattle.op_outside.specs.Disks.{disk_end};
+ghost use Rattle.std.specs.Prelude.{◌≡◌, ◌≤◌, ◌+◌, ◌-◌, ◌↔◌, List, ℕ, not, min, length, take, drop};
+ghost use Rattle.op_outside.specs.Causes.{RisesIf, last_count};
+ghost use Rattle.op_outside.specs.Disks.{disk_end, MayLeave, LeavesOnly, GoesOn};
+ghost use Rattle.op_outside.specs.Disks.Edit.{Nothing};
 ghost use Rattle.op_outside.specs.Pendings.{synced};
 ghost use Rattle.op_mirror.specs.declared.level.Level.TheVariants as level;
 ghost use Rattle.op_mirror.specs.Copies.{IsAlike};
+ghost use Rattle.op_mirror.specs.Crashes.{LeavesMixes, EndsWith, IsOneCall};
 ghost use Rattle.op_mirror.specs.Levels.{LevelFaults, UnlessFirst, Levelled};
 ghost use Rattle.op_mirror.specs.Runs.{Fills};
 
@@ -38,6 +40,15 @@ fn level_piece<D: Disk>(
         → at ≤ length (D.state second.old).content
         → Fills at (take (length ours.old) (drop at (D.state first.old).content)) (length ours.old)
         (D.state second.old).content (D.state second.new).content }
+    // Whatever it answers: of the first copy a crash leaves what it might have left before.
+    ensures first_leaves { (D.state first.old).obeys →
+        LeavesOnly (MayLeave (D.state first.old)) (D.state first.old) (D.state first.new) }
+    ensures first_calls { (D.state first.old).obeys →
+        min (D.state first.old).calls last_count ≤ (D.state first.new).calls }
+    ensures second_leaves { (D.state first.old).obeys → (y : List ℕ) →
+        at + length ours.old ≤ length (D.state first.old).content →
+        drop at (D.state second.old).content ≡ drop at y → EndsWith y at theirs.old ours.old →
+        LeavesMixes (D.state first.old).content y (D.state second.old) (D.state second.new) }
 {
     let Ok(()) = first.read(at, ours) else {
         return Level::FirstFailed;
@@ -85,6 +96,14 @@ fn level<D: Disk>(
     ensures levelled { result ≡ level.Done → (D.state first.old).obeys → (D.state second.old).obeys
         → len ≡ length (D.state first.old).content → was ≡ length (D.state second.old).content
         → Levelled len was (D.state first.old).content (D.state second.new).content }
+    ensures first_leaves { (D.state first.old).obeys →
+        LeavesOnly (MayLeave (D.state first.old)) (D.state first.old) (D.state first.new) }
+    ensures first_calls { (D.state first.old).obeys →
+        min (D.state first.old).calls last_count ≤ (D.state first.new).calls }
+    ensures second_leaves { (D.state first.old).obeys →
+        len ≡ length (D.state first.old).content → was ≡ length (D.state second.old).content →
+        LeavesMixes (D.state first.old).content (D.state second.old).content
+        (D.state second.old) (D.state second.new) }
 {
     let mut at: u64 = 0;
     while at < len {
@@ -130,6 +149,13 @@ pub(crate) fn make_equal<D: Disk>(
         ((D.state first.old).obeys → (D.state first.new).content ≡ (D.state first.old).content) }
     ensures equal { result ≡ level.Done → (D.state first.old).obeys → (D.state second.old).obeys
         → IsAlike (D.state first.new) (D.state second.new) }
+    ensures first_leaves { (D.state first.old).obeys →
+        LeavesOnly (MayLeave (D.state first.old)) (D.state first.old) (D.state first.new) }
+    ensures at_once { (D.state first.old).obeys → IsOneCall (D.state first.old) (D.state first.new) →
+        (result ≡ level.FirstFailed) × (second.new ≡ second.old) }
+    ensures second_leaves { (D.state first.old).obeys →
+        LeavesMixes (D.state first.old).content (D.state second.old).content
+        (D.state second.old) (D.state second.new) }
 {
     let Ok(()) = first.sync() else {
         return Level::FirstFailed;
@@ -159,6 +185,8 @@ fn cut_behind<D: Disk>(second: &mut D, len: u64) -> Level
         → (D.state second.new).content ≡ take len (D.state second.old).content }
     ensures settled { result ≡ level.Done → (D.state second.old).obeys
         → (D.state second.new).pending ≡ synced (D.state second.new).content }
+    ensures leaves { (x y : List ℕ) → len ≡ length x →
+        LeavesMixes x y (D.state second.old) (D.state second.new) }
 {
     let Ok(()) = second.cut(len) else {
         return Level::SecondFailed;
@@ -175,6 +203,7 @@ fn sync_second<D: Disk>(second: &mut D) -> Level
         → (D.state second.new).content ≡ (D.state second.old).content }
     ensures settled { result ≡ level.Done → (D.state second.old).obeys
         → (D.state second.new).pending ≡ synced (D.state second.new).content }
+    ensures leaves { (x y : List ℕ) → LeavesMixes x y (D.state second.old) (D.state second.new) }
 {
     match second.sync() {
         Ok(()) => Level::Done,
@@ -187,6 +216,8 @@ pub(crate) fn sync_alone<D: Disk>(second: &mut D) -> bool
     ensures model { (D.state second.new).obeys ↔ (D.state second.old).obeys }
     ensures mark { (D.state second.new).mark ≡ (D.state second.old).mark }
     ensures faults { RisesIf (not result) (D.state second.old).faults (D.state second.new).faults }
+    ensures still { (D.state second.old).obeys → GoesOn Nothing (D.state second.old) (D.state second.new) }
+    ensures leaves { (x y : List ℕ) → LeavesMixes x y (D.state second.old) (D.state second.new) }
 {
     match second.sync() {
         Ok(()) => true,

@@ -1,4 +1,5 @@
 ghost use Rattle.op_mirror.specs.Copies.{AreAlike};
+ghost use Rattle.op_mirror.specs.Marks.{AreMarked};
 
 use crate::gone::Gone;
 use op_outside::Disk;
@@ -20,4 +21,6 @@ pub struct Mirror<D: Disk> {
     pub(crate) first_mark: u64,
     pub(crate) second_mark: u64,
     ghost alike: { AreAlike gone (D.state first) (D.state second) },
+    ghost marked: { AreMarked gone is_dead faults
+        first_mark (D.state first).faults second_mark (D.state second).faults },
 }

@@ -1,6 +1,7 @@
-ghost use Rattle.std.specs.Prelude.{◌≡◌, ◌≤◌, ◌+◌, ◌-◌, ◌↔◌, true, false, not, length, take, drop};
+ghost use Rattle.std.specs.Prelude.{◌≡◌, ◌≤◌, ◌+◌, ◌-◌, ◌↔◌, List, ℕ, true, false, not, length, take, drop};
 ghost use Rattle.op_outside.specs.Causes.{RisesIf};
 ghost use Rattle.op_outside.specs.Disks.{disk_end, Holds};
+ghost use Rattle.op_mirror.specs.Crashes.{Differ, LeavesMixes, IsPieceOf, EndsWith};
 ghost use Rattle.op_mirror.specs.Runs.{Fills};
 
 use op_outside::Disk;
@@ -17,6 +18,8 @@ fn write_run<D: Disk>(disk: &mut D, at: u64, want: &[u8], start: usize, end: usi
         at + start ≤ length (D.state disk.old).content →
         Holds (D.state disk.old).content (at + start) (take (end - start) (drop start want.now))
         (D.state disk.new).content }
+    ensures leaves { (x y : List ℕ) → Differ x y (at + start) (end - start) →
+        LeavesMixes x y (D.state disk.old) (D.state disk.new) }
 {
     if start == end {
         return true;
@@ -39,6 +42,9 @@ pub(crate) fn write_runs<D: Disk>(disk: &mut D, at: u64, want: &[u8], have: &[u8
         have.now ≡ take (length have.now) (drop at (D.state disk.old).content) →
         at ≤ length (D.state disk.old).content →
         Fills at want.now (length want.now) (D.state disk.old).content (D.state disk.new).content }
+    ensures leaves { (x y : List ℕ) → at + length want.now ≤ length x →
+        IsPieceOf x at want.now → IsPieceOf y at have.now → EndsWith y at have.now want.now →
+        LeavesMixes x y (D.state disk.old) (D.state disk.new) }
 {
     let mut start: usize = 0;
     for i in 0..have.len() {

@@ -1,5 +1,8 @@
-use Rattle.std.proofs.Common.{◌≡◌, ◌≤◌, ◌-◌, length}
+use Rattle.std.proofs.Common.{◌≡◌, ◌≤◌, ◌-◌, min, length, drop}
 use Rattle.std.specs.Prelude.{◌↔◌}
+use Rattle.op_outside.specs.Causes.{last_count}
+use Rattle.op_outside.specs.Disks.{MayLeave, LeavesOnly}
+use Rattle.op_mirror.specs.Crashes.{LeavesMixes}
 use Rattle.op_mirror.specs.Levels.{Levelled}
 use Rattle.op_mirror.proofs.levelling.level.Given as goal
 
@@ -19,6 +22,14 @@ invariant-loop-at g l = record {
   levelled : (g.D.Disk.state l.fn.first).obeys → (g.D.Disk.state l.fn.second).obeys
       → l.len ≡ length (g.D.Disk.state l.fn.first).content → l.was ≡ length (g.D.Disk.state l.fn.second).content
       → Levelled l.at l.was (g.D.Disk.state l.fn.first).content (g.D.Disk.state l.second).content;
+  rest : (g.D.Disk.state l.fn.first).obeys → (g.D.Disk.state l.fn.second).obeys
+      → l.len ≡ length (g.D.Disk.state l.fn.first).content → l.was ≡ length (g.D.Disk.state l.fn.second).content
+      → drop l.at (g.D.Disk.state l.second).content ≡ drop l.at (g.D.Disk.state l.fn.second).content;
+  first_leaves : (g.D.Disk.state l.fn.first).obeys → LeavesOnly (MayLeave (g.D.Disk.state l.fn.first)) (g.D.Disk.state l.fn.first) (g.D.Disk.state l.first);
+  first_calls : (g.D.Disk.state l.fn.first).obeys → min (g.D.Disk.state l.fn.first).calls last_count ≤ (g.D.Disk.state l.first).calls;
+  second_leaves : (g.D.Disk.state l.fn.first).obeys
+      → l.len ≡ length (g.D.Disk.state l.fn.first).content → l.was ≡ length (g.D.Disk.state l.fn.second).content
+      → LeavesMixes (g.D.Disk.state l.fn.first).content (g.D.Disk.state l.fn.second).content (g.D.Disk.state l.fn.second) (g.D.Disk.state l.second);
 }
 
 abbrev pub decreases-loop-at : goal.decreases-loop-at

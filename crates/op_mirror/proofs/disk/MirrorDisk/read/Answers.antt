@@ -1,4 +1,4 @@
-use Rattle.std.proofs.Common.{◌≡◌, ◌||◌, true, false, refl, ◌∙◌, ap, [], ◌∷◌, Result, Ok, Err, rules}
+use Rattle.std.proofs.Common.{◌≡◌, true, false, refl, ◌∙◌, [], ◌∷◌, Result, Ok, Err, rules}
 use Rattle.op_outside.specs.Causes.{FailsOnlyOnFault}
 use Rattle.op_outside.specs.Disks.Edit.{Nothing}
 use Rattle.op_outside.specs.declared.disk.DiskFail.{DiskFail}

@@ -8,8 +8,8 @@ use Rattle.op_mirror.proofs.Pending.{mirror_pends}
 use Rattle.op_mirror.proofs.Takings.{takes_first, takes_second, first_stays, second_stays, one_lives, living_none, stays_first, stays_second}
 use Rattle.op_mirror.proofs.disk.MirrorDisk.write_at.Goals as goal
 
-pub returns-then-is_read_ok-clause-does : goal.returns-then-is_read_ok-clause-does
-returns-then-is_read_ok-clause-does g c =
+pub returns-then-is_done-clause-does : goal.returns-then-is_done-clause-does
+returns-then-is_done-clause-does g c =
     let m = c.args.self.now in
     let r : Result (Unit {0}) DiskFail = Ok tt in
     let cause : FailsOnlyOnFault m.faults m.faults r = search rules in
@@ -19,8 +19,8 @@ returns-then-is_read_ok-clause-does g c =
     c.try_write-first.ensures.tries c.try_write-second.ensures.tries m.alike
     m.faults m.faults m.calls c.saturating_add-self.result (m.first_mark ∷ m.second_mark ∷ []) c.gone_after-self.result r c.gone_after-self.ensures cause ok
 
-pub returns-then-is_read_ok-clause-pends : goal.returns-then-is_read_ok-clause-pends
-returns-then-is_read_ok-clause-pends g c =
+pub returns-then-is_done-clause-pends : goal.returns-then-is_done-clause-pends
+returns-then-is_done-clause-pends g c =
     let m = c.args.self.now in
     let r : Result (Unit {0}) DiskFail = Ok tt in
     let ok : is_read_ok c.gone_after-self.result c.try_write-first.result c.try_write-second.result ≡ true = search rules in
@@ -28,8 +28,8 @@ returns-then-is_read_ok-clause-pends g c =
     m.faults m.faults m.calls c.saturating_add-self.result (m.first_mark ∷ m.second_mark ∷ []) r ok (Write c.args.at c.args.bytes.now) c.has_first.result c.has_second.result
     c.try_write-first.ensures.tries c.try_write-second.ensures.tries c.try_write-first.ensures.pends c.try_write-second.ensures.pends
 
-pub returns-then-is_read_ok-clause-out : goal.returns-then-is_read_ok-clause-out
-returns-then-is_read_ok-clause-out g c =
+pub returns-then-is_done-clause-out : goal.returns-then-is_done-clause-out
+returns-then-is_done-clause-out g c =
     let m = c.args.self.now in
     let state = g.D.Disk.state in
     let ok : is_read_ok c.gone_after-self.result c.try_write-first.result c.try_write-second.result ≡ true = search rules in
