@@ -1,35 +1,35 @@
 -- The first event of a run that can't come: it is there, and its line is one of the schedule's.
-use Rattle.std.proofs.Common.{◌≡◌, ℕ, List, [], ◌∷◌, map, length, ◌<◌, Some, get_or, refl, ap, ◌∙◌, inl, inr}
+use Rattle.std.proofs.Common.{◌≡◌, ℕ, Bool, List, [], ◌∷◌, map, length, ◌<◌, Some, get_or, refl, ap, ◌∙◌, inl, inr}
 use Rattle.std.specs.Prelude.{slice_get}
 use Rattle.std.specs.Option.{option_map}
 use Rattle.std.proofs.lemmas.Option.{slice_get-map, get_or_from_slice_get, slice_get_within}
 use Rattle.op_runs.specs.declared.events.Event.{Event}
 use Rattle.op_runs.specs.World.{World, first_world, node_ids, run_of}
-use Rattle.op_runs.specs.Schedules.{Awaiting, nothing_awaits, awaiting_after, FailsFrom, IsFirstRefused}
+use Rattle.op_runs.specs.Schedules.{DiskPlans, no_plans, plans_after, FailsFrom, IsFirstRefused}
 use Rattle.op_replay.specs.Replay.{IsLineOfFirstBad}
 
-there_from : (nodes : List ℕ) (w : World) (awaiting : Awaiting) (events : List Event) (i : ℕ) → FailsFrom nodes w awaiting events i → (e : Event) × (slice_get events i ≡ Some e)
-there_from nodes w awaiting [] i bad = absurd bad
-there_from nodes w awaiting (e ∷ es) i (inl bad) = (e, rw bad.0 refl)
-there_from nodes w awaiting (e ∷ es) i (inr bad) = let rest = there_from nodes (run_of w bad.3) (awaiting_after w awaiting e.what) es bad.0 bad.5 in (rest.0, rw bad.1 rest.1)
+there_from : (mirrored : Bool) (nodes : List ℕ) (w : World) (plans : DiskPlans) (events : List Event) (i : ℕ) → FailsFrom mirrored nodes w plans events i → (e : Event) × (slice_get events i ≡ Some e)
+there_from mirrored nodes w plans [] i bad = absurd bad
+there_from mirrored nodes w plans (e ∷ es) i (inl bad) = (e, rw bad.0 refl)
+there_from mirrored nodes w plans (e ∷ es) i (inr bad) = let rest = there_from mirrored nodes (run_of w bad.3) (plans_after w plans e.what) es bad.0 bad.5 in (rest.0, rw bad.1 rest.1)
 
-there : (members spares : List ℕ) (events : List Event) (i : ℕ) → IsFirstRefused members spares events i → (e : Event) × (slice_get events i ≡ Some e)
-there members spares events i bad = there_from (node_ids members spares) (first_world members spares) nothing_awaits events i bad
+there : (members spares : List ℕ) (mirrored : Bool) (events : List Event) (i : ℕ) → IsFirstRefused members spares mirrored events i → (e : Event) × (slice_get events i ≡ Some e)
+there members spares mirrored events i bad = there_from mirrored (node_ids members spares) (first_world members spares) no_plans events i bad
 
 -- ---- among the lines of all events
 
-line_there : (members spares : List ℕ) (events : List Event) (lines : List ℕ) (i : ℕ) → lines ≡ map (λ e. e.line) events → (bad : IsFirstRefused members spares events i) → slice_get lines i ≡ Some (there members spares events i bad).0.line
-line_there members spares events lines i all bad =
+line_there : (members spares : List ℕ) (mirrored : Bool) (events : List Event) (lines : List ℕ) (i : ℕ) → lines ≡ map (λ e. e.line) events → (bad : IsFirstRefused members spares mirrored events i) → slice_get lines i ≡ Some (there members spares mirrored events i bad).0.line
+line_there members spares mirrored events lines i all bad =
     ap (λ (xs : List ℕ). slice_get xs i) all
     ∙ slice_get-map (λ (e : Event). e.line) events i
-    ∙ ap (option_map (λ (e : Event). e.line)) (there members spares events i bad).1
+    ∙ ap (option_map (λ (e : Event). e.line)) (there members spares mirrored events i bad).1
 
 -- its number is one of theirs
-pub bad_within : (members spares : List ℕ) (events : List Event) (lines : List ℕ) (i : ℕ) → lines ≡ map (λ e. e.line) events → IsFirstRefused members spares events i → i < length lines
-bad_within members spares events lines i all bad = slice_get_within lines i (there members spares events i bad).0.line (line_there members spares events lines i all bad)
+pub bad_within : (members spares : List ℕ) (mirrored : Bool) (events : List Event) (lines : List ℕ) (i : ℕ) → lines ≡ map (λ e. e.line) events → IsFirstRefused members spares mirrored events i → i < length lines
+bad_within members spares mirrored events lines i all bad = slice_get_within lines i (there members spares mirrored events i bad).0.line (line_there members spares mirrored events lines i all bad)
 
 -- the line of its number is its own
-pub bad_line : (members spares : List ℕ) (events : List Event) (lines : List ℕ) (i line : ℕ) → lines ≡ map (λ e. e.line) events → IsFirstRefused members spares events i → line ≡ get_or lines i line → IsLineOfFirstBad members spares events line
-bad_line members spares events lines i line all bad at =
-    let event = there members spares events i bad in
-    record { index = i; event = event.0; first = bad; there = event.1; line_is = at ∙ get_or_from_slice_get lines i event.0.line line (line_there members spares events lines i all bad) }
+pub bad_line : (members spares : List ℕ) (mirrored : Bool) (events : List Event) (lines : List ℕ) (i line : ℕ) → lines ≡ map (λ e. e.line) events → IsFirstRefused members spares mirrored events i → line ≡ get_or lines i line → IsLineOfFirstBad members spares mirrored events line
+bad_line members spares mirrored events lines i line all bad at =
+    let event = there members spares mirrored events i bad in
+    record { index = i; event = event.0; first = bad; there = event.1; line_is = at ∙ get_or_from_slice_get lines i event.0.line line (line_there members spares mirrored events lines i all bad) }

@@ -21,7 +21,7 @@ pub record IsReportOf (s : Schedule) (text : List ℕ) : Type 0 where
   -- sent; the run keeps the laws of every run: it meets the list machine, each client is answered by the
   -- lists that are reported, each exchange of a leader with a majority decides, wherever it is in the run,
   -- and each line of a read's value is fresh
-  pub run : IsReportOfRun s.members s.spares s.events summary
+  pub run : IsReportOfRun s.members s.spares s.is_mirrored s.events summary
   -- the text says it
   pub written : text ≡ report_of summary
 
@@ -43,7 +43,7 @@ IsReportedPrefix input old new =
 abbrev pub IsBadAt : List ℕ → ℕ → Type 0
 IsBadAt input n =
     IsFirstBadLine input n
-    ⊎ ((s : Schedule) × IsSchedule input s × IsLineOfFirstBad s.members s.spares s.events n)
+    ⊎ ((s : Schedule) × IsSchedule input s × IsLineOfFirstBad s.members s.spares s.is_mirrored s.events n)
 
 -- the input isn't too long, and is refused at this line
 abbrev pub IsRefusedAt : List ℕ → ℕ → Type 0
@@ -54,9 +54,9 @@ abbrev pub IsBadInAllRunsAt : List ℕ → ℕ → Type 0
 IsBadInAllRunsAt input n =
     IsWithinLimit input
     × (IsFirstBadLine input n
-    ⊎ ((s : Schedule) × IsSchedule input s × IsTheBadLine s.members s.spares s.events n))
+    ⊎ ((s : Schedule) × IsSchedule input s × IsTheBadLine s.members s.spares s.is_mirrored s.events n))
 
 -- the input is a schedule, each event of which names members or spares, and messages that were sent, in every
 -- run
 abbrev pub IsValid : List ℕ → Type 0
-IsValid input = (s : Schedule) × IsSchedule input s × HaveNoBadLine s.members s.spares s.events
+IsValid input = (s : Schedule) × IsSchedule input s × HaveNoBadLine s.members s.spares s.is_mirrored s.events

@@ -25,23 +25,24 @@ fn lines_of(alloc: Global, events: &[Event]) -> Result<Vec<u64>, AllocError>
     Ok(lines)
 }
 
-/// Runs the events at these members and spares. A refusal tells the line of the first event that can't come in this run.
+/// Runs the events at these members and spares, whose disks are mirrored or not. A refusal tells the line of the first event that can't come in this run.
 fn run(
     alloc: Global,
     members: Members,
     spares: Members,
+    is_mirrored: bool,
     events: Events,
 ) -> Result<Summary, SchedFail>
     requires members { MembersInRange members }
     requires spares { SparesInRange members spares }
     requires range { AreInRange events }
-    ensures report { IfOk result (IsReportOfRun members spares events) }
-    ensures bad { IfBadLine result (IsLineOfFirstBad members spares events) }
+    ensures report { IfOk result (IsReportOfRun members spares is_mirrored events) }
+    ensures bad { IfBadLine result (IsLineOfFirstBad members spares is_mirrored events) }
 {
     let Ok(lines) = lines_of(alloc, events.as_slice()) else {
         return Err(SchedFail::NoMemory);
     };
-    match World::run(alloc, members, spares, events) {
+    match World::run(alloc, members, spares, is_mirrored, events) {
         Ok(summary) => Ok(summary),
         Err(RunFail::BadEvent { index }) => Err(SchedFail::BadLine {
             line: lines[index as usize],
@@ -57,6 +58,12 @@ pub fn replayed(alloc: Global, bytes: Vec<u8>) -> Result<Vec<u8>, SchedFail>
 {
     let schedule = read(alloc, &bytes)?;
     drop(bytes);
-    let summary = run(alloc, schedule.members, schedule.spares, schedule.events)?;
+    let summary = run(
+        alloc,
+        schedule.members,
+        schedule.spares,
+        schedule.is_mirrored,
+        schedule.events,
+    )?;
     Ok(report(alloc, &summary)?)
 }

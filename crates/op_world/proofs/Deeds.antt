@@ -1,5 +1,5 @@
 -- What an event makes of a world with its lists.
-use Rattle.std.proofs.Common.{◌≡◌, ◌⊎◌, ◌<◌, ◌^◌, ◌+◌, ℕ, Bool, true, false, List, [], ◌∷◌, ◌++◌, length, get_or, Option, Some, All, IfSome, if◌then◌else◌, refl, sym, ap, subst, ◌∙◌, arith, ⊎_elim}
+use Rattle.std.proofs.Common.{◌≡◌, ◌⊎◌, ◌&&◌, ◌<◌, ◌^◌, ◌+◌, ℕ, Bool, true, false, List, [], ◌∷◌, ◌++◌, length, get_or, Option, Some, All, IfSome, if◌then◌else◌, sym, ap, subst, ◌∙◌, arith, ⊎_elim}
 use Rattle.std.proofs.lemmas.List.{append-nil}
 use Rattle.std.proofs.lemmas.List.Elements.{All-nil, All-cons, All-head, All-tail}
 use Rattle.std.proofs.Math.ListN.{length-set}
@@ -10,7 +10,7 @@ use Rattle.op_runs.specs.declared.events.Event.{Event}
 use Rattle.op_runs.specs.World.{World, Node, Happening, Up, Down, Failed, Doing, Steps, Stops, Opens, Tells, first_world, run_of, deed_of, node_at, world_after}
 use Rattle.op_runs.specs.Run.{Execution, first_execution, execution_with, machine_proposing_by}
 use Rattle.op_runs.specs.Possible.{is_possible, proposals_of, WhatInRange}
-use Rattle.op_runs.specs.Schedules.{Awaited, Nothing, Awaiting, awaiting_with, awaiting_by, is_awaited, drops, CallsDisks}
+use Rattle.op_runs.specs.Schedules.{Nothing, DiskPlan, DiskPlans, MayEnd, plan_for, plans_by, plans_with, awaiting, is_lost, is_awaited, drops, CallsDisks}
 use Rattle.op_spec.specs.Ledger.{decided_entries}
 use Rattle.op_spec.specs.Machine.{Machine}
 use Rattle.op_protocol.specs.State.{State}
@@ -27,262 +27,267 @@ use Rattle.op_executions.proofs.Worlds.{run_on}
 use Rattle.op_world.specs.declared.node_state.NodeState.{NodeState}
 use Rattle.op_world.specs.declared.node_state.NodeState.TheVariants as node
 use Rattle.op_world.specs.declared.node_state.WorldNode.{WorldNode}
-use Rattle.op_world.specs.Awaiting.{awaited_of, awaiting_of, MayCome}
+use Rattle.op_world.specs.Plans.{awaited_of, lost_in, plan_at, ArePlanned, IsPlan}
+use Rattle.op_world.specs.declared.plan.Plan.{Plan}
 use Rattle.op_world.specs.Events.{parts_of, Happens}
 use Rattle.op_world.specs.Ledgers.{list_at, NodeShowsMore}
-use Rattle.op_world.specs.Worlds.{Parts, Shows, ShowsNode, ShowNodes, IsShown, IsKept, IsWorld, CallsAt, is_awaited_at, drops_at, disk_nodes}
-use Rattle.op_world.proofs.Awaiting.{ids_of, get_any, awaiting_at, awaiting_set, awaiting_same, awaited_there, dropped_there, may_if}
+use Rattle.op_world.specs.Worlds.{Parts, Shows, ShowsNode, ShowNodes, IsShown, IsKept, IsWorld, CallsAt, is_awaited_at, drops_at, area_nodes}
+use Rattle.op_world.proofs.Plans.{ids_of, get_any, keeping, planned_at, planned_set, planned_with, planned_still, plan_dropped, plan_stays, awaited_there, dropped_there, may_if, may_planned}
 use Rattle.op_world.proofs.Happenings.{batch_there}
 use Rattle.op_world.proofs.Ledgers.{HasNoMore, HaveNoMore, proposing_lists, shown_list, showing_list, one_shows, sound_end, sound_no_more}
+use Rattle.op_areas.specs.Media.{Medium}
 
--- ---- what a world shows
+module _ {D C : Type 0} (M : Medium D C) where
+  -- ---- what a world shows
 
--- the run that is kept
-abbrev pub run_kept : (w : Parts) → IsWorld w → Execution
-run_kept w i = reached w.members i.spares i.happenings
+  -- the run that is kept
+  abbrev pub run_kept : (w : Parts D C) → IsWorld M w → Execution
+  run_kept w i = reached w.members i.spares i.happenings
 
--- the world is in range, as its run is
-pub in_range : (w : Parts) (i : IsWorld w) → WorldInRange (IsMember w.ids) (run_kept w i).world
-in_range w i =
-    let known = subst (λ (ids : List ℕ). All (HappeningInRange (IsMember ids)) i.happenings) i.ids i.known in
-    let ran : WorldInRange (IsMember w.ids) (run_of (first_world w.members i.spares) i.happenings) =
-    subst (λ (ids : List ℕ). WorldInRange (IsMember ids) (run_of (first_world w.members i.spares) i.happenings)) (sym i.ids) (world_in_range w.members i.spares i.happenings i.range known) in
-    subst (λ (x : World). WorldInRange (IsMember w.ids) x) (sym (world_of_run (first_execution w.members i.spares) i.happenings)) ran
+  -- the world is in range, as its run is
+  pub in_range : (w : Parts D C) (i : IsWorld M w) → WorldInRange (IsMember w.ids) (run_kept w i).world
+  in_range w i =
+      let known = subst (λ (ids : List ℕ). All (HappeningInRange (IsMember ids)) i.happenings) i.ids i.known in
+      let ran : WorldInRange (IsMember w.ids) (run_of (first_world w.members i.spares) i.happenings) =
+      subst (λ (ids : List ℕ). WorldInRange (IsMember ids) (run_of (first_world w.members i.spares) i.happenings)) (sym i.ids) (world_in_range w.members i.spares i.happenings i.range known) in
+      subst (λ (x : World). WorldInRange (IsMember w.ids) x) (sym (world_of_run (first_execution w.members i.spares) i.happenings)) ran
 
--- what a node has stored is what all that it shows have
-same_stored : (z : NodeState) (x y : Node) → IsShown z x.state x.status → IsShown z y.state y.status → x.state.durable ≡ y.state.durable
-same_stored (node.Up n) x y a b = ap (λ (s : State). s.durable) (a.0 ∙ sym b.0)
-same_stored (node.Failed n) x y a b = ap (λ (s : State). s.durable) (a.state ∙ sym b.state)
-same_stored (node.Down d) x y a b = a.durable ∙ sym b.durable
+  -- what a node has stored is what all that it shows have
+  same_stored : (z : NodeState D C) (x y : Node) → IsShown M z x.state x.status → IsShown M z y.state y.status → x.state.durable ≡ y.state.durable
+  same_stored (node.Up n) x y a b = ap (λ (s : State). s.durable) (a.0 ∙ sym b.0)
+  same_stored (node.Failed n) x y a b = ap (λ (s : State). s.durable) (a.state ∙ sym b.state)
+  same_stored (node.Down d) x y a b = a.durable ∙ sym b.durable
 
-no_more_there : (conf : ℕ) (l : List Entry) (nodes : List WorldNode) (xs ys : List Node) → ShowNodes nodes xs → ShowNodes nodes ys → HaveNoMore conf l xs → HaveNoMore conf l ys
-no_more_there conf l [] xs [] a b each = All-nil (λ n. HasNoMore conf l n.state.durable)
-no_more_there conf l [] xs (y ∷ ys) a b each = absurd b
-no_more_there conf l (n ∷ nodes) xs [] a b each = absurd b
-no_more_there conf l (n ∷ nodes) [] (y ∷ ys) a b each = absurd a
-no_more_there conf l (n ∷ nodes) (x ∷ xs) (y ∷ ys) a b each =
-    let here = All-head (λ (z : Node). HasNoMore conf l z.state.durable) x xs each in
-    All-cons (λ z. HasNoMore conf l z.state.durable) y ys (subst (λ (d : Durable). HasNoMore conf l d) (same_stored n.state x y (a.0).state (b.0).state) here)
-    (no_more_there conf l nodes xs ys a.1 b.1 (All-tail (λ (z : Node). HasNoMore conf l z.state.durable) x xs each))
+  no_more_there : (conf : ℕ) (l : List Entry) (nodes : List (WorldNode D C)) (xs ys : List Node) → ShowNodes M nodes xs → ShowNodes M nodes ys → HaveNoMore conf l xs → HaveNoMore conf l ys
+  no_more_there conf l [] xs [] a b each = All-nil (λ n. HasNoMore conf l n.state.durable)
+  no_more_there conf l [] xs (y ∷ ys) a b each = absurd b
+  no_more_there conf l (n ∷ nodes) xs [] a b each = absurd b
+  no_more_there conf l (n ∷ nodes) [] (y ∷ ys) a b each = absurd a
+  no_more_there conf l (n ∷ nodes) (x ∷ xs) (y ∷ ys) a b each =
+      let here = All-head (λ (z : Node). HasNoMore conf l z.state.durable) x xs each in
+      All-cons (λ z. HasNoMore conf l z.state.durable) y ys (subst (λ (d : Durable). HasNoMore conf l d) (same_stored n.state x y (a.0).state (b.0).state) here)
+      (no_more_there conf l nodes xs ys a.1 b.1 (All-tail (λ (z : Node). HasNoMore conf l z.state.durable) x xs each))
 
--- no node that is shown has more than the lists
-no_more : (w : Parts) → IsWorld w → (t : Execution) → Shows w t → (conf : ℕ) → HaveNoMore conf (t.machine.lists conf) t.world.nodes
-no_more w i t show conf =
-    let u : Execution = run_kept w i in
-    let meets = every_run_meets w.members i.spares (i.range).first (i.range).others i.happenings (i.range).happenings in
-    let each = sound_no_more w.members u (sound_end w.members (first_execution w.members i.spares) i.happenings meets.0 meets.1) conf in
-    let same : u.machine.lists conf ≡ t.machine.lists conf = i.shows.lists conf ∙ sym (show.lists conf) in
-    no_more_there conf (t.machine.lists conf) w.nodes u.world.nodes t.world.nodes i.shows.nodes show.nodes (subst (λ (l : List Entry). HaveNoMore conf l u.world.nodes) same each)
+  -- no node that is shown has more than the lists
+  no_more : (w : Parts D C) → IsWorld M w → (t : Execution) → Shows M w t → (conf : ℕ) → HaveNoMore conf (t.machine.lists conf) t.world.nodes
+  no_more w i t show conf =
+      let u : Execution = run_kept w i in
+      let meets = every_run_meets w.members i.spares (i.range).first (i.range).others i.happenings (i.range).happenings in
+      let each = sound_no_more w.members u (sound_end w.members (first_execution w.members i.spares) i.happenings meets.0 meets.1) conf in
+      let same : u.machine.lists conf ≡ t.machine.lists conf = i.shows.lists conf ∙ sym (show.lists conf) in
+      no_more_there conf (t.machine.lists conf) w.nodes u.world.nodes t.world.nodes i.shows.nodes show.nodes (subst (λ (l : List Entry). HaveNoMore conf l u.world.nodes) same each)
 
--- ---- a run of the servers
+  -- ---- a run of the servers
 
--- the servers show its world
-pub servers_show : (w : ServerWorld WorldNode) (lists : List (List Entry)) (t : Execution) → Shows (parts_of w lists) t → worlds.Shows disk_nodes w t.world
-servers_show w lists t show = record { nodes = show.nodes; messages = show.messages; lines = show.lines }
+  -- the servers show its world
+  pub servers_show : (w : ServerWorld (WorldNode D C)) (lists : List (List Entry)) (t : Execution) → Shows M (parts_of w lists) t → worlds.Shows (area_nodes M) w t.world
+  servers_show w lists t show = record { nodes = show.nodes; messages = show.messages; lines = show.lines }
 
--- they have come so far by the same happenings
-pub has_run : (w : ServerWorld WorldNode) (lists : List (List Entry)) (i : IsWorld (parts_of w lists)) → HasRun disk_nodes w i.spares i.happenings
-has_run w lists i = record {
-  range = i.range;
-  ids = i.ids;
-  known = i.known;
-  proposed = i.proposed;
-  servers = record { pids = i.pids; kept = i.kept };
-  shows = subst (λ (x : World). worlds.Shows disk_nodes w x) (world_of_run (first_execution w.members i.spares) i.happenings) (servers_show w lists (reached w.members i.spares i.happenings) i.shows);
-}
+  -- they have come so far by the same happenings
+  pub has_run : (w : ServerWorld (WorldNode D C)) (lists : List (List Entry)) (i : IsWorld M (parts_of w lists)) → HasRun (area_nodes M) w i.spares i.happenings
+  has_run w lists i = record {
+    range = i.range;
+    ids = i.ids;
+    known = i.known;
+    proposed = i.proposed;
+    servers = record { pids = i.pids; kept = i.kept };
+    shows = subst (λ (x : World). worlds.Shows (area_nodes M) w x) (world_of_run (first_execution w.members i.spares) i.happenings) (servers_show w lists (reached w.members i.spares i.happenings) i.shows);
+  }
 
--- ---- the lists after an event
+  -- ---- the lists after an event
 
--- one that isn't up adds nothing
-adds_nothing : (x y : Node) (old new : List (List Entry)) (conf : ℕ) → new ≡ old → (y.status ≡ Up → ⊥) → (y.status ≡ Up) ⊎ (y.state.durable ≡ x.state.durable) → HasNoMore conf (list_at old conf) x.state.durable
-    → list_at old conf ++ decided_entries y.state.durable conf (length (list_at old conf)) ≡ list_at new conf
-adds_nothing x y old new conf more down stays none =
-    let l : List Entry = list_at old conf in
-    let same : y.state.durable ≡ x.state.durable = ⊎_elim (λ (up : y.status ≡ Up). absurd (down up)) (λ (s : y.state.durable ≡ x.state.durable). s) stays in
-    ap (λ (d : Durable). l ++ decided_entries d conf (length l)) same ∙ ap (λ (es : List Entry). l ++ es) (none (length l) (omega arith)) ∙ append-nil l ∙ ap (λ (ls : List (List Entry)). list_at ls conf) (sym more)
+  -- one that isn't up adds nothing
+  adds_nothing : (x y : Node) (old new : List (List Entry)) (conf : ℕ) → new ≡ old → (y.status ≡ Up → ⊥) → (y.status ≡ Up) ⊎ (y.state.durable ≡ x.state.durable) → HasNoMore conf (list_at old conf) x.state.durable
+      → list_at old conf ++ decided_entries y.state.durable conf (length (list_at old conf)) ≡ list_at new conf
+  adds_nothing x y old new conf more down stays none =
+      let l : List Entry = list_at old conf in
+      let same : y.state.durable ≡ x.state.durable = ⊎_elim (λ (up : y.status ≡ Up). absurd (down up)) (λ (s : y.state.durable ≡ x.state.durable). s) stays in
+      ap (λ (d : Durable). l ++ decided_entries d conf (length l)) same ∙ ap (λ (es : List Entry). l ++ es) (none (length l) (omega arith)) ∙ append-nil l ∙ ap (λ (ls : List (List Entry)). list_at ls conf) (sym more)
 
--- what the node adds to a list is what it shows then
-list_after : (state : NodeState) (x y : Node) (old new : List (List Entry)) (conf : ℕ) → NodeShowsMore old state new → IsShown state y.state y.status → (y.status ≡ Up) ⊎ (y.state.durable ≡ x.state.durable)
-    → HasNoMore conf (list_at old conf) x.state.durable → list_at old conf ++ decided_entries y.state.durable conf (length (list_at old conf)) ≡ list_at new conf
-list_after (node.Up n) x y old new conf more show stays none =
-    ap (λ (s : State). list_at old conf ++ decided_entries s.durable conf (length (list_at old conf))) show.0 ∙ sym (more conf)
-list_after (node.Failed n) x y old new conf more show stays none =
-    adds_nothing x y old new conf more (λ up. let down : Failed show.count show.after ≡ Up = sym show.status_is ∙ up in cc) stays none
-list_after (node.Down d) x y old new conf more show stays none = adds_nothing x y old new conf more (λ up. let down : Down show.after ≡ Up = sym show.status_is ∙ up in cc) stays none
+  -- what the node adds to a list is what it shows then
+  list_after : (state : NodeState D C) (x y : Node) (old new : List (List Entry)) (conf : ℕ) → NodeShowsMore old state new → IsShown M state y.state y.status → (y.status ≡ Up) ⊎ (y.state.durable ≡ x.state.durable)
+      → HasNoMore conf (list_at old conf) x.state.durable → list_at old conf ++ decided_entries y.state.durable conf (length (list_at old conf)) ≡ list_at new conf
+  list_after (node.Up n) x y old new conf more show stays none =
+      ap (λ (s : State). list_at old conf ++ decided_entries s.durable conf (length (list_at old conf))) show.0 ∙ sym (more conf)
+  list_after (node.Failed n) x y old new conf more show stays none =
+      adds_nothing x y old new conf more (λ up. let down : Failed show.count show.after ≡ Up = sym show.status_is ∙ up in cc) stays none
+  list_after (node.Down d) x y old new conf more show stays none = adds_nothing x y old new conf more (λ up. let down : Down show.after ≡ Up = sym show.status_is ∙ up in cc) stays none
 
-lists_after : (old : ServerWorld WorldNode) (lists : List (List Entry)) → IsWorld (parts_of old lists) → (t : Execution) → Shows (parts_of old lists) t → (e : Event) (k : ℕ) (new : ServerWorld WorldNode) (h : Happened disk_nodes t.world e tt k old new)
-    → (s : WorldNode) → s ≡ get_or new.servers.items k s
-    → (more_lists : List (List Entry)) → NodeShowsMore lists s.state more_lists → (conf : ℕ) → (execution_with t h.happening).machine.lists conf ≡ list_at more_lists conf
-lists_after old lists i t show e k new h s at more_lists more conf =
-    let w : Parts = parts_of old lists in
-    let g : Happening = h.happening in
-    let each = no_more w i t show conf in
-    let m : Machine = machine_proposing_by t.machine t.world.nodes (deed_of t.world.messages g.event.what) in
-    let there : IsShown s.state h.node.state h.node.status = subst (λ (z : WorldNode). IsShown z.state h.node.state h.node.status) (sym at) (h.server.is s).state in
-    let none : HasNoMore conf (list_at lists conf) h.old.state.durable =
-    subst (λ (l : List Entry). HasNoMore conf l h.old.state.durable) (show.lists conf)
-    (subst (λ (o : Option Node). IfSome o (λ z. HasNoMore conf (t.machine.lists conf) z.state.durable)) h.there (node_found (λ z. HasNoMore conf (t.machine.lists conf) z.state.durable) t.world.nodes h.node.pid each)) in
-    showing_list conf m (world_after t.world g).nodes
-    ∙ ap (λ (f : ℕ → List Entry). shown_list conf (f conf) (world_after t.world g).nodes) (proposing_lists t.machine t.world.nodes (deed_of t.world.messages g.event.what))
-    ∙ ap (λ (xs : List Node). shown_list conf (t.machine.lists conf) xs) h.nodes
-    ∙ one_shows conf (t.machine.lists conf) t.world.nodes h.old h.node h.there each
-    ∙ ap (λ (l : List Entry). l ++ decided_entries h.node.state.durable conf (length l)) (show.lists conf)
-    ∙ list_after s.state h.old h.node lists more_lists conf more there h.stored none
+  lists_after : (old : ServerWorld (WorldNode D C)) (lists : List (List Entry)) → IsWorld M (parts_of old lists) → (t : Execution) → Shows M (parts_of old lists) t → (e : Event) (k : ℕ) (new : ServerWorld (WorldNode D C)) (h : Happened (area_nodes M) t.world e tt k old new)
+      → (s : WorldNode D C) → s ≡ get_or new.servers.items k s
+      → (more_lists : List (List Entry)) → NodeShowsMore lists s.state more_lists → (conf : ℕ) → (execution_with t h.happening).machine.lists conf ≡ list_at more_lists conf
+  lists_after old lists i t show e k new h s at more_lists more conf =
+      let w : Parts D C = parts_of old lists in
+      let g : Happening = h.happening in
+      let each = no_more w i t show conf in
+      let m : Machine = machine_proposing_by t.machine t.world.nodes (deed_of t.world.messages g.event.what) in
+      let there : IsShown M s.state h.node.state h.node.status = subst (λ (z : WorldNode D C). IsShown M z.state h.node.state h.node.status) (sym at) (h.server.is s).state in
+      let none : HasNoMore conf (list_at lists conf) h.old.state.durable =
+      subst (λ (l : List Entry). HasNoMore conf l h.old.state.durable) (show.lists conf)
+      (subst (λ (o : Option Node). IfSome o (λ z. HasNoMore conf (t.machine.lists conf) z.state.durable)) h.there (node_found (λ z. HasNoMore conf (t.machine.lists conf) z.state.durable) t.world.nodes h.node.pid each)) in
+      showing_list conf m (world_after t.world g).nodes
+      ∙ ap (λ (f : ℕ → List Entry). shown_list conf (f conf) (world_after t.world g).nodes) (proposing_lists t.machine t.world.nodes (deed_of t.world.messages g.event.what))
+      ∙ ap (λ (xs : List Node). shown_list conf (t.machine.lists conf) xs) h.nodes
+      ∙ one_shows conf (t.machine.lists conf) t.world.nodes h.old h.node h.there each
+      ∙ ap (λ (l : List Entry). l ++ decided_entries h.node.state.durable conf (length l)) (show.lists conf)
+      ∙ list_after s.state h.old h.node lists more_lists conf more there h.stored none
 
--- ---- the world after an event
+  -- ---- the world after an event
 
--- the event happened at these servers, and the one at this place showed what it has stored then
-pub record IsEventDone (w : ServerWorld WorldNode) (lists : List (List Entry)) (e : Event) (k : ℕ) (s : WorldNode) (new : ServerWorld WorldNode) (more : List (List Entry)) : Type 0 where
-  pub happened : (x : World) → worlds.Shows disk_nodes w x → Happened disk_nodes x e tt k w new
-  pub place : k < length new.servers.items
-  pub at : s ≡ get_or new.servers.items k s
-  pub lists_are : NodeShowsMore lists s.state more
-  pub servers : KeepsServers disk_nodes new
-  pub same : (new.members ≡ w.members) × (new.ids ≡ w.ids)
-  pub proposed : (new.proposed ≡ w.proposed + proposals_of e.what) × (new.proposed < 2 ^ 64)
-  pub possible : is_possible w.ids.items (length w.messages.items) e.what ≡ true
+  -- the event happened at these servers, and the one at this place showed what it has stored then
+  pub record IsEventDone (w : ServerWorld (WorldNode D C)) (lists : List (List Entry)) (e : Event) (k : ℕ) (s : WorldNode D C) (new : ServerWorld (WorldNode D C)) (more : List (List Entry)) : Type 0 where
+    pub happened : (x : World) → worlds.Shows (area_nodes M) w x → Happened (area_nodes M) x e tt k w new
+    pub place : k < length new.servers.items
+    pub at : s ≡ get_or new.servers.items k s
+    pub lists_are : NodeShowsMore lists s.state more
+    pub servers : KeepsServers (area_nodes M) new
+    pub same : (new.members ≡ w.members) × (new.ids ≡ w.ids)
+    pub proposed : (new.proposed ≡ w.proposed + proposals_of e.what) × (new.proposed < 2 ^ 64)
+    pub possible : is_possible w.ids.items (length w.messages.items) e.what ≡ true
 
--- a step of a node that is shown calls its disks where it has something to store
-calls_there : (old : WorldNode) (n : Node) (d : Doing) → IsKept old.pid old.state → ShowsNode old n → is_awaited_at old.state d ≡ true → CallsAt old.state d → CallsDisks n d
-calls_there old n (Steps i) kept shown awaited calls = by old.state kept shown.state awaited calls
-  where
-    by : (s : NodeState) → IsKept old.pid s → IsShown s n.state n.status → is_awaited_at s (Steps i) ≡ true → CallsAt s (Steps i) → CallsDisks n (Steps i)
-    by (node.Up m) k shows a c = λ none. c (sym (batch_there old.pid m i k n shown.pid shows.0) ∙ none)
-    by (node.Failed m) k shows a c = absurd (let no : false ≡ true = a in cc)
-    by (node.Down x) k shows a c = absurd (let no : false ≡ true = a in cc)
-calls_there old n Stops kept shown awaited calls = tt
-calls_there old n Opens kept shown awaited calls = tt
-calls_there old n (Tells t) kept shown awaited calls = tt
+  -- a step of a node that is shown calls its disks where it has something to store
+  calls_there : (old : WorldNode D C) (n : Node) (d : Doing) → IsKept M old.pid old.state → ShowsNode M old n → is_awaited_at old.state d ≡ true → CallsAt old.state d → CallsDisks n d
+  calls_there old n (Steps i) kept shown awaited calls = by old.state kept shown.state awaited calls
+    where
+      by : (s : NodeState D C) → IsKept M old.pid s → IsShown M s n.state n.status → is_awaited_at s (Steps i) ≡ true → CallsAt s (Steps i) → CallsDisks n (Steps i)
+      by (node.Up m) k shows a c = λ none. c (sym (batch_there M old.pid m i k n shown.pid shows.0) ∙ none)
+      by (node.Failed m) k shows a c = absurd (let no : false ≡ true = a in cc)
+      by (node.Down x) k shows a c = absurd (let no : false ≡ true = a in cc)
+  calls_there old n Stops kept shown awaited calls = tt
+  calls_there old n Opens kept shown awaited calls = tt
+  calls_there old n (Tells t) kept shown awaited calls = tt
 
-module _ (w : ServerWorld WorldNode) (lists : List (List Entry)) (i : IsWorld (parts_of w lists)) (e : Event) (k : ℕ) (s : WorldNode) (new : ServerWorld WorldNode) (more : List (List Entry)) (d : IsEventDone w lists e k s new more) where
-  module _ (t : Execution) (show : Shows (parts_of w lists) t) (h : Happened disk_nodes t.world e tt k w new) where
-    -- the server at the place, before and after
-    abbrev was : WorldNode
-    was = get_or w.servers.items k s
+  module _ (w : ServerWorld (WorldNode D C)) (lists : List (List Entry)) (i : IsWorld M (parts_of w lists)) (e : Event) (k : ℕ) (s : WorldNode D C) (new : ServerWorld (WorldNode D C)) (more : List (List Entry)) (d : IsEventDone w lists e k s new more) where
+    module _ (t : Execution) (show : Shows M (parts_of w lists) t) (h : Happened (area_nodes M) t.world e tt k w new) where
+      -- the server at the place, before and after
+      abbrev was : WorldNode D C
+      was = get_or w.servers.items k s
 
-    abbrev is : WorldNode
-    is = get_or new.servers.items k s
+      abbrev is : WorldNode D C
+      is = get_or new.servers.items k s
 
-    shows_now : Shows (parts_of new more) (execution_with t h.happening)
-    shows_now = record { nodes = h.shows.nodes; messages = h.shows.messages; lines = h.shows.lines; lists = lists_after w lists i t show e k new h s d.at more d.lists_are }
+      shows_now : Shows M (parts_of new more) (execution_with t h.happening)
+      shows_now = record { nodes = h.shows.nodes; messages = h.shows.messages; lines = h.shows.lines; lists = lists_after w lists i t show e k new h s d.at more d.lists_are }
 
-    -- the place is among the servers of before too
-    there : k < length w.servers.items
-    there =
-        let same : length new.servers.items ≡ length w.servers.items = ap (λ (ns : List WorldNode). length ns) (h.server.others s) ∙ length-set {A = WorldNode} w.servers.items k is in
-        omega (arith, same, d.place)
+      -- the place is among the servers of before too
+      there : k < length w.servers.items
+      there =
+          let same : length new.servers.items ≡ length w.servers.items = ap (λ (ns : List (WorldNode D C)). length ns) (h.server.others s) ∙ length-set {A = (WorldNode D C)} w.servers.items k is in
+          omega (arith, same, d.place)
 
-    at_place : k ≡ place_of (ids_of w.servers.items) h.deed.pid
-    at_place = h.at ∙ ap (λ (ids : List ℕ). place_of ids h.deed.pid) (sym i.pids)
+      at_place : k ≡ place_of (ids_of w.servers.items) h.deed.pid
+      at_place = h.at ∙ ap (λ (ids : List ℕ). place_of ids h.deed.pid) (sym i.pids)
 
-    pid_is : is.pid ≡ h.deed.pid
-    pid_is = sym (h.server.is s).pid ∙ h.pid
+      pid_is : is.pid ≡ h.deed.pid
+      pid_is = sym (h.server.is s).pid ∙ h.pid
 
-    found : node_at t.world.nodes h.deed.pid ≡ Some h.old
-    found = ap (λ (p : ℕ). node_at t.world.nodes p) (sym h.pid) ∙ h.there
+      found : node_at t.world.nodes h.deed.pid ≡ Some h.old
+      found = ap (λ (p : ℕ). node_at t.world.nodes p) (sym h.pid) ∙ h.there
 
-    awaited_was : awaiting_of w.servers.items h.deed.pid ≡ awaited_of was.awaited
-    awaited_was = subst (λ (j : ℕ). awaiting_of w.servers.items h.deed.pid ≡ awaited_of (get_or w.servers.items j s).awaited) (sym at_place)
-        (awaiting_at w.servers.items h.deed.pid s (subst (λ (j : ℕ). j < length w.servers.items) at_place there))
+      plan_was : plan_at w.servers.items h.deed.pid ≡ was.plan
+      plan_was = subst (λ (j : ℕ). plan_at w.servers.items h.deed.pid ≡ (get_or w.servers.items j s).plan) (sym at_place)
+          (planned_at w.servers.items h.deed.pid s (subst (λ (j : ℕ). j < length w.servers.items) at_place there))
 
-    comes_now : MayCome (if is_awaited h.old.status h.deed.doing then awaiting_of w.servers.items h.deed.pid else Nothing) (CallsDisks h.old h.deed.doing) h.happening.fate is.is_due
-    comes_now =
-        let shown = h.server.was s in
-        let lets = h.lets s in
-        let calls = calls_there was h.old h.deed.doing (i.kept k s there) shown in
-        subst (λ (a : Awaited). MayCome (if is_awaited h.old.status h.deed.doing then a else Nothing) (CallsDisks h.old h.deed.doing) h.happening.fate is.is_due) (sym awaited_was)
-        (subst (λ (b : Bool). MayCome (if b then awaited_of was.awaited else Nothing) (CallsDisks h.old h.deed.doing) h.happening.fate is.is_due) (awaited_there was.state h.old.state h.old.status h.deed.doing shown.state)
-        (may_if (is_awaited_at was.state h.deed.doing) (awaited_of was.awaited) (CallsAt was.state h.deed.doing) (CallsDisks h.old h.deed.doing) h.happening.fate is.is_due calls lets.comes))
+      plans_now : plan_at new.servers.items ≡ keeping (plan_at w.servers.items) h.deed.pid is.plan
+      plans_now = ap plan_at (h.server.others s) ∙ planned_set w.servers.items h.deed.pid k is at_place there pid_is
 
-    awaiting_now : awaiting_of new.servers.items ≡ awaiting_by (Some h.deed) t.world (awaiting_of w.servers.items)
-    awaiting_now =
-        let a : Awaiting = awaiting_of w.servers.items in
-        let pid : ℕ = h.deed.pid in
-        let drop : Bool = drops h.deed.doing (node_at t.world.nodes pid) in
-        let dropped : drops_at was.state h.deed.doing ≡ drop =
-        dropped_there was.state h.old h.deed.doing (h.server.was s).state ∙ ap (λ (o : Option Node). drops h.deed.doing o) (sym found) in
-        let left : awaited_of is.awaited ≡ (if drop then Nothing else awaited_of was.awaited) = (h.lets s).left ∙ ap (λ (b : Bool). if b then Nothing else awaited_of was.awaited) dropped in
-        ap awaiting_of (h.server.others s)
-        ∙ awaiting_set w.servers.items pid k is at_place there pid_is
-        ∙ ap (λ (x : Awaited). awaiting_with a pid x) left
-        ∙ by_drop drop (awaited_of was.awaited) (sym awaited_was)
-      where
-        by_drop : (b : Bool) (x : Awaited) → x ≡ awaiting_of w.servers.items h.deed.pid
-            → awaiting_with (awaiting_of w.servers.items) h.deed.pid (if b then Nothing else x) ≡ (if b then awaiting_with (awaiting_of w.servers.items) h.deed.pid Nothing else awaiting_of w.servers.items)
-        by_drop true x same = refl
-        by_drop false x same = awaiting_same (awaiting_of w.servers.items) h.deed.pid x same
+      module _ (plans : DiskPlans) (planned : ArePlanned w.servers.items plans) where
+        plan : IsPlan was.plan (plans h.deed.pid)
+        plan = subst (λ (p : Plan). IsPlan p (plans h.deed.pid)) plan_was (planned h.deed.pid)
 
-    pub event_happens : Happens (parts_of w lists) e t k (parts_of new more)
-    event_happens = record {
-      happening = h.happening;
-      event = h.event;
-      deed = h.deed;
-      does = h.does;
-      node = h.old;
-      there = found;
-      is_due = is.is_due;
-      server = λ x. (same_pid x, same_due x);
-      comes = comes_now;
-      awaiting = awaiting_now;
-      shows = shows_now;
-    }
-      where
-        any : (x : WorldNode) → get_or new.servers.items k x ≡ is
-        any x = get_any new.servers.items k x s d.place
+        comes_now : let now : DiskPlan = plan_for h.old.status h.deed.doing (plans h.deed.pid) in MayEnd now.awaited (is_lost M.is_mirrored now) (CallsDisks h.old h.deed.doing) h.happening.fate is.is_due
+        comes_now =
+            let shown = h.server.was s in
+            let lets = h.lets s in
+            let calls = calls_there was h.old h.deed.doing (i.kept k s there) shown in
+            may_planned M.is_mirrored (is_awaited h.old.status h.deed.doing) was.plan (plans h.deed.pid) (CallsDisks h.old h.deed.doing) h.happening.fate is.is_due plan
+            (subst (λ (b : Bool). MayEnd (if b then awaited_of was.plan.awaited else Nothing) (b && lost_in M.is_mirrored was.plan.killed) (CallsDisks h.old h.deed.doing) h.happening.fate is.is_due)
+            (awaited_there M was.state h.old.state h.old.status h.deed.doing shown.state)
+            (may_if (is_awaited_at was.state h.deed.doing) (awaited_of was.plan.awaited) (lost_in M.is_mirrored was.plan.killed) (CallsAt was.state h.deed.doing) (CallsDisks h.old h.deed.doing) h.happening.fate is.is_due calls lets.comes))
 
-        same_pid : (x : WorldNode) → (get_or new.servers.items k x).pid ≡ h.deed.pid
-        same_pid x = ap (λ (n : WorldNode). n.pid) (any x) ∙ pid_is
+        planned_now : ArePlanned new.servers.items (plans_by (Some h.deed) t.world plans)
+        planned_now =
+            let drop : Bool = drops h.deed.doing (node_at t.world.nodes h.deed.pid) in
+            let dropped : drops_at was.state h.deed.doing ≡ drop =
+            (dropped_there M) was.state h.old h.deed.doing (h.server.was s).state ∙ ap (λ (o : Option Node). drops h.deed.doing o) (sym found) in
+            by_drop drop ((h.lets s).left ∙ ap (λ (b : Bool). if b then Nothing else awaited_of was.plan.awaited) dropped)
+          where
+            by_drop : (b : Bool) → awaited_of is.plan.awaited ≡ (if b then Nothing else awaited_of was.plan.awaited)
+                → ArePlanned new.servers.items (if b then plans_with plans h.deed.pid (awaiting (plans h.deed.pid) Nothing) else plans)
+            by_drop true left =
+                planned_with w.servers.items new.servers.items plans h.deed.pid is.plan (awaiting (plans h.deed.pid) Nothing) plans_now (plan_dropped was.plan is.plan (plans h.deed.pid) plan left (h.lets s).killed) planned
+            by_drop false left = planned_still w.servers.items new.servers.items plans h.deed.pid is.plan plans_now (plan_stays was.plan is.plan (plans h.deed.pid) plan left (h.lets s).killed) planned
 
-        same_due : (x : WorldNode) → (get_or new.servers.items k x).is_due ≡ is.is_due
-        same_due x = ap (λ (n : WorldNode). n.is_due) (any x)
+        pub event_happens : Happens M (parts_of w lists) e t plans k (parts_of new more)
+        event_happens = record {
+          happening = h.happening;
+          event = h.event;
+          deed = h.deed;
+          does = h.does;
+          node = h.old;
+          there = found;
+          is_due = is.is_due;
+          server = λ x. (same_pid x, same_due x);
+          comes = comes_now;
+          planned = planned_now;
+          shows = shows_now;
+        }
+          where
+            any : (x : WorldNode D C) → get_or new.servers.items k x ≡ is
+            any x = get_any new.servers.items k x s d.place
 
-  pub event_comes : (t : Execution) → Shows (parts_of w lists) t → Happens (parts_of w lists) e t k (parts_of new more)
-  event_comes t show = event_happens t show (d.happened t.world (servers_show w lists t show))
+            same_pid : (x : WorldNode D C) → (get_or new.servers.items k x).pid ≡ h.deed.pid
+            same_pid x = ap (λ (n : WorldNode D C). n.pid) (any x) ∙ pid_is
 
-  -- what happened to a world, and the run of the servers then
-  abbrev HasHappened : World → Type 0
-  HasHappened x = (h : Happened disk_nodes x e tt k w new) × HasRun disk_nodes new i.spares (i.happenings ++ h.happening ∷ [])
+            same_due : (x : WorldNode D C) → (get_or new.servers.items k x).is_due ≡ is.is_due
+            same_due x = ap (λ (n : WorldNode D C). n.is_due) (any x)
 
-  pub event_kept : WhatInRange e.what → IsWorld (parts_of new more)
-  unfolding event_happens
-  event_kept fit =
-      let run = has_run w lists i in
-      let x : World = run_of (first_world w.members i.spares) i.happenings in
-      let t : Execution = reached w.members i.spares i.happenings in
-      let g : Happened disk_nodes x e tt k w new = d.happened x run.shows in
-      let there : HasHappened x = (g, run_on disk_nodes w new i.spares i.happenings e tt k run fit d.possible g d.servers d.same.0 d.same.1 d.proposed.0 d.proposed.1) in
-      let here : HasHappened t.world = subst HasHappened (sym (world_of_run (first_execution w.members i.spares) i.happenings)) there in
-      let all : List Happening = i.happenings ++ here.0.happening ∷ [] in
-      let on : HasRun disk_nodes new i.spares all = here.1 in
-      record {
-        spares = i.spares;
-        happenings = all;
-        range = on.range;
-        ids = on.ids;
-        known = on.known;
-        pids = on.servers.pids;
-        proposed = on.proposed;
-        kept = on.servers.kept;
-        shows = subst (λ (ms : List ℕ). Shows (parts_of new more) (reached ms i.spares all)) (sym d.same.0)
-            (subst (λ (z : Execution). Shows (parts_of new more) z) (sym (execution_append (first_execution w.members i.spares) i.happenings (here.0.happening ∷ [])))
-            (event_happens t i.shows here.0).shows);
-      }
+    pub event_comes : (t : Execution) (plans : DiskPlans) → Shows M (parts_of w lists) t → ArePlanned w.servers.items plans → Happens M (parts_of w lists) e t plans k (parts_of new more)
+    event_comes t plans show planned = event_happens t show (d.happened t.world (servers_show w lists t show)) plans planned
 
--- ---- the start
+    -- what happened to a world, and the run of the servers then
+    abbrev HasHappened : World → Type 0
+    HasHappened x = (h : Happened (area_nodes M) x e tt k w new) × HasRun (area_nodes M) new i.spares (i.happenings ++ h.happening ∷ [])
 
-pub first_shows : (w : ServerWorld WorldNode) (lists : List (List Entry)) (spares : List ℕ) → HasRun disk_nodes w spares [] → lists ≡ [] → Shows (parts_of w lists) (first_execution w.members spares)
-first_shows w lists spares run none =
-    record { nodes = run.shows.nodes; messages = run.shows.messages; lines = run.shows.lines; lists = λ conf. ap (λ (ls : List (List Entry)). list_at ls conf) (sym none) }
+    pub event_kept : WhatInRange e.what → IsWorld M (parts_of new more)
+    event_kept fit =
+        let run = has_run w lists i in
+        let x : World = run_of (first_world w.members i.spares) i.happenings in
+        let t : Execution = reached w.members i.spares i.happenings in
+        let g : Happened (area_nodes M) x e tt k w new = d.happened x run.shows in
+        let there : HasHappened x = (g, run_on (area_nodes M) w new i.spares i.happenings e tt k run fit d.possible g d.servers d.same.0 d.same.1 d.proposed.0 d.proposed.1) in
+        let here : HasHappened t.world = subst HasHappened (sym (world_of_run (first_execution w.members i.spares) i.happenings)) there in
+        let all : List Happening = i.happenings ++ here.0.happening ∷ [] in
+        let on : HasRun (area_nodes M) new i.spares all = here.1 in
+        record {
+          spares = i.spares;
+          happenings = all;
+          range = on.range;
+          ids = on.ids;
+          known = on.known;
+          pids = on.servers.pids;
+          proposed = on.proposed;
+          kept = on.servers.kept;
+          shows = subst (λ (ms : List ℕ). Shows M (parts_of new more) (reached ms i.spares all)) (sym d.same.0)
+              (subst (λ (z : Execution). Shows M (parts_of new more) z) (sym (execution_append (first_execution w.members i.spares) i.happenings (here.0.happening ∷ [])))
+              (shows_now t i.shows here.0));
+        }
 
-pub first_kept : (w : ServerWorld WorldNode) (lists : List (List Entry)) (spares : List ℕ) → HasRun disk_nodes w spares [] → lists ≡ [] → IsWorld (parts_of w lists)
-first_kept w lists spares run none = record {
-  spares = spares;
-  happenings = [];
-  range = run.range;
-  ids = run.ids;
-  known = run.known;
-  pids = run.servers.pids;
-  proposed = run.proposed;
-  kept = run.servers.kept;
-  shows = first_shows w lists spares run none;
-}
+  -- ---- the start
+
+  pub first_shows : (w : ServerWorld (WorldNode D C)) (lists : List (List Entry)) (spares : List ℕ) → HasRun (area_nodes M) w spares [] → lists ≡ [] → Shows M (parts_of w lists) (first_execution w.members spares)
+  first_shows w lists spares run none =
+      record { nodes = run.shows.nodes; messages = run.shows.messages; lines = run.shows.lines; lists = λ conf. ap (λ (ls : List (List Entry)). list_at ls conf) (sym none) }
+
+  pub first_kept : (w : ServerWorld (WorldNode D C)) (lists : List (List Entry)) (spares : List ℕ) → HasRun (area_nodes M) w spares [] → lists ≡ [] → IsWorld M (parts_of w lists)
+  first_kept w lists spares run none = record {
+    spares = spares;
+    happenings = [];
+    range = run.range;
+    ids = run.ids;
+    known = run.known;
+    pids = run.servers.pids;
+    proposed = run.proposed;
+    kept = run.servers.kept;
+    shows = first_shows w lists spares run none;
+  }

@@ -10,11 +10,10 @@ use Rattle.op_types.specs.declared.durable.Joining.{Joining}
 use Rattle.op_types.specs.Changes.{empty_durable}
 use Rattle.op_types.specs.declared.messages.Msg.{Msg}
 use Rattle.op_runs.specs.declared.summary.Line.{Line}
-use Rattle.op_memory.specs.MemDisks.{seen_of, known_disk}
-use Rattle.op_memory.specs.declared.disk.MemDisk.{MemDisk}
+use Rattle.op_areas.specs.Media.{Medium}
 use Rattle.op_protocol.specs.State.{State}
 use Rattle.op_protocol.specs.Starting.{state_after_restart, sends_after_restart}
-use Rattle.op_store.specs.Stored.{IsStored, disks_with}
+use Rattle.op_store.specs.Stored.{IsStored, Obey, disks_with}
 use Rattle.op_store.specs.Stores.{Represents, disks_of}
 use Rattle.op_store.specs.Openings.{IsOpenedAs}
 use Rattle.op_store.specs.declared.fail.Returned.{Returned}
@@ -32,14 +31,14 @@ use Rattle.op_runs.specs.World as runs
 use Rattle.op_bounds.specs.Laws.{StatusInRange, FoundInRange}
 use Rattle.op_bounds.specs.States.{IsNamed}
 use Rattle.op_executions.specs.Servers.{IsNodeDone}
-use Rattle.op_world.specs.Awaiting.{IsTold}
+use Rattle.op_areas.specs.Areas.{OpensOn}
 use Rattle.op_world.specs.Became.{IsInRange, DoneAs, IsDoneOf}
-use Rattle.op_world.specs.Disks.{StaysNode}
+use Rattle.op_world.specs.Disks.{HoldOneOf, StaysNode}
 use Rattle.op_world.specs.Worlds.{IsShown, ShowsDown, ShowsFailed, RunsAs, HasFailed}
 use Rattle.op_world.specs.declared.node_state.DownNode.{DownNode}
 use Rattle.op_world.specs.declared.node_state.NodeState.{NodeState}
 use Rattle.op_world.specs.declared.node_state.NodeState.TheVariants as node
-use Rattle.op_world.proofs.NodeDisks.{told_both}
+use Rattle.op_world.proofs.NodeDisks.{opened_stores}
 use Rattle.op_world.proofs.Nodes.{becomes, nothing_done, quietly_done}
 
 -- ---- what is found
@@ -82,289 +81,295 @@ fresh_taken me members = by (is_member nat_eq members me) refl
 abbrev runs_in : ℕ → State → Inner
 runs_in me s = record { me = me; state = s; failed = None }
 
--- ---- one of two durable states is found
+module _ {D C : Type 0} (M : Medium D C) where
+  -- ---- one of two durable states is found
 
--- what a node that is shown may find names it
-module _ (pid : ℕ) (s : NodeState) (range : IsInRange pid s) where
-  named_before : IsNamed pid (range.node).state.durable
-  named_before = subst (λ (p : ℕ). IsNamed p (range.node).state.durable) range.pid_is range.range.named
+  -- what a node that is shown may find names it
+  module _ (pid : ℕ) (s : NodeState D C) (range : IsInRange M pid s) where
+    named_before : IsNamed pid (range.node).state.durable
+    named_before = subst (λ (p : ℕ). IsNamed p (range.node).state.durable) range.pid_is range.range.named
 
-  named_down : (after : Durable) → (range.node).status ≡ Down after → IsNamed pid after
-  named_down after is =
-      let found : FoundInRange (IsMember range.ids) (range.node).pid after = subst (λ (st : NodeStatus). StatusInRange (IsMember range.ids) (range.node).pid st) is range.range.status in
-      subst (λ (p : ℕ). IsNamed p after) range.pid_is found.1
+    named_down : (after : Durable) → (range.node).status ≡ Down after → IsNamed pid after
+    named_down after is =
+        let found : FoundInRange (IsMember range.ids) (range.node).pid after = subst (λ (st : NodeStatus). StatusInRange (IsMember range.ids) (range.node).pid st) is range.range.status in
+        subst (λ (p : ℕ). IsNamed p after) range.pid_is found.1
 
-  named_failed : (count : ℕ) (after : Durable) → (range.node).status ≡ Failed count after → IsNamed pid after
-  named_failed count after is =
-      let found : FoundInRange (IsMember range.ids) (range.node).pid after = subst (λ (st : NodeStatus). StatusInRange (IsMember range.ids) (range.node).pid st) is range.range.status in
-      subst (λ (p : ℕ). IsNamed p after) range.pid_is found.1
+    named_failed : (count : ℕ) (after : Durable) → (range.node).status ≡ Failed count after → IsNamed pid after
+    named_failed count after is =
+        let found : FoundInRange (IsMember range.ids) (range.node).pid after = subst (λ (st : NodeStatus). StatusInRange (IsMember range.ids) (range.node).pid st) is range.range.status in
+        subst (λ (p : ℕ). IsNamed p after) range.pid_is found.1
 
-takes_one : (pid : ℕ) (d before after : Durable) → (d ≡ before) ⊎ (d ≡ after) → IsNamed pid before → IsNamed pid after → durable_for pid d ≡ d
-takes_one pid d before after one first second =
-    taken pid d (⊎_elim (λ is. subst (λ (e : Durable). IsNamed pid e) (sym is) first) (λ is. subst (λ (e : Durable). IsNamed pid e) (sym is) second) one)
+  takes_one : (pid : ℕ) (d before after : Durable) → (d ≡ before) ⊎ (d ≡ after) → IsNamed pid before → IsNamed pid after → durable_for pid d ≡ d
+  takes_one pid d before after one first second =
+      taken pid d (⊎_elim (λ is. subst (λ (e : Durable). IsNamed pid e) (sym is) first) (λ is. subst (λ (e : Durable). IsNamed pid e) (sym is) second) one)
 
--- which one is found
-abbrev found_by : Bool → Durable → Durable → Durable
-found_by finds_after before after = cond finds_after after before
+  -- which one is found
+  abbrev found_by : Bool → Durable → Durable → Durable
+  found_by finds_after before after = cond finds_after after before
 
-which : (d before after : Durable) → (d ≡ before) ⊎ (d ≡ after) → (b : Bool) × (found_by b before after ≡ d)
-which d before after (inl is) = (false, sym is)
-which d before after (inr is) = (true, sym is)
+  which : (d before after : Durable) → (d ≡ before) ⊎ (d ≡ after) → (b : Bool) × (found_by b before after ≡ d)
+  which d before after (inl is) = (false, sym is)
+  which d before after (inr is) = (true, sym is)
 
--- ---- an opening that is done
+  -- ---- an opening that is done
 
--- a node that is opened with what it found: the world has it so
-module _ (pid line : ℕ) (x : Node) (d : Durable) (s : ℕ → State) (m : nodes.Node MemDisk) (sends : List (ℕ × Msg)) (same : x.pid ≡ pid)
-    (state : (node_of m).state ≡ s pid) (stored : (p : ℕ) → (s p).durable ≡ d) (sends_are : sends ≡ sends_after_restart pid d) where
-  abbrev opened_node : Node
-  opened_node = record x { state = s x.pid; status = Up }
+  -- a node that is opened with what it found: the world has it so
+  module _ (pid line : ℕ) (x : Node) (d : Durable) (s : ℕ → State) (m : nodes.Node D) (sends : List (ℕ × Msg)) (same : x.pid ≡ pid)
+      (state : (node_of m).state ≡ s pid) (stored : (p : ℕ) → (s p).durable ≡ d) (sends_are : sends ≡ sends_after_restart pid d) where
+    abbrev opened_node : Node
+    opened_node = record x { state = s x.pid; status = Up }
 
-  opened_shown : IsShown (node.Up m) (s x.pid) Up
-  opened_shown = (ap s same ∙ sym state, refl)
+    opened_shown : IsShown M (node.Up m) (s x.pid) Up
+    opened_shown = (ap s same ∙ sym state, refl)
 
-  opened_world : (w : World) → world_opened w x (s x.pid) ≡ becomes w opened_node sends []
-  opened_world w =
-      let z : List (ℕ × Msg) → List Line → World = λ ss ls. record { nodes = with_node w.nodes opened_node; messages = w.messages ++ sent_by x.pid ss; lines = ls } in
-      let be : sends_after_restart x.pid (s x.pid).durable ≡ sends =
-      ap (λ (e : Durable). sends_after_restart x.pid e) (stored x.pid) ∙ ap (λ (p : ℕ). sends_after_restart p d) same ∙ sym sends_are in
-      ap (λ (ss : List (ℕ × Msg)). z ss w.lines) be ∙ ap (λ (ls : List Line). z sends ls) (sym (append-nil w.lines))
+    opened_world : (w : World) → world_opened w x (s x.pid) ≡ becomes w opened_node sends []
+    opened_world w =
+        let z : List (ℕ × Msg) → List Line → World = λ ss ls. record { nodes = with_node w.nodes opened_node; messages = w.messages ++ sent_by x.pid ss; lines = ls } in
+        let be : sends_after_restart x.pid (s x.pid).durable ≡ sends =
+        ap (λ (e : Durable). sends_after_restart x.pid e) (stored x.pid) ∙ ap (λ (p : ℕ). sends_after_restart p d) same ∙ sym sends_are in
+        ap (λ (ss : List (ℕ × Msg)). z ss w.lines) be ∙ ap (λ (ls : List Line). z sends ls) (sym (append-nil w.lines))
 
-  -- whichever way it ran before
-  opened_done : (finds_after : Bool) (status : NodeStatus) → x.status ≡ status
-      → ((w : World) (h : Happening) → h.fate ≡ Done → h.finds_after ≡ finds_after → world_by_status status runs.Opens h w x ≡ world_opened w x (s x.pid))
-      → IsNodeDone x runs.Opens Done finds_after line opened_node sends []
-  opened_done finds_after status is does = record {
-    pid = refl;
-    stored = inl refl;
-    world = λ w h f b at here. ap (λ (st : NodeStatus). world_by_status st runs.Opens h w x) is ∙ does w h f b ∙ opened_world w;
-  }
-
--- one that is down is opened over disks that were told of something
-module _ (members : List ℕ) (me : ℕ) (down : DownNode) (first second : MemDisk) (n : nodes.Node MemDisk) (sends : List (ℕ × Msg)) (range : IsInRange me (node.Down down))
-    (told_first : IsTold down.first first) (told_second : IsTold down.second second)
-    (o : Opens known_disk me members (record { first = known_disk first; second = known_disk second }) n sends) where
-  stores_there : (before after : Durable) → StoreOneOf before after (disks_with known_disk down.first down.second) → StoreOneOf before after (disks_with known_disk first second)
-  stores_there before after s = told_both (StoreOneOf before after) down.first down.second first second told_first told_second s
-
-  found_there : (before after : Durable) → StoreOneOf before after (disks_with known_disk down.first down.second) → (o.is_new ≡ false) × ((o.durable ≡ before) ⊎ (o.durable ≡ after))
-  found_there before after s =
-      found_one before after (seen_of first) (seen_of second) (stores_there before after s).read (fresh_for me members) o.durable o.is_new (o.opened.found (tt, tt))
-
-  abbrev first_shown : ShowsDown down (range.node).state (range.node).status
-  first_shown = range.shown
-
-  takes : durable_for me o.durable ≡ o.durable
-  takes =
-      takes_one me o.durable (range.node).state.durable first_shown.after (found_there (range.node).state.durable first_shown.after first_shown.stored).1 (named_before me (node.Down down) range)
-      (named_down me (node.Down down) range first_shown.after first_shown.status_is)
-
-  is_old : o.is_new ≡ false
-  is_old = (found_there (range.node).state.durable first_shown.after first_shown.stored).0
-
-  state_is : node_of n ≡ runs_in me (state_after_restart me o.durable)
-  state_is = o.node ∙ ap (λ (b : Bool). runs_in me (opening_state me b o.durable)) is_old ∙ ap (λ (d : Durable). runs_in me (state_after_restart me d)) takes
-
-  sends_are : sends ≡ sends_after_restart me o.durable
-  sends_are = o.sends_are ∙ ap (λ (b : Bool). opening_sends me b o.durable) is_old ∙ ap (λ (e : Durable). sends_after_restart me e) takes
-
-  runs_again : RunsAs me n
-  runs_again = record {
-    me = ap (λ (i : Inner). i.me) state_is;
-    failed = ap (λ (i : Inner). i.failed) state_is;
-    sound = o.sound;
-    stored = subst (λ (d : Durable). Represents known_disk d n.store) (ap (λ (i : Inner). i.state.durable) (sym state_is)) (o.opened.stored (tt, tt));
-  }
-
-  pub opens_again : (line : ℕ) (comes : Fate → Type 0) → comes Done → IsDoneOf me comes (node.Down down) runs.Opens line (node.Up n) sends []
-  opens_again line comes may = record {
-    after = λ x pid shown.
-        let b = which o.durable x.state.durable shown.after (found_there x.state.durable shown.after shown.stored).1 in
-        let s : ℕ → State = λ p. state_after_restart p o.durable in
-        record {
-          fate = Done;
-          finds_after = b.0;
-          may = may;
-          node = record x { state = s x.pid; status = Up };
-          shown = opened_shown me line x o.durable s n sends pid (ap (λ (i : Inner). i.state) state_is) (λ p. refl) sends_are;
-          done = opened_done me line x o.durable s n sends pid (ap (λ (i : Inner). i.state) state_is) (λ p. refl) sends_are b.0 (Down shown.after) shown.status_is
-              (λ w h f finds. ap (λ (fate : Fate). world_if_down runs.Opens fate h.finds_after shown.after w x) f
-              ∙ ap (λ (c : Bool). world_if_down runs.Opens Done c shown.after w x) finds
-              ∙ ap (λ (e : Durable). world_opening Done w x e) b.1);
-        };
-    kept = runs_again;
-  }
-
--- one that failed is opened again in place
-module _ (me : ℕ) (n m k : nodes.Node MemDisk) (sends : List (ℕ × Msg)) (range : IsInRange me (node.Failed n)) (has : HasFailed me n) (stays : StaysNode n m) (sound : IsSoundNode k)
-    (found : (before after : Durable) → StoreOneOf before after (disks_of known_disk m.store) → FindsOneOf known_disk before after m k (Ok sends)) where
-  abbrev shown_first : ShowsFailed n (range.node).state (range.node).status
-  shown_first = range.shown
-
-  here : (node_of m).me ≡ me
-  here = ap (λ (i : Inner). i.me) stays.node ∙ has.me
-
-  module _ (d : Durable) (r : Reopens known_disk d false m k sends) (whole : durable_for me d ≡ d) where
-    takes_whole : durable_for (node_of m).me d ≡ d
-    takes_whole = ap (λ (p : ℕ). durable_for p d) here ∙ whole
-
-    now_is : node_of k ≡ runs_in me (state_after_reopening me (node_of n).state d)
-    now_is =
-        r.node
-        ∙ ap (λ (e : Durable). runs_in (node_of m).me (state_after_reopening (node_of m).me (node_of m).state e)) takes_whole
-        ∙ ap (λ (p : ℕ). runs_in p (state_after_reopening p (node_of m).state d)) here
-        ∙ ap (λ (i : Inner). runs_in me (state_after_reopening me i.state d)) stays.node
-
-    sends_now : sends ≡ sends_after_restart me d
-    sends_now = r.sends_are ∙ ap (λ (e : Durable). sends_after_restart (node_of m).me e) takes_whole ∙ ap (λ (p : ℕ). sends_after_restart p d) here
-
-    reopened_runs : RunsAs me k
-    reopened_runs = record {
-      me = ap (λ (i : Inner). i.me) now_is;
-      failed = ap (λ (i : Inner). i.failed) now_is;
-      sound = sound;
-      stored = reopened_represented known_disk d false m k sends r (tt, tt) takes_whole;
+    -- whichever way it ran before
+    opened_done : (finds_after : Bool) (status : NodeStatus) → x.status ≡ status
+        → ((w : World) (h : Happening) → h.fate ≡ Done → h.finds_after ≡ finds_after → world_by_status status runs.Opens h w x ≡ world_opened w x (s x.pid))
+        → IsNodeDone x runs.Opens Done finds_after line opened_node sends []
+    opened_done finds_after status is does = record {
+      pid = refl;
+      stored = inl refl;
+      world = λ w h f b at here. ap (λ (st : NodeStatus). world_by_status st runs.Opens h w x) is ∙ does w h f b ∙ opened_world w;
     }
 
-    reopened_as : (line : ℕ) (comes : Fate → Type 0) → comes Done → (x : Node) → x.pid ≡ me → (shown : ShowsFailed n x.state x.status) (b : Bool) → found_by b x.state.durable shown.after ≡ d
-        → DoneAs comes x runs.Opens line (node.Up k) sends []
-    reopened_as line comes may x pid shown b is =
-        let s : ℕ → State = λ p. state_after_reopening p x.state d in
-        let state : (node_of k).state ≡ s me = ap (λ (i : Inner). i.state) now_is ∙ ap (λ (z : State). state_after_reopening me z d) (sym shown.state) in
-        record {
-          fate = Done;
-          finds_after = b;
-          may = may;
-          node = record x { state = s x.pid; status = Up };
-          shown = opened_shown me line x d s k sends pid state (λ p. refl) sends_now;
-          done = opened_done me line x d s k sends pid state (λ p. refl) sends_now b (Failed shown.count shown.after) shown.status_is
-              (λ w h f finds. ap (λ (fate : Fate). world_reopening fate shown.after w x (found_by h.finds_after x.state.durable shown.after)) f
-              ∙ ap (λ (c : Bool). world_reopening Done shown.after w x (found_by c x.state.durable shown.after)) finds
-              ∙ ap (λ (e : Durable). world_reopening Done shown.after w x e) is);
-        }
+  -- one that is down is opened over areas that were opened on its copies
+  module _ (members : List ℕ) (me : ℕ) (down : DownNode C) (first second : D) (n : nodes.Node D) (sends : List (ℕ × Msg)) (range : IsInRange M me (node.Down down))
+      (opens_first : OpensOn M.holds down.first (M.state first)) (opens_second : OpensOn M.holds down.second (M.state second))
+      (o : Opens M.state me members (record { first = M.state first; second = M.state second }) n sends) where
+    found_there : (before after : Durable) → HoldOneOf M.holds before after down.first down.second → (o.is_new ≡ false) × ((o.durable ≡ before) ⊎ (o.durable ≡ after))
+    found_there before after s =
+        found_one before after (M.state first).content (M.state second).content
+        (opened_stores M.state M.holds before after down.first down.second first second opens_first opens_second s).read (fresh_for me members) o.durable o.is_new (o.opened.found (opens_first.obeys, opens_second.obeys))
 
-  -- what is found names it, whichever node is shown
-  whole_first : (d : Durable) → (d ≡ (range.node).state.durable) ⊎ (d ≡ shown_first.after) → durable_for me d ≡ d
-  whole_first d one =
-      takes_one me d (range.node).state.durable shown_first.after one (named_before me (node.Failed n) range) (named_failed me (node.Failed n) range shown_first.count shown_first.after shown_first.status_is)
+    abbrev first_shown : ShowsDown M down (range.node).state (range.node).status
+    first_shown = range.shown
 
-  -- one of the two is found of whichever node is shown
-  pub found_of : (x : Node) (shown : ShowsFailed n x.state x.status) → (d : Durable) × Reopens known_disk d false m k sends × ((d ≡ x.state.durable) ⊎ (d ≡ shown.after))
-  found_of x shown =
-      let f = (found x.state.durable shown.after (stays.stores x.state.durable shown.after shown.stored)).found in
-      ⊎_elim (λ r. (x.state.durable, r, inl refl)) (λ r. (shown.after, r, inr refl)) f
+    takes : durable_for me o.durable ≡ o.durable
+    takes =
+        takes_one me o.durable (range.node).state.durable first_shown.after (found_there (range.node).state.durable first_shown.after first_shown.stored).1 (named_before me (node.Down down) range)
+        (named_down me (node.Down down) range first_shown.after first_shown.status_is)
 
-  -- it is the same one of all
-  found_same : (x : Node) (shown : ShowsFailed n x.state x.status) → durable_for me (found_of x shown).0 ≡ (found_of x shown).0
-  found_same x shown =
-      let one = found_of x shown in
-      let first = found_of range.node shown_first in
-      let same : one.0 ≡ first.0 = one_stored _ _ one.0 first.0 (one.1.opened.found (tt, tt)) (first.1.opened.found (tt, tt)) in
-      subst (λ (e : Durable). durable_for me e ≡ e) (sym same) (whole_first first.0 first.2)
+    is_old : o.is_new ≡ false
+    is_old = (found_there (range.node).state.durable first_shown.after first_shown.stored).0
 
-  pub reopens_again : (line : ℕ) (comes : Fate → Type 0) → comes Done → IsDoneOf me comes (node.Failed n) runs.Opens line (node.Up k) sends []
-  reopens_again line comes may = record {
-    after = λ x pid shown.
+    state_is : node_of n ≡ runs_in me (state_after_restart me o.durable)
+    state_is = o.node ∙ ap (λ (b : Bool). runs_in me (opening_state me b o.durable)) is_old ∙ ap (λ (d : Durable). runs_in me (state_after_restart me d)) takes
+
+    sends_are : sends ≡ sends_after_restart me o.durable
+    sends_are = o.sends_are ∙ ap (λ (b : Bool). opening_sends me b o.durable) is_old ∙ ap (λ (e : Durable). sends_after_restart me e) takes
+
+    runs_again : RunsAs M me n
+    runs_again = record {
+      me = ap (λ (i : Inner). i.me) state_is;
+      failed = ap (λ (i : Inner). i.failed) state_is;
+      sound = o.sound;
+      stored = subst (λ (d : Durable). Represents M.state d n.store) (ap (λ (i : Inner). i.state.durable) (sym state_is)) (o.opened.stored (opens_first.obeys, opens_second.obeys));
+    }
+
+    pub opens_again : (line : ℕ) (comes : Fate → Type 0) → comes Done → IsDoneOf M me comes (node.Down down) runs.Opens line (node.Up n) sends []
+    opens_again line comes may = record {
+      after = λ x pid shown.
+          let b = which o.durable x.state.durable shown.after (found_there x.state.durable shown.after shown.stored).1 in
+          let s : ℕ → State = λ p. state_after_restart p o.durable in
+          record {
+            fate = Done;
+            finds_after = b.0;
+            may = may;
+            node = record x { state = s x.pid; status = Up };
+            shown = opened_shown me line x o.durable s n sends pid (ap (λ (i : Inner). i.state) state_is) (λ p. refl) sends_are;
+            done = opened_done me line x o.durable s n sends pid (ap (λ (i : Inner). i.state) state_is) (λ p. refl) sends_are b.0 (Down shown.after) shown.status_is
+                (λ w h f finds. ap (λ (fate : Fate). world_if_down runs.Opens fate h.finds_after shown.after w x) f
+                ∙ ap (λ (c : Bool). world_if_down runs.Opens Done c shown.after w x) finds
+                ∙ ap (λ (e : Durable). world_opening Done w x e) b.1);
+          };
+      kept = runs_again;
+    }
+
+  -- one that failed is opened again in place
+  module _ (me : ℕ) (n m k : nodes.Node D) (sends : List (ℕ × Msg)) (range : IsInRange M me (node.Failed n)) (has : HasFailed me n) (stays : StaysNode M.state n m) (sound : IsSoundNode k)
+      (found : (before after : Durable) → StoreOneOf before after (disks_of M.state m.store) → FindsOneOf M.state before after m k (Ok sends)) where
+    abbrev shown_first : ShowsFailed M n (range.node).state (range.node).status
+    shown_first = range.shown
+
+    here : (node_of m).me ≡ me
+    here = ap (λ (i : Inner). i.me) stays.node ∙ has.me
+
+    -- its areas obey the model
+    obey : Obey (disks_of M.state m.store)
+    obey = (stays.stores (range.node).state.durable shown_first.after shown_first.stored).obey
+
+    module _ (d : Durable) (r : Reopens M.state d false m k sends) (whole : durable_for me d ≡ d) where
+      takes_whole : durable_for (node_of m).me d ≡ d
+      takes_whole = ap (λ (p : ℕ). durable_for p d) here ∙ whole
+
+      now_is : node_of k ≡ runs_in me (state_after_reopening me (node_of n).state d)
+      now_is =
+          r.node
+          ∙ ap (λ (e : Durable). runs_in (node_of m).me (state_after_reopening (node_of m).me (node_of m).state e)) takes_whole
+          ∙ ap (λ (p : ℕ). runs_in p (state_after_reopening p (node_of m).state d)) here
+          ∙ ap (λ (i : Inner). runs_in me (state_after_reopening me i.state d)) stays.node
+
+      sends_now : sends ≡ sends_after_restart me d
+      sends_now = r.sends_are ∙ ap (λ (e : Durable). sends_after_restart (node_of m).me e) takes_whole ∙ ap (λ (p : ℕ). sends_after_restart p d) here
+
+      reopened_runs : RunsAs M me k
+      reopened_runs = record {
+        me = ap (λ (i : Inner). i.me) now_is;
+        failed = ap (λ (i : Inner). i.failed) now_is;
+        sound = sound;
+        stored = reopened_represented M.state d false m k sends r obey takes_whole;
+      }
+
+      reopened_as : (line : ℕ) (comes : Fate → Type 0) → comes Done → (x : Node) → x.pid ≡ me → (shown : ShowsFailed M n x.state x.status) (b : Bool) → found_by b x.state.durable shown.after ≡ d
+          → DoneAs M comes x runs.Opens line (node.Up k) sends []
+      reopened_as line comes may x pid shown b is =
+          let s : ℕ → State = λ p. state_after_reopening p x.state d in
+          let state : (node_of k).state ≡ s me = ap (λ (i : Inner). i.state) now_is ∙ ap (λ (z : State). state_after_reopening me z d) (sym shown.state) in
+          record {
+            fate = Done;
+            finds_after = b;
+            may = may;
+            node = record x { state = s x.pid; status = Up };
+            shown = opened_shown me line x d s k sends pid state (λ p. refl) sends_now;
+            done = opened_done me line x d s k sends pid state (λ p. refl) sends_now b (Failed shown.count shown.after) shown.status_is
+                (λ w h f finds. ap (λ (fate : Fate). world_reopening fate shown.after w x (found_by h.finds_after x.state.durable shown.after)) f
+                ∙ ap (λ (c : Bool). world_reopening Done shown.after w x (found_by c x.state.durable shown.after)) finds
+                ∙ ap (λ (e : Durable). world_reopening Done shown.after w x e) is);
+          }
+
+    -- what is found names it, whichever node is shown
+    whole_first : (d : Durable) → (d ≡ (range.node).state.durable) ⊎ (d ≡ shown_first.after) → durable_for me d ≡ d
+    whole_first d one =
+        takes_one me d (range.node).state.durable shown_first.after one (named_before me (node.Failed n) range) (named_failed me (node.Failed n) range shown_first.count shown_first.after shown_first.status_is)
+
+    -- one of the two is found of whichever node is shown
+    pub found_of : (x : Node) (shown : ShowsFailed M n x.state x.status) → (d : Durable) × Reopens M.state d false m k sends × ((d ≡ x.state.durable) ⊎ (d ≡ shown.after))
+    found_of x shown =
+        let f = (found x.state.durable shown.after (stays.stores x.state.durable shown.after shown.stored)).found in
+        ⊎_elim (λ r. (x.state.durable, r, inl refl)) (λ r. (shown.after, r, inr refl)) f
+
+    -- it is the same one of all
+    found_same : (x : Node) (shown : ShowsFailed M n x.state x.status) → durable_for me (found_of x shown).0 ≡ (found_of x shown).0
+    found_same x shown =
         let one = found_of x shown in
-        let b = which one.0 x.state.durable shown.after one.2 in
-        reopened_as one.0 one.1 (found_same x shown) line comes may x pid shown b.0 b.1;
-    kept = let first = found_of range.node shown_first in reopened_runs first.0 first.1 (found_same range.node shown_first);
-  }
+        let first = found_of range.node shown_first in
+        let same : one.0 ≡ first.0 = one_stored _ _ one.0 first.0 (one.1.opened.found obey) (first.1.opened.found obey) in
+        subst (λ (e : Durable). durable_for me e ≡ e) (sym same) (whole_first first.0 first.2)
 
--- ---- an opening in a call of whose disks the node stops, or one fails
+    pub reopens_again : (line : ℕ) (comes : Fate → Type 0) → comes Done → IsDoneOf M me comes (node.Failed n) runs.Opens line (node.Up k) sends []
+    reopens_again line comes may = record {
+      after = λ x pid shown.
+          let one = found_of x shown in
+          let b = which one.0 x.state.durable shown.after one.2 in
+          reopened_as one.0 one.1 (found_same x shown) line comes may x pid shown b.0 b.1;
+      kept = let first = found_of range.node shown_first in reopened_runs first.0 first.1 (found_same range.node shown_first);
+    }
 
--- one that is down stays so, over what is left of its disks
-pub stays_down : (me line : ℕ) (old down : DownNode) (fate : Fate) (comes : Fate → Type 0) → comes fate → ((w : World) (x : Node) (d : Durable) → world_opening fate w x d ≡ w) → down.shown ≡ old.shown
-    → ((before after : Durable) → StoreOneOf before after (disks_with known_disk old.first old.second) → StoreOneOf before after (disks_with known_disk down.first down.second))
-    → IsDoneOf me comes (node.Down old) runs.Opens line (node.Down down) [] []
-stays_down me line old down fate comes may idle kept stores = record {
-  after = λ x pid shown.
-      record {
-        fate = fate;
-        finds_after = false;
-        may = may;
-        node = x;
-        shown = record { durable = shown.durable ∙ sym kept; after = shown.after; status_is = shown.status_is; stored = stores x.state.durable shown.after shown.stored };
-        done = nothing_done x runs.Opens fate false line (Down shown.after) shown.status_is
-            (λ w h f. ap (λ (g : Fate). world_if_down runs.Opens g h.finds_after shown.after w x) f ∙ idle w x (found_by h.finds_after x.state.durable shown.after));
-      };
-  kept = tt;
-}
+  -- ---- an opening in a call of whose disks the node stops, or one fails
 
--- one that failed stops
-pub failed_stops : (me line : ℕ) (n : nodes.Node MemDisk) (down : DownNode) (comes : Fate → Type 0) → comes Stopped → down.shown ≡ (node_of n).state.durable
-    → ((before after : Durable) → StoreOneOf before after (disks_of known_disk n.store) → StoreOneOf before after (disks_with known_disk down.first down.second))
-    → IsDoneOf me comes (node.Failed n) runs.Opens line (node.Down down) [] []
-failed_stops me line n down comes may kept stores = record {
-  after = λ x pid shown.
-      record {
-        fate = Stopped;
-        finds_after = false;
-        may = may;
-        node = record x { status = Down shown.after };
-        shown = record { durable = ap (λ (s : State). s.durable) shown.state ∙ sym kept; after = shown.after; status_is = refl; stored = stores x.state.durable shown.after shown.stored };
-        done = quietly_done x runs.Opens Stopped false line (Failed shown.count shown.after) shown.status_is (Down shown.after)
-            (λ w h f b. ap (λ (g : Fate). world_reopening g shown.after w x (found_by h.finds_after x.state.durable shown.after)) f);
-      };
-  kept = tt;
-}
-
--- or has failed again
-pub failed_fails : (me line : ℕ) (n m : nodes.Node MemDisk) (count : ℕ) (comes : Fate → Type 0) → comes (Faulted count) → HasFailed me n → node_of m ≡ record (node_of n) { failed = Some count } → IsSoundNode m
-    → ((before after : Durable) → StoreOneOf before after (disks_of known_disk n.store) → StoreOneOf before after (disks_of known_disk m.store))
-    → IsDoneOf me comes (node.Failed n) runs.Opens line (node.Failed m) [] []
-failed_fails me line n m count comes may has is sound stores = record {
-  after = λ x pid shown.
-      record {
-        fate = Faulted count;
-        finds_after = false;
-        may = may;
-        node = record x { status = Failed count shown.after };
-        shown = record {
-          state = shown.state ∙ ap (λ (i : Inner). i.state) (sym is);
-          count = count;
-          failed = ap (λ (i : Inner). i.failed) is;
-          after = shown.after;
-          status_is = refl;
-          stored = stores x.state.durable shown.after shown.stored;
+  -- one that is down stays so, over copies that hold what it had stored
+  pub stays_down : (me line : ℕ) (old down : DownNode C) (fate : Fate) (comes : Fate → Type 0) → comes fate → ((w : World) (x : Node) (d : Durable) → world_opening fate w x d ≡ w) → down.shown ≡ old.shown
+      → ((before after : Durable) → HoldOneOf M.holds before after old.first old.second → HoldOneOf M.holds before after down.first down.second)
+      → IsDoneOf M me comes (node.Down old) runs.Opens line (node.Down down) [] []
+  stays_down me line old down fate comes may idle kept stores = record {
+    after = λ x pid shown.
+        record {
+          fate = fate;
+          finds_after = false;
+          may = may;
+          node = x;
+          shown = record { durable = shown.durable ∙ sym kept; after = shown.after; status_is = shown.status_is; stored = stores x.state.durable shown.after shown.stored };
+          done = nothing_done x runs.Opens fate false line (Down shown.after) shown.status_is
+              (λ w h f. ap (λ (g : Fate). world_if_down runs.Opens g h.finds_after shown.after w x) f ∙ idle w x (found_by h.finds_after x.state.durable shown.after));
         };
-        done = quietly_done x runs.Opens (Faulted count) false line (Failed shown.count shown.after) shown.status_is (Failed count shown.after)
-            (λ w h f b. ap (λ (g : Fate). world_reopening g shown.after w x (found_by h.finds_after x.state.durable shown.after)) f);
-      };
-  kept = record { me = ap (λ (i : Inner). i.me) is ∙ has.me; sound = sound };
-}
-
--- a refused opening leaves the disks so
-pub handed_back : (members : List ℕ) (me : ℕ) (first second : MemDisk) (e : Returned MemDisk) → RefusesNode known_disk (fresh_for me members) first second e
-    → (before after : Durable) → StoreOneOf before after (disks_with known_disk first second) → StoreOneOf before after (disks_with known_disk e.first e.second)
-handed_back members me first second e refused before after s =
-    let over : MemDisk → MemDisk → Store MemDisk = λ a b. record { first = a; second = b; is_second = false; generation = 0; end = 0; base = 0; is_closed = false; is_failed = true } in
-    refused_leaves known_disk (fresh_for me members) before after (over first second) (over e.first e.second) e.cause refused s
-
--- one that is up is open already
-pub open_already : (me line : ℕ) (n : nodes.Node MemDisk) (comes : Fate → Type 0) → comes Done → RunsAs me n → IsDoneOf me comes (node.Up n) runs.Opens line (node.Up n) [] []
-open_already me line n comes may kept = record {
-  after = λ x pid shown. record { fate = Done; finds_after = false; may = may; node = x; shown = shown; done = nothing_done x runs.Opens Done false line Up shown.1 (λ w h f. refl) };
-  kept = kept;
-}
-
--- ---- a node at its first start
-
-module _ (members : List ℕ) (me : ℕ) (first second : MemDisk) (n : nodes.Node MemDisk) (sends : List (ℕ × Msg)) (empty : seen_of first ≡ []) (empty_second : seen_of second ≡ [])
-    (o : Opens known_disk me members (record { first = known_disk first; second = known_disk second }) n sends) where
-  is_fresh : (o.is_new ≡ true) × (o.durable ≡ fresh_for me members)
-  is_fresh = found_fresh (fresh_for me members) o.durable (seen_of first) (seen_of second) o.is_new empty empty_second (o.opened.found (tt, tt))
-
-  pub first_is : node_of n ≡ runs_in me (first_node members me).state
-  first_is =
-      o.node
-      ∙ ap (λ (b : Bool). runs_in me (opening_state me b o.durable)) is_fresh.0
-      ∙ ap (λ (d : Durable). runs_in me (first_state me (durable_for me d))) is_fresh.1
-      ∙ ap (λ (d : Durable). runs_in me (first_state me d)) (fresh_taken me members)
-
-  pub first_runs : RunsAs me n
-  first_runs = record {
-    me = ap (λ (i : Inner). i.me) first_is;
-    failed = ap (λ (i : Inner). i.failed) first_is;
-    sound = o.sound;
-    stored = subst (λ (d : Durable). Represents known_disk d n.store) (is_fresh.1 ∙ ap (λ (i : Inner). i.state.durable) (sym first_is)) (o.opened.stored (tt, tt));
+    kept = tt;
   }
+
+  -- one that failed stops
+  pub failed_stops : (me line : ℕ) (n : nodes.Node D) (down : DownNode C) (comes : Fate → Type 0) → comes Stopped → down.shown ≡ (node_of n).state.durable
+      → ((before after : Durable) → StoreOneOf before after (disks_of M.state n.store) → HoldOneOf M.holds before after down.first down.second)
+      → IsDoneOf M me comes (node.Failed n) runs.Opens line (node.Down down) [] []
+  failed_stops me line n down comes may kept stores = record {
+    after = λ x pid shown.
+        record {
+          fate = Stopped;
+          finds_after = false;
+          may = may;
+          node = record x { status = Down shown.after };
+          shown = record { durable = ap (λ (s : State). s.durable) shown.state ∙ sym kept; after = shown.after; status_is = refl; stored = stores x.state.durable shown.after shown.stored };
+          done = quietly_done x runs.Opens Stopped false line (Failed shown.count shown.after) shown.status_is (Down shown.after)
+              (λ w h f b. ap (λ (g : Fate). world_reopening g shown.after w x (found_by h.finds_after x.state.durable shown.after)) f);
+        };
+    kept = tt;
+  }
+
+  -- or has failed again
+  pub failed_fails : (me line : ℕ) (n m : nodes.Node D) (count : ℕ) (comes : Fate → Type 0) → comes (Faulted count) → HasFailed me n → node_of m ≡ record (node_of n) { failed = Some count } → IsSoundNode m
+      → ((before after : Durable) → StoreOneOf before after (disks_of M.state n.store) → StoreOneOf before after (disks_of M.state m.store))
+      → IsDoneOf M me comes (node.Failed n) runs.Opens line (node.Failed m) [] []
+  failed_fails me line n m count comes may has is sound stores = record {
+    after = λ x pid shown.
+        record {
+          fate = Faulted count;
+          finds_after = false;
+          may = may;
+          node = record x { status = Failed count shown.after };
+          shown = record {
+            state = shown.state ∙ ap (λ (i : Inner). i.state) (sym is);
+            count = count;
+            failed = ap (λ (i : Inner). i.failed) is;
+            after = shown.after;
+            status_is = refl;
+            stored = stores x.state.durable shown.after shown.stored;
+          };
+          done = quietly_done x runs.Opens (Faulted count) false line (Failed shown.count shown.after) shown.status_is (Failed count shown.after)
+              (λ w h f b. ap (λ (g : Fate). world_reopening g shown.after w x (found_by h.finds_after x.state.durable shown.after)) f);
+        };
+    kept = record { me = ap (λ (i : Inner). i.me) is ∙ has.me; sound = sound };
+  }
+
+  -- a refused opening leaves the areas so
+  pub handed_back : (members : List ℕ) (me : ℕ) (first second : D) (e : Returned D) → RefusesNode M.state (fresh_for me members) first second e
+      → (before after : Durable) → StoreOneOf before after (disks_with M.state first second) → StoreOneOf before after (disks_with M.state e.first e.second)
+  handed_back members me first second e refused before after s =
+      let over : D → D → Store D = λ a b. record { first = a; second = b; is_second = false; generation = 0; end = 0; base = 0; is_closed = false; is_failed = true } in
+      refused_leaves M.state (fresh_for me members) before after (over first second) (over e.first e.second) e.cause refused s
+
+  -- one that is up is open already
+  pub open_already : (me line : ℕ) (n : nodes.Node D) (comes : Fate → Type 0) → comes Done → RunsAs M me n → IsDoneOf M me comes (node.Up n) runs.Opens line (node.Up n) [] []
+  open_already me line n comes may kept = record {
+    after = λ x pid shown. record { fate = Done; finds_after = false; may = may; node = x; shown = shown; done = nothing_done x runs.Opens Done false line Up shown.1 (λ w h f. refl) };
+    kept = kept;
+  }
+
+  -- ---- a node at its first start
+
+  module _ (members : List ℕ) (me : ℕ) (one two : C) (first second : D) (n : nodes.Node D) (sends : List (ℕ × Msg))
+      (empty : (x : List ℕ) → M.holds one x → x ≡ []) (empty_second : (x : List ℕ) → M.holds two x → x ≡ [])
+      (opens_first : OpensOn M.holds one (M.state first)) (opens_second : OpensOn M.holds two (M.state second))
+      (o : Opens M.state me members (record { first = M.state first; second = M.state second }) n sends) where
+    is_fresh : (o.is_new ≡ true) × (o.durable ≡ fresh_for me members)
+    is_fresh = found_fresh (fresh_for me members) o.durable (M.state first).content (M.state second).content o.is_new (empty (M.state first).content opens_first.read) (empty_second (M.state second).content opens_second.read)
+        (o.opened.found (opens_first.obeys, opens_second.obeys))
+
+    pub first_is : node_of n ≡ runs_in me (first_node members me).state
+    first_is =
+        o.node
+        ∙ ap (λ (b : Bool). runs_in me (opening_state me b o.durable)) is_fresh.0
+        ∙ ap (λ (d : Durable). runs_in me (first_state me (durable_for me d))) is_fresh.1
+        ∙ ap (λ (d : Durable). runs_in me (first_state me d)) (fresh_taken me members)
+
+    pub first_runs : RunsAs M me n
+    first_runs = record {
+      me = ap (λ (i : Inner). i.me) first_is;
+      failed = ap (λ (i : Inner). i.failed) first_is;
+      sound = o.sound;
+      stored = subst (λ (d : Durable). Represents M.state d n.store) (is_fresh.1 ∙ ap (λ (i : Inner). i.state.durable) (sym first_is)) (o.opened.stored (opens_first.obeys, opens_second.obeys));
+    }

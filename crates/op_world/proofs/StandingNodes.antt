@@ -10,7 +10,7 @@ use Rattle.op_types.specs.declared.durable.Closed.{Closed}
 use Rattle.op_types.specs.declared.durable.Durable.{Durable}
 use Rattle.op_types.specs.declared.durable.Joining.{Joining}
 use Rattle.op_types.specs.declared.durable.Part.{Part}
-use Rattle.op_memory.specs.declared.disk.MemDisk.{MemDisk}
+use Rattle.op_areas.specs.Media.{Medium}
 use Rattle.op_node.specs.Nodes.{node_of}
 use Rattle.op_node.specs.declared.node.Node as nodes
 use Rattle.op_record.specs.Ranges.{ClosedInRange}
@@ -40,206 +40,207 @@ use Rattle.op_world.proofs.Deeds.{run_kept, in_range}
 abbrev pub IsOpen : Node → Type 0
 IsOpen x = IfSome x.state.durable.closed ClosedInRange
 
--- the nodes show some of which that holds
-pub record AreOpen (nodes : List WorldNode) : Type 0 where
-  pub xs : List Node
-  pub shown : ShowNodes nodes xs
-  pub each : All IsOpen xs
+module _ {D C : Type 0} (M : Medium D C) where
+  -- the nodes show some of which that holds
+  pub record AreOpen (nodes : List (WorldNode D C)) : Type 0 where
+    pub xs : List Node
+    pub shown : ShowNodes M nodes xs
+    pub each : All IsOpen xs
 
-all_open : (ids : List ℕ) (xs : List Node) → All (NodeInRange (IsMember ids)) xs → All IsOpen xs
-all_open ids [] each = All-nil IsOpen
-all_open ids (x ∷ xs) each =
-    All-cons IsOpen x xs ((((All-head (NodeInRange (IsMember ids)) x xs each).state).durable).range).closed (all_open ids xs (All-tail (NodeInRange (IsMember ids)) x xs each))
+  all_open : (ids : List ℕ) (xs : List Node) → All (NodeInRange (IsMember ids)) xs → All IsOpen xs
+  all_open ids [] each = All-nil IsOpen
+  all_open ids (x ∷ xs) each =
+      All-cons IsOpen x xs ((((All-head (NodeInRange (IsMember ids)) x xs each).state).durable).range).closed (all_open ids xs (All-tail (NodeInRange (IsMember ids)) x xs each))
 
--- so it is in a world
-pub world_open : (w : Parts) → IsWorld w → (xs : List Node) × ShowNodes w.nodes xs × All IsOpen xs
-world_open w i = let x : World = (run_kept w i).world in (x.nodes, i.shows.nodes, all_open w.ids x.nodes (in_range w i).nodes)
+  -- so it is in a world
+  pub world_open : (w : Parts D C) → IsWorld M w → (xs : List Node) × (ShowNodes M) w.nodes xs × All IsOpen xs
+  world_open w i = let x : World = (run_kept M w i).world in (x.nodes, i.shows.nodes, all_open w.ids x.nodes (in_range M w i).nodes)
 
--- ---- one after the other
+  -- ---- one after the other
 
--- the greatest of this configuration and those that some of the nodes know
-abbrev pub greatest_from : ℕ → List Node → ℕ
-greatest_from latest xs = fold (λ c n. max c (latest_of n.state.durable)) latest xs
+  -- the greatest of this configuration and those that some of the nodes know
+  abbrev pub greatest_from : ℕ → List Node → ℕ
+  greatest_from latest xs = fold (λ c n. max c (latest_of n.state.durable)) latest xs
 
--- the nodes that are left, shown, make the rest of the report
-pub record Rest (left : List WorldNode) (latest : ℕ) (lines : List NodeLine) (xs : List Node) : Type 0 where
-  pub rest : List Node
-  pub shown : ShowNodes left rest
-  pub latest_is : greatest_from latest rest ≡ greatest_conf xs
-  pub lines_are : lines ++ map node_line rest ≡ map node_line xs
+  -- the nodes that are left, shown, make the rest of the report
+  pub record Rest (left : List (WorldNode D C)) (latest : ℕ) (lines : List NodeLine) (xs : List Node) : Type 0 where
+    pub rest : List Node
+    pub shown : ShowNodes M left rest
+    pub latest_is : greatest_from latest rest ≡ greatest_conf xs
+    pub lines_are : lines ++ map node_line rest ≡ map node_line xs
 
--- so far this was gathered of the nodes, and these are left
-pub record Gathers (nodes left : List WorldNode) (latest : ℕ) (lines : List NodeLine) : Type 0 where
-  pub open_ones : AreOpen left
-  pub whole : (xs : List Node) → ShowNodes nodes xs → Rest left latest lines xs
+  -- so far this was gathered of the nodes, and these are left
+  pub record Gathers (nodes left : List (WorldNode D C)) (latest : ℕ) (lines : List NodeLine) : Type 0 where
+    pub open_ones : AreOpen left
+    pub whole : (xs : List Node) → ShowNodes M nodes xs → Rest left latest lines xs
 
-pub gathers_first : (nodes left : List WorldNode) (latest : ℕ) (lines : List NodeLine) → nodes ≡ left → latest ≡ 0 → lines ≡ [] → (xs : List Node) × ShowNodes nodes xs × All IsOpen xs → Gathers nodes left latest lines
-gathers_first nodes left latest lines same none no_lines o = record {
-  open_ones = subst AreOpen same (record { xs = o.0; shown = o.1; each = o.2 });
-  whole = λ xs shown. record {
-    rest = xs;
-    shown = subst (λ (ns : List WorldNode). ShowNodes ns xs) same shown;
-    latest_is = ap (λ (c : ℕ). greatest_from c xs) none;
-    lines_are = ap (λ (ls : List NodeLine). ls ++ map node_line xs) no_lines;
-  };
-}
+  pub gathers_first : (nodes left : List (WorldNode D C)) (latest : ℕ) (lines : List NodeLine) → nodes ≡ left → latest ≡ 0 → lines ≡ [] → (xs : List Node) × (ShowNodes M) nodes xs × All IsOpen xs → Gathers nodes left latest lines
+  gathers_first nodes left latest lines same none no_lines o = record {
+    open_ones = subst AreOpen same (record { xs = o.0; shown = o.1; each = o.2 });
+    whole = λ xs shown. record {
+      rest = xs;
+      shown = subst (λ (ns : List (WorldNode D C)). ShowNodes M ns xs) same shown;
+      latest_is = ap (λ (c : ℕ). greatest_from c xs) none;
+      lines_are = ap (λ (ls : List NodeLine). ls ++ map node_line xs) no_lines;
+    };
+  }
 
--- the one that comes next
-pub next_left : (nodes : List WorldNode) (k : ℕ) (n : WorldNode) → k < length nodes → n ≡ get_or nodes k n → drop k nodes ≡ n ∷ drop (k + 1) nodes
-next_left nodes k n there is =
-    let next : suc k ≡ k + 1 = omega arith in
-    drop-cons nodes k n there ∙ ap (λ (m : WorldNode). m ∷ drop (suc k) nodes) (sym is) ∙ ap (λ (j : ℕ). n ∷ drop j nodes) next
+  -- the one that comes next
+  pub next_left : (nodes : List (WorldNode D C)) (k : ℕ) (n : WorldNode D C) → k < length nodes → n ≡ get_or nodes k n → drop k nodes ≡ n ∷ drop (k + 1) nodes
+  next_left nodes k n there is =
+      let next : suc k ≡ k + 1 = omega arith in
+      drop-cons nodes k n there ∙ ap (λ (m : WorldNode D C). m ∷ drop (suc k) nodes) (sym is) ∙ ap (λ (j : ℕ). n ∷ drop j nodes) next
 
--- the node was added
-pub record Adds (n : WorldNode) (latest latest' : ℕ) (lines lines' : List NodeLine) : Type 0 where
-  pub latest_is : (x : Node) → ShowsNode n x → latest' ≡ max latest (latest_of x.state.durable)
-  pub lines_are : (x : Node) → ShowsNode n x → lines' ≡ lines ++ node_line x ∷ []
+  -- the node was added
+  pub record Adds (n : WorldNode D C) (latest latest' : ℕ) (lines lines' : List NodeLine) : Type 0 where
+    pub latest_is : (x : Node) → ShowsNode M n x → latest' ≡ max latest (latest_of x.state.durable)
+    pub lines_are : (x : Node) → ShowsNode M n x → lines' ≡ lines ++ node_line x ∷ []
 
-rest_next : (n : WorldNode) (more : List WorldNode) (latest latest' : ℕ) (lines lines' : List NodeLine) (xs rest : List Node) → ShowNodes (n ∷ more) rest
-    → greatest_from latest rest ≡ greatest_conf xs → lines ++ map node_line rest ≡ map node_line xs → Adds n latest latest' lines lines' → Rest more latest' lines' xs
-rest_next n more latest latest' lines lines' xs [] shown is are adds = absurd shown
-rest_next n more latest latest' lines lines' xs (x ∷ rest) shown is are adds = record {
-  rest = rest;
-  shown = shown.1;
-  latest_is = ap (λ (c : ℕ). greatest_from c rest) (adds.latest_is x shown.0) ∙ is;
-  lines_are = ap (λ (ls : List NodeLine). ls ++ map node_line rest) (adds.lines_are x shown.0) ∙ append_assoc lines (node_line x ∷ []) (map node_line rest) ∙ are;
-}
+  rest_next : (n : WorldNode D C) (more : List (WorldNode D C)) (latest latest' : ℕ) (lines lines' : List NodeLine) (xs rest : List Node) → ShowNodes M (n ∷ more) rest
+      → greatest_from latest rest ≡ greatest_conf xs → lines ++ map node_line rest ≡ map node_line xs → Adds n latest latest' lines lines' → Rest more latest' lines' xs
+  rest_next n more latest latest' lines lines' xs [] shown is are adds = absurd shown
+  rest_next n more latest latest' lines lines' xs (x ∷ rest) shown is are adds = record {
+    rest = rest;
+    shown = shown.1;
+    latest_is = ap (λ (c : ℕ). greatest_from c rest) (adds.latest_is x shown.0) ∙ is;
+    lines_are = ap (λ (ls : List NodeLine). ls ++ map node_line rest) (adds.lines_are x shown.0) ∙ append_assoc lines (node_line x ∷ []) (map node_line rest) ∙ are;
+  }
 
-open_tail : (n : WorldNode) (more : List WorldNode) (xs : List Node) → ShowNodes (n ∷ more) xs → All IsOpen xs → AreOpen more
-open_tail n more [] shown each = absurd shown
-open_tail n more (x ∷ xs) shown each = record { xs = xs; shown = shown.1; each = All-tail IsOpen x xs each }
+  open_tail : (n : WorldNode D C) (more : List (WorldNode D C)) (xs : List Node) → ShowNodes M (n ∷ more) xs → All IsOpen xs → AreOpen more
+  open_tail n more [] shown each = absurd shown
+  open_tail n more (x ∷ xs) shown each = record { xs = xs; shown = shown.1; each = All-tail IsOpen x xs each }
 
-open_head : (n : WorldNode) (more : List WorldNode) (xs : List Node) → ShowNodes (n ∷ more) xs → All IsOpen xs → (x : Node) × ShowsNode n x × IsOpen x
-open_head n more [] shown each = absurd shown
-open_head n more (x ∷ xs) shown each = (x, shown.0, All-head IsOpen x xs each)
+  open_head : (n : WorldNode D C) (more : List (WorldNode D C)) (xs : List Node) → ShowNodes M (n ∷ more) xs → All IsOpen xs → (x : Node) × (ShowsNode M) n x × IsOpen x
+  open_head n more [] shown each = absurd shown
+  open_head n more (x ∷ xs) shown each = (x, shown.0, All-head IsOpen x xs each)
 
--- one node more
-pub gathers_next : (nodes left more : List WorldNode) (n : WorldNode) (latest latest' : ℕ) (lines lines' : List NodeLine) → Gathers nodes left latest lines → left ≡ n ∷ more
-    → Adds n latest latest' lines lines' → Gathers nodes more latest' lines'
-gathers_next nodes left more n latest latest' lines lines' g is adds =
-    let o = subst AreOpen is g.open_ones in
-    record {
-      open_ones = open_tail n more o.xs o.shown o.each;
-      whole = λ xs shown.
-          let r = g.whole xs shown in
-          rest_next n more latest latest' lines lines' xs r.rest (subst (λ (ns : List WorldNode). ShowNodes ns r.rest) is r.shown) r.latest_is r.lines_are adds;
-    }
+  -- one node more
+  pub gathers_next : (nodes left more : List (WorldNode D C)) (n : WorldNode D C) (latest latest' : ℕ) (lines lines' : List NodeLine) → Gathers nodes left latest lines → left ≡ n ∷ more
+      → Adds n latest latest' lines lines' → Gathers nodes more latest' lines'
+  gathers_next nodes left more n latest latest' lines lines' g is adds =
+      let o = subst AreOpen is g.open_ones in
+      record {
+        open_ones = open_tail n more o.xs o.shown o.each;
+        whole = λ xs shown.
+            let r = g.whole xs shown in
+            rest_next n more latest latest' lines lines' xs r.rest (subst (λ (ns : List (WorldNode D C)). ShowNodes M ns r.rest) is r.shown) r.latest_is r.lines_are adds;
+      }
 
--- the one that is taken
-pub next_open : (nodes left more : List WorldNode) (n : WorldNode) (latest : ℕ) (lines : List NodeLine) → Gathers nodes left latest lines → left ≡ n ∷ more → (x : Node) × ShowsNode n x × IsOpen x
-next_open nodes left more n latest lines g is = let o = subst AreOpen is g.open_ones in open_head n more o.xs o.shown o.each
+  -- the one that is taken
+  pub next_open : (nodes left more : List (WorldNode D C)) (n : WorldNode D C) (latest : ℕ) (lines : List NodeLine) → Gathers nodes left latest lines → left ≡ n ∷ more → (x : Node) × (ShowsNode M) n x × IsOpen x
+  next_open nodes left more n latest lines g is = let o = subst AreOpen is g.open_ones in open_head n more o.xs o.shown o.each
 
-all_gathered : (rest xs : List Node) (latest : ℕ) (lines : List NodeLine) → ShowNodes [] rest → greatest_from latest rest ≡ greatest_conf xs → lines ++ map node_line rest ≡ map node_line xs
-    → (latest ≡ greatest_conf xs) × (lines ≡ map node_line xs)
-all_gathered [] xs latest lines shown is are = (is, sym (append-nil lines) ∙ are)
-all_gathered (x ∷ rest) xs latest lines shown is are = absurd shown
+  all_gathered : (rest xs : List Node) (latest : ℕ) (lines : List NodeLine) → (ShowNodes M) [] rest → greatest_from latest rest ≡ greatest_conf xs → lines ++ map node_line rest ≡ map node_line xs
+      → (latest ≡ greatest_conf xs) × (lines ≡ map node_line xs)
+  all_gathered [] xs latest lines shown is are = (is, sym (append-nil lines) ∙ are)
+  all_gathered (x ∷ rest) xs latest lines shown is are = absurd shown
 
--- none is left
-pub gathers_all : (nodes left : List WorldNode) (latest : ℕ) (lines : List NodeLine) → Gathers nodes left latest lines → left ≡ [] → (xs : List Node) → ShowNodes nodes xs → (latest ≡ greatest_conf xs) × (lines ≡ map node_line xs)
-gathers_all nodes left latest lines g none xs shown =
-    let r = g.whole xs shown in
-    all_gathered r.rest xs latest lines (subst (λ (ns : List WorldNode). ShowNodes ns r.rest) none r.shown) r.latest_is r.lines_are
+  -- none is left
+  pub gathers_all : (nodes left : List (WorldNode D C)) (latest : ℕ) (lines : List NodeLine) → Gathers nodes left latest lines → left ≡ [] → (xs : List Node) → ShowNodes M nodes xs → (latest ≡ greatest_conf xs) × (lines ≡ map node_line xs)
+  gathers_all nodes left latest lines g none xs shown =
+      let r = g.whole xs shown in
+      all_gathered r.rest xs latest lines (subst (λ (ns : List (WorldNode D C)). ShowNodes M ns r.rest) none r.shown) r.latest_is r.lines_are
 
--- ---- one node
+  -- ---- one node
 
--- room changes nothing of what is reported
-room_latest : (o : Option Part) (l : Option Closed) → latest_in (part_option_with_room 0 o) l ≡ latest_in o l
-room_latest None l = refl
-room_latest (Some p) l = refl
+  -- room changes nothing of what is reported
+  room_latest : (o : Option Part) (l : Option Closed) → latest_in (part_option_with_room 0 o) l ≡ latest_in o l
+  room_latest None l = refl
+  room_latest (Some p) l = refl
 
-room_stands : (o : Option Part) (l : Option Closed) → stands_at (part_option_with_room 0 o) l ≡ stands_at o l
-room_stands None l = refl
-room_stands (Some p) l = refl
+  room_stands : (o : Option Part) (l : Option Closed) → stands_at (part_option_with_room 0 o) l ≡ stands_at o l
+  room_stands None l = refl
+  room_stands (Some p) l = refl
 
-room_joining : (o : Option Joining) → joining_conf (joining_option_with_room 0 o) ≡ joining_conf o
-room_joining None = refl
-room_joining (Some j) = refl
+  room_joining : (o : Option Joining) → joining_conf (joining_option_with_room 0 o) ≡ joining_conf o
+  room_joining None = refl
+  room_joining (Some j) = refl
 
-abbrev line_at : ℕ → Running → Option (ℕ × ℕ × ℕ) → Option ℕ → NodeLine
-line_at pid r at j = record { pid = pid; at = at; joining = j; running = r }
+  abbrev line_at : ℕ → Running → Option (ℕ × ℕ × ℕ) → Option ℕ → NodeLine
+  line_at pid r at j = record { pid = pid; at = at; joining = j; running = r }
 
--- what was added was added of whatever the node shows
-pub added_latest : {T E : Type 0} (r : Result T E) (n : WorldNode) (d : Durable) (latest latest' : ℕ) → ((x : Node) → ShowsNode n x → latest_of d ≡ latest_of x.state.durable) → OnOk r (latest' ≡ max latest (latest_of d))
-    → OnOk r ((x : Node) → ShowsNode n x → latest' ≡ max latest (latest_of x.state.durable))
-added_latest (Ok v) n d latest latest' same is = λ x shown. is ∙ ap (λ (c : ℕ). max latest c) (same x shown)
-added_latest (Err e) n d latest latest' same is = tt
+  -- what was added was added of whatever the node shows
+  pub added_latest : {T E : Type 0} (r : Result T E) (n : WorldNode D C) (d : Durable) (latest latest' : ℕ) → ((x : Node) → ShowsNode M n x → latest_of d ≡ latest_of x.state.durable) → OnOk r (latest' ≡ max latest (latest_of d))
+      → OnOk r ((x : Node) → ShowsNode M n x → latest' ≡ max latest (latest_of x.state.durable))
+  added_latest (Ok v) n d latest latest' same is = λ x shown. is ∙ ap (λ (c : ℕ). max latest c) (same x shown)
+  added_latest (Err e) n d latest latest' same is = tt
 
-pub added_line : {T E : Type 0} (r : Result T E) (n : WorldNode) (d : Durable) (how : Running) (lines lines' : List NodeLine) → ((x : Node) → ShowsNode n x → line_of n.pid how d ≡ node_line x)
-    → OnOk r (lines' ≡ lines ++ line_of n.pid how d ∷ []) → OnOk r ((x : Node) → ShowsNode n x → lines' ≡ lines ++ node_line x ∷ [])
-added_line (Ok v) n d how lines lines' same is = λ x shown. is ∙ ap (λ (l : NodeLine). lines ++ l ∷ []) (same x shown)
-added_line (Err e) n d how lines lines' same is = tt
+  pub added_line : {T E : Type 0} (r : Result T E) (n : WorldNode D C) (d : Durable) (how : Running) (lines lines' : List NodeLine) → ((x : Node) → ShowsNode M n x → line_of n.pid how d ≡ node_line x)
+      → OnOk r (lines' ≡ lines ++ line_of n.pid how d ∷ []) → OnOk r ((x : Node) → ShowsNode M n x → lines' ≡ lines ++ node_line x ∷ [])
+  added_line (Ok v) n d how lines lines' same is = λ x shown. is ∙ ap (λ (l : NodeLine). lines ++ l ∷ []) (same x shown)
+  added_line (Err e) n d how lines lines' same is = tt
 
--- a node whose durable state is this, with room for more
-module _ (n : WorldNode) (d : Durable) (how : Running) (same : (x : Node) → ShowsNode n x → with_room no_needs d ≡ x.state.durable) (runs : (x : Node) → ShowsNode n x → running_of x.status ≡ how) where
-  pub kept_latest : (x : Node) → ShowsNode n x → latest_of d ≡ latest_of x.state.durable
-  kept_latest x shown = sym (room_latest d.part d.closed) ∙ ap (λ (e : Durable). latest_of e) (same x shown)
+  -- a node whose durable state is this, with room for more
+  module _ (n : WorldNode D C) (d : Durable) (how : Running) (same : (x : Node) → ShowsNode M n x → with_room no_needs d ≡ x.state.durable) (runs : (x : Node) → ShowsNode M n x → running_of x.status ≡ how) where
+    pub kept_latest : (x : Node) → ShowsNode M n x → latest_of d ≡ latest_of x.state.durable
+    kept_latest x shown = sym (room_latest d.part d.closed) ∙ ap (λ (e : Durable). latest_of e) (same x shown)
 
-  pub kept_line : (x : Node) → ShowsNode n x → line_of n.pid how d ≡ node_line x
-  kept_line x shown =
-      ap (λ (at : Option (ℕ × ℕ × ℕ)). line_at n.pid how at (joining_conf d.joining)) (sym (room_stands d.part d.closed))
-      ∙ ap (λ (j : Option ℕ). line_at n.pid how (stands_at (part_option_with_room 0 d.part) d.closed) j) (sym (room_joining d.joining))
-      ∙ ap (λ (e : Durable). line_of n.pid how e) (same x shown)
-      ∙ ap (λ (pid : ℕ). line_of pid how x.state.durable) (sym shown.pid)
-      ∙ ap (λ (r : Running). line_of x.pid r x.state.durable) (sym (runs x shown))
+    pub kept_line : (x : Node) → ShowsNode M n x → line_of n.pid how d ≡ node_line x
+    kept_line x shown =
+        ap (λ (at : Option (ℕ × ℕ × ℕ)). line_at n.pid how at (joining_conf d.joining)) (sym (room_stands d.part d.closed))
+        ∙ ap (λ (j : Option ℕ). line_at n.pid how (stands_at (part_option_with_room 0 d.part) d.closed) j) (sym (room_joining d.joining))
+        ∙ ap (λ (e : Durable). line_of n.pid how e) (same x shown)
+        ∙ ap (λ (pid : ℕ). line_of pid how x.state.durable) (sym shown.pid)
+        ∙ ap (λ (r : Running). line_of x.pid r x.state.durable) (sym (runs x shown))
 
-  -- its closed list is in range
-  pub kept_open : (x : Node) → ShowsNode n x → IsOpen x → IfSome d.closed ClosedInRange
-  kept_open x shown is = subst (λ (e : Durable). IfSome e.closed ClosedInRange) (sym (same x shown)) is
+    -- its closed list is in range
+    pub kept_open : (x : Node) → ShowsNode M n x → IsOpen x → IfSome d.closed ClosedInRange
+    kept_open x shown is = subst (λ (e : Durable). IfSome e.closed ClosedInRange) (sym (same x shown)) is
 
--- one that is up
-module _ (n : WorldNode) (z : nodes.Node MemDisk) (d : Durable) (up : n.state ≡ node.Up z) (stored : with_room no_needs d ≡ (node_of z).state.durable) where
-  up_there : (x : Node) → ShowsNode n x → (x.state ≡ (node_of z).state) × (x.status ≡ Up)
-  up_there x shown = subst (λ (s : NodeState). IsShown s x.state x.status) up shown.state
+  -- one that is up
+  module _ (n : WorldNode D C) (z : nodes.Node D) (d : Durable) (up : n.state ≡ node.Up z) (stored : with_room no_needs d ≡ (node_of z).state.durable) where
+    up_there : (x : Node) → ShowsNode M n x → (x.state ≡ (node_of z).state) × (x.status ≡ Up)
+    up_there x shown = subst (λ (s : NodeState D C). IsShown M s x.state x.status) up shown.state
 
-  pub up_has : (x : Node) → ShowsNode n x → with_room no_needs d ≡ x.state.durable
-  up_has x shown = stored ∙ ap (λ (s : State). s.durable) (sym (up_there x shown).0)
+    pub up_has : (x : Node) → ShowsNode M n x → with_room no_needs d ≡ x.state.durable
+    up_has x shown = stored ∙ ap (λ (s : State). s.durable) (sym (up_there x shown).0)
 
-  pub up_runs : (x : Node) → ShowsNode n x → running_of x.status ≡ running.Up
-  up_runs x shown = ap running_of (up_there x shown).1
+    pub up_runs : (x : Node) → ShowsNode M n x → running_of x.status ≡ running.Up
+    up_runs x shown = ap running_of (up_there x shown).1
 
--- one that failed
-module _ (n : WorldNode) (z : nodes.Node MemDisk) (d : Durable) (failed : n.state ≡ node.Failed z) (stored : with_room no_needs d ≡ (node_of z).state.durable) where
-  failed_there : (x : Node) → ShowsNode n x → ShowsFailed z x.state x.status
-  failed_there x shown = subst (λ (s : NodeState). IsShown s x.state x.status) failed shown.state
+  -- one that failed
+  module _ (n : WorldNode D C) (z : nodes.Node D) (d : Durable) (failed : n.state ≡ node.Failed z) (stored : with_room no_needs d ≡ (node_of z).state.durable) where
+    failed_there : (x : Node) → ShowsNode M n x → ShowsFailed M z x.state x.status
+    failed_there x shown = subst (λ (s : NodeState D C). IsShown M s x.state x.status) failed shown.state
 
-  pub failed_has : (x : Node) → ShowsNode n x → with_room no_needs d ≡ x.state.durable
-  failed_has x shown = stored ∙ ap (λ (s : State). s.durable) (sym (failed_there x shown).state)
+    pub failed_has : (x : Node) → ShowsNode M n x → with_room no_needs d ≡ x.state.durable
+    failed_has x shown = stored ∙ ap (λ (s : State). s.durable) (sym (failed_there x shown).state)
 
-  pub failed_runs : (x : Node) → ShowsNode n x → running_of x.status ≡ running.Failed
-  failed_runs x shown = ap running_of (failed_there x shown).status_is
+    pub failed_runs : (x : Node) → ShowsNode M n x → running_of x.status ≡ running.Failed
+    failed_runs x shown = ap running_of (failed_there x shown).status_is
 
--- one that is down keeps what is shown of it
-module _ (n : WorldNode) (z : DownNode) (down : n.state ≡ node.Down z) where
-  down_there : (x : Node) → ShowsNode n x → ShowsDown z x.state x.status
-  down_there x shown = subst (λ (s : NodeState). IsShown s x.state x.status) down shown.state
+  -- one that is down keeps what is shown of it
+  module _ (n : WorldNode D C) (z : DownNode C) (down : n.state ≡ node.Down z) where
+    down_there : (x : Node) → ShowsNode M n x → ShowsDown M z x.state x.status
+    down_there x shown = subst (λ (s : NodeState D C). IsShown M s x.state x.status) down shown.state
 
-  down_has : (x : Node) → ShowsNode n x → z.shown ≡ x.state.durable
-  down_has x shown = sym (down_there x shown).durable
+    down_has : (x : Node) → ShowsNode M n x → z.shown ≡ x.state.durable
+    down_has x shown = sym (down_there x shown).durable
 
-  pub down_latest : (x : Node) → ShowsNode n x → latest_of z.shown ≡ latest_of x.state.durable
-  down_latest x shown = ap (λ (e : Durable). latest_of e) (down_has x shown)
+    pub down_latest : (x : Node) → ShowsNode M n x → latest_of z.shown ≡ latest_of x.state.durable
+    down_latest x shown = ap (λ (e : Durable). latest_of e) (down_has x shown)
 
-  pub down_line : (x : Node) → ShowsNode n x → line_of n.pid running.Down z.shown ≡ node_line x
-  down_line x shown =
-      ap (λ (e : Durable). line_of n.pid running.Down e) (down_has x shown)
-      ∙ ap (λ (pid : ℕ). line_of pid running.Down x.state.durable) (sym shown.pid)
-      ∙ ap (λ (s : NodeStatus). line_of x.pid (running_of s) x.state.durable) (sym (down_there x shown).status_is)
+    pub down_line : (x : Node) → ShowsNode M n x → line_of n.pid running.Down z.shown ≡ node_line x
+    down_line x shown =
+        ap (λ (e : Durable). line_of n.pid running.Down e) (down_has x shown)
+        ∙ ap (λ (pid : ℕ). line_of pid running.Down x.state.durable) (sym shown.pid)
+        ∙ ap (λ (s : NodeStatus). line_of x.pid (running_of s) x.state.durable) (sym (down_there x shown).status_is)
 
-  pub down_open : (x : Node) → ShowsNode n x → IsOpen x → IfSome z.shown.closed ClosedInRange
-  down_open x shown is = subst (λ (e : Durable). IfSome e.closed ClosedInRange) (sym (down_has x shown)) is
+    pub down_open : (x : Node) → ShowsNode M n x → IsOpen x → IfSome z.shown.closed ClosedInRange
+    down_open x shown is = subst (λ (e : Durable). IfSome e.closed ClosedInRange) (sym (down_has x shown)) is
 
--- ---- a report
+  -- ---- a report
 
-abbrev summary : List Line → List Listed → List NodeLine → ℕ → Summary
-summary lines lists nodes sent = record { lines = lines; lists = lists; nodes = nodes; sent = sent }
+  abbrev summary : List Line → List Listed → List NodeLine → ℕ → Summary
+  summary lines lists nodes sent = record { lines = lines; lists = lists; nodes = nodes; sent = sent }
 
--- what is reported of what a world shows
-pub reported : (w : Parts) (t : Execution) → Shows w t → (latest : ℕ) (lists : List Listed) (lines : List NodeLine) (sent : ℕ) → ((xs : List Node) → ShowNodes w.nodes xs → (latest ≡ greatest_conf xs) × (lines ≡ map node_line xs))
-    → lists ≡ listed_from (list_at w.lists) latest 1 (Some w.members) → sent ≡ length w.messages → summary w.lines lists lines sent ≡ summary_of w.members t
-reported w t show latest lists lines sent nodes_are lists_are sent_is =
-    let are = nodes_are t.world.nodes show.nodes in
-    let same : list_at w.lists ≡ t.machine.lists = fun_ext (λ conf. sym (show.lists conf)) in
-    ap (λ (ls : List Line). summary ls lists lines sent) (sym show.lines)
-    ∙ ap (λ (ls : List Listed). summary t.world.lines ls lines sent) (lists_are ∙ ap (λ (f : ℕ → List Entry). listed_from f latest 1 (Some w.members)) same ∙ ap (λ (c : ℕ). listed_from t.machine.lists c 1 (Some w.members)) are.0)
-    ∙ ap (λ (ls : List NodeLine). summary t.world.lines (listed_of w.members t) ls sent) are.1
-    ∙ ap (λ (n : ℕ). summary t.world.lines (listed_of w.members t) (map node_line t.world.nodes) n) (sent_is ∙ ap (λ (ms : List Sent). length ms) (sym show.messages))
+  -- what is reported of what a world shows
+  pub reported : (w : Parts D C) (t : Execution) → Shows M w t → (latest : ℕ) (lists : List Listed) (lines : List NodeLine) (sent : ℕ) → ((xs : List Node) → ShowNodes M w.nodes xs → (latest ≡ greatest_conf xs) × (lines ≡ map node_line xs))
+      → lists ≡ listed_from (list_at w.lists) latest 1 (Some w.members) → sent ≡ length w.messages → summary w.lines lists lines sent ≡ summary_of w.members t
+  reported w t show latest lists lines sent nodes_are lists_are sent_is =
+      let are = nodes_are t.world.nodes show.nodes in
+      let same : list_at w.lists ≡ t.machine.lists = fun_ext (λ conf. sym (show.lists conf)) in
+      ap (λ (ls : List Line). summary ls lists lines sent) (sym show.lines)
+      ∙ ap (λ (ls : List Listed). summary t.world.lines ls lines sent) (lists_are ∙ ap (λ (f : ℕ → List Entry). listed_from f latest 1 (Some w.members)) same ∙ ap (λ (c : ℕ). listed_from t.machine.lists c 1 (Some w.members)) are.0)
+      ∙ ap (λ (ls : List NodeLine). summary t.world.lines (listed_of w.members t) ls sent) are.1
+      ∙ ap (λ (n : ℕ). summary t.world.lines (listed_of w.members t) (map node_line t.world.nodes) n) (sent_is ∙ ap (λ (ms : List Sent). length ms) (sym show.messages))

@@ -17,7 +17,7 @@ ShowsMore old d new =
     (conf : ℕ) → list_at new conf ≡ list_at old conf ++ decided_entries d conf (length (list_at old conf))
 
 -- a node shows what it has stored, if it is up; one that isn't showed it before
-abbrev pub NodeShowsMore : List (List Entry) → NodeState → List (List Entry) → Type 0
+abbrev pub NodeShowsMore : {D C : Type 0} → List (List Entry) → NodeState D C → List (List Entry) → Type 0
 NodeShowsMore old (node.Up n) new = ShowsMore old (node_of n).state.durable new
 NodeShowsMore old (node.Failed n) new = new ≡ old
 NodeShowsMore old (node.Down d) new = new ≡ old

@@ -1,19 +1,21 @@
 //! A step and an opening of a node that stops in a call of its disks, or one of whose calls fails.
 ghost use Rattle.std.specs.Prelude.{◌≡◌, ℕ, [], false, IfOk};
 ghost use Rattle.op_types.specs.Ranges.{MembersInRange};
+ghost use Rattle.op_areas.specs.Media.{medium};
 ghost use Rattle.op_runs.specs.World as runs;
 ghost use Rattle.op_runs.specs.World.{failed_outcome};
 ghost use Rattle.op_node.specs.Nodes.{AdmitsInput};
-ghost use Rattle.op_world.specs.Awaiting.{is_stop};
-ghost use Rattle.op_world.specs.Became.{IsAfterFault, IsClosedAgain, BecomesOf, GoesOnUp, IsInRange, IsNotUp, fault_lines, refused_if, given_lines};
+ghost use Rattle.op_world.specs.Plans.{is_stop};
+ghost use Rattle.op_world.specs.Became.{BecomesOf, IsAfterFault, IsClosedAgain, IsDownAgain, GoesOnUp, IsInRange, IsNotUp, fault_lines, refused_if, given_lines};
 ghost use Rattle.op_world.specs.Worlds.{RunsAs, HasFailed, IsKept};
 ghost use Rattle.op_world.specs.declared.node_state.NodeState.TheVariants as states;
 
-use crate::awaited::Awaited;
-use crate::disks::{Faults, left_of_both, told, untold};
+use crate::disks::{Areas, armed_down, armed_node, left_of, open_areas, told_down, told_node};
 use crate::node_state::{DownNode, NodeState};
+use crate::plan::Plan;
+use crate::told::{Told, Which};
+use op_areas::{Area, Arming};
 use op_executions::step_lines;
-use op_memory::MemDisk;
 use op_node::{Given, Node, StepFail};
 use op_runs::{Line, Lines};
 use op_store::{Returned, StoreFail};
@@ -22,9 +24,9 @@ use std::alloc::Global;
 
 /// What became of a step or an opening.
 #[derive(Drop)]
-pub struct Became {
+pub struct Became<D, C> {
     /// How the node is then.
-    pub state: NodeState,
+    pub state: NodeState<D, C>,
     /// What it sends.
     pub sends: Sends,
     /// What is reported.
@@ -33,58 +35,72 @@ pub struct Became {
     pub is_due: bool,
 }
 
-impl Became {
-    /// The node is so then; nothing is sent or reported.
-    fn quietly(alloc: Global, state: NodeState) -> Became
-        ensures { result ≡ record { state = state; sends = []; told = []; is_due = false } }
+/// How a node is after a fault, and whether it stops after that.
+#[derive(Drop)]
+pub struct Fallen<D, C> {
+    pub state: NodeState<D, C>,
+    pub is_due: bool,
+}
+
+impl<D, C> Fallen<D, C> {
+    /// Nothing is sent, and this is reported.
+    fn telling(self, alloc: Global, told: Lines) -> Became<D, C>
+        ensures { result ≡ record { state = self.state; sends = []; told = told; is_due = self.is_due } }
     {
         Became {
-            state,
+            state: self.state,
             sends: Sends::new(alloc),
-            told: Lines::new(alloc),
-            is_due: false,
+            told,
+            is_due: self.is_due,
         }
+    }
+
+    /// Nothing is sent or reported.
+    fn quietly(self, alloc: Global) -> Became<D, C>
+        ensures { result ≡ record { state = self.state; sends = []; told = []; is_due = self.is_due } }
+    {
+        self.telling(alloc, Lines::new(alloc))
     }
 }
 
-/// A step of a node that is up, where this awaits it.
-pub fn step_told(
+/// A step of a node that is up, for whose disks this is planned.
+pub fn step_told<A: Area>(
     alloc: Global,
     pid: Pid,
-    node: Node<MemDisk>,
+    node: Node<A>,
     input: Input,
-    awaited: Awaited,
+    plan: Plan,
     line: u64,
-) -> Result<Became, NoMemory>
-    requires runs { RunsAs pid node }
+) -> Result<Became<A, A::Copies>, NoMemory>
+    requires runs { RunsAs (medium A.state A.holds A.IS_MIRRORED) pid node }
     requires admits { AdmitsInput node input }
-    ensures { IfOk result (BecomesOf pid awaited (states.Up node) (runs.Steps input) line) }
+    ensures { IfOk result (BecomesOf (medium A.state A.holds A.IS_MIRRORED) pid plan
+        (states.Up node) (runs.Steps input) line) }
 {
     let is_proposal = is_proposal(&input);
-    let (mut node, faults) = told(node, awaited)?;
+    let (mut node, told) = told_node(alloc, node, plan)?;
     match node.step(input) {
-        Ok(given) => stepped(alloc, pid, node, given, awaited, line),
+        Ok(given) => stepped(alloc, pid, node, given, plan, line),
         Err(StepFail::DiskFail { count }) => {
-            let state = after_fault(alloc, node, awaited, faults)?;
-            let told = fault_lines(alloc, awaited, line, is_proposal, count)?;
-            let mut became = Became::quietly(alloc, state);
-            became.told = told;
-            Ok(became)
+            let fallen = after_fault(alloc, node, told)?;
+            let lines = fault_lines(alloc, &fallen.state, line, is_proposal, count)?;
+            Ok(fallen.telling(alloc, lines))
         }
         Err(StepFail::NoMemory) => Err(NoMemory),
     }
 }
 
 /// A step that is done.
-fn stepped(
+fn stepped<A: Area>(
     alloc: Global,
     pid: Pid,
-    node: Node<MemDisk>,
+    node: Node<A>,
     given: Given,
-    awaited: Awaited,
+    plan: Plan,
     line: u64,
-) -> Result<Became, NoMemory>
-    ensures { IfOk result (GoesOnUp node given.sends (given_lines pid line given) (is_stop awaited)) }
+) -> Result<Became<A, A::Copies>, NoMemory>
+    ensures { IfOk result (GoesOnUp (medium A.state A.holds A.IS_MIRRORED) node
+        given.sends (given_lines pid line given) (is_stop plan.awaited)) }
 {
     let Given {
         sends,
@@ -94,161 +110,202 @@ fn stepped(
     } = given;
     let told = step_lines(alloc, line, pid, outcome, replies, read_replies)?;
     Ok(Became {
-        state: NodeState::Up(untold(node)),
+        state: NodeState::Up(armed_node(node, Arming::Clear, Arming::Clear)?),
         sends,
         told,
-        is_due: awaited.is_stop(),
+        is_due: plan.awaited.is_stop(),
     })
 }
 
-/// The opening of a node that isn't up, where this awaits it.
-pub fn opened_any(
+/// The opening of a node that isn't up, for whose disks this is planned.
+pub fn opened_any<A: Area>(
     alloc: Global,
     pid: Pid,
     members: &Members,
-    state: NodeState,
-    awaited: Awaited,
-) -> Result<Became, NoMemory>
+    state: NodeState<A, A::Copies>,
+    plan: Plan,
+) -> Result<Became<A, A::Copies>, NoMemory>
     requires members { MembersInRange members.now }
-    requires kept { IsKept pid state }
-    requires range { IsInRange pid state }
+    requires kept { IsKept (medium A.state A.holds A.IS_MIRRORED) pid state }
+    requires range { IsInRange (medium A.state A.holds A.IS_MIRRORED) pid state }
     requires down { IsNotUp state }
-    ensures { IfOk result (λ r. (line : ℕ) → BecomesOf pid awaited state runs.Opens line r) }
+    ensures { IfOk result (λ r. (line : ℕ) →
+        BecomesOf (medium A.state A.holds A.IS_MIRRORED) pid plan state runs.Opens line r) }
 {
     match state {
-        NodeState::Up(node) => Ok(Became::quietly(alloc, NodeState::Up(node))),
-        NodeState::Failed(node) => reopened(alloc, pid, node, awaited),
-        NodeState::Down(down) => opened_again(alloc, pid, members, down, awaited),
+        NodeState::Up(node) => {
+            let fallen = Fallen {
+                state: NodeState::Up(node),
+                is_due: false,
+            };
+            Ok(fallen.quietly(alloc))
+        }
+        NodeState::Failed(node) => reopened(alloc, pid, node, plan),
+        NodeState::Down(down) => opened_again::<A>(alloc, pid, members, down, plan),
     }
 }
 
-/// The opening of a node that failed, where this awaits it.
-fn reopened(
+/// The opening of a node that failed, for whose disks this is planned. No area is opened anew.
+fn reopened<A: Area>(
     alloc: Global,
     pid: Pid,
-    node: Node<MemDisk>,
-    awaited: Awaited,
-) -> Result<Became, NoMemory>
+    node: Node<A>,
+    plan: Plan,
+) -> Result<Became<A, A::Copies>, NoMemory>
     requires kept { HasFailed pid node }
-    requires range { IsInRange pid (states.Failed node) }
+    requires range { IsInRange (medium A.state A.holds A.IS_MIRRORED) pid (states.Failed node) }
     ensures { IfOk result (λ r. (line : ℕ) →
-        BecomesOf pid awaited (states.Failed node) runs.Opens line r) }
+        BecomesOf (medium A.state A.holds A.IS_MIRRORED) pid plan (states.Failed node) runs.Opens line r) }
 {
-    let (mut node, faults) = told(node, awaited)?;
+    let (mut node, told) = told_node(alloc, node, plan)?;
     match node.reopen() {
-        Ok(sends) => Ok(opened(alloc, node, sends, awaited)),
+        Ok(sends) => opened(alloc, node, sends, plan),
         Err(StoreFail::DiskFault { .. }) => {
-            let state = after_fault(alloc, node, awaited, faults)?;
-            Ok(Became::quietly(alloc, state))
+            let fallen = after_fault(alloc, node, told)?;
+            Ok(fallen.quietly(alloc))
         }
         Err(_) => Err(NoMemory),
     }
 }
 
-/// The opening of a node that is down, where this awaits it: it goes on with what its disks store, and asks to be prepared.
-fn opened_again(
+/// The opening of a node that is down, for whose disks this is planned: its areas are opened, and it goes on with what they
+/// store, and asks to be prepared.
+fn opened_again<A: Area>(
     alloc: Global,
     pid: Pid,
     members: &Members,
-    down: DownNode,
-    awaited: Awaited,
-) -> Result<Became, NoMemory>
+    down: DownNode<A::Copies>,
+    plan: Plan,
+) -> Result<Became<A, A::Copies>, NoMemory>
     requires members { MembersInRange members.now }
-    requires range { IsInRange pid (states.Down down) }
+    requires range { IsInRange (medium A.state A.holds A.IS_MIRRORED) pid (states.Down down) }
     ensures { IfOk result (λ r. (line : ℕ) →
-        BecomesOf pid awaited (states.Down down) runs.Opens line r) }
+        BecomesOf (medium A.state A.holds A.IS_MIRRORED) pid plan (states.Down down) runs.Opens line r) }
 {
+    let (down, told) = told_down::<A>(alloc, down, plan)?;
     let DownNode {
         shown,
-        mut first,
-        mut second,
+        first,
+        second,
     } = down;
-    let faults = Faults::of(&first, &second);
-    awaited.tell(&mut first, &mut second)?;
-    match Node::open(alloc, pid, members, first, second) {
-        Ok((node, sends)) => Ok(opened(alloc, node, sends, awaited)),
-        Err(returned) => {
-            let down = closed_again(alloc, shown, returned, awaited, faults)?;
-            Ok(Became::quietly(alloc, NodeState::Down(down)))
+    match open_areas::<A>(alloc, first, second)? {
+        Areas::Opened(first, second) => match Node::open(alloc, pid, members, first, second) {
+            Ok((node, sends)) => opened(alloc, node, sends, plan),
+            Err(returned) => {
+                let fallen = closed_again(alloc, shown, returned, told)?;
+                Ok(fallen.quietly(alloc))
+            }
+        },
+        Areas::Failed(first, second) => {
+            let down = DownNode {
+                shown,
+                first,
+                second,
+            };
+            let fallen = down_again::<A>(alloc, down, told)?;
+            Ok(fallen.quietly(alloc))
         }
     }
 }
 
 /// An opening that is done.
-fn opened(alloc: Global, node: Node<MemDisk>, sends: Sends, awaited: Awaited) -> Became
-    ensures { GoesOnUp node sends [] (is_stop awaited) result }
+fn opened<A: Area>(
+    alloc: Global,
+    node: Node<A>,
+    sends: Sends,
+    plan: Plan,
+) -> Result<Became<A, A::Copies>, NoMemory>
+    ensures { IfOk result
+        (GoesOnUp (medium A.state A.holds A.IS_MIRRORED) node sends [] (is_stop plan.awaited)) }
 {
-    Became {
-        state: NodeState::Up(untold(node)),
+    Ok(Became {
+        state: NodeState::Up(armed_node(node, Arming::Clear, Arming::Clear)?),
         sends,
         told: Lines::new(alloc),
-        is_due: awaited.is_stop(),
-    }
+        is_due: plan.awaited.is_stop(),
+    })
 }
 
-/// What is left of a node that stopped in a call of its disks, or one of whose calls failed, as it was awaited. A fault that nothing
-/// awaited, and one of a disk that found no memory, is want of memory.
-fn after_fault(
+/// What is left of a node that stopped in a call of its areas, or one of whose calls failed. A fault that nothing awaited, of areas
+/// none of which is lost, is want of memory.
+fn after_fault<A: Area>(
     alloc: Global,
-    node: Node<MemDisk>,
-    awaited: Awaited,
-    faults: Faults,
-) -> Result<NodeState, NoMemory>
-    ensures { IfOk result (IsAfterFault awaited faults node) }
+    node: Node<A>,
+    told: Told,
+) -> Result<Fallen<A, A::Copies>, NoMemory>
+    ensures { IfOk result (IsAfterFault (medium A.state A.holds A.IS_MIRRORED) told.plan node) }
 {
-    let (rest, mut first, mut second) = node.park();
-    if first.is_starved() || second.is_starved() {
+    if told.has_stopped() {
+        let (rest, first, second) = node.park();
+        let first = first.close()?;
+        let second = second.close()?;
+        let stops = (told.stop(Which::First), told.stop(Which::Second));
+        let down = left_of::<A>(alloc, rest.into_durable(), &first, &second, stops)?;
+        return Ok(Fallen {
+            state: NodeState::Down(down),
+            is_due: false,
+        });
+    }
+    if !told.plan.lets_fail(A::IS_MIRRORED) {
         return Err(NoMemory);
     }
-    match awaited {
-        Awaited::Nothing => Err(NoMemory),
-        Awaited::Stop { image, .. } => {
-            let shown = rest.into_durable();
-            let down = left_of_both(alloc, shown, &first, &second, image, faults)?;
-            Ok(NodeState::Down(down))
-        }
-        Awaited::Failure { .. } => {
-            first.clear_script();
-            second.clear_script();
-            Ok(NodeState::Failed(Node::resume(rest, first, second)))
-        }
-    }
+    Ok(Fallen {
+        state: NodeState::Failed(armed_node(node, Arming::Clear, Arming::Clear)?),
+        is_due: told.plan.awaited.is_stop(),
+    })
 }
 
-/// What is left of a node that was down and stopped in a call of its opening, or one of whose calls failed. Its disks store one of two
-/// states, so that no damage is found.
-fn closed_again(
+/// What is left of a node that was down and stopped in a call of its opening, or one of whose calls failed. Its areas store one of
+/// two states, so that no damage is found.
+fn closed_again<A: Area>(
     alloc: Global,
     shown: Durable,
-    returned: Returned<MemDisk>,
-    awaited: Awaited,
-    faults: Faults,
-) -> Result<DownNode, NoMemory>
-    ensures { IfOk result (IsClosedAgain awaited faults shown returned.first returned.second) }
+    returned: Returned<A>,
+    told: Told,
+) -> Result<Fallen<A, A::Copies>, NoMemory>
+    ensures { IfOk result
+        (IsClosedAgain (medium A.state A.holds A.IS_MIRRORED) told.plan shown returned.first
+        returned.second) }
 {
     let Returned {
         cause,
-        mut first,
-        mut second,
+        first,
+        second,
     } = returned;
-    if cause == StoreFail::NoMemory || first.is_starved() || second.is_starved() {
+    if cause == StoreFail::NoMemory {
         return Err(NoMemory);
     }
-    match awaited {
-        Awaited::Nothing => Err(NoMemory),
-        Awaited::Stop { image, .. } => {
-            left_of_both(alloc, shown, &first, &second, image, faults)
-        }
-        Awaited::Failure { .. } => {
-            first.clear_script();
-            second.clear_script();
-            Ok(DownNode {
-                shown,
-                first,
-                second,
-            })
-        }
+    let down = DownNode {
+        shown,
+        first: first.close()?,
+        second: second.close()?,
+    };
+    down_again::<A>(alloc, down, told)
+}
+
+/// The same of one whose areas are closed.
+fn down_again<A: Area>(
+    alloc: Global,
+    down: DownNode<A::Copies>,
+    told: Told,
+) -> Result<Fallen<A, A::Copies>, NoMemory>
+    ensures { IfOk result (IsDownAgain (medium A.state A.holds A.IS_MIRRORED) told.plan down) }
+{
+    if told.has_stopped() {
+        let stops = (told.stop(Which::First), told.stop(Which::Second));
+        let left = left_of::<A>(alloc, down.shown, &down.first, &down.second, stops)?;
+        return Ok(Fallen {
+            state: NodeState::Down(left),
+            is_due: false,
+        });
     }
+    if !told.plan.lets_fail(A::IS_MIRRORED) {
+        return Err(NoMemory);
+    }
+    Ok(Fallen {
+        state: NodeState::Down(armed_down::<A>(down, Arming::Clear, Arming::Clear)?),
+        is_due: told.plan.awaited.is_stop(),
+    })
 }
 
 /// Whether a node that has failed refuses this.
@@ -261,20 +318,20 @@ fn is_proposal(input: &Input) -> bool
     }
 }
 
-/// What is reported of a step, said in this line of the schedule, in a call of which the node stopped, or one failed: where one failed,
-/// that what was proposed is refused.
-fn fault_lines(
+/// What is reported of a step, said in this line of the schedule, after which a node that met a fault is so: where it failed, that
+/// what was proposed is refused.
+fn fault_lines<D, C>(
     alloc: Global,
-    awaited: Awaited,
+    state: &NodeState<D, C>,
     line: u64,
     is_proposal: bool,
     count: u64,
 ) -> Result<Lines, NoMemory>
     ensures { IfOk result (λ lines.
-        lines ≡ fault_lines awaited line (refused_if is_proposal count)) }
+        lines ≡ fault_lines state.now line (refused_if is_proposal count)) }
 {
     let mut lines = Lines::new(alloc);
-    if is_proposal && !awaited.is_stop() {
+    if is_proposal && !matches!(state, NodeState::Down(_)) {
         let outcome = Outcome::Refused(Refusal::StorageFailed { count });
         lines.push(Line::Answer(line, outcome))?;
     }

@@ -1,104 +1,131 @@
-//! The disks of a node: told of what awaits it, and what a stop leaves of them.
-ghost use Rattle.std.specs.Prelude.{◌≡◌, [], IfOk};
-ghost use Rattle.op_memory.specs.MemDisks.{seen_of, fault_count_of};
-ghost use Rattle.op_node.specs.Nodes.{node_of};
-ghost use Rattle.op_world.specs.Awaiting.{IsTold};
-ghost use Rattle.op_world.specs.Disks.{CountsBoth, IsLeftOf, AreLeftOf, StaysNode};
+//! The areas of a node: armed, opened, closed, and what a stop leaves of them.
+ghost use Rattle.std.specs.Prelude.{◌≡◌, IfOk};
+ghost use Rattle.op_world.specs.Disks.{AreOpened, IsLeftOf, StaysDown, StaysNode};
 
-use crate::awaited::Awaited;
 use crate::node_state::DownNode;
-use op_memory::MemDisk;
+use crate::plan::Plan;
+use crate::told::{Faults, Told, Which};
+use op_areas::{Area, Arming, Opening, Stop};
 use op_node::Node;
-use op_outside::Disk;
 use op_types::{Durable, NoMemory};
 use std::alloc::Global;
 
-/// Nothing that was pending took place in this image.
-pub const SYNCED_IMAGE: u8 = 0;
-
-/// How often each of a node's disks has failed.
-#[derive(Clone, Copy, Debug, PartialEq, Eq)]
-pub struct Faults {
-    /// The first disk.
-    pub first: u64,
-    /// The second disk.
-    pub second: u64,
+/// What the opening of both areas of a node gives.
+#[derive(Drop)]
+pub enum Areas<D, C> {
+    /// Both.
+    Opened(D, D),
+    /// Their copies, closed again.
+    Failed(C, C),
 }
 
-impl Faults {
-    /// How often these disks have failed.
-    pub fn of(first: &MemDisk, second: &MemDisk) -> Faults
-        ensures { CountsBoth first.now second.now result }
-    {
-        Faults {
-            first: first.faults(),
-            second: second.faults(),
-        }
+/// Opens the first area, and then the second; that isn't opened where the first failed.
+pub fn open_areas<A: Area>(
+    alloc: Global,
+    first: A::Copies,
+    second: A::Copies,
+) -> Result<Areas<A, A::Copies>, NoMemory>
+    ensures { IfOk result (AreOpened A.state A.holds first second) }
+{
+    let first = match A::open(alloc, first)? {
+        Opening::Opened(first) => first,
+        Opening::Failed(first) => return Ok(Areas::Failed(first, second)),
+    };
+    match A::open(alloc, second)? {
+        Opening::Opened(second) => Ok(Areas::Opened(first, second)),
+        Opening::Failed(second) => Ok(Areas::Failed(first.close()?, second)),
     }
 }
 
-/// An empty disk.
-pub fn empty_disk(alloc: Global) -> Result<MemDisk, NoMemory>
-    ensures { IfOk result (λ d. seen_of d ≡ []) }
-{
-    Ok(MemDisk::new(alloc, Vec::new(alloc))?)
-}
-
-/// The disk that a stop leaves of this one: it holds this image, and counts its faults on from so many.
-fn left_of(alloc: Global, disk: &MemDisk, image: u8, faults: u64) -> Result<MemDisk, NoMemory>
-    ensures { IfOk result (IsLeftOf image faults disk.now) }
-{
-    let bytes = disk.image(image)?;
-    let mut left = MemDisk::new(alloc, bytes)?;
-    left.count_from(faults);
-    Ok(left)
-}
-
-/// What a stop leaves of a node that had stored this: each disk holds this image, and counts its faults on.
-pub fn left_of_both(
+/// What a stop leaves of a node that had stored this, and whose closed copies these are.
+pub fn left_of<A: Area>(
     alloc: Global,
     shown: Durable,
-    first: &MemDisk,
-    second: &MemDisk,
-    image: u8,
-    faults: Faults,
-) -> Result<DownNode, NoMemory>
-    ensures { IfOk result (AreLeftOf image faults shown first.now second.now) }
+    first: &A::Copies,
+    second: &A::Copies,
+    stops: (Stop, Stop),
+) -> Result<DownNode<A::Copies>, NoMemory>
+    ensures { IfOk result (IsLeftOf A.holds shown first.now second.now) }
 {
+    let (first_stop, second_stop) = stops;
     Ok(DownNode {
         shown,
-        first: left_of(alloc, first, image, faults.first)?,
-        second: left_of(alloc, second, image, faults.second)?,
+        first: A::left(alloc, first, first_stop)?,
+        second: A::left(alloc, second, second_stop)?,
     })
 }
 
-/// The node whose disks are told of what awaits it, and how often they had failed before.
-pub fn told(node: Node<MemDisk>, awaited: Awaited) -> Result<(Node<MemDisk>, Faults), NoMemory>
-    ensures same { IfOk result (λ r. StaysNode node r.0) }
-    ensures faults { IfOk result (λ r. CountsBoth node.store.first node.store.second r.1) }
-{
-    let (rest, mut first, mut second) = node.park();
-    let faults = Faults::of(&first, &second);
-    awaited.tell(&mut first, &mut second)?;
-    Ok((Node::resume(rest, first, second), faults))
-}
-
-/// The node whose disks are told of nothing any more.
-pub fn untold(node: Node<MemDisk>) -> Node<MemDisk>
-    ensures { StaysNode node result }
-{
-    let (rest, mut first, mut second) = node.park();
-    first.clear_script();
-    second.clear_script();
-    Node::resume(rest, first, second)
-}
-
-/// The same node, over disks that no longer keep their old calls.
-pub fn forgetting(node: Node<MemDisk>) -> Result<Node<MemDisk>, NoMemory>
-    ensures { IfOk result (StaysNode node) }
+/// The node whose areas are told of its plan.
+pub fn told_node<A: Area>(
+    alloc: Global,
+    node: Node<A>,
+    plan: Plan,
+) -> Result<(Node<A>, Told), NoMemory>
+    ensures same { IfOk result (λ r. StaysNode A.state node r.0) }
+    ensures plan { IfOk result (λ r. r.1.plan ≡ plan) }
 {
     let (rest, first, second) = node.park();
-    let first = first.forget()?;
-    let second = second.forget()?;
+    let faults = Faults {
+        first: first.faults(),
+        second: second.faults(),
+    };
+    let told = Told::new(alloc, plan, faults)?;
+    let first = first.armed(told.arming(Which::First)?)?;
+    let second = second.armed(told.arming(Which::Second)?)?;
+    Ok((Node::resume(rest, first, second), told))
+}
+
+/// The node whose areas are armed so.
+pub fn armed_node<A: Area>(
+    node: Node<A>,
+    arming: Arming,
+    second_arming: Arming,
+) -> Result<Node<A>, NoMemory>
+    ensures { IfOk result (StaysNode A.state node) }
+{
+    let (rest, first, second) = node.park();
+    let first = first.armed(arming)?;
+    let second = second.armed(second_arming)?;
     Ok(Node::resume(rest, first, second))
+}
+
+/// The node that is down whose copies are told of its plan.
+pub fn told_down<A: Area>(
+    alloc: Global,
+    down: DownNode<A::Copies>,
+    plan: Plan,
+) -> Result<(DownNode<A::Copies>, Told), NoMemory>
+    ensures same { IfOk result (λ r. StaysDown A.holds down r.0) }
+    ensures plan { IfOk result (λ r. r.1.plan ≡ plan) }
+{
+    let faults = Faults {
+        first: A::faults_of(&down.first),
+        second: A::faults_of(&down.second),
+    };
+    let told = Told::new(alloc, plan, faults)?;
+    let first = told.arming(Which::First)?;
+    let second = told.arming(Which::Second)?;
+    Ok((armed_down::<A>(down, first, second)?, told))
+}
+
+/// The node that is down whose copies are armed so.
+pub fn armed_down<A: Area>(
+    down: DownNode<A::Copies>,
+    arming: Arming,
+    second_arming: Arming,
+) -> Result<DownNode<A::Copies>, NoMemory>
+    ensures { IfOk result (StaysDown A.holds down) }
+{
+    let DownNode {
+        shown,
+        mut first,
+        mut second,
+    } = down;
+    A::arm(&mut first, arming)?;
+    A::arm(&mut second, second_arming)?;
+    Ok(DownNode {
+        shown,
+        first,
+        second,
+    })
 }

@@ -1,22 +1,25 @@
 //! What is done at a node.
-ghost use Rattle.std.specs.Prelude.{◌≡◌, ℕ, false, IfOk, OnOk};
+ghost use Rattle.std.specs.Prelude.{◌≡◌, ℕ, true, false, IfOk, OnOk};
 ghost use Rattle.op_types.specs.Ranges.{MembersInRange};
+ghost use Rattle.op_areas.specs.Media.{medium};
 ghost use Rattle.op_node.specs.Nodes.{node_of};
 ghost use Rattle.op_runs.specs.World as runs;
 ghost use Rattle.op_executions.specs.Deeds.{told_of};
 ghost use Rattle.op_executions.specs.Servers.{CanDo, IsDoneAt};
-ghost use Rattle.op_world.specs.Became.{HasAdopted, IsLeftDown, IsNotUp, TellsIn};
-ghost use Rattle.op_world.specs.Disks.{AreLeft};
-ghost use Rattle.op_world.specs.Worlds.{disk_nodes, GoesOn, IsKept};
-ghost use Rattle.op_world.specs.declared.awaited.Awaited.TheVariants as awaiting;
+ghost use Rattle.op_world.specs.Became.{GoesOnKilled, GoesOnPlanned, HasAdopted, IsLeftDown, IsNotUp, TellsIn};
+ghost use Rattle.op_world.specs.Disks.{IsClosedAs};
+ghost use Rattle.op_world.specs.Plans.{is_quiet};
+ghost use Rattle.op_world.specs.Worlds.{area_nodes, GoesOn, IsKept};
 
-use crate::awaited::Awaited;
+use crate::awaited::{Awaited, Planned};
 use crate::became::{Became, opened_any, step_told};
-use crate::disks::{Faults, SYNCED_IMAGE, empty_disk, forgetting, left_of_both};
+use crate::disks::{Areas, armed_down, armed_node, left_of, open_areas};
 use crate::node_state::{DownNode, NodeState, WorldNode};
+use crate::plan::Plan;
+use crate::told::{Faults, Which, killing};
+use op_areas::{Area, Arming};
 use op_chain::empty_durable;
 use op_executions::{Doing, Done, Server, Told, ballot_lines, pair_lines, step_lines};
-use op_memory::MemDisk;
 use op_node::{Given, Node};
 use op_runs::Lines;
 use op_types::{Input, Members, NoMemory, Pid, Sends};
@@ -26,22 +29,29 @@ use std::mem::replace;
 /// How many steps the disks of a node that is up keep the calls of: they forget them all at once, so that most steps move no disk.
 const MOST_KEPT_STEPS: u8 = 64;
 
-impl Server for WorldNode {
+impl<A: Area> Server for WorldNode<A, A::Copies> {
     /// What becomes of a step or an opening is said by what awaits the node.
     type Fate = ();
 
-    ghost kind = { disk_nodes };
+    ghost kind = { area_nodes (medium A.state A.holds A.IS_MIRRORED) };
 
-    fn first(alloc: Global, pid: Pid, members: &Members) -> Result<WorldNode, NoMemory> {
-        let first = empty_disk(alloc)?;
-        let second = empty_disk(alloc)?;
+    fn first(
+        alloc: Global,
+        pid: Pid,
+        members: &Members,
+    ) -> Result<WorldNode<A, A::Copies>, NoMemory> {
+        let first = A::empty(alloc)?;
+        let second = A::empty(alloc)?;
+        let Areas::Opened(first, second) = open_areas::<A>(alloc, first, second)? else {
+            return Err(NoMemory);
+        };
         let Ok((node, _)) = Node::open(alloc, pid, members, first, second) else {
             return Err(NoMemory);
         };
         Ok(WorldNode {
             pid,
             state: NodeState::Up(node),
-            awaited: Awaited::Nothing,
+            plan: Plan::NONE,
             is_due: false,
             kept_steps: 0,
         })
@@ -65,27 +75,29 @@ impl Server for WorldNode {
     }
 }
 
-impl WorldNode {
+impl<A: Area> WorldNode<A, A::Copies> {
     /// A step, if it is up.
     fn step(&mut self, alloc: Global, input: Input, line: u64) -> Result<Done, NoMemory>
-        requires can { CanDo disk_nodes self.old (runs.Steps input) }
+        requires can { CanDo (area_nodes (medium A.state A.holds A.IS_MIRRORED)) self.old (runs.Steps input) }
         requires due { self.old.is_due ≡ false }
         ensures { IfOk result (λ r.
-            IsDoneAt disk_nodes tt self.old (runs.Steps input) line self.new r.sends r.told) }
+            IsDoneAt (area_nodes (medium A.state A.holds A.IS_MIRRORED)) tt self.old (runs.Steps input) line
+            self.new r.sends r.told) }
     {
-        match self.awaited {
-            Awaited::Nothing => self.step_plainly(alloc, input, line),
-            awaited => self.step_awaited(alloc, input, awaited, line),
+        if self.plan.is_quiet(A::IS_MIRRORED) {
+            return self.step_plainly(alloc, input, line);
         }
+        self.step_awaited(alloc, input, line)
     }
 
-    /// A step that nothing awaits. One that fails found no memory.
+    /// A step that nothing awaits, of a node none of whose areas is lost. One that fails found no memory.
     fn step_plainly(&mut self, alloc: Global, input: Input, line: u64) -> Result<Done, NoMemory>
-        requires can { CanDo disk_nodes self.old (runs.Steps input) }
+        requires can { CanDo (area_nodes (medium A.state A.holds A.IS_MIRRORED)) self.old (runs.Steps input) }
         requires due { self.old.is_due ≡ false }
-        requires plain { self.old.awaited ≡ awaiting.Nothing }
+        requires plain { is_quiet A.IS_MIRRORED self.old.plan ≡ true }
         ensures { IfOk result (λ r.
-            IsDoneAt disk_nodes tt self.old (runs.Steps input) line self.new r.sends r.told) }
+            IsDoneAt (area_nodes (medium A.state A.holds A.IS_MIRRORED)) tt self.old (runs.Steps input) line
+            self.new r.sends r.told) }
     {
         let NodeState::Up(node) = &mut self.state else {
             return self.refuse(alloc, input, line);
@@ -104,23 +116,17 @@ impl WorldNode {
         Ok(Done { sends, told })
     }
 
-    /// A step that this awaits, if it is up.
-    fn step_awaited(
-        &mut self,
-        alloc: Global,
-        input: Input,
-        awaited: Awaited,
-        line: u64,
-    ) -> Result<Done, NoMemory>
-        requires can { CanDo disk_nodes self.old (runs.Steps input) }
+    /// A step in which the node may stop, or a call may fail, if it is up.
+    fn step_awaited(&mut self, alloc: Global, input: Input, line: u64) -> Result<Done, NoMemory>
+        requires can { CanDo (area_nodes (medium A.state A.holds A.IS_MIRRORED)) self.old (runs.Steps input) }
         requires due { self.old.is_due ≡ false }
-        requires awaited { self.old.awaited ≡ awaited }
         ensures { IfOk result (λ r.
-            IsDoneAt disk_nodes tt self.old (runs.Steps input) line self.new r.sends r.told) }
+            IsDoneAt (area_nodes (medium A.state A.holds A.IS_MIRRORED)) tt self.old (runs.Steps input) line
+            self.new r.sends r.told) }
     {
-        match replace(&mut self.state, nothing(alloc)?) {
+        match replace(&mut self.state, nothing::<A>(alloc)?) {
             NodeState::Up(node) => {
-                let became = step_told(alloc, self.pid, node, input, awaited, line)?;
+                let became = step_told(alloc, self.pid, node, input, self.plan, line)?;
                 self.adopt(alloc, became)
             }
             state => {
@@ -132,11 +138,12 @@ impl WorldNode {
 
     /// A step of one that isn't up: it refuses what is proposed, if it failed.
     fn refuse(&mut self, alloc: Global, input: Input, line: u64) -> Result<Done, NoMemory>
-        requires can { CanDo disk_nodes self.old (runs.Steps input) }
+        requires can { CanDo (area_nodes (medium A.state A.holds A.IS_MIRRORED)) self.old (runs.Steps input) }
         requires due { self.old.is_due ≡ false }
         requires down { IsNotUp self.old.state }
         ensures { IfOk result (λ r.
-            IsDoneAt disk_nodes tt self.old (runs.Steps input) line self.new r.sends r.told) }
+            IsDoneAt (area_nodes (medium A.state A.holds A.IS_MIRRORED)) tt self.old (runs.Steps input) line
+            self.new r.sends r.told) }
     {
         let NodeState::Failed(node) = &mut self.state else {
             return Ok(Done::nothing(alloc));
@@ -155,8 +162,8 @@ impl WorldNode {
     }
 
     /// Goes on as it became by a step or an opening that was awaited.
-    fn adopt(&mut self, alloc: Global, became: Became) -> Result<Done, NoMemory>
-        ensures { IfOk result (HasAdopted became self.old self.new) }
+    fn adopt(&mut self, alloc: Global, became: Became<A, A::Copies>) -> Result<Done, NoMemory>
+        ensures { IfOk result (HasAdopted (medium A.state A.holds A.IS_MIRRORED) became self.old self.new) }
     {
         let Became {
             state,
@@ -165,7 +172,7 @@ impl WorldNode {
             is_due,
         } = became;
         self.state = state;
-        self.awaited = Awaited::Nothing;
+        self.plan.awaited = Awaited::Nothing;
         self.is_due = is_due;
         self.forget_in_time(alloc)?;
         Ok(Done { sends, told })
@@ -173,16 +180,20 @@ impl WorldNode {
 
     /// Counts a step, and lets the disks of a node that is up forget their calls once they keep those of so many.
     fn forget_in_time(&mut self, alloc: Global) -> Result<(), NoMemory>
-        ensures { OnOk result (GoesOn self.old self.new) }
+        ensures { OnOk result (GoesOn (medium A.state A.holds A.IS_MIRRORED) self.old self.new) }
     {
         if self.kept_steps < MOST_KEPT_STEPS {
             self.kept_steps += 1;
             return Ok(());
         }
         self.kept_steps = 0;
-        self.state = match replace(&mut self.state, nothing(alloc)?) {
-            NodeState::Up(node) => NodeState::Up(forgetting(node)?),
-            NodeState::Failed(node) => NodeState::Failed(forgetting(node)?),
+        self.state = match replace(&mut self.state, nothing::<A>(alloc)?) {
+            NodeState::Up(node) => {
+                NodeState::Up(armed_node(node, Arming::Forget, Arming::Forget)?)
+            }
+            NodeState::Failed(node) => {
+                NodeState::Failed(armed_node(node, Arming::Forget, Arming::Forget)?)
+            }
             NodeState::Down(down) => NodeState::Down(down),
         };
         Ok(())
@@ -190,41 +201,73 @@ impl WorldNode {
 
     /// Stops between two steps: what a crash leaves of its disks is left, and nothing awaits it any more.
     fn stop(&mut self, alloc: Global) -> Result<Done, NoMemory>
-        requires kept { IsKept self.old.pid self.old.state }
+        requires kept { IsKept (medium A.state A.holds A.IS_MIRRORED) self.old.pid self.old.state }
         requires due { self.old.is_due ≡ false }
-        ensures { IfOk result (λ r. (line : ℕ) →
-            IsDoneAt disk_nodes tt self.old runs.Stops line self.new r.sends r.told) }
+        ensures { IfOk result (λ r. (line : ℕ)
+            → IsDoneAt (area_nodes (medium A.state A.holds A.IS_MIRRORED)) tt self.old runs.Stops line
+            self.new r.sends r.told) }
     {
-        let state = replace(&mut self.state, nothing(alloc)?);
-        self.state = NodeState::Down(left_of_state(alloc, state)?);
-        self.awaited = Awaited::Nothing;
+        let state = replace(&mut self.state, nothing::<A>(alloc)?);
+        self.state = NodeState::Down(left_of_state::<A>(alloc, state)?);
+        self.plan.awaited = Awaited::Nothing;
         Ok(Done::nothing(alloc))
     }
 
     /// Is opened, if it isn't up.
     fn open(&mut self, alloc: Global, members: &Members) -> Result<Done, NoMemory>
         requires members { MembersInRange members.now }
-        requires can { CanDo disk_nodes self.old runs.Opens }
+        requires can { CanDo (area_nodes (medium A.state A.holds A.IS_MIRRORED)) self.old runs.Opens }
         requires due { self.old.is_due ≡ false }
-        ensures { IfOk result (λ r. (line : ℕ) →
-            IsDoneAt disk_nodes tt self.old runs.Opens line self.new r.sends r.told) }
+        ensures { IfOk result (λ r. (line : ℕ)
+            → IsDoneAt (area_nodes (medium A.state A.holds A.IS_MIRRORED)) tt self.old runs.Opens line
+            self.new r.sends r.told) }
     {
         if let NodeState::Up(_) = &self.state {
             return Ok(Done::nothing(alloc));
         }
-        let state = replace(&mut self.state, nothing(alloc)?);
-        let became = opened_any(alloc, self.pid, members, state, self.awaited)?;
+        let state = replace(&mut self.state, nothing::<A>(alloc)?);
+        let became = opened_any(alloc, self.pid, members, state, self.plan)?;
         self.adopt(alloc, became)
+    }
+
+    /// From now on this is planned for its disks.
+    pub fn plan_on(&mut self, alloc: Global, planned: Planned) -> Result<(), NoMemory>
+        ensures { OnOk result
+            (GoesOnPlanned (medium A.state A.holds A.IS_MIRRORED) planned self.old self.new) }
+    {
+        match planned {
+            Planned::Awaits(awaited) => {
+                self.plan.awaited = awaited;
+                Ok(())
+            }
+            Planned::Kills(disk) => self.kill(alloc, disk),
+        }
+    }
+
+    /// This disk of it is killed.
+    fn kill(&mut self, alloc: Global, disk: u8) -> Result<(), NoMemory>
+        ensures { OnOk result (GoesOnKilled (medium A.state A.holds A.IS_MIRRORED) disk self.old self.new) }
+    {
+        let first = killing(Which::First, disk);
+        let second = killing(Which::Second, disk);
+        self.state = match replace(&mut self.state, nothing::<A>(alloc)?) {
+            NodeState::Up(node) => NodeState::Up(armed_node(node, first, second)?),
+            NodeState::Failed(node) => NodeState::Failed(armed_node(node, first, second)?),
+            NodeState::Down(down) => NodeState::Down(armed_down::<A>(down, first, second)?),
+        };
+        self.plan.killed = self.plan.killed.with(disk);
+        Ok(())
     }
 
     /// Tells this, if it isn't down.
     fn tell(&self, alloc: Global, told: Told) -> Result<Done, NoMemory>
-        requires kept { IsKept self.now.pid self.now.state }
+        requires kept { IsKept (medium A.state A.holds A.IS_MIRRORED) self.now.pid self.now.state }
         requires due { self.now.is_due ≡ false }
-        ensures { IfOk result (λ r. (line : ℕ) →
-            IsDoneAt disk_nodes tt self.now (runs.Tells (told_of told)) line self.now r.sends r.told) }
+        ensures { IfOk result (λ r. (line : ℕ)
+            → IsDoneAt (area_nodes (medium A.state A.holds A.IS_MIRRORED)) tt self.now
+            (runs.Tells (told_of told)) line self.now r.sends r.told) }
     {
-        let told = told_in(alloc, self.pid, &self.state, told)?;
+        let told = told_in::<A>(alloc, self.pid, &self.state, told)?;
         Ok(Done {
             sends: Sends::new(alloc),
             told,
@@ -233,19 +276,22 @@ impl WorldNode {
 }
 
 /// What stands in the place of a node while that is taken out: one that is down.
-fn nothing(alloc: Global) -> Result<NodeState, NoMemory>
-    ensures { IfOk result (IsNotUp) }
+fn nothing<A: Area>(alloc: Global) -> Result<NodeState<A, A::Copies>, NoMemory>
+    ensures { IfOk result IsNotUp }
 {
     Ok(NodeState::Down(DownNode {
         shown: empty_durable(),
-        first: empty_disk(alloc)?,
-        second: empty_disk(alloc)?,
+        first: A::empty(alloc)?,
+        second: A::empty(alloc)?,
     }))
 }
 
 /// What a stop between two steps leaves.
-fn left_of_state(alloc: Global, state: NodeState) -> Result<DownNode, NoMemory>
-    ensures { IfOk result (IsLeftDown state) }
+fn left_of_state<A: Area>(
+    alloc: Global,
+    state: NodeState<A, A::Copies>,
+) -> Result<DownNode<A::Copies>, NoMemory>
+    ensures { IfOk result (IsLeftDown (medium A.state A.holds A.IS_MIRRORED) state) }
 {
     match state {
         NodeState::Up(node) => left_of_node(alloc, node),
@@ -256,31 +302,43 @@ fn left_of_state(alloc: Global, state: NodeState) -> Result<DownNode, NoMemory>
                 first,
                 second,
             } = down;
-            let faults = Faults::of(&first, &second);
-            left_of_both(alloc, shown, &first, &second, SYNCED_IMAGE, faults)
+            let faults = Faults {
+                first: A::faults_of(&first),
+                second: A::faults_of(&second),
+            };
+            left_of::<A>(alloc, shown, &first, &second, faults.stops_between())
         }
     }
 }
 
 /// What a stop between two steps leaves of a node.
-fn left_of_node(alloc: Global, node: Node<MemDisk>) -> Result<DownNode, NoMemory>
-    ensures { IfOk result
-        (AreLeft 0 (node_of node).state.durable node.store.first node.store.second) }
+fn left_of_node<A: Area>(alloc: Global, node: Node<A>) -> Result<DownNode<A::Copies>, NoMemory>
+    ensures { IfOk result (IsClosedAs A.state A.holds
+        (node_of node).state.durable node.store.first node.store.second) }
 {
     let (rest, first, second) = node.park();
-    let faults = Faults::of(&first, &second);
-    left_of_both(
+    let faults = Faults {
+        first: first.faults(),
+        second: second.faults(),
+    };
+    let first = first.close()?;
+    let second = second.close()?;
+    left_of::<A>(
         alloc,
         rest.into_durable(),
         &first,
         &second,
-        SYNCED_IMAGE,
-        faults,
+        faults.stops_between(),
     )
 }
 
 /// The lines of what a node in this state tells.
-fn told_in(alloc: Global, me: Pid, state: &NodeState, told: Told) -> Result<Lines, NoMemory>
+fn told_in<A: Area>(
+    alloc: Global,
+    me: Pid,
+    state: &NodeState<A, A::Copies>,
+    told: Told,
+) -> Result<Lines, NoMemory>
     ensures { IfOk result (TellsIn me (told_of told) state.now) }
 {
     match state {
@@ -291,7 +349,12 @@ fn told_in(alloc: Global, me: Pid, state: &NodeState, told: Told) -> Result<Line
 }
 
 /// The lines of what a node tells that isn't down.
-fn told_lines(alloc: Global, me: Pid, node: &Node<MemDisk>, told: Told) -> Result<Lines, NoMemory>
+fn told_lines<A: Area>(
+    alloc: Global,
+    me: Pid,
+    node: &Node<A>,
+    told: Told,
+) -> Result<Lines, NoMemory>
     ensures { IfOk result (λ lines. let s = (node_of node.now).state in
         lines ≡ runs.told_lines (told_of told) me s s.durable.part) }
 {

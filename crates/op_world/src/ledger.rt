@@ -8,6 +8,7 @@ ghost use Rattle.op_runs.specs.Summary.{listed_from};
 ghost use Rattle.op_world.specs.Ledgers.{list_at, ShowsMore, NodeShowsMore};
 
 use crate::node_state::NodeState;
+use op_outside::Disk;
 use op_runs::{Listed, Lists};
 use op_types::{Closed, ConfNo, Durable, Entries, Entry, Members, NoMemory, Part, last_stop};
 use std::alloc::Global;
@@ -43,7 +44,7 @@ impl Ledger {
 
     /// A node shows what it has stored, if it is up: each list that it has decided more of gets these entries. One that isn't up
     /// showed it before.
-    pub fn show_node(&mut self, node: &NodeState) -> Result<(), NoMemory>
+    pub fn show_node<D: Disk, C>(&mut self, node: &NodeState<D, C>) -> Result<(), NoMemory>
         ensures { OnOk result (NodeShowsMore self.old node.now self.new) }
     {
         match node {

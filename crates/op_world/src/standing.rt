@@ -1,4 +1,5 @@
 ghost use Rattle.std.specs.Prelude.{◌≡◌, ◌++◌, ◌∷◌, [], List, map, max, All, IfSome, IfOk, OnOk};
+ghost use Rattle.op_areas.specs.Media.{medium};
 ghost use Rattle.op_record.specs.Ranges.{ClosedInRange};
 ghost use Rattle.op_protocol.specs.Configurations.{latest_of};
 ghost use Rattle.op_runs.specs.World as runs;
@@ -6,6 +7,7 @@ ghost use Rattle.op_runs.specs.Summary.{greatest_conf, stands_at, joining_conf, 
 ghost use Rattle.op_world.specs.Worlds.{ShowsNode, ShowNodes, line_of};
 
 use crate::node_state::{NodeState, WorldNode};
+use op_areas::Area;
 use op_runs::{NodeLine, NodeLines, Running};
 use op_types::{ConfNo, Durable, NoMemory, Pid};
 use std::alloc::Global;
@@ -21,29 +23,36 @@ pub struct Standing {
 
 impl Standing {
     /// Where these nodes stand.
-    pub fn of_nodes(alloc: Global, nodes: &[WorldNode]) -> Result<Standing, NoMemory>
-        requires { (xs : List runs.Node) × ShowNodes nodes.now xs
+    pub fn of_nodes<A: Area>(
+        alloc: Global,
+        nodes: &[WorldNode<A, A::Copies>],
+    ) -> Result<Standing, NoMemory>
+        requires { (xs : List runs.Node) × ShowNodes (medium A.state A.holds A.IS_MIRRORED) nodes.now xs
             × All (λ x. IfSome x.state.durable.closed ClosedInRange) xs }
-        ensures { IfOk result (λ s. (xs : List runs.Node) → ShowNodes nodes.now xs →
-            (s.latest ≡ greatest_conf xs) × (s.lines ≡ map node_line xs)) }
+        ensures { IfOk result (λ s. (xs : List runs.Node)
+            → ShowNodes (medium A.state A.holds A.IS_MIRRORED) nodes.now xs
+            → (s.latest ≡ greatest_conf xs) × (s.lines ≡ map node_line xs)) }
     {
         let mut standing = Standing {
             latest: 0,
             lines: NodeLines::new(alloc),
         };
         'nodes: for node in nodes {
-            standing.add_node(node)?;
+            standing.add_node::<A>(node)?;
         }
         Ok(standing)
     }
 
     /// Adds a node: one that isn't up is told with what it had stored before the step in which it stopped or failed.
-    fn add_node(&mut self, node: &WorldNode) -> Result<(), NoMemory>
-        requires { (x : runs.Node) × ShowsNode node.now x × IfSome x.state.durable.closed ClosedInRange }
-        ensures latest { OnOk result ((x : runs.Node) → ShowsNode node.now x →
-            self.new.latest ≡ max self.old.latest (latest_of x.state.durable)) }
-        ensures lines { OnOk result ((x : runs.Node) → ShowsNode node.now x →
-            self.new.lines ≡ self.old.lines ++ node_line x ∷ []) }
+    fn add_node<A: Area>(&mut self, node: &WorldNode<A, A::Copies>) -> Result<(), NoMemory>
+        requires { (x : runs.Node) × ShowsNode (medium A.state A.holds A.IS_MIRRORED) node.now x
+            × IfSome x.state.durable.closed ClosedInRange }
+        ensures latest { OnOk result ((x : runs.Node)
+            → ShowsNode (medium A.state A.holds A.IS_MIRRORED) node.now x
+            → self.new.latest ≡ max self.old.latest (latest_of x.state.durable)) }
+        ensures lines { OnOk result ((x : runs.Node)
+            → ShowsNode (medium A.state A.holds A.IS_MIRRORED) node.now x
+            → self.new.lines ≡ self.old.lines ++ node_line x ∷ []) }
     {
         let pid = node.pid;
         match &node.state {

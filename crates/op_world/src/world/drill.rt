@@ -1,15 +1,17 @@
 //! A drill of events that are drawn one at a time.
-ghost use Rattle.std.specs.Prelude.{◌≡◌, ◌≤◌, IfOk};
+ghost use Rattle.std.specs.Prelude.{◌≡◌, ◌≤◌, false, IfOk};
 ghost use Rattle.op_types.specs.Limits.{greatest_number};
 ghost use Rattle.op_runs.specs.Run.{first_execution};
-ghost use Rattle.op_runs.specs.Schedules.{nothing_awaits};
+ghost use Rattle.op_areas.specs.Media.{medium};
+ghost use Rattle.op_runs.specs.Schedules.{no_plans};
 ghost use Rattle.op_gen.specs.Draws.{drill_members, drill_nodes, drill_spares};
 ghost use Rattle.op_executions.specs.Failing.{IfBadEvent};
-ghost use Rattle.op_world.specs.Awaiting.{awaiting_of};
+ghost use Rattle.op_world.specs.Plans.{ArePlanned};
 ghost use Rattle.op_world.specs.Runs.{IsReportOfDrawn};
 ghost use Rattle.op_world.specs.Worlds.{Shows};
 
 use super::World;
+use op_areas::Area;
 use op_executions::RunFail;
 use op_gen::Gen;
 use op_runs::Summary;
@@ -17,27 +19,29 @@ use op_types::{Members, NoMemory};
 use std::alloc::Global;
 
 /// The drill's members and spares at their start, with empty disks.
-fn first_world(alloc: Global) -> Result<World, NoMemory>
-    ensures shows { IfOk result (λ w. Shows w (first_execution drill_members drill_spares)) }
+fn first_world<A: Area>(alloc: Global) -> Result<World<A>, NoMemory>
+    ensures shows { IfOk result (λ w.
+        Shows (medium A.state A.holds A.IS_MIRRORED) w (first_execution drill_members drill_spares)) }
     ensures members { IfOk result (λ w. w.members ≡ drill_members) }
     ensures ids { IfOk result (λ w. w.ids ≡ drill_nodes) }
     ensures proposed { IfOk result (λ w. w.proposed ≡ 0) }
-    ensures awaiting { IfOk result (λ w. awaiting_of w.nodes ≡ nothing_awaits) }
+    ensures planned { IfOk result (λ w. ArePlanned w.nodes no_plans) }
 {
     let members = Members::from_slice(&[1, 2, 3])?;
     let spares = Members::from_slice(&[4, 5])?;
-    World::new(alloc, members, &spares)
+    World::<A>::new(alloc, members, &spares)
 }
 
-impl World {
+impl<A: Area> World<A> {
     /// Runs so many events at the drill's members and spares, from their start on, and reports what they leave. The seed
-    /// draws each where those before it are done, so that no list of them is kept. No event is refused.
-    pub fn drill(alloc: Global, seed: u64, count: u64) -> Result<Summary, RunFail>
+    /// draws each where those before it are done, so that no list of them is kept. No event is refused. Its areas are not mirrored.
+    pub(crate) fn drill_over(alloc: Global, seed: u64, count: u64) -> Result<Summary, RunFail>
+        requires plain { A.IS_MIRRORED ≡ false }
         requires few { count ≤ greatest_number }
         ensures report { IfOk result (IsReportOfDrawn seed count) }
         ensures never_bad { IfBadEvent result (λ _. ⊥) }
     {
-        let mut world = first_world(alloc)?;
+        let mut world = first_world::<A>(alloc)?;
         let mut events = Gen::new(seed);
         for _done in 0..count {
             let event = events.next(alloc, world.sent())?;

@@ -2,36 +2,44 @@
 ghost use Rattle.std.specs.Prelude.{◌≡◌, ◌<◌, length, IfOk, IfSome, OnOk};
 ghost use Rattle.op_types.specs.Ranges.{IsMember};
 ghost use Rattle.op_runs.specs.Possible.{is_possible, WhatInRange};
+ghost use Rattle.op_areas.specs.Media.{medium};
 ghost use Rattle.op_runs.specs.Run.{Execution};
+ghost use Rattle.op_runs.specs.Schedules.{DiskPlans};
 ghost use Rattle.op_executions.specs.Failing.{IfBadEvent};
 ghost use Rattle.op_executions.specs.Worlds.{KeepsServers};
-ghost use Rattle.op_world.specs.Events.{parts_of, Awaits, CanCome, EventComes, HappensAt, IsBadEvent, IsCounted, StopsAt};
-ghost use Rattle.op_world.specs.Worlds.{disk_nodes, IsWorld, Shows};
+ghost use Rattle.op_world.specs.Events.{parts_of, IsPlannedAt, CanCome, EventComes, HappensAt, IsBadEvent, IsCounted, StopsAt};
+ghost use Rattle.op_world.specs.Plans.{ArePlanned};
+ghost use Rattle.op_world.specs.Worlds.{area_nodes, IsWorld, Shows};
 
-use crate::awaited::Awaited;
+use crate::awaited::Planned;
 use crate::ledger::Ledger;
 use crate::node_state::WorldNode;
+use op_areas::Area;
 use op_executions::{RunFail, ServerWorld, place_of};
 use op_runs::{Event, What};
-use op_types::Pid;
+use op_types::{NoMemory, Pid};
 
 /// An event comes: it happens, and where a stop is due then the node stops; or it awaits a node from now on.
-pub fn come(
-    world: &mut ServerWorld<WorldNode>,
+pub fn come<A: Area>(
+    world: &mut ServerWorld<WorldNode<A, A::Copies>>,
     ledger: &mut Ledger,
     event: Event,
 ) -> Result<(), RunFail>
     requires range { WhatInRange event.what }
-    requires kept { IsWorld (parts_of world.old ledger.old) }
-    ensures comes { OnOk result ((t : Execution) → Shows (parts_of world.old ledger.old) t →
-        EventComes (parts_of world.old ledger.old) event t (parts_of world.new ledger.new)) }
-    ensures kept { OnOk result (IsWorld (parts_of world.new ledger.new)) }
+    requires kept { IsWorld (medium A.state A.holds A.IS_MIRRORED) (parts_of world.old ledger.old) }
+    ensures comes { OnOk result ((t : Execution) (plans : DiskPlans)
+        → Shows (medium A.state A.holds A.IS_MIRRORED) (parts_of world.old ledger.old) t
+        → ArePlanned world.old.servers.items plans
+        → EventComes (medium A.state A.holds A.IS_MIRRORED) (parts_of world.old ledger.old) event t plans
+        (parts_of world.new ledger.new)) }
+    ensures kept { OnOk result
+        (IsWorld (medium A.state A.holds A.IS_MIRRORED) (parts_of world.new ledger.new)) }
     ensures can { OnOk result
         (CanCome (parts_of world.old ledger.old) event (parts_of world.new ledger.new)) }
     ensures bad { IfBadEvent result (IsBadEvent (parts_of world.old ledger.old) event) }
 {
     let line = event.line;
-    let told = Awaited::told_by(&event.what);
+    let planned = Planned::by(&event.what);
     match happen(world, ledger, event)? {
         Some(place) => {
             if !world.servers[place].is_due {
@@ -40,27 +48,31 @@ pub fn come(
             stop_at(world, ledger, place, line)
         }
         None => {
-            let Some((pid, awaited)) = told else {
+            let Some((pid, planned)) = planned else {
                 return Ok(());
             };
-            await_at(world, pid, awaited);
+            plan_at(world, pid, planned)?;
             Ok(())
         }
     }
 }
 
 /// An event happens: where something is done at a node, that shows what it has stored then. Gives the node's place.
-fn happen(
-    world: &mut ServerWorld<WorldNode>,
+fn happen<A: Area>(
+    world: &mut ServerWorld<WorldNode<A, A::Copies>>,
     ledger: &mut Ledger,
     event: Event,
 ) -> Result<Option<usize>, RunFail>
     requires range { WhatInRange event.what }
-    requires kept { IsWorld (parts_of world.old ledger.old) }
-    ensures happens { IfOk result (λ at. (t : Execution) → Shows (parts_of world.old ledger.old) t →
-        HappensAt (parts_of world.old ledger.old) event t at (parts_of world.new ledger.new)) }
+    requires kept { IsWorld (medium A.state A.holds A.IS_MIRRORED) (parts_of world.old ledger.old) }
+    ensures happens { IfOk result (λ at. (t : Execution) (plans : DiskPlans)
+        → Shows (medium A.state A.holds A.IS_MIRRORED) (parts_of world.old ledger.old) t
+        → ArePlanned world.old.servers.items plans
+        → HappensAt (medium A.state A.holds A.IS_MIRRORED) (parts_of world.old ledger.old) event t plans at
+        (parts_of world.new ledger.new)) }
     ensures place { IfOk result (λ at. IfSome at (λ place. place < length world.new.servers.items)) }
-    ensures kept { OnOk result (IsWorld (parts_of world.new ledger.new)) }
+    ensures kept { OnOk result
+        (IsWorld (medium A.state A.holds A.IS_MIRRORED) (parts_of world.new ledger.new)) }
     ensures can { OnOk result
         (CanCome (parts_of world.old ledger.old) event (parts_of world.new ledger.new)) }
     ensures bad { IfBadEvent result (IsBadEvent (parts_of world.old ledger.old) event) }
@@ -75,17 +87,21 @@ fn happen(
 }
 
 /// The node at this place stops, as this line of the schedule says.
-fn stop_at(
-    world: &mut ServerWorld<WorldNode>,
+fn stop_at<A: Area>(
+    world: &mut ServerWorld<WorldNode<A, A::Copies>>,
     ledger: &mut Ledger,
     place: usize,
     line: u64,
 ) -> Result<(), RunFail>
-    requires kept { IsWorld (parts_of world.old ledger.old) }
+    requires kept { IsWorld (medium A.state A.holds A.IS_MIRRORED) (parts_of world.old ledger.old) }
     requires there { place < length world.old.servers.items }
-    ensures stops { OnOk result ((t : Execution) → Shows (parts_of world.old ledger.old) t →
-        StopsAt (parts_of world.old ledger.old) place line t (parts_of world.new ledger.new)) }
-    ensures kept { OnOk result (IsWorld (parts_of world.new ledger.new)) }
+    ensures stops { OnOk result ((t : Execution) (plans : DiskPlans)
+        → Shows (medium A.state A.holds A.IS_MIRRORED) (parts_of world.old ledger.old) t
+        → ArePlanned world.old.servers.items plans
+        → StopsAt (medium A.state A.holds A.IS_MIRRORED) (parts_of world.old ledger.old) place line t plans
+        (parts_of world.new ledger.new)) }
+    ensures kept { OnOk result
+        (IsWorld (medium A.state A.holds A.IS_MIRRORED) (parts_of world.new ledger.new)) }
     ensures same { OnOk result (IsCounted (parts_of world.old ledger.old) 0 (parts_of world.new ledger.new)) }
     ensures never_bad { IfBadEvent result (λ _. ⊥) }
 {
@@ -95,12 +111,18 @@ fn stop_at(
     Ok(())
 }
 
-/// From now on this awaits a node.
-fn await_at(world: &mut ServerWorld<WorldNode>, pid: Pid, awaited: Awaited)
-    requires kept { KeepsServers disk_nodes world.old }
+/// From now on this is planned for the disks of a node.
+fn plan_at<A: Area>(
+    world: &mut ServerWorld<WorldNode<A, A::Copies>>,
+    pid: Pid,
+    planned: Planned,
+) -> Result<(), NoMemory>
+    requires kept { KeepsServers (area_nodes (medium A.state A.holds A.IS_MIRRORED)) world.old }
     requires known { IsMember world.old.ids.items pid }
-    ensures { Awaits pid awaited world.old world.new }
+    ensures { OnOk result
+        (IsPlannedAt (medium A.state A.holds A.IS_MIRRORED) pid planned world.old world.new) }
 {
+    let alloc = world.alloc;
     let place = place_of(&world.ids, pid);
-    world.servers[place].awaited = awaited;
+    world.servers[place].plan_on(alloc, planned)
 }

@@ -1,7 +1,8 @@
 //! Lockstep rounds of a world over fixed links.
-ghost use Rattle.std.specs.Prelude.{◌≡◌, All, IfOk};
+ghost use Rattle.std.specs.Prelude.{◌≡◌, false, All, IfOk};
 ghost use Rattle.op_types.specs.Ranges.{MembersInRange};
 ghost use Rattle.op_runs.specs.Possible.{ArePossibleFrom};
+ghost use Rattle.op_areas.specs.Media.{medium};
 ghost use Rattle.op_runs.specs.Run.{Execution};
 ghost use Rattle.op_lockstep.specs.Lockstep as rounds;
 ghost use Rattle.op_lockstep.specs.Lockstep.{ballots, deliveries, lockstep, ticks};
@@ -10,6 +11,7 @@ ghost use Rattle.op_executions.specs.Failing.{IfBadEvent};
 ghost use Rattle.op_world.specs.Worlds.{Shows};
 
 use super::World;
+use op_areas::Area;
 use op_executions::{RunFail, Sent};
 use op_gen::{Links, all_links};
 use op_runs::{Event, Events, Summary, What};
@@ -76,36 +78,41 @@ fn ballots(alloc: Global, members: &Members) -> Result<Events, NoMemory>
     Ok(events)
 }
 
-impl World {
+impl<A: Area> World<A> {
     /// Runs a drill of links at these members, from their start on, and reports it: three lockstep rounds over all links, so
-    /// many over these, and a tick of each member, which then tells its ballots. No event of it is refused.
-    pub fn lockstep(
+    /// many over these, and a tick of each member, which then tells its ballots. No event of it is refused. Its areas are not mirrored.
+    pub(crate) fn lockstep_over(
         alloc: Global,
         members: Members,
         links: &Links<'_>,
         rounds: u64,
     ) -> Result<Summary, RunFail>
-        requires { MembersInRange members }
+        requires members { MembersInRange members }
+        requires plain { A.IS_MIRRORED ≡ false }
         ensures report { IfOk result (IsReportOfDrill members links.now.pairs.now rounds) }
         ensures never_bad { IfBadEvent result (λ _. ⊥) }
     {
         let pairs = all_links(alloc, members.as_slice())?;
         let all = Links { pairs: &pairs };
-        let linked = World::new(alloc, members, &Members::new())?.rounds(&all, FIRST_ROUNDS)?;
+        let linked = World::<A>::new(alloc, members, &Members::new())?.rounds(&all, FIRST_ROUNDS)?;
         let drilled = linked.rounds(links, rounds)?;
         Ok(drilled.tell_ballots()?.summary()?)
     }
 
     /// So many lockstep rounds over these links.
-    fn rounds(self, links: &Links<'_>, count: u64) -> Result<World, RunFail>
+    fn rounds(self, links: &Links<'_>, count: u64) -> Result<World<A>, RunFail>
         requires { IsCalm self }
-        ensures after { IfOk result (λ w. (t : Execution) → Shows self t →
-            Shows w (followed t (lockstep self.members links.now.pairs.now count t.world))) }
-        ensures range { IfOk result (λ _. (t : Execution) → Shows self t → All IsQuiet
+        ensures after { IfOk result (λ w. (t : Execution)
+            → Shows (medium A.state A.holds A.IS_MIRRORED) self t
+            → Shows (medium A.state A.holds A.IS_MIRRORED) w
+            (followed t (lockstep self.members links.now.pairs.now count t.world))) }
+        ensures range { IfOk result (λ _. (t : Execution)
+            → Shows (medium A.state A.holds A.IS_MIRRORED) self t → All IsQuiet
             (lockstep self.members links.now.pairs.now count t.world)) }
         ensures calm { IfOk result (λ w. IsCalm w) }
         ensures members { IfOk result (λ w. w.members ≡ self.members) }
-        ensures bad { IfBadEvent result (λ _. (t : Execution) → Shows self t → ⊥) }
+        ensures bad { IfBadEvent result (λ _. (t : Execution)
+            → Shows (medium A.state A.holds A.IS_MIRRORED) self t → ⊥) }
     {
         let mut world = self;
         for _number in 0..count {
@@ -115,15 +122,19 @@ impl World {
     }
 
     /// A lockstep round over these links.
-    fn round(self, links: &Links<'_>) -> Result<World, RunFail>
+    fn round(self, links: &Links<'_>) -> Result<World<A>, RunFail>
         requires { IsCalm self }
-        ensures after { IfOk result (λ w. (t : Execution) → Shows self t →
-            Shows w (followed t (rounds.round self.members links.now.pairs.now t.world))) }
-        ensures range { IfOk result (λ _. (t : Execution) → Shows self t → All IsQuiet
+        ensures after { IfOk result (λ w. (t : Execution)
+            → Shows (medium A.state A.holds A.IS_MIRRORED) self t
+            → Shows (medium A.state A.holds A.IS_MIRRORED) w
+            (followed t (rounds.round self.members links.now.pairs.now t.world))) }
+        ensures range { IfOk result (λ _. (t : Execution)
+            → Shows (medium A.state A.holds A.IS_MIRRORED) self t → All IsQuiet
             (rounds.round self.members links.now.pairs.now t.world)) }
         ensures calm { IfOk result (λ w. IsCalm w) }
         ensures members { IfOk result (λ w. w.members ≡ self.members) }
-        ensures bad { IfBadEvent result (λ _. (t : Execution) → Shows self t → ⊥) }
+        ensures bad { IfBadEvent result (λ _. (t : Execution)
+            → Shows (medium A.state A.holds A.IS_MIRRORED) self t → ⊥) }
     {
         let asked_since = self.world.messages.len();
         let ticks = ticks(self.world.alloc, &self.world.members)?;
@@ -136,12 +147,15 @@ impl World {
     }
 
     /// Each member ticks, and then each tells its ballots.
-    fn tell_ballots(self) -> Result<World, RunFail>
+    fn tell_ballots(self) -> Result<World<A>, RunFail>
         requires { IsCalm self }
-        ensures after { IfOk result (λ w. (t : Execution) → Shows self t →
-            Shows w (followed (followed t (ticks self.members)) (ballots self.members))) }
+        ensures after { IfOk result (λ w. (t : Execution)
+            → Shows (medium A.state A.holds A.IS_MIRRORED) self t
+            → Shows (medium A.state A.holds A.IS_MIRRORED) w
+            (followed (followed t (ticks self.members)) (ballots self.members))) }
         ensures members { IfOk result (λ w. w.members ≡ self.members) }
-        ensures bad { IfBadEvent result (λ _. (t : Execution) → Shows self t → ⊥) }
+        ensures bad { IfBadEvent result (λ _. (t : Execution)
+            → Shows (medium A.state A.holds A.IS_MIRRORED) self t → ⊥) }
     {
         let ticks = ticks(self.world.alloc, &self.world.members)?;
         let ballots = ballots(self.world.alloc, &self.world.members)?;
@@ -164,15 +178,19 @@ impl World {
     }
 
     /// These events, in order, each of which can come.
-    fn follow(self, events: Events) -> Result<World, RunFail>
+    fn follow(self, events: Events) -> Result<World<A>, RunFail>
         requires calm { IsCalm self }
         requires quiet { All IsQuiet events }
-        requires possible { (t : Execution) → Shows self t → ArePossibleFrom self.ids t.world events }
-        ensures after { IfOk result (λ w. (t : Execution) → Shows self t → Shows w (followed t events)) }
+        requires possible { (t : Execution) → Shows (medium A.state A.holds A.IS_MIRRORED) self t
+            → ArePossibleFrom self.ids t.world events }
+        ensures after { IfOk result (λ w. (t : Execution)
+            → Shows (medium A.state A.holds A.IS_MIRRORED) self t
+            → Shows (medium A.state A.holds A.IS_MIRRORED) w (followed t events)) }
         ensures calm { IfOk result (λ w. IsCalm w) }
         ensures members { IfOk result (λ w. w.members ≡ self.members) }
         ensures ids { IfOk result (λ w. w.ids ≡ self.ids) }
-        ensures bad { IfBadEvent result (λ _. (t : Execution) → Shows self t → ⊥) }
+        ensures bad { IfBadEvent result (λ _. (t : Execution)
+            → Shows (medium A.state A.holds A.IS_MIRRORED) self t → ⊥) }
     {
         let _kept = &self.world;
         let mut world = self;

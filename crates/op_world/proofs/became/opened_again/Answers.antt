@@ -1,19 +1,44 @@
-use Rattle.std.proofs.Common.{sym, subst}
+use Rattle.std.proofs.Common.{refl, sym, subst}
+use Rattle.std.proofs.lemmas.Result.{IfOk-weaker}
+use Rattle.op_areas.specs.Media.{medium}
 use Rattle.op_runs.specs.World.{Opens}
-use Rattle.op_world.specs.Became.{BecomesOf}
-use Rattle.op_world.specs.declared.became.Became.{Became}
+use Rattle.op_world.specs.Became.{BecomesOf, IsClosedAgain, IsDownAgain}
+use Rattle.op_world.specs.Disks.{AreOpened}
+use Rattle.op_world.specs.declared.node_state.DownNode.{DownNode}
 use Rattle.op_world.specs.declared.node_state.NodeState.TheVariants as states
-use Rattle.op_world.proofs.Becoming.{opening_done, opening_failed}
+use Rattle.op_world.proofs.Becoming.{opening_done, opening_failed, unopened}
 use Rattle.op_world.proofs.became.opened_again.Goals as goal
 
 pub returns-in-Ok : goal.returns-in-Ok
-returns-in-Ok c line =
+returns-in-Ok g c =
+    let M = medium g.A.Disk.state g.A.Area.holds g.A.Area.IS_MIRRORED in
     let a = c.args in
-    opening_done a.members.now a.pid a.down c.tell.new.first c.tell.new.second a.awaited c.in_ok-tell.ensures.first c.in_ok-tell.ensures.second c.requires.range c.in-Ok.node c.in-Ok.sends c.opened.result c.in-Ok.ensures.opened c.opened.ensures line
+    let told = c.in_ok-down in
+    let opens = subst (λ x. AreOpened M.state M.holds told.down.first told.down.second x) c.in-Opened.is c.in_ok-first.ensures in
+    IfOk-weaker c.opened.result _ _
+    (λ r goes line. opening_done M a.members.now a.pid a.down told.down a.plan told.ensures.same c.in-Opened.first c.in-Opened.second opens.0 opens.1 c.requires.range c.in-Ok.node c.in-Ok.sends r c.in-Ok.ensures.opened goes line)
+    c.opened.ensures
 
-pub returns-in_ok-down-in-Err : goal.returns-in_ok-down-in-Err
-returns-in_ok-down-in-Err c line =
+pub returns-in_ok-fallen-in-Err : goal.returns-in_ok-fallen-in-Err
+returns-in_ok-fallen-in-Err g c line =
+    let M = medium g.A.Disk.state g.A.Area.holds g.A.Area.IS_MIRRORED in
     let a = c.args in
-    subst (λ (r : Became). BecomesOf a.pid a.awaited (states.Down a.down) Opens line r) (sym c.quietly.ensures)
-    (opening_failed a.members.now a.pid a.down c.tell.new.first c.tell.new.second a.awaited c.in_ok-tell.ensures.first c.in_ok-tell.ensures.second c.in-Err.returned c.of-faults.result c.in_ok-down-in-Err.down
-    c.in-Err.ensures.refused c.in_ok-down-in-Err.ensures line)
+    let told = c.in_ok-down in
+    let e = c.in-Err.returned in
+    let r = c.in_ok-fallen-in-Err.fallen in
+    let opens = subst (λ x. AreOpened M.state M.holds told.down.first told.down.second x) c.in-Opened.is c.in_ok-first.ensures in
+    subst (λ b. BecomesOf M a.pid a.plan (states.Down a.down) Opens line b) (sym c.quietly.ensures)
+    (opening_failed M a.members.now a.pid a.down told.down a.plan told.ensures.same c.in-Opened.first c.in-Opened.second opens.0 opens.1 e r c.in-Err.ensures.refused
+    (subst (λ p. IsClosedAgain M p told.down.shown e.first e.second r) told.ensures.plan c.in_ok-fallen-in-Err.ensures) line)
+
+pub returns-in_ok-fallen-in-Failed : goal.returns-in_ok-fallen-in-Failed
+returns-in_ok-fallen-in-Failed g c line =
+    let M = medium g.A.Disk.state g.A.Area.holds g.A.Area.IS_MIRRORED in
+    let a = c.args in
+    let told = c.in_ok-down in
+    let r = c.in_ok-fallen-in-Failed.fallen in
+    let mid : DownNode _ = record { shown = told.down.shown; first = c.in-Failed.first; second = c.in-Failed.second } in
+    let closed = subst (λ x. AreOpened M.state M.holds told.down.first told.down.second x) c.in-Failed.is c.in_ok-first.ensures in
+    subst (λ b. BecomesOf M a.pid a.plan (states.Down a.down) Opens line b) (sym c.quietly-in-Failed.ensures)
+    (unopened M a.members.now a.pid a.down told.down a.plan told.ensures.same r mid (record { shown_is = refl; first_left = closed.0; second_left = closed.1 })
+    (subst (λ p. IsDownAgain M p mid r) told.ensures.plan c.in_ok-fallen-in-Failed.ensures) line)

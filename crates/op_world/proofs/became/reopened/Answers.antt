@@ -1,20 +1,27 @@
 use Rattle.std.proofs.Common.{sym, subst}
+use Rattle.std.proofs.lemmas.Result.{IfOk-weaker}
+use Rattle.op_areas.specs.Media.{medium}
 use Rattle.op_runs.specs.World.{Opens}
-use Rattle.op_world.specs.Became.{BecomesOf}
-use Rattle.op_world.specs.declared.became.Became.{Became}
+use Rattle.op_world.specs.Became.{BecomesOf, IsFallen}
 use Rattle.op_world.specs.declared.node_state.NodeState.TheVariants as states
 use Rattle.op_world.proofs.Becoming.{reopen_done, reopen_failed}
 use Rattle.op_world.proofs.became.reopened.Goals as goal
 
 pub returns-in-Ok : goal.returns-in-Ok
-returns-in-Ok c line =
+returns-in-Ok g c =
+    let M = medium g.A.Disk.state g.A.Area.holds g.A.Area.IS_MIRRORED in
     let a = c.args in
-    reopen_done a.pid a.node c.in_ok-node.node c.reopen.new.self a.awaited c.requires.kept c.in_ok-node.ensures.same c.in-Ok.ensures.sound c.requires.range c.in-Ok.sends c.opened.result c.in-Ok.ensures.found c.opened.ensures line
+    IfOk-weaker c.opened.result _ _
+    (λ r goes line. reopen_done M a.pid a.node c.in_ok-node.node c.reopen.new.self a.plan c.requires.kept c.in_ok-node.ensures.same c.in-Ok.ensures.sound c.requires.range c.in-Ok.sends r c.in-Ok.ensures.found goes line)
+    c.opened.ensures
 
-pub returns-in_ok-state-in-Err-DiskFault : goal.returns-in_ok-state-in-Err-DiskFault
-returns-in_ok-state-in-Err-DiskFault c line =
+pub returns-in_ok-fallen-in-Err-DiskFault : goal.returns-in_ok-fallen-in-Err-DiskFault
+returns-in_ok-fallen-in-Err-DiskFault g c line =
+    let M = medium g.A.Disk.state g.A.Area.holds g.A.Area.IS_MIRRORED in
     let a = c.args in
     let failed = c.in-Err-DiskFault in
-    subst (λ (r : Became). BecomesOf a.pid a.awaited (states.Failed a.node) Opens line r) (sym c.quietly.ensures)
-    (reopen_failed a.pid a.node c.in_ok-node.node c.reopen.new.self a.awaited c.requires.kept c.in_ok-node.ensures.same failed.ensures.sound failed.field-0-0 c.in_ok-node.faults c.in_ok-state-in-Err-DiskFault.state
-    (rw failed.field-0-is at failed.ensures.refused) (rw failed.field-0-is at failed.ensures.found) c.in_ok-state-in-Err-DiskFault.ensures line)
+    let fallen = c.in_ok-fallen-in-Err-DiskFault.fallen in
+    subst (λ r. BecomesOf M a.pid a.plan (states.Failed a.node) Opens line r) (sym c.quietly.ensures)
+    (reopen_failed M a.pid a.node c.in_ok-node.node c.reopen.new.self a.plan c.requires.kept c.in_ok-node.ensures.same failed.ensures.sound failed.field-0-0 fallen.state fallen.is_due
+    (rw failed.field-0-is at failed.ensures.refused) (rw failed.field-0-is at failed.ensures.found)
+    (subst (λ p. IsFallen M p c.reopen.new.self fallen.state fallen.is_due) c.in_ok-node.ensures.plan c.in_ok-fallen-in-Err-DiskFault.ensures) line)

@@ -3,24 +3,28 @@ use Rattle.op_runs.specs.Run.{first_execution}
 use Rattle.op_runs.specs.World.{node_ids}
 use Rattle.op_world.specs.Events.{parts_of}
 use Rattle.op_world.specs.Worlds.{Shows}
-use Rattle.op_world.proofs.Awaiting.{nothing_first}
+use Rattle.op_world.proofs.Plans.{nothing_first}
 use Rattle.op_world.proofs.Deeds.{first_kept, first_shows}
 use Rattle.op_world.proofs.world.World.new.Goals as goal
+use Rattle.op_areas.specs.Media.{medium}
 
 pub invariant_of-result : goal.invariant_of-result
-invariant_of-result c = first_kept c.in_ok-world.world c.new-2.result c.args.spares.now c.in_ok-world.ensures.run c.new-2.ensures
+invariant_of-result g c =
+    let M = medium g.A.Disk.state g.A.Area.holds g.A.Area.IS_MIRRORED in
+    (first_kept M) c.in_ok-world.world c.new-2.result c.args.spares.now c.in_ok-world.ensures.run c.new-2.ensures
 
 pub returns-clause-shows : goal.returns-clause-shows
-returns-clause-shows c =
+returns-clause-shows g c =
+    let M = medium g.A.Disk.state g.A.Area.holds g.A.Area.IS_MIRRORED in
     let w = c.in_ok-world.world in
-    subst (λ (ms : List ℕ). Shows (parts_of w c.new-2.result) (first_execution ms c.args.spares.now)) c.in_ok-world.ensures.members
-    (first_shows w c.new-2.result c.args.spares.now c.in_ok-world.ensures.run c.new-2.ensures)
+    subst (λ (ms : List ℕ). Shows M (parts_of w c.new-2.result) (first_execution ms c.args.spares.now)) c.in_ok-world.ensures.members
+    (first_shows M w c.new-2.result c.args.spares.now c.in_ok-world.ensures.run c.new-2.ensures)
 
 pub returns-clause-ids : goal.returns-clause-ids
-returns-clause-ids c = c.in_ok-world.ensures.run.ids ∙ ap (λ (ms : List ℕ). node_ids ms c.args.spares.now) c.in_ok-world.ensures.members
+returns-clause-ids g c = c.in_ok-world.ensures.run.ids ∙ ap (λ (ms : List ℕ). node_ids ms c.args.spares.now) c.in_ok-world.ensures.members
 
 pub returns-clause-proposed : goal.returns-clause-proposed
-returns-clause-proposed c = c.in_ok-world.ensures.run.proposed
+returns-clause-proposed g c = c.in_ok-world.ensures.run.proposed
 
-pub returns-clause-awaiting : goal.returns-clause-awaiting
-returns-clause-awaiting c = nothing_first c.in_ok-world.world.servers.items c.in_ok-world.ensures.first
+pub returns-clause-planned : goal.returns-clause-planned
+returns-clause-planned g c = nothing_first c.in_ok-world.world.servers.items c.in_ok-world.ensures.first

@@ -4,34 +4,38 @@ use Rattle.op_lockstep.specs.Lockstep.{is_linked_request, is_sent_reply}
 use Rattle.op_world.specs.Worlds.{Parts, IsWorld}
 use Rattle.op_world.proofs.Lockstep.{ticks_follow, deliveries_follow, round_shown, round_range}
 use Rattle.op_world.proofs.world.World.round.Goals as goal
+use Rattle.op_areas.specs.Media.{medium}
 
 pub follow-requires-clause-possible : goal.follow-requires-clause-possible
-follow-requires-clause-possible c =
-    let kept : IsWorld c.args.self = subst (λ (w : Parts). IsWorld w) c.self.view_is c.self.invariant in
-    λ t s. ticks_follow c.args.self c.args.self kept t.world _ _ c.in_ok-ticks.ensures.are (ap (λ (w : Parts). w.members) c.self.view_is) refl
+follow-requires-clause-possible g c =
+    let M = medium g.A.Disk.state g.A.Area.holds g.A.Area.IS_MIRRORED in
+    let kept : IsWorld M c.args.self = subst (λ (w : (Parts _ _)). IsWorld M w) c.self.view_is c.self.invariant in
+    λ t s. ticks_follow M c.args.self c.args.self kept t.world _ _ c.in_ok-ticks.ensures.are (ap (λ (w : (Parts _ _)). w.members) c.self.view_is) refl
 
 pub follow-requires-2-clause-possible : goal.follow-requires-2-clause-possible
-follow-requires-2-clause-possible c = λ t s. deliveries_follow _ t.world _ (is_linked_request c.args.links.now.pairs.now) _ _ c.in_ok-requests.ensures.are s.messages
+follow-requires-2-clause-possible g c = λ t s. deliveries_follow _ t.world _ (is_linked_request c.args.links.now.pairs.now) _ _ c.in_ok-requests.ensures.are s.messages
 
 pub follow-requires-3-clause-possible : goal.follow-requires-3-clause-possible
-follow-requires-3-clause-possible c = λ t s. deliveries_follow _ t.world _ is_sent_reply _ _ c.in_ok-replies.ensures.are s.messages
+follow-requires-3-clause-possible g c = λ t s. deliveries_follow _ t.world _ is_sent_reply _ _ c.in_ok-replies.ensures.are s.messages
 
 pub returns-clause-after : goal.returns-clause-after
-returns-clause-after c =
+returns-clause-after g c =
+    let M = medium g.A.Disk.state g.A.Area.holds g.A.Area.IS_MIRRORED in
     let asked_since : c.len-asked_since.result ≡ length c.args.self.messages = search rules in
     let answered_since : c.len-answered_since.result ≡ length c.in_ok-ticked.ticked.messages = search rules in
     IfOk-weaker c.follow-3.result _ _
-    (λ w after t s. round_shown c.args.self c.in_ok-ticked.ticked c.in_ok-asked.asked c.args.links.now.pairs.now _ _ _ _ _ _
-    c.in_ok-ticks.ensures.are (ap (λ (w : Parts). w.members) c.self.view_is) c.in_ok-requests.ensures.are asked_since c.in_ok-replies.ensures.are answered_since
+    (λ w after t s. round_shown M c.args.self c.in_ok-ticked.ticked c.in_ok-asked.asked c.args.links.now.pairs.now _ _ _ _ _ _
+    c.in_ok-ticks.ensures.are (ap (λ (w : (Parts _ _)). w.members) c.self.view_is) c.in_ok-requests.ensures.are asked_since c.in_ok-replies.ensures.are answered_since
     c.in_ok-ticked.ensures.after c.in_ok-asked.ensures.after t s w after)
     c.follow-3.ensures.after
 
 pub returns-clause-range : goal.returns-clause-range
-returns-clause-range c =
+returns-clause-range g c =
+    let M = medium g.A.Disk.state g.A.Area.holds g.A.Area.IS_MIRRORED in
     let asked_since : c.len-asked_since.result ≡ length c.args.self.messages = search rules in
     let answered_since : c.len-answered_since.result ≡ length c.in_ok-ticked.ticked.messages = search rules in
     IfOk-weaker c.follow-3.result _ _
-    (λ w after t s. round_range c.args.self c.in_ok-ticked.ticked c.in_ok-asked.asked c.args.links.now.pairs.now _ _ _ _ _ _
-    c.in_ok-ticks.ensures.are (ap (λ (w : Parts). w.members) c.self.view_is) c.in_ok-requests.ensures.are asked_since c.in_ok-replies.ensures.are answered_since
+    (λ w after t s. round_range M c.args.self c.in_ok-ticked.ticked c.in_ok-asked.asked c.args.links.now.pairs.now _ _ _ _ _ _
+    c.in_ok-ticks.ensures.are (ap (λ (w : (Parts _ _)). w.members) c.self.view_is) c.in_ok-requests.ensures.are asked_since c.in_ok-replies.ensures.are answered_since
     c.in_ok-ticked.ensures.after c.in_ok-asked.ensures.after t s c.in_ok-ticks.ensures.range c.in_ok-requests.ensures.range c.in_ok-replies.ensures.range)
     c.follow-3.ensures.after

@@ -1,14 +1,32 @@
-use Rattle.std.proofs.Common.{◌∙◌, refl}
+use Rattle.std.proofs.Common.{◌≡◌, ℕ, All, refl, subst, ◌∙◌, arith}
+use Rattle.op_lockstep.specs.Lockstep.{lockstep}
+use Rattle.op_world.specs.Drills.{IsQuiet, followed}
+use Rattle.op_world.specs.Worlds.{Shows}
 use Rattle.op_world.proofs.Lockstep.{no_rounds, more_rounds}
 use Rattle.op_world.proofs.world.World.rounds.Goals as goal
+use Rattle.op_areas.specs.Media.{medium}
 
 pub loop-number-init : goal.loop-number-init
-loop-number-init c = ((λ t s. no_rounds c.args.self.members c.args.links.now.pairs.now t c.args.self s), refl, c.requires)
+loop-number-init g c =
+    let M = medium g.A.Disk.state g.A.Area.holds g.A.Area.IS_MIRRORED in
+    ((λ t s. no_rounds M c.args.self.members c.args.links.now.pairs.now t c.args.self s), refl, c.requires)
 
 pub loop-number-preserved : goal.loop-number-preserved
-loop-number-preserved c =
+loop-number-preserved g c =
+    let M = medium g.A.Disk.state g.A.Area.holds g.A.Area.IS_MIRRORED in
     let old = c.loop-number.invariant in (
-      λ t s. more_rounds c.args.self.members _ c.args.links.now.pairs.now c.loop-number._number t c.loop-number.world c.in_ok-world.world old.1 (old.0 t s) c.in_ok-world.ensures.after c.in_ok-world.ensures.range,
+      λ t s. more_rounds M c.args.self.members _ c.args.links.now.pairs.now c.loop-number._number t c.loop-number.world c.in_ok-world.world old.1 (old.0 t s) c.in_ok-world.ensures.after c.in_ok-world.ensures.range,
       c.in_ok-world.ensures.members ∙ old.1,
       c.in_ok-world.ensures.calm,
     )
+
+pub returns-clause-after : goal.returns-clause-after
+returns-clause-after g c t s =
+    let M = medium g.A.Disk.state g.A.Area.holds g.A.Area.IS_MIRRORED in
+    let all : c.loop-number._number ≡ c.args.count = omega arith in
+    subst (λ (k : ℕ). Shows M c.loop-number.world (followed t (lockstep c.args.self.members c.args.links.now.pairs.now k t.world))) all (c.loop-number.invariant.0 t s).shows
+
+pub returns-clause-range : goal.returns-clause-range
+returns-clause-range g c t s =
+    let all : c.loop-number._number ≡ c.args.count = omega arith in
+    subst (λ (k : ℕ). All IsQuiet (lockstep c.args.self.members c.args.links.now.pairs.now k t.world)) all (c.loop-number.invariant.0 t s).range

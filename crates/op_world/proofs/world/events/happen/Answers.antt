@@ -1,19 +1,22 @@
 use Rattle.op_world.proofs.Deeds.{event_comes, event_kept, has_run}
 use Rattle.op_world.proofs.Events.{some_happened}
 use Rattle.op_world.proofs.world.events.happen.Goals as goal
+use Rattle.op_areas.specs.Media.{medium}
 
 pub event-requires-clause-run : goal.event-requires-clause-run
-event-requires-clause-run c =
+event-requires-clause-run g c =
+    let M = medium g.A.Disk.state g.A.Area.holds g.A.Area.IS_MIRRORED in
     let i = c.requires.kept in
-    record { spares = i.spares; happenings = i.happenings; run = has_run c.args.world.now c.args.ledger.now i }
+    record { spares = i.spares; happenings = i.happenings; run = has_run M c.args.world.now c.args.ledger.now i }
 
 pub returns-in_ok-show_node-in-Some-clause-happens : goal.returns-in_ok-show_node-in-Some-clause-happens
-returns-in_ok-show_node-in-Some-clause-happens c t show =
+returns-in_ok-show_node-in-Some-clause-happens g c t plans show planned =
+    let M = medium g.A.Disk.state g.A.Area.holds g.A.Area.IS_MIRRORED in
     let w = c.args.world.now in
     let did = c.in_ok-place.ensures in
-    event_comes w c.args.ledger.now c.requires.kept c.args.event c.in-Some.place c.index.result.now c.event.new.self c.show_node.new.self
+    (event_comes M) w c.args.ledger.now c.requires.kept c.args.event c.in-Some.place c.index.result.now c.event.new.self c.show_node.new.self
     (record {
-      happened = some_happened w c.event.new.self c.args.event c.in_ok-place.field-0 c.in-Some.place c.in-Some.is did.happened;
+      happened = some_happened M w c.event.new.self c.args.event c.in_ok-place.field-0 c.in-Some.place c.in-Some.is did.happened;
       place = rw c.in-Some.is at did.place;
       at = c.index.ensures;
       lists_are = c.in_ok-show_node-in-Some.ensures;
@@ -22,15 +25,16 @@ returns-in_ok-show_node-in-Some-clause-happens c t show =
       proposed = did.proposed;
       possible = did.possible;
     })
-    t show
+    t plans show planned
 
 pub returns-in_ok-show_node-in-Some-clause-kept : goal.returns-in_ok-show_node-in-Some-clause-kept
-returns-in_ok-show_node-in-Some-clause-kept c =
+returns-in_ok-show_node-in-Some-clause-kept g c =
+    let M = medium g.A.Disk.state g.A.Area.holds g.A.Area.IS_MIRRORED in
     let w = c.args.world.now in
     let did = c.in_ok-place.ensures in
-    event_kept w c.args.ledger.now c.requires.kept c.args.event c.in-Some.place c.index.result.now c.event.new.self c.show_node.new.self
+    (event_kept M) w c.args.ledger.now c.requires.kept c.args.event c.in-Some.place c.index.result.now c.event.new.self c.show_node.new.self
     (record {
-      happened = some_happened w c.event.new.self c.args.event c.in_ok-place.field-0 c.in-Some.place c.in-Some.is did.happened;
+      happened = some_happened M w c.event.new.self c.args.event c.in_ok-place.field-0 c.in-Some.place c.in-Some.is did.happened;
       place = rw c.in-Some.is at did.place;
       at = c.index.ensures;
       lists_are = c.in_ok-show_node-in-Some.ensures;

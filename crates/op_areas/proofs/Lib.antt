@@ -1,0 +1,4 @@
+pub mod Anew
+pub mod Braced
+pub mod Disks
+pub mod Pairs
