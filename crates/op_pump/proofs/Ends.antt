@@ -148,7 +148,7 @@ module _ {K : Type 0} {standing : K → Standing} {stores : Stores K} where
   serves o line end marks start u d e net0 net1 clock0 clock1 clock2 loop_is node_is last_is lost_is most short first g =
       let y = g.goes.on in
       let n : Standing = standing d.core in
-      let steps : Stepped n y.deeds e.node = subst (λ x. Stepped x y.deeds e.node) node_is y.went.steps in
+      let went : Stepped n y.deeds e.node = subst (λ x. Stepped x y.deeds e.node) node_is y.went.steps in
       record {
         serves = record {
           start = start;
@@ -163,8 +163,9 @@ module _ {K : Type 0} {standing : K → Standing} {stores : Stores K} where
           lost_is = lost_is;
           marks = subst (λ xs. Marks end (length xs)) (sym lost_is) (marks_so end e.loop most y.marks);
           node = sym last_is;
-          fold = sym last_is ∙ folded_so y.deeds n e.node steps;
-          few = subst (λ (m : Standing). FaultsWithin n.faults (faulted_steps y.deeds) m.faults) last_is (few_faults y.deeds n e.node steps);
+          fold = sym last_is ∙ folded_so y.deeds n e.node went;
+          steps = subst (λ (m : Standing). Stepped n y.deeds m) last_is went;
+          few = subst (λ (m : Standing). FaultsWithin n.faults (faulted_steps y.deeds) m.faults) last_is (few_faults y.deeds n e.node went);
         };
         walks = y.went.walks;
       }

@@ -13,7 +13,7 @@ use Rattle.op_serving.specs.State.{Loop}
 use Rattle.op_serving.specs.Losses.{most_marks}
 use Rattle.op_serving.specs.Inputs.{kept}
 use Rattle.op_serving.specs.Turns.{fresh, knowing}
-use Rattle.op_serving.specs.Faults.{faulted_steps, FaultsWithin, Walks}
+use Rattle.op_serving.specs.Faults.{faulted_steps, FaultsWithin, Stepped, Walks}
 use Rattle.op_serving.specs.Promise.{Keeps, folded}
 use Rattle.op_serving.specs.Pump.{Answer, Pump, turn, stop}
 use Rattle.op_connections.specs.Hearing.{HearsAll}
@@ -80,6 +80,9 @@ pub record Serves (o : Settings) (line : Standing → List ℕ) (end : ServeEnd)
   pub marks : Marks end (length lost)
   pub node : m ≡ last.driver.node
   pub fold : m ≡ folded n last.driver.deeds  -- the fold of its step over its inputs
+  -- of each input came what may come of it: a node that has failed is opened again at its ticks, and only
+  -- there; where a disk failed, the count of faults rose
+  pub steps : Stepped n last.driver.deeds m
   -- steps that met a fault of the disks
   pub few : FaultsWithin n.faults (faulted_steps last.driver.deeds) m.faults
 
