@@ -92,6 +92,7 @@ fn settings(alloc: Global, turns: u64) -> Option<Settings>
         turns: turns.min(MOST_TURNS),
         members: sole()?,
         peers: Peers::from_vec(peers),
+        is_mirrored: false,
     })
 }
 

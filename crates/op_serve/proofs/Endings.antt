@@ -1,12 +1,10 @@
 -- How a node ends, from what its opening and its serving tell.
-use Rattle.std.proofs.Common.{◌+◌, ◌≡◌, ◌≤◌, ℕ, Bool, List, ◌∷◌, [], Option, Some, Err, refl, inl, inr, ⊎_elim, arith}
+use Rattle.std.proofs.Common.{◌≡◌, ◌≤◌, ℕ, Bool, List, ◌∷◌, [], Option, Some, Err, refl, inl, inr, ⊎_elim, arith}
 use Rattle.std.proofs.lemmas.List.Elements.{All-weaker}
 use Rattle.op_types.specs.declared.durable.Durable.{Durable}
 use Rattle.op_types.specs.declared.messages.Msg.{Msg}
-use Rattle.op_outside.specs.Causes.{RisesWith}
 use Rattle.op_outside.specs.Disks.{DiskState}
 use Rattle.op_outside.specs.Seen.{NetSeen, StreamSeen}
-use Rattle.op_outside.specs.Streams.{TakesAtMost}
 use Rattle.op_outside.specs.Telling.{Grows}
 use Rattle.op_types.specs.Ranges.{IsPid}
 use Rattle.op_setup.specs.Settings.{HasPeer, IsSettings}
@@ -39,9 +37,8 @@ use Rattle.op_serving.specs.Faults.{Walks}
 use Rattle.op_serving.specs.Inputs.{Deed}
 use Rattle.op_status.specs.declared.status.Status.{Status}
 use Rattle.op_status.specs.declared.status.Status.TheVariants as status
-use Rattle.op_input.specs.Inputs.{IsMisconfigured, input_limit}
 use Rattle.op_serve.proofs.Living.{served_lives, unserved_lives}
-use Rattle.op_serve.specs.Nodes.{Around, Serves, is_misconfigured, Goes, is_unheard, cannot_begin, has_served, Ends, cannot_open, is_damaged, has_no_memory, is_opened, IsHeard, IsNodeOf, IsOwn, IsReady, Holds, HoldsOver, KeepsStored, around, status_of, status_of_refusal}
+use Rattle.op_serve.specs.Nodes.{Around, Goes, is_unheard, cannot_begin, has_served, Ends, cannot_open, is_damaged, has_no_memory, is_opened, IsHeard, IsNodeOf, IsOwn, IsReady, Holds, HoldsOver, KeepsStored, around, status_of, status_of_refusal}
 
 module _ {D : Type 0} (state : D → DiskState) where
   -- what stood for what was stored may be known by less
@@ -223,12 +220,3 @@ node_of_settings id text o one s =
       limits = record { turns = s.2.turns.greatest; peers = s.2.peers.few };
       own = s.2.own;
     }
-
--- there are none, and nothing else is done
-pub serves_misconfigured : {D : Type 0} (state : D → DiskState) (id : ℕ) (in0 in1 : StreamSeen) (first second a b : D) (net : NetSeen) (clock : Option (List ℕ)) (out : StreamSeen)
-    (told s : Status) (lost : List Mark)
-    → IsMisconfigured in0.0 (Some id) in0.1 in1.1 told
-    → RisesWith (told ≡ status.ReadFault) in0.1 in1.1 → TakesAtMost (input_limit + 1) in0.0 in1.0 → a ≡ first → b ≡ second → s ≡ told → lost ≡ []
-    → Serves state id in0 in1 (around first second net clock out) (around a b net clock out) s lost
-serves_misconfigured state id in0 in1 first second a b net clock out told s lost why rises most at_first at_second is no_loss =
-    rw (at_first, at_second, is, no_loss) (is_misconfigured why rises most refl)

@@ -2,3 +2,4 @@ pub mod Peers
 pub mod Living
 pub mod Processes
 pub mod Endings
+pub mod Mirrors

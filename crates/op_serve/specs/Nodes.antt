@@ -1,13 +1,13 @@
 -- How a node that serves ends, and what it leaves on its disks, its net and its output.
-use Rattle.std.specs.Prelude.{◌≡◌, ◌≢◌, ◌≤◌, ◌+◌, ◌++◌, ◌∷◌, [], ℕ, Bool, List, codes, decimal, Option, Some, None, Result, Ok, Err, Contains}
+use Rattle.std.specs.Prelude.{◌≡◌, ◌≢◌, ◌≤◌, ◌++◌, ◌∷◌, [], ℕ, Bool, List, codes, decimal, Option, Some, None, Result, Ok, Err, Contains}
 use Rattle.std.specs.Io.KnownBytes.{Appends}
 use Rattle.op_types.specs.Ranges.{IsPid, MembersInRange}
 use Rattle.op_types.specs.declared.durable.Durable.{Durable}
-use Rattle.op_outside.specs.Causes.{FaultsRose, RisesWith}
+use Rattle.op_outside.specs.Causes.{FaultsRose}
 use Rattle.op_outside.specs.Disks.{DiskState, IsAtRest}
 use Rattle.op_outside.specs.Nets.{Call, Listened}
 use Rattle.op_outside.specs.Seen.{NetSeen, StreamSeen}
-use Rattle.op_outside.specs.Streams.{AppendsPrefix, TakesAtMost}
+use Rattle.op_outside.specs.Streams.{AppendsPrefix}
 use Rattle.op_outside.specs.Telling.{Grows}
 use Rattle.op_outside.specs.declared.net.Addr.{Addr}
 use Rattle.op_setup.specs.declared.config.Settings.{Settings}
@@ -31,7 +31,6 @@ use Rattle.op_serving.specs.declared.mark.Mark.{Mark}
 use Rattle.op_serving.specs.Inputs.{Deed}
 use Rattle.op_serving.specs.Reopenings.{FindStored, unstored_behind}
 use Rattle.op_serve.specs.Lives.{Lives}
-use Rattle.op_input.specs.Inputs.{IsConfigured, IsMisconfigured, input_limit}
 use Rattle.op_status.specs.declared.status.Status.{Status}
 use Rattle.op_status.specs.declared.status.Status.TheVariants as status
 
@@ -200,15 +199,3 @@ module _ {D : Type 0} (state : D → DiskState) where
     is_opened : {n : NodeState} {s : Status} {lost : List Mark} (mid : Around D)
         (opened : IsOpened id o.members old mid n)
         → Goes id o n (IsOwn id old opened.durable) mid new s lost → Ends id o old new s lost
-
-  -- How the command ends, where this was left of the input before and after it: there are no settings of the
-  -- node, and nothing else was done, where the input failed only with a read fault, and not more was read
-  -- than tells that it is too long; or there are settings, and the node ends as above.
-  pub data Serves (id : ℕ) (in0 in1 : StreamSeen) (old new : Around D) : Status → List Mark → Type 0 where
-    is_misconfigured : {s : Status} → IsMisconfigured in0.0 (Some id) in0.1 in1.1 s
-        → RisesWith (s ≡ status.ReadFault) in0.1 in1.1
-        → TakesAtMost (input_limit + 1) in0.0 in1.0
-        → new ≡ old → Serves id in0 in1 old new s []
-    is_configured : {s : Status} {lost : List Mark} {text : List ℕ} (o : Settings)
-        → IsConfigured in0.0 in1.0 (Some id) text o → in1.1 ≡ in0.1
-        → Ends id o old new s lost → Serves id in0 in1 old new s lost

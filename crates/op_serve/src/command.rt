@@ -1,8 +1,9 @@
 ghost use Rattle.op_types.specs.Ranges.{IsPid};
-ghost use Rattle.op_serve.specs.Nodes.{Serves, around};
+ghost use Rattle.op_serve.specs.Mirrored.{Serves, environment};
 
 use crate::ending::Ending;
-use crate::serving::serve_node;
+use crate::mirrored::serve_node;
+use crate::node_disks::NodeDisks;
 use op_input::read_settings;
 use op_outside::{Clock, Disk, Net, Sink, Source};
 use op_types::Pid;
@@ -13,24 +14,23 @@ use std::alloc::Global;
 pub fn serve_as<D: Disk, N: Net, C: Clock, S: Source, K: Sink>(
     alloc: Global,
     id: Pid,
-    first: D,
-    second: D,
+    disks: NodeDisks<D>,
     net: &mut N,
     clock: &mut C,
     input: &mut S,
     out: &mut K,
 ) -> Ending<D>
     requires { IsPid id }
-    ensures { Serves D.state id
+    ensures { Serves D.Disk id
         (S.left input.old, S.fault_count input.old) (S.left input.new, S.fault_count input.new)
-        (around first second (N.told net.old, N.fault_count net.old) (C.answers clock.old)
+        (environment disks (N.told net.old, N.fault_count net.old) (C.answers clock.old)
         (K.held out.old, K.fault_count out.old))
-        (around result.first result.second (N.told net.new, N.fault_count net.new) (C.answers clock.new)
+        (environment result.disks (N.told net.new, N.fault_count net.new) (C.answers clock.new)
         (K.held out.new, K.fault_count out.new))
         result.status result.lost.items }
 {
     match read_settings(alloc, input, Some(id)) {
-        Ok(found) => serve_node(alloc, id, &found.settings, first, second, net, clock, out),
-        Err(status) => Ending::early(alloc, status, first, second),
+        Ok(found) => serve_node(alloc, id, &found.settings, disks, net, clock, out),
+        Err(status) => Ending::early(alloc, status, disks),
     }
 }

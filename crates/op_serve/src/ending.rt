@@ -1,5 +1,6 @@
 ghost use Rattle.std.specs.Prelude.{◌≡◌, []};
 
+use crate::node_disks::NodeDisks;
 use op_serving::Mark;
 use op_status::Status;
 use std::alloc::Global;
@@ -9,26 +10,22 @@ use std::alloc::Global;
 pub struct Ending<D> {
     /// Its status.
     pub status: Status,
-    /// The first disk that it was handed.
-    pub first: D,
-    /// The second disk that it was handed.
-    pub second: D,
+    /// The disks that it was handed.
+    pub disks: NodeDisks<D>,
     /// What a node lost for want of memory, in order.
     pub lost: Vec<Mark>,
 }
 
 impl<D> Ending<D> {
     /// It ended with nothing lost.
-    pub fn early(alloc: Global, status: Status, first: D, second: D) -> Ending<D>
+    pub fn early(alloc: Global, status: Status, disks: NodeDisks<D>) -> Ending<D>
         ensures status { result.status ≡ status }
-        ensures first { result.first ≡ first }
-        ensures second { result.second ≡ second }
+        ensures disks { result.disks ≡ disks }
         ensures lost { result.lost.items ≡ [] }
     {
         Ending {
             status,
-            first,
-            second,
+            disks,
             lost: Vec::new(alloc),
         }
     }

@@ -1,14 +1,20 @@
 ghost use Rattle.std.specs.Prelude.{◌≡◌, ◌⊎◌, ℕ, List, true};
 ghost use Rattle.op_setup.specs.declared.config.Settings.{Settings};
-ghost use Rattle.op_store.specs.Stored.{HaveImages};
+ghost use Rattle.op_mirror.specs.Mirrors.{known_mirror};
+ghost use Rattle.op_mirror.specs.Opens.{Opens};
+ghost use Rattle.op_mirror.specs.declared.mirror.Mirror.{Mirror};
+ghost use Rattle.op_store.specs.Stored.{HaveImages, disks_with};
 ghost use Rattle.op_serving.specs.declared.mark.Mark.{Mark};
 ghost use Rattle.op_status.specs.declared.status.Status.{Status};
 ghost use Rattle.op_node.specs.Nodes.{NodeState};
 ghost use Rattle.op_cluster_laws.specs.Traces.{Lived, first_life, stands};
 ghost use Rattle.op_serve.specs.Lives.{IsFirst, IsNext, Leaves, MayFollow};
 ghost use Rattle.op_serve.specs.Processes.{Follow, Lasts, Process, events_of, events_then};
+ghost use Rattle.op_serve.specs.Mirrored.{HoldLeftOf};
+ghost use Rattle.op_serve.specs.declared.node_disks.NodeDisks.{NodeDisks};
 ghost use Rattle.op_serve.specs.Nodes.{Around, Ends, IsOpened, KeepsStored, ObeyIn, disks_in, faults_of};
 
+use op_mirror::openings_keep_images;
 use op_outside::Disk;
 
 /// Where a life of a node left its disks, an opening of them, or of what a crash left of them, finds what the node had stored, or
@@ -40,3 +46,13 @@ pub fn processes_are_lives<D: Disk>()
         → faulted id ≡ faults_of D.state p.mid → Follow D.state (disks_in D.state p.new) ps
         → Lasts (first_life members faulted id) (events_of D.state p (events_then D.state ps)) }
 {}
+
+/// Over four disks with what a crash left of the two mirrors of a node, of which no copy was out, the mirrors that are opened read what
+/// that crash may have left: so a process of a mirrored node that finds them follows the one before.
+pub fn mirrors_follow<D: Disk>()
+    ensures { (a b c d : Mirror D D.Disk) (disks : NodeDisks D) → HoldLeftOf D.Disk a b disks
+        → Opens D.state disks.first disks.first_copy c → Opens D.state disks.second disks.second_copy d
+        → MayFollow (disks_with (known_mirror D.state) a b) (disks_with (known_mirror D.state) c d) }
+{
+    openings_keep_images::<D>();
+}

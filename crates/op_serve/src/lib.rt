@@ -2,10 +2,14 @@
 #![tactic(auto)]
 
 mod command;
+mod ended;
 mod ending;
 mod laws;
+mod mirrored;
+mod node_disks;
 mod serving;
 
 pub use command::serve_as;
 pub use ending::Ending;
-pub use laws::{openings_begin_lives, processes_are_lives};
+pub use laws::{mirrors_follow, openings_begin_lives, processes_are_lives};
+pub use node_disks::NodeDisks;

@@ -8,7 +8,7 @@ ghost use Rattle.op_core.specs.Disks.{Stores};
 ghost use Rattle.op_core.specs.NodeCores.{IsServable};
 ghost use Rattle.op_serve.specs.Nodes.{Ends, Goes, IsHeard, IsNodeOf, around, ready_line, status_of, status_of_refusal};
 
-use crate::ending::Ending;
+use crate::ended::Ended;
 use itoa::Buffer;
 use op_core::{NodeCore, opened_nodes_can_be_served};
 use op_node::Node;
@@ -21,8 +21,8 @@ use op_store::StoreFail;
 use op_types::Pid;
 use std::alloc::Global;
 
-/// Opens the node of this id on its disks, listens, tells that it is ready, and serves.
-pub(crate) fn serve_node<D: Disk, N: Net, C: Clock, K: Sink>(
+/// Opens the node of this id on the disks of its two areas, listens, tells that it is ready, and serves.
+pub(crate) fn serve_on<D: Disk, N: Net, C: Clock, K: Sink>(
     alloc: Global,
     id: Pid,
     settings: &Settings,
@@ -31,7 +31,7 @@ pub(crate) fn serve_node<D: Disk, N: Net, C: Clock, K: Sink>(
     net: &mut N,
     clock: &mut C,
     out: &mut K,
-) -> Ending<D>
+) -> Ended<D>
     requires { IsNodeOf id settings.now }
     ensures { Ends D.state id settings.now
         (around first second (N.told net.old, N.fault_count net.old) (C.answers clock.old)
@@ -45,7 +45,7 @@ pub(crate) fn serve_node<D: Disk, N: Net, C: Clock, K: Sink>(
         Ok((node, _)) => serve_opened(alloc, id, settings, node, net, clock, out),
         Err(refused) => {
             let status = status_of_refusal(refused.cause);
-            Ending::early(alloc, status, refused.first, refused.second)
+            Ended::early(alloc, status, refused.first, refused.second)
         }
     }
 }
@@ -59,7 +59,7 @@ fn serve_opened<D: Disk, N: Net, C: Clock, K: Sink>(
     net: &mut N,
     clock: &mut C,
     out: &mut K,
-) -> Ending<D>
+) -> Ended<D>
     requires settings { IsNodeOf id settings.now }
     requires ready { IsServable node }
     ensures { Goes D.state id settings.now (node_of node) (Stores D.state (node_of node).state.durable node)
@@ -76,7 +76,7 @@ fn serve_opened<D: Disk, N: Net, C: Clock, K: Sink>(
     match end {
         Ok((end, lost)) => {
             let (_, first, second) = core.node.park();
-            Ending {
+            Ended {
                 status: status_of(end),
                 first,
                 second,
@@ -88,14 +88,14 @@ fn serve_opened<D: Disk, N: Net, C: Clock, K: Sink>(
 }
 
 /// A node ended before it served: its disks.
-fn handed_back<D: Disk>(alloc: Global, status: Status, node: Node<D>) -> Ending<D>
+fn handed_back<D: Disk>(alloc: Global, status: Status, node: Node<D>) -> Ended<D>
     ensures status { result.status ≡ status }
     ensures first { result.first ≡ node.store.first }
     ensures second { result.second ≡ node.store.second }
     ensures lost { result.lost.items ≡ [] }
 {
     let (_, first, second) = node.park();
-    Ending::early(alloc, status, first, second)
+    Ended::early(alloc, status, first, second)
 }
 
 /// Listens at the node's own address, and tells that it is ready. The status tells which of the two failed.

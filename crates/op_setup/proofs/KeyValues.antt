@@ -1,9 +1,10 @@
 -- The value at a key, from what its type's accessor gives.
-use Rattle.std.proofs.Common.{◌≡◌, ℕ, List, [], ◌∷◌, map, Option, Some, None, option_and_then, refl, sym, ap, ◌∙◌}
-use Rattle.toml.specs.Data.{Data, Items, Members as Table, string, integer, float, boolean, datetime, array, as_array, as_table}
+use Rattle.std.proofs.Common.{◌≡◌, ℕ, List, [], ◌∷◌, map, Option, Some, None, Bool, option_and_then, codes, refl, sym, ap, ◌∙◌, inl, inr}
+use Rattle.toml.specs.Data.{Data, Items, Members as Table, string, integer, float, boolean, datetime, array, as_array, as_bool, as_table, get_member}
 use Rattle.toml.specs.Data.{table as subtable}
 use Rattle.toml.specs.View.{items_of}
-use Rattle.op_setup.specs.Settings.{id_data}
+use Rattle.op_text.specs.Found.{IsFound}
+use Rattle.op_setup.specs.Settings.{SetsMirror, id_data}
 
 pub table_from : (o : Option Data) (t : Table) → Some t ≡ option_and_then as_table o → o ≡ Some (subtable t)
 table_from None t e = absurd cc
@@ -56,3 +57,21 @@ same_ids (x ∷ xs) (y ∷ ys) e =
     let first : x ≡ y = cc in
     let more = same_ids xs ys rest in
     cc (first, more)
+
+-- the key has a value, and it says whether the disks are mirrored where it is true or false
+says_no : (table : Table) (d : Data) → get_member (codes "mirror") table ≡ Some d → as_bool d ≡ None → (b : Bool) → SetsMirror table b → ⊥
+says_no table d there none b (inl is) =
+    let both : Some d ≡ Some (boolean b) = sym there ∙ is in
+    let same : d ≡ boolean b = cc in
+    let no : Some b ≡ None = sym (ap as_bool same) ∙ none in
+    absurd cc
+says_no table d there none b (inr absent) = let both : Some d ≡ None = sym there ∙ absent.0 in absurd cc
+
+pub mirror_found : (table : Table) (d : Data) (r : Option Bool) → get_member (codes "mirror") table ≡ Some d → r ≡ as_bool d → IsFound (SetsMirror table) r
+mirror_found table (boolean b) r there is = rw is (inl there)
+mirror_found table (string s) r there is = rw is (says_no table (string s) there refl)
+mirror_found table (integer z) r there is = rw is (says_no table (integer z) there refl)
+mirror_found table (float x) r there is = rw is (says_no table (float x) there refl)
+mirror_found table (datetime d) r there is = rw is (says_no table (datetime d) there refl)
+mirror_found table (array ds) r there is = rw is (says_no table (array ds) there refl)
+mirror_found table (subtable ms) r there is = rw is (says_no table (subtable ms) there refl)

@@ -1,14 +1,14 @@
 -- A text has one reading.
-use Rattle.std.proofs.Common.{◌≡◌, ℕ, ◌<◌, List, [], ◌∷◌, get_or, Option, Some, Result, Ok, Err, codes, pos, refl, sym, ap, ◌∙◌, subst, inl, inr, ◌⊎◌, arith}
+use Rattle.std.proofs.Common.{◌≡◌, ℕ, ◌<◌, List, [], ◌∷◌, get_or, Option, Some, Result, Ok, Err, codes, pos, refl, sym, ap, ◌∙◌, subst, inl, inr, ◌⊎◌, Bool, None, arith}
 use Rattle.std.specs.Result.{IfOk}
-use Rattle.toml.specs.Data.{Members as Table, integer, get_member}
+use Rattle.toml.specs.Data.{Members as Table, integer, boolean, get_member}
 use Rattle.toml.specs.Data.{table as subtable}
 use Rattle.op_setup.specs.declared.config.Settings.{Settings}
 use Rattle.op_setup.specs.declared.config_cause.ConfigCause.{ConfigCause}
 use Rattle.op_setup.specs.declared.config_cause.ConfigCause.TheVariants as cause
 use Rattle.op_setup.specs.declared.settings_fail.SettingsFail.{SettingsFail}
 use Rattle.op_setup.specs.declared.settings_fail.SettingsFail.TheVariants.{BadConfig, NoMemory}
-use Rattle.op_setup.specs.Settings.{Peer, IsToml, HasNumber, HasPeers, SetsTickMs, SetsTurns, SetsMembers, SetsPeers, IsAmong, AreRows, AreSettings, IsSettings}
+use Rattle.op_setup.specs.Settings.{Peer, IsToml, HasNumber, HasPeers, SetsTickMs, SetsTurns, SetsMembers, SetsPeers, SetsMirror, IsAmong, AreRows, AreSettings, IsSettings}
 use Rattle.op_setup.specs.Causes.{place, Lacks, IsFirstLack, IsFirstCause, IfBadConfig}
 use Rattle.op_setup.proofs.KeyValues.{same_array, same_ids, same_table}
 use Rattle.op_setup.proofs.OnePeers.{one_peers}
@@ -37,15 +37,23 @@ one_list table rows ps qs there hp hq =
 one_set_peers : (table : Table) (ms ns : List ℕ) (ps qs : List Peer) → SetsPeers table ms ps → SetsPeers table ns qs → ps ≡ qs
 one_set_peers table ms ns ps qs hp hq = one_list table hp.there.0 ps qs hp.there.1 hp.there.2 hq.there
 
-abbrev settings : ℕ → ℕ → List ℕ → List Peer → Settings
-settings tick_ms turns members peers = record { tick_ms = tick_ms; turns = turns; members = members; peers = peers }
+pub one_mirror : (table : Table) (b c : Bool) → SetsMirror table b → SetsMirror table c → b ≡ c
+one_mirror table b c (inl p) (inl q) = let both : Some (boolean b) ≡ Some (boolean c) = sym p ∙ q in cc
+one_mirror table b c (inl p) (inr q) = let both : Some (boolean b) ≡ None = sym p ∙ q.0 in absurd cc
+one_mirror table b c (inr p) (inl q) = let both : None ≡ Some (boolean c) = sym p.0 ∙ q in absurd cc
+one_mirror table b c (inr p) (inr q) = p.1 ∙ sym q.1
+
+abbrev settings : ℕ → ℕ → List ℕ → List Peer → Bool → Settings
+settings tick_ms turns members peers is_mirrored =
+    record { tick_ms = tick_ms; turns = turns; members = members; peers = peers; is_mirrored = is_mirrored }
 
 one_of_table : (table : Table) (id : Option ℕ) (s t : Settings) → AreSettings table id s → AreSettings table id t → s ≡ t
 one_of_table table id s t hs ht =
-    ap (λ (n : ℕ). settings n s.turns s.members s.peers) (one_number _ _ _ _ _ hs.tick_ms ht.tick_ms)
-    ∙ ap (λ (n : ℕ). settings t.tick_ms n s.members s.peers) (one_number _ _ _ _ _ hs.turns ht.turns)
-    ∙ ap (λ (ms : List ℕ). settings t.tick_ms t.turns ms s.peers) (one_members table s.members t.members hs.members ht.members)
-    ∙ ap (settings t.tick_ms t.turns t.members) (one_set_peers table s.members t.members s.peers t.peers hs.peers ht.peers)
+    ap (λ (n : ℕ). settings n s.turns s.members s.peers s.is_mirrored) (one_number _ _ _ _ _ hs.tick_ms ht.tick_ms)
+    ∙ ap (λ (n : ℕ). settings t.tick_ms n s.members s.peers s.is_mirrored) (one_number _ _ _ _ _ hs.turns ht.turns)
+    ∙ ap (λ (ms : List ℕ). settings t.tick_ms t.turns ms s.peers s.is_mirrored) (one_members table s.members t.members hs.members ht.members)
+    ∙ ap (λ (ps : List Peer). settings t.tick_ms t.turns t.members ps s.is_mirrored) (one_set_peers table s.members t.members s.peers t.peers hs.peers ht.peers)
+    ∙ ap (settings t.tick_ms t.turns t.members t.peers) (one_mirror table s.is_mirrored t.is_mirrored hs.mirror ht.mirror)
 
 pub one_settings : (text : List ℕ) (id : Option ℕ) (s t : Settings) → IsSettings text id s → IsSettings text id t → s ≡ t
 one_settings text id s t hs ht =
@@ -64,10 +72,11 @@ split text id cause.TickMs h = inr h
 split text id cause.Turns h = inr h
 split text id cause.Members h = inr h
 split text id cause.Peers h = inr h
+split text id cause.Mirror h = inr h
 split text id cause.Id h = inr h
 
 abbrev cause_at : ℕ → ConfigCause
-cause_at n = get_or (cause.Text ∷ cause.TickMs ∷ cause.Turns ∷ cause.Members ∷ cause.Peers ∷ cause.Id ∷ []) n cause.Text
+cause_at n = get_or (cause.Text ∷ cause.TickMs ∷ cause.Turns ∷ cause.Members ∷ cause.Peers ∷ cause.Mirror ∷ cause.Id ∷ []) n cause.Text
 
 placed : (c : ConfigCause) → cause_at (place c) ≡ c
 placed cause.Text = refl
@@ -75,6 +84,7 @@ placed cause.TickMs = refl
 placed cause.Turns = refl
 placed cause.Members = refl
 placed cause.Peers = refl
+placed cause.Mirror = refl
 placed cause.Id = refl
 
 same_place : (c d : ConfigCause) → place c ≡ place d → c ≡ d
@@ -110,6 +120,7 @@ lacks_none table id s cause.TickMs h l = l s.tick_ms h.tick_ms
 lacks_none table id s cause.Turns h l = l s.turns h.turns
 lacks_none table id s cause.Members h l = l s.members h.members
 lacks_none table id s cause.Peers h l = l s.members s.peers h.members h.peers
+lacks_none table id s cause.Mirror h l = l s.is_mirrored h.mirror
 lacks_none table id s cause.Id h l = l s.members s.peers h.members h.peers h.own
 
 pub apart : (text : List ℕ) (id : Option ℕ) (s : Settings) (c : ConfigCause) → IsSettings text id s → IsFirstCause text id c → ⊥
@@ -133,6 +144,7 @@ of_text text id table toml cause.TickMs h = (table, toml, h)
 of_text text id table toml cause.Turns h = (table, toml, h)
 of_text text id table toml cause.Members h = (table, toml, h)
 of_text text id table toml cause.Peers h = (table, toml, h)
+of_text text id table toml cause.Mirror h = (table, toml, h)
 of_text text id table toml cause.Id h = (table, toml, h)
 
 pub bad_of_text : (text : List ℕ) (id : Option ℕ) (table : Table) → IsToml text table → (r : Result Settings SettingsFail) → IfBadConfig r (IsFirstLack table id) → IfBadConfig r (IsFirstCause text id)
@@ -164,13 +176,13 @@ before_peers table id n m ms h k j cause.Text lt l = l
 before_peers table id n m ms h k j cause.TickMs lt l = l n h
 before_peers table id n m ms h k j d lt l = absurd (omega arith)
 
-before_id : (table : Table) (id : Option ℕ) (n m : ℕ) (ms : List ℕ) (ps : List Peer) → SetsTickMs table n → SetsTurns table m → SetsMembers table ms → SetsPeers table ms ps → (d : ConfigCause) → place d < 5 → Lacks table id d → ⊥
-before_id table id n m ms ps h k j i cause.Peers lt l = l ms ps j i
-before_id table id n m ms ps h k j i cause.Members lt l = l ms j
-before_id table id n m ms ps h k j i cause.Turns lt l = l m k
-before_id table id n m ms ps h k j i cause.Text lt l = l
-before_id table id n m ms ps h k j i cause.TickMs lt l = l n h
-before_id table id n m ms ps h k j i d lt l = absurd (omega arith)
+before_mirror : (table : Table) (id : Option ℕ) (n m : ℕ) (ms : List ℕ) (ps : List Peer) → SetsTickMs table n → SetsTurns table m → SetsMembers table ms → SetsPeers table ms ps → (d : ConfigCause) → place d < 5 → Lacks table id d → ⊥
+before_mirror table id n m ms ps h k j i cause.Peers lt l = l ms ps j i
+before_mirror table id n m ms ps h k j i cause.Members lt l = l ms j
+before_mirror table id n m ms ps h k j i cause.Turns lt l = l m k
+before_mirror table id n m ms ps h k j i cause.Text lt l = l
+before_mirror table id n m ms ps h k j i cause.TickMs lt l = l n h
+before_mirror table id n m ms ps h k j i d lt l = absurd (omega arith)
 
 before_tick_ms : (table : Table) (id : Option ℕ) (d : ConfigCause) → place d < 1 → Lacks table id d → ⊥
 before_tick_ms table id cause.Text lt l = l
@@ -191,8 +203,21 @@ lacks_peers table id n m ms h k j none = record {
   first = before_peers table id n m ms h k j;
 }
 
-pub lacks_id : (table : Table) (id : Option ℕ) (n m : ℕ) (ms : List ℕ) (ps : List Peer) → SetsTickMs table n → SetsTurns table m → SetsMembers table ms → SetsPeers table ms ps → (IsAmong ps id → ⊥) → IsFirstLack table id cause.Id
-lacks_id table id n m ms ps h k j i none = record {
-  lacks = λ ns qs hn hq among. (let P : List Peer → Type 0 = λ xs. IsAmong xs id in none (subst P (one_set_peers table ns ms qs ps hq i) among));
-  first = before_id table id n m ms ps h k j i;
-}
+module _ (table : Table) (id : Option ℕ) (n m : ℕ) (ms : List ℕ) (ps : List Peer) (h : SetsTickMs table n) (k : SetsTurns table m) (j : SetsMembers table ms) (i : SetsPeers table ms ps) where
+  pub lacks_mirror : ((b : Bool) → SetsMirror table b → ⊥) → IsFirstLack table id cause.Mirror
+  lacks_mirror none = record { lacks = none; first = before_mirror table id n m ms ps h k j i }
+
+  before_id : (b : Bool) → SetsMirror table b → (d : ConfigCause) → place d < 6 → Lacks table id d → ⊥
+  before_id b is cause.Mirror lt l = l b is
+  before_id b is cause.Id lt l = absurd (omega arith)
+  before_id b is cause.Peers lt l = before_mirror table id n m ms ps h k j i cause.Peers (omega arith) l
+  before_id b is cause.Members lt l = before_mirror table id n m ms ps h k j i cause.Members (omega arith) l
+  before_id b is cause.Turns lt l = before_mirror table id n m ms ps h k j i cause.Turns (omega arith) l
+  before_id b is cause.Text lt l = before_mirror table id n m ms ps h k j i cause.Text (omega arith) l
+  before_id b is cause.TickMs lt l = before_mirror table id n m ms ps h k j i cause.TickMs (omega arith) l
+
+  pub lacks_id : (b : Bool) → SetsMirror table b → (IsAmong ps id → ⊥) → IsFirstLack table id cause.Id
+  lacks_id b is none = record {
+    lacks = λ ns qs hn hq among. (let P : List Peer → Type 0 = λ xs. IsAmong xs id in none (subst P (one_set_peers table ns ms qs ps hq i) among));
+    first = before_id b is;
+  }

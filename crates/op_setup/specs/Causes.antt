@@ -1,11 +1,11 @@
 -- What is wrong with a text of settings.
-use Rattle.std.specs.Prelude.{ℕ, ◌<◌, List, Option, Result, Ok, Err}
+use Rattle.std.specs.Prelude.{ℕ, ◌<◌, Bool, List, Option, Result, Ok, Err}
 use Rattle.toml.specs.Data.{Members as Table}
 use Rattle.op_setup.specs.declared.config_cause.ConfigCause.{ConfigCause}
 use Rattle.op_setup.specs.declared.config_cause.ConfigCause.TheVariants as cause
 use Rattle.op_setup.specs.declared.settings_fail.SettingsFail.{SettingsFail}
 use Rattle.op_setup.specs.declared.settings_fail.SettingsFail.TheVariants.{BadConfig, NoMemory}
-use Rattle.op_setup.specs.Settings.{Peer, IsToml, SetsTickMs, SetsTurns, SetsMembers, SetsPeers, IsAmong}
+use Rattle.op_setup.specs.Settings.{Peer, IsToml, SetsTickMs, SetsTurns, SetsMembers, SetsPeers, SetsMirror, IsAmong}
 
 -- the causes in their order
 abbrev pub place : ConfigCause → ℕ
@@ -14,7 +14,8 @@ place cause.TickMs = 1
 place cause.Turns = 2
 place cause.Members = 3
 place cause.Peers = 4
-place cause.Id = 5
+place cause.Mirror = 5
+place cause.Id = 6
 
 -- the table sets nothing that the cause is about, or not in range
 abbrev pub Lacks : Table → Option ℕ → ConfigCause → Type 0
@@ -24,6 +25,7 @@ Lacks table id cause.Turns = (n : ℕ) → SetsTurns table n → ⊥
 Lacks table id cause.Members = (members : List ℕ) → SetsMembers table members → ⊥
 Lacks table id cause.Peers =
     (members : List ℕ) (peers : List Peer) → SetsMembers table members → SetsPeers table members peers → ⊥
+Lacks table id cause.Mirror = (b : Bool) → SetsMirror table b → ⊥
 Lacks table id cause.Id =
     (members : List ℕ) (peers : List Peer) → SetsMembers table members → SetsPeers table members peers →
     IsAmong peers id → ⊥

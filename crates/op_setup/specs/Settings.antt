@@ -1,7 +1,7 @@
 -- What a text of settings sets.
-use Rattle.std.specs.Prelude.{◌≡◌, ◌≤◌, ◌^◌, ℕ, List, length, map, codes, decimal, pos, Option, Some, None, IsUtf8, All, Contains}
+use Rattle.std.specs.Prelude.{◌≡◌, ◌⊎◌, ◌≤◌, ◌^◌, ℕ, Bool, false, List, length, map, codes, decimal, pos, Option, Some, None, IsUtf8, All, Contains}
 use Rattle.std.specs.Map.{keys_of}
-use Rattle.toml.specs.Data.{Data, Members as Table, integer, array, string, get_member}
+use Rattle.toml.specs.Data.{Data, Members as Table, integer, array, string, boolean, get_member}
 use Rattle.toml.specs.Data.{table as subtable}
 use Rattle.toml.specs.Parse.{parse_document}
 use Rattle.toml.specs.View.{items_of}
@@ -87,6 +87,12 @@ pub record SetsPeers (table : Table) (members : List ℕ) (peers : List Peer) : 
   pub few : length peers ≤ most_peers
   pub together : All (Contains (keys_of peers)) members
 
+-- the disks are mirrored where the key says so; absent, it says that they aren't
+abbrev pub SetsMirror : Table → Bool → Type 0
+SetsMirror table b =
+    let value = get_member (codes "mirror") table in
+    (value ≡ Some (boolean b)) ⊎ ((value ≡ None) × (b ≡ false))
+
 -- the own id, where there is one, is a peer's
 abbrev pub IsAmong : List Peer → Option ℕ → Type 0
 IsAmong peers None = Unit {0}
@@ -98,6 +104,7 @@ pub record AreSettings (table : Table) (id : Option ℕ) (s : Settings) : Type 0
   pub turns : SetsTurns table s.turns
   pub members : SetsMembers table s.members
   pub peers : SetsPeers table s.members s.peers
+  pub mirror : SetsMirror table s.is_mirrored
   pub own : IsAmong s.peers id
 
 -- the text sets these; other keys are ignored

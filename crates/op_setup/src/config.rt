@@ -26,4 +26,6 @@ pub struct Settings {
     pub members: Members,
     /// The nodes, 1 to 31, every member among them.
     pub peers: Peers,
+    /// Each of the node's two areas is kept twice, on disks of their own.
+    pub is_mirrored: bool,
 }

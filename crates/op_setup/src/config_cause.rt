@@ -13,6 +13,8 @@ pub enum ConfigCause {
     Members,
     /// `peers` is absent or not a table from ids to addresses, of 1 to 31 nodes with every member among them.
     Peers,
+    /// `mirror` is neither true nor false.
+    Mirror,
     /// The node's own id isn't among the peers.
     Id,
 }

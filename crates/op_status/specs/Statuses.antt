@@ -1,5 +1,5 @@
 -- What each status means to the caller: its number, and its line.
-use Rattle.std.specs.Prelude.{ℕ, List, [], ◌++◌, codes, decimal}
+use Rattle.std.specs.Prelude.{◌==◌, ℕ, List, [], ◌++◌, codes, decimal, if◌then◌else◌}
 use Rattle.op_setup.specs.declared.config_cause.ConfigCause.{ConfigCause}
 use Rattle.op_setup.specs.declared.config_cause.ConfigCause.TheVariants as cause
 use Rattle.op_status.specs.declared.status.Status.{Status}
@@ -29,7 +29,12 @@ cause_name cause.TickMs = codes "tick_ms"
 cause_name cause.Turns = codes "turns"
 cause_name cause.Members = codes "members"
 cause_name cause.Peers = codes "peers"
+cause_name cause.Mirror = codes "mirror"
 cause_name cause.Id = codes "id"
+
+-- the name of an area: a is the one on the first disk, b the one on the second
+abbrev pub area_name : ℕ → List ℕ
+area_name area = if area == 0 then codes "a" else codes "b"
 
 -- the line that is told with a status; success has none
 abbrev pub status_line : Status → List ℕ
@@ -44,7 +49,7 @@ status_line status.NetFault = codes "net fault\n"
 status_line status.NoMemory = codes "no memory\n"
 status_line status.TurnsOver = codes "turns over\n"
 status_line (status.Damaged area at) =
-    codes "damaged " ++ decimal area ++ codes " " ++ decimal at ++ codes "\n"
+    codes "damaged " ++ area_name area ++ codes " " ++ decimal at ++ codes "\n"
 status_line status.ChildFault = codes "child fault\n"
 status_line status.InputLimit = codes "input too long\n"
 status_line status.NoReply = codes "no reply\n"

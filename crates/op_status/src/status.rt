@@ -1,7 +1,7 @@
 ghost use Rattle.std.specs.Prelude.{◌≡◌, map};
 ghost use Rattle.std.specs.List.{concat};
 ghost use Rattle.op_outside.specs.Seen.{Tells};
-ghost use Rattle.op_status.specs.Statuses.{cause_name, exit_code, status_line};
+ghost use Rattle.op_status.specs.Statuses.{area_name, cause_name, exit_code, status_line};
 
 use itoa::Buffer;
 use op_outside::{Sink, write_all};
@@ -31,7 +31,8 @@ pub enum Status {
     NoMemory,
     /// All turns were taken, and no end was asked for.
     TurnsOver,
-    /// What is stored is damaged: the area, 0 on the first disk and 1 on the second, and the first wrong byte's offset.
+    /// What is stored is damaged: the area, 0 on the first disk and 1 on the second, and where in it the record begins that is
+    /// wrong, in bytes.
     Damaged { area: u8, at: u64 },
     /// A child program could not be started or waited for.
     ChildFault,
@@ -87,10 +88,9 @@ impl Status {
             Status::NoMemory => tell_text(err, b"no memory\n"),
             Status::TurnsOver => tell_text(err, b"turns over\n"),
             Status::Damaged { area, at } => {
-                let (mut area_buffer, mut at_buffer) = (Buffer::new(), Buffer::new());
-                let area_digits = area_buffer.format(area).as_bytes();
-                let at_digits = at_buffer.format(at).as_bytes();
-                tell_parts(err, &[b"damaged ", area_digits, b" ", at_digits, b"\n"]);
+                let mut buffer = Buffer::new();
+                let digits = buffer.format(at).as_bytes();
+                tell_parts(err, &[b"damaged ", area_name(area), b" ", digits, b"\n"]);
             }
             Status::ChildFault => tell_text(err, b"child fault\n"),
             Status::InputLimit => tell_text(err, b"input too long\n"),
@@ -113,6 +113,13 @@ fn tell_parts<K: Sink>(err: &mut K, parts: &[&[u8]])
     let _ = write_parts(err, parts);
 }
 
+/// The name of an area: `a` on the first disk, `b` on the second.
+fn area_name(area: u8) -> &'static [u8]
+    ensures { result.now ≡ area_name area }
+{
+    if area == 0 { b"a" } else { b"b" }
+}
+
 /// The name of what is wrong with settings: of a key, or of the text or the own id.
 fn name_of(cause: ConfigCause) -> &'static [u8]
     ensures { result.now ≡ cause_name cause }
@@ -123,6 +130,7 @@ fn name_of(cause: ConfigCause) -> &'static [u8]
         ConfigCause::Turns => b"turns",
         ConfigCause::Members => b"members",
         ConfigCause::Peers => b"peers",
+        ConfigCause::Mirror => b"mirror",
         ConfigCause::Id => b"id",
     }
 }

@@ -1,6 +1,7 @@
 -- What is done, by what the words ask.
-use Rattle.std.proofs.Common.{◌≡◌, ℕ, List, [], Option, Some, None, Err, refl, sym, subst, inl, inr}
+use Rattle.std.proofs.Common.{◌≡◌, ℕ, List, [], Bool, true, false, Option, Some, None, Err, refl, sym, subst, inl, inr}
 use Rattle.op_outside.specs.Disks.{DiskState}
+use Rattle.op_outside.specs.declared.disk.Disk.{Ghosts}
 use Rattle.op_setup.specs.Tasks.{IsTask, IsTaskOf, TaskInRange, task_words}
 use Rattle.op_setup.specs.declared.tasks.Task.{Task}
 use Rattle.op_setup.specs.declared.tasks.Task.TheVariants.{Node, Replay, Call, Cluster, Drill, DrillLinks}
@@ -16,7 +17,12 @@ use Rattle.op_status.specs.declared.status.Status.{Status}
 use Rattle.op_status.specs.declared.status.Status.TheVariants as status
 use Rattle.op_input.specs.Inputs.{IsMisconfigured}
 use Rattle.op_replay.specs.Answers.{AnswersReplay, Replays}
+use Rattle.op_mirror.specs.Mirrors.{known_mirror}
+use Rattle.op_mirror.specs.declared.opening.OpenCause.{OpenCause}
+use Rattle.op_mirror.specs.declared.opening.OpenCause.TheVariants as cause
 use Rattle.op_serve.specs.Nodes as node
+use Rattle.op_serve.specs.Mirrored as mirrored
+use Rattle.op_serve.specs.declared.node_disks.NodeDisks.{NodeDisks}
 use Rattle.op_types.specs.declared.events.Request.{Request}
 use Rattle.op_outside.specs.Seen.{NetSeen, StreamSeen, SpawnerSeen}
 use Rattle.op_outside.specs.declared.net.Addr.{Addr}
@@ -86,9 +92,23 @@ node_ends state id o old new s lost (node.has_no_memory a b) = tt
 node_ends state id o old new s lost (node.is_opened {n} mid opened goes) =
     node_goes state id o n (node.IsOwn state id old opened.durable) mid new s lost goes
 
-pub node_serves : {D : Type 0} (state : D → DiskState) (id : ℕ) (in0 in1 : StreamSeen) (old new : node.Around D) (s : Status) (lost : List Mark) → node.Serves state id in0 in1 old new s lost → IsNoUsage s
-node_serves state id in0 in1 old new s lost (node.is_misconfigured h rises most same) = misconfigured in0.0 (Some id) in0.1 in1.1 s h
-node_serves state id in0 in1 old new s lost (node.is_configured o c same e) = node_ends state id o old new s lost e
+unopened : (c : OpenCause) → IsNoUsage (mirrored.status_of_cause c)
+unopened cause.DiskFail = tt
+unopened cause.NoMemory = tt
+
+module _ {D : Type 0} (disk : Ghosts D) (id : ℕ) where
+  mirrors_end : (o : Settings) (old new : mirrored.Environment D) (s : Status) (lost : List Mark) → mirrored.EndsOverMirrors disk id o old new s lost → IsNoUsage s
+  mirrors_end o old new s lost (mirrored.first_refused c x y r same) = unopened c
+  mirrors_end o old new s lost (mirrored.second_refused c a x y opens r same) = unopened c
+  mirrors_end o old new s lost (mirrored.are_open a b c d at_a at_b ends copies failed) = node_ends (known_mirror disk.state) id o _ _ s lost ends
+
+  ends_with : (b : Bool) (o : Settings) (old new : mirrored.Environment D) (s : Status) (lost : List Mark) → mirrored.EndsWith disk b id o old new s lost → IsNoUsage s
+  ends_with false o old new s lost e = node_ends disk.state id o _ _ s lost e.ends
+  ends_with true o old new s lost e = mirrors_end o old new s lost e.ends
+
+  pub node_serves : (in0 in1 : StreamSeen) (old new : mirrored.Environment D) (s : Status) (lost : List Mark) → mirrored.Serves disk id in0 in1 old new s lost → IsNoUsage s
+  node_serves in0 in1 old new s lost (mirrored.is_misconfigured h rises most same) = misconfigured in0.0 (Some id) in0.1 in1.1 s h
+  node_serves in0 in1 old new s lost (mirrored.is_configured o c same e) = ends_with o.is_mirrored o old new s lost e
 
 failed : (why : CallFail) → IsNoUsage (call.status_of why)
 failed fail.NoReply = tt
@@ -139,31 +159,31 @@ replayed status.NoReply h = tt
 pub task_of : (words : List (List ℕ)) (t u : Task) → t ≡ u → words ≡ task_words t → TaskInRange t → IsTaskOf words u
 task_of words t u is written in_range = rw (← is) (record { in_range = in_range; written = written })
 
-module _ {D : Type 0} (state : D → DiskState) (words : List (List ℕ)) (old new : Outside D) (s : Status) (lost : List Mark) where
-  task_ends : (t : Task) → DoesTask state t old new s lost → IsNoUsage s
+module _ {D : Type 0} (disk : Ghosts D) (words : List (List ℕ)) (old new : Outside D) (s : Status) (lost : List Mark) where
+  task_ends : (t : Task) → DoesTask disk t old new s lost → IsNoUsage s
   task_ends Replay h = replayed s h.0.no_other
-  task_ends (Node id) h = node_serves state id old.input new.input (around_node old) (around_node new) s lost h.0
+  task_ends (Node id) h = node_serves disk id old.input new.input (around_node old) (around_node new) s lost h.0
   task_ends (Call addr request) h = call_ends old.net new.net old.output new.output s h.0
   task_ends Cluster h = cluster_runs old.input new.input old.output new.output old.children new.children s h.0
   task_ends (Drill seed events) h = drill_ends old.output new.output s h.0
   task_ends (DrillLinks scenario rounds) h = drill_ends old.output new.output s h.0
 
   -- these words ask for this task, and it was done
-  does_task : (t : Task) → IsTaskOf words t → DoesTask state t old new s lost → Does state words old new s lost
+  does_task : (t : Task) → IsTaskOf words t → DoesTask disk t old new s lost → Does disk words old new s lost
   does_task t of did =
       record {
         usage_only_if = λ is. absurd (is_none s (task_ends t did) is);
         usage_always = λ none. absurd (none (t, of));
-        task = λ other is. inl (subst (λ (x : Task). DoesTask state x old new s lost) (one_task words t other of is) did);
+        task = λ other is. inl (subst (λ (x : Task). DoesTask disk x old new s lost) (one_task words t other of is) did);
       }
 
   -- they ask for none
-  does_nothing : (IsTask words → ⊥) → s ≡ status.Usage → new ≡ old → lost ≡ [] → Does state words old new s lost
+  does_nothing : (IsTask words → ⊥) → s ≡ status.Usage → new ≡ old → lost ≡ [] → Does disk words old new s lost
   does_nothing none is same no_loss =
       record { usage_only_if = λ _. none; usage_always = λ _. (is, (same, no_loss)); task = λ t of. absurd (none (t, of)) }
 
   -- there is no memory for them
-  lacks_memory : ((IsTask words → ⊥) → ⊥) → s ≡ status.NoMemory → new ≡ old → lost ≡ [] → Does state words old new s lost
+  lacks_memory : ((IsTask words → ⊥) → ⊥) → s ≡ status.NoMemory → new ≡ old → lost ≡ [] → Does disk words old new s lost
   lacks_memory some is same no_loss =
       record {
         usage_only_if = λ usage. absurd (is_none s (subst IsNoUsage (sym is) tt) usage);
@@ -172,60 +192,60 @@ module _ {D : Type 0} (state : D → DiskState) (words : List (List ℕ)) (old n
       }
 
 -- the same where the disks are handed back as they were, and nothing was lost
-module _ {D : Type 0} (state : D → DiskState) (words : List (List ℕ)) (first second a b : D) (r s : Status) (lost : List Mark)
-    (at_first : a ≡ first) (at_second : b ≡ second) (is : s ≡ r) (no_loss : lost ≡ []) where
+module _ {D : Type 0} (disk : Ghosts D) (words : List (List ℕ)) (disks a : NodeDisks D) (r s : Status) (lost : List Mark)
+    (at_disks : a ≡ disks) (is : s ≡ r) (no_loss : lost ≡ []) where
   pub does_replay : (net : NetSeen) (clock : Option (List ℕ)) (in0 in1 out0 out1 : StreamSeen) (children : SpawnerSeen)
       → IsTaskOf words Replay → Replays r in0 in1 out0 out1
-      → Does state words (outside first second net clock in0 out0 children) (outside a b net clock in1 out1 children) s lost
+      → Does disk words (outside disks net clock in0 out0 children) (outside a net clock in1 out1 children) s lost
   does_replay net clock in0 in1 out0 out1 children of did =
-      rw (at_first, at_second, is, no_loss)
-      (does_task state words (outside first second net clock in0 out0 children) (outside first second net clock in1 out1 children) r [] Replay of (did, refl, refl))
+      rw (at_disks, is, no_loss)
+      (does_task disk words (outside disks net clock in0 out0 children) (outside disks net clock in1 out1 children) r [] Replay of (did, refl, refl))
 
   pub does_call : (addr : Addr) (request : Request) (net0 net1 : NetSeen) (clock : Option (List ℕ)) (input out0 out1 : StreamSeen) (children : SpawnerSeen)
       → IsTaskOf words (Call addr request) → call.CallEnds addr request net0 net1 out0 out1 r
-      → Does state words (outside first second net0 clock input out0 children) (outside a b net1 clock input out1 children) s lost
+      → Does disk words (outside disks net0 clock input out0 children) (outside a net1 clock input out1 children) s lost
   does_call addr request net0 net1 clock input out0 out1 children of did =
-      rw (at_first, at_second, is, no_loss)
-      (does_task state words (outside first second net0 clock input out0 children) (outside first second net1 clock input out1 children) r [] (Call addr request) of (did, refl, refl))
+      rw (at_disks, is, no_loss)
+      (does_task disk words (outside disks net0 clock input out0 children) (outside disks net1 clock input out1 children) r [] (Call addr request) of (did, refl, refl))
 
   pub does_random_drill : (seed events : ℕ) (net : NetSeen) (clock : Option (List ℕ)) (input out0 out1 : StreamSeen) (children : SpawnerSeen)
       → IsTaskOf words (Drill seed events) → drill.RandomDrillEnds seed events out0 out1 r
-      → Does state words (outside first second net clock input out0 children) (outside a b net clock input out1 children) s lost
+      → Does disk words (outside disks net clock input out0 children) (outside a net clock input out1 children) s lost
   does_random_drill seed events net clock input out0 out1 children of did =
-      rw (at_first, at_second, is, no_loss)
-      (does_task state words (outside first second net clock input out0 children) (outside first second net clock input out1 children) r [] (Drill seed events) of (did, refl, refl))
+      rw (at_disks, is, no_loss)
+      (does_task disk words (outside disks net clock input out0 children) (outside disks net clock input out1 children) r [] (Drill seed events) of (did, refl, refl))
 
   pub does_drill : (scenario : Scenario) (rounds : ℕ) (net : NetSeen) (clock : Option (List ℕ)) (input out0 out1 : StreamSeen) (children : SpawnerSeen)
       → IsTaskOf words (DrillLinks scenario rounds) → drill.DrillEnds scenario rounds out0 out1 r
-      → Does state words (outside first second net clock input out0 children) (outside a b net clock input out1 children) s lost
+      → Does disk words (outside disks net clock input out0 children) (outside a net clock input out1 children) s lost
   does_drill scenario rounds net clock input out0 out1 children of did =
-      rw (at_first, at_second, is, no_loss)
-      (does_task state words (outside first second net clock input out0 children) (outside first second net clock input out1 children) r [] (DrillLinks scenario rounds) of (did, refl, refl))
+      rw (at_disks, is, no_loss)
+      (does_task disk words (outside disks net clock input out0 children) (outside disks net clock input out1 children) r [] (DrillLinks scenario rounds) of (did, refl, refl))
 
   pub does_cluster : (net : NetSeen) (clock : Option (List ℕ)) (in0 in1 out0 out1 : StreamSeen) (children0 children1 : SpawnerSeen)
       → IsTaskOf words Cluster → cluster.RunsCluster in0 in1 out0 out1 children0 children1 r
-      → Does state words (outside first second net clock in0 out0 children0) (outside a b net clock in1 out1 children1) s lost
+      → Does disk words (outside disks net clock in0 out0 children0) (outside a net clock in1 out1 children1) s lost
   does_cluster net clock in0 in1 out0 out1 children0 children1 of did =
-      rw (at_first, at_second, is, no_loss)
-      (does_task state words (outside first second net clock in0 out0 children0) (outside first second net clock in1 out1 children1) r [] Cluster of (did, refl, refl))
+      rw (at_disks, is, no_loss)
+      (does_task disk words (outside disks net clock in0 out0 children0) (outside disks net clock in1 out1 children1) r [] Cluster of (did, refl, refl))
 
   -- they ask for none
   pub is_usage : (net : NetSeen) (clock : Option (List ℕ)) (input out : StreamSeen) (children : SpawnerSeen) → (IsTask words → ⊥) → r ≡ status.Usage
-      → Does state words (outside first second net clock input out children) (outside a b net clock input out children) s lost
+      → Does disk words (outside disks net clock input out children) (outside a net clock input out children) s lost
   is_usage net clock input out children none usage =
-      rw (at_first, at_second, is, no_loss)
-      (let same = outside first second net clock input out children in does_nothing state words same same r [] none usage refl refl)
+      rw (at_disks, is, no_loss)
+      (let same = outside disks net clock input out children in does_nothing disk words same same r [] none usage refl refl)
 
   -- there is no memory for them
   pub has_no_memory : (net : NetSeen) (clock : Option (List ℕ)) (input out : StreamSeen) (children : SpawnerSeen) → ((IsTask words → ⊥) → ⊥) → r ≡ status.NoMemory
-      → Does state words (outside first second net clock input out children) (outside a b net clock input out children) s lost
+      → Does disk words (outside disks net clock input out children) (outside a net clock input out children) s lost
   has_no_memory net clock input out children some lacks =
-      rw (at_first, at_second, is, no_loss)
-      (let same = outside first second net clock input out children in lacks_memory state words same same r [] some lacks refl refl)
+      rw (at_disks, is, no_loss)
+      (let same = outside disks net clock input out children in lacks_memory disk words same same r [] some lacks refl refl)
 
-pub does_node : {D : Type 0} (state : D → DiskState) (words : List (List ℕ)) (id : ℕ) (first second a b : D) (s : Status) (lost : List Mark)
+pub does_node : {D : Type 0} (disk : Ghosts D) (words : List (List ℕ)) (id : ℕ) (disks a : NodeDisks D) (s : Status) (lost : List Mark)
     (net0 net1 : NetSeen) (clock0 clock1 : Option (List ℕ)) (in0 in1 out0 out1 : StreamSeen) (children : SpawnerSeen)
-    → IsTaskOf words (Node id) → node.Serves state id in0 in1 (node.around first second net0 clock0 out0) (node.around a b net1 clock1 out1) s lost
-    → Does state words (outside first second net0 clock0 in0 out0 children) (outside a b net1 clock1 in1 out1 children) s lost
-does_node state words id first second a b s lost net0 net1 clock0 clock1 in0 in1 out0 out1 children of did =
-    does_task state words (outside first second net0 clock0 in0 out0 children) (outside a b net1 clock1 in1 out1 children) s lost (Node id) of (did, refl)
+    → IsTaskOf words (Node id) → mirrored.Serves disk id in0 in1 (mirrored.environment disks net0 clock0 out0) (mirrored.environment a net1 clock1 out1) s lost
+    → Does disk words (outside disks net0 clock0 in0 out0 children) (outside a net1 clock1 in1 out1 children) s lost
+does_node disk words id disks a s lost net0 net1 clock0 clock1 in0 in1 out0 out1 children of did =
+    does_task disk words (outside disks net0 clock0 in0 out0 children) (outside a net1 clock1 in1 out1 children) s lost (Node id) of (did, refl)

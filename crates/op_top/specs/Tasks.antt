@@ -1,6 +1,6 @@
 -- What the program does, by what the words ask.
 use Rattle.std.specs.Prelude.{◌≡◌, ◌⊎◌, [], ℕ, List, Option}
-use Rattle.op_outside.specs.Disks.{DiskState}
+use Rattle.op_outside.specs.declared.disk.Disk.{Ghosts}
 use Rattle.op_outside.specs.Seen.{NetSeen, StreamSeen, SpawnerSeen}
 use Rattle.op_setup.specs.Tasks.{IsTask, IsTaskOf}
 use Rattle.op_setup.specs.declared.tasks.Task.{Task}
@@ -9,8 +9,9 @@ use Rattle.op_serving.specs.declared.mark.Mark.{Mark}
 use Rattle.op_status.specs.declared.status.Status.{Status}
 use Rattle.op_status.specs.declared.status.Status.TheVariants as status
 use Rattle.op_replay.specs.Answers.{Replays}
-use Rattle.op_serve.specs.Nodes.{Around, around}
-use Rattle.op_serve.specs.Nodes as node
+use Rattle.op_serve.specs.Mirrored.{Environment, environment}
+use Rattle.op_serve.specs.Mirrored as node
+use Rattle.op_serve.specs.declared.node_disks.NodeDisks.{NodeDisks}
 use Rattle.op_call.specs.Calls.{CallEnds}
 use Rattle.op_drill.specs.Drills.{DrillEnds, RandomDrillEnds}
 use Rattle.op_top.specs.Clusters.{RunsCluster}
@@ -18,20 +19,18 @@ use Rattle.op_top.specs.Clusters.{RunsCluster}
 -- all that is outside the program but its standard error: its disks, and what net, clock, input, output and
 -- child programs tell, with the counts of faults
 pub record Outside (D : Type 0) : Type 0 where
-  pub first : D
-  pub second : D
+  pub disks : NodeDisks D
   pub net : NetSeen
   pub clock : Option (List ℕ)
   pub input : StreamSeen
   pub output : StreamSeen
   pub children : SpawnerSeen
 
-abbrev pub outside : {D : Type 0} → D → D → NetSeen → Option (List ℕ) → StreamSeen → StreamSeen →
+abbrev pub outside : {D : Type 0} → NodeDisks D → NetSeen → Option (List ℕ) → StreamSeen → StreamSeen →
     SpawnerSeen → Outside D
-outside first second net clock input output children =
+outside disks net clock input output children =
     record {
-      first = first;
-      second = second;
+      disks = disks;
       net = net;
       clock = clock;
       input = input;
@@ -40,21 +39,22 @@ outside first second net clock input output children =
     }
 
 -- what is around a node
-abbrev pub around_node : {D : Type 0} → Outside D → Around D
-around_node o = around o.first o.second o.net o.clock o.output
+abbrev pub around_node : {D : Type 0} → Outside D → Environment D
+around_node o = environment o.disks o.net o.clock o.output
 
 -- nothing was done
 abbrev pub DoesNothing : {D : Type 0} → Outside D → Outside D → List Mark → Type 0
 DoesNothing old new lost = (new ≡ old) × (lost ≡ [])
 
-module _ {D : Type 0} (state : D → DiskState) where
+-- over disks of a type of which its trait tells this
+module _ {D : Type 0} (disk : Ghosts D) where
   -- how a task ends, what was lost, and what it leaves outside
   abbrev pub DoesTask : Task → Outside D → Outside D → Status → List Mark → Type 0
   DoesTask Replay old new s lost =
       Replays s old.input new.input old.output new.output
       × (new ≡ record old { input = new.input; output = new.output }) × (lost ≡ [])
   DoesTask (Node id) old new s lost =
-      node.Serves state id old.input new.input (around_node old) (around_node new) s lost
+      node.Serves disk id old.input new.input (around_node old) (around_node new) s lost
       × (new.children ≡ old.children)
   DoesTask (Call addr request) old new s lost =
       CallEnds addr request old.net new.net old.output new.output s

@@ -5,7 +5,7 @@ mod clusters;
 mod sessions;
 mod top;
 
-pub use op_serve::Ending;
+pub use op_serve::{Ending, NodeDisks};
 pub use op_status::Status;
 pub use sessions::session;
 pub use top::omni;

@@ -8,7 +8,7 @@ use op_call::call_node;
 use op_drill::{drill, drill_links};
 use op_outside::{Clock, Disk, Net, Sink, Source, Spawner};
 use op_replay::replay;
-use op_serve::{Ending, serve_as};
+use op_serve::{Ending, NodeDisks, serve_as};
 use op_setup::{Task, TaskFail, task};
 use op_status::Status;
 use std::alloc::Global;
@@ -18,8 +18,7 @@ use std::alloc::Global;
 pub fn omni<D: Disk, N: Net, C: Clock, S: Source, K: Sink, P: Spawner>(
     alloc: Global,
     words: &[String],
-    first: D,
-    second: D,
+    disks: NodeDisks<D>,
     net: &mut N,
     clock: &mut C,
     input: &mut S,
@@ -27,20 +26,18 @@ pub fn omni<D: Disk, N: Net, C: Clock, S: Source, K: Sink, P: Spawner>(
     err: &mut K,
     children: &mut P,
 ) -> Ending<D>
-    ensures does { Does D.state (map string_bytes words.now)
-        (outside first second (N.told net.old, N.fault_count net.old) (C.answers clock.old)
+    ensures does { Does D.Disk (map string_bytes words.now)
+        (outside disks (N.told net.old, N.fault_count net.old) (C.answers clock.old)
         (S.left input.old, S.fault_count input.old) (K.held out.old, K.fault_count out.old)
         (P.told children.old, P.fault_count children.old))
-        (outside result.first result.second (N.told net.new, N.fault_count net.new) (C.answers clock.new)
+        (outside result.disks (N.told net.new, N.fault_count net.new) (C.answers clock.new)
         (S.left input.new, S.fault_count input.new) (K.held out.new, K.fault_count out.new)
         (P.told children.new, P.fault_count children.new))
         result.status result.lost.items }
     ensures told { Tells (K.held err.old, K.fault_count err.old) (K.held err.new, K.fault_count err.new)
         (status_line result.status) }
 {
-    let ending = done(
-        alloc, words, first, second, net, clock, input, out, children,
-    );
+    let ending = done(alloc, words, disks, net, clock, input, out, children);
     ending.status.tell(err);
     ending
 }
@@ -49,43 +46,42 @@ pub fn omni<D: Disk, N: Net, C: Clock, S: Source, K: Sink, P: Spawner>(
 fn done<D: Disk, N: Net, C: Clock, S: Source, K: Sink, P: Spawner>(
     alloc: Global,
     words: &[String],
-    first: D,
-    second: D,
+    disks: NodeDisks<D>,
     net: &mut N,
     clock: &mut C,
     input: &mut S,
     out: &mut K,
     children: &mut P,
 ) -> Ending<D>
-    ensures { Does D.state (map string_bytes words.now)
-        (outside first second (N.told net.old, N.fault_count net.old) (C.answers clock.old)
+    ensures { Does D.Disk (map string_bytes words.now)
+        (outside disks (N.told net.old, N.fault_count net.old) (C.answers clock.old)
         (S.left input.old, S.fault_count input.old) (K.held out.old, K.fault_count out.old)
         (P.told children.old, P.fault_count children.old))
-        (outside result.first result.second (N.told net.new, N.fault_count net.new) (C.answers clock.new)
+        (outside result.disks (N.told net.new, N.fault_count net.new) (C.answers clock.new)
         (S.left input.new, S.fault_count input.new) (K.held out.new, K.fault_count out.new)
         (P.told children.new, P.fault_count children.new))
         result.status result.lost.items }
 {
     match task(alloc, words) {
-        Ok(Task::Replay) => Ending::early(alloc, replay(alloc, input, out), first, second),
-        Ok(Task::Node(id)) => serve_as(alloc, id, first, second, net, clock, input, out),
+        Ok(Task::Replay) => Ending::early(alloc, replay(alloc, input, out), disks),
+        Ok(Task::Node(id)) => serve_as(alloc, id, disks, net, clock, input, out),
         Ok(Task::Call(addr, request)) => {
             let status = call_node(alloc, &addr, &request, net, out);
-            Ending::early(alloc, status, first, second)
+            Ending::early(alloc, status, disks)
         }
         Ok(Task::Cluster) => {
             let status = run_cluster(alloc, input, out, children);
-            Ending::early(alloc, status, first, second)
+            Ending::early(alloc, status, disks)
         }
         Ok(Task::Drill(seed, events)) => {
             let status = drill(alloc, seed, events, out);
-            Ending::early(alloc, status, first, second)
+            Ending::early(alloc, status, disks)
         }
         Ok(Task::DrillLinks(scenario, rounds)) => {
             let status = drill_links(alloc, scenario, rounds, out);
-            Ending::early(alloc, status, first, second)
+            Ending::early(alloc, status, disks)
         }
-        Err(TaskFail::Usage) => Ending::early(alloc, Status::Usage, first, second),
-        Err(TaskFail::NoMemory) => Ending::early(alloc, Status::NoMemory, first, second),
+        Err(TaskFail::Usage) => Ending::early(alloc, Status::Usage, disks),
+        Err(TaskFail::NoMemory) => Ending::early(alloc, Status::NoMemory, disks),
     }
 }

@@ -7,6 +7,7 @@ ghost use Rattle.op_setup.specs.Settings.{AreSettings, IsSettings, IsToml};
 ghost use Rattle.op_setup.specs.Causes.{IfBadConfig, IsFirstCause, IsFirstLack};
 
 mod members;
+mod mirror;
 mod numbers;
 mod peers;
 mod values;
@@ -61,6 +62,9 @@ fn set(alloc: Global, table: &Table, id: Option<Pid>) -> Result<Settings, Settin
     let Some(peers) = peers::peers(alloc, table, members.as_slice())? else {
         return Err(bad(ConfigCause::Peers));
     };
+    let Some(is_mirrored) = mirror::is_mirrored(table) else {
+        return Err(bad(ConfigCause::Mirror));
+    };
     if !peers::are_with(peers.as_slice(), id) {
         return Err(bad(ConfigCause::Id));
     }
@@ -69,6 +73,7 @@ fn set(alloc: Global, table: &Table, id: Option<Pid>) -> Result<Settings, Settin
         turns,
         members,
         peers,
+        is_mirrored,
     })
 }
 

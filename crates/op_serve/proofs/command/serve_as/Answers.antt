@@ -1,7 +1,8 @@
 use Rattle.op_outside.proofs.Seen.{rises_with_error}
 use Rattle.op_input.specs.declared.settings.Configured.{Configured}
-use Rattle.op_serve.specs.Nodes.{is_configured}
-use Rattle.op_serve.proofs.Endings.{node_of_settings, serves_misconfigured}
+use Rattle.op_serve.specs.Mirrored.{is_configured}
+use Rattle.op_serve.proofs.Endings.{node_of_settings}
+use Rattle.op_serve.proofs.Mirrors.{serves_misconfigured}
 use Rattle.op_serve.proofs.command.serve_as.Goals as goal
 
 pub serve_node-requires : goal.serve_node-requires
@@ -13,4 +14,4 @@ returns-in-Ok g c = is_configured c.in-Ok.found.settings c.in-Ok.ensures.configu
 pub returns-in-Err : goal.returns-in-Err
 returns-in-Err g c =
     let early = c.early.ensures in
-    serves_misconfigured _ _ _ _ _ _ _ _ _ _ _ _ _ _ c.in-Err.ensures.refused (rises_with_error Configured _ _ _ _ c.in-Err.ensures.count) c.in-Err.ensures.most early.first early.second early.status early.lost
+    serves_misconfigured _ _ _ _ _ _ _ _ _ _ _ _ c.in-Err.ensures.refused (rises_with_error Configured _ _ _ _ c.in-Err.ensures.count) c.in-Err.ensures.most early.disks early.status early.lost

@@ -1,6 +1,6 @@
 use Rattle.std.proofs.Common.{◌∙◌}
 use Rattle.op_serve.proofs.Endings.{ends_opened, ends_refused}
-use Rattle.op_serve.proofs.serving.serve_node.Goals as goal
+use Rattle.op_serve.proofs.serving.serve_on.Goals as goal
 
 pub serve_opened-requires-clause-ready : goal.serve_opened-requires-clause-ready
 serve_opened-requires-clause-ready g c = c.opened_nodes_can_be_served.ensures _ _ _ _ _ _ c.in-Ok.ensures.opened c.requires.server

@@ -1,0 +1,167 @@
+//! A node over disks that may be mirrored.
+ghost use Rattle.std.specs.Prelude.{◌≡◌, ◌<◌};
+ghost use Rattle.op_serve.specs.Mirrored.{EndsAlone, EndsMirrored, EndsWith, HaveFailed, environment, status_of_cause};
+ghost use Rattle.op_serve.specs.Nodes.{IsNodeOf};
+
+use crate::ended::Ended;
+use crate::ending::Ending;
+use crate::node_disks::NodeDisks;
+use crate::serving::serve_on;
+use op_mirror::{Mirror, OpenCause};
+use op_outside::{Clock, Disk, Net, Sink};
+use op_setup::Settings;
+use op_status::Status;
+use op_types::Pid;
+use std::alloc::Global;
+
+/// Serves as the node of this id, over mirrors where its settings say so.
+pub(crate) fn serve_node<D: Disk, N: Net, C: Clock, K: Sink>(
+    alloc: Global,
+    id: Pid,
+    settings: &Settings,
+    disks: NodeDisks<D>,
+    net: &mut N,
+    clock: &mut C,
+    out: &mut K,
+) -> Ending<D>
+    requires { IsNodeOf id settings.now }
+    ensures { EndsWith D.Disk settings.now.is_mirrored id settings.now
+        (environment disks (N.told net.old, N.fault_count net.old) (C.answers clock.old)
+        (K.held out.old, K.fault_count out.old))
+        (environment result.disks (N.told net.new, N.fault_count net.new) (C.answers clock.new)
+        (K.held out.new, K.fault_count out.new))
+        result.status result.lost.items }
+{
+    if settings.is_mirrored {
+        serve_mirrored(alloc, id, settings, disks, net, clock, out)
+    } else {
+        serve_alone(alloc, id, settings, disks, net, clock, out)
+    }
+}
+
+/// Serves over the first copy of each area alone.
+fn serve_alone<D: Disk, N: Net, C: Clock, K: Sink>(
+    alloc: Global,
+    id: Pid,
+    settings: &Settings,
+    disks: NodeDisks<D>,
+    net: &mut N,
+    clock: &mut C,
+    out: &mut K,
+) -> Ending<D>
+    requires { IsNodeOf id settings.now }
+    ensures { EndsAlone D.Disk id settings.now
+        (environment disks (N.told net.old, N.fault_count net.old) (C.answers clock.old)
+        (K.held out.old, K.fault_count out.old))
+        (environment result.disks (N.told net.new, N.fault_count net.new) (C.answers clock.new)
+        (K.held out.new, K.fault_count out.new))
+        result.status result.lost.items }
+{
+    let NodeDisks {
+        first,
+        second,
+        first_copy,
+        second_copy,
+    } = disks;
+    let Ended {
+        status,
+        first,
+        second,
+        lost,
+    } = serve_on(alloc, id, settings, first, second, net, clock, out);
+    Ending {
+        status,
+        disks: NodeDisks {
+            first,
+            second,
+            first_copy,
+            second_copy,
+        },
+        lost,
+    }
+}
+
+/// Opens the mirror of each area, and serves over the two.
+fn serve_mirrored<D: Disk, N: Net, C: Clock, K: Sink>(
+    alloc: Global,
+    id: Pid,
+    settings: &Settings,
+    disks: NodeDisks<D>,
+    net: &mut N,
+    clock: &mut C,
+    out: &mut K,
+) -> Ending<D>
+    requires { IsNodeOf id settings.now }
+    ensures { EndsMirrored D.Disk id settings.now
+        (environment disks (N.told net.old, N.fault_count net.old) (C.answers clock.old)
+        (K.held out.old, K.fault_count out.old))
+        (environment result.disks (N.told net.new, N.fault_count net.new) (C.answers clock.new)
+        (K.held out.new, K.fault_count out.new))
+        result.status result.lost.items }
+{
+    let NodeDisks {
+        first,
+        second,
+        first_copy,
+        second_copy,
+    } = disks;
+    let first = match Mirror::open(alloc, first, first_copy) {
+        Ok(mirror) => mirror,
+        Err(refused) => {
+            let disks = NodeDisks {
+                first: refused.first,
+                second,
+                first_copy: refused.second,
+                second_copy,
+            };
+            return Ending::early(alloc, status_of_cause(refused.cause), disks);
+        }
+    };
+    let second = match Mirror::open(alloc, second, second_copy) {
+        Ok(mirror) => mirror,
+        Err(refused) => {
+            let (first, first_copy) = copies_of(first);
+            let disks = NodeDisks {
+                first,
+                second: refused.first,
+                first_copy,
+                second_copy: refused.second,
+            };
+            return Ending::early(alloc, status_of_cause(refused.cause), disks);
+        }
+    };
+    let ended = serve_on(alloc, id, settings, first, second, net, clock, out);
+    let (first, first_copy) = copies_of(ended.first);
+    let (second, second_copy) = copies_of(ended.second);
+    Ending {
+        status: ended.status,
+        disks: NodeDisks {
+            first,
+            second,
+            first_copy,
+            second_copy,
+        },
+        lost: ended.lost,
+    }
+}
+
+/// The copies of a mirror.
+fn copies_of<D: Disk>(mirror: Mirror<D>) -> (D, D)
+    ensures first { result.0 ≡ mirror.first }
+    ensures second { result.1 ≡ mirror.second }
+    ensures failed { 0 < mirror.faults → HaveFailed D.Disk mirror }
+{
+    let _faults = mirror.faults();
+    let (first, second, _) = mirror.apart();
+    (first, second)
+}
+
+/// The status that tells why a mirror was not opened.
+fn status_of_cause(cause: OpenCause) -> Status
+    ensures { result ≡ status_of_cause cause }
+{
+    match cause {
+        OpenCause::DiskFail => Status::DiskFault,
+        OpenCause::NoMemory => Status::NoMemory,
+    }
+}
