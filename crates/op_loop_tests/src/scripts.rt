@@ -96,6 +96,7 @@ fn settings(alloc: Global, turns: u64) -> Result<Settings, NoMemory>
         turns: turns.min(MOST_TURNS),
         members: sole()?,
         peers: Peers::from_vec(peers),
+        is_mirrored: false,
     })
 }
 

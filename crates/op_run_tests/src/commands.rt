@@ -21,7 +21,7 @@ type Row = (
     &'static str,
 );
 
-const ROWS: [Row; 16] = [
+const ROWS: [Row; 18] = [
     (
         &["node", "1"],
         SOLE,
@@ -53,6 +53,27 @@ const ROWS: [Row; 16] = [
         "",
         "bad config tick_ms\n",
     ),
+    (
+        &["node", "1"],
+        "tick_ms = 10\nturns = 3\nmembers = [1]\nmirror = 1\n[peers]\n1 = '127.0.0.1:7101'\n",
+        &[],
+        &[],
+        Status::BadConfig {
+            cause: ConfigCause::Mirror,
+        },
+        "",
+        "bad config mirror\n",
+    ),
+    // Damage of a mirrored area is told as that of one without a second copy.
+    (
+        &["node", "1"],
+        "tick_ms = 10\nturns = 3\nmembers = [1]\nmirror = true\n[peers]\n1 = '127.0.0.1:7101'\n",
+        &[0xA5, 1, 2, 3],
+        &[],
+        Status::Damaged { area: 0, at: 0 },
+        "",
+        "damaged a 0\n",
+    ),
     // It can't listen.
     (
         &["node", "1"],
@@ -81,7 +102,7 @@ const ROWS: [Row; 16] = [
         &[],
         Status::Damaged { area: 0, at: 0 },
         "",
-        "damaged 0 0\n",
+        "damaged a 0\n",
     ),
     (
         &["call", "127.0.0.1:7101", "status"],

@@ -10,7 +10,11 @@ mod crashes;
 #[cfg(test)]
 mod fates;
 #[cfg(test)]
+mod kills;
+#[cfg(test)]
 mod letters;
+#[cfg(test)]
+mod mirrored;
 #[cfg(test)]
 mod reads;
 #[cfg(test)]

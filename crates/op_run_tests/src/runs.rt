@@ -3,26 +3,29 @@ ghost use Rattle.std.specs.Prelude.{◌<◌};
 
 use op_memory::{FakeClock, FakeSpawner, MemDisk, MemSink, MemSource, NetScript, ScriptNet};
 use op_outside::{Sink, Source};
-use op_top::{Status, omni};
+use op_top::{NodeDisks, Status, omni};
 use std::alloc::{AllocError, Global};
 use std::collections::VecDeque;
 
 /// What is outside beside the streams.
 #[derive(Drop)]
 pub struct Things {
-    pub first: MemDisk,
-    pub second: MemDisk,
+    pub disks: NodeDisks<MemDisk>,
     pub net: ScriptNet,
     pub clock: FakeClock,
     pub children: FakeSpawner,
 }
 
 impl Things {
-    /// Disks with these bytes on the first one, a net that plays this script, and a clock that goes on by 100 ms.
+    /// Disks with these bytes on the first area's, a net that plays this script, and a clock that goes on by 100 ms.
     pub fn new(alloc: Global, bytes: Vec<u8>, script: NetScript) -> Result<Things, AllocError> {
         Ok(Things {
-            first: MemDisk::new(alloc, bytes)?,
-            second: MemDisk::new(alloc, Vec::new(alloc))?,
+            disks: NodeDisks {
+                first: MemDisk::new(alloc, bytes)?,
+                second: MemDisk::new(alloc, Vec::new(alloc))?,
+                first_copy: MemDisk::new(alloc, Vec::new(alloc))?,
+                second_copy: MemDisk::new(alloc, Vec::new(alloc))?,
+            },
             net: ScriptNet::new(alloc, script),
             clock: FakeClock::new(alloc, VecDeque::new(alloc), 100),
             children: FakeSpawner::new(alloc, VecDeque::new(alloc), Vec::new(alloc)),
@@ -104,8 +107,7 @@ pub fn ended_with_net<S: Source>(
     sinks: &mut Sinks,
 ) -> (Status, ScriptNet) {
     let Things {
-        first,
-        second,
+        disks,
         mut net,
         mut clock,
         mut children,
@@ -113,8 +115,7 @@ pub fn ended_with_net<S: Source>(
     let ending = omni(
         alloc,
         words,
-        first,
-        second,
+        disks,
         &mut net,
         &mut clock,
         input,

@@ -1,9 +1,9 @@
 //! The command `call` against the command `node`: what one wrote is what the other reads.
 
 use crate::runs::{Sinks, Things, ended_with_net, source, words_of};
-use op_memory::{FakeClock, Incoming, KeptCall, NetScript, ScriptNet};
+use op_memory::{FakeClock, Incoming, KeptCall, MemDisk, NetScript, ScriptNet};
 use op_outside::{Conn, Happening, Took};
-use op_top::Status;
+use op_top::{NodeDisks, Status};
 use std::alloc::{AllocError, Global};
 use std::collections::VecDeque;
 use std::test::Fail;
@@ -17,7 +17,7 @@ const TIMES: [u64; 4] = [0, 0, 20, 40];
 const OWN: Conn = 5;
 
 /// A client's words, and the line that its reply is.
-type Row = (&'static [&'static str], &'static str);
+pub type Row = (&'static [&'static str], &'static str);
 
 /// The first client comes before the node leads.
 const ROWS: [Row; 3] = [
@@ -35,8 +35,33 @@ const ROWS: [Row; 3] = [
     ),
 ];
 
+/// The calls in which disks stop: of the first area, of the second, and of their second copies. 0 is none.
+#[derive(Clone, Copy)]
+pub struct Stops(pub [u64; 4]);
+
+/// No disk stops.
+pub const NO_STOPS: Stops = Stops([0; 4]);
+
+impl Stops {
+    /// Has the disks stop so.
+    pub fn give(self, disks: &mut NodeDisks<MemDisk>) {
+        let Stops([first, second, first_copy, second_copy]) = self;
+        stop(&mut disks.first, first);
+        stop(&mut disks.second, second);
+        stop(&mut disks.first_copy, first_copy);
+        stop(&mut disks.second_copy, second_copy);
+    }
+}
+
+/// Has a disk stop in this call, unless that is 0.
+fn stop(disk: &mut MemDisk, call: u64) {
+    if call != 0 {
+        disk.stop_at(call);
+    }
+}
+
 /// How these words end over things and settings, and the net then.
-fn run(
+pub fn run(
     alloc: Global,
     words: &[&str],
     things: Things,
@@ -102,8 +127,13 @@ fn add_visitor(
     Ok(())
 }
 
-/// The net of a node that each row's client came to in a turn, numbered from 0.
-fn served(alloc: Global, rows: &[Row]) -> Result<ScriptNet, AllocError> {
+/// The net of a node with these settings and disks that each row's client came to in a turn, numbered from 0.
+fn served(
+    alloc: Global,
+    rows: &[Row],
+    settings: &str,
+    stops: Stops,
+) -> Result<ScriptNet, AllocError> {
     let mut script = NetScript::new(alloc);
     let mut conn = 0u64;
     for row in rows {
@@ -111,18 +141,24 @@ fn served(alloc: Global, rows: &[Row]) -> Result<ScriptNet, AllocError> {
         conn = conn.saturating_add(1);
     }
     let mut things = Things::new(alloc, Vec::new(alloc), script)?;
+    stops.give(&mut things.disks);
     let mut times = VecDeque::new(alloc);
     for time in TIMES {
         times.push_back(time)?;
     }
     things.clock = FakeClock::new(alloc, times, 20);
     let mut sinks = Sinks::new(alloc, 100, 100)?;
-    Ok(run(alloc, &["node", "1"], things, SOLE, &mut sinks)?.1)
+    Ok(run(alloc, &["node", "1"], things, settings, &mut sinks)?.1)
 }
 
 /// The first row whose client is told something else.
-fn first_wrong(alloc: Global, rows: &[Row]) -> Result<Option<usize>, AllocError> {
-    let net = served(alloc, rows)?;
+pub fn first_wrong(
+    alloc: Global,
+    rows: &[Row],
+    settings: &str,
+    stops: Stops,
+) -> Result<Option<usize>, AllocError> {
+    let net = served(alloc, rows, settings, stops)?;
     let mut conn = 0u64;
     for (place, row) in rows.iter().enumerate() {
         let reply = written_to(alloc, &net, conn)?;
@@ -137,6 +173,6 @@ fn first_wrong(alloc: Global, rows: &[Row]) -> Result<Option<usize>, AllocError>
 /// A client whose put is refused, one whose put is done, and one that asks for the status.
 #[test]
 fn clients_are_told_what_a_node_answers(rt: HostRuntime) -> Result<(), Fail> {
-    assert_eq!(rt; first_wrong(rt.alloc(), &ROWS)?, None);
+    assert_eq!(rt; first_wrong(rt.alloc(), &ROWS, SOLE, NO_STOPS)?, None);
     Ok(())
 }

@@ -3,7 +3,7 @@
 use op_outside::Addr;
 use op_setup::{ConfigCause, SettingsFail, settings};
 use op_types::Pid;
-use std::alloc::Global;
+use std::alloc::{AllocError, Global};
 
 /// The settings of a cluster of three; the keys of a TOML table come in no order of numbers.
 const THREE: &str =
@@ -46,8 +46,31 @@ fn reads_a_cluster_of_three(rt: HostRuntime) {
     assert!(rt; are_peers(found.peers.as_slice(), &PEERS));
 }
 
+/// The settings of a node alone, but for the key `mirror`.
+const SOLE: &str = "tick_ms = 1\nturns = 1\nmembers = [1]\npeers = { 1 = '127.0.0.1:7000' }\n";
+
+/// Lines of the key `mirror`, and whether the disks are mirrored.
+const MIRRORS: [(&str, bool); 3] = [
+    ("", false),
+    ("mirror = false\n", false),
+    ("mirror = true\n", true),
+];
+
+#[test]
+fn reads_whether_the_disks_are_mirrored(rt: HostRuntime) -> Result<(), AllocError> {
+    for (line, is_mirrored) in MIRRORS {
+        let text = format!(in rt.alloc(); "{SOLE}{line}")?;
+        let found = settings(rt.alloc(), text.as_bytes(), Some(1));
+        assert!(rt;
+            found.is_ok_and(|found| found.is_mirrored == is_mirrored),
+            "{line}"
+        );
+    }
+    Ok(())
+}
+
 /// Texts at a node or at none, each with its first cause.
-const CAUSES: [(&str, Option<Pid>, ConfigCause); 7] = [
+const CAUSES: [(&str, Option<Pid>, ConfigCause); 10] = [
     ("tick_ms = \n", None, ConfigCause::Text),
     ("turns = 0\n", None, ConfigCause::TickMs),
     ("tick_ms = 60000\nturns = 0\n", None, ConfigCause::Turns),
@@ -65,6 +88,22 @@ const CAUSES: [(&str, Option<Pid>, ConfigCause); 7] = [
         "tick_ms = 1\nturns = 1\nmembers = [1]\npeers = { 1 = '1.1.1.1:0' }\n",
         None,
         ConfigCause::Peers,
+    ),
+    // Peers that are wrong are told before a mirror that is, and that before an id that is no peer's.
+    (
+        "tick_ms = 1\nturns = 1\nmembers = [1]\nmirror = 1\n",
+        None,
+        ConfigCause::Peers,
+    ),
+    (
+        "tick_ms = 1\nturns = 1\nmembers = [1]\nmirror = 1\npeers = { 1 = '127.0.0.1:7000' }\n",
+        Some(2),
+        ConfigCause::Mirror,
+    ),
+    (
+        "tick_ms = 1\nturns = 1\nmembers = [1]\nmirror = 'true'\npeers = { 1 = '127.0.0.1:7000' }\n",
+        None,
+        ConfigCause::Mirror,
     ),
     (THREE, Some(3), ConfigCause::Id),
 ];
