@@ -55,9 +55,8 @@ impl Area for MemMirror {
         }
     }
 
-    /// It answers NoMemory too where a copy that is out isn't killed and pends otherwise than the one that is read. That is so
-    /// after a stop in a second copy's sync, in its write or cut where the first copy's next call was one too, and in an
-    /// opening of copies that differ.
+    /// It answers NoMemory too where a copy that is out isn't killed and pends otherwise than the one that is read. No stop leads
+    /// there, since both copies stop in the same call of the mirror: only a call that was to fail of a copy that lives on.
     fn close(self) -> Result<DiskPair, NoMemory> {
         let MemMirror { mirror } = self;
         let living = mirror.living();
