@@ -8,6 +8,8 @@ mod damage;
 #[cfg(test)]
 mod memory;
 #[cfg(test)]
+mod mirror_stops;
+#[cfg(test)]
 mod mirrored_stores;
 #[cfg(test)]
 mod mirrors;
