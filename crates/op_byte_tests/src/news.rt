@@ -1,4 +1,4 @@
-//! Messages of trimming, of joining, of several commands, and of reads.
+//! Messages of trimming, of joining, of several commands, of reads, and parts of long ones.
 
 use crate::pieces::{Tail, bytes_of};
 use crate::puts::are_puts;
@@ -23,6 +23,13 @@ enum Wanted<'a> {
     Segment(u64, usize),
     /// How many commands `put 7 1 a x` are forwarded.
     Forwards(usize),
+    /// The promised ballot and the accepted one; the length, what is decided, where the entries begin, and where the run does;
+    /// and how many entries `put 7 1 a x` it has.
+    PromisePart(Ballot, Ballot, [u64; 4], usize),
+    /// The leader's ballot; where the entries begin and end, and where the run begins; and how many entries it has.
+    AcceptSyncPart(Ballot, [u64; 3], usize),
+    /// A position, how many bytes the base has, and some of them from a place on.
+    BasePiece(u64, u64, u64, &'a [u8]),
     /// The leader's ballot, and the number of a read.
     Confirm(Ballot, u64),
     Confirmed(Ballot, u64),
@@ -32,7 +39,7 @@ enum Wanted<'a> {
 const LEADER: Ballot = Ballot { number: 5, pid: 3 };
 
 /// Messages from 2 to 3 in configuration 4: their bytes from the tag on, and what they say.
-const MESSAGES: [(&[u8], Tail, Wanted<'static>); 11] = [
+const MESSAGES: [(&[u8], Tail, Wanted<'static>); 14] = [
     (
         &[12, 0, 0, 0, 4, 0, 0, 0, 0, 0, 0, 0, 5, 0, 0, 0, 3],
         Tail::Nothing,
@@ -79,6 +86,31 @@ const MESSAGES: [(&[u8], Tail, Wanted<'static>); 11] = [
         ],
         Tail::Puts(1),
         Wanted::Segment(6, 1),
+    ),
+    (
+        &[
+            20, 0, 0, 0, 4, 0, 0, 0, 0, 0, 0, 0, 5, 0, 0, 0, 3, 0, 0, 0, 0, 0, 0, 0, 4, 0, 0, 0, 2,
+            0, 0, 0, 0, 0, 0, 0, 9, 0, 0, 0, 0, 0, 0, 0, 1, 0, 0, 0, 0, 0, 0, 0, 6, 0, 0, 0, 0, 0,
+            0, 0, 7, 0, 0, 0, 0, 0, 0, 0, 1,
+        ],
+        Tail::Puts(1),
+        Wanted::PromisePart(LEADER, Ballot { number: 4, pid: 2 }, [9, 1, 6, 7], 1),
+    ),
+    (
+        &[
+            21, 0, 0, 0, 4, 0, 0, 0, 0, 0, 0, 0, 5, 0, 0, 0, 3, 0, 0, 0, 0, 0, 0, 0, 6, 0, 0, 0, 0,
+            0, 0, 0, 9, 0, 0, 0, 0, 0, 0, 0, 7, 0, 0, 0, 0, 0, 0, 0, 2,
+        ],
+        Tail::Puts(2),
+        Wanted::AcceptSyncPart(LEADER, [6, 9, 7], 2),
+    ),
+    (
+        &[
+            22, 0, 0, 0, 4, 0, 0, 0, 0, 0, 0, 0, 6, 0, 0, 0, 0, 0, 0, 1, 2, 0, 0, 0, 0, 0, 0, 1, 0,
+            0, 0, 0, 0, 0, 0, 0, 2, b'a', b'b',
+        ],
+        Tail::Nothing,
+        Wanted::BasePiece(6, 258, 256, b"ab"),
     ),
     (
         &[
@@ -139,6 +171,30 @@ fn is_of_a_list(body: &Body, wanted: Wanted) -> bool {
     }
 }
 
+/// Whether a part of a long message says this.
+fn is_part(body: &Body, wanted: Wanted) -> bool {
+    match (body, wanted) {
+        (Body::PromisePart(ballot, part), Wanted::PromisePart(leader, accepted, places, count)) => {
+            *ballot == leader
+                && part.accepted == accepted
+                && [part.len, part.decided, part.start, part.at] == places
+                && are_puts(part.run.as_slice(), count)
+        }
+        (Body::AcceptSyncPart(ballot, part), Wanted::AcceptSyncPart(leader, places, count)) => {
+            *ballot == leader
+                && [part.start, part.end, part.at] == places
+                && are_puts(part.run.as_slice(), count)
+        }
+        (Body::BasePiece(piece), Wanted::BasePiece(at, total, from, bytes)) => {
+            piece.at == at
+                && piece.total == total
+                && piece.from == from
+                && piece.bytes.as_slice() == bytes
+        }
+        _ => false,
+    }
+}
+
 /// These bytes after the ids of the sender 2 and of the addressee 3.
 fn from_2_to_3(alloc: Global, body: &[u8], tail: Tail) -> Result<Vec<u8>, NoMemory> {
     let mut bytes = bytes_of(alloc, &[0, 0, 0, 2, 0, 0, 0, 3], Tail::Nothing)?;
@@ -154,7 +210,9 @@ fn says(alloc: Global, bytes: &[u8], wanted: Wanted) -> Result<bool, NoMemory> {
     };
     let mut out = Vec::new(alloc);
     put(&mut out, 2, 3, &message)?;
-    let said = is_led(&message.body, wanted) || is_of_a_list(&message.body, wanted);
+    let said = is_led(&message.body, wanted)
+        || is_of_a_list(&message.body, wanted)
+        || is_part(&message.body, wanted);
     Ok(said && message.conf == 4 && out.as_slice() == bytes)
 }
 
@@ -177,9 +235,9 @@ fn messages_are_read_and_written(rt: HostRuntime) -> Result<(), Fail> {
 
 /// Bytes from the tag on that are no message's, and the place that is named.
 const BAD: [(&[u8], Tail, usize); 13] = [
-    (&[20, 0, 0, 0, 4], Tail::Nothing, 8),
-    (&[22, 0, 0, 0, 4], Tail::Nothing, 8),
+    (&[0, 0, 0, 0, 4], Tail::Nothing, 8),
     (&[25, 0, 0, 0, 4], Tail::Nothing, 8),
+    (&[26, 0, 0, 0, 4], Tail::Nothing, 8),
     (&[27, 0, 0, 0, 4], Tail::Nothing, 8),
     (&[29, 0, 0, 0, 4], Tail::Nothing, 8),
     // news of the first configuration

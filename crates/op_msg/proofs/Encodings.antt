@@ -12,8 +12,8 @@ use Rattle.op_fields.proofs.Composites.{pair-reads, fitted-reads, tested-reads, 
 use Rattle.op_fields.proofs.Choices.{OptionsTake, OptionsAgain, no_option-takes, option-takes, choice-reads}
 use Rattle.op_entry.specs.Forms.{ballot, members, command, entry_tag, entry_body, entry}
 use Rattle.op_entry.proofs.Encodings.{ballot_reads, members_reads, command_reads, entry_reads, entries_reads}
-use Rattle.op_msg.specs.Ranges.{ForwardedInRange, ForwardsInRange, least_conf_of, BodyFits, MsgFits, AddressedFits}
-use Rattle.op_msg.specs.Forms.{round, place, flag, nothing, pid, least_conf, conf, closed_len, heartbeat_reply, prepare, told, promise, entries_from, length_in, refuse, next_conf, base_part, read_number, read_in, forwarded_options, forwarded, forwards, ask_segment, segment, body_tag, body_text, body_options, body, is_tag, kind, msg_parts, msg, addressed_parts, addressed}
+use Rattle.op_msg.specs.Ranges.{ForwardedInRange, ForwardsInRange, PromisedRunInRange, SyncRunInRange, PieceFits, least_conf_of, BodyFits, MsgFits, AddressedFits}
+use Rattle.op_msg.specs.Forms.{round, place, flag, nothing, pid, least_conf, conf, closed_len, heartbeat_reply, prepare, told, promise, entries_from, length_in, refuse, next_conf, base_part, told_run, promised_run, promise_part, sync_run, sync_part, byte_count, piece, read_number, read_in, forwarded_options, forwarded, forwards, ask_segment, segment, body_tag, body_text, body_options, body, is_tag, kind, msg_parts, msg, addressed_parts, addressed}
 
 -- ---- fields
 
@@ -118,6 +118,33 @@ read_number_reads = number-reads w64 (2 ^ 64) wide64 1 (2 ^ 62 - 1) (omega arith
 read_in_reads : Reads read_in
 read_in_reads = pair-reads ballot (λ _. read_number) ballot_reads (λ _ _. read_number_reads)
 
+told_run_reads : Reads told_run
+told_run_reads = pair-reads place _ place_reads (λ _ _. pair-reads place _ place_reads (λ _ _. pair-reads place _ place_reads (λ _ _. pair-reads place _ place_reads (λ _ _. entries_reads))))
+
+promised_run_reads : Reads promised_run
+promised_run_reads = fitted-reads _ _ PromisedRunInRange _ (pair-reads ballot _ ballot_reads (λ _ _. told_run_reads))
+    (λ x fit. (refl, record { accepted = fit.0; len = fit.1.0.1; decided = fit.1.1.0.1; start = fit.1.1.1.0.1; at = fit.1.1.1.1.0.1; run = fit.1.1.1.1.1 }))
+    (λ r fit. ((fit.accepted, ((omega arith, fit.len), ((omega arith, fit.decided), ((omega arith, fit.start), ((omega arith, fit.at), fit.run))))), refl))
+
+promise_part_reads : Reads promise_part
+promise_part_reads = pair-reads ballot _ ballot_reads (λ _ _. promised_run_reads)
+
+sync_run_reads : Reads sync_run
+sync_run_reads = fitted-reads _ _ SyncRunInRange _ (pair-reads place _ place_reads (λ _ _. pair-reads place _ place_reads (λ _ _. pair-reads place _ place_reads (λ _ _. entries_reads))))
+    (λ x fit. (refl, record { start = fit.0.1; end = fit.1.0.1; at = fit.1.1.0.1; run = fit.1.1.1 }))
+    (λ r fit. (((omega arith, fit.start), ((omega arith, fit.end), ((omega arith, fit.at), fit.run))), refl))
+
+sync_part_reads : Reads sync_part
+sync_part_reads = pair-reads ballot _ ballot_reads (λ _ _. sync_run_reads)
+
+byte_count_reads : Reads byte_count
+byte_count_reads = number-reads w64 (2 ^ 64) wide64 0 (2 ^ 64 - 1) (omega arith)
+
+piece_reads : Reads piece
+piece_reads = fitted-reads _ _ PieceFits _ (pair-reads place _ place_reads (λ _ _. pair-reads byte_count _ byte_count_reads (λ _ _. pair-reads byte_count _ byte_count_reads (λ _ _. counted-reads w64 (2 ^ 64) wide64 1 1000000 (omega arith)))))
+    (λ x fit. (refl, (record { at = fit.0.1; some = fit.1.1.1.0; few = fit.1.1.1.1 }, record { total = fit.1.0.1; from = fit.1.1.0.1 })))
+    (λ p fit. (((omega arith, fit.0.at), ((omega arith, fit.1.total), ((omega arith, fit.1.from), (fit.0.some, fit.0.few)))), refl))
+
 -- ---- what a message says
 
 body_takes : OptionsTake body_tag body_text BodyFits body_options
@@ -141,10 +168,13 @@ body_takes =
     (option-takes body_tag body_text BodyFits 17 base_part (λ x. variant.BasePart x.0 x.1) _ base_part_reads (λ x fit. (refl, (fit.0.1, fit.1.1), refl))
     (option-takes body_tag body_text BodyFits 18 ask_segment (λ x. variant.AskSegment x.0 x.1) _ ask_segment_reads (λ x fit. (refl, ((fit.0.1, fit.1.1), tt), refl))
     (option-takes body_tag body_text BodyFits 19 segment (λ x. variant.Segment x.0 x.1) _ segment_reads (λ x fit. (refl, ((fit.0.1, fit.1), tt), refl))
+    (option-takes body_tag body_text BodyFits 20 promise_part (λ x. variant.PromisePart x.0 x.1) _ promise_part_reads (λ x fit. (refl, ((fit.0, fit.1), tt), refl))
+    (option-takes body_tag body_text BodyFits 21 sync_part (λ x. variant.AcceptSyncPart x.0 x.1) _ sync_part_reads (λ x fit. (refl, ((fit.0, fit.1), tt), refl))
+    (option-takes body_tag body_text BodyFits 22 piece (λ p. variant.BasePiece p) _ piece_reads (λ p fit. (refl, (fit.0, fit.1), refl))
     (option-takes body_tag body_text BodyFits 23 read_in (λ x. variant.Confirm x.0 x.1) _ read_in_reads (λ x fit. (refl, ((fit.0, fit.1), tt), refl))
     (option-takes body_tag body_text BodyFits 24 read_in (λ x. variant.Confirmed x.0 x.1) _ read_in_reads (λ x fit. (refl, ((fit.0, fit.1), tt), refl))
     (option-takes body_tag body_text BodyFits 28 forwards (λ es. variant.Forwards es) no_option forwards_reads (λ es fit. (refl, (fit, tt), refl))
-    (no_option-takes body_tag body_text BodyFits))))))))))))))))))))))
+    (no_option-takes body_tag body_text BodyFits)))))))))))))))))))))))))
 
 body_again : OptionsAgain body_tag body_text BodyFits body_options
 body_again (variant.HeartbeatRequest r) bytes at rest fit le is = made (round.read bytes at) (λ r. variant.HeartbeatRequest r) r _ (round_reads.again bytes at r rest (omega arith, fit.0) le is)
@@ -170,6 +200,9 @@ body_again variant.AskBase bytes at rest fit le is = made (nothing.read bytes at
 body_again (variant.BasePart n b) bytes at rest fit le is = made (base_part.read bytes at) (λ x. variant.BasePart x.0 x.1) (n, b) _ (base_part_reads.again bytes at (n, b) rest ((omega arith, fit.0), (omega arith, fit.1)) le is)
 body_again (variant.AskSegment from to) bytes at rest fit le is = made (ask_segment.read bytes at) (λ x. variant.AskSegment x.0 x.1) (from, to) _ (ask_segment_reads.again bytes at (from, to) rest ((omega arith, fit.0.0), (omega arith, fit.0.1)) le is)
 body_again (variant.Segment n es) bytes at rest fit le is = made (segment.read bytes at) (λ x. variant.Segment x.0 x.1) (n, es) _ (segment_reads.again bytes at (n, es) rest ((omega arith, fit.0.0), fit.0.1) le is)
+body_again (variant.PromisePart n part) bytes at rest fit le is = made (promise_part.read bytes at) (λ x. variant.PromisePart x.0 x.1) (n, part) _ (promise_part_reads.again bytes at (n, part) rest (fit.0.0, fit.0.1) le is)
+body_again (variant.AcceptSyncPart n part) bytes at rest fit le is = made (sync_part.read bytes at) (λ x. variant.AcceptSyncPart x.0 x.1) (n, part) _ (sync_part_reads.again bytes at (n, part) rest (fit.0.0, fit.0.1) le is)
+body_again (variant.BasePiece p) bytes at rest fit le is = made (piece.read bytes at) (λ p. variant.BasePiece p) p _ (piece_reads.again bytes at p rest (fit.0, fit.1) le is)
 body_again (variant.Confirm n number) bytes at rest fit le is = made (read_in.read bytes at) (λ y. variant.Confirm y.0 y.1) (n, number) _ (read_in_reads.again bytes at (n, number) rest (fit.0.0, fit.0.1) le is)
 body_again (variant.Confirmed n number) bytes at rest fit le is = made (read_in.read bytes at) (λ y. variant.Confirmed y.0 y.1) (n, number) _ (read_in_reads.again bytes at (n, number) rest (fit.0.0, fit.0.1) le is)
 body_again (variant.Forwards es) bytes at rest fit le is = made (forwards.read bytes at) (λ es. variant.Forwards es) es _ (forwards_reads.again bytes at es rest fit.0 le is)
@@ -201,6 +234,9 @@ body_tags variant.AskBase = ((lit≤ tt, lit≤ tt), refl)
 body_tags (variant.BasePart at b) = ((lit≤ tt, lit≤ tt), refl)
 body_tags (variant.AskSegment from to) = ((lit≤ tt, lit≤ tt), refl)
 body_tags (variant.Segment at es) = ((lit≤ tt, lit≤ tt), refl)
+body_tags (variant.PromisePart n part) = ((lit≤ tt, lit≤ tt), refl)
+body_tags (variant.AcceptSyncPart n part) = ((lit≤ tt, lit≤ tt), refl)
+body_tags (variant.BasePiece p) = ((lit≤ tt, lit≤ tt), refl)
 body_tags (variant.Confirm n number) = ((lit≤ tt, lit≤ tt), refl)
 body_tags (variant.Confirmed n number) = ((lit≤ tt, lit≤ tt), refl)
 body_tags (variant.Forwards es) = ((lit≤ tt, lit≤ tt), refl)
@@ -226,6 +262,9 @@ least_same variant.AskBase = refl
 least_same (variant.BasePart at b) = refl
 least_same (variant.AskSegment from to) = refl
 least_same (variant.Segment at es) = refl
+least_same (variant.PromisePart n part) = refl
+least_same (variant.AcceptSyncPart n part) = refl
+least_same (variant.BasePiece p) = refl
 least_same (variant.Confirm n number) = refl
 least_same (variant.Confirmed n number) = refl
 least_same (variant.Forwards es) = refl

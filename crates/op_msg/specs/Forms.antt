@@ -1,7 +1,7 @@
 -- Messages between servers as bytes.
 use Rattle.std.specs.Prelude.{◌≡◌, ◌==◌, ◌||◌, if◌then◌else◌, nat_lt, ℕ, Bool, List, [], Ok}
 use Rattle.std.specs.Int.{w8, w32, w64}
-use Rattle.op_types.specs.Limits.{greatest_pid, greatest_number, last_conf, positions_end, most_commands}
+use Rattle.op_types.specs.Limits.{greatest_pid, greatest_number, last_conf, positions_end, most_commands, most_part_bytes}
 use Rattle.op_fields.specs.Form.{Form, Options, number, counted, pair, fitted, tested, listed, option, no_option, choice}
 use Rattle.op_types.specs.declared.ballot.Ballot.{Ballot}
 use Rattle.op_types.specs.declared.log.Entry.{Entry}
@@ -9,8 +9,11 @@ use Rattle.op_types.specs.declared.log.Entry.TheVariants as kind_of
 use Rattle.op_types.specs.declared.messages.Body.{Body}
 use Rattle.op_types.specs.declared.messages.Body.TheVariants as variant
 use Rattle.op_types.specs.declared.messages.Msg.{Msg}
+use Rattle.op_types.specs.declared.runs.PromisedRun.{PromisedRun}
+use Rattle.op_types.specs.declared.runs.SyncRun.{SyncRun}
+use Rattle.op_types.specs.declared.runs.Piece.{Piece}
 use Rattle.op_entry.specs.Forms.{ballot, members, command, entry_tag, entry_body, entry, entries}
-use Rattle.op_msg.specs.Ranges.{greatest_length, ForwardedInRange, ForwardsInRange, BodyFits, MsgFits, AddressedFits}
+use Rattle.op_msg.specs.Ranges.{greatest_length, ForwardedInRange, ForwardsInRange, PromisedRunInRange, SyncRunInRange, PieceFits, BodyFits, MsgFits, AddressedFits}
 
 -- ---- fields
 
@@ -109,6 +112,51 @@ ask_segment = pair place (λ _. place)
 abbrev pub segment : Form (ℕ × List Entry)
 segment = pair place (λ _. entries)
 
+-- of a log its length, how much is decided, where a promise's entries begin, and a run from a position on
+abbrev pub told_run : Form (ℕ × (ℕ × (ℕ × (ℕ × List Entry))))
+told_run = pair place (λ _. pair place (λ _. pair place (λ _. pair place (λ _. entries))))
+
+-- a part of a promise
+abbrev pub promised_run : Form PromisedRun
+promised_run =
+    fitted
+    (λ x. record {
+      accepted = x.0;
+      len = x.1.0;
+      decided = x.1.1.0;
+      start = x.1.1.1.0;
+      at = x.1.1.1.1.0;
+      run = x.1.1.1.1.1;
+    })
+    (λ r. (r.accepted, (r.len, (r.decided, (r.start, (r.at, r.run)))))) PromisedRunInRange
+    (pair ballot (λ _. told_run))
+
+-- the promised ballot, and a part of the promise
+abbrev pub promise_part : Form (Ballot × PromisedRun)
+promise_part = pair ballot (λ _. promised_run)
+
+-- a part of an AcceptSync: where its entries begin and end, and a run of these with its position
+abbrev pub sync_run : Form SyncRun
+sync_run =
+    fitted (λ x. record { start = x.0; end = x.1.0; at = x.1.1.0; run = x.1.1.1 })
+    (λ r. (r.start, (r.end, (r.at, r.run)))) SyncRunInRange
+    (pair place (λ _. pair place (λ _. pair place (λ _. entries))))
+
+-- the leader's ballot, and a part of the AcceptSync
+abbrev pub sync_part : Form (Ballot × SyncRun)
+sync_part = pair ballot (λ _. sync_run)
+
+-- how many bytes there are, or a place among them
+abbrev pub byte_count : Form ℕ
+byte_count = number w64 0 greatest_length
+
+-- a base's position, how many bytes it has, and some of these from a place on
+abbrev pub piece : Form Piece
+piece =
+    fitted (λ x. record { at = x.0; total = x.1.0; from = x.1.1.0; bytes = x.1.1.1 })
+    (λ p. (p.at, (p.total, (p.from, p.bytes)))) PieceFits
+    (pair place (λ _. pair byte_count (λ _. pair byte_count (λ _. counted w64 1 most_part_bytes))))
+
 -- a ballot and the number of a read
 abbrev pub read_in : Form (Ballot × ℕ)
 read_in = pair ballot (λ _. read_number)
@@ -136,6 +184,9 @@ body_tag variant.AskBase = 16
 body_tag (variant.BasePart at b) = 17
 body_tag (variant.AskSegment from to) = 18
 body_tag (variant.Segment at es) = 19
+body_tag (variant.PromisePart n part) = 20
+body_tag (variant.AcceptSyncPart n part) = 21
+body_tag (variant.BasePiece p) = 22
 body_tag (variant.Confirm n number) = 23
 body_tag (variant.Confirmed n number) = 24
 body_tag (variant.Forwards es) = 28
@@ -161,6 +212,9 @@ body_text variant.AskBase = nothing.text tt
 body_text (variant.BasePart at b) = base_part.text (at, b)
 body_text (variant.AskSegment from to) = ask_segment.text (from, to)
 body_text (variant.Segment at es) = segment.text (at, es)
+body_text (variant.PromisePart n part) = promise_part.text (n, part)
+body_text (variant.AcceptSyncPart n part) = sync_part.text (n, part)
+body_text (variant.BasePiece p) = piece.text p
 body_text (variant.Confirm n number) = read_in.text (n, number)
 body_text (variant.Confirmed n number) = read_in.text (n, number)
 body_text (variant.Forwards es) = forwards.text es
@@ -187,10 +241,13 @@ body_options =
     (option 17 base_part (λ x. variant.BasePart x.0 x.1)
     (option 18 ask_segment (λ x. variant.AskSegment x.0 x.1)
     (option 19 segment (λ x. variant.Segment x.0 x.1)
+    (option 20 promise_part (λ x. variant.PromisePart x.0 x.1)
+    (option 21 sync_part (λ x. variant.AcceptSyncPart x.0 x.1)
+    (option 22 piece (λ p. variant.BasePiece p)
     (option 23 read_in (λ x. variant.Confirm x.0 x.1)
     (option 24 read_in (λ x. variant.Confirmed x.0 x.1)
     (option 28 forwards (λ es. variant.Forwards es)
-    no_option)))))))))))))))))))))
+    no_option))))))))))))))))))))))))
 
 -- what a message with this tag says
 abbrev pub body : ℕ → Form Body
@@ -202,7 +259,7 @@ body tag = record {
 
 -- a tag that a message has
 abbrev pub is_tag : ℕ → Bool
-is_tag tag = nat_lt tag 20 || (tag == 23 || (tag == 24 || tag == 28))
+is_tag tag = nat_lt tag 25 || tag == 28
 
 -- a tag
 abbrev pub kind : Form ℕ

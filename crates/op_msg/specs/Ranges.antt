@@ -1,12 +1,15 @@
 -- Which messages are in range, and which of them have an encoding.
 use Rattle.std.specs.Prelude.{◌≤◌, ◌-◌, ◌^◌, ℕ, List, length, All}
-use Rattle.op_types.specs.Limits.{greatest_number, last_conf, positions_end, most_commands}
+use Rattle.op_types.specs.Limits.{greatest_number, last_conf, positions_end, most_commands, most_part_bytes}
 use Rattle.op_types.specs.Changes.{IsCommand}
 use Rattle.op_types.specs.declared.log.Entry.{Entry}
 use Rattle.op_types.specs.Ranges.{IsPid, IsPlace, IsNumber, BallotInRange, MembersInRange, EntryInRange, EntriesInRange}
 use Rattle.op_types.specs.declared.messages.Body.{Body}
 use Rattle.op_types.specs.declared.messages.Body.TheVariants as variant
 use Rattle.op_types.specs.declared.messages.Msg.{Msg}
+use Rattle.op_types.specs.declared.runs.PromisedRun.{PromisedRun}
+use Rattle.op_types.specs.declared.runs.SyncRun.{SyncRun}
+use Rattle.op_types.specs.declared.runs.Piece.{Piece}
 
 -- a heartbeat round
 abbrev pub IsRound : ℕ → Type 0
@@ -25,6 +28,28 @@ pub record ForwardsInRange (es : List Entry) : Type 0 where
   pub several : 2 ≤ length es
   pub few : length es ≤ most_commands
   pub each : All ForwardedInRange es
+
+-- a part of a promise, in range
+pub record PromisedRunInRange (r : PromisedRun) : Type 0 where
+  pub accepted : BallotInRange r.accepted
+  pub len : IsPlace r.len
+  pub decided : IsPlace r.decided
+  pub start : IsPlace r.start
+  pub at : IsPlace r.at
+  pub run : EntriesInRange positions_end r.run
+
+-- a part of an AcceptSync, in range
+pub record SyncRunInRange (r : SyncRun) : Type 0 where
+  pub start : IsPlace r.start
+  pub end : IsPlace r.end
+  pub at : IsPlace r.at
+  pub run : EntriesInRange positions_end r.run
+
+-- a piece of a base, in range: it has a byte at least
+pub record PieceInRange (p : Piece) : Type 0 where
+  pub at : IsPlace p.at
+  pub some : 1 ≤ length p.bytes
+  pub few : length p.bytes ≤ most_part_bytes
 
 -- what a message says, with its parts in range
 abbrev pub BodyInRange : Body → Type 0
@@ -50,6 +75,9 @@ BodyInRange variant.AskBase = Unit {0}
 BodyInRange (variant.BasePart at b) = IsPlace at
 BodyInRange (variant.AskSegment from to) = IsPlace from × IsPlace to
 BodyInRange (variant.Segment at es) = IsPlace at × EntriesInRange positions_end es
+BodyInRange (variant.PromisePart n part) = BallotInRange n × PromisedRunInRange part
+BodyInRange (variant.AcceptSyncPart n part) = BallotInRange n × SyncRunInRange part
+BodyInRange (variant.BasePiece p) = PieceInRange p
 BodyInRange (variant.Confirm n number) = BallotInRange n × IsNumber number
 BodyInRange (variant.Confirmed n number) = BallotInRange n × IsNumber number
 
@@ -76,10 +104,24 @@ pub record AddressedInRange (x : ℕ × ℕ × Msg) : Type 0 where
 abbrev pub greatest_length : ℕ
 greatest_length = 2 ^ 64 - 1
 
--- eight bytes can name the length of each list of bytes in it
+-- eight bytes can name how many bytes a base has, and where a piece of it begins
+pub record PieceIsShort (p : Piece) : Type 0 where
+  pub total : p.total ≤ greatest_length
+  pub from : p.from ≤ greatest_length
+
+-- a piece in range, and short enough
+abbrev pub PieceFits : Piece → Type 0
+PieceFits p = PieceInRange p × PieceIsShort p
+
+-- eight bytes can name each number of bytes that it tells
+abbrev pub CountsAreShort : Body → Type 0
+CountsAreShort (variant.BasePiece p) = PieceIsShort p
+CountsAreShort _ = Unit {0}
+
+-- eight bytes can name these, and the length of each list of bytes in it
 abbrev pub BodyIsShort : Body → Type 0
 BodyIsShort (variant.BasePart at b) = length b ≤ greatest_length
-BodyIsShort _ = Unit {0}
+BodyIsShort b = CountsAreShort b
 
 -- what is said is in range, and short enough
 abbrev pub BodyFits : Body → Type 0

@@ -14,6 +14,9 @@ use crate::closed::{
 use crate::confirming::{confirm_at, confirmed_at, put_read_in};
 use crate::forwards::{forwards_at, put_forwards};
 use crate::heartbeats::{heartbeat_reply_at, heartbeat_request_at, put_heartbeat_reply};
+use crate::parts::{
+    piece_at, promise_part_at, put_piece, put_promise_part, put_sync_part, sync_part_at,
+};
 use crate::preparing::{prepare_at, promise_at, put_prepare, put_promise, put_refuse, refuse_at};
 use crate::trimming::{progress_at, trim_ask_at, trim_at};
 use op_entry::{entry_at, put as put_entry, put_ballot};
@@ -59,13 +62,17 @@ const BASE_PART: u8 = 17;
 
 const ASK_SEGMENT: u8 = 18;
 
+const SEGMENT: u8 = 19;
+
+const PROMISE_PART: u8 = 20;
+
+const ACCEPT_SYNC_PART: u8 = 21;
+
+const BASE_PIECE: u8 = 22;
+
+const CONFIRM: u8 = 23;
+
 /// The last of the tags that stand in a row.
-pub const SEGMENT: u8 = 19;
-
-/// The tag of the question of a leader that is read from.
-pub const CONFIRM: u8 = 23;
-
-/// The tag of the answer to it.
 pub const CONFIRMED: u8 = 24;
 
 /// The greatest tag of a message.
@@ -95,6 +102,9 @@ pub fn tag_of(body: &Body) -> u8
         Body::BasePart(_, _) => BASE_PART,
         Body::AskSegment(_, _) => ASK_SEGMENT,
         Body::Segment(_, _) => SEGMENT,
+        Body::PromisePart(_, _) => PROMISE_PART,
+        Body::AcceptSyncPart(_, _) => ACCEPT_SYNC_PART,
+        Body::BasePiece(_) => BASE_PIECE,
         Body::Confirm(_, _) => CONFIRM,
         Body::Confirmed(_, _) => CONFIRMED,
         Body::Forwards(_) => FORWARDS,
@@ -145,6 +155,9 @@ pub fn put_body(out: &mut Vec<u8>, body: &Body) -> Result<(), NoMemory>
         Body::BasePart(place, base) => put_base_part(out, *place, base),
         Body::AskSegment(from, to) => put_ask_segment(out, *from, *to),
         Body::Segment(start, entries) => put_segment(out, *start, entries.as_slice()),
+        Body::PromisePart(ballot, part) => put_promise_part(out, *ballot, part),
+        Body::AcceptSyncPart(ballot, part) => put_sync_part(out, *ballot, part),
+        Body::BasePiece(piece) => put_piece(out, piece),
         Body::Confirm(ballot, number) => put_read_in(out, *ballot, *number),
         Body::Confirmed(ballot, number) => put_read_in(out, *ballot, *number),
         Body::Forwards(entries) => put_forwards(out, entries.as_slice()),
@@ -178,6 +191,9 @@ pub fn body_at(alloc: Global, bytes: &[u8], at: usize, tag: u8) -> Result<(Body,
         BASE_PART => base_part_at(alloc, bytes, at),
         ASK_SEGMENT => ask_segment_at(bytes, at),
         SEGMENT => segment_at(alloc, bytes, at),
+        PROMISE_PART => promise_part_at(alloc, bytes, at),
+        ACCEPT_SYNC_PART => sync_part_at(alloc, bytes, at),
+        BASE_PIECE => piece_at(alloc, bytes, at),
         CONFIRM => confirm_at(bytes, at),
         CONFIRMED => confirmed_at(bytes, at),
         FORWARDS => forwards_at(alloc, bytes, at),

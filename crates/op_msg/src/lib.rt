@@ -9,8 +9,11 @@ mod forwards;
 mod heartbeats;
 mod laws;
 mod message;
+mod parts;
 mod preparing;
 mod trimming;
 
-pub use laws::{message_is_unambiguous, short_message_fits};
+pub use laws::{
+    few_entries_fit_parts, message_is_unambiguous, parts_fit_frames, short_message_fits,
+};
 pub use message::{put, take};

@@ -1,11 +1,11 @@
 -- Entries by rising positions: what is held at a position, and entries that come between.
 use Rattle.std.proofs.Common.{◌≡◌, ℕ, zero, suc, ◌+◌, ◌<◌, ◌≤◌, Bool, false, cond, eqb, List, [], ◌∷◌, ◌++◌, refl, ap, ◌∙◌, arith}
-use Rattle.std.specs.Prelude.{Option, Some, None, is_some}
+use Rattle.std.specs.Prelude.{Option, Some, None, is_some, filter}
 use Rattle.std.specs.declared.cmp.Ordering.{Ordering}
 use Rattle.std.specs.declared.cmp.Ordering.TheVariants.{Less, Equal, Greater}
 use Rattle.std.specs.Ordering.{nat_cmp, is_eq, match_ordering}
 use Rattle.std.specs.BTreeMap.{insert_entry}
-use Rattle.std.proofs.lemmas.Bool.{lt-ltb, le-ltb, eq-eqb}
+use Rattle.std.proofs.lemmas.Bool.{lt-ltb, le-ltb, eq-eqb, cond_both}
 use Rattle.op_types.specs.declared.log.Entry.{Entry}
 use Rattle.op_types.specs.Rises.{AreAbove, Rises}
 use Rattle.op_types.specs.Rings.{AreBelow, AreFrom}
@@ -124,3 +124,14 @@ run_past x xs n (suc count) h =
 pub run_broken : (xs : List (ℕ × Entry)) (n count : ℕ) → held_at xs n ≡ None → 0 < count → held_run xs n count ≡ None
 run_broken xs n zero none lt = absurd (omega arith)
 run_broken xs n (suc count) none lt = ap (λ (o : Option Entry). with_first o (held_run xs (n + 1) count)) none
+
+-- ---- some let go
+
+above-filter : (t : ℕ × Entry → Bool) (n : ℕ) (xs : List (ℕ × Entry)) → AreAbove n xs → AreAbove n (filter t xs)
+above-filter t n [] h = tt
+above-filter t n (x ∷ xs) h = cond_both (t x) (x ∷ filter t xs) (filter t xs) (AreAbove n) (λ _. (h.0, above-filter t n xs h.1)) (λ _. above-filter t n xs h.1)
+
+-- what stays rises
+pub rises-filter : (t : ℕ × Entry → Bool) (xs : List (ℕ × Entry)) → Rises xs → Rises (filter t xs)
+rises-filter t [] h = tt
+rises-filter t (x ∷ xs) h = cond_both (t x) (x ∷ filter t xs) (filter t xs) Rises (λ _. (above-filter t x.0 xs h.0, rises-filter t xs h.1)) (λ _. rises-filter t xs h.1)

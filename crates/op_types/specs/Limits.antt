@@ -36,3 +36,11 @@ most_value_bytes = 4096
 -- so many commands are proposed together at most
 abbrev pub most_commands : ℕ
 most_commands = 64
+
+-- how many bytes the entries, or the piece of a base, in a part of a long message take at most
+abbrev pub most_part_bytes : ℕ
+most_part_bytes = 1000000
+
+-- how many bytes the body of a frame between servers has at most
+abbrev pub most_peer_body : ℕ
+most_peer_body = 2 ^ 20

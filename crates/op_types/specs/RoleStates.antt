@@ -1,16 +1,20 @@
 -- What a node keeps that prepares or leads, as contracts see it: without the room of its lists.
-use Rattle.std.specs.Prelude.{◌==◌, ℕ, nat_eq, nat_lt, Bool, true, not, List, [], ◌∷◌, ◌++◌, filter, Option, Some, None, if◌then◌else◌}
+use Rattle.std.specs.Prelude.{◌==◌, ◌-◌, ℕ, nat_eq, nat_lt, Bool, true, not, List, [], ◌∷◌, ◌++◌, filter, Option, Some, None, if◌then◌else◌}
 use Rattle.std.specs.Set.{is_member}
 use Rattle.op_types.specs.declared.ballot.Ballot.{Ballot}
 use Rattle.op_types.specs.declared.role.Promised.{Promised}
 use Rattle.op_types.specs.declared.role.Buffered.{Buffered}
 use Rattle.op_types.specs.declared.role.Acknowledged.{Acknowledged}
 use Rattle.op_types.specs.declared.role.Report.{Report}
+use Rattle.op_types.specs.declared.runs.PromisedRun.{PromisedRun}
+use Rattle.op_types.specs.declared.log.Entry.{Entry}
+use Rattle.op_types.specs.Joinings.{Held, held_with, held_run}
 
 -- of a node that prepares a ballot of its own
 pub record Preparing : Type 0 where
   pub ballot : Ballot
   pub promises : List Promised  -- one of each sender
+  pub stages : List (ℕ × Held)  -- what came so far of promises that come in parts, of each sender
   pub buffer : List Buffered  -- proposals that wait for the log to be adopted
 
 -- of a leader
@@ -36,6 +40,56 @@ promises_with promises k = filter (λ j. not (j.from == k.from)) promises ++ k �
 -- a promise more is kept
 abbrev pub with_promise : Preparing → Promised → Preparing
 with_promise r k = record r { promises = promises_with r.promises k }
+
+-- ---- promises that come in parts
+
+-- what came so far of a sender's promise
+abbrev pub stage_of : List (ℕ × Held) → ℕ → Held
+stage_of [] q = []
+stage_of (s ∷ stages) q = if s.0 == q then s.1 else stage_of stages q
+
+-- without a sender's
+abbrev pub stages_without : List (ℕ × Held) → ℕ → List (ℕ × Held)
+stages_without stages q = filter (λ s. not (s.0 == q)) stages
+
+-- so much came of a sender's promise
+abbrev pub with_stage : Preparing → ℕ → Held → Preparing
+with_stage r q held = record r { stages = stages_without r.stages q ++ (q, held) ∷ [] }
+
+-- nothing of it is staged
+abbrev pub without_stage : Preparing → ℕ → Preparing
+without_stage r q = record r { stages = stages_without r.stages q }
+
+-- the whole promise that a part is of, with these entries
+abbrev pub told_by : ℕ → PromisedRun → List Entry → Promised
+told_by q part entries =
+    record {
+      from = q;
+      accepted = part.accepted;
+      len = part.len;
+      decided = part.decided;
+      start = part.start;
+      entries = entries;
+    }
+
+-- what is staged is kept as a promise once all of its entries are there, and then leaves the stage
+abbrev pub kept_once : Preparing → ℕ → PromisedRun → Held → Option (List Entry) → Preparing
+kept_once r q part held None = with_stage r q held
+kept_once r q part held (Some entries) = with_promise (without_stage r q) (told_by q part entries)
+
+-- the entries of a part's promise, if all are held
+abbrev pub promised_entries : PromisedRun → Held → Option (List Entry)
+promised_entries part held = held_run held part.start (part.len - part.start)
+
+-- a part of a sender's promise comes to those before it
+abbrev pub staged_with : Preparing → ℕ → PromisedRun → Held
+staged_with r q part = held_with (stage_of r.stages q) part.at part.run
+
+-- a part of a promise more is kept
+abbrev pub with_part : Preparing → ℕ → PromisedRun → Preparing
+with_part r q part = kept_once r q part (staged_with r q part) (promised_entries part (staged_with r q part))
+
+-- ---- proposals that wait
 
 -- proposals more wait
 abbrev pub with_buffered : Preparing → List Buffered → Preparing

@@ -1,7 +1,10 @@
 //! Copies, each equal to what it was made from.
 ghost use Rattle.std.specs.Prelude.{◌≡◌, IfOk};
 
-use crate::{Answer, Applied, Blob, Body, Command, Entries, Entry, Op, Read, Reply, StopSign};
+use crate::{
+    Answer, Applied, Blob, Body, Command, Entries, Entry, Op, Piece, PromisedRun, Read, Reply,
+    StopSign, SyncRun,
+};
 use std::alloc::{AllocError as NoMemory, Global};
 
 impl Blob {
@@ -121,6 +124,50 @@ impl Applied {
     }
 }
 
+impl PromisedRun {
+    /// An equal value.
+    pub fn copy(&self, alloc: Global) -> Result<PromisedRun, NoMemory>
+        ensures { IfOk result (λ r. r ≡ self.now) }
+    {
+        Ok(PromisedRun {
+            accepted: self.accepted,
+            len: self.len,
+            decided: self.decided,
+            start: self.start,
+            at: self.at,
+            run: copy_entries(alloc, self.run.as_slice())?,
+        })
+    }
+}
+
+impl SyncRun {
+    /// An equal value.
+    pub fn copy(&self, alloc: Global) -> Result<SyncRun, NoMemory>
+        ensures { IfOk result (λ r. r ≡ self.now) }
+    {
+        Ok(SyncRun {
+            start: self.start,
+            end: self.end,
+            at: self.at,
+            run: copy_entries(alloc, self.run.as_slice())?,
+        })
+    }
+}
+
+impl Piece {
+    /// An equal value.
+    pub fn copy(&self, alloc: Global) -> Result<Piece, NoMemory>
+        ensures { IfOk result (λ p. p ≡ self.now) }
+    {
+        Ok(Piece {
+            at: self.at,
+            total: self.total,
+            from: self.from,
+            bytes: self.bytes.copy(alloc)?,
+        })
+    }
+}
+
 impl Body {
     /// An equal value.
     pub fn copy(&self, alloc: Global) -> Result<Body, NoMemory>
@@ -153,6 +200,9 @@ impl Body {
             Body::BasePart(at, base) => Body::BasePart(*at, base.copy(alloc)?),
             Body::AskSegment(from, to) => Body::AskSegment(*from, *to),
             Body::Segment(at, es) => Body::Segment(*at, copy_entries(alloc, es.as_slice())?),
+            Body::PromisePart(n, part) => Body::PromisePart(*n, part.copy(alloc)?),
+            Body::AcceptSyncPart(n, part) => Body::AcceptSyncPart(*n, part.copy(alloc)?),
+            Body::BasePiece(piece) => Body::BasePiece(piece.copy(alloc)?),
             Body::Confirm(n, number) => Body::Confirm(*n, *number),
             Body::Confirmed(n, number) => Body::Confirmed(*n, *number),
         })

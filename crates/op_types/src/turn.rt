@@ -1,11 +1,13 @@
 //! A change of a role, whose room is made before it is adopted.
 ghost use Rattle.std.specs.Prelude.{◌≡◌, ◌==◌, not, filter, nat_eq};
 ghost use Rattle.std.specs.Set.{is_member};
-ghost use Rattle.op_types.specs.RoleStates.{acknowledged_of, with_promise, with_buffered, with_synced, without_synced, with_acknowledged, report_of, is_news, with_report, without_reports};
-ghost use Rattle.op_types.specs.Roles.{role_of, turned, if_preparing, if_leading, HasRoom, RoomToKeep, RoomToBuffer, RoomToSync, RoomToAcknowledge, RoomToReport};
+ghost use Rattle.op_types.specs.RoleStates.{acknowledged_of, with_promise, with_part, without_stage, with_buffered, with_synced, without_synced, with_acknowledged, report_of, is_news, with_report, without_reports};
+ghost use Rattle.op_types.specs.Roles.{role_of, turned, if_preparing, if_leading, HasRoom, RoomToKeep, RoomToKeepPart, RoomToBuffer, RoomToSync, RoomToAcknowledge, RoomToReport};
 
+use crate::staging::remove_stages;
 use crate::{
-    Acknowledged, Ballot, Buffer, ElectionState, Heard, Pid, Promised, Report, Reserved, Role,
+    Acknowledged, Ballot, Buffer, ElectionState, Entries, Heard, Held, Pid, Piece, Pieces,
+    Promised, PromisedRun, Report, Reserved, Role,
 };
 
 /// What a step changes of what a node keeps in memory of its part: of its role, its heartbeat round or its election.
@@ -17,6 +19,11 @@ pub enum Turn {
     Become(Role),
     /// A node that prepares keeps a promise.
     Keep(Promised),
+    /// A node that prepares keeps a part of a sender's promise, and the promise once all of it is there. The entries go to the
+    /// sender's stage, or into this one, which has room for them and is empty.
+    KeepPart(Pid, PromisedRun, Held),
+    /// A node that prepares lets go of what came of a sender's promise.
+    DropParts(Pid),
     /// A node that prepares keeps proposals.
     Buffer(Buffer),
     /// A leader syncs a follower.
@@ -31,6 +38,13 @@ pub enum Turn {
     ClearReports,
     /// The node goes on in another configuration, or without one: all that it keeps in memory of its part begins anew.
     Renew,
+    /// A follower stages entries of its leader's log, from a position on; of all that is staged, what stands below the second
+    /// position leaves.
+    Stage(u64, Entries, u64),
+    /// A node that joins stages a piece of a base: among those before it, or as the first of these.
+    StagePiece(Piece, Option<Pieces>),
+    /// No piece of a base is staged.
+    DropPieces,
     /// A heartbeat reply of the current round is kept.
     Hear(Heard),
     /// Elections begin at this ballot from now on, unless they begin above it already.
@@ -46,10 +60,18 @@ impl Turn {
         ensures { role_of role.new ≡ turned self (role_of role.old) }
     {
         match self {
-            Turn::Stay | Turn::Hear(_) | Turn::RaiseFloor(_) | Turn::NextRound(_, None) => {}
+            Turn::Stay
+            | Turn::Stage(_, _, _)
+            | Turn::StagePiece(_, _)
+            | Turn::DropPieces
+            | Turn::Hear(_)
+            | Turn::RaiseFloor(_)
+            | Turn::NextRound(_, None) => {}
             Turn::Become(next) | Turn::NextRound(_, Some(next)) => *role = next,
             Turn::Renew => *role = Role::Idle,
             Turn::Keep(promised) => keep(role, promised),
+            Turn::KeepPart(from, part, fresh) => keep_part(role, from, part, fresh),
+            Turn::DropParts(from) => drop_parts(role, from),
             Turn::Buffer(buffered) => buffer(role, buffered),
             Turn::Sync(pid) => sync(role, pid),
             Turn::Unsync(pid) => unsync(role, pid),
@@ -57,6 +79,23 @@ impl Turn {
             Turn::KeepReport(report) => keep_report(role, report),
             Turn::ClearReports => clear_reports(role),
         }
+    }
+}
+
+fn keep_part(role: &mut Role, from: Pid, part: PromisedRun, fresh: Held)
+    requires { RoomToKeepPart from part fresh role.old }
+    ensures { role_of role.new ≡ if_preparing (λ r. with_part r from part) (role_of role.old) }
+{
+    if let Role::Preparing(preparing) = role {
+        preparing.keep_part(from, part, fresh);
+    }
+}
+
+fn drop_parts(role: &mut Role, from: Pid)
+    ensures { role_of role.new ≡ if_preparing (λ r. without_stage r from) (role_of role.old) }
+{
+    if let Role::Preparing(preparing) = role {
+        remove_stages(&mut preparing.stages, from);
     }
 }
 
@@ -71,7 +110,7 @@ fn keep(role: &mut Role, promised: Promised)
 }
 
 /// Removes a sender's promise, if there is one.
-fn remove_promise(promises: &mut Reserved<Promised>, from: Pid)
+pub(crate) fn remove_promise(promises: &mut Reserved<Promised>, from: Pid)
     ensures items { promises.new.items ≡ filter (λ j. not (j.from == from)) promises.old.items }
     ensures room { promises.new.room ≡ promises.old.room }
 {
