@@ -342,7 +342,7 @@ module _ (first : List ℕ) (pr : ℕ → List Entry) (t : Tale) (ok : TaleOk fi
           let old = h.joining j has in
           cond_both (nat_lt j.conf c) _ _ (StateOk t p) (λ e. begun_ok)
           (λ e. cond_both ((j.conf == c) && is_new_donor q trm j) _ st (StateOk t p)
-          (λ d. with_joining_ok (record { conf = j.conf; members = j.members; olds = j.olds; len = j.len; donors = with_donor q trm j.donors; base = j.base; held = j.held }) (record { next = old.next; mine = old.mine; base = old.base; reached = old.reached; held = old.held }) (h.above j has)) (λ d. h))
+          (λ d. with_joining_ok (record { conf = j.conf; members = j.members; olds = j.olds; len = j.len; donors = with_donor q trm j.donors; base = j.base; held = j.held; stage = j.stage }) (record { next = old.next; mine = old.mine; base = old.base; reached = old.reached; held = old.held }) (h.above j has)) (λ d. h))
 
     pub invited_ok : (q c : ℕ) (members olds : List ℕ) (len trm : ℕ) → NextOk t c members olds len → StateOk t p (invited p st q c members olds len trm)
     unfolding invited

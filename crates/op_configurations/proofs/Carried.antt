@@ -2,7 +2,7 @@
 use Rattle.std.proofs.Common.{ℕ, List, sym, subst}
 use Rattle.op_types.specs.declared.log.Entry.{Entry}
 use Rattle.op_spec.specs.Machine.{IsAmong}
-use Rattle.op_paxos.specs.Messages.{Packet, Msg, Prepare, Promise, AcceptSync, Accept, Accepted, Decide, PrepareReq, Refuse, Forward, TrimAsk, Progress, Trim}
+use Rattle.op_paxos.specs.Messages.{Packet, Msg, Prepare, Promise, PromisePart, AcceptSync, AcceptSyncPart, Accept, Accepted, Decide, PrepareReq, Refuse, Forward, TrimAsk, Progress, Trim}
 use Rattle.op_paxos.specs.Agreement.{proposals}
 use Rattle.op_paxos.proofs.Validity.{MsgV}
 use Rattle.op_paxos.proofs.Carried.{MsgEnds, packets_end, packets_proposed}
@@ -13,7 +13,9 @@ use Rattle.op_configurations.specs.Worlds.{Happening}
 
 wider : (P Q : Entry → Type 0) → ((e : Entry) → P e → Q e) → (m : Msg) → MsgV P m → MsgV Q m
 wider P Q f (Promise n pm) h = λ e i. f e (h e i)
+wider P Q f (PromisePart n part) h = λ e i. f e (h e i)
 wider P Q f (AcceptSync n x es) h = λ e i. f e (h e i)
+wider P Q f (AcceptSyncPart n part) h = λ e i. f e (h e i)
 wider P Q f (Accept n a es) h = λ e i. f e (h e i)
 wider P Q f (Forward es) h = λ e i. f e (h e i)
 wider P Q f (Prepare n na nl d) h = tt

@@ -7,8 +7,8 @@ use Rattle.std.proofs.lemmas.Bool.{cond_both, cases_eq, cases_Bool, eq-eqb, ne_e
 use Rattle.op_types.specs.declared.log.Entry.{Entry}
 use Rattle.op_spec.specs.Machine.{Machine, IsSame, first_machine, with_at}
 use Rattle.op_paxos.proofs.Updates.{upd_other}
-use Rattle.op_configurations.specs.Servers.{Part, State, Letter, Fate, Done, Stopped, Event, Reads, new_part, may_propose, Proposes, Ticks, Trims, Links, Unlinks}
-use Rattle.op_configurations.specs.Worlds.{Life, Running, Down, Server, World, Happening, At, Delivers, Stops, Opens, is_letter, stepped, at_server, delivered, stops, opened, opens, happens, run, start, decided_in, entries_in, has_part, machine_showing, reader, actor, proposed_in, proposed_at, proposed_by, shown_by, machine_with, machine_after, machine_of}
+use Rattle.op_configurations.specs.Servers.{Part, State, Letter, Fate, Done, Stopped, Event, Reads, new_part, may_propose, Proposes, Ticks, Trims, Links, Unlinks, ReadsLong}
+use Rattle.op_configurations.specs.Worlds.{Life, Running, Down, Server, World, Happening, At, Delivers, Stops, Opens, is_letter, stepped, at_server, delivered, stops, opened, opens, happens, run, start, decided_in, entries_in, has_part, machine_showing, reader, actor, proposed_in, proposed_at, proposed_by, shown_by, machine_with, machine_after, machine_of, DeliversLong}
 use Rattle.op_configurations.proofs.Fronts.{none_some, some_same, front_length}
 use Rattle.op_configurations.proofs.Rising.{entries_told}
 use Rattle.op_configurations.proofs.Book.{told_front, all_ok}
@@ -38,10 +38,10 @@ module _ (w : World) (q : ℕ) where
   at_other f p Running e n = stepped_other f p e n
   at_other f p (Down o) e n = refl
 
-  delivered_other : (f : Fate) (i : ℕ) (o : Option Letter) → (reader o ≡ Some q → ⊥) → (delivered w f i o).servers q ≡ w.servers q
+  delivered_other : (f : Fate) (read : Letter → Event) (o : Option Letter) → (reader o ≡ Some q → ⊥) → (delivered w f read o).servers q ≡ w.servers q
   unfolding delivered
-  delivered_other f i None n = refl
-  delivered_other f i (Some m) n = at_other f m.to (w.servers m.to).life (Reads i m) n
+  delivered_other f read None n = refl
+  delivered_other f read (Some m) n = at_other f m.to (w.servers m.to).life (read m) n
 
   stops_other : (p : ℕ) (l : Life) → (Some p ≡ Some q → ⊥) → (stops w p l).servers q ≡ w.servers q
   unfolding stops
@@ -56,7 +56,8 @@ module _ (w : World) (q : ℕ) where
   pub happens_other : (h : Happening) → (actor w h ≡ Some q → ⊥) → (happens w h).servers q ≡ w.servers q
   unfolding happens
   happens_other (At f p e) n = cond_both (is_letter e) w (at_server w f p (w.servers p).life e) (λ (x : World). x.servers q ≡ w.servers q) (λ _. refl) (λ _. at_other f p (w.servers p).life e n)
-  happens_other (Delivers f i) n = delivered_other f i (slice_get w.soup i) n
+  happens_other (Delivers f i) n = delivered_other f (Reads i) (slice_get w.soup i) n
+  happens_other (DeliversLong f i total) n = delivered_other f (ReadsLong i total) (slice_get w.soup i) n
   happens_other (Stops p) n = stops_other p (w.servers p).life n
   happens_other (Opens p after) n = opens_other p after (w.servers p).life n
 
@@ -65,6 +66,7 @@ module _ (w : World) (q : ℕ) where
 -- what is proposed changes neither what is known nor what is open
 pub proposed_known : (m : Machine) (w : World) (h : Happening) (P : Machine → Type 0) → P m → ((f : ℕ → List Entry) → P (record m { proposed = f })) → P (proposed_by m w h)
 proposed_known m w (Delivers f i) P a b = a
+proposed_known m w (DeliversLong f i total) P a b = a
 proposed_known m w (Stops p) P a b = a
 proposed_known m w (Opens p after) P a b = a
 proposed_known m w (At f p e) P a b = at_event e (w.servers p).life
@@ -85,6 +87,7 @@ proposed_known m w (At f p e) P a b = at_event e (w.servers p).life
     at_event (Links r) l = a
     at_event (Unlinks r) l = a
     at_event (Reads i m) l = a
+    at_event (ReadsLong i total m) l = a
 
 -- who shows its state has shown it
 shows_own : (m : Machine) (q : ℕ) (st : State) → HasShown (machine_showing m q st) q st

@@ -9,7 +9,7 @@ use Rattle.op_types.specs.Joinings.{Base as StoredBase}
 use Rattle.op_spec.specs.Machine.{Machine, first_machine}
 use Rattle.op_spec.specs.Service.{service_of, base_bytes}
 use Rattle.op_spec.specs.Stands.{lists_through}
-use Rattle.op_configurations.specs.Servers.{Part, Closed, Base, Joining, State, Letter, Body, BasePart, latest, latest_in}
+use Rattle.op_configurations.specs.Servers.{Part, Closed, Base, Joining, State, Letter, Body, BasePart, BasePiece, latest, latest_in}
 use Rattle.op_configurations.proofs.Among.{In}
 use Rattle.op_configurations.specs.Worlds.{Happening, run, start, machine_after, machine_of}
 use Rattle.op_configurations.specs.Stored.{HoldsIfPart, HoldsIfClosed, HoldsIfBase, HoldsIfJoining, HoldsOn, BeforeIsFixed}
@@ -86,7 +86,7 @@ module _ (first : List ℕ) (early late : List Happening) where
       (cases_eq c x.before)
 
   -- the same of the lists before a configuration of which a base was sent
-  fixed_letter : (x : Letter) (at : ℕ) (front : List Entry) → x.body ≡ BasePart at front → In x (run early (start first)).soup → (c : ℕ) → 0 < c → c < x.conf
+  fixed_letter : (x : Letter) (at : ℕ) (front : List Entry) → ((t : Tale) → BodyOk t x.from x.to x.conf x.body → BaseOk t x.conf at front) → In x (run early (start first)).soup → (c : ℕ) → 0 < c → c < x.conf
       → (machine_of first early).lists c ≡ (machine_after late (run early (start first)) (machine_of first early)).lists c
   fixed_letter l at front is sent c pos lt =
       let k = all_ok first early in
@@ -94,7 +94,7 @@ module _ (first : List ℕ) (early late : List Happening) where
       let m = machine_of first early in
       let n = machine_after late w m in
       let r = runs_ok first late k.tale w m k.good k.book in
-      let x : BaseOk k.tale l.conf at front = subst (λ (b : Body). BodyOk k.tale l.from l.to l.conf b) is ((k.good).letters l sent) in
+      let x : BaseOk k.tale l.conf at front = is k.tale ((k.good).letters l sent) in
       ⊎_elim
       (λ (e : c ≡ x.before).
       ap m.lists e ∙ sym (whole_is first k.tale m (k.good).tale k.book x.before x.list x.sign x.whole)
@@ -126,7 +126,7 @@ pub letter_is_fixed : (first : List ℕ) (early late : List Happening) (x : Lett
     → (c : ℕ) → 0 < c → c < x.conf → (machine_of first early).lists c ≡ (machine_of first (early ++ late)).lists c
 unfolding machine_of
 letter_is_fixed first early late x at front is sent c pos lt =
-    fixed_letter first early late x at front is sent c pos lt ∙ ap (λ (m : Machine). m.lists c) (sym (machine_append early late (start first) (first_machine first)))
+    fixed_letter first early late x at front (λ t. subst (λ (b : Body). BodyOk t x.from x.to x.conf b) is) sent c pos lt ∙ ap (λ (m : Machine). m.lists c) (sym (machine_append early late (start first) (first_machine first)))
 
 -- ---- what is held stays held
 
@@ -219,3 +219,10 @@ holds_on first early late p d h =
       closed = closed_on first early late p (closed_low k.tale p st sk) d.closed st.closed refl h.closed;
       joining = joining_on first early late p d.joining st.joining refl h.joining;
     }
+
+-- so are those before one of which a piece of a base was sent
+pub piece_is_fixed : (first : List ℕ) (early late : List Happening) (x : Letter) (at total from_at count : ℕ) (front : List Entry) → x.body ≡ BasePiece at total from_at count front → In x (run early (start first)).soup
+    → (c : ℕ) → 0 < c → c < x.conf → (machine_of first early).lists c ≡ (machine_of first (early ++ late)).lists c
+unfolding machine_of
+piece_is_fixed first early late x at total from_at count front is sent c pos lt =
+    fixed_letter first early late x at front (λ t. subst (λ (b : Body). BodyOk t x.from x.to x.conf b) is) sent c pos lt ∙ ap (λ (m : Machine). m.lists c) (sym (machine_append early late (start first) (first_machine first)))

@@ -13,10 +13,10 @@ use Rattle.op_paxos.specs.Agreement.{decided_log}
 use Rattle.op_paxos.proofs.Updates.{upd_both}
 use Rattle.op_paxos.proofs.Membership.{in_append}
 use Rattle.op_paxos.proofs.Membership.{in_from_get}
-use Rattle.op_configurations.specs.Servers.{fresh, Part, State, Letter, Stepped, unchanged, Fate, Done, Stopped, Event, Ticks, Proposes, Trims, Links, Unlinks, Reads, new_part, restarted, step, decided_list, latest}
-use Rattle.op_configurations.specs.Worlds.{Life, Running, Down, Server, World, Happening, At, Delivers, Stops, Opens, with_server, stepped, at_server, delivered, stops, found, opening_fate, opened, opens, happens, start, entries_in, reader, actor, inner_of, events_in}
+use Rattle.op_configurations.specs.Servers.{fresh, Part, State, Letter, Stepped, unchanged, Fate, Done, Stopped, Event, Ticks, Proposes, Trims, Links, Unlinks, Reads, new_part, restarted, step, decided_list, latest, ReadsLong, without_stage, without_pieces, Joining}
+use Rattle.op_configurations.specs.Worlds.{Life, Running, Down, Server, World, Happening, At, Delivers, Stops, Opens, with_server, stepped, at_server, delivered, stops, found, opening_fate, opened, opens, happens, start, entries_in, reader, actor, inner_of, events_in, DeliversLong}
 use Rattle.op_configurations.proofs.Fronts.{none_some, some_same}
-use Rattle.op_configurations.proofs.Tale.{Tale, inst, TaleOk, PartOk, Before, StateOk, LetterOk, EventOk, Onward, same_onward, onward_on, letter_on, event_on, state_on}
+use Rattle.op_configurations.proofs.Tale.{Tale, inst, TaleOk, PartOk, Before, StateOk, LetterOk, EventOk, Onward, same_onward, onward_on, letter_on, event_on, state_on, JoiningOk}
 use Rattle.op_configurations.proofs.Moved.{member_in}
 use Rattle.op_configurations.proofs.Rising.{Rises, rises_same, rises_on}
 use Rattle.op_configurations.proofs.Inside.{inner_append, events_append}
@@ -83,6 +83,24 @@ abbrev pub FairAt : (ℕ → List Entry) → Tale → World → Happening → Ty
 FairAt pr t w (At f p (Proposes e)) = (w.servers p).life ≡ Running → EventOk pr t w.soup p (w.servers p).state (Proposes e)
 FairAt pr t w _ = Unit {0}
 
+-- ---- a server without its stage
+without_joining : (t : Tale) (p low : ℕ) (o : Option Joining) → ((j : Joining) → o ≡ Some j → JoiningOk t p j × (low < j.conf)) → (j : Joining) → without_stage o ≡ Some j → JoiningOk t p j × (low < j.conf)
+without_joining t p low None f j e = absurd (none_some j e)
+without_joining t p low (Some k) f j e =
+    let r = f k refl in
+    let o = r.0 in
+    subst (λ (x : Joining). JoiningOk t p x × (low < x.conf)) (some_same (record k { stage = None }) j e) (record { next = o.next; mine = o.mine; base = o.base; reached = o.reached; held = o.held }, r.1)
+
+without_ok : (t : Tale) (p : ℕ) (st : State) → StateOk t p st → StateOk t p (without_pieces st)
+without_ok t p st h = record {
+  part = h.part;
+  closed = h.closed;
+  joining = λ j e. (without_joining t p (latest st) st.joining (λ k d. (h.joining k d, h.above k d)) j e).0;
+  untouched = h.untouched;
+  before = h.before;
+  above = λ j e. (without_joining t p (latest st) st.joining (λ k d. (h.joining k d, h.above k d)) j e).1;
+}
+
 module _ (first : List ℕ) (pr : ℕ → List Entry) (t : Tale) (w : World) (good : Good first pr t w) where
   goes_none : (a : Option ℕ) → Goes first pr t w w a
   goes_none a = record { tale = t; good = good; onward = same_onward t; decided = λ q c. inl refl; rises = λ q. rises_same (w.servers q).state (w.servers q).state refl refl; low = λ q e. low_of t q (w.servers q).state (good.servers q).state; kept = λ q. keeps_same (w.servers q).state (w.servers q).state refl }
@@ -148,25 +166,46 @@ module _ (first : List ℕ) (pr : ℕ → List Entry) (t : Tale) (w : World) (go
   at_goes f p Running e has k = stepped_goes f p e (k refl)
   at_goes f p (Down o) e has k = goes_none (Some p)
 
-  delivered_goes : (f : Fate) (n : ℕ) (o : Option Letter) → slice_get w.soup n ≡ o → Goes first pr t w (delivered w f n o) (reader o)
+  delivered_goes : (f : Fate) (n : ℕ) (read : Letter → Event) (o : Option Letter) → slice_get w.soup n ≡ o → ((m : Letter) → LetterOk t m → slice_get w.soup n ≡ Some m → EventOk pr t w.soup m.to (w.servers m.to).state (read m)) → Goes first pr t w (delivered w f read o) (reader o)
   unfolding delivered
-  delivered_goes f n None k = goes_none None
-  delivered_goes f n (Some m) k = at_goes f m.to (w.servers m.to).life (Reads n m) refl (λ x. (good.letters m (in_from_get w.soup n m k), refl, k))
+  delivered_goes f n read None k reads = goes_none None
+  delivered_goes f n read (Some m) k reads = at_goes f m.to (w.servers m.to).life (read m) refl (λ x. reads m (good.letters m (in_from_get w.soup n m k)) k)
 
   stops_goes : (p : ℕ) (l : Life) → Goes first pr t w (stops w p l) (Some p)
   unfolding stops
   stops_goes p Running = put_life p (Down None) (λ d x. absurd (none_some d (down_same None (Some d) x)))
   stops_goes p (Down o) = goes_none (Some p)
 
+  -- the server finds no stage
+  opened_empty : (p : ℕ) (o : Stepped) → StepGood first pr t w.soup p Stopped (w.servers p).state o → StepGood first pr t w.soup p Stopped (w.servers p).state (record { state = without_pieces o.state; sends = o.sends; inside = o.inside })
+  opened_empty p o g = record {
+    tale = g.tale;
+    ok = g.ok;
+    onward = g.onward;
+    state = without_ok g.tale p o.state g.state;
+    sends = g.sends;
+    others = g.others;
+    own = g.own;
+    rises = record { upward = (g.rises).upward; decided = (g.rises).decided };
+    low = record { part = (g.low).part; closed = (g.low).closed };
+    kept = g.kept;
+    events = g.events;
+    sent = g.sent;
+    quiet = g.quiet;
+  }
+
   -- the server opens with what it finds
   module _ (p : ℕ) where
     opened_goes : (o : Stepped) → StepGood first pr t w.soup p Stopped (w.servers p).state o → Goes first pr t w (opened w p o) (Some p)
     unfolding opened
     opened_goes o g =
-        let f : Fate = opening_fate (o.state).joining in
-        let k : Stepped = restarted f p o.state (o.state).part in
-        let r : CalmGood first pr g.tale w.soup p f o.state k = restarted_good first pr g.tale g.ok w.soup p f o.state g.state (o.state).part refl in
-        put p f (record { state = k.state; sends = k.sends; inside = o.inside ++ k.inside }) Running (then_calm first pr t w.soup p f (w.servers p).state o k g r) (λ d x. running_down (Some d) x)
+        let st : State = without_pieces o.state in
+        let f : Fate = opening_fate st.joining in
+        let before : Stepped = record { state = st; sends = o.sends; inside = o.inside } in
+        let g' : StepGood first pr t w.soup p Stopped (w.servers p).state before = opened_empty p o g in
+        let k : Stepped = restarted f p st (o.state).part in
+        let r : CalmGood first pr g'.tale w.soup p f st k = restarted_good first pr g'.tale g'.ok w.soup p f st g'.state (o.state).part refl in
+        put p f (record { state = k.state; sends = k.sends; inside = o.inside ++ k.inside }) Running (then_calm first pr t w.soup p f (w.servers p).state before k g' r) (λ d x. running_down (Some d) x)
 
     as_before : Goes first pr t w (opened w p (unchanged (w.servers p).state)) (Some p)
     as_before = opened_goes (unchanged (w.servers p).state) (still_good first pr t good.tale w.soup p Stopped (w.servers p).state (good.servers p).state)
@@ -211,7 +250,9 @@ module _ (first : List ℕ) (pr : ℕ → List Entry) (t : Tale) (w : World) (go
   happens_goes (At f p (Links q)) k = at_goes f p (w.servers p).life (Links q) refl (λ x. tt)
   happens_goes (At f p (Unlinks q)) k = at_goes f p (w.servers p).life (Unlinks q) refl (λ x. tt)
   happens_goes (At f p (Reads n m)) k = goes_none (Some p)
-  happens_goes (Delivers f n) k = delivered_goes f n (slice_get w.soup n) refl
+  happens_goes (At f p (ReadsLong n total m)) k = goes_none (Some p)
+  happens_goes (Delivers f n) k = delivered_goes f n (Reads n) (slice_get w.soup n) refl (λ m a b. (a, refl, b))
+  happens_goes (DeliversLong f n total) k = delivered_goes f n (ReadsLong n total) (slice_get w.soup n) refl (λ m a b. (a, refl, b))
   happens_goes (Stops p) k = stops_goes p (w.servers p).life
   happens_goes (Opens p after) k = opens_goes p after (w.servers p).life refl
 
@@ -229,6 +270,7 @@ widened first pr pr' t w up good =
   where
     event_up : (p : ℕ) (st : State) (e : Event) → EventOk pr t w.soup p st e → EventOk pr' t w.soup p st e
     event_up p st (Reads n m) h = h
+    event_up p st (ReadsLong n total m) h = h
     event_up p st (Proposes es) h = λ pt has b e i. up pt.conf e (h pt has b e i)
     event_up p st (Ticks n) h = tt
     event_up p st Trims h = tt

@@ -5,7 +5,7 @@ use Rattle.std.specs.Set.{is_member}
 use Rattle.std.proofs.lemmas.Bool.{cond_both, eq-eqb, ne_eqb}
 use Rattle.op_paxos.specs.Messages.{packet}
 use Rattle.op_paxos.specs.Messages.{Msg, Packet}
-use Rattle.op_configurations.specs.Servers.{Closed, Letter, Body, Inner, HeartbeatRequest, HeartbeatReply, NextConf, AskBase, BasePart, AskSegment, Segment, Inside, letter, wrap, next_conf, tell, to_all}
+use Rattle.op_configurations.specs.Servers.{Closed, Letter, Body, Inner, HeartbeatRequest, HeartbeatReply, NextConf, AskBase, BasePart, BasePiece, AskSegment, Segment, Inside, letter, wrap, next_conf, tell, to_all}
 use Rattle.op_configurations.specs.Worlds.{inner_with, inner_of, place_in, event_in, events_in}
 use Rattle.op_configurations.proofs.Fronts.{none_some, some_same}
 
@@ -17,6 +17,7 @@ with_append c f t k HeartbeatReply xs ys = refl
 with_append c f t k (NextConf members olds len trm) xs ys = refl
 with_append c f t k AskBase xs ys = refl
 with_append c f t k (BasePart at front) xs ys = refl
+with_append c f t k (BasePiece at total from_at count front) xs ys = refl
 with_append c f t k (AskSegment a b) xs ys = refl
 with_append c f t k (Segment a es) xs ys = refl
 
@@ -62,6 +63,7 @@ inner_place (y ∷ soup) (suc n) x m e b = skip y.body (inner_place soup n x m e
     skip (NextConf members olds len trm) h = h
     skip AskBase h = h
     skip (BasePart at front) h = h
+    skip (BasePiece at total from_at count front) h = h
     skip (AskSegment a c) h = h
     skip (Segment a es) h = h
 

@@ -7,7 +7,7 @@ use Rattle.op_types.specs.declared.log.Entry.{Entry}
 use Rattle.op_paxos.specs.Worlds as paxos
 use Rattle.op_paxos.specs.Messages.{Msg, Packet, packet}
 use Rattle.op_paxos.specs.Worlds.{Input, Elected, Proposal, Comes, Up, Down, Starts, TrimNow}
-use Rattle.op_configurations.specs.Servers.{Part, Closed, Joining, State, Letter, Body, Inner, HeartbeatRequest, HeartbeatReply, NextConf, AskBase, BasePart, AskSegment, Segment, Fate, Done as ServerDone, Stopped as ServerStopped, Stepped, Inside, Event, Ticks, Proposes, Trims, Links, Unlinks, Reads, acted, acted_in, restarted, started, based, got_segment, inner, answers_beat, takes, is_request, sought, seeks, reads, is_for_joining, is_ahead, latest, latest_in, led, ticks_in, links_in, step, may_propose}
+use Rattle.op_configurations.specs.Servers.{Part, Closed, Joining, State, Letter, Body, Inner, HeartbeatRequest, HeartbeatReply, NextConf, AskBase, BasePart, BasePiece, AskSegment, Segment, Fate, Done as ServerDone, Stopped as ServerStopped, Stepped, Inside, Event, Ticks, Proposes, Trims, Links, Unlinks, Reads, acted, acted_in, restarted, started, based, got_segment, inner, answers_beat, takes, is_request, sought, seeks, reads, is_for_joining, is_ahead, latest, latest_in, led, ticks_in, links_in, step, may_propose, ReadsLong, BaseStage, has_all, completed, is_piece, pieced, asks_base, answers_long}
 use Rattle.op_configurations.specs.Worlds.{inner_of, place_in, with_fate, plain_event, event_in}
 use Rattle.op_configurations.proofs.Inside.{inner_place}
 
@@ -86,6 +86,20 @@ module _ (f : Fate) (p : ℕ) (st : State) (above : (j : Joining) → st.joining
   based_shape e (Some j) has c at front =
       either e ((j.conf == c) && (not (is_some j.base) && nat_le at j.len)) _ _ (started_shape e j has _ refl _) (nothing e)
 
+  completed_shape : (e : Event) (j : Joining) → st.joining ≡ Some j → (at : ℕ) (front : List Entry) (total : ℕ) (s : BaseStage) → Shape f st e (completed f p st j at front total s).inside
+  unfolding completed
+  completed_shape e j has at front total s = either e (has_all s.has total) _ _ (started_shape e j has _ refl _) (nothing e)
+
+  pieced_shape : (e : Event) (o : Option Joining) → st.joining ≡ o → (c at total from_at count : ℕ) (front : List Entry) → Shape f st e (pieced f p st o c at total from_at count front).inside
+  unfolding pieced
+  pieced_shape e None has c at total from_at count front = nothing e
+  pieced_shape e (Some j) has c at total from_at count front =
+      either e ((j.conf == c) && is_piece j at total from_at count) _ _ (completed_shape e j has at front total _) (nothing e)
+
+  answers_shape : (e : Event) (total : ℕ) (m : Letter) → Shape f st e (answers_long p st total m).inside
+  unfolding answers_long
+  answers_shape e total m = either e (asks_base m.body && (m.conf == latest st)) _ _ (nothing e) (nothing e)
+
   segment_shape : (e : Event) (o : Option Joining) → st.joining ≡ o → (c a : ℕ) (es : List Entry) → Shape f st e (got_segment f p st o c a es).inside
   unfolding got_segment
   segment_shape e None has c a es = nothing e
@@ -111,6 +125,7 @@ module _ (f : Fate) (p : ℕ) (st : State) (above : (j : Joining) → st.joining
   takes_shape n l (NextConf members olds len t) is = nothing (Reads n l)
   takes_shape n l AskBase is = nothing (Reads n l)
   takes_shape n l (BasePart at front) is = based_shape (Reads n l) st.joining refl l.conf at front
+  takes_shape n l (BasePiece at total from_at count front) is = pieced_shape (Reads n l) st.joining refl l.conf at total from_at count front
   takes_shape n l (AskSegment a b) is = nothing (Reads n l)
   takes_shape n l (Segment a es) is = segment_shape (Reads n l) st.joining refl l.conf a es
 
@@ -166,12 +181,14 @@ module _ (f : Fate) (p : ℕ) (st : State) (above : (j : Joining) → st.joining
   step_shape (Links q) = links_shape (Links q) st.joining q st.part refl
   step_shape (Unlinks q) = acted_in_shape (Unlinks q) st.part refl (Down q) (down_starts q) (λ c. refl)
   step_shape (Reads n l) = reads_shape n l
+  step_shape (ReadsLong n total l) = answers_shape (ReadsLong n total l) total l
 
 -- ---- as events of the configuration
 
 -- a letter that is read was sent to the server
 abbrev pub IfSentTo : List Letter → ℕ → Event → Type 0
 IfSentTo soup p (Reads n l) = (slice_get soup n ≡ Some l) × (l.to ≡ p)
+IfSentTo soup p (ReadsLong n total l) = (slice_get soup n ≡ Some l) × (l.to ≡ p)
 IfSentTo soup p _ = Unit {0}
 
 same_input : (f : Fate) (V : paxos.World) (e : paxos.Event) → paxos.input_of V (with_fate f e) ≡ paxos.input_of V e

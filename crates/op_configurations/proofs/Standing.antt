@@ -11,13 +11,13 @@ use Rattle.op_paxos.specs.Messages.{packet}
 use Rattle.op_paxos.specs.Worlds as paxos
 use Rattle.op_configurations.proofs.Among.{In}
 use Rattle.op_paxos.specs.Nodes.{Node}
-use Rattle.op_paxos.specs.Messages.{Packet, Msg, Prepare, Promise, AcceptSync, Accept, Accepted, Decide, PrepareReq, Refuse, Forward, TrimAsk, Progress, Trim}
+use Rattle.op_paxos.specs.Messages.{Packet, Msg, Prepare, Promise, PromisePart, AcceptSync, AcceptSyncPart, Accept, Accepted, Decide, PrepareReq, Refuse, Forward, TrimAsk, Progress, Trim}
 use Rattle.op_paxos.specs.Agreement.{IsPrefix}
 use Rattle.op_paxos.proofs.Membership.{in_from_get}
 use Rattle.op_configurations.proofs.Inside.{inner_place}
 use Rattle.op_paxos.specs.Steps.{IsTrueIn}
 use Rattle.op_paxos.proofs.TrueMessages.{messages_are_true}
-use Rattle.op_configurations.specs.Servers.{Part, Closed, Joining, State, Body, Inner, HeartbeatRequest, HeartbeatReply, NextConf, AskBase, BasePart, AskSegment, Segment, decided_list, latest}
+use Rattle.op_configurations.specs.Servers.{Part, Closed, Joining, State, Body, Inner, HeartbeatRequest, HeartbeatReply, NextConf, AskBase, BasePart, BasePiece, AskSegment, Segment, decided_list, latest}
 use Rattle.op_configurations.specs.Worlds.{World, Happening, happens, run, start, entries_in, decided_in, machine_with, machine_after, machine_of, inner_of, place_in}
 use Rattle.op_configurations.specs.Laws.{OneList, MeetsMachine, PartStands, ClosedStands, BaseStands, JoiningStands, StateStands, Stands, NextStands, SegmentStands, BodyStands, LettersStand, NeverFalls, Safe, Grows, AllKnow, TrimsKnown, Keeps, JoiningKeeps, MsgStands, MessagesStand}
 use Rattle.op_configurations.proofs.Fronts.{front_trans, front_length, front_take, either_front, whole_front}
@@ -144,6 +144,9 @@ module _ (first : List ℕ) (t : Tale) (m : Machine) (ok : TaleOk first m.propos
   body_stands p q c (BasePart at front) k =
       let e : k.before ≡ c - 1 = omega (arith, k.is) in
       subst (λ (l : List Entry). BaseStands l (record { at = at; front = front })) (whole_is k.before k.list k.sign k.whole ∙ ap m.lists e) k.stands
+  body_stands p q c (BasePiece at total from_at count front) k =
+      let e : k.before ≡ c - 1 = omega (arith, k.is) in
+      subst (λ (l : List Entry). BaseStands l (record { at = at; front = front })) (whole_is k.before k.list k.sign k.whole ∙ ap m.lists e) k.stands
   body_stands p q c (AskSegment a b) k = tt
   body_stands p q c (Segment a es) k =
       let e : k.before ≡ c - 1 = omega (arith, k.is) in
@@ -248,7 +251,9 @@ module _ (first : List ℕ) (t : Tale) (m : Machine) (ok : TaleOk first m.propos
   msg_stands : (c p : ℕ) → t.opened c ≡ true → (x : Msg) → IsTrueIn (t.members c) (inst t c) p x → MsgStands m (members_of first m.lists c) c p x
   msg_stands c p h (Prepare n na nl d) k = tt
   msg_stands c p h (Promise n pm) k = tt
+  msg_stands c p h (PromisePart n part) k = tt
   msg_stands c p h (AcceptSync n x es) k = tt
+  msg_stands c p h (AcceptSyncPart n part) k = tt
   msg_stands c p h (Accept n a es) k = tt
   msg_stands c p h (Accepted n x) k = tt
   msg_stands c p h (Decide n x) k = omega (arith, k, knows_decided p c)

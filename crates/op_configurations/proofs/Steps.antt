@@ -1,8 +1,11 @@
 -- Each step of a server keeps the invariant over all configurations.
-use Rattle.std.proofs.Common.{◌≡◌, ℕ, suc, ◌+◌, ◌-◌, ◌*◌, ◌<◌, ◌≤◌, inl, inr, ⊎_elim, List, [], ◌∷◌, ◌++◌, length, true, ◌&&◌, ◌==◌, take, drop, refl, sym, ap, ◌∙◌, subst, subst₂, arith, Option, Some, None, Bool, false}
+use Rattle.op_paxos.proofs.SentParts.{in_cut}
+use Rattle.op_types.specs.Cutting.{cut, parts_from}
+use Rattle.std.proofs.Common.{◌≡◌, ℕ, suc, ◌+◌, ◌-◌, ◌*◌, ◌<◌, ◌≤◌, inl, inr, ⊎_elim, List, [], ◌∷◌, ◌++◌, length, true, ◌&&◌, ◌==◌, take, drop, refl, sym, ap, ◌∙◌, subst, subst₂, arith, Option, Some, None, Bool, false, min, zero}
 use Rattle.std.specs.Prelude.{◌/◌, slice_get, nat_eq, nat_lt, nat_le, not, is_some, ◌||◌}
 use Rattle.std.specs.Set.{is_member}
 use Rattle.std.proofs.lemmas.Bool.{cond_both, cases_lt, and_parts, leb-true, ltb-true, eqb-true, and_from, both_ways, or_left, false≢true}
+use Rattle.op_types.specs.Limits.{most_part_bytes}
 use Rattle.op_types.specs.declared.log.Entry.{Entry}
 use Rattle.op_paxos.specs.Messages.{Msg, packet}
 use Rattle.op_paxos.specs.Worlds as paxos
@@ -10,20 +13,20 @@ use Rattle.op_configurations.proofs.Among.{In}
 use Rattle.op_paxos.specs.Messages.{Packet}
 use Rattle.op_paxos.specs.Worlds.{Input, Elected, Proposal, Comes, Up, Down, Starts, TrimNow}
 use Rattle.op_paxos.specs.Agreement.{decided_log}
-use Rattle.op_configurations.specs.Servers.{Part, Closed, Base, Joining, State, Letter, Body, Inner, HeartbeatRequest, HeartbeatReply, NextConf, AskBase, BasePart, AskSegment, Segment, letter, Fate, latest, latest_members, to_all, new_part, next_conf, acted, acted_in, restarted, with_joining, invited, covered, base_place, joined_list, started, start_if_whole, based, held_with, got_segment, donors_at, ask_parts, best_donor, asks_of, asks, gives_base, gives_segment, refers, is_for_joining, is_ahead, inner, answers_beat, takes, is_request, sought, seeks, Done, Stopped, reads, held_run, Event, Ticks, Proposes, Trims, Links, Unlinks, Reads, may_propose, led, ticks_in, links_in, step, may_propose_in}
+use Rattle.op_configurations.specs.Servers.{Part, Closed, Base, Joining, State, Letter, Body, Inner, HeartbeatRequest, HeartbeatReply, NextConf, AskBase, BasePart, BasePiece, AskSegment, Segment, letter, Fate, latest, latest_members, to_all, new_part, next_conf, acted, acted_in, restarted, with_joining, invited, covered, base_place, joined_list, started, start_if_whole, based, held_with, got_segment, BaseStage, staged_piece, has_all, completed, is_piece, pieced, pieces_from, gives_pieces, asks_base, answers_long, donors_at, ask_parts, best_donor, asks_of, asks, gives_base, gives_segment, refers, is_for_joining, is_ahead, inner, answers_beat, takes, is_request, sought, seeks, Done, Stopped, reads, held_run, Event, Ticks, Proposes, Trims, Links, Unlinks, Reads, ReadsLong, may_propose, led, ticks_in, links_in, step, may_propose_in}
 use Rattle.op_configurations.specs.Worlds.{inner_of, place_in, events_in, entries_in, decided_in}
 use Rattle.op_configurations.specs.Laws.{BaseStands, SegmentStands}
 use Rattle.op_configurations.proofs.Fronts.{some_same}
 use Rattle.op_configurations.proofs.Runs.{Told, May, proposed_of}
 use Rattle.op_configurations.proofs.Moved.{among_in}
-use Rattle.op_configurations.proofs.Tale.{Tale, inst, Whole, TaleOk, PartOk, ClosedOk, NextOk, JoiningOk, StateOk, BodyOk, LetterOk, EventOk, onward_on, one_next, Reached, reached_on, whole_on, state_on}
+use Rattle.op_configurations.proofs.Tale.{Tale, inst, Whole, TaleOk, PartOk, ClosedOk, NextOk, JoiningOk, StateOk, BodyOk, LetterOk, EventOk, onward_on, one_next, Reached, reached_on, whole_on, state_on, BaseOk}
 use Rattle.op_configurations.proofs.Inside.{inner_beats, inner_place}
 use Rattle.op_configurations.proofs.Rising.{Rises, rises_on, entries_told, decided_entries, known_conf, closed_at, whole_longest, invited_same}
 use Rattle.op_paxos.specs.Steps.{IsQuiet}
 use Rattle.op_configurations.proofs.Keeping.{quiet_vote}
 use Rattle.op_configurations.proofs.Seeking.{asked_good}
 use Rattle.op_configurations.proofs.Entered.{Opening, opening, entered_ok}
-use Rattle.op_configurations.proofs.Held.{covered_is, held_more, part_stands}
+use Rattle.op_configurations.proofs.Held.{covered_is, held_more, part_stands, run_stands}
 use Rattle.op_configurations.proofs.Acting.{LowAt, told_low, StepGood, CalmGood, Tied, news_ok, in_to_all, single, here_good, still_good, held_good, more_sent, acted_good, restarted_good, with_joining_ok, invited_ok}
 
 -- ---- a server starts
@@ -114,7 +117,7 @@ module _ (first : List ℕ) (pr : ℕ → List Entry) (t : Tale) (ok : TaleOk fi
       let old = h.joining j has in
       cond_both ((j.conf == c) && (not (is_some j.base) && nat_le at j.len)) _ _ (StepGood first pr t soup p f st)
       (λ e. let same : j.conf ≡ c = eqb-true j.conf c (and_parts (j.conf == c) _ e).0 in
-      start_good (record { conf = j.conf; members = j.members; olds = j.olds; len = j.len; donors = j.donors; base = Some (record { at = at; front = front }); held = j.held })
+      start_good (record { conf = j.conf; members = j.members; olds = j.olds; len = j.len; donors = j.donors; base = Some (record { at = at; front = front }); held = j.held; stage = j.stage })
       (record {
         next = old.next;
         mine = old.mine;
@@ -124,6 +127,31 @@ module _ (first : List ℕ) (pr : ℕ → List Entry) (t : Tale) (ok : TaleOk fi
       }) (h.above j has))
       (λ e. still_good first pr t ok soup p f st h)
 
+  -- a base that came in pieces
+  completed_good : (j : Joining) → st.joining ≡ Some j → (c at : ℕ) (front : List Entry) (total : ℕ) (s : BaseStage) → j.conf ≡ c → BaseOk t c at front → StepGood first pr t soup p f st (completed f p st j at front total s)
+  unfolding completed
+  completed_good j has c at front total s same k =
+      let old = h.joining j has in
+      cond_both (has_all s.has total) _ _ (StepGood first pr t soup p f st)
+      (λ e. start_good (record { conf = j.conf; members = j.members; olds = j.olds; len = j.len; donors = j.donors; base = Some (record { at = at; front = front }); held = j.held; stage = None })
+      (record {
+        next = old.next;
+        mine = old.mine;
+        base = λ b d. subst (BaseStands (old.next).list) (some_same (record { at = at; front = front }) b d) (subst (λ (l : List Entry). BaseStands l (record { at = at; front = front })) (one_next t k.before (old.next).before k.list (old.next).list k.sign (old.next).sign (sym k.is ∙ sym same ∙ (old.next).is) k.whole (old.next).whole).0 k.stands);
+        reached = λ b d. subst (λ (x : Base). Reached t (old.next).before x.at) (some_same (record { at = at; front = front }) b d) (subst (λ r. Reached t r at) (let z : k.before ≡ (old.next).before = omega (arith, k.is, same, (old.next).is) in z) k.reached);
+        held = old.held;
+      }) (h.above j has))
+      (λ e. held_good first pr t ok soup p f st (with_joining st (record j { stage = Some s })) refl refl
+      (with_joining_ok first pr t ok soup p f st h (record j { stage = Some s }) (record { next = old.next; mine = old.mine; base = old.base; reached = old.reached; held = old.held }) (h.above j has)))
+
+  pieced_good : (o : Option Joining) → st.joining ≡ o → (c at total from_at count : ℕ) (front : List Entry) → BaseOk t c at front → StepGood first pr t soup p f st (pieced f p st o c at total from_at count front)
+  unfolding pieced
+  pieced_good None has c at total from_at count front k = still_good first pr t ok soup p f st h
+  pieced_good (Some j) has c at total from_at count front k =
+      cond_both ((j.conf == c) && is_piece j at total from_at count) _ _ (StepGood first pr t soup p f st)
+      (λ e. completed_good j has c at front total (staged_piece j.stage at from_at count) (eqb-true j.conf c (and_parts (j.conf == c) _ e).0) k)
+      (λ e. still_good first pr t ok soup p f st h)
+
   segment_good : (o : Option Joining) → st.joining ≡ o → (c a : ℕ) (es : List Entry) → BodyOk t p p c (Segment a es) → StepGood first pr t soup p f st (got_segment f p st o c a es)
   unfolding got_segment
   segment_good None has c a es k = still_good first pr t ok soup p f st h
@@ -131,7 +159,7 @@ module _ (first : List ℕ) (pr : ℕ → List Entry) (t : Tale) (ok : TaleOk fi
       let old = h.joining j has in
       cond_both ((j.conf == c) && (nat_lt 0 (length es) && nat_le (a + length es) j.len)) _ _ (StepGood first pr t soup p f st)
       (λ e. let same : j.conf ≡ c = eqb-true j.conf c (and_parts (j.conf == c) _ e).0 in
-      start_good (record { conf = j.conf; members = j.members; olds = j.olds; len = j.len; donors = j.donors; base = j.base; held = held_with j.held a es })
+      start_good (record { conf = j.conf; members = j.members; olds = j.olds; len = j.len; donors = j.donors; base = j.base; held = held_with j.held a es; stage = j.stage })
       (record {
         next = old.next;
         mine = old.mine;
@@ -151,14 +179,33 @@ module _ (first : List ℕ) (pr : ℕ → List Entry) (t : Tale) (ok : TaleOk fi
       cond_both (suc k.conf == c) _ [] (λ (l : List Letter). In m l → LetterOk t m)
       (λ e i. single (LetterOk t) (letter p q c (BasePart k.trimmed (take k.trimmed k.list))) (record { before = k.conf; list = k.list; sign = kh.sign; is = sym (eqb-true (suc k.conf) c e); whole = kh.whole; stands = record { within = kh.trimmed; front = refl }; reached = kh.reached }) m i) (λ e i. absurd i)
 
+  -- its pieces
+  pieces_given : (q c at : ℕ) (front : List Entry) → BaseOk t c at front → (total from_at most : ℕ) (m : Letter) → In m (pieces_from p q c at front total from_at most) → LetterOk t m
+  pieces_given q c at front k total from_at zero m i = absurd i
+  pieces_given q c at front k total from_at (suc most) m i =
+      cond_both (nat_lt from_at total) (letter p q c (BasePiece at total from_at (min most_part_bytes (total - from_at)) front) ∷ pieces_from p q c at front total (from_at + most_part_bytes) most) [] (λ (l : List Letter). In m l → LetterOk t m)
+      (λ e d. ⊎_elim (λ (z : letter p q c (BasePiece at total from_at (min most_part_bytes (total - from_at)) front) ≡ m). subst (LetterOk t) z k) (λ (z : In m (pieces_from p q c at front total (from_at + most_part_bytes) most)). pieces_given q c at front k total (from_at + most_part_bytes) most m z) d)
+      (λ e d. absurd d) i
+
+  long_given : (o : Option Closed) → st.closed ≡ o → (q c total : ℕ) (m : Letter) → In m (gives_pieces p o q c total) → LetterOk t m
+  unfolding gives_pieces
+  long_given None has q c total m = λ i. absurd i
+  long_given (Some k) has q c total m =
+      let kh = h.closed k has in
+      cond_both (suc k.conf == c) (pieces_from p q c k.trimmed (take k.trimmed k.list) total 0 (suc (total / most_part_bytes))) [] (λ (l : List Letter). In m l → LetterOk t m)
+      (λ e i. pieces_given q c k.trimmed (take k.trimmed k.list) (record { before = k.conf; list = k.list; sign = kh.sign; is = sym (eqb-true (suc k.conf) c e); whole = kh.whole; stands = record { within = kh.trimmed; front = refl }; reached = kh.reached }) total 0 (suc (total / most_part_bytes)) m i)
+      (λ e i. absurd i)
+
   segment_given : (o : Option Closed) → st.closed ≡ o → (q c a b : ℕ) (m : Letter) → In m (gives_segment p o q c a b) → LetterOk t m
   unfolding gives_segment
   segment_given None has q c a b m = λ i. absurd i
   segment_given (Some k) has q c a b m =
       let kh = h.closed k has in
+      let es = drop a (take b k.list) in
       cond_both ((suc k.conf == c) && (nat_le k.trimmed a && (nat_lt a b && nat_le b (length k.list)))) _ [] (λ (l : List Letter). In m l → LetterOk t m)
       (λ e i. let x = and_parts (suc k.conf == c) _ e in let y = and_parts (nat_lt a b) _ (and_parts (nat_le k.trimmed a) _ x.1).1 in
-      single (LetterOk t) (letter p q c (Segment a (drop a (take b k.list)))) (record { before = k.conf; list = k.list; sign = kh.sign; is = sym (eqb-true (suc k.conf) c x.0); whole = kh.whole; stands = part_stands k.list a b (omega (arith, ltb-true a b y.0)) (leb-true b (length k.list) y.1) }) m i) (λ e i. absurd i)
+      let s = part_stands k.list a b (omega (arith, ltb-true a b y.0)) (leb-true b (length k.list) y.1) in
+      in_cut (λ at run. letter p q c (Segment at run)) (LetterOk t) es a (λ at run r. record { before = k.conf; list = k.list; sign = kh.sign; is = sym (eqb-true (suc k.conf) c x.0); whole = kh.whole; stands = run_stands k.list a es s at run r }) m i) (λ e i. absurd i)
 
   referred : (o : Option Closed) → st.closed ≡ o → (q : ℕ) (m : Letter) → In m (refers p st o q) → LetterOk t m
   unfolding refers
@@ -185,11 +232,35 @@ module _ (first : List ℕ) (pr : ℕ → List Entry) (t : Tale) (ok : TaleOk fi
   base_plain None q c r = refl
   base_plain (Some k) q c r = cond_both (suc k.conf == c) (letter p q c (BasePart k.trimmed (take k.trimmed k.list)) ∷ []) [] (λ l. inner_of r l ≡ []) (λ e. refl) (λ e. refl)
 
+  pieces_plain : (q c at : ℕ) (front : List Entry) (total from_at most r : ℕ) → inner_of r (pieces_from p q c at front total from_at most) ≡ []
+  pieces_plain q c at front total from_at zero r = refl
+  pieces_plain q c at front total from_at (suc most) r =
+      cond_both (nat_lt from_at total) (letter p q c (BasePiece at total from_at (min most_part_bytes (total - from_at)) front) ∷ pieces_from p q c at front total (from_at + most_part_bytes) most) [] (λ l. inner_of r l ≡ [])
+      (λ e. pieces_plain q c at front total (from_at + most_part_bytes) most r) (λ e. refl)
+
+  long_plain : (o : Option Closed) (q c total r : ℕ) → inner_of r (gives_pieces p o q c total) ≡ []
+  unfolding gives_pieces
+  long_plain None q c total r = refl
+  long_plain (Some k) q c total r =
+      cond_both (suc k.conf == c) (pieces_from p q c k.trimmed (take k.trimmed k.list) total 0 (suc (total / most_part_bytes))) [] (λ l. inner_of r l ≡ [])
+      (λ e. pieces_plain q c k.trimmed (take k.trimmed k.list) total 0 (suc (total / most_part_bytes)) r) (λ e. refl)
+
+  answers_good : (total : ℕ) (m : Letter) → StepGood first pr t soup p f st (answers_long p st total m)
+  unfolding answers_long
+  answers_good total m =
+      cond_both (asks_base m.body && (m.conf == latest st)) _ _ (StepGood first pr t soup p f st)
+      (λ e. here_good first pr t ok soup p f st (gives_pieces p st.closed m.from m.conf total) h (long_given st.closed refl m.from m.conf total) (long_plain st.closed m.from m.conf total))
+      (λ e. still_good first pr t ok soup p f st h)
+
+  runs_plain : (q c r at : ℕ) (runs : List (List Entry)) → inner_of r (parts_from (λ at run. letter p q c (Segment at run)) at runs) ≡ []
+  runs_plain q c r at [] = refl
+  runs_plain q c r at (run ∷ runs) = runs_plain q c r (at + length run) runs
+
   segment_plain : (o : Option Closed) (q c a b r : ℕ) → inner_of r (gives_segment p o q c a b) ≡ []
   unfolding gives_segment
   segment_plain None q c a b r = refl
   segment_plain (Some k) q c a b r =
-      cond_both ((suc k.conf == c) && (nat_le k.trimmed a && (nat_lt a b && nat_le b (length k.list)))) (letter p q c (Segment a (drop a (take b k.list))) ∷ []) [] (λ l. inner_of r l ≡ []) (λ e. refl) (λ e. refl)
+      cond_both ((suc k.conf == c) && (nat_le k.trimmed a && (nat_lt a b && nat_le b (length k.list)))) (parts_from (λ at run. letter p q c (Segment at run)) a (cut (drop a (take b k.list)))) [] (λ l. inner_of r l ≡ []) (λ e. runs_plain q c r a (cut (drop a (take b k.list)))) (λ e. refl)
 
   refers_plain : (o : Option Closed) (q r : ℕ) → inner_of r (refers p st o q) ≡ []
   unfolding refers
@@ -204,6 +275,7 @@ module _ (first : List ℕ) (pr : ℕ → List Entry) (t : Tale) (ok : TaleOk fi
   takes_good n q c (NextConf members olds len trm) gate k at = held_good first pr t ok soup p f st (invited p st q c members olds len trm) (invited_same p st q c members olds len trm).0 (invited_same p st q c members olds len trm).1 (invited_ok first pr t ok soup p f st h q c members olds len trm k.0)
   takes_good n q c AskBase gate k at = here_good first pr t ok soup p f st (gives_base p st.closed q c) h (base_given st.closed refl q c) (base_plain st.closed q c)
   takes_good n q c (BasePart at front) gate k there = based_good st.joining refl c at front k
+  takes_good n q c (BasePiece at total from_at count front) gate k there = pieced_good st.joining refl c at total from_at count front k
   takes_good n q c (AskSegment a b) gate k at = here_good first pr t ok soup p f st (gives_segment p st.closed q c a b) h (segment_given st.closed refl q c a b) (segment_plain st.closed q c a b)
   takes_good n q c (Segment a es) gate k at = segment_good st.joining refl c a es k
 
@@ -315,3 +387,4 @@ module _ (first : List ℕ) (pr : ℕ → List Entry) (t : Tale) (ok : TaleOk fi
   step_good (Links q) k = links_good st.joining refl q st.part refl
   step_good (Unlinks q) k = plain_good (Down q) tt (λ w n. tt) refl st.part refl
   step_good (Reads n m) k = reads_good n m k.0 k.1 k.2
+  step_good (ReadsLong n total m) k = answers_good total m

@@ -7,8 +7,8 @@ use Rattle.op_paxos.specs.Worlds as paxos
 use Rattle.op_paxos.specs.Messages.{Packet}
 use Rattle.op_paxos.specs.Exchange.{is_stopped}
 use Rattle.op_paxos.specs.Worlds.{Input, Starts}
-use Rattle.op_configurations.specs.Servers.{Part, State, Letter, Stepped, Inside, Fate, Done, Stopped, Event, Ticks, Proposes, Trims, Links, Unlinks, Reads, restarted, step}
-use Rattle.op_configurations.specs.Worlds.{Life, Running, Down, Server, World, Happening, At, Delivers, Stops, Opens, is_letter, inner_of, events_in, event_in, with_fate, with_server, stepped, at_server, delivered, stops, found, opening_fate, opened, opens, happens, run, start, reader, actor, machine_of}
+use Rattle.op_configurations.specs.Servers.{Part, State, Letter, Stepped, Inside, Fate, Done, Stopped, Event, Ticks, Proposes, Trims, Links, Unlinks, Reads, restarted, step, ReadsLong, without_pieces}
+use Rattle.op_configurations.specs.Worlds.{Life, Running, Down, Server, World, Happening, At, Delivers, Stops, Opens, is_letter, inner_of, events_in, event_in, with_fate, with_server, stepped, at_server, delivered, stops, found, opening_fate, opened, opens, happens, run, start, reader, actor, machine_of, DeliversLong}
 use Rattle.op_configurations.proofs.Fronts.{some_same}
 use Rattle.op_configurations.proofs.Inside.{events_append}
 use Rattle.op_configurations.proofs.Tale.{Tale, EventOk}
@@ -165,6 +165,7 @@ module _ (first : List ℕ) (ks : List Happening) (c : ℕ) where
   -- an event that is no letter
   plain_sent : (p : ℕ) (e : Event) → is_letter e ≡ false → IfSentTo w.soup p e
   plain_sent p (Reads n l) k = absurd (Rattle.std.proofs.lemmas.Bool.true≢false k)
+  plain_sent p (ReadsLong n total l) k = absurd (Rattle.std.proofs.lemmas.Bool.true≢false k)
   plain_sent p (Ticks n) k = tt
   plain_sent p (Proposes es) k = tt
   plain_sent p Trims k = tt
@@ -177,6 +178,7 @@ module _ (first : List ℕ) (ks : List Happening) (c : ℕ) where
     where
       by : (pr : ℕ → List Entry) (t : Tale) (e : Event) → EventOk pr t w.soup p (w.servers p).state e → IfSentTo w.soup p e
       by pr t (Reads n l) k = (k.2, k.1)
+      by pr t (ReadsLong n total l) k = (k.2, k.1)
       by pr t (Ticks n) k = tt
       by pr t (Proposes es) k = tt
       by pr t Trims k = tt
@@ -194,27 +196,29 @@ module _ (first : List ℕ) (ks : List Happening) (c : ℕ) where
   opens_adds p after Running life = adds_none (Some p)
   opens_adds p after (Down x) life =
       let o : Stepped = found p after (w.servers p).state x in
-      let k : Stepped = restarted (opening_fate (o.state).joining) p o.state (o.state).part in
-      adds p _ _ (o.inside ++ k.inside) (Some p) (omega (arith, length-append o.inside k.inside, found_few p after x, restarted_few (opening_fate (o.state).joining) p o.state (o.state).part))
-      (found_stops p after x k.inside (restarted_few (opening_fate (o.state).joining) p o.state (o.state).part)) refl
+      let st : State = without_pieces o.state in
+      let k : Stepped = restarted (opening_fate st.joining) p st (o.state).part in
+      adds p _ _ (o.inside ++ k.inside) (Some p) (omega (arith, length-append o.inside k.inside, found_few p after x, restarted_few (opening_fate st.joining) p st (o.state).part))
+      (found_stops p after x k.inside (restarted_few (opening_fate st.joining) p st (o.state).part)) refl
       (subst (AllTaken (inner_of c w.soup) p) (sym (events_append w.soup p c o.inside k.inside))
-      (found_taken p after x life (events_in w.soup p c k.inside) (starts_taken w.soup p c (opening_fate (o.state).joining) o.state (o.state).part)))
+      (found_taken p after x life (events_in w.soup p c k.inside) (starts_taken w.soup p c (opening_fate st.joining) st (o.state).part)))
 
   stops_adds : (p : ℕ) (l : Life) → Added w (stops w p l) c (Some p)
   unfolding stops
   stops_adds p Running = adds_nothing p _ (Some p)
   stops_adds p (Down x) = adds_none (Some p)
 
-  delivers_adds : (f : Fate) (n : ℕ) (o : Option Letter) → slice_get w.soup n ≡ o → Added w (delivered w f n o) c (reader o)
+  delivers_adds : (f : Fate) (read : Letter → Event) (o : Option Letter) → ((l : Letter) → o ≡ Some l → IfSentTo w.soup l.to (read l)) → Added w (delivered w f read o) c (reader o)
   unfolding delivered
-  delivers_adds f n None at = adds_none None
-  delivers_adds f n (Some l) at = server_adds f l.to (w.servers l.to).life (Reads n l) (at, refl) (Some l.to) refl
+  delivers_adds f read None sent = adds_none None
+  delivers_adds f read (Some l) sent = server_adds f l.to (w.servers l.to).life (read l) (sent l refl) (Some l.to) refl
 
   -- whatever happens
   pub happening_adds : (h : Happening) → Added w (happens w h) c (actor w h)
   unfolding happens
   happening_adds (At f p e) =
       cond_both (is_letter e) w (at_server w f p (w.servers p).life e) (λ (v : World). Added w v c (Some p)) (λ _. adds_none (Some p)) (λ plain. server_adds f p (w.servers p).life e (plain_sent p e plain) (Some p) refl)
-  happening_adds (Delivers f n) = delivers_adds f n (slice_get w.soup n) refl
+  happening_adds (Delivers f n) = delivers_adds f (Reads n) (slice_get w.soup n) (λ l at. (at, refl))
+  happening_adds (DeliversLong f n total) = delivers_adds f (ReadsLong n total) (slice_get w.soup n) (λ l at. (at, refl))
   happening_adds (Stops p) = stops_adds p (w.servers p).life
   happening_adds (Opens p after) = opens_adds p after (w.servers p).life refl

@@ -8,7 +8,7 @@ use Rattle.op_paxos.specs.Worlds as paxos
 use Rattle.op_configurations.proofs.Among.{In}
 use Rattle.op_paxos.specs.Agreement.{proposals}
 use Rattle.op_paxos.proofs.TrimBound.{never_falls}
-use Rattle.op_configurations.specs.Servers.{fresh, Part, Closed, Base, Joining, State, Letter, Body, Inner, HeartbeatRequest, HeartbeatReply, NextConf, AskBase, BasePart, AskSegment, Segment, Event, Ticks, Proposes, Trims, Links, Unlinks, Reads, latest, may_propose}
+use Rattle.op_configurations.specs.Servers.{fresh, Part, Closed, Base, Joining, State, Letter, Body, Inner, HeartbeatRequest, HeartbeatReply, NextConf, AskBase, BasePart, BasePiece, AskSegment, Segment, Event, Ticks, Proposes, Trims, Links, Unlinks, Reads, ReadsLong, latest, may_propose}
 use Rattle.op_configurations.specs.Laws.{BaseStands, SegmentStands}
 use Rattle.op_configurations.proofs.Fronts.{none_some, whole_same}
 use Rattle.op_configurations.proofs.Runs.{Told, told_later, told_tidy, told_fronts}
@@ -121,6 +121,7 @@ abbrev pub BodyOk : Tale → ℕ → ℕ → ℕ → Body → Type 0
 BodyOk t p q c (Inner m) = Unit {0}
 BodyOk t p q c (NextConf members olds len trimmed) = NextOk t c members olds len × (trimmed ≤ len)
 BodyOk t p q c (BasePart at front) = BaseOk t c at front
+BodyOk t p q c (BasePiece at total from_at count front) = BaseOk t c at front
 BodyOk t p q c (Segment a es) = SegmentOk t c a es
 BodyOk t p q c _ = Unit {0}
 
@@ -130,6 +131,7 @@ LetterOk t m = BodyOk t m.from m.to m.conf m.body
 -- what an event needs: a letter was sent to the server, and a proposal that isn't refused is proposed in the configuration
 abbrev pub EventOk : (ℕ → List Entry) → Tale → List Letter → ℕ → State → Event → Type 0
 EventOk pr t soup p st (Reads n m) = LetterOk t m × (m.to ≡ p) × (slice_get soup n ≡ Some m)
+EventOk pr t soup p st (ReadsLong n total m) = LetterOk t m × (m.to ≡ p) × (slice_get soup n ≡ Some m)
 EventOk pr t soup p st (Proposes es) = (pt : Part) → st.part ≡ Some pt → may_propose p st (Some pt) es ≡ true → (e : Entry) → IsAmong es e → IsAmong (pr pt.conf) e
 EventOk pr t soup p st _ = Unit {0}
 
@@ -194,11 +196,13 @@ module _ (t t' : Tale) (o : Onward t t') where
       body_on p q c (NextConf members olds len trimmed) k = (next_on c members olds len k.0, k.1)
       body_on p q c AskBase k = tt
       body_on p q c (BasePart at front) k = record { before = k.before; list = k.list; sign = k.sign; is = k.is; whole = whole_on k.before k.list k.sign k.whole; stands = k.stands; reached = reached_on k.before at (k.whole).opened k.reached }
+      body_on p q c (BasePiece at total from_at count front) k = record { before = k.before; list = k.list; sign = k.sign; is = k.is; whole = whole_on k.before k.list k.sign k.whole; stands = k.stands; reached = reached_on k.before at (k.whole).opened k.reached }
       body_on p q c (AskSegment a b) k = tt
       body_on p q c (Segment a es) k = record { before = k.before; list = k.list; sign = k.sign; is = k.is; whole = whole_on k.before k.list k.sign k.whole; stands = k.stands }
 
   pub event_on : (pr : ℕ → List Entry) (soup more : List Letter) (p : ℕ) (st : State) (e : Event) → EventOk pr t soup p st e → EventOk pr t' (soup ++ more) p st e
   event_on pr soup more p st (Reads n m) h = (letter_on m h.0, h.1, slice_more soup more n m h.2)
+  event_on pr soup more p st (ReadsLong n total m) h = (letter_on m h.0, h.1, slice_more soup more n m h.2)
   event_on pr soup more p st (Proposes e) h = h
   event_on pr soup more p st (Ticks n) h = tt
   event_on pr soup more p st Trims h = tt

@@ -10,8 +10,8 @@ use Rattle.op_paxos.specs.Messages.{Msg, Effect}
 use Rattle.op_paxos.specs.Worlds as paxos
 use Rattle.op_paxos.specs.Worlds.{Input, Elected, Proposal, Comes, Up, Down, Starts, TrimNow}
 use Rattle.op_paxos.proofs.Updates.{upd_both}
-use Rattle.op_configurations.specs.Servers.{Part, Closed, Joining, State, Letter, Body, Inner, HeartbeatRequest, HeartbeatReply, NextConf, AskBase, BasePart, AskSegment, Segment, Fate, Done as ServerDone, Stopped as ServerStopped, Stepped, Event, Ticks, Proposes, Trims, Links, Unlinks, Reads, new_part, closed_of, close_with, acted, acted_in, restarted, with_joining, invited, joined_list, started, based, got_segment, inner, answers_beat, takes, is_request, sought, seeks, reads, is_for_joining, is_ahead, latest, fated, decided_list, led, ticks_in, links_in, step, may_propose}
-use Rattle.op_configurations.specs.Worlds.{Life, Running, Down as IsDown, Server, World, Happening, At, Delivers, Stops, Opens, is_letter, stepped, at_server, delivered, stops, found, opening_fate, opened, opens, happens, run, start}
+use Rattle.op_configurations.specs.Servers.{Part, Closed, Joining, State, Letter, Body, Inner, HeartbeatRequest, HeartbeatReply, NextConf, AskBase, BasePart, BasePiece, AskSegment, Segment, Fate, Done as ServerDone, Stopped as ServerStopped, Stepped, Event, Ticks, Proposes, Trims, Links, Unlinks, Reads, new_part, closed_of, close_with, acted, acted_in, restarted, with_joining, invited, joined_list, started, based, got_segment, inner, answers_beat, takes, is_request, sought, seeks, reads, is_for_joining, is_ahead, latest, fated, decided_list, led, ticks_in, links_in, step, may_propose, ReadsLong, staged_piece, has_all, completed, is_piece, pieced, asks_base, answers_long, without_pieces}
+use Rattle.op_configurations.specs.Worlds.{Life, Running, Down as IsDown, Server, World, Happening, At, Delivers, Stops, Opens, is_letter, stepped, at_server, delivered, stops, found, opening_fate, opened, opens, happens, run, start, DeliversLong}
 use Rattle.op_configurations.proofs.Fronts.{none_some, some_same}
 use Rattle.op_configurations.proofs.Keeping.{quiet_vote}
 use Rattle.op_configurations.proofs.Rising.{invited_same}
@@ -76,6 +76,14 @@ module _ (f : Fate) (p : ℕ) (st : State) (h : Unended st) where
   based_unended (Some j) c at front =
       cond_both ((j.conf == c) && (not (is_some j.base) && nat_le at j.len)) _ _ (λ (x : Stepped). Unended x.state) (λ _. started_unended _ _) (λ _. h)
 
+  pieced_unended : (o : Option Joining) (c at total from_at count : ℕ) (front : List Entry) → Unended (pieced f p st o c at total from_at count front).state
+  unfolding pieced completed
+  pieced_unended None c at total from_at count front = h
+  pieced_unended (Some j) c at total from_at count front =
+      cond_both ((j.conf == c) && is_piece j at total from_at count) _ _ (λ (x : Stepped). Unended x.state)
+      (λ _. cond_both (has_all (staged_piece j.stage at from_at count).has total) _ _ (λ (x : Stepped). Unended x.state) (λ _. started_unended _ _) (λ _. same_unended st (with_joining st (record j { stage = Some (staged_piece j.stage at from_at count) })) refl h))
+      (λ _. h)
+
   segment_unended : (o : Option Joining) (c a : ℕ) (es : List Entry) → Unended (got_segment f p st o c a es).state
   unfolding got_segment
   segment_unended None c a es = h
@@ -99,6 +107,7 @@ module _ (f : Fate) (p : ℕ) (st : State) (h : Unended st) where
   takes_unended n q c (NextConf members olds len t) = same_unended st (invited p st q c members olds len t) (invited_same p st q c members olds len t).0 h
   takes_unended n q c AskBase = h
   takes_unended n q c (BasePart at front) = based_unended st.joining c at front
+  takes_unended n q c (BasePiece at total from_at count front) = pieced_unended st.joining c at total from_at count front
   takes_unended n q c (AskSegment a b) = h
   takes_unended n q c (Segment a es) = segment_unended st.joining c a es
 
@@ -119,6 +128,10 @@ module _ (f : Fate) (p : ℕ) (st : State) (h : Unended st) where
       cond_both (is_some st.joining && not (is_for_joining m.body)) _ _ (λ (x : Stepped). Unended x.state) (λ _. h)
       (λ _. cond_both (nat_lt m.conf (latest st)) _ _ (λ (x : Stepped). Unended x.state) (λ _. h)
       (λ _. cond_both (nat_lt (latest st) m.conf && not (is_ahead m.body)) _ _ (λ (x : Stepped). Unended x.state) (λ _. seeks_unended m.from m.body) (λ _. takes_unended n m.from m.conf m.body)))
+
+  answers_unended : (total : ℕ) (m : Letter) → Unended (answers_long p st total m).state
+  unfolding answers_long
+  answers_unended total m = cond_both (asks_base m.body && (m.conf == latest st)) _ _ (λ (x : Stepped). Unended x.state) (λ _. h) (λ _. h)
 
   led_unended : (pt : Part) (n : Option ℕ) → Unended (led f p st pt n).state
   unfolding led
@@ -144,6 +157,7 @@ module _ (f : Fate) (p : ℕ) (st : State) (h : Unended st) where
   step_unended (Links q) = links_unended st.joining q st.part
   step_unended (Unlinks q) = acted_in_unended f p st h st.part (Down q)
   step_unended (Reads n m) = reads_unended n m
+  step_unended (ReadsLong n total m) = answers_unended total m
 
 -- ---- runs
 
@@ -165,10 +179,10 @@ module _ (w : World) (h : AllUnended w) where
   at_unended f p Running e = stepped_unended f p e
   at_unended f p (IsDown o) e = h
 
-  delivered_unended : (f : Fate) (n : ℕ) (o : Option Letter) → AllUnended (delivered w f n o)
+  delivered_unended : (f : Fate) (read : Letter → Event) (o : Option Letter) → AllUnended (delivered w f read o)
   unfolding delivered
-  delivered_unended f n None = h
-  delivered_unended f n (Some m) = at_unended f m.to (w.servers m.to).life (Reads n m)
+  delivered_unended f read None = h
+  delivered_unended f read (Some m) = at_unended f m.to (w.servers m.to).life (read m)
 
   found_unended : (p : ℕ) (after : Bool) (o : Option Event) → Unended (found p after (w.servers p).state o).state
   unfolding found
@@ -178,7 +192,7 @@ module _ (w : World) (h : AllUnended w) where
 
   opened_unended : (p : ℕ) (o : Stepped) → Unended o.state → AllUnended (opened w p o)
   unfolding opened
-  opened_unended p o k = with_unended w p _ h (restarted_unended (opening_fate (o.state).joining) p o.state k (o.state).part refl)
+  opened_unended p o k = with_unended w p _ h (restarted_unended (opening_fate (without_pieces o.state).joining) p (without_pieces o.state) (same_unended o.state (without_pieces o.state) refl k) (o.state).part refl)
 
   opens_unended : (p : ℕ) (after : Bool) (l : Life) → AllUnended (opens w p after l)
   unfolding opens
@@ -193,7 +207,8 @@ module _ (w : World) (h : AllUnended w) where
   happens_unended : (x : Happening) → AllUnended (happens w x)
   unfolding happens
   happens_unended (At f p e) = cond_both (is_letter e) w (at_server w f p (w.servers p).life e) AllUnended (λ _. h) (λ _. at_unended f p (w.servers p).life e)
-  happens_unended (Delivers f n) = delivered_unended f n (slice_get w.soup n)
+  happens_unended (Delivers f n) = delivered_unended f (Reads n) (slice_get w.soup n)
+  happens_unended (DeliversLong f n total) = delivered_unended f (ReadsLong n total) (slice_get w.soup n)
   happens_unended (Stops p) = stops_unended p (w.servers p).life
   happens_unended (Opens p after) = opens_unended p after (w.servers p).life
 

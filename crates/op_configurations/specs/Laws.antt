@@ -6,7 +6,7 @@ use Rattle.op_spec.specs.Laws.{IsSafe, OnlyGrows}
 use Rattle.op_spec.specs.Machine.{IsAmong}
 use Rattle.op_paxos.specs.Messages.{Msg, Decide, Progress, Trim}
 use Rattle.op_paxos.specs.Agreement.{IsPrefix}
-use Rattle.op_configurations.specs.Servers.{Part, Closed, Base, Joining, State, Letter, Body, NextConf, BasePart, Segment, decided_list, latest, Inner}
+use Rattle.op_configurations.specs.Servers.{Part, Closed, Base, Joining, State, Letter, Body, NextConf, BasePart, BasePiece, Segment, decided_list, latest, Inner}
 use Rattle.op_configurations.specs.Worlds.{Happening, run, state_of, start, entries_in, decided_in, machine_of}
 
 -- what two servers show of a configuration, one early, the other at the same time or later, are fronts of one
@@ -92,6 +92,8 @@ pub record SegmentStands (list : List Entry) (a : ℕ) (es : List Entry) : Type 
 abbrev pub BodyStands : List ℕ → (ℕ → List Entry) → ℕ → Body → Type 0
 BodyStands first lists c (NextConf members olds len t) = NextStands first lists c members olds len t
 BodyStands first lists c (BasePart at front) = BaseStands (lists (c - 1)) (record { at = at; front = front })
+BodyStands first lists c (BasePiece at total from_at count front) =
+    BaseStands (lists (c - 1)) (record { at = at; front = front })
 BodyStands first lists c (Segment a es) = SegmentStands (lists (c - 1)) a es
 BodyStands first lists c _ = Unit {0}
 
@@ -141,7 +143,8 @@ abbrev pub TrimsKnown : Type 0
 TrimsKnown =
     (first : List ℕ) (hs : List Happening) (p : ℕ) → TrimsLow (machine_of first hs) (state_of first hs p)
 
--- the same member with the same promise, log and decided index: its role and what is trimmed may differ
+-- the same member with the same promise, log and decided index: its role, its stage and what is trimmed may
+-- differ
 pub record IsKept (pt pt' : Part) : Type 0 where
   pub conf : pt'.conf ≡ pt.conf
   pub members : pt'.members ≡ pt.members

@@ -1,6 +1,8 @@
 -- Servers that go from one configuration to the next. The first configuration is number 1.
-use Rattle.std.specs.Prelude.{ℕ, zero, suc, ◌+◌, ◌-◌, ◌*◌, ◌/◌, Bool, true, false, ◌&&◌, ◌||◌, not, ◌==◌, if◌then◌else◌, nat_eq, nat_lt, nat_le, Option, Some, None, is_some, List, [], ◌∷◌, ◌++◌, length, take, drop, slice_get}
+use Rattle.std.specs.Prelude.{ℕ, zero, suc, ◌+◌, ◌-◌, ◌*◌, ◌/◌, Bool, true, false, ◌&&◌, ◌||◌, not, ◌==◌, if◌then◌else◌, min, nat_eq, nat_lt, nat_le, Option, Some, None, is_some, List, [], ◌∷◌, ◌++◌, length, take, drop, slice_get}
 use Rattle.std.specs.Set.{is_member}
+use Rattle.op_types.specs.Limits.{most_part_bytes}
+use Rattle.op_types.specs.Cutting.{cut, parts_from}
 use Rattle.op_types.specs.declared.log.Entry.{Entry}
 use Rattle.op_types.specs.declared.log.StopSign.{StopSign}
 use Rattle.op_spec.specs.Machine.{stop_at_end}
@@ -12,7 +14,16 @@ use Rattle.op_paxos.specs.Logs.{overflows}
 
 -- a member that has promised and accepted nothing
 abbrev pub fresh : Node
-fresh = record { promised = 0; accepted = 0; log = []; decided = 0; trimmed = 0; role = Idle }
+fresh =
+    record {
+      promised = 0;
+      accepted = 0;
+      log = [];
+      decided = 0;
+      trimmed = 0;
+      staged = [];
+      role = Idle;
+    }
 
 -- the configuration that a server is in, and its state there
 pub record Part : Type 0 where
@@ -33,6 +44,11 @@ pub record Base : Type 0 where
   pub at : ℕ
   pub front : List Entry
 
+-- what has come of a base in pieces: the place that it stands for, and which of its bytes
+pub record BaseStage : Type 0 where
+  pub at : ℕ
+  pub has : ℕ → Bool
+
 -- what a server has of the closed list before the configuration that it is to start
 pub record Joining : Type 0 where
   pub conf : ℕ
@@ -44,6 +60,8 @@ pub record Joining : Type 0 where
   pub base : Option Base
   -- the entries held, by position
   pub held : ℕ → Option Entry
+  -- a base that comes in pieces; no opening finds it
+  pub stage : Option BaseStage
 
 pub record State : Type 0 where
   pub part : Option Part
@@ -61,6 +79,8 @@ pub data Body : Type 0 where
   NextConf : (members olds : List ℕ) (len trimmed : ℕ) → Body
   AskBase : Body
   BasePart : (at : ℕ) → List Entry → Body
+  -- so many bytes, from this one of the total on, of a base too long for one message
+  BasePiece : (at total from_at count : ℕ) → List Entry → Body
   AskSegment : (from_at until : ℕ) → Body
   Segment : (from_at : ℕ) → List Entry → Body
 
@@ -237,6 +257,7 @@ new_joining q c members olds len t =
       donors = (q, t) ∷ [];
       base = None;
       held = λ n. None;
+      stage = None;
     }
 
 abbrev pub with_joining : State → Joining → State
@@ -304,6 +325,52 @@ based f p st (Some j) c at front =
     then start_if_whole f p st (record j { base = Some (record { at = at; front = front }) })
     else unchanged st
 
+-- ---- a base in pieces
+
+-- these bytes too
+abbrev pub with_bytes : (ℕ → Bool) → ℕ → ℕ → ℕ → Bool
+with_bytes has from_at count i = has i || (nat_le from_at i && nat_lt i (from_at + count))
+
+-- pieces of a base for another place begin anew
+abbrev pub staged_piece : Option BaseStage → ℕ → ℕ → ℕ → BaseStage
+staged_piece None at from_at count = record { at = at; has = with_bytes (λ i. false) from_at count }
+staged_piece (Some s) at from_at count =
+    record { at = at; has = with_bytes (if s.at == at then s.has else (λ i. false)) from_at count }
+
+-- all of the first so many bytes are there
+abbrev pub has_all : (ℕ → Bool) → ℕ → Bool
+has_all has zero = true
+has_all has (suc n) = has n && has_all has n
+
+-- a piece is staged; once the base is whole it is as if it came so
+unfoldable pub completed : Fate → ℕ → State → Joining → ℕ → List Entry → ℕ → BaseStage → Stepped
+completed f p st j at front total s =
+    if has_all s.has total
+    then start_if_whole f p st (record j { base = Some (record { at = at; front = front }); stage = None })
+    else unchanged (with_joining st (record j { stage = Some s }))
+
+-- a piece counts while no base is held, where it isn't empty and stands inside the total
+abbrev pub is_piece : Joining → ℕ → ℕ → ℕ → ℕ → Bool
+is_piece j at total from_at count =
+    not (is_some j.base) && (nat_le at j.len && (nat_lt 0 count && nat_le (from_at + count) total))
+
+-- a piece of the base of the configuration that the server joins
+unfoldable pub pieced : Fate → ℕ → State → Option Joining → ℕ → ℕ → ℕ → ℕ → ℕ → List Entry → Stepped
+pieced f p st None c at total from_at count front = unchanged st
+pieced f p st (Some j) c at total from_at count front =
+    if (j.conf == c) && is_piece j at total from_at count
+    then completed f p st j at front total (staged_piece j.stage at from_at count)
+    else unchanged st
+
+-- what came in pieces is gone when a server opens
+abbrev pub without_stage : Option Joining → Option Joining
+without_stage None = None
+without_stage (Some j) = Some (record j { stage = None })
+
+-- the same, of a server
+abbrev pub without_pieces : State → State
+without_pieces st = record { part = st.part; closed = st.closed; joining = without_stage st.joining }
+
 abbrev pub first_of : Option Entry → Option Entry → Option Entry
 first_of None o = o
 first_of (Some e) o = Some e
@@ -357,11 +424,29 @@ gives_base p None q c = []
 gives_base p (Some k) q c =
     if suc k.conf == c then letter p q c (BasePart k.trimmed (take k.trimmed k.list)) ∷ [] else []
 
+-- the pieces of a base of so many bytes, in order: of each as many as a part takes, and of the last the rest
+abbrev pub pieces_from : ℕ → ℕ → ℕ → ℕ → List Entry → ℕ → ℕ → ℕ → List Letter
+pieces_from p q c at front total from_at zero = []
+pieces_from p q c at front total from_at (suc most) =
+    if nat_lt from_at total
+    then letter p q c (BasePiece at total from_at (min most_part_bytes (total - from_at)) front)
+    ∷ pieces_from p q c at front total (from_at + most_part_bytes) most
+    else []
+
+-- a closed list's base, whose bytes are so many, in pieces
+unfoldable pub gives_pieces : ℕ → Option Closed → ℕ → ℕ → ℕ → List Letter
+gives_pieces p None q c total = []
+gives_pieces p (Some k) q c total =
+    if suc k.conf == c
+    then pieces_from p q c k.trimmed (take k.trimmed k.list) total 0 (suc (total / most_part_bytes))
+    else []
+
+-- entries of the closed list, in as many segments as they need
 unfoldable pub gives_segment : ℕ → Option Closed → ℕ → ℕ → ℕ → ℕ → List Letter
 gives_segment p None q c a b = []
 gives_segment p (Some k) q c a b =
     if (suc k.conf == c) && (nat_le k.trimmed a && (nat_lt a b && nat_le b (length k.list)))
-    then letter p q c (Segment a (drop a (take b k.list))) ∷ []
+    then parts_from (λ at run. letter p q c (Segment at run)) a (cut (drop a (take b k.list)))
     else []
 
 -- a message of an older configuration is answered with the news of the next one, if its sender is a member of
@@ -378,6 +463,7 @@ abbrev pub is_for_joining : Body → Bool
 is_for_joining (NextConf members olds len t) = true
 is_for_joining AskBase = true
 is_for_joining (BasePart at front) = true
+is_for_joining (BasePiece at total from_at count front) = true
 is_for_joining (AskSegment a b) = true
 is_for_joining (Segment a es) = true
 is_for_joining _ = false
@@ -386,6 +472,7 @@ is_for_joining _ = false
 abbrev pub is_ahead : Body → Bool
 is_ahead (NextConf members olds len t) = true
 is_ahead (BasePart at front) = true
+is_ahead (BasePiece at total from_at count front) = true
 is_ahead (Segment a es) = true
 is_ahead _ = false
 
@@ -404,6 +491,8 @@ takes f p st n q c HeartbeatReply = unchanged st
 takes f p st n q c (NextConf members olds len t) = unchanged (invited p st q c members olds len t)
 takes f p st n q c AskBase = says st (gives_base p st.closed q c)
 takes f p st n q c (BasePart at front) = based f p st st.joining c at front
+takes f p st n q c (BasePiece at total from_at count front) =
+    pieced f p st st.joining c at total from_at count front
 takes f p st n q c (AskSegment a b) = says st (gives_segment p st.closed q c a b)
 takes f p st n q c (Segment a es) = got_segment f p st st.joining c a es
 
@@ -442,6 +531,18 @@ reads f p st n m =
     else if nat_lt (latest st) m.conf && not (is_ahead m.body) then seeks f p st m.from m.body
     else takes f p st n m.from m.conf m.body
 
+-- whether it asks for a base
+abbrev pub asks_base : Body → Bool
+asks_base AskBase = true
+asks_base _ = false
+
+-- a letter comes that asks for a base, which takes so many bytes: too many for one message. How many bytes a
+-- base takes is not known here, so that what happens tells it.
+unfoldable pub answers_long : ℕ → State → ℕ → Letter → Stepped
+answers_long p st total m =
+    if asks_base m.body && (m.conf == latest st)
+    then says st (gives_pieces p st.closed m.from m.conf total) else unchanged st
+
 -- ---- a server's step
 
 pub data Event : Type 0 where
@@ -453,6 +554,8 @@ pub data Event : Type 0 where
   Links : ℕ → Event
   Unlinks : ℕ → Event
   Reads : (number : ℕ) → Letter → Event
+  -- the same, where what it asks for takes this many bytes, and goes in pieces
+  ReadsLong : (number total : ℕ) → Letter → Event
 
 abbrev pub is_idle : Role → Bool
 is_idle Idle = true
@@ -497,3 +600,4 @@ step f p st Trims = acted_in f p st st.part TrimNow
 step f p st (Links q) = links_in f p st st.joining q st.part
 step f p st (Unlinks q) = acted_in f p st st.part (Down q)
 step f p st (Reads n m) = reads f p st n m
+step f p st (ReadsLong n total m) = answers_long p st total m

@@ -9,7 +9,7 @@ use Rattle.op_paxos.specs.Worlds as paxos
 use Rattle.op_spec.specs.Machine.{with_at}
 use Rattle.op_paxos.specs.Messages.{Packet}
 use Rattle.op_paxos.specs.Worlds.{Input, Elected, Proposal, Comes, Up, Starts, TrimNow}
-use Rattle.op_configurations.specs.Servers.{Part, Closed, Joining, State, Letter, Body, Inner, Inside, Stepped, unchanged, Fate, Done, Stopped, Event, Proposes, Reads, decided_list, new_part, restarted, may_propose, step}
+use Rattle.op_configurations.specs.Servers.{Part, Closed, Joining, State, Letter, Body, Inner, Inside, Stepped, unchanged, Fate, Done, Stopped, Event, Proposes, Reads, ReadsLong, decided_list, new_part, restarted, without_pieces, may_propose, step}
 
 -- a server runs, or it is down: then the event in which it stopped is kept, if it stopped inside one
 pub data Life : Type 0 where
@@ -32,6 +32,8 @@ pub data Happening : Type 0 where
   At : (fate : Fate) (p : ℕ) → Event → Happening
   -- letter n of all that were sent comes to its addressee
   Delivers : (fate : Fate) (n : ℕ) → Happening
+  -- letter n comes, which asks for a base that takes this many bytes: too many for one message
+  DeliversLong : (fate : Fate) (n total : ℕ) → Happening
   -- p stops between steps
   Stops : (p : ℕ) → Happening
   -- p opens: with the state from before the event in which it stopped, or from after it
@@ -40,6 +42,7 @@ pub data Happening : Type 0 where
 -- a letter is read only where it was sent
 abbrev pub is_letter : Event → Bool
 is_letter (Reads n m) = true
+is_letter (ReadsLong n total m) = true
 is_letter _ = false
 
 -- ---- inside a configuration
@@ -101,9 +104,9 @@ unfoldable pub at_server : World → Fate → ℕ → Life → Event → World
 at_server w f p Running e = stepped w f p (w.servers p).state e
 at_server w f p (Down o) e = w
 
-unfoldable pub delivered : World → Fate → ℕ → Option Letter → World
-delivered w f n None = w
-delivered w f n (Some m) = at_server w f m.to (w.servers m.to).life (Reads n m)
+unfoldable pub delivered : World → Fate → (Letter → Event) → Option Letter → World
+delivered w f read None = w
+delivered w f read (Some m) = at_server w f m.to (w.servers m.to).life (read m)
 
 unfoldable pub stops : World → ℕ → Life → World
 stops w p Running = with_server w p (record { state = (w.servers p).state; life = Down None }) [] []
@@ -123,7 +126,8 @@ opening_fate (Some j) = Stopped
 
 unfoldable pub opened : World → ℕ → Stepped → World
 opened w p o =
-    let k = restarted (opening_fate (o.state).joining) p o.state (o.state).part in
+    let st = without_pieces o.state in
+    let k = restarted (opening_fate st.joining) p st st.part in
     with_server w p (record { state = k.state; life = Running }) k.sends (o.inside ++ k.inside)
 
 unfoldable pub opens : World → ℕ → Bool → Life → World
@@ -132,7 +136,8 @@ opens w p after (Down o) = opened w p (found p after (w.servers p).state o)
 
 unfoldable pub happens : World → Happening → World
 happens w (At f p e) = if is_letter e then w else at_server w f p (w.servers p).life e
-happens w (Delivers f n) = delivered w f n (slice_get w.soup n)
+happens w (Delivers f n) = delivered w f (Reads n) (slice_get w.soup n)
+happens w (DeliversLong f n total) = delivered w f (ReadsLong n total) (slice_get w.soup n)
 happens w (Stops p) = stops w p (w.servers p).life
 happens w (Opens p after) = opens w p after (w.servers p).life
 
@@ -212,6 +217,7 @@ reader (Some m) = Some m.to
 abbrev pub actor : World → Happening → Option ℕ
 actor w (At f p e) = Some p
 actor w (Delivers f n) = reader (slice_get w.soup n)
+actor w (DeliversLong f n total) = reader (slice_get w.soup n)
 actor w (Stops p) = Some p
 actor w (Opens p after) = Some p
 

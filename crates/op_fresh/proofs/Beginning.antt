@@ -1,11 +1,11 @@
 -- In a ballot that a node begins to lead no read was asked before.
-use Rattle.std.proofs.Common.{◌≡◌, ℕ, suc, ◌<◌, ◌≤◌, ◌⊎◌, inl, inr, ⊎_elim, List, [], ◌∷◌, ◌++◌, true, false, ◌&&◌, ◌==◌, refl, sym, ap, ◌∙◌, subst, arith, None}
+use Rattle.std.proofs.Common.{◌≡◌, ℕ, suc, ◌<◌, ◌≤◌, ◌⊎◌, inl, inr, ⊎_elim, List, [], ◌∷◌, ◌++◌, true, false, refl, sym, ap, ◌∙◌, subst, arith, None}
 use Rattle.std.proofs.lemmas.Bool.{cond_both}
 use Rattle.op_paxos.specs.Nodes.{owner, PreparingState, LeadingState, Role, Idle, Preparing, Leading, Node}
 use Rattle.op_paxos.specs.Messages.{Effect}
 use Rattle.op_paxos.specs.Worlds.{Input, step, World, Event, stopped, input_of, happens, run, start}
 use Rattle.op_paxos.specs.Exchange.{is_stopped}
-use Rattle.op_paxos.proofs.Moves.{Move, Resting, Tending, Extending, Idling, Promising, Asking, Gathering, Adopting, Taking, Appending}
+use Rattle.op_paxos.proofs.Moves.{Move, Resting, Tending, Extending, Idling, Promising, Asking, Gathering, Adopting, Taking, Appending, Filling}
 use Rattle.op_paxos.proofs.StepMoves.{step_moves}
 use Rattle.op_paxos.proofs.Roles.{roles_differ, same_lead, same_prep}
 use Rattle.op_paxos.proofs.EventSteps.{Acts, what_happens, fate_is}
@@ -16,7 +16,7 @@ use Rattle.op_paxos.proofs.Agreeing.{run_append}
 use Rattle.op_paxos.proofs.Runs.{first, start_ok, happens_on, run_on}
 use Rattle.op_paxos.proofs.StepKeeping.{steps_keep}
 use Rattle.op_paxos.proofs.Roles.{lead_is}
-use Rattle.op_fresh.specs.Reading.{Reading, ReadEvent, Happens, Asks, Hears, Counts, leads_ballot, asked_as, is_asked, reads_on, read_run, first_reading, NumbersBegin}
+use Rattle.op_fresh.specs.Reading.{Reading, ReadEvent, Happens, Asks, Hears, Counts, asked_as, reads_on, read_run, first_reading, NumbersBegin}
 
 -- a node that leads b, or can no longer
 pub record Spent (b : ℕ) (node : Node) : Type 0 where
@@ -87,6 +87,7 @@ module _ (b : ℕ) (nd : Node) (s : Spent b nd) where
       m.promised
   move_keeps ms p i o (Taking m) = same_role o.node (omega (arith, m.promised)) m.role
   move_keeps ms p i o (Appending m) = same_role o.node (omega (arith, m.promised)) m.role
+  move_keeps ms p i o (Filling m) = same_role o.node (omega (arith, m.promised)) m.role
 
 -- ---- an event
 module _ (ms : List ℕ) (w : World) (e : Event) (b q : ℕ) (s : Spent b (w.nodes q)) where

@@ -1,14 +1,17 @@
 -- Why a step raises what its node has decided: it is told so by a Decide, or it leads and counts.
-use Rattle.std.proofs.Common.{◌≡◌, ℕ, ◌≤◌, ◌⊎◌, inl, inr, List, [], ◌++◌, length, ◌&&◌, ◌==◌, refl, arith, Option, Some, None}
+use Rattle.std.proofs.Common.{◌≡◌, ℕ, ◌+◌, ◌≤◌, ◌⊎◌, inl, inr, List, [], ◌++◌, length, ◌&&◌, ◌==◌, refl, arith, Option, Some, None}
 use Rattle.std.specs.Prelude.{nat_lt, nat_le, min}
 use Rattle.std.proofs.lemmas.Bool.{cond_both}
 use Rattle.op_types.specs.declared.log.Entry.{Entry}
 use Rattle.op_paxos.specs.Logs.{overflows}
 use Rattle.op_paxos.specs.Nodes.{Promised, PreparingState, LeadingState, Role, Idle, Preparing, Leading, Node}
-use Rattle.op_paxos.specs.Messages.{Msg, Prepare, Promise, AcceptSync, Accept, Accepted, Decide, PrepareReq, Refuse, Forward, TrimAsk, Progress, Trim, Packet, Effect}
-use Rattle.op_paxos.specs.Follower.{suffix_at, on_prepare, appended, on_accept, synced_to, on_accept_sync, on_decide}
-use Rattle.op_paxos.specs.Leader.{is_usable, own_candidate, best, majority_length, recount, adopted_node, adopt_with, adopt, has_quorum, prepared, on_elected, on_promise_in, on_accepted_in, extended, on_propose_in, on_forward_in, on_prepare_req_in}
+use Rattle.op_paxos.specs.Messages.{PromisedRun, SyncRun, Msg, Prepare, Promise, PromisePart, AcceptSync, AcceptSyncPart, Accept, Accepted, Decide, PrepareReq, Refuse, Forward, TrimAsk, Progress, Trim, Packet, Effect}
+use Rattle.op_paxos.specs.Follower.{suffix_at, on_prepare, appended, on_accept, synced_to, on_accept_sync, unstaged, synced_once, on_first_part, appended_staged, on_later_part, on_accept_sync_part, on_decide}
+use Rattle.op_paxos.specs.Leader.{is_usable, own_candidate, best, majority_length, recount, adopted_node, adopt_with, adopt, has_quorum, prepared, on_elected, on_promise_in, promised_once, on_promise_part_in, on_accepted_in, extended, on_propose_in, on_forward_in, on_prepare_req_in}
 use Rattle.op_paxos.specs.Nodes.{owner}
+use Rattle.op_types.specs.Joinings.{Held}
+use Rattle.op_paxos.specs.Parts.{is_run_to, told_by}
+use Rattle.op_spec.specs.Machine.{with_at}
 use Rattle.op_paxos.specs.Trimming.{on_trim_ask, on_trim, trim_all, on_progress_in, on_trim_now_in}
 use Rattle.op_paxos.specs.Worlds.{on_msg, Input, Elected, Proposal, Comes, Up, Down, Starts, TrimNow, step}
 
@@ -50,14 +53,25 @@ module _ (ms : List ℕ) (p : ℕ) (nd : Node) (i : Input) where
   elected_why : (n : ℕ) → Why (on_elected ms p nd n)
   unfolding on_elected
   elected_why n = cond_both (nat_lt nd.promised n && (owner n == p)) _ _ Why
-      (λ e. first_why _ (prepared ms p (record nd { promised = n; role = Idle }) (record { ballot = n; kept = λ q. None; buffer = [] })) (prepared_why (record nd { promised = n; role = Idle }) (record { ballot = n; kept = λ q. None; buffer = [] }) refl))
+      (λ e. first_why _ (prepared ms p (record nd { promised = n; staged = []; role = Idle }) (record { ballot = n; kept = λ q. None; parts = λ q. []; buffer = [] })) (prepared_why (record nd { promised = n; staged = []; role = Idle }) (record { ballot = n; kept = λ q. None; parts = λ q. []; buffer = [] }) refl))
       (λ e. inl refl)
 
-  promise_why : (r : Role) (q n : ℕ) (pm : Promised) → Why (on_promise_in ms p nd r q n pm)
+  promise_why : (n1 : Node) (r : Role) (q n : ℕ) (pm : Promised) → n1.decided ≡ nd.decided → Why (on_promise_in ms p n1 r q n pm)
   unfolding on_promise_in
-  promise_why Idle q n pm = inl refl
-  promise_why (Preparing r) q n pm = cond_both ((n == r.ballot) && is_usable nd pm) _ _ Why (λ e. prepared_why nd _ refl) (λ e. inl refl)
-  promise_why (Leading l) q n pm = cond_both (n == l.ballot) _ _ Why (λ e. inl refl) (λ e. inl refl)
+  promise_why n1 Idle q n pm d = inl d
+  promise_why n1 (Preparing r) q n pm d = cond_both ((n == r.ballot) && is_usable n1 pm) _ _ Why (λ e. prepared_why n1 _ d) (λ e. inl d)
+  promise_why n1 (Leading l) q n pm d = cond_both (n == l.ballot) _ _ Why (λ e. inl d) (λ e. inl d)
+
+  once_why : (r : PreparingState) (q : ℕ) (part : PromisedRun) (held : Held) (o : Option (List Entry)) → Why (promised_once ms p nd r q part held o)
+  unfolding promised_once
+  once_why r q part held None = inl refl
+  once_why r q part held (Some es) = promise_why (record nd { role = Preparing (record r { parts = with_at q [] r.parts }) }) (Preparing (record r { parts = with_at q [] r.parts })) q r.ballot (told_by part es) refl
+
+  promise_part_why : (r : Role) (q n : ℕ) (part : PromisedRun) → Why (on_promise_part_in ms p nd r q n part)
+  unfolding on_promise_part_in
+  promise_part_why Idle q n part = inl refl
+  promise_part_why (Preparing r) q n part = cond_both ((n == r.ballot) && (nat_le part.start part.at && is_run_to part.size part.at part.run)) _ _ Why (λ e. once_why r q part _ _) (λ e. inl refl)
+  promise_part_why (Leading l) q n part = cond_both (part.at + length part.run == part.size) _ _ Why (λ e. promise_why nd (Leading l) q n (told_by part []) refl) (λ e. inl refl)
 
   accepted_why : (r : Role) (q n x : ℕ) → Why (on_accepted_in ms p nd r q n x)
   unfolding on_accepted_in
@@ -96,6 +110,17 @@ module _ (ms : List ℕ) (p : ℕ) (nd : Node) (i : Input) where
   sync_why q n x es = cond_both ((nd.promised == n) && nat_lt nd.accepted n) _ _ Why
       (λ e. cond_both (nat_le nd.decided x && nat_le x (length nd.log)) _ _ Why (λ c. inl refl) (λ c. inl refl)) (λ e. accept_why q n x es)
 
+  synced_once_why : (q n x : ℕ) (s : Held) (o : Option (List Entry)) → Why (synced_once p (record nd { staged = s }) q n x o)
+  unfolding synced_once synced_to
+  synced_once_why q n x s None = inl refl
+  synced_once_why q n x s (Some es) = cond_both (nat_le nd.decided x && nat_le x (length nd.log)) _ _ (λ o. Why (unstaged o)) (λ c. inl refl) (λ c. inl refl)
+
+  sync_part_why : (q n : ℕ) (part : SyncRun) → Why (on_accept_sync_part p nd q n part)
+  unfolding on_accept_sync_part on_first_part on_later_part appended_staged
+  sync_part_why q n part = cond_both ((nd.promised == n) && nat_lt nd.accepted n) _ _ Why
+      (λ e. cond_both ((nat_le nd.decided part.start && nat_le part.start (length nd.log)) && (nat_le part.start part.at && is_run_to part.end part.at part.run)) _ _ Why (λ c. synced_once_why q n part.start _ _) (λ c. inl refl))
+      (λ e. cond_both ((nd.promised == n) && ((nd.accepted == n) && is_run_to part.end part.at part.run)) _ _ Why (λ c. inl refl) (λ c. inl refl))
+
   decide_why : (q n x : ℕ) → i ≡ Comes q (Decide n x) → Why (on_decide nd n x)
   unfolding on_decide
   decide_why q n x came = cond_both ((nd.promised == n) && ((nd.accepted == n) && nat_lt nd.decided (min x (length nd.log)))) _ _ Why
@@ -130,8 +155,10 @@ module _ (ms : List ℕ) (p : ℕ) (nd : Node) (i : Input) where
   msg_why : (q : ℕ) (m : Msg) → i ≡ Comes q m → Why (on_msg ms p nd q m)
   unfolding on_msg
   msg_why q (Prepare n na nl d) e = prepare_why q n na nl d
-  msg_why q (Promise n pm) e = promise_why nd.role q n pm
+  msg_why q (Promise n pm) e = promise_why nd nd.role q n pm refl
+  msg_why q (PromisePart n part) e = promise_part_why nd.role q n part
   msg_why q (AcceptSync n x es) e = sync_why q n x es
+  msg_why q (AcceptSyncPart n part) e = sync_part_why q n part
   msg_why q (Accept n a es) e = accept_why q n a es
   msg_why q (Accepted n x) e = accepted_why nd.role q n x
   msg_why q (Decide n x) e = decide_why q n x e

@@ -1,6 +1,7 @@
 -- A read is answered, and one isn't, computed.
 use Rattle.std.proofs.Common.{◌≡◌, ℕ, List, [], ◌∷◌, true, false, refl}
 use Rattle.op_types.specs.declared.log.Command.{Command}
+use Rattle.op_types.specs.declared.log.Op.TheVariants.{Del}
 use Rattle.op_types.specs.declared.log.Entry.TheVariants as entry
 use Rattle.op_paxos.specs.Logs.{is_stop}
 use Rattle.op_paxos.specs.Nodes.{owner, majority_passes}
@@ -51,22 +52,30 @@ module _ (c : Command) where
   unfolding read_run reads_on run start happens input_of step is_stop owner majority_length recount adopted_node new_leading adopt_with adopt prepared on_elected on_propose_in extended on_msg on_prepare on_promise_in on_accept_sync synced_to on_accept appended on_accepted_in on_decide
   unconfirmed = refl
 
+-- the same, of an entry whose bytes are known: it goes in one message, with a promise too
+module _ (client number : ℕ) where
+  abbrev three : List ℕ
+  three = 1 ∷ 2 ∷ 3 ∷ []
+
+  abbrev d : Command
+  d = record { client = client; seq = number; op = Del [] }
+
   -- node 3 leads after node 1 has decided, and adopts what node 1 has decided, but has decided nothing itself:
   -- messages 8 and 9 are its Prepares, 10 the Promise of node 2
   abbrev adopted : List ReadEvent
   adopted =
-      Happens (Leads 1 1) ∷ Happens (Delivers 0) ∷ Happens (Delivers 2) ∷ Happens (Proposes 1 (entry.Command c ∷ [])) ∷ Happens (Delivers 3) ∷ Happens (Delivers 4) ∷ Happens (Delivers 6)
+      Happens (Leads 1 1) ∷ Happens (Delivers 0) ∷ Happens (Delivers 2) ∷ Happens (Proposes 1 (entry.Command d ∷ [])) ∷ Happens (Delivers 3) ∷ Happens (Delivers 4) ∷ Happens (Delivers 6)
       ∷ Happens (Leads 3 3) ∷ Happens (Delivers 9) ∷ Happens (Delivers 10) ∷ Asks 3 ∷ Hears 2 3 1 ∷ Counts 3 1 2 ∷ []
 
   -- a majority confirms its read, while what it has decided is less than node 1 had before the read came
-  too_early : majority_passes members ((reading_before members adopted 13).confirmed 3 1) ≡ true
+  too_early : majority_passes three ((reading_before three adopted 13).confirmed 3 1) ≡ true
   unfolding read_run reads_on run start happens input_of step is_stop owner majority_length recount adopted_node new_leading adopt_with adopt prepared on_elected on_propose_in extended on_msg on_prepare on_promise_in on_accept_sync synced_to on_accept appended on_accepted_in on_decide
   too_early = refl
 
-  less : ((reading_before members adopted 13).world.nodes 3).decided ≡ 0
+  less : ((reading_before three adopted 13).world.nodes 3).decided ≡ 0
   unfolding read_run reads_on run start happens input_of step is_stop owner majority_length recount adopted_node new_leading adopt_with adopt prepared on_elected on_propose_in extended on_msg on_prepare on_promise_in on_accept_sync synced_to on_accept appended on_accepted_in on_decide
   less = refl
 
-  more : ((reading_before members adopted 10).world.nodes 1).decided ≡ 1
+  more : ((reading_before three adopted 10).world.nodes 1).decided ≡ 1
   unfolding read_run reads_on run start happens input_of step is_stop owner majority_length recount adopted_node new_leading adopt_with adopt prepared on_elected on_propose_in extended on_msg on_prepare on_promise_in on_accept_sync synced_to on_accept appended on_accepted_in on_decide
   more = refl

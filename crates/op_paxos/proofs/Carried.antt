@@ -5,11 +5,13 @@ use Rattle.std.proofs.lemmas.List.{length-drop, length-take-le}
 use Rattle.op_types.specs.declared.log.Entry.{Entry}
 use Rattle.op_types.specs.Limits.{positions_end}
 use Rattle.op_spec.specs.Machine.{IsAmong}
-use Rattle.op_paxos.specs.Messages.{Msg, Prepare, Promise, AcceptSync, Accept, Accepted, Decide, PrepareReq, Refuse, Forward, TrimAsk, Progress, Trim, Packet}
+use Rattle.op_paxos.specs.Messages.{Msg, Prepare, Promise, PromisePart, AcceptSync, AcceptSyncPart, Accept, Accepted, Decide, PrepareReq, Refuse, Forward, TrimAsk, Progress, Trim, Packet}
 use Rattle.op_paxos.specs.Worlds.{Event, run, start}
 use Rattle.op_paxos.specs.Agreement.{proposals}
 use Rattle.op_paxos.proofs.History.{History, HistoryOk}
 use Rattle.op_paxos.proofs.Invariant.{SliceOk, PromOk, MsgOk}
+use Rattle.op_paxos.specs.Parts.{told_by}
+use Rattle.op_types.proofs.Cuts.{run_within}
 use Rattle.op_paxos.proofs.Runs.{run_on, first, start_ok}
 use Rattle.op_paxos.proofs.Validity.{MsgV, run_v, start_v}
 use Rattle.op_paxos.proofs.Proposals.{all_mine}
@@ -17,7 +19,9 @@ use Rattle.op_paxos.proofs.Proposals.{all_mine}
 -- what a message of the log carries ends within the positions
 abbrev pub MsgEnds : Msg → Type 0
 MsgEnds (Promise n pm) = pm.start + length pm.rest ≤ positions_end
+MsgEnds (PromisePart n part) = part.at + length part.run ≤ positions_end
 MsgEnds (AcceptSync n x es) = x + length es ≤ positions_end
+MsgEnds (AcceptSyncPart n part) = part.at + length part.run ≤ positions_end
 MsgEnds (Accept n a es) = a + length es ≤ positions_end
 MsgEnds _ = Unit {0}
 
@@ -47,7 +51,9 @@ module _ (ms : List ℕ) (pr ac : ℕ → ℕ) (g : History) (h : HistoryOk ms p
 
   msg_ends : (p q : ℕ) (m : Msg) → MsgOk ms pr ac g p q m → MsgEnds m
   msg_ends p q (Promise n pm) o = promise_end p q n pm o
+  msg_ends p q (PromisePart n part) o = omega (arith, o.at, run_within o.rest o.place part.run o.run, promise_end p q n (told_by part o.rest) o.whole)
   msg_ends p q (AcceptSync n x es) o = slice_end n x es o.slice
+  msg_ends p q (AcceptSyncPart n part) o = omega (arith, o.at, run_within o.rest o.place part.run o.run, slice_end n part.start o.rest (o.whole).slice)
   msg_ends p q (Accept n a es) o = slice_end n a es o
   msg_ends p q (Prepare n na nl d) o = tt
   msg_ends p q (Accepted n x) o = tt

@@ -1,6 +1,6 @@
 -- What one other member does in an exchange: it takes the leader's log, each entry after it, and the leader hears of that.
-use Rattle.std.proofs.Common.{◌≡◌, ℕ, zero, suc, ◌+◌, ◌-◌, ◌<◌, ◌≤◌, ◌⊎◌, inl, inr, ⊎_elim, List, [], ◌∷◌, ◌++◌, length, true, ◌&&◌, take, drop, refl, sym, ap, ◌∙◌, arith, ◌==◌, length-append}
-use Rattle.std.specs.Prelude.{nat_lt, nat_le, if◌then◌else◌}
+use Rattle.std.proofs.Common.{◌≡◌, ℕ, zero, suc, ◌+◌, ◌-◌, ◌<◌, ◌≤◌, ◌⊎◌, inl, inr, ⊎_elim, List, [], ◌∷◌, ◌++◌, length, true, ◌&&◌, take, drop, refl, sym, ap, ◌∙◌, arith, ◌==◌, Some, length-append}
+use Rattle.std.specs.Prelude.{nat_lt, nat_le, if◌then◌else◌, slice_get}
 use Rattle.std.proofs.lemmas.Bool.{cases_eq, cases_lt, cond_both, both_ways, eq-eqb, lt-ltb, le-leb, ltb-true, ltb-false}
 use Rattle.std.proofs.lemmas.List.{length-take-le}
 use Rattle.std.proofs.lemmas.Option.{slice_get_within}
@@ -8,18 +8,26 @@ use Rattle.op_types.specs.declared.log.Entry.{Entry}
 use Rattle.op_spec.specs.Machine.{IsAmong, with_at}
 use Rattle.op_paxos.specs.Nodes.{LeadingState, Leading, Node}
 use Rattle.op_paxos.specs.Messages.{Msg, AcceptSync, Accept, Accepted, Packet, Effect, packet}
+use Rattle.op_types.specs.Limits.{most_part_bytes}
+use Rattle.op_types.specs.Cutting.{entries_size, cut, parts_from}
+use Rattle.op_paxos.specs.Parts.{sync_messages}
+use Rattle.op_paxos.specs.InParts.{after_each}
 use Rattle.op_paxos.specs.Follower.{appended, on_accept, synced_to, on_accept_sync}
 use Rattle.op_paxos.specs.Leader.{majority_length, recount, on_accepted_in}
-use Rattle.op_paxos.specs.Worlds.{on_msg, Comes, step, World, Event, Delivers, stepped, taken_by, input_of, applied, happens}
-use Rattle.op_paxos.specs.Exchange.{Delivery, Sending, IsCalm, Proposed}
+use Rattle.op_paxos.specs.Worlds.{on_msg, Input, Comes, step, World, Event, Delivers, stepped, taken_by, input_of, applied, happens}
+use Rattle.op_paxos.specs.Exchange.{Delivery, Sending, RestsBetween, InTurn, IsCalm, Proposed}
 use Rattle.op_paxos.proofs.ExchangeNeeds.{Needs}
 use Rattle.op_paxos.proofs.History.{History}
-use Rattle.op_paxos.proofs.Updates.{upd_at, upd_here}
+use Rattle.op_paxos.proofs.Updates.{upd_at, upd_here, upd_other}
 use Rattle.op_paxos.proofs.OneStep.{Invariant}
 use Rattle.op_paxos.proofs.StepMoves.{step_moves}
 use Rattle.op_paxos.proofs.PromisesStand.{Good}
-use Rattle.op_paxos.proofs.NumberedWorlds.{Next, next, stable, W, sender, G, good_at, later_at}
+use Rattle.op_paxos.proofs.NumberedWorlds.{Next, next, stable, W, StepAt, view, sender, G, good_at, later_at}
 use Rattle.op_paxos.proofs.Senders.{ack_by}
+use Rattle.op_types.proofs.Cuts.{joined, cut_joined, cut_full, cut_some}
+use Rattle.op_paxos.proofs.SentParts.{in_sync}
+use Rattle.op_paxos.proofs.SyncInParts.{part_of, later_all, first_all}
+use Rattle.op_paxos.proofs.PromiseFacts.{SyncFits}
 use Rattle.op_paxos.proofs.Roles.{lead_is}
 use Rattle.op_paxos.proofs.Streams.{Leads, lead_next, Stream, Starts, stream_begins, sent_before, stream_at, Reaching}
 use Rattle.op_paxos.proofs.Membership.{none_some, some_is, in_from_get}
@@ -50,6 +58,19 @@ takes_sync q nd p b x es e le how =
     (λ d. absurd (both_ways (nat_le nd.decided x && nat_le x (length nd.log)) d yes)))
     (λ c. let same : nd.accepted ≡ b = ⊎_elim (λ (y : nd.accepted ≡ b). y) (λ (y : (nd.accepted < b) × (nd.decided ≤ x)). absurd (both_ways ((nd.promised == b) && nat_lt nd.accepted b) c (ap (λ d. d && nat_lt nd.accepted b) (eq-eqb nd.promised b e) ∙ lt-ltb nd.accepted b y.0))) how in
     takes_accept q nd p b x es e same le)
+
+-- all that brings an AcceptSync
+takes_all : (ms : List ℕ) (q : ℕ) (nd : Node) (p b x : ℕ) (es : List Entry) → nd.promised ≡ b → x ≤ length nd.log → ((nd.accepted ≡ b) ⊎ ((nd.accepted < b) × (nd.decided ≤ x))) → ((after_each ms q nd p (sync_messages b x es)).accepted ≡ b) × (x + length es ≤ length (after_each ms q nd p (sync_messages b x es)).log)
+unfolding step on_msg
+takes_all ms q nd p b x es e le how =
+    cond_both (nat_le (entries_size es) most_part_bytes) (AcceptSync b x es ∷ []) (parts_from (part_of ms q p b x es) x (cut es)) (λ (l : List Msg). ((after_each ms q nd p l).accepted ≡ b) × (x + length es ≤ length (after_each ms q nd p l).log))
+    (λ c. takes_sync q nd p b x es e le how)
+    (λ c. ⊎_elim
+    (λ (f : nd.accepted ≡ b). let k = later_all ms q p b x es (cut es) nd x e f (cut_full es) (omega (arith, all)) in ((k.0).accepted, omega (arith, k.1 le, all)))
+    (λ (f : (nd.accepted < b) × (nd.decided ≤ x)). let k = first_all ms q p b x es (cut es) nd x (cut_some es c) e f.0 f.1 le (omega arith) (cut_full es) (omega (arith, all)) (λ i l u. absurd (omega (arith, l, u))) in (k.accepted, k.long)) how)
+  where
+    all : length (joined (cut es)) ≡ length es
+    all = ap (λ (l : List Entry). length l) (cut_joined es)
 
 pub count_role : (ms : List ℕ) (p : ℕ) (nd : Node) (l : LeadingState) (a c : List Packet) → ((recount ms p nd l a c).node.role ≡ Leading l) × ((recount ms p nd l a c).node.log ≡ nd.log) × (majority_length ms p nd l ≤ (recount ms p nd l a c).node.decided)
 unfolding recount
@@ -82,8 +103,43 @@ module _ (ms : List ℕ) (w : World) (es : List Event) where
           x.2 ∙ ap (λ e. happens ms (W ms w es i) e) (some_is x.0 (Delivers d.number) (sym x.1 ∙ d.event))
           ∙ ap (λ o. applied ms (W ms w es i) (λ o. o) (taken_by (W ms w es i) (Delivers d.number) o)) d.is
 
+  after_one : (i p q : ℕ) (m : Msg) → Delivery ms w es i p q m → (W ms w es (suc i)).nodes q ≡ (step ms q ((W ms w es i).nodes q) (Comes p m)).node
+  after_one i p q m d = ap (λ (y : World). y.nodes q) (delivered i p q m d) ∙ upd_here (W ms w es i).nodes q q _ refl
+
   pub within : (i p q : ℕ) (m : Msg) → Delivery ms w es i p q m → i < length es
   within i p q m d = slice_get_within es i (Delivers d.number) d.event
+
+  -- ---- messages that are delivered in turn
+  -- a node that takes no step stays
+  rests : (x i : ℕ) (j : ℕ) → i < j → RestsBetween ms w es x i j → (W ms w es j).nodes x ≡ (W ms w es (suc i)).nodes x
+  rests x i j lt f = stable (λ k. k ≤ j → (W ms w es k).nodes x ≡ (W ms w es (suc i)).nodes x) (suc i) (λ le. refl)
+      (λ k le h low. one k (λ e input is at. f k e input (omega (arith, le)) (omega (arith, low)) is at) ∙ h (omega (arith, low))) j (omega (arith, lt)) (omega arith)
+    where
+      one : (k : ℕ) → ((e : Event) (input : Input) → slice_get es k ≡ Some e → input_of (W ms w es k) e ≡ Some (x, input) → ⊥) → (W ms w es (suc k)).nodes x ≡ (W ms w es k).nodes x
+      one k none = by (view ms w es k)
+        where
+          by : (W ms w es (suc k) ≡ W ms w es k) ⊎ StepAt ms w es k → (W ms w es (suc k)).nodes x ≡ (W ms w es k).nodes x
+          by (inl e) = ap (λ (y : World). y.nodes x) e
+          by (inr s) = ap (λ (y : World). y.nodes x) s.now ∙ upd_other (W ms w es k).nodes (s.acts).node x _ (λ d. none s.event (s.acts).input s.is ((s.acts).is ∙ ap (λ y. Some (y, (s.acts).input)) (sym d)))
+
+  -- where the first of them, and the last, is delivered
+  pub turn_first : (i j p q : ℕ) (bs : List Msg) → InTurn ms w es i j p q bs → (m : Msg) × IsAmong bs m × Delivery ms w es i p q m
+  turn_first i j p q [] h = absurd h
+  turn_first i j p q (m ∷ []) h = (m, inl refl, h.1)
+  turn_first i j p q (m ∷ (k ∷ bs)) h = (m, inl refl, h.0)
+
+  pub turn_last : (i j p q : ℕ) (bs : List Msg) → InTurn ms w es i j p q bs → (i ≤ j) × (j < length es)
+  turn_last i j p q [] h = absurd h
+  turn_last i j p q (m ∷ []) h = (omega (arith, h.0), omega (arith, h.0, within i p q m h.1))
+  turn_last i j p q (m ∷ (k ∷ bs)) h = let r = turn_last (h.1).0 j p q (k ∷ bs) (h.1).3 in (omega (arith, r.0, (h.1).1), r.1)
+
+  -- what the receiver then is
+  pub in_turn : (i j p q : ℕ) (bs : List Msg) → InTurn ms w es i j p q bs → (W ms w es (suc j)).nodes q ≡ after_each ms q ((W ms w es i).nodes q) p bs
+  in_turn i j p q [] h = absurd h
+  in_turn i j p q (m ∷ []) h = ap (λ k. (W ms w es (suc k)).nodes q) (sym h.0) ∙ after_one i p q m h.1
+  in_turn i j p q (m ∷ (k ∷ bs)) h =
+      in_turn (h.1).0 j p q (k ∷ bs) (h.1).3
+      ∙ ap (λ (n : Node). after_each ms q n p (k ∷ bs)) (rests q i (h.1).0 (h.1).1 (h.1).2 ∙ after_one i p q m h.0)
 
 -- ---- one other
 module _ (ms : List ℕ) (w : World) (g : History) (good : Good ms w g) (es : List Event) (p b : ℕ) (others : List ℕ) (members : (q : ℕ) → IsAmong others q → IsAmong ms q × (q ≡ p → ⊥)) (calm : IsCalm ms w es b others p 0 (length es))
@@ -131,45 +187,54 @@ module _ (ms : List ℕ) (w : World) (g : History) (good : Good ms w g) (es : Li
   abbrev pub end : ℕ
   end = length es
 
+  -- the first message that is delivered of those that bring it
+  abbrev first_sync : (m : Msg) × IsAmong (sync_messages b s.start s.rest) m × Delivery ms w es s.sync_from p q m
+  first_sync = turn_first ms w es s.sync_from s.sync_at p q (sync_messages b s.start s.rest) s.synced
+
+  abbrev last_sync : (s.sync_from ≤ s.sync_at) × (s.sync_at < length es)
+  last_sync = turn_last ms w es s.sync_from s.sync_at p q (sync_messages b s.start s.rest) s.synced
+
   begins : Starts ms w g good es p b others members calm q (suc s.sync_sent) top mine (suc s.sync_sent) s.start s.rest
-  begins = stream_begins ms w g good es p b others members calm q s.sync_sent s.start s.rest mine s.sent
+  begins = stream_begins ms w g good es p b others members calm q s.sync_sent s.start s.rest mine first_sync.0 first_sync.1 (s.sent first_sync.0 first_sync.1)
 
   pub stream_to : (j : ℕ) → suc s.sync_sent ≤ j → Stream ms w g good es p b others members calm q (suc s.sync_sent) top j
   stream_to j le = stream_at ms w g good es p b others members calm q (suc s.sync_sent) top mine begins.stream j le
 
-  abbrev after_one : s.prepare_at < s.sync_at
-  after_one = s.after_one
+  -- q is asked to have promised, and to fit it
+  record Meets : Type 0 where
+    promised : b ≤ (here s.sync_from).promised
+    fits : SyncFits (hist s.sync_from) q (here s.sync_from) b s.start
 
-  synced_in : IsAmong (at s.sync_at).packets (packet p q (AcceptSync b s.start s.rest))
-  synced_in = in_from_get (at s.sync_at).packets (s.synced).number (packet p q (AcceptSync b s.start s.rest)) (s.synced).is
+  meets : Meets
+  meets = in_sync (λ m. IsAmong (at s.sync_from).packets (packet p q m) → Meets) b s.start s.rest
+      (λ i. record { promised = ((inv_at s.sync_from).packets (packet p q (AcceptSync b s.start s.rest)) i).promised; fits = ((good_at ms w es g good s.sync_from).tells).packets (packet p q (AcceptSync b s.start s.rest)) i })
+      (λ k run r i. record { promised = (((inv_at s.sync_from).packets _ i).whole).promised; fits = ((good_at ms w es g good s.sync_from).tells).packets _ i })
+      first_sync.0 first_sync.1 (in_from_get (at s.sync_from).packets (first_sync.2).number (packet p q first_sync.0) (first_sync.2).is)
 
   -- q takes it
-  sync_now : (here (suc s.sync_at)) ≡ (on_accept_sync q (here s.sync_at) p b s.start s.rest).node
-  unfolding step on_msg
-  sync_now = ap (λ (y : World). y.nodes q) (delivered ms w es s.sync_at p q (AcceptSync b s.start s.rest) s.synced) ∙ upd_here (at s.sync_at).nodes q q _ refl
+  sync_now : (here (suc s.sync_at)) ≡ after_each ms q (here s.sync_from) p (sync_messages b s.start s.rest)
+  sync_now = in_turn ms w es s.sync_from s.sync_at p q (sync_messages b s.start s.rest) s.synced
 
-  promised_then : (here s.sync_at).promised ≡ b
-  promised_then =
-      let k = (inv_at s.sync_at).packets (packet p q (AcceptSync b s.start s.rest)) synced_in in
-      omega (arith, k.promised, calm_q.promised s.sync_at (omega (arith, after_one)) (omega (arith, s.after_sync)))
+  promised_then : (here s.sync_from).promised ≡ b
+  promised_then = omega (arith, meets.promised, calm_q.promised s.sync_from (omega (arith, s.after_one)) (omega (arith, last_sync.0, s.after_sync)))
 
-  sync_fits : (s.start ≤ length (here s.sync_at).log) × (((here s.sync_at).accepted ≡ b) ⊎ (((here s.sync_at).accepted < b) × ((here s.sync_at).decided ≤ s.start)))
+  sync_fits : (s.start ≤ length (here s.sync_from).log) × (((here s.sync_from).accepted ≡ b) ⊎ (((here s.sync_from).accepted < b) × ((here s.sync_from).decided ≤ s.start)))
   sync_fits =
-      let f = ((good_at ms w es g good s.sync_at).tells).packets (packet p q (AcceptSync b s.start s.rest)) synced_in in
-      let o = (inv_at s.sync_at).nodes q in
+      let f = meets.fits in
+      let o = (inv_at s.sync_from).nodes q in
       ⊎_elim
-      (λ (same : (here s.sync_at).accepted ≡ b).
-      let v : (hist s.sync_at).acc q b ≡ suc (length (here s.sync_at).log) = sym (ap ((hist s.sync_at).acc q) same) ∙ o.vote in
-      let m = ((inv_at s.sync_at).hist).voted q b (omega (arith, v)) in
-      (⊎_elim (λ (x : s.start < (hist s.sync_at).mark b). omega (arith, x, m.1, v)) (⊎_elim (λ (x : s.start ≤ (here s.sync_at).decided). omega (arith, x, o.fits)) (λ (x : s.start < (hist s.sync_at).acc q b). omega (arith, x, v))) f.low, inl same))
-      (λ (apart : (here s.sync_at).accepted ≡ b → ⊥).
-      ⊎_elim (λ (x : (here s.sync_at).accepted ≡ b). absurd (apart x))
-      (λ (x : ((here s.sync_at).decided ≤ s.start) × (s.start ≤ length (here s.sync_at).log)). (x.1, inr (below apart o.within promised_then, x.0)))
+      (λ (same : (here s.sync_from).accepted ≡ b).
+      let v : (hist s.sync_from).acc q b ≡ suc (length (here s.sync_from).log) = sym (ap ((hist s.sync_from).acc q) same) ∙ o.vote in
+      let m = ((inv_at s.sync_from).hist).voted q b (omega (arith, v)) in
+      (⊎_elim (λ (x : s.start < (hist s.sync_from).mark b). omega (arith, x, m.1, v)) (⊎_elim (λ (x : s.start ≤ (here s.sync_from).decided). omega (arith, x, o.fits)) (λ (x : s.start < (hist s.sync_from).acc q b). omega (arith, x, v))) f.low, inl same))
+      (λ (apart : (here s.sync_from).accepted ≡ b → ⊥).
+      ⊎_elim (λ (x : (here s.sync_from).accepted ≡ b). absurd (apart x))
+      (λ (x : ((here s.sync_from).decided ≤ s.start) × (s.start ≤ length (here s.sync_from).log)). (x.1, inr (below apart o.within promised_then, x.0)))
       (f.now promised_then))
-      (cases_eq (here s.sync_at).accepted b)
+      (cases_eq (here s.sync_from).accepted b)
     where
-      below : ((here s.sync_at).accepted ≡ b → ⊥) → (here s.sync_at).accepted ≤ (here s.sync_at).promised → (here s.sync_at).promised ≡ b → (here s.sync_at).accepted < b
-      below n le e = ⊎_elim (λ (x : (here s.sync_at).accepted < b). x) (λ (x : b ≤ (here s.sync_at).accepted). absurd (n (omega (arith, x, le, e)))) (cases_lt (here s.sync_at).accepted b)
+      below : ((here s.sync_from).accepted ≡ b → ⊥) → (here s.sync_from).accepted ≤ (here s.sync_from).promised → (here s.sync_from).promised ≡ b → (here s.sync_from).accepted < b
+      below n le e = ⊎_elim (λ (x : (here s.sync_from).accepted < b). x) (λ (x : b ≤ (here s.sync_from).accepted). absurd (n (omega (arith, x, le, e)))) (cases_lt (here s.sync_from).accepted b)
 
   -- the AcceptSync reaches to the length that the leader's log then had
   pub sync_covers : s.start + length s.rest ≡ top
@@ -178,16 +243,16 @@ module _ (ms : List ℕ) (w : World) (g : History) (good : Good ms w g) (es : Li
   -- the follower takes it
   pub has_top : Has top (suc s.sync_at)
   has_top =
-      let t = takes_sync q (here s.sync_at) p b s.start s.rest promised_then sync_fits.0 sync_fits.1 in
+      let t = takes_all ms q (here s.sync_from) p b s.start s.rest promised_then sync_fits.0 sync_fits.1 in
       has_from top (suc s.sync_at) (ap (λ (n : Node). n.accepted) sync_now ∙ t.0) (omega (arith, t.1, ap (λ (n : Node). length n.log) sync_now, begins.covers))
 
   -- ---- the Accepts
   sync_early : s.sync_at < end
-  sync_early = within ms w es s.sync_at p q (AcceptSync b s.start s.rest) s.synced
+  sync_early = last_sync.1
 
   -- the leader sends it each entry after that
   pub the_stream : Stream ms w g good es p b others members calm q (suc s.sync_sent) top end
-  the_stream = stream_to end (omega (arith, s.after_sending, sync_early))
+  the_stream = stream_to end (omega (arith, s.after_sending, last_sync.0, sync_early))
 
   accept_now : (i a : ℕ) (es' : List Entry) → Delivery ms w es i p q (Accept b a es') → s.prepare_at ≤ i → i ≤ suc s.ack_sent → Has a i → Has (a + length es') (suc i)
   unfolding step on_msg
@@ -201,7 +266,7 @@ module _ (ms : List ℕ) (w : World) (g : History) (good : Good ms w g) (es : Li
   covered_below zero i a es' lt first up h = absurd (omega arith)
   covered_below (suc bound) i a es' lt first up h =
       let d = s.accepted i a es' first up h in
-      accept_now (s.accept_at i) a es' d.1 (omega (arith, after_one, d.0)) (omega (arith, s.after_accepts i a es' first up h))
+      accept_now (s.accept_at i) a es' d.1 (omega (arith, s.after_one, last_sync.0, d.0)) (omega (arith, s.after_accepts i a es' first up h))
       (⊎_elim (λ (x : a ≤ top). low x d.0)
       (λ (x : (0 < a) × Reaching ms w g good es p b others members calm q (suc s.sync_sent) i (a - 1)).
       let z = x.1 in
@@ -227,7 +292,7 @@ module _ (ms : List ℕ) (w : World) (g : History) (good : Good ms w g) (es : Li
       let k = sender ms w es s.ack_sent (s.acknowledged).number q p (Accepted b s.size) (s.acknowledged).new (s.acknowledged).is in
       let r = ack_by ms k.node ((at s.ack_sent).nodes k.node) k.input (step ms k.node ((at s.ack_sent).nodes k.node) k.input) (step_moves ms k.node ((at s.ack_sent).nodes k.node) k.input) q p b s.size k.sent in
       let now : here (suc s.ack_sent) ≡ (step ms k.node ((at s.ack_sent).nodes k.node) k.input).node = ap (λ y. (at (suc s.ack_sent)).nodes y) (sym r.from) ∙ k.here in
-      let o = holds n (suc s.ack_sent) (omega (arith, after_one, s.after_sync)) (omega arith) h in
+      let o = holds n (suc s.ack_sent) (omega (arith, s.after_one, last_sync.0, s.after_sync)) (omega arith) h in
       omega (arith, o.long, r.size, ap (λ (y : Node). length y.log) now)
 
   -- p notes it
@@ -248,7 +313,7 @@ module _ (ms : List ℕ) (w : World) (g : History) (good : Good ms w g) (es : Li
 
   noted_first : Noted s.size (suc s.ack_at)
   noted_first =
-      let r = (stream_to s.ack_at (omega (arith, s.after_sending, s.after_sync, s.after_ack))).leads in
+      let r = (stream_to s.ack_at (omega (arith, s.after_sending, last_sync.0, s.after_sync, s.after_ack))).leads in
       let i = inv_at s.ack_at in
       let told : s.size < (hist s.ack_at).acc q b = i.packets (packet q p (Accepted b s.size)) (in_from_get (at s.ack_at).packets (s.acked).number (packet q p (Accepted b s.size)) (s.acked).is) in
       let v = (i.hist).voted q b (omega (arith, told)) in

@@ -1,12 +1,17 @@
 -- The invariant: what holds of the nodes and of the messages, told by the history.
 use Rattle.std.proofs.Common.{◌≡◌, ℕ, suc, ◌+◌, ◌<◌, ◌≤◌, ◌⊎◌, inl, inr, ⊎_elim, List, ◌++◌, length, true, take, drop, refl, sym, ap, ◌∙◌, arith, Some}
-use Rattle.std.specs.Prelude.{nat_lt}
+use Rattle.std.specs.Prelude.{nat_lt, slice_get}
 use Rattle.std.proofs.lemmas.Bool.{ltb-true, lt-ltb, cases_order}
 use Rattle.op_types.specs.declared.log.Entry.{Entry}
 use Rattle.op_types.specs.Limits.{positions_end}
 use Rattle.op_paxos.specs.Nodes.{owner, Promised, PreparingState, LeadingState, Role, Idle, Preparing, Leading, Node}
-use Rattle.op_paxos.specs.Messages.{Msg, Prepare, Promise, AcceptSync, Accept, Accepted, Decide, PrepareReq, Refuse, Forward, TrimAsk, Progress, Trim}
+use Rattle.op_types.specs.Joinings.{Held}
+use Rattle.op_paxos.specs.Messages.{PromisedRun, SyncRun, Msg, Prepare, Promise, PromisePart, AcceptSync, AcceptSyncPart, Accept, Accepted, Decide, PrepareReq, Refuse, Forward, TrimAsk, Progress, Trim}
 use Rattle.op_paxos.specs.Leader.{is_usable}
+use Rattle.op_paxos.specs.Parts.{told_by}
+use Rattle.op_types.proofs.Elements.{get_on}
+use Rattle.op_types.proofs.Stages.{EachHeld}
+use Rattle.op_types.proofs.Cuts.{RunOf}
 use Rattle.op_paxos.proofs.Majorities.{many_up}
 use Rattle.op_paxos.proofs.History.{History, Chosen, HistoryOk, core}
 
@@ -65,11 +70,30 @@ pub record SyncOk (ms : List ℕ) (pr ac : ℕ → ℕ) (g : History) (q n x : �
   pub low : round ≤ ac q
   pub ground : (n ≤ round) ⊎ (Sure ms g round x ⊎ ExactOk g q n x round)  -- up to the start the logs of that round and of n agree
 
+-- a part of a Promise of n from q to p: a run of its entries
+pub record PromPartOk (ms : List ℕ) (pr ac : ℕ → ℕ) (g : History) (q p n : ℕ) (part : PromisedRun) : Type 0 where
+  pub rest : List Entry
+  pub whole : PromOk ms pr ac g q p n (told_by part rest)
+  pub place : ℕ
+  pub at : part.at ≡ part.start + place
+  pub run : RunOf rest place part.run
+
+-- a part of an AcceptSync of n to q: a run of its entries
+pub record SyncPartOk (ms : List ℕ) (pr ac : ℕ → ℕ) (g : History) (q n : ℕ) (part : SyncRun) : Type 0 where
+  pub rest : List Entry
+  pub whole : SyncOk ms pr ac g q n part.start rest
+  pub end : part.start + length rest ≡ part.end
+  pub place : ℕ
+  pub at : part.at ≡ part.start + place
+  pub run : RunOf rest place part.run
+
 -- what holds of a message from p to q
 abbrev pub MsgOk : List ℕ → (ℕ → ℕ) → (ℕ → ℕ) → History → ℕ → ℕ → Msg → Type 0
 MsgOk ms pr ac g p q (Prepare n na nl d) = PrepareOk ms ac g p na nl d
 MsgOk ms pr ac g p q (Promise n pm) = PromOk ms pr ac g p q n pm
+MsgOk ms pr ac g p q (PromisePart n part) = PromPartOk ms pr ac g p q n part
 MsgOk ms pr ac g p q (AcceptSync n x es) = SyncOk ms pr ac g q n x es
+MsgOk ms pr ac g p q (AcceptSyncPart n part) = SyncPartOk ms pr ac g q n part
 MsgOk ms pr ac g p q (Accept n a es) = SliceOk g n a es
 MsgOk ms pr ac g p q (Accepted n x) = x < g.acc p n
 MsgOk ms pr ac g p q (Decide n x) = Sure ms g n x
@@ -80,6 +104,17 @@ MsgOk ms pr ac g p q (TrimAsk n) = Unit {0}
 MsgOk ms pr ac g p q (Progress n d) = Unit {0}
 MsgOk ms pr ac g p q (Trim x) = Unit {0}
 
+-- ---- what is staged
+-- an entry at this position that q told p in a part of a promise of n: it stands in the log of the round that is told
+pub record ToldEntry (ms : List ℕ) (pr ac : ℕ → ℕ) (g : History) (q p n i : ℕ) (e : Entry) : Type 0 where
+  pub told : Promised
+  pub ok : PromOk ms pr ac g q p n told
+  pub is : slice_get (g.full told.round) i ≡ Some e
+
+-- what is staged for ballot n stands in its leader's log
+abbrev pub StagedOk : History → ℕ → Held → Type 0
+StagedOk g n staged = EachHeld (λ i e. (0 < g.mark n) × (slice_get (g.full n) i ≡ Some e)) staged
+
 -- ---- what holds of a node
 -- a node that prepares
 pub record PrepOk (ms : List ℕ) (pr ac : ℕ → ℕ) (g : History) (p : ℕ) (nd : Node) (r : PreparingState) : Type 0 where
@@ -88,6 +123,7 @@ pub record PrepOk (ms : List ℕ) (pr ac : ℕ → ℕ) (g : History) (p : ℕ) 
   pub unled : g.mark r.ballot ≡ 0  -- the ballot was never led
   pub kept : (q : ℕ) (pm : Promised) → r.kept q ≡ Some pm → PromOk ms pr ac g q p r.ballot pm
   pub usable : (q : ℕ) (pm : Promised) → r.kept q ≡ Some pm → is_usable nd pm ≡ true  -- none of the promises has become unusable
+  pub parts : (q : ℕ) → EachHeld (λ i e. ToldEntry ms pr ac g q p r.ballot i e) (r.parts q)
 
 -- a node that leads
 pub record LeadOk (g : History) (p : ℕ) (nd : Node) (l : LeadingState) : Type 0 where
@@ -116,6 +152,7 @@ pub record NodeOk (ms : List ℕ) (pr ac : ℕ → ℕ) (g : History) (p : ℕ) 
   pub last : (n : ℕ) → 0 < g.acc p n → n ≤ nd.accepted  -- and nothing in a higher ballot
   pub fits : nd.decided ≤ length nd.log
   pub sure : Sure ms g nd.accepted nd.decided  -- what it has decided is chosen at a round up to its accepted one
+  pub staged : StagedOk g nd.promised nd.staged
   pub role : RoleOk ms pr ac g p nd nd.role
 
 -- a node's log is no longer than the positions
@@ -175,6 +212,14 @@ module _ (ms : List ℕ) (pr : ℕ → ℕ) (p : ℕ) (g g' : History) (x : Ext 
     prefix = x.prefix n (a + length es) s.led s.within ∙ s.prefix ∙ ap (λ l. l ++ es) (sym (x.prefix n a s.led (omega (arith, s.within))));
   }
 
+  -- so does each entry, at its place
+  pub entry_up : (n i : ℕ) (e : Entry) → 0 < g.mark n → slice_get (g.full n) i ≡ Some e → slice_get (g'.full n) i ≡ Some e
+  entry_up n i e led is = get_on (g.full n) (g'.full n) i e (x.prefix n (length (g.full n)) led (omega arith)) is
+
+  -- what is staged stays right
+  pub staged_up : (n : ℕ) (staged : Held) → StagedOk g n staged → StagedOk g' n staged
+  staged_up n staged o i e is = let k = o i e is in (omega (arith, k.0, x.mark_same n k.0), entry_up n i e k.0 k.1)
+
   module _ (h : HistoryOk ms pr g) (pr' ac ac' : ℕ → ℕ) (pr_up : (q : ℕ) → pr q ≤ pr' q) (ac_up : (q : ℕ) → ac q ≤ ac' q) where
     prom_fits : (q n : ℕ) (pm : Promised) (s : ℕ) → PromOk ms pr ac g q s n pm → pm.size ≤ length (g.full pm.round)
     prom_fits q n pm s o = omega (arith, (h.voted q pm.round (omega (arith, o.voted))).2, o.voted)
@@ -202,6 +247,13 @@ module _ (ms : List ℕ) (pr : ℕ → ℕ) (p : ℕ) (g g' : History) (x : Ext 
       start = ⊎_elim (λ (l : pm.round ≤ o.base). inl l) (λ (s : Sure ms g o.base pm.start). inr (sure_up o.base o.base pm.start (omega arith) s)) o.start;
     }
 
+    -- what holds of its entries, and of its parts
+    pub told_up : (q t n i : ℕ) (e : Entry) → ToldEntry ms pr ac g q t n i e → ToldEntry ms pr' ac' g' q t n i e
+    told_up q t n i e o = record { told = o.told; ok = prom_up q t n o.told o.ok; is = entry_up (o.told).round i e (o.ok).led o.is }
+
+    pub prom_part_up : (q t n : ℕ) (part : PromisedRun) → PromPartOk ms pr ac g q t n part → PromPartOk ms pr' ac' g' q t n part
+    prom_part_up q t n part o = record { rest = o.rest; whole = prom_up q t n (told_by part o.rest) o.whole; place = o.place; at = o.at; run = o.run }
+
     exact_up : (q n k z : ℕ) → n ≤ pr q → 0 < g.mark n → k ≤ length (g.full n) → ExactOk g q n k z → ExactOk g' q n k z
     exact_up q n k z le led fit o = record {
       led = omega (arith, x.mark_same z o.led, o.led);
@@ -221,11 +273,17 @@ module _ (ms : List ℕ) (pr : ℕ → ℕ) (p : ℕ) (g g' : History) (x : Ext 
       ground = ⊎_elim (λ (l : n ≤ o.round). inl l) (⊎_elim (λ (s : Sure ms g o.round k). inr (inl (sure_up o.round o.round k (omega arith) s))) (λ (e : ExactOk g q n k o.round). inr (inr (exact_up q n k o.round o.promised ((o.slice).led) (omega (arith, (o.slice).within)) e)))) o.ground;
     }
 
+    -- what holds of its parts
+    pub sync_part_up : (q n : ℕ) (part : SyncRun) → SyncPartOk ms pr ac g q n part → SyncPartOk ms pr' ac' g' q n part
+    sync_part_up q n part o = record { rest = o.rest; whole = sync_up q n part.start o.rest o.whole; end = o.end; place = o.place; at = o.at; run = o.run }
+
     -- what holds of a message stays so
     pub msg_up : (q t : ℕ) (m : Msg) → MsgOk ms pr ac g q t m → MsgOk ms pr' ac' g' q t m
     msg_up q t (Prepare n na nl d) o = record { short = o.short; low = omega (arith, o.low, ac_up q); sure = sure_up na na d (omega arith) o.sure }
     msg_up q t (Promise n pm) o = prom_up q t n pm o
+    msg_up q t (PromisePart n part) o = prom_part_up q t n part o
     msg_up q t (AcceptSync n k es) o = sync_up t n k es o
+    msg_up q t (AcceptSyncPart n part) o = sync_part_up t n part o
     msg_up q t (Accept n a es) o = slice_up n a es o
     msg_up q t (Accepted n k) o = omega (arith, x.acc_up q n, o)
     msg_up q t (Decide n k) o = sure_up n n k (omega arith) o
@@ -245,6 +303,7 @@ module _ (ms : List ℕ) (pr : ℕ → ℕ) (p : ℕ) (g g' : History) (x : Ext 
       unled = sm r.ballot o.owned ∙ o.unled;
       kept = λ t pm e. prom_up t q r.ballot pm (o.kept t pm e);
       usable = o.usable;
+      parts = λ t i e is. told_up t q r.ballot i e (o.parts t i e is);
     }
     role_up q nd (Leading l) sm sf v o =
         let led : 0 < g.mark l.ballot = omega (arith, o.size_is) in
@@ -273,5 +332,6 @@ module _ (ms : List ℕ) (pr : ℕ → ℕ) (p : ℕ) (g g' : History) (x : Ext 
           last = λ n has. o.last n (omega (arith, sa n, has));
           fits = o.fits;
           sure = sure_up nd.accepted nd.accepted nd.decided (omega arith) o.sure;
+          staged = staged_up nd.promised nd.staged o.staged;
           role = role_up q nd nd.role sm sf v.0 o.role;
         }

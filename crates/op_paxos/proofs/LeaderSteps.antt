@@ -8,17 +8,18 @@ use Rattle.op_types.specs.Limits.{positions_end}
 use Rattle.op_spec.specs.Machine.{with_at, IsAmong}
 use Rattle.op_paxos.specs.Logs.{overflows}
 use Rattle.op_paxos.specs.Nodes.{owner, Promised, LeadingState, Leading, Node, majority_passes}
-use Rattle.op_paxos.specs.Messages.{Msg, Prepare, AcceptSync, Accept, Decide, Trim, Packet, Effect, packet, broadcast}
+use Rattle.op_paxos.specs.Messages.{Msg, Prepare, Accept, Decide, Trim, Packet, Effect, packet, broadcast}
 use Rattle.op_paxos.specs.Leader.{sync_at, sync_sends, is_synced, backed, majority_length, recount, on_promise_in, on_accepted_in, extended, on_propose_in}
 use Rattle.op_paxos.specs.Trimming.{trim_all}
 use Rattle.op_paxos.proofs.Tidy.{room_for, tidy_more, Tidy}
 use Rattle.op_paxos.proofs.Majorities.{Many, many_up}
 use Rattle.op_paxos.proofs.History.{History, Adopted, HistoryOk}
-use Rattle.op_paxos.proofs.Invariant.{log_short, PrepareOk, Sure, ChosenBy, MsgOk, PromOk, SliceOk, SyncOk, ExactOk, LeadOk, RoleOk, Ext, sure_up}
+use Rattle.op_paxos.proofs.Invariant.{log_short, PrepareOk, Sure, ChosenBy, MsgOk, StagedOk, PromOk, SliceOk, SyncOk, ExactOk, LeadOk, RoleOk, Ext, sure_up, staged_up}
 use Rattle.op_paxos.proofs.Updates.{upd_here, upd_both, upd_up}
 use Rattle.op_paxos.proofs.OneStep.{StepOk, put, PutOk, put_ext, put_acc, put_last, put_hist}
 use Rattle.op_paxos.proofs.PlainSteps.{Here, keep, keep_msg, still_ok}
 use Rattle.op_paxos.proofs.FollowerSteps.{Goes}
+use Rattle.op_paxos.proofs.SentParts.{sync_packets}
 use Rattle.op_paxos.proofs.Membership.{some_is, single, in_append}
 use Rattle.op_spec.proofs.Safety.{IsAmong-append}
 use Rattle.op_quorum.specs.Quorums.{passing}
@@ -81,7 +82,8 @@ module _ (ms : List ℕ) (pr ac : ℕ → ℕ) (g : History) (h : HistoryOk ms p
       cond_both (nat_lt (sync_at l pm) nd.trimmed) _ _ (λ ps. IsAmong ps m → MsgOk ms pr ac g m.from m.to m.msg)
       (λ e i. single (λ a. MsgOk ms pr ac g a.from a.to a.msg) (packet p q (Prepare l.ballot nd.accepted (length nd.log) nd.decided)) asks m i)
       (λ e. cond_both (nat_le (sync_at l pm) (length nd.log)) _ _ (λ ps. IsAmong ps m → MsgOk ms pr ac g m.from m.to m.msg)
-      (λ e i. single (λ a. MsgOk ms pr ac g a.from a.to a.msg) (packet p q (AcceptSync l.ballot (sync_at l pm) (drop (sync_at l pm) nd.log))) (sync_ok q t pm (f pm refl) (leb-true (sync_at l pm) (length nd.log) e)) m i)
+      (λ e i. let k = sync_ok q t pm (f pm refl) (leb-true (sync_at l pm) (length nd.log) e) in
+      sync_packets (λ a. MsgOk ms pr ac g a.from a.to a.msg) p q l.ballot (sync_at l pm) (drop (sync_at l pm) nd.log) k (λ at run r. record { rest = drop (sync_at l pm) nd.log; whole = k; end = refl; place = at; at = refl; run = r }) m i)
       (λ e i. absurd i))
 
 -- the same lead, at a node with the same ballot and log
@@ -147,6 +149,7 @@ module _ (ms : List ℕ) (pr ac : ℕ → ℕ) (g : History) (p : ℕ) (nd : Nod
           last = (s.node).last;
           fits = counted_low;
           sure = inr c;
+          staged = (s.node).staged;
           role = lead_with g' p (record nd { role = Leading l }) (record nd { decided = majority_length ms p nd l; role = Leading l }) l l.synced l.acked l.reports refl refl refl o.acked o;
         };
         sends = λ m i. ⊎_elim (λ (a : IsAmong sends m). s.sends m (IsAmong-append sends other m a))
@@ -178,6 +181,7 @@ pub record LeadPut (ms : List ℕ) (pr : ℕ → ℕ) (g : History) (p : ℕ) (n
   pub acked : (q : ℕ) → 0 < l.acked q → l.acked q < g.acc q nd.promised
   pub decided : nd'.decided ≡ nd.decided
   pub within : nd.decided ≤ length nd'.log
+  pub staged : StagedOk g nd.promised nd'.staged
   pub tidy : Tidy nd'.log
   pub short : length nd'.log ≤ positions_end
 
@@ -245,6 +249,7 @@ module _ (ms : List ℕ) (pr ac : ℕ → ℕ) (g : History) (p : ℕ) (nd nd' :
           last = λ n has. omega (arith, v.accepted, put_last ms pr g p nd.promised (suc l.size) nd'.log (length nd'.log) lead_put_ok nd.accepted (w.ok).within (w.ok).last n has);
           fits = omega (arith, v.within, v.decided);
           sure = subst (λ d. Sure ms (lead_put g p nd nd' l) nd'.accepted d) (sym v.decided) (sure_up ms pr p g (lead_put g p nd nd' l) x nd.accepted nd'.accepted nd.decided (omega (arith, v.accepted, (w.ok).within)) (w.ok).sure);
+          staged = subst (λ n. StagedOk (lead_put g p nd nd' l) n nd'.staged) (sym v.promised) (staged_up ms pr p g (lead_put g p nd nd' l) x nd.promised nd'.staged v.staged);
           role = subst (λ r. RoleOk ms (with_at p nd'.promised pr) (with_at p nd'.accepted ac) (lead_put g p nd nd' l) p nd' r) (sym v.role) new_lead_ok;
         };
         sends = ok;
@@ -257,7 +262,7 @@ module _ (ms : List ℕ) (pr ac : ℕ → ℕ) (g : History) (p : ℕ) (nd : Nod
   leads_on s a sends ha hs =
       let out : Effect = record { node = record nd { role = Leading (record l { synced = s; acked = a }) }; sends = sends } in
       keep ms pr ac g p nd w out (omega arith) (omega arith)
-      (record { within = (w.ok).within; log_is = (w.ok).log_is; vote = (w.ok).vote; last = (w.ok).last; fits = (w.ok).fits; sure = (w.ok).sure; role = lead_with g p nd (record nd { role = Leading (record l { synced = s; acked = a }) }) l s a l.reports refl refl refl ha o })
+      (record { within = (w.ok).within; log_is = (w.ok).log_is; vote = (w.ok).vote; last = (w.ok).last; fits = (w.ok).fits; sure = (w.ok).sure; staged = (w.ok).staged; role = lead_with g p nd (record nd { role = Leading (record l { synced = s; acked = a }) }) l s a l.reports refl refl refl ha o })
       (λ m i. keep_msg ms pr ac g p nd w out (omega arith) (omega arith) m.from m.to m.msg (hs m i))
 
   asks_here : PrepareOk ms ac g p nd.accepted (length nd.log) nd.decided
@@ -317,6 +322,7 @@ module _ (ms : List ℕ) (pr ac : ℕ → ℕ) (g : History) (p : ℕ) (nd : Nod
         acked = λ q pos. omega (arith, o.acked q pos, ap (g.acc q) o.promised);
         decided = refl;
         within = omega (arith, (w.ok).fits, n);
+        staged = (w.ok).staged;
         tidy = tidy_more nd.log es room.stops (subst Tidy (sym o.log_is) ((w.hist).tidy l.ballot (omega (arith, o.size_is)))) room.tidy;
         short = omega (arith, n, room.short);
       }
@@ -352,7 +358,7 @@ module _ (ms : List ℕ) (pr ac : ℕ → ℕ) (g : History) (p : ℕ) (nd : Nod
   trims t r sends hs =
       let out : Effect = record { node = record nd { trimmed = t; role = Leading (record l { reports = r }) }; sends = sends } in
       keep ms pr ac g p nd w out (omega arith) (omega arith)
-      (record { within = (w.ok).within; log_is = (w.ok).log_is; vote = (w.ok).vote; last = (w.ok).last; fits = (w.ok).fits; sure = (w.ok).sure; role = lead_with g p nd (out.node) l l.synced l.acked r refl refl refl o.acked o })
+      (record { within = (w.ok).within; log_is = (w.ok).log_is; vote = (w.ok).vote; last = (w.ok).last; fits = (w.ok).fits; sure = (w.ok).sure; staged = (w.ok).staged; role = lead_with g p nd (out.node) l l.synced l.acked r refl refl refl o.acked o })
       (λ m i. keep_msg ms pr ac g p nd w out (omega arith) (omega arith) m.from m.to m.msg (hs m i))
 
   -- the step of a leader that trims

@@ -3,7 +3,7 @@ use Rattle.std.proofs.Common.{inl, inr, List, [], ◌∷◌, subst}
 use Rattle.op_types.specs.declared.log.Entry.{Entry}
 use Rattle.op_spec.specs.Machine.{IsAmong}
 use Rattle.op_paxos.specs.Nodes.{Role, Idle, Preparing, Leading}
-use Rattle.op_paxos.specs.Messages.{Msg, Prepare, Promise, AcceptSync, Accept, Accepted, Decide, PrepareReq, Refuse, Forward, TrimAsk, Progress, Trim}
+use Rattle.op_paxos.specs.Messages.{Msg, Prepare, Promise, PromisePart, AcceptSync, AcceptSyncPart, Accept, Accepted, Decide, PrepareReq, Refuse, Forward, TrimAsk, Progress, Trim}
 use Rattle.op_paxos.specs.Worlds.{World, Event, Leads, Proposes, Delivers, Restarts, Trims, Links, Unlinks, Stops, run, start}
 use Rattle.op_paxos.specs.Agreement.{proposed_by, proposals, Proposed}
 use Rattle.op_paxos.proofs.Membership.{in_right}
@@ -14,12 +14,14 @@ use Rattle.op_paxos.proofs.Validity.{each_take, RoleV, MsgV, WorldV, EventV, val
 module _ (P Q : Entry → Type 0) (wider : (e : Entry) → P e → Q e) where
   role_wider : (r : Role) → RoleV P r → RoleV Q r
   role_wider Idle h = tt
-  role_wider (Preparing r) h = record { kept = λ q pm k e i. wider e (h.kept q pm k e i); buffer = λ e i. wider e (h.buffer e i) }
+  role_wider (Preparing r) h = record { kept = λ q pm k e i. wider e (h.kept q pm k e i); parts = λ q i e k. wider e (h.parts q i e k); buffer = λ e i. wider e (h.buffer e i) }
   role_wider (Leading l) h = tt
 
   msg_wider : (m : Msg) → MsgV P m → MsgV Q m
   msg_wider (Promise n pm) h = λ e i. wider e (h e i)
+  msg_wider (PromisePart n part) h = λ e i. wider e (h e i)
   msg_wider (AcceptSync n x es) h = λ e i. wider e (h e i)
+  msg_wider (AcceptSyncPart n part) h = λ e i. wider e (h e i)
   msg_wider (Accept n a es) h = λ e i. wider e (h e i)
   msg_wider (Forward es) h = λ e i. wider e (h e i)
   msg_wider (Prepare n na nl nd) h = tt
@@ -33,7 +35,7 @@ module _ (P Q : Entry → Type 0) (wider : (e : Entry) → P e → Q e) where
 
   -- a world whose entries pass one test passes a wider one
   pub world_wider : (w : World) → WorldV P w → WorldV Q w
-  world_wider w h = record { nodes = λ q. record { log = λ e i. wider e ((h.nodes q).log e i); role = role_wider (w.nodes q).role (h.nodes q).role }; packets = λ m i. msg_wider m.msg (h.packets m i) }
+  world_wider w h = record { nodes = λ q. record { log = λ e i. wider e ((h.nodes q).log e i); staged = λ i e k. wider e ((h.nodes q).staged i e k); role = role_wider (w.nodes q).role (h.nodes q).role }; packets = λ m i. msg_wider m.msg (h.packets m i) }
 
 mine : (e : Event) (P : Entry → Type 0) → ((x : Entry) → IsAmong (proposed_by e) x → P x) → EventV P e
 mine (Proposes p es) P h = h

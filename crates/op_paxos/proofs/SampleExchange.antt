@@ -7,13 +7,14 @@ use Rattle.op_types.specs.declared.log.Entry.{Entry}
 use Rattle.op_types.specs.declared.log.Entry.TheVariants as entry
 use Rattle.op_spec.specs.Machine.{IsAmong}
 use Rattle.op_paxos.specs.Logs.{is_stop}
-use Rattle.op_paxos.specs.Nodes.{owner, LeadingState, Leading}
+use Rattle.op_paxos.specs.Nodes.{owner, Promised, LeadingState, Leading}
 use Rattle.op_paxos.specs.Messages.{Msg, Promise, AcceptSync, Accept, Packet, packet}
 use Rattle.op_paxos.specs.Follower.{on_prepare, appended, on_accept, synced_to, on_accept_sync, on_decide}
 use Rattle.op_paxos.specs.Leader.{majority_length, recount, adopted_node, new_leading, adopt_with, adopt, prepared, on_elected, on_promise_in, on_accepted_in, extended, on_propose_in}
 use Rattle.op_paxos.specs.Worlds.{on_msg, Input, Proposal, Comes, step, World, Event, Leads, Proposes, Delivers, taken_by, input_of, happens, run, start}
 use Rattle.op_paxos.specs.Exchange.{world_before, Delivery, Sending, Interrupts, LeavesAlone, IsPlaced, IsIn, Steps, Exchange}
-use Rattle.op_paxos.proofs.NumberedWorlds.{get_new, last_is}
+use Rattle.op_paxos.proofs.Elements.{get_new}
+use Rattle.op_paxos.proofs.NumberedWorlds.{last_is}
 use Rattle.op_paxos.proofs.Roles.{roles_differ}
 use Rattle.op_paxos.proofs.Membership.{none_some, some_is}
 
@@ -158,6 +159,9 @@ module _ (c : Command) where
       let k = accept_is a es' (subst (λ j. Sending members first events j 1 2 (Accept 1 a es')) two s) in
       (omega arith, subst (λ x. Delivery members first events 4 1 2 (Accept 1 x es')) k.0 (subst (λ y. Delivery members first events 4 1 2 (Accept 1 0 y)) k.1 the_delivery))
 
+  abbrev none_told : Promised
+  none_told = record { round = 0; size = 0; decided = 0; start = 0; rest = [] }
+
   the_steps : Steps members first events 1 1 2 (2, 0)
   unfolding run start happens input_of step is_stop owner majority_length recount adopted_node new_leading adopt_with adopt prepared on_elected on_promise_in on_accepted_in extended on_propose_in on_prepare appended on_accept synced_to on_accept_sync on_decide on_msg
   the_steps = record {
@@ -165,19 +169,21 @@ module _ (c : Command) where
     asked = (0, 0, 0);
     prepared = record { number = 0; event = refl; is = refl };
     below = omega arith;
+    promise_from = 1;
     promise_at = 1;
     told = record { round = 0; size = 0; decided = 0; start = 0; rest = [] };
-    answered = record { number = 2; new = omega arith; is = refl };
+    answered = λ m i. ⊎_elim (λ (e : Promise 1 none_told ≡ m). subst (λ b. Sending members first events 0 2 1 b) e (record { number = 2; new = omega arith; is = refl })) (λ (x : ⊥). absurd x) i;
     after_prepare = omega arith;
-    promised = record { number = 2; event = refl; is = refl };
+    promised = (refl, record { number = 2; event = refl; is = refl });
     sync_sent = 1;
+    sync_from = 3;
     sync_at = 3;
     start = 0;
     rest = [];
     on_promise = omega arith;
-    sent = record { number = 3; new = omega arith; is = refl };
+    sent = λ m i. ⊎_elim (λ (e : AcceptSync 1 0 [] ≡ m). subst (λ b. Sending members first events 1 1 2 b) e (record { number = 3; new = omega arith; is = refl })) (λ (x : ⊥). absurd x) i;
     after_sending = omega arith;
-    synced = record { number = 3; event = refl; is = refl };
+    synced = (refl, record { number = 3; event = refl; is = refl });
     last = 2;
     accept_at = λ i. 4;
     accepted = accepted_by;
@@ -200,7 +206,7 @@ module _ (c : Command) where
   pub sample : Exchange members first 1 1 (2 ∷ []) events (entry.Command c)
   unfolding run start happens input_of step is_stop owner majority_length recount adopted_node new_leading adopt_with adopt prepared on_elected on_promise_in on_accepted_in extended on_propose_in on_prepare appended on_accept synced_to on_accept_sync on_decide on_msg
   sample = record {
-    preparation = record { ballot = 1; kept = λ q. None; buffer = [] };
+    preparation = record { ballot = 1; kept = λ q. None; parts = λ q. []; buffer = [] };
     preparing = refl;
     ballot = refl;
     are_members = λ q i. ⊎_elim (λ (e : 2 ≡ q). (inr (inl e), λ d. omega (arith, d, e))) (λ (x : ⊥). absurd x) i;

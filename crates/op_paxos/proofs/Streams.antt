@@ -2,20 +2,22 @@
 use Rattle.std.proofs.Common.{◌≡◌, ℕ, suc, ◌+◌, ◌-◌, ◌<◌, ◌≤◌, ◌⊎◌, inl, inr, ⊎_elim, List, ◌++◌, length, true, sym, ap, ◌∙◌, subst, arith, Some, length-append}
 use Rattle.std.specs.Prelude.{slice_get}
 use Rattle.std.proofs.lemmas.Bool.{cases_lt}
-use Rattle.std.proofs.lemmas.List.{length-drop}
 use Rattle.std.proofs.lemmas.Option.{slice_get_within}
 use Rattle.op_types.specs.declared.log.Entry.{Entry}
 use Rattle.op_spec.specs.Machine.{IsAmong}
 use Rattle.op_paxos.specs.Nodes.{LeadingState, Leading, Node}
-use Rattle.op_paxos.specs.Messages.{AcceptSync, Accept, Packet, packet}
+use Rattle.op_paxos.specs.Messages.{Msg, Accept, Packet, packet}
+use Rattle.op_paxos.specs.Parts.{sync_messages}
 use Rattle.op_paxos.specs.Worlds.{step, World, Event}
 use Rattle.op_paxos.specs.Exchange.{Sending, IsCalm}
 use Rattle.op_paxos.proofs.History.{History}
 use Rattle.op_paxos.proofs.Moves.{Extends}
 use Rattle.op_paxos.proofs.StepMoves.{step_moves}
 use Rattle.op_paxos.proofs.PromisesStand.{Good}
-use Rattle.op_paxos.proofs.NumberedWorlds.{get_right, in_get, stable, W, Moves, at_node, sender, G, good_at}
-use Rattle.op_paxos.proofs.Senders.{sync_by, accept_by}
+use Rattle.op_types.proofs.Elements.{get_right}
+use Rattle.op_paxos.proofs.Elements.{in_get}
+use Rattle.op_paxos.proofs.NumberedWorlds.{stable, W, Moves, at_node, sender, G, good_at}
+use Rattle.op_paxos.proofs.Senders.{they_bring, sync_by, accept_by}
 use Rattle.op_paxos.proofs.Undisturbed.{LeadsOn, leads_on}
 
 module _ (ms : List ℕ) (w : World) (g : History) (good : Good ms w g) (es : List Event) (p b : ℕ) (others : List ℕ) (members : (q : ℕ) → IsAmong others q → IsAmong ms q × (q ≡ p → ⊥)) (calm : IsCalm ms w es b others p 0 (length es)) where
@@ -142,11 +144,11 @@ module _ (ms : List ℕ) (w : World) (g : History) (good : Good ms w g) (es : Li
       pub stream : Stream q i0 L i
       pub covers : x + length rest ≡ L
 
-  -- it begins with an AcceptSync
-  pub stream_begins : (q i x : ℕ) (rest : List Entry) (mine : IsAmong others q) → Sending ms w es i p q (AcceptSync b x rest) → Starts q (suc i) (length (log_at (suc i))) mine (suc i) x rest
-  stream_begins q i x rest mine h =
-      let s = sender ms w es i h.number p q (AcceptSync b x rest) h.new h.is in
-      let r = sync_by ms s.node ((at i).nodes s.node) s.input (step ms s.node ((at i).nodes s.node) s.input) (step_moves ms s.node ((at i).nodes s.node) s.input) p q b x rest s.sent in
+  -- it begins with an AcceptSync, or with a part of one
+  pub stream_begins : (q i x : ℕ) (rest : List Entry) (mine : IsAmong others q) (m : Msg) → IsAmong (sync_messages b x rest) m → Sending ms w es i p q m → Starts q (suc i) (length (log_at (suc i))) mine (suc i) x rest
+  stream_begins q i x rest mine m c h =
+      let s = sender ms w es i h.number p q m h.new h.is in
+      let r = sync_by ms s.node ((at i).nodes s.node) s.input (step ms s.node ((at i).nodes s.node) s.input) (step_moves ms s.node ((at i).nodes s.node) s.input) p q b x (x + length rest) m (they_bring b x rest m c) s.sent in
       let here : (at (suc i)).nodes p ≡ (step ms s.node ((at i).nodes s.node) s.input).node = ap (λ y. (at (suc i)).nodes y) (sym r.from) ∙ s.here in
       record {
         stream = record {
@@ -155,7 +157,7 @@ module _ (ms : List ℕ) (w : World) (g : History) (good : Good ms w g) (es : Li
           long = omega arith;
           all = λ y a c. absurd (omega (arith, a, c));
         };
-        covers = omega (arith, ap (λ (l : List Entry). length l) r.rest, length-drop x ((step ms s.node ((at i).nodes s.node) s.input).node).log, r.fits, ap (λ (n : Node). length n.log) here);
+        covers = omega (arith, r.covers, ap (λ (n : Node). length n.log) here);
       }
 
   -- it lasts as long as nothing disturbs

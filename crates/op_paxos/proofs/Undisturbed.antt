@@ -9,8 +9,8 @@ use Rattle.op_paxos.specs.Exchange.{Interrupts}
 use Rattle.op_paxos.proofs.History.{History}
 use Rattle.op_paxos.proofs.OneStep.{Invariant}
 use Rattle.op_paxos.proofs.Runs.{Known}
-use Rattle.op_paxos.proofs.Moves.{Extends, Adopts, Move, Resting, Tending, Extending, Idling, Promising, Asking, Gathering, Adopting, Taking, Appending}
-use Rattle.op_paxos.proofs.Roles.{roles_differ, same_lead, same_prep, lead_is, prep_is, leader_same}
+use Rattle.op_paxos.proofs.Moves.{Extends, Adopts, Move, Resting, Tending, Extending, Idling, Promising, Asking, Gathering, Adopting, Taking, Appending, Filling}
+use Rattle.op_paxos.proofs.Roles.{roles_differ, same_lead, same_prep, lead_is, prep_is, leader_same, filled_same}
 
 -- a leader goes on: it leads, keeps what was acknowledged and who is synced, and its log grows by entries that it tells
 pub record LeadsOn (ms : List ℕ) (p : ℕ) (others : List ℕ) (nd : Node) (i : Input) (l : LeadingState) (o : Effect) : Type 0 where
@@ -61,6 +61,7 @@ module _ (ms : List ℕ) (w : World) (g : History) (i : Invariant ms w g) (p : �
           (λ (x : ((w.nodes p).promised < (o.node).promised) × ((o.node).promised ≡ (k.lead).ballot)). absurd (omega (arith, x.0, low, (lead_is ms w g i p l was).promised))) k.promised
       leads_on (Taking k) = let a = lead_is ms w g i p l was in absurd (omega (arith, a.promised, a.accepted, k.below))
       leads_on (Appending k) = same_on k.role (leader_same ms w g i p input known o k l was)
+      leads_on (Filling k) = same_on k.role (filled_same ms w g i p input known o k l was)
 
     module _ (r : PreparingState) (was : (w.nodes p).role ≡ Preparing r) (low : (o.node).promised ≤ r.ballot) where
       stays_on : (o.node).role ≡ (w.nodes p).role → PreparesOn r o
@@ -91,3 +92,4 @@ module _ (ms : List ℕ) (w : World) (g : History) (i : Invariant ms w g) (p : �
           (λ (x : ((w.nodes p).promised < (o.node).promised) × ((o.node).promised ≡ (k.lead).ballot)). absurd (omega (arith, x.0, low, (prep_is ms w g i p r was).promised))) k.promised
       prepares_on (Taking k) = inl (stays_on k.role)
       prepares_on (Appending k) = inl (stays_on k.role)
+      prepares_on (Filling k) = inl (stays_on k.role)

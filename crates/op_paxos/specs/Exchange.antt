@@ -6,7 +6,8 @@ use Rattle.op_types.specs.Limits.{positions_end}
 use Rattle.op_spec.specs.Machine.{IsAmong}
 use Rattle.op_paxos.specs.Logs.{has_stop, fitting}
 use Rattle.op_paxos.specs.Nodes.{Promised, PreparingState, LeadingState, Preparing, Leading, Node, majority_passes}
-use Rattle.op_paxos.specs.Messages.{Msg, Prepare, Promise, AcceptSync, Accept, Accepted, packet}
+use Rattle.op_paxos.specs.Messages.{Msg, Prepare, Accept, Accepted, packet}
+use Rattle.op_paxos.specs.Parts.{promise_messages, sync_messages}
 use Rattle.op_paxos.specs.Worlds.{Input, Down, Starts, World, Event, Proposes, Delivers, Stops, input_of, run, start}
 
 -- ---- events by number
@@ -29,11 +30,30 @@ pub record Delivery (members : List ℕ) (w : World) (events : List Event) (i p 
   pub event : slice_get events i ≡ Some (Delivers number)
   pub is : IsPacket (world_before members w events i) number p q m
 
+-- between events number i and j x takes no step
+abbrev pub RestsBetween : List ℕ → World → List Event → ℕ → ℕ → ℕ → Type 0
+RestsBetween members w events x i j =
+    (k : ℕ) (e : Event) (input : Input) → i < k → k < j → slice_get events k ≡ Some e
+    → input_of (world_before members w events k) e ≡ Some (x, input) → ⊥
+
+-- these messages from p to q are delivered one after the other, the first at event number i
+-- and the last at event number j, with no other step of q between
+abbrev pub InTurn : List ℕ → World → List Event → ℕ → ℕ → ℕ → ℕ → List Msg → Type 0
+InTurn members w events i j p q [] = ⊥
+InTurn members w events i j p q (m ∷ []) = (i ≡ j) × Delivery members w events i p q m
+InTurn members w events i j p q (m ∷ (k ∷ messages)) =
+    Delivery members w events i p q m × ((h : ℕ) × (i < h) × RestsBetween members w events q i h ×
+    InTurn members w events h j p q (k ∷ messages))
+
 -- at event number i p sends q this message
 pub record Sending (members : List ℕ) (w : World) (events : List Event) (i p q : ℕ) (m : Msg) : Type 0 where
   pub number : ℕ
   pub new : length (world_before members w events i).packets ≤ number
   pub is : IsPacket (world_before members w events (suc i)) number p q m
+
+-- at event number i p sends q all of these messages
+abbrev pub SendsAll : List ℕ → World → List Event → ℕ → ℕ → ℕ → List Msg → Type 0
+SendsAll members w events i p q messages = (m : Msg) → IsAmong messages m → Sending members w events i p q m
 
 -- at event number i p sends q an Accept of b: these entries, from this start on
 abbrev pub SendsAccept : List ℕ → World → List Event → ℕ → ℕ → ℕ → ℕ → ℕ → List Entry → Type 0
@@ -129,22 +149,26 @@ pub record Steps (members : List ℕ) (w : World) (events : List Event) (b p q :
   pub asked : ℕ × ℕ × ℕ
   pub prepared : Delivery members w events prepare_at p q (Prepare b asked.0 asked.1 asked.2)
   pub below : (node_before members w events prepare_at q).promised < b
-  -- 2. the Promise that q answered is delivered to p
+  -- 2. the Promise that q answered, or each PromisePart sent in its place in the order of sending, is
+  -- delivered to p, with no other event at p between the parts: from one event on, and up to another
+  pub promise_from : ℕ
   pub promise_at : ℕ
   pub told : Promised
-  pub answered : Sending members w events prepare_at q p (Promise b told)
-  pub after_prepare : prepare_at < promise_at
-  pub promised : Delivery members w events promise_at q p (Promise b told)
-  -- 3. an AcceptSync of b that p sent to q on that Promise is delivered to q
+  pub answered : SendsAll members w events prepare_at q p (promise_messages b told)
+  pub after_prepare : prepare_at < promise_from
+  pub promised : InTurn members w events promise_from promise_at q p (promise_messages b told)
+  -- 3. an AcceptSync of b that p sent to q on that Promise, or each AcceptSyncPart sent in its place in the
+  -- order of sending, is delivered to q, with no other event at q between the parts
   pub sync_sent : ℕ
+  pub sync_from : ℕ
   pub sync_at : ℕ
   pub start : ℕ
   pub rest : List Entry
-  pub on_promise : promise_at ≤ sync_sent
-  pub sent : Sending members w events sync_sent p q (AcceptSync b start rest)
-  pub after_sending : sync_sent < sync_at
-  pub synced : Delivery members w events sync_at p q (AcceptSync b start rest)
-  -- 4. each Accept that p sent to q after that AcceptSync,
+  pub on_promise : promise_from ≤ sync_sent
+  pub sent : SendsAll members w events sync_sent p q (sync_messages b start rest)
+  pub after_sending : sync_sent < sync_from
+  pub synced : InTurn members w events sync_from sync_at p q (sync_messages b start rest)
+  -- 4. each Accept that p sent to q after that AcceptSync (or its parts),
   -- up to a last one, is delivered to q in the order of sending
   pub last : ℕ
   pub accept_at : ℕ → ℕ
