@@ -6,3 +6,4 @@ pub mod Starts
 pub mod StepBatches
 pub mod Asked
 pub mod Unread
+pub mod TwoRuns

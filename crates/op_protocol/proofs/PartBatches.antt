@@ -8,7 +8,11 @@ use Rattle.std.specs.Set.{is_member}
 use Rattle.op_types.specs.Limits.{positions_end}
 use Rattle.op_types.specs.Ballots.{no_ballot, is_below, is_same_ballot}
 use Rattle.op_types.specs.Changes.{len_of, part_with, durable_with, durable_after}
-use Rattle.op_types.specs.RoleStates.{without_reports, report_of}
+use Rattle.op_types.specs.RoleStates.{without_stage, told_by, without_reports, report_of}
+use Rattle.op_types.specs.Joinings.{Held, held_with}
+use Rattle.op_types.specs.Stages.{front_from}
+use Rattle.op_types.specs.declared.runs.PromisedRun.{PromisedRun}
+use Rattle.op_types.specs.declared.runs.SyncRun.{SyncRun}
 use Rattle.op_types.specs.declared.role.Report.{Report}
 use Rattle.op_types.specs.RoleStates as state
 use Rattle.op_types.specs.Roles.{Role, Idle, Preparing, Leading}
@@ -27,10 +31,10 @@ use Rattle.op_types.specs.declared.role.Promised.{Promised}
 use Rattle.op_types.specs.declared.verdict.Verdict.{Verdict}
 use Rattle.op_types.specs.declared.verdict.Verdict.TheVariants as verdict
 use Rattle.op_protocol.specs.State.{Volatile, PartStep, with_effects}
-use Rattle.op_protocol.specs.Parts.{IsOfPart, is_admitted_body, part_after, part_in_round, cutting, appending, others, answered}
+use Rattle.op_protocol.specs.Parts.{IsOfPart, is_run_to, is_admitted_body, part_after, part_in_round, cutting, appending, others, answered}
 use Rattle.op_protocol.specs.Promises.{has_quorum, is_usable, Choice, choice_changes, chosen_log}
-use Rattle.op_protocol.specs.Leader.{counted, count, first_leading, leading_with, adopt_with, prepares, lead, on_promise, on_accepted, on_prepare_req, extends, propose, on_forward_leading, on_forward, session_down}
-use Rattle.op_protocol.specs.Follower.{suffix_start, promise_higher, on_prepare, accepts, on_accept, on_accept_sync, on_decide}
+use Rattle.op_protocol.specs.Leader.{counted, count, first_leading, first_preparing, leading_with, adopt_with, prepares, lead, on_promise, promised_once, on_promise_part, on_accepted, on_prepare_req, extends, propose, on_forward_leading, on_forward, session_down}
+use Rattle.op_protocol.specs.Follower.{suffix_start, promise_higher, on_prepare, accepts, on_accept, sync_entries, on_accept_sync, synced_once, on_accept_sync_part, on_decide}
 use Rattle.op_protocol.specs.Trimming.{lesser, least_reported, trims, trims_reported, trim_now, on_progress, on_trim_ask, on_trim}
 use Rattle.op_protocol.specs.Reading.{on_confirm}
 use Rattle.op_protocol.specs.Tick.{elected, by_verdict, on_tick}
@@ -141,13 +145,22 @@ module _ (P : Change → Type 0) (limit : ℕ) (promised : Ballot) (may : RowsHa
   lead_of : (me : ℕ) (p : Part) (r : Role) (n : Ballot) → is_below promised n ≡ true → Are P (lead me p r n)
   lead_of me p r n above =
       let q : Part = part_with p (change.Promise n) in
-      let s : state.Preparing = record { ballot = n; promises = []; buffer = [] } in
+      let s : state.Preparing = first_preparing n in
       then_of (change.Promise n ∷ []) (prepares me q s) _ refl (one (change.Promise n) (may.promise n above)) (prepares_of me q s)
 
   promise_of_part : (me : ℕ) (p : Part) (r : Role) (n : Ballot) (k : Promised) → Are P (on_promise me p r n k)
   promise_of_part me p Idle n k = says none
   promise_of_part me p (Preparing r) n k = test (is_same_ballot n r.ballot && is_usable p k) _ _ (prepares_of me p _) (says none)
   promise_of_part me p (Leading l) n k = test (is_same_ballot n l.ballot) _ _ (says none) (says none)
+
+  once_of : (me : ℕ) (p : Part) (r : state.Preparing) (q : ℕ) (part : PromisedRun) (held : Held) (o : Option (List Entry)) → Are P (promised_once me p r q part held o)
+  once_of me p r q part held None = says none
+  once_of me p r q part held (Some es) = promise_of_part me p (Preparing (without_stage r q)) r.ballot (told_by q part es)
+
+  promise_part_of : (me : ℕ) (p : Part) (r : Role) (q : ℕ) (n : Ballot) (part : PromisedRun) → Are P (on_promise_part me p r q n part)
+  promise_part_of me p Idle q n part = says none
+  promise_part_of me p (Preparing r) q n part = test (is_same_ballot n r.ballot && (nat_le part.start part.at && is_run_to part.len part.at part.run)) _ _ (once_of me p r q part _ _) (says none)
+  promise_part_of me p (Leading l) q n part = test (part.at + length part.run == part.len) _ _ (promise_of_part me p (Leading l) n (told_by q part [])) (says none)
 
   accepted_of : (me : ℕ) (p : Part) (r : Role) (q : ℕ) (n : Ballot) (x : ℕ) → Are P (on_accepted me p r q n x)
   accepted_of me p Idle q n x = says none
@@ -202,12 +215,15 @@ module _ (P : Change → Type 0) (limit : ℕ) (promised : Ballot) (may : RowsHa
   accept_of : (p : Part) (r : Role) (q : ℕ) (n : Ballot) (at : ℕ) (es : List Entry) → Are P (on_accept p r q n at es)
   accept_of p r q n at es = test (is_same_ballot p.promised n && is_same_ballot p.accepted n) _ _ (test (nat_lt (len_of p) at) _ _ (says none) (accepts_of p r q n _ (appending_of _))) (says none)
 
+  sync_of : (p : Part) (r : Role) (q : ℕ) (n : Ballot) (x : ℕ) (es : List Entry) → Are P (sync_entries p r q n x es)
+  sync_of p r q n x es =
+      test (nat_le p.decided x && nat_le x (len_of p)) _ _
+      (accepts_of p r q n _ (both (cutting p x ++ appending es) (change.Accept n ∷ []) (both (cutting p x) (appending es) (cutting_of p x) (appending_of es)) (one (change.Accept n) (may.accept n))))
+      (says none)
+
   accept_sync_of : (p : Part) (r : Role) (q : ℕ) (n : Ballot) (x : ℕ) (es : List Entry) → Are P (on_accept_sync p r q n x es)
   accept_sync_of p r q n x es =
-      test (is_same_ballot p.promised n && is_below p.accepted n) _ _
-      (test (nat_le p.decided x && nat_le x (len_of p)) _ _
-      (accepts_of p r q n _ (both (cutting p x ++ appending es) (change.Accept n ∷ []) (both (cutting p x) (appending es) (cutting_of p x) (appending_of es)) (one (change.Accept n) (may.accept n))))
-      (says none))
+      test (is_same_ballot p.promised n && is_below p.accepted n) _ _ (sync_of p r q n x es)
       (accept_of p r q n x es)
 
   decide_of : (p : Part) (r : Role) (n : Ballot) (x : ℕ) → Are P (on_decide p r n x)
@@ -259,6 +275,19 @@ module _ (P : Change → Type 0) (limit : ℕ) (promised : Ballot) (may : RowsHa
   row : (v : Volatile) (e : Effects) → Are P e → StepIs P (with_effects v e)
   row v e of = record { changes = of.changes }
 
+  -- a follower's parts
+  synced_once_of : (p : Part) (v : Volatile) (q : ℕ) (n : Ballot) (x : ℕ) (held : Held) (o : Option (List Entry)) → StepIs P (synced_once p v q n x held o)
+  synced_once_of p v q n x held None = quiet none
+  synced_once_of p v q n x held (Some es) = quiet (sync_of p v.role q n x es).changes
+
+  accept_sync_part_of : (p : Part) (v : Volatile) (q : ℕ) (n : Ballot) (part : SyncRun) → StepIs P (on_accept_sync_part p v q n part)
+  accept_sync_part_of p v q n part =
+      either (is_same_ballot p.promised n && is_below p.accepted n) _ _
+      (either ((nat_le p.decided part.start && nat_le part.start (len_of p)) && (nat_le part.start part.at && is_run_to part.end part.at part.run)) _ _
+      (synced_once_of p v q n part.start _ _) (quiet none))
+      (either (is_same_ballot p.promised n && (is_same_ballot p.accepted n && is_run_to part.end part.at part.run)) _ _
+      (quiet (both (appending (front_from (held_with v.staged part.at part.run) (len_of p))) [] (appending_of (front_from (held_with v.staged part.at part.run) (len_of p))) none)) (quiet none))
+
   elected_of : (me : ℕ) (p : Part) (v : Volatile) (n : Ballot) → p.promised ≡ promised → StepIs P (elected me p v n)
   elected_of me p v n same =
       cond_both (is_below p.promised n) _ _ (StepIs P) (λ h. quiet (lead_of me p v.role n (subst (λ (b : Ballot). is_below b n ≡ true) same h)).changes) (λ _. quiet none)
@@ -277,6 +306,9 @@ module _ (P : Change → Type 0) (limit : ℕ) (promised : Ballot) (may : RowsHa
   body_of me p v q (body.Prepare n na nl nd) low same = row v _ (prepare_of p v.role q n na nl nd same)
   body_of me p v q (body.Promise n fa fl fd s es) low same = row v _ (promise_of_part me p v.role n _)
   body_of me p v q (body.AcceptSync n x es) low same = row v _ (accept_sync_of p v.role q n x es)
+  body_of me p v q (body.PromisePart n part) low same = row v _ (promise_part_of me p v.role q n part)
+  body_of me p v q (body.AcceptSyncPart n part) low same = accept_sync_part_of p v q n part
+  body_of me p v q (body.BasePiece x) low same = quiet none
   body_of me p v q (body.Accept n at es) low same = row v _ (accept_of p v.role q n at es)
   body_of me p v q (body.Accepted n x) low same = row v _ (accepted_of me p v.role q n x)
   body_of me p v q (body.Decide n x) low same = row v _ (decide_of p v.role n x)

@@ -1,6 +1,6 @@
 -- What the batch of any step has: it trims nothing that its node hadn't decided before, and it neither closes the part nor
 -- goes on to another.
-use Rattle.std.proofs.Common.{true, sym, subst, ◌⊎◌, inl, inr, refl, ◌∙◌, ◌≡◌, ◌≤◌, ℕ, ◌==◌, ◌&&◌, cond, not, is_some, List, [], ◌∷◌, All, Option, Some, None, ap, map, arith}
+use Rattle.std.proofs.Common.{true, sym, subst, ◌⊎◌, inr, refl, ◌∙◌, ◌≡◌, ◌≤◌, ℕ, ◌==◌, ◌&&◌, cond, not, is_some, List, [], ◌∷◌, All, Option, Some, None, ap, map, arith}
 use Rattle.std.proofs.lemmas.Bool.{cond_both}
 use Rattle.std.proofs.lemmas.List.Elements.{All-nil, All-cons, All-head, All-tail}
 use Rattle.std.specs.Prelude.{nat_lt, nat_le, nat_eq}
@@ -21,10 +21,11 @@ use Rattle.op_types.specs.declared.log.Entry.TheVariants as entry
 use Rattle.op_types.specs.declared.messages.Body.{Body}
 use Rattle.op_types.specs.declared.messages.Body.TheVariants as body
 use Rattle.op_types.specs.declared.messages.Msg.{Msg}
+use Rattle.op_types.specs.declared.runs.Piece.{Piece}
 use Rattle.op_protocol.specs.State.{Volatile, PartStep}
 use Rattle.op_protocol.specs.Parts.{part_after}
 use Rattle.op_protocol.specs.Configurations.{latest_of}
-use Rattle.op_protocol.specs.Joining.{begins, is_new_donor, joins}
+use Rattle.op_protocol.specs.Joining.{begins, is_new_donor, joins, takes_piece, on_base_piece}
 use Rattle.op_protocol.specs.Rows.{message_at, is_of_joining, may_be_above, on_latest, refusal_of, stop_for, entries_of, proposal_at, tick_at, trim_at, up_at, step_at, based}
 use Rattle.op_protocol.proofs.PartBatches.{RowsHave, StepIs, propose_is, session_down_is, session_up_is, trim_now_is, tick_is, message_is}
 
@@ -175,6 +176,10 @@ module _ (P : Change → Type 0) (limit : ℕ) (promised : Ballot) (has : StepsH
   message_has me None v q m k = quiet none
   message_has me (Some p) v q m k = message_is P limit promised has.rows me p v q m k.0 k.1
 
+  piece_has : (o : Option Joining) (v : Volatile) (c : ℕ) (p : Piece) → StepIs P (on_base_piece o v c p)
+  piece_has None v c p = quiet none
+  piece_has (Some j) v c p = either (StepIs P) (takes_piece j c p) _ _ (quiet none) (quiet none)
+
   latest_has : (me : ℕ) (d : Durable) (v : Volatile) (q c : ℕ) (b : Body) → IfWithin limit promised d.part → StepIs P (on_latest me d v q c b)
   latest_has me d v q c (body.NextConf members olds len trimmed) k =
       either (StepIs P) (is_member nat_eq members me && nat_lt (latest_of d) c) _ _ (quiet (joins_has d.joining q c members olds len trimmed)) (quiet none)
@@ -197,6 +202,9 @@ module _ (P : Change → Type 0) (limit : ℕ) (promised : Ballot) (has : StepsH
   latest_has me d v q c (body.Trim g) k = message_has me d.part v q _ k
   latest_has me d v q c (body.Confirm z g) k = message_has me d.part v q _ k
   latest_has me d v q c (body.Confirmed z g) k = message_has me d.part v q _ k
+  latest_has me d v q c (body.PromisePart z part) k = message_has me d.part v q _ k
+  latest_has me d v q c (body.AcceptSyncPart z part) k = message_has me d.part v q _ k
+  latest_has me d v q c (body.BasePiece p) k = piece_has d.joining v c p
   latest_has me d v q c (body.BasePart at bytes) k = message_has me d.part v q _ k
   latest_has me d v q c (body.Segment at es) k = message_has me d.part v q _ k
 

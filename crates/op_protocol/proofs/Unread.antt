@@ -40,4 +40,4 @@ brings_unread me s r x None = ap (λ (w : Waiting). plan_of me s w (step_at me s
 brings_unread me s r x (Some batch) = holds_unread me s r batch (durable_after s.durable batch).joining
 
 pub table_unread : (me : ℕ) (s : State) (r : Option Reads) (x : Input) → table_plan me (with_reads s r) x ≡ table_plan me s x
-table_unread me s r x = brings_unread me s r x (brought_by s.durable x)
+table_unread me s r x = brings_unread me s r x (brought_by s.durable s.volatile x)

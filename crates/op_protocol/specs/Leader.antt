@@ -11,6 +11,8 @@ use Rattle.op_types.specs.declared.durable.Part.{Part}
 use Rattle.op_types.specs.declared.messages.Msg.{Msg}
 use Rattle.op_types.specs.declared.messages.Body.{Body}
 use Rattle.op_types.specs.declared.messages.Body.TheVariants as body
+use Rattle.op_types.specs.Joinings.{Held}
+use Rattle.op_types.specs.declared.runs.PromisedRun.{PromisedRun}
 use Rattle.op_types.specs.declared.role.Promised.{Promised}
 use Rattle.op_types.specs.declared.role.Buffered.{Buffered}
 use Rattle.op_types.specs.declared.role.Acknowledged.{Acknowledged}
@@ -19,11 +21,11 @@ use Rattle.op_types.specs.declared.answers.Cause.{Cause}
 use Rattle.op_types.specs.declared.answers.Cause.TheVariants as cause
 use Rattle.op_types.specs.declared.answers.Outcome.TheVariants as outcome
 use Rattle.op_types.specs.RoleStates as state
-use Rattle.op_types.specs.RoleStates.{promise_of, with_promise, with_buffered, with_synced, without_synced, acknowledged_of, with_acknowledged}
+use Rattle.op_types.specs.RoleStates.{promise_of, with_promise, with_stage, without_stage, told_by, promised_entries, staged_with, with_buffered, with_synced, without_synced, acknowledged_of, with_acknowledged}
 use Rattle.op_types.specs.Roles.{Role, Idle, Preparing, Leading}
 use Rattle.op_types.specs.Effects.{Effects}
 use Rattle.op_quorum.specs.Quorums.{is_majority, passing}
-use Rattle.op_protocol.specs.Parts.{log_from, pending, part_in_round, appending, message, others, to_each, prepare_body, saying, nothing, first, answered}
+use Rattle.op_protocol.specs.Parts.{log_from, pending, part_in_round, appending, message, messages, others, to_each, sync_bodies, is_run_to, prepare_body, saying, nothing, first, answered}
 use Rattle.op_protocol.specs.Promises.{has_quorum, is_usable, Choice, own_choice, best, chosen_log, chosen_stop, chosen_len, choice_changes, fitting, left_over, dropped}
 
 -- ---- deciding
@@ -85,8 +87,7 @@ abbrev pub sync_sends : Part → state.Leading → Promised → List (ℕ × Msg
 sync_sends p l k =
     if nat_lt (sync_start l k) p.trimmed then message p.conf k.from (prepare_body p l.ballot) ∷ []
     else if nat_le (sync_start l k) (len_of p)
-    then message p.conf k.from
-    (body.AcceptSync l.ballot (sync_start l k) (log_from p (sync_start l k))) ∷ []
+    then messages p.conf k.from (sync_bodies l.ballot (sync_start l k) (log_from p (sync_start l k)))
     else []
 
 -- ---- adopting
@@ -153,13 +154,17 @@ given_up_by r why = []
 
 -- ---- the rows
 
+-- a node that begins to prepare a ballot
+abbrev pub first_preparing : Ballot → state.Preparing
+first_preparing n = record { ballot = n; promises = []; stages = []; buffer = [] }
+
 -- A ballot of its own is led: it is promised, the others are asked for their promises, and the own state
 -- counts as one. A node that is a majority by itself adopts at once.
 abbrev pub lead : ℕ → Part → Role → Ballot → Effects
 lead me p r n =
     first (change.Promise n ∷ []) (to_each p.conf (others me p.members) (prepare_body p n))
     (given_up_by r (cause.Ballot n))
-    (prepares me (part_with p (change.Promise n)) (record { ballot = n; promises = []; buffer = [] }))
+    (prepares me (part_with p (change.Promise n)) (first_preparing n))
 
 -- a promise comes: it is kept, or its sender is synced
 abbrev pub on_promise : ℕ → Part → Role → Ballot → Promised → Effects
@@ -170,6 +175,24 @@ on_promise me p (Preparing r) n k =
 on_promise me p (Leading l) n k =
     if is_same_ballot n l.ballot
     then saying (Leading (if is_synced p l k then with_synced l k.from else l)) (sync_sends p l k)
+    else nothing (Leading l)
+
+-- a promise counts once all of its entries have come; its parts then leave the stage
+abbrev pub promised_once : ℕ → Part → state.Preparing → ℕ → PromisedRun → Held → Option (List Entry) → Effects
+promised_once me p r q part held None = nothing (Preparing (with_stage r q held))
+promised_once me p r q part held (Some entries) =
+    on_promise me p (Preparing (without_stage r q)) r.ballot (told_by q part entries)
+
+-- a part of a promise is staged while the node prepares; once it leads,
+-- the last part counts as a promise with no entries
+abbrev pub on_promise_part : ℕ → Part → Role → ℕ → Ballot → PromisedRun → Effects
+on_promise_part me p Idle q n part = nothing Idle
+on_promise_part me p (Preparing r) q n part =
+    if is_same_ballot n r.ballot && (nat_le part.start part.at && is_run_to part.len part.at part.run)
+    then promised_once me p r q part (staged_with r q part) (promised_entries part (staged_with r q part))
+    else nothing (Preparing r)
+on_promise_part me p (Leading l) q n part =
+    if part.at + length part.run == part.len then on_promise me p (Leading l) n (told_by q part [])
     else nothing (Leading l)
 
 -- what is decided is told again, if anything is

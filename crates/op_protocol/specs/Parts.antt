@@ -1,12 +1,15 @@
 -- Words of a part: its log, what changes make of it, messages to its members, and rows that do little.
 use Rattle.std.specs.Prelude.{◌==◌, ◌&&◌, ℕ, ◌+◌, ◌-◌, nat_lt, nat_le, Bool, true, not, List, [], ◌∷◌, ◌++◌, length, take, drop, map, filter, Option, Some, None, is_some, if◌then◌else◌}
 use Rattle.op_types.specs.Limits.{positions_end, last_conf}
+use Rattle.op_types.specs.Cutting.{whole_or_parts}
 use Rattle.op_types.specs.Changes.{len_of, part_with}
 use Rattle.op_types.specs.declared.ballot.Ballot.{Ballot}
 use Rattle.op_types.specs.declared.changes.Change.{Change}
 use Rattle.op_types.specs.declared.changes.Change.TheVariants as change
 use Rattle.op_types.specs.declared.log.Entry.{Entry}
 use Rattle.op_types.specs.declared.durable.Part.{Part}
+use Rattle.op_types.specs.declared.runs.PromisedRun.{PromisedRun}
+use Rattle.op_types.specs.declared.runs.SyncRun.{SyncRun}
 use Rattle.op_types.specs.declared.messages.Msg.{Msg}
 use Rattle.op_types.specs.declared.messages.Body.{Body}
 use Rattle.op_types.specs.declared.messages.Body.TheVariants as body
@@ -46,6 +49,8 @@ abbrev pub is_admitted_body : Part → Body → Bool
 is_admitted_body p (body.Promise n fa fl fd s entries) = is_admitted p s entries
 is_admitted_body p (body.AcceptSync n x entries) = is_admitted p x entries
 is_admitted_body p (body.Accept n at entries) = is_admitted p at entries
+is_admitted_body p (body.PromisePart n part) = is_admitted p part.at part.run
+is_admitted_body p (body.AcceptSyncPart n part) = is_admitted p part.at part.run
 is_admitted_body p (body.Forward e) = is_admitted p 0 (e ∷ [])
 is_admitted_body p (body.Forwards entries) = not (has_stop entries)
 is_admitted_body p _ = true
@@ -90,6 +95,10 @@ decided_since old new = drop (old.decided - new.trimmed) (take (new.decided - ne
 abbrev pub message : ℕ → ℕ → Body → ℕ × Msg
 message conf q b = (q, record { conf = conf; body = b })
 
+-- these messages to it, in this order
+abbrev pub messages : ℕ → ℕ → List Body → List (ℕ × Msg)
+messages conf q bodies = map (λ b. message conf q b) bodies
+
 -- the members but the node
 abbrev pub others : ℕ → List ℕ → List ℕ
 others me members = filter (λ q. not (q == me)) members
@@ -101,6 +110,40 @@ to_each conf pids b = map (λ q. message conf q b) pids
 -- the leader of a ballot asks for a promise
 abbrev pub prepare_body : Part → Ballot → Body
 prepare_body p n = body.Prepare n p.accepted (len_of p) p.decided
+
+-- ---- messages in parts
+
+-- a run of an AcceptSync's entries
+abbrev pub sync_run : ℕ → List Entry → ℕ → List Entry → SyncRun
+sync_run start entries at run = record { start = start; end = start + length entries; at = at; run = run }
+
+-- what brings an AcceptSync: itself, or its parts in order
+abbrev pub sync_bodies : Ballot → ℕ → List Entry → List Body
+sync_bodies n start entries =
+    whole_or_parts (body.AcceptSync n start entries)
+    (λ at run. body.AcceptSyncPart n (sync_run start entries at run)) start entries
+
+-- a run of a promise's entries, which begin there
+abbrev pub promised_run : Part → ℕ → ℕ → List Entry → PromisedRun
+promised_run p start at run =
+    record {
+      accepted = p.accepted;
+      len = len_of p;
+      decided = p.decided;
+      start = start;
+      at = at;
+      run = run;
+    }
+
+-- what brings a promise that tells the log from there on: itself, or its parts in order
+abbrev pub promise_bodies : Part → Ballot → ℕ → List Body
+promise_bodies p n start =
+    whole_or_parts (body.Promise n p.accepted (len_of p) p.decided start (log_from p start))
+    (λ at run. body.PromisePart n (promised_run p start at run)) start (log_from p start)
+
+-- a run that isn't empty, and ends at most there
+abbrev pub is_run_to : ℕ → ℕ → List Entry → Bool
+is_run_to end at run = nat_lt 0 (length run) && nat_le (at + length run) end
 
 -- ---- rows that do little
 

@@ -28,14 +28,14 @@ use Rattle.op_spec.specs.Service.{base_bytes}
 use Rattle.op_protocol.specs.State.{State, Volatile, Waiting, PartStep, with_effects, Planned}
 use Rattle.op_protocol.specs.Serving.{Served, serving, waiting_with, Dropping, dropping}
 use Rattle.op_protocol.specs.Parts.{pending, is_admitted, is_admitted_body, part_after, decided_since, others, message, nothing, saying}
-use Rattle.op_protocol.specs.Leader.{on_promise, on_accepted, on_prepare_req, on_forward, session_down, propose}
-use Rattle.op_protocol.specs.Follower.{on_prepare, on_accept_sync, on_accept, on_decide}
+use Rattle.op_protocol.specs.Leader.{on_promise, on_promise_part, on_accepted, on_prepare_req, on_forward, session_down, propose}
+use Rattle.op_protocol.specs.Follower.{on_prepare, on_accept_sync, on_accept_sync_part, on_accept, on_decide}
 use Rattle.op_protocol.specs.Tick.{remembering, on_tick, on_heartbeat_request, on_heartbeat_reply, on_refuse}
 use Rattle.op_protocol.specs.Bases.{service_at}
 use Rattle.op_protocol.specs.Trimming.{trim_now, on_progress, on_trim_ask, on_trim}
 use Rattle.op_protocol.specs.Configurations.{latest_of, latest_members, next_conf_message, closing}
 use Rattle.op_protocol.specs.Reading.{on_confirm, reading}
-use Rattle.op_protocol.specs.Joining.{on_next_conf, asks, gives_base, gives_segment, brought_to, holds_more}
+use Rattle.op_protocol.specs.Joining.{on_next_conf, asks, gives_base, gives_segment, brought_to, on_base_piece, holds_more}
 
 -- ---- messages at a part
 
@@ -48,6 +48,8 @@ on_body me p v q (body.Promise n fa fl fd s entries) =
     with_effects v (on_promise me p v.role n
     (record { from = q; accepted = fa; len = fl; decided = fd; start = s; entries = entries }))
 on_body me p v q (body.AcceptSync n x entries) = with_effects v (on_accept_sync p v.role q n x entries)
+on_body me p v q (body.PromisePart n part) = with_effects v (on_promise_part me p v.role q n part)
+on_body me p v q (body.AcceptSyncPart n part) = on_accept_sync_part p v q n part
 on_body me p v q (body.Accept n at entries) = with_effects v (on_accept p v.role q n at entries)
 on_body me p v q (body.Accepted n x) = with_effects v (on_accepted me p v.role q n x)
 on_body me p v q (body.Decide n x) = with_effects v (on_decide p v.role n x)
@@ -78,6 +80,7 @@ abbrev pub is_of_joining : Body → Bool
 is_of_joining (body.NextConf members olds len trimmed) = true
 is_of_joining body.AskBase = true
 is_of_joining (body.BasePart at bytes) = true
+is_of_joining (body.BasePiece p) = true
 is_of_joining (body.AskSegment from to) = true
 is_of_joining (body.Segment at entries) = true
 is_of_joining _ = false
@@ -86,6 +89,7 @@ is_of_joining _ = false
 abbrev pub may_be_above : Body → Bool
 may_be_above (body.NextConf members olds len trimmed) = true
 may_be_above (body.BasePart at bytes) = true
+may_be_above (body.BasePiece p) = true
 may_be_above (body.Segment at entries) = true
 may_be_above _ = false
 
@@ -115,6 +119,7 @@ on_latest me d v q c (body.NextConf members olds len trimmed) =
     on_next_conf me d v q c members olds len trimmed
 on_latest me d v q c body.AskBase = remembering v (gives_base d.closed q c)
 on_latest me d v q c (body.AskSegment from to) = remembering v (gives_segment d.closed q c from to)
+on_latest me d v q c (body.BasePiece p) = on_base_piece d.joining v c p
 on_latest me d v q c b = message_at me d.part v q (record { conf = c; body = b })
 
 -- A message comes. A node that joins handles only what is of joining; of the others, those of an older
@@ -127,10 +132,10 @@ message_step me d v q m =
     else on_latest me d v q m.conf m.body
 
 -- the changes by which a node that joins holds what an input brings, if it brings something that it takes
-abbrev pub brought_by : Durable → Input → Option (List Change)
-brought_by d (input.Deliver q m) =
-    if nat_lt m.conf (latest_of d) then None else brought_to d.joining m.conf m.body
-brought_by d x = None
+abbrev pub brought_by : Durable → Volatile → Input → Option (List Change)
+brought_by d v (input.Deliver q m) =
+    if nat_lt m.conf (latest_of d) then None else brought_to d.joining v.pieces m.conf m.body
+brought_by d v x = None
 
 -- ---- proposals
 
@@ -299,7 +304,7 @@ step_bringing me s x (Some batch) = holds_more me s batch
 
 -- the plan of a step without its reads: it keeps none, and answers none
 abbrev pub table_plan : ℕ → State → Input → Planned
-table_plan me s x = step_bringing me s x (brought_by s.durable x)
+table_plan me s x = step_bringing me s x (brought_by s.durable s.volatile x)
 
 -- a node's step: what comes of its reads is put in
 abbrev pub step_plan : ℕ → State → Input → Planned

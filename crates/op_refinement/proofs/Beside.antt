@@ -43,7 +43,7 @@ IfStatus messages soup me s (Failed count after) life = StoppedAs messages soup 
 -- a node is the server of its id
 pub record NodeRel (first : List ℕ) (ks : List Happening) (messages : List Sent) (n : Node) : Type 0 where
   pub low : n.pid < pure.owner_count
-  pub rel : StateRel (lists_of first ks) n.state.durable n.state.volatile.role (state_of first ks n.pid)
+  pub rel : StateRel (lists_of first ks) n.state.durable n.state.volatile (state_of first ks n.pid)
   pub serves : IfServes (lists_of first ks) n.state.service (state_of first ks n.pid).part
   pub status : IfStatus messages (world_of first ks).soup n.pid n.state n.status ((world_of first ks).servers n.pid).life
 
@@ -89,7 +89,7 @@ module _ (first : List ℕ) (ks late : List Happening) (p : ℕ) (g : Goes first
       let same : (world_of first (ks ++ late)).servers j.pid ≡ (world_of first ks).servers j.pid = g.others j.pid d in
       record {
         low = k.low;
-        rel = subst (λ (sv : Server). StateRel (lists_of first (ks ++ late)) j.state.durable j.state.volatile.role sv.state) (sym same) (state_on first ks late j.pid j.state.durable j.state.volatile.role k.rel);
+        rel = subst (λ (sv : Server). StateRel (lists_of first (ks ++ late)) j.state.durable j.state.volatile sv.state) (sym same) (state_on first ks late j.pid j.state.durable j.state.volatile k.rel);
         serves = subst (λ (sv : Server). IfServes (lists_of first (ks ++ late)) j.state.service sv.state.part) (sym same) (serves_on first ks late j.pid j.state.service k.serves);
         status = subst (λ (sv : Server). IfStatus (messages ++ more) (world_of first (ks ++ late)).soup j.pid j.state j.status sv.life) (sym same)
             (subst (λ (soup : List Letter). IfStatus (messages ++ more) soup j.pid j.state j.status ((world_of first ks).servers j.pid).life) (sym g.soup)

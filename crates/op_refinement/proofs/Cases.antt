@@ -20,6 +20,7 @@ use Rattle.op_configurations.specs.Worlds.{inner_of}
 use Rattle.op_configurations.specs.Stored.{HoldsIfJoining}
 use Rattle.op_refinement.proofs.Pure as pure
 use Rattle.op_refinement.proofs.Lookups.{is_member-filtered}
+use Rattle.op_refinement.proofs.TrimRows.{row_matches}
 use Rattle.op_refinement.proofs.PartRows.{propose_goes, up_goes, down_goes}
 use Rattle.op_refinement.proofs.Relation.{PartRel, all_before, IfPartRel, AreLetters, StepRel}
 use Rattle.op_refinement.proofs.Inputs.{NodeFacts, step_by, proposal_event, WholeAfter, rest_rel, rest_partless, known_there, acted_there, quiet_calm, trim_now_there}
@@ -40,9 +41,9 @@ module _ (lists : ℕ → List Entry) (soup : List Letter) (me : ℕ) (f : Fate)
   pub trim_now_rel : WholeAfter lists (acted_in f me st st.part pure.TrimNow) → StepRel lists me f s.durable (plan_of me s s.waiting (trim_at me s.durable.part s.volatile)) (acted_in f me st st.part pure.TrimNow)
   trim_now_rel w = by s.durable.part refl st.part refl (k.rel).part w
     where
-      by : (d : Option StoredPart) → s.durable.part ≡ d → (o : Option Part) → st.part ≡ o → IfPartRel lists d s.volatile.role o → WholeAfter lists (acted_in f me st o pure.TrimNow)
+      by : (d : Option StoredPart) → s.durable.part ≡ d → (o : Option Part) → st.part ≡ o → IfPartRel lists d s.volatile o → WholeAfter lists (acted_in f me st o pure.TrimNow)
           → StepRel lists me f s.durable (plan_of me s s.waiting (trim_at me d s.volatile)) (acted_in f me st o pure.TrimNow)
-      by None hs None ht r w = rest_partless lists soup me f s st k s.waiting (trim_at me None s.volatile) refl hs [] tt
+      by None hs None ht r w = rest_partless lists soup me f s st k s.waiting (trim_at me None s.volatile) refl hs refl [] tt
       by None hs (Some pt) ht r w = absurd r
       by (Some p) hs None ht r w = absurd r
       by (Some p) hs (Some pt) ht r w = trim_now_there lists soup me f s st k p pt hs ht r w
@@ -64,12 +65,12 @@ module _ (lists : ℕ → List Entry) (soup : List Letter) (me : ℕ) (f : Fate)
       x : PartStep
       x = with_effects s.volatile (session_down s.volatile.role q)
 
-      by : (d : Option StoredPart) → s.durable.part ≡ d → (o : Option Part) → st.part ≡ o → IfPartRel lists d s.volatile.role o → WholeAfter lists (acted_in f me st o (pure.Down q)) → StepRel lists me f s.durable (plan_of me s s.waiting x) (acted_in f me st o (pure.Down q))
-      by None hs None ht r w = rest_partless lists soup me f s st k s.waiting x (bare s.volatile.role) hs [] (silent s.volatile.role)
+      by : (d : Option StoredPart) → s.durable.part ≡ d → (o : Option Part) → st.part ≡ o → IfPartRel lists d s.volatile o → WholeAfter lists (acted_in f me st o (pure.Down q)) → StepRel lists me f s.durable (plan_of me s s.waiting x) (acted_in f me st o (pure.Down q))
+      by None hs None ht r w = rest_partless lists soup me f s st k s.waiting x (bare s.volatile.role) hs refl [] (silent s.volatile.role)
       by None hs (Some pt) ht r w = absurd r
       by (Some p) hs None ht r w = absurd r
       by (Some p) hs (Some pt) ht r w =
-          acted_there lists soup me f s st k p pt hs ht r 0 (pure.Down q) tt s.waiting x (inl (down_goes (inner_of p.conf soup) me r.front p s.volatile (known_there lists soup me f s st k p pt hs ht r) q))
+          acted_there lists soup me f s st k p pt hs ht r 0 (pure.Down q) tt s.waiting x (row_matches r.front me p s.volatile _ _ (inl (down_goes (inner_of p.conf soup) me r.front p s.volatile (known_there lists soup me f s st k p pt hs ht r) q)))
           (inr (quiet_calm lists soup me f s st k p pt hs ht r (pure.Down q) tt)) w
 
   -- ---- a proposal
@@ -88,14 +89,14 @@ module _ (lists : ℕ → List Entry) (soup : List Letter) (me : ℕ) (f : Fate)
       subst (λ (o : Stepped). StepRel lists me f s.durable (plan_of me s waiting (proposal_at me s.durable.part s.volatile e None)) o) (sym is)
       (by s.durable.part refl st.part refl (k.rel).part (subst (WholeAfter lists) is w))
     where
-      by : (d : Option StoredPart) → s.durable.part ≡ d → (o : Option Part) → st.part ≡ o → IfPartRel lists d s.volatile.role o → WholeAfter lists (acted_in f me st o (pure.Proposal e))
+      by : (d : Option StoredPart) → s.durable.part ≡ d → (o : Option Part) → st.part ≡ o → IfPartRel lists d s.volatile o → WholeAfter lists (acted_in f me st o (pure.Proposal e))
           → StepRel lists me f s.durable (plan_of me s waiting (proposal_at me d s.volatile e None)) (acted_in f me st o (pure.Proposal e))
       by None hs o ht r w = absurd (partless_refuses me s e hs h)
       by (Some p) hs None ht r w = absurd r
       by (Some p) hs (Some pt) ht r w =
           let u = unrefused me s.volatile.role s.durable e h p hs in
           acted_there lists soup me f s st k p pt hs ht r 0 (pure.Proposal e) tt waiting (with_effects s.volatile (propose me p s.volatile.role e))
-          (inl (propose_goes (inner_of p.conf soup) me r.front p s.volatile (known_there lists soup me f s st k p pt hs ht r) e (u.0).free ends (u.0).room))
+          (row_matches r.front me p s.volatile _ _ (inl (propose_goes (inner_of p.conf soup) me r.front p s.volatile (known_there lists soup me f s st k p pt hs ht r) e (u.0).free ends (u.0).room)))
           (inl (both_join s.durable.joining st.joining (k.rel).joining u.1, u.1)) w
 
   -- ---- a session begins
@@ -105,16 +106,16 @@ module _ (lists : ℕ → List Entry) (soup : List Letter) (me : ℕ) (f : Fate)
   pub up_rel : (q : ℕ) → WholeAfter lists (server.links_in f me st st.joining q st.part) → StepRel lists me f s.durable (plan_of me s s.waiting (up_at me s.durable.part s.durable.joining s.volatile q)) (server.links_in f me st st.joining q st.part)
   up_rel q w = joins s.durable.joining refl st.joining refl (k.rel).joining w
     where
-      at_part : (p : StoredPart) (pt : Part) → s.durable.part ≡ Some p → st.part ≡ Some pt → (r : PartRel (all_before lists pt.conf) p s.volatile.role pt) → s.durable.joining ≡ None → st.joining ≡ None → (b c : Bool) → b ≡ c → WholeAfter lists (cond c (acted f me st pt 0 (pure.Up q)) (unchanged st))
+      at_part : (p : StoredPart) (pt : Part) → s.durable.part ≡ Some p → st.part ≡ Some pt → (r : PartRel (all_before lists pt.conf) p s.volatile pt) → s.durable.joining ≡ None → st.joining ≡ None → (b c : Bool) → b ≡ c → WholeAfter lists (cond c (acted f me st pt 0 (pure.Up q)) (unchanged st))
           → StepRel lists me f s.durable (plan_of me s s.waiting (with_effects s.volatile (cond b (saying s.volatile.role (message p.conf q body.PrepareReq ∷ [])) (nothing s.volatile.role)))) (cond c (acted f me st pt 0 (pure.Up q)) (unchanged st))
       at_part p pt hs ht r hj tj true true e w =
           acted_there lists soup me f s st k p pt hs ht r 0 (pure.Up q) tt s.waiting (with_effects s.volatile (saying s.volatile.role (message p.conf q body.PrepareReq ∷ [])))
-          (inl (up_goes (inner_of p.conf soup) me r.front p s.volatile (known_there lists soup me f s st k p pt hs ht r) q)) (inl (tj, hj)) w
+          (row_matches r.front me p s.volatile _ _ (inl (up_goes (inner_of p.conf soup) me r.front p s.volatile (known_there lists soup me f s st k p pt hs ht r) q))) (inl (tj, hj)) w
       at_part p pt hs ht r hj tj false false e w = rest_rel lists soup me f s st k s.waiting (with_effects s.volatile (nothing s.volatile.role)) refl [] refl tt
       at_part p pt hs ht r hj tj true false e w = absurd (both_ways true (e) refl)
       at_part p pt hs ht r hj tj false true e w = absurd (both_ways false refl e)
 
-      parts : s.durable.joining ≡ None → st.joining ≡ None → (d : Option StoredPart) → s.durable.part ≡ d → (o : Option Part) → st.part ≡ o → IfPartRel lists d s.volatile.role o → WholeAfter lists (server.links_in f me st None q o)
+      parts : s.durable.joining ≡ None → st.joining ≡ None → (d : Option StoredPart) → s.durable.part ≡ d → (o : Option Part) → st.part ≡ o → IfPartRel lists d s.volatile o → WholeAfter lists (server.links_in f me st None q o)
           → StepRel lists me f s.durable (plan_of me s s.waiting (up_at me d None s.volatile q)) (server.links_in f me st None q o)
       parts hj tj None hs None ht r w = rest_rel lists soup me f s st k s.waiting (up_at me None None s.volatile q) refl [] refl tt
       parts hj tj None hs (Some pt) ht r w = absurd r

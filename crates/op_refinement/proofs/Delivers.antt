@@ -23,11 +23,11 @@ use Rattle.op_configurations.specs.Worlds.{inner_of, place_in}
 use Rattle.op_configurations.proofs.PartFacts.{Comable}
 use Rattle.op_configurations.proofs.Inside.{inner_place}
 use Rattle.op_refinement.proofs.Pure as pure
-use Rattle.op_refinement.proofs.View.{view, view_body}
-use Rattle.op_refinement.proofs.TrimRows.{MatchesTo}
-use Rattle.op_refinement.proofs.PartRows.{effects_in, body_matches}
+use Rattle.op_refinement.proofs.View.{node_of, view_body}
+use Rattle.op_refinement.proofs.TrimRows.{StepMatches}
+use Rattle.op_refinement.proofs.PartRows.{body_matches}
 use Rattle.op_refinement.proofs.Relation.{PartRel, all_before, IsSaid, IsLetter, StepRel}
-use Rattle.op_refinement.proofs.Inputs.{NodeFacts, counts_at, is_past, event_of, step_by, WholeAfter, rest_rel, known_there, acted_there}
+use Rattle.op_refinement.proofs.Inputs.{NodeFacts, counts_at, is_past, delivery_event, step_by, WholeAfter, rest_rel, known_there, acted_there}
 
 none_some : {A : Type 0} (a : A) → None ≡ Some a → ⊥
 none_some a e = cc
@@ -46,6 +46,8 @@ said_of lists conf (body.Confirmed n r) y m pos e k = absurd (none_some m e)
 said_of lists conf (body.Prepare n na nl nd) y m pos e k = k.2 ∙ ap server.Inner (some_is k.0 m (sym k.1 ∙ e))
 said_of lists conf (body.Promise n fa fl fd s es) y m pos e k = k.2 ∙ ap server.Inner (some_is k.0 m (sym k.1 ∙ e))
 said_of lists conf (body.AcceptSync n x es) y m pos e k = k.2 ∙ ap server.Inner (some_is k.0 m (sym k.1 ∙ e))
+said_of lists conf (body.PromisePart n part) y m pos e k = k.2 ∙ ap server.Inner (some_is k.0 m (sym k.1 ∙ e))
+said_of lists conf (body.AcceptSyncPart n part) y m pos e k = k.2 ∙ ap server.Inner (some_is k.0 m (sym k.1 ∙ e))
 said_of lists conf (body.Accept n a es) y m pos e k = k.2 ∙ ap server.Inner (some_is k.0 m (sym k.1 ∙ e))
 said_of lists conf (body.Accepted n x) y m pos e k = k.2 ∙ ap server.Inner (some_is k.0 m (sym k.1 ∙ e))
 said_of lists conf (body.Decide n x) y m pos e k = k.2 ∙ ap server.Inner (some_is k.0 m (sym k.1 ∙ e))
@@ -60,6 +62,7 @@ said_of lists conf (body.Trim x) y m pos e k = k.2 ∙ ap server.Inner (some_is 
 said_of lists conf (body.NextConf members olds len trimmed) y m pos e k = absurd (none_some m e)
 said_of lists conf body.AskBase y m pos e k = absurd (none_some m e)
 said_of lists conf (body.BasePart at bytes) y m pos e k = absurd (none_some m e)
+said_of lists conf (body.BasePiece piece) y m pos e k = absurd (none_some m e)
 said_of lists conf (body.AskSegment from to) y m pos e k = absurd (none_some m e)
 said_of lists conf (body.Segment at es) y m pos e k = absurd (none_some m e)
 
@@ -72,6 +75,8 @@ latest_inner me d v q c (body.Confirmed n r) m e = refl
 latest_inner me d v q c (body.Prepare n na nl nd) m e = refl
 latest_inner me d v q c (body.Promise n fa fl fd s es) m e = refl
 latest_inner me d v q c (body.AcceptSync n x es) m e = refl
+latest_inner me d v q c (body.PromisePart n part) m e = refl
+latest_inner me d v q c (body.AcceptSyncPart n part) m e = refl
 latest_inner me d v q c (body.Accept n a es) m e = refl
 latest_inner me d v q c (body.Accepted n x) m e = refl
 latest_inner me d v q c (body.Decide n x) m e = refl
@@ -85,6 +90,7 @@ latest_inner me d v q c (body.Trim x) m e = refl
 latest_inner me d v q c (body.NextConf members olds len trimmed) m e = absurd (none_some m e)
 latest_inner me d v q c body.AskBase m e = absurd (none_some m e)
 latest_inner me d v q c (body.BasePart at bytes) m e = refl
+latest_inner me d v q c (body.BasePiece piece) m e = absurd (none_some m e)
 latest_inner me d v q c (body.AskSegment from to) m e = absurd (none_some m e)
 latest_inner me d v q c (body.Segment at es) m e = refl
 
@@ -97,6 +103,8 @@ counts_inner p (body.Confirmed n r) m e = absurd (none_some m e)
 counts_inner p (body.Prepare n na nl nd) m e = refl
 counts_inner p (body.Promise n fa fl fd s es) m e = refl
 counts_inner p (body.AcceptSync n x es) m e = refl
+counts_inner p (body.PromisePart n part) m e = refl
+counts_inner p (body.AcceptSyncPart n part) m e = refl
 counts_inner p (body.Accept n a es) m e = refl
 counts_inner p (body.Accepted n x) m e = refl
 counts_inner p (body.Decide n x) m e = refl
@@ -110,12 +118,13 @@ counts_inner p (body.Trim x) m e = refl
 counts_inner p (body.NextConf members olds len trimmed) m e = absurd (none_some m e)
 counts_inner p body.AskBase m e = absurd (none_some m e)
 counts_inner p (body.BasePart at bytes) m e = refl
+counts_inner p (body.BasePiece piece) m e = refl
 counts_inner p (body.AskSegment from to) m e = absurd (none_some m e)
 counts_inner p (body.Segment at es) m e = refl
 
 module _ (lists : ℕ → List Entry) (soup : List Letter) (me : ℕ) (f : Fate) (s : table.State) (st : State) (k : NodeFacts lists soup me s st) (q : ℕ) (msg : Msg) (n : ℕ) (m : Letter)
     (sent : slice_get soup n ≡ Some m) (is : IsLetter lists (record { from = q; to = me; message = msg }) m) (p : StoredPart) (pt : Part) (hs : s.durable.part ≡ Some p) (ht : st.part ≡ Some pt)
-    (r : PartRel (all_before lists pt.conf) p s.volatile.role pt) (hj : s.durable.joining ≡ None) (tj : st.joining ≡ None) (here : msg.conf ≡ p.conf) (y : pure.Msg) (e : view_body msg.body ≡ Some y) where
+    (r : PartRel (all_before lists pt.conf) p s.volatile pt) (hj : s.durable.joining ≡ None) (tj : st.joining ≡ None) (here : msg.conf ≡ p.conf) (y : pure.Msg) (e : view_body msg.body ≡ Some y) where
   above : 0 < m.conf
   above = omega (arith, is.conf, here, r.conf, k.above pt ht)
 
@@ -130,10 +139,10 @@ module _ (lists : ℕ → List Entry) (soup : List Letter) (me : ℕ) (f : Fate)
             (at ∙ ap (λ (a : ℕ). Some (pure.packet a m.to y)) (sym is.from) ∙ ap (λ (a : ℕ). Some (pure.packet q a y)) (sym is.to)),
       )
 
-  matches : is_admitted_body p msg.body ≡ true → MatchesTo r.front me p (effects_in (on_body me p s.volatile q msg.body)) (pure.step p.members me (view r.front p s.volatile.role) (pure.Comes q y))
+  matches : is_admitted_body p msg.body ≡ true → StepMatches r.front me p s.volatile (on_body me p s.volatile q msg.body) (pure.step p.members me (node_of r.front p s.volatile) (pure.Comes q y))
   matches ok =
       let b = body_matches (inner_of p.conf soup) me r.front p s.volatile (known_there lists soup me f s st k p pt hs ht r) q msg.body is.small ok in
-      (subst (λ (o : Option pure.Msg). IfSome o (λ z. Comable (inner_of p.conf soup) me (pure.Comes q z) → MatchesTo r.front me p (effects_in (on_body me p s.volatile q msg.body)) (pure.step p.members me (view r.front p s.volatile.role) (pure.Comes q z)))) e b) comable
+      (subst (λ (o : Option pure.Msg). IfSome o (λ z. Comable (inner_of p.conf soup) me (pure.Comes q z) → StepMatches r.front me p s.volatile (on_body me p s.volatile q msg.body) (pure.step p.members me (node_of r.front p s.volatile) (pure.Comes q z)))) e b) comable
 
   -- the row of the message
   pub row_rel : is_admitted_body p msg.body ≡ true → WholeAfter lists (acted f me st pt n (pure.Comes q y)) → StepRel lists me f s.durable (plan_of me s s.waiting (on_body me p s.volatile q msg.body)) (acted f me st pt n (pure.Comes q y))
@@ -162,17 +171,17 @@ module _ (lists : ℕ → List Entry) (soup : List Letter) (me : ℕ) (f : Fate)
           cond (ltb msg.conf (latest_of s.durable)) (remembering s.volatile (Rattle.op_protocol.specs.Rows.on_older s.durable s.durable.closed q))
           (cond (ltb (latest_of s.durable) msg.conf && not (may_be_above msg.body)) (remembering s.volatile (Rattle.op_protocol.specs.Rows.on_newer s.durable q msg.body)) (on_latest me s.durable s.volatile q msg.conf msg.body))
 
-  brings_nothing : brought_by s.durable (input.Deliver q msg) ≡ None
+  brings_nothing : brought_by s.durable s.volatile (input.Deliver q msg) ≡ None
   brings_nothing = by (ltb msg.conf (latest_of s.durable)) ∙ refl
     where
-      none_of : (o : Option StoredJoining) → o ≡ None → brought_to o msg.conf msg.body ≡ None
+      none_of : (o : Option StoredJoining) → o ≡ None → brought_to o s.volatile.pieces msg.conf msg.body ≡ None
       none_of None x = refl
       none_of (Some j) x = absurd (differ j x)
         where
           differ : (j : StoredJoining) → Some j ≡ None → ⊥
           differ j x = cc
 
-      by : (b : Bool) → cond b None (brought_to s.durable.joining msg.conf msg.body) ≡ None
+      by : (b : Bool) → cond b None (brought_to s.durable.joining s.volatile.pieces msg.conf msg.body) ≡ None
       by true = refl
       by false = none_of s.durable.joining hj
 
@@ -227,7 +236,7 @@ module _ (lists : ℕ → List Entry) (soup : List Letter) (me : ℕ) (f : Fate)
       ∙ ap (λ (b : Bool). b && not (counts_at p msg.body)) (eq-eqb msg.conf p.conf here) ∙ ap not (counts_inner p msg.body y e)
 
   -- a message inside the part's configuration
-  pub inner_rel : WholeAfter lists (step_by f me st (event_of me s n m (input.Deliver q msg))) → StepRel lists me f s.durable (table_plan me s (input.Deliver q msg)) (step_by f me st (event_of me s n m (input.Deliver q msg)))
+  pub inner_rel : WholeAfter lists (step_by f me st (delivery_event s n m msg None)) → StepRel lists me f s.durable (table_plan me s (input.Deliver q msg)) (step_by f me st (delivery_event s n m msg None))
   unfolding server.step
   inner_rel w =
       subst (λ (b : Bool). WholeAfter lists (step_by f me st (cond b None (Some (server.Reads n m)))) → StepRel lists me f s.durable (table_plan me s (input.Deliver q msg)) (step_by f me st (cond b None (Some (server.Reads n m))))) (sym is_past_here)

@@ -1,19 +1,27 @@
 -- What a node answers from its closed list: news of the next configuration, its base, and its entries.
-use Rattle.std.proofs.Common.{◌≡◌, ◌≤◌, ℕ, zero, suc, ◌+◌, ◌-◌, Bool, true, false, ◌&&◌, eqb, nat_eq, nat_lt, nat_le, is_some, List, [], ◌∷◌, ◌++◌, length, take, drop, Option, Some, None, refl, sym, ap, ◌∙◌, arith}
+use Rattle.std.proofs.Common.{◌≡◌, ◌<◌, ◌≤◌, ℕ, zero, suc, ◌+◌, ◌-◌, ◌*◌, min, Bool, true, false, cond, ◌&&◌, eqb, nat_eq, nat_lt, nat_le, is_some, List, [], ◌∷◌, ◌++◌, length, take, drop, Option, Some, None, refl, sym, ap, ◌∙◌, subst, arith, length-take}
+use Rattle.std.specs.Prelude.{◌/◌}
 use Rattle.std.specs.Set.{is_member}
-use Rattle.std.proofs.lemmas.Bool.{cond_both, eqb-true, and_parts}
+use Rattle.std.proofs.lemmas.Bool.{cond_both, eqb-true, and_parts, le-ltb, lt-ltb}
 use Rattle.std.proofs.lemmas.List.{length-drop}
 use Rattle.op_types.specs.Changes.{closed_len}
+use Rattle.op_types.specs.Limits.{most_part_bytes}
+use Rattle.op_types.specs.Cutting.{parts_from, cut}
+use Rattle.op_types.specs.declared.runs.Piece.{Piece}
+use Rattle.op_types.specs.declared.messages.Body.TheVariants as body
+use Rattle.op_spec.specs.Service.{base_bytes, service_of}
+use Rattle.op_spec.specs.Stands.{lists_through}
 use Rattle.op_types.specs.declared.durable.Part.{Part as StoredPart}
 use Rattle.op_types.specs.declared.durable.Closed.{Closed as StoredClosed}
 use Rattle.op_types.specs.declared.durable.Durable.{Durable}
 use Rattle.op_types.specs.declared.log.Entry.{Entry}
 use Rattle.op_protocol.specs.Configurations.{latest_members, latest_members_in}
-use Rattle.op_protocol.specs.Joining.{gives_base, gives_segment, closed_entries, is_within}
+use Rattle.op_protocol.specs.Joining.{base_pieces, piece_count, gives_base, gives_segment, closed_entries, is_within}
+use Rattle.op_protocol.specs.Parts.{messages}
 use Rattle.op_protocol.specs.Rows.{on_older}
 use Rattle.op_runs.specs.World.{sent_by}
 use Rattle.op_configurations.specs.Servers as server
-use Rattle.op_configurations.specs.Servers.{Part, Closed, State, Letter}
+use Rattle.op_configurations.specs.Servers.{Part, Closed, State, Letter, pieces_from}
 use Rattle.op_configurations.specs.Stored.{HoldsIfClosed}
 use Rattle.op_refinement.proofs.Relation.{AreLetters}
 use Rattle.op_refinement.proofs.Letters.{news_said}
@@ -52,12 +60,14 @@ between l t a b low high =
 module _ (lists : ℕ → List Entry) (me : ℕ) where
   -- ---- a base
 
-  pub base_letters : (o : Option StoredClosed) (k : Option Closed) → HoldsIfClosed lists o k → (q c : ℕ) → AreLetters lists (sent_by me (gives_base o q c)) (server.gives_base me k q c)
+  -- one that goes into a message
+  pub base_letters : (o : Option StoredClosed) (k : Option Closed) → HoldsIfClosed lists o k → (q c : ℕ) → ((l : StoredClosed) → o ≡ Some l → eqb (l.conf + 1) c ≡ true → nat_le (length l.base) most_part_bytes ≡ true)
+      → AreLetters lists (sent_by me (gives_base o q c)) (server.gives_base me k q c)
   unfolding server.gives_base
-  base_letters None None h q c = tt
-  base_letters None (Some k) h q c = absurd h
-  base_letters (Some l) None h q c = absurd h
-  base_letters (Some l) (Some k) h q c = by (eqb (suc k.conf) c) refl
+  base_letters None None h q c short = tt
+  base_letters None (Some k) h q c short = absurd h
+  base_letters (Some l) None h q c short = absurd h
+  base_letters (Some l) (Some k) h q c short = by (eqb (suc k.conf) c) refl
     where
       same : eqb (l.conf + 1) c ≡ eqb (suc k.conf) c
       same = ap (λ (n : ℕ). eqb n c) (omega (arith, h.conf))
@@ -67,7 +77,7 @@ module _ (lists : ℕ → List Entry) (me : ℕ) where
       by true e =
           let f : eqb (l.conf + 1) c ≡ true = same ∙ e in
           let at : c - 1 - 1 ≡ k.conf - 1 = omega (arith, eqb-true (suc k.conf) c e) in
-          rw (f, e) (
+          let one : AreLetters lists (sent_by me (messages c q (body.BasePart l.trimmed l.base ∷ []))) (server.letter me q c (server.BasePart k.trimmed (take k.trimmed k.list)) ∷ []) = (
             record {
               from = refl;
               to = refl;
@@ -75,14 +85,75 @@ module _ (lists : ℕ → List Entry) (me : ℕ) where
               body = (
                 take k.trimmed k.list,
                 ap (λ (n : ℕ). server.BasePart n (take k.trimmed k.list)) (sym h.trimmed),
-                h.base ∙ ap (λ (n : ℕ). Rattle.op_spec.specs.Service.base_bytes (Rattle.op_spec.specs.Service.service_of (Rattle.op_spec.specs.Stands.lists_through lists n ++ take k.trimmed k.list))) (sym at),
+                h.base ∙ ap (λ (n : ℕ). base_bytes (service_of (lists_through lists n ++ take k.trimmed k.list))) (sym at),
               );
               small = tt;
             },
             tt,
-          )
+          ) in
+          rw (f, e) (subst (λ (t : Bool). AreLetters lists (sent_by me (messages c q (cond t (body.BasePart l.trimmed l.base ∷ []) (base_pieces l.trimmed l.base 0 (piece_count (length l.base)))))) (server.letter me q c (server.BasePart k.trimmed (take k.trimmed k.list)) ∷ [])) (sym (short l refl f)) one)
+
+  -- ---- a base in pieces
+
+  -- its pieces from a place on, where that many are left
+  from_pieces : (q c at : ℕ) (bytes : List ℕ) (front : List Entry) → bytes ≡ base_bytes (service_of (lists_through lists (c - 1 - 1) ++ front)) → (count fuel from : ℕ)
+      → length bytes ≤ from + count * most_part_bytes → ((n : ℕ) → count ≡ suc n → from + n * most_part_bytes < length bytes) → length bytes ≤ from + fuel * most_part_bytes
+      → AreLetters lists (sent_by me (messages c q (base_pieces at bytes from count))) (pieces_from me q c at front (length bytes) from fuel)
+  from_pieces q c at bytes front is zero zero from all last enough = tt
+  from_pieces q c at bytes front is zero (suc fuel) from all last enough = let past : nat_lt from (length bytes) ≡ false = le-ltb from (length bytes) (omega (arith, all)) in rw past tt
+  from_pieces q c at bytes front is (suc n) zero from all last enough = absurd (omega (arith, last n refl, enough))
+  from_pieces q c at bytes front is (suc n) (suc fuel) from all last enough =
+      let below : nat_lt from (length bytes) ≡ true = lt-ltb from (length bytes) (omega (arith, last n refl)) in
+      let piece : Piece = record { at = at; total = length bytes; from = from; bytes = take most_part_bytes (drop from bytes) } in
+      let size : length piece.bytes ≡ min most_part_bytes (length bytes - from) = length-take most_part_bytes (drop from bytes) ∙ ap (min most_part_bytes) (length-drop from bytes) in
+      let low : from < length bytes = omega (arith, last n refl) in
+      rw below (
+        record {
+          from = refl;
+          to = refl;
+          conf = refl;
+          body = (
+            front,
+            ap (λ (k : ℕ). server.BasePiece at (length bytes) from k front) (sym size),
+            record {
+              total = ap (λ (l : List ℕ). length l) is;
+              some = omega (arith, size, low);
+              within = omega (arith, size, low, ap (λ (l : List ℕ). length l) is);
+              bytes_are = taken_again most_part_bytes (drop from bytes) ∙ ap (λ (l : List ℕ). take (length piece.bytes) (drop from l)) is;
+            },
+          );
+          small = tt;
+        },
+        from_pieces q c at bytes front is n fuel (from + most_part_bytes) (omega (arith, all)) (λ m e. omega (arith, last n refl, e)) (omega (arith, enough)),
+      )
+    where
+      taken_again : (k : ℕ) (l : List ℕ) → take k l ≡ take (length (take k l)) l
+      taken_again zero l = refl
+      taken_again (suc k) [] = refl
+      taken_again (suc k) (x ∷ l) = ap (λ (y : List ℕ). x ∷ y) (taken_again k l)
+
+  -- one that is too long for a message
+  pub pieces_letters : (l : StoredClosed) (k : Option Closed) → HoldsIfClosed lists (Some l) k → (q c : ℕ) → eqb (l.conf + 1) c ≡ true → nat_le (length l.base) most_part_bytes ≡ false
+      → AreLetters lists (sent_by me (gives_base (Some l) q c)) (server.gives_pieces me k q c (length l.base))
+  unfolding server.gives_pieces
+  pieces_letters l None h q c here long = absurd h
+  pieces_letters l (Some k) h q c here long =
+      let there : eqb (suc k.conf) c ≡ true = ap (λ (n : ℕ). eqb n c) (omega (arith, h.conf)) ∙ here in
+      let at : c - 1 - 1 ≡ k.conf - 1 = omega (arith, eqb-true (suc k.conf) c there) in
+      let front : List Entry = take k.trimmed k.list in
+      let is : l.base ≡ base_bytes (service_of (lists_through lists (c - 1 - 1) ++ front)) = h.base ∙ ap (λ (n : ℕ). base_bytes (service_of (lists_through lists n ++ front))) (sym at) in
+      let total : ℕ = length l.base in
+      let pieces : AreLetters lists (sent_by me (messages c q (base_pieces l.trimmed l.base 0 (piece_count total)))) (pieces_from me q c k.trimmed front total 0 (suc (total / most_part_bytes))) =
+      subst (λ (n : ℕ). AreLetters lists (sent_by me (messages c q (base_pieces l.trimmed l.base 0 (piece_count total)))) (pieces_from me q c n front total 0 (suc (total / most_part_bytes)))) h.trimmed
+      (from_pieces q c l.trimmed l.base front is (piece_count total) (suc (total / most_part_bytes)) 0 (omega arith) (λ n e. omega (arith, e)) (omega arith)) in
+      rw (here, there) (subst (λ (t : Bool). AreLetters lists (sent_by me (messages c q (cond t (body.BasePart l.trimmed l.base ∷ []) (base_pieces l.trimmed l.base 0 (piece_count total))))) (pieces_from me q c k.trimmed front total 0 (suc (total / most_part_bytes)))) (sym long) pieces)
 
   -- ---- entries
+
+  -- each run in a segment
+  runs_letters : (q c at : ℕ) (runs : List (List Entry)) → AreLetters lists (sent_by me (messages c q (parts_from (λ at run. body.Segment at run) at runs))) (parts_from (λ at run. server.letter me q c (server.Segment at run)) at runs)
+  runs_letters q c at [] = tt
+  runs_letters q c at (run ∷ runs) = (record { from = refl; to = refl; conf = refl; body = refl; small = tt }, runs_letters q c (at + length run) runs)
 
   pub segment_letters : (o : Option StoredClosed) (k : Option Closed) → HoldsIfClosed lists o k → ((c : Closed) → k ≡ Some c → c.trimmed ≤ length c.list) → (q c from to : ℕ)
       → AreLetters lists (sent_by me (gives_segment o q c from to)) (server.gives_segment me k q c from to)
@@ -112,7 +183,8 @@ module _ (lists : ℕ → List Entry) (me : ℕ) where
           let entries : closed_entries l from to ≡ drop from (take to k.list) =
           ap (λ (xs : List Entry). take (to - from) (drop (from - l.trimmed) xs)) h.tail ∙ ap (λ (n : ℕ). take (to - from) (drop (from - n) (drop k.trimmed k.list))) h.trimmed
           ∙ between k.list k.trimmed from to lows (omega (arith, highs)) in
-          rw (f, e) (record { from = refl; to = refl; conf = refl; body = ap (server.Segment from) (sym entries); small = tt }, tt)
+          rw (f, e) (subst (λ (es : List Entry). AreLetters lists (sent_by me (messages c q (parts_from (λ at run. body.Segment at run) from (cut es)))) (parts_from (λ at run. server.letter me q c (server.Segment at run)) from (cut (drop from (take to k.list))))) (sym entries)
+          (runs_letters q c from (cut (drop from (take to k.list)))))
 
   -- ---- news of the next configuration
 

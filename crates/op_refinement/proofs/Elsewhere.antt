@@ -19,7 +19,7 @@ use Rattle.op_configurations.specs.Servers.{Part, Closed, Joining, State, Letter
 use Rattle.op_refinement.proofs.Pure as pure
 use Rattle.op_refinement.proofs.View.{view_body}
 use Rattle.op_refinement.proofs.Relation.{IsSaid, IsLetter, StepRel}
-use Rattle.op_refinement.proofs.Inputs.{NodeFacts, WholeAfter, counts_at, is_past, event_of, step_by}
+use Rattle.op_refinement.proofs.Inputs.{NodeFacts, WholeAfter, counts_at, is_past, long_in, delivery_event, step_by}
 use Rattle.op_refinement.proofs.Delivers.{latest_inner}
 use Rattle.op_refinement.proofs.Others.{ahead_same, latest_is, older_rel, newer_rel}
 use Rattle.op_refinement.proofs.Outside.{Joins, run_rel, outside_rel}
@@ -39,6 +39,8 @@ said_or : (lists : ℕ → List Entry) (conf : ℕ) (b : Body) (y : server.Body)
 said_or lists conf (body.Prepare z na nl nd) y x e i = inl (i.2 ∙ ap server.Inner (some_is i.0 x (sym i.1 ∙ e)))
 said_or lists conf (body.Promise z fa fl fd a es) y x e i = inl (i.2 ∙ ap server.Inner (some_is i.0 x (sym i.1 ∙ e)))
 said_or lists conf (body.AcceptSync z g es) y x e i = inl (i.2 ∙ ap server.Inner (some_is i.0 x (sym i.1 ∙ e)))
+said_or lists conf (body.PromisePart z part) y x e i = inl (i.2 ∙ ap server.Inner (some_is i.0 x (sym i.1 ∙ e)))
+said_or lists conf (body.AcceptSyncPart z part) y x e i = inl (i.2 ∙ ap server.Inner (some_is i.0 x (sym i.1 ∙ e)))
 said_or lists conf (body.Accept z a es) y x e i = inl (i.2 ∙ ap server.Inner (some_is i.0 x (sym i.1 ∙ e)))
 said_or lists conf (body.Accepted z g) y x e i = inl (i.2 ∙ ap server.Inner (some_is i.0 x (sym i.1 ∙ e)))
 said_or lists conf (body.Decide z g) y x e i = inl (i.2 ∙ ap server.Inner (some_is i.0 x (sym i.1 ∙ e)))
@@ -60,6 +62,7 @@ said_or lists conf (body.Confirmed z r) y x e i = absurd (none_some x e)
 said_or lists conf (body.NextConf members olds len trimmed) y x e i = absurd (none_some x e)
 said_or lists conf body.AskBase y x e i = absurd (none_some x e)
 said_or lists conf (body.BasePart at bytes) y x e i = absurd (none_some x e)
+said_or lists conf (body.BasePiece piece) y x e i = absurd (none_some x e)
 said_or lists conf (body.AskSegment from to) y x e i = absurd (none_some x e)
 said_or lists conf (body.Segment at es) y x e i = absurd (none_some x e)
 
@@ -68,6 +71,8 @@ above_not : (b : Body) (x : pure.Msg) → view_body b ≡ Some x → may_be_abov
 above_not (body.Prepare z na nl nd) x e = refl
 above_not (body.Promise z fa fl fd a es) x e = refl
 above_not (body.AcceptSync z g es) x e = refl
+above_not (body.PromisePart z part) x e = refl
+above_not (body.AcceptSyncPart z part) x e = refl
 above_not (body.Accept z a es) x e = refl
 above_not (body.Accepted z g) x e = refl
 above_not (body.Decide z g) x e = refl
@@ -85,6 +90,7 @@ above_not (body.Confirmed z r) x e = absurd (none_some x e)
 above_not (body.NextConf members olds len trimmed) x e = absurd (none_some x e)
 above_not body.AskBase x e = absurd (none_some x e)
 above_not (body.BasePart at bytes) x e = absurd (none_some x e)
+above_not (body.BasePiece piece) x e = absurd (none_some x e)
 above_not (body.AskSegment from to) x e = absurd (none_some x e)
 above_not (body.Segment at es) x e = absurd (none_some x e)
 
@@ -92,7 +98,7 @@ module _ (lists : ℕ → List Entry) (soup : List Letter) (me : ℕ) (f : Fate)
     (is : IsLetter lists (record { from = q; to = me; message = msg }) m) (hj : s.durable.joining ≡ None) (tj : st.joining ≡ None) (low : (c : Closed) → st.closed ≡ Some c → c.trimmed ≤ length c.list)
     (joins : Joins lists soup me f s st k q low n msg.conf)
     (plain : (x : pure.Msg) → view_body msg.body ≡ Some x → msg.conf ≡ latest_of s.durable → s.durable.part ≡ None)
-    (counts : (p : StoredPart) → s.durable.part ≡ Some p → msg.conf ≡ p.conf → counts_at p msg.body ≡ true) where
+    (counts : (p : StoredPart) → s.durable.part ≡ Some p → msg.conf ≡ p.conf → counts_at p msg.body ≡ true) (short : long_in s.durable msg ≡ None) where
   abbrev Goes : PartStep → Stepped → Type 0
   Goes x o = StepRel lists me f s.durable (plan_of me s s.waiting x) o
 
@@ -102,7 +108,7 @@ module _ (lists : ℕ → List Entry) (soup : List Letter) (me : ℕ) (f : Fate)
   -- from the latest, or one that may be above it
   takes_rel : (o : Option pure.Msg) → view_body msg.body ≡ o → (may_be_above msg.body ≡ false → msg.conf ≡ latest_of s.durable) → Goes (on_latest me s.durable s.volatile q msg.conf msg.body) (server.takes f me st n q msg.conf m.body)
   unfolding server.takes
-  takes_rel None e here = outside_rel lists soup me f s st k q low n msg.conf hj tj joins msg.body m.body e here counts said
+  takes_rel None e here = outside_rel lists soup me f s st k q low n msg.conf hj tj joins msg.body m.body e here counts short said
   takes_rel (Some x) e here = by (said_or lists msg.conf msg.body m.body x e said)
     where
       hs : s.durable.part ≡ None
@@ -168,14 +174,14 @@ module _ (lists : ℕ → List Entry) (soup : List Letter) (me : ℕ) (f : Fate)
   step_is : message_step me s.durable s.volatile q msg ≡ cond is_older (remembering s.volatile (on_older s.durable s.durable.closed q)) (cond is_newer (remembering s.volatile (on_newer s.durable q msg.body)) (on_latest me s.durable s.volatile q msg.conf msg.body))
   step_is = ap (λ (o : Option StoredJoining). cond (is_some o && not (is_of_joining msg.body)) (remembering s.volatile []) (cond is_older (remembering s.volatile (on_older s.durable s.durable.closed q)) (cond is_newer (remembering s.volatile (on_newer s.durable q msg.body)) (on_latest me s.durable s.volatile q msg.conf msg.body)))) hj
 
-  brings_nothing : brought_by s.durable (input.Deliver q msg) ≡ None
+  brings_nothing : brought_by s.durable s.volatile (input.Deliver q msg) ≡ None
   brings_nothing = by is_older
     where
-      none_of : (o : Option StoredJoining) → o ≡ None → brought_to o msg.conf msg.body ≡ None
+      none_of : (o : Option StoredJoining) → o ≡ None → brought_to o s.volatile.pieces msg.conf msg.body ≡ None
       none_of None x = refl
       none_of (Some j) x = absurd (none_some j (sym x))
 
-      by : (b : Bool) → cond b None (brought_to s.durable.joining msg.conf msg.body) ≡ None
+      by : (b : Bool) → cond b None (brought_to s.durable.joining s.volatile.pieces msg.conf msg.body) ≡ None
       by true = refl
       by false = none_of s.durable.joining hj
 
@@ -188,8 +194,8 @@ module _ (lists : ℕ → List Entry) (soup : List Letter) (me : ℕ) (f : Fate)
       (subst (λ (pl : Planned). StepRel lists me f s.durable pl there) (sym (plan_is ∙ ap (plan_of me s s.waiting) step_is)) (older_or is_older refl (subst (WholeAfter lists) reads_is w)))
 
   -- whatever comes there
-  pub elsewhere_rel : is_past s.durable.part s.durable.joining msg ≡ false → WholeAfter lists (step_by f me st (event_of me s n m (input.Deliver q msg)))
-      → StepRel lists me f s.durable (table_plan me s (input.Deliver q msg)) (step_by f me st (event_of me s n m (input.Deliver q msg)))
+  pub elsewhere_rel : is_past s.durable.part s.durable.joining msg ≡ false → WholeAfter lists (step_by f me st (delivery_event s n m msg None))
+      → StepRel lists me f s.durable (table_plan me s (input.Deliver q msg)) (step_by f me st (delivery_event s n m msg None))
   unfolding server.step
   elsewhere_rel past w =
       subst (λ (b : Bool). WholeAfter lists (step_by f me st (cond b None (Some (server.Reads n m)))) → StepRel lists me f s.durable (table_plan me s (input.Deliver q msg)) (step_by f me st (cond b None (Some (server.Reads n m))))) (sym past)

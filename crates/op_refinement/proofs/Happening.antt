@@ -29,7 +29,7 @@ use Rattle.op_refinement.proofs.Relation.{StateRel, IfServes, AreLetters}
 use Rattle.op_refinement.proofs.Letters.{IfLetter, letter_at}
 use Rattle.op_protocol.specs.Reading.{leading_at}
 use Rattle.op_protocol.proofs.Asked.{takes_read}
-use Rattle.op_refinement.proofs.Inputs.{event_of, is_past, proposal_event}
+use Rattle.op_refinement.proofs.Inputs.{event_of, is_past, long_in, read_as, proposal_event}
 use Rattle.op_refinement.proofs.Steps.{AllRead, StepsGo}
 use Rattle.op_refinement.proofs.Worlds.{lists_of, world_of, state_of, state_on, serves_on, facts_of}
 use Rattle.op_refinement.proofs.Beside.{IfSent, IfStatus, StoppedAs, Between, NodeRel, IsBeside, Goes, beside_moved}
@@ -292,9 +292,10 @@ module _ (go : StepsGo) (Fine : Entry → Type 0) (reads : FineRuns Fine) (first
           proposed e None f = f
           proposed e (Some r) f = tt
 
-          delivered : (c : Bool) → IfFine (cond c None (Some (server.Reads i l)))
-          delivered true = tt
-          delivered false = tt
+          delivered : (c : Bool) (t : Option ℕ) → IfFine (cond c None (Some (read_as i l t)))
+          delivered true t = tt
+          delivered false None = tt
+          delivered false (Some total) = tt
 
           asking : (c : Bool) → IfFine (cond c (Some (server.Ticks None)) None)
           asking true = tt
@@ -302,7 +303,7 @@ module _ (go : StepsGo) (Fine : Entry → Type 0) (reads : FineRuns Fine) (first
 
           by : (y : Input) → InputIsFine Fine size y → IfFine (event_of p n.state i l y)
           by input.Tick f = tt
-          by (input.Deliver q msg) f = delivered (is_past n.state.durable.part n.state.durable.joining msg)
+          by (input.Deliver q msg) f = delivered (is_past n.state.durable.part n.state.durable.joining msg) (long_in n.state.durable msg)
           by (input.Commands cs) f = proposed (entries_of cs) (refusal_of p n.state.volatile.role n.state.durable (entries_of cs)) f
           by (input.Stop members) f = proposed (entry.Stop (stop_for n.state.durable.part members) ∷ []) (refusal_of p n.state.volatile.role n.state.durable (entry.Stop (stop_for n.state.durable.part members) ∷ [])) ((f.0 (stop_for n.state.durable.part members), tt), f.1)
           by input.TrimNow f = tt
@@ -312,6 +313,7 @@ module _ (go : StepsGo) (Fine : Entry → Type 0) (reads : FineRuns Fine) (first
 
       one_event : (f : Fate) (e : Event) → IfReads first ks p running (Some e) → IfFine (Some e) → IsOne (happening_of first ks p running f e ∷ [])
       one_event f (server.Reads j y) r k = (ap worlds.reader r.0 ∙ ap Some r.1, tt, omega arith)
+      one_event f (server.ReadsLong j total y) r k = (ap worlds.reader r.0 ∙ ap Some r.1, tt, omega arith)
       one_event f (server.Proposes e) r k = (refl, k.0, k.1)
       one_event f (server.Ticks o) r k = (refl, tt, omega arith)
       one_event f server.Trims r k = (refl, tt, omega arith)
@@ -367,7 +369,7 @@ module _ (go : StepsGo) (Fine : Entry → Type 0) (reads : FineRuns Fine) (first
         moves (h ∷ []) (refl, tt, omega arith) by _ _ g t.machine machine_is (record n { status = Down n.state.durable }) refl [] tt
         (record {
           low = k.low;
-          rel = subst (λ (st : State). StateRel (lists_of first (ks ++ h ∷ [])) n.state.durable n.state.volatile.role st) (sym same) (state_on first ks (h ∷ []) p n.state.durable n.state.volatile.role k.rel);
+          rel = subst (λ (st : State). StateRel (lists_of first (ks ++ h ∷ [])) n.state.durable n.state.volatile st) (sym same) (state_on first ks (h ∷ []) p n.state.durable n.state.volatile k.rel);
           serves = subst (λ (st : State). IfServes (lists_of first (ks ++ h ∷ [])) n.state.service st.part) (sym same) (serves_on first ks (h ∷ []) p n.state.service k.serves);
           status = Between (ap (λ (sv : Server). sv.life) g.here) refl;
         }) lines
@@ -395,7 +397,7 @@ module _ (go : StepsGo) (Fine : Entry → Type 0) (reads : FineRuns Fine) (first
         let h : Happening = worlds.Opens p c in
         let read : AllRead (lists_of first (ks ++ h ∷ [])) = read_late (h ∷ []) (refl, tt, omega arith) in
         moves (h ∷ []) (refl, tt, omega arith) by _ _ (open_goes first ks p c y.event y.down) t.machine machine_is (record n { state = record (state_after_restart p d) { waiting = waiting }; status = Up }) refl (sent_by p (sends_after_restart p d))
-        (open_said first ks p c y.event y.down d y.role y.rel read k.low) (open_rel first ks p c y.event y.down d y.role y.rel read k.low n refl (t.world.messages ++ sent_by p (sends_after_restart p d)) waiting) lines
+        (open_said first ks p c y.event y.down d y.volatile y.rel read k.low) (open_rel first ks p c y.event y.down d y.volatile y.rel read k.low n refl (t.world.messages ++ sent_by p (sends_after_restart p d)) waiting) lines
 
     pub opened : (after : Durable) → StoppedAs t.world.messages (world_of first ks).soup p n.state after ((world_of first ks).servers p).life → (c : Bool) (waiting : Waiting) → By (worlds.Opens p c ∷ []) → (lines : List Line)
         → After ph (record {

@@ -1,9 +1,14 @@
 -- Each input of a node is an event of the server, or nothing that the pure machine sees; and the step goes with it.
-use Rattle.std.proofs.Common.{◌≡◌, ◌<◌, ◌⊎◌, inr, ℕ, ◌-◌, Bool, false, not, cond, ◌&&◌, eqb, is_some, List, [], ◌∷◌, ◌++◌, take, Option, Some, None, refl, sym, ap, ◌∙◌, subst, arith, length-take}
+use Rattle.std.proofs.Common.{◌≡◌, ◌<◌, ◌⊎◌, inr, ℕ, ◌-◌, ◌+◌, Bool, true, false, not, cond, ◌&&◌, eqb, leb, is_some, List, [], ◌∷◌, ◌++◌, length, take, Option, Some, None, refl, sym, ap, ◌∙◌, subst, arith, length-take}
 use Rattle.std.specs.Prelude.{IfSome}
 use Rattle.std.specs.Set.{is_member}
 use Rattle.std.proofs.Math.ListN.{drop_of_length-le}
 use Rattle.op_types.specs.Stops.{stop_at_end}
+use Rattle.op_types.specs.Stages.{Pieces}
+use Rattle.op_types.specs.Limits.{most_part_bytes}
+use Rattle.op_types.specs.declared.durable.Closed.{Closed as StoredClosed}
+use Rattle.op_types.specs.declared.durable.Durable.{Durable}
+use Rattle.op_protocol.specs.Configurations.{latest_of}
 use Rattle.op_types.specs.Changes.{durable_after}
 use Rattle.op_types.specs.declared.durable.Part.{Part as StoredPart}
 use Rattle.op_types.specs.declared.durable.Joining.{Joining as StoredJoining}
@@ -35,11 +40,11 @@ use Rattle.op_configurations.specs.Servers.{Part, Closed, Joining, State, Letter
 use Rattle.op_configurations.specs.Worlds.{inner_of}
 use Rattle.op_configurations.proofs.PartFacts.{Comable, PartIs}
 use Rattle.op_refinement.proofs.Pure as pure
-use Rattle.op_refinement.proofs.View.{whole_log, view}
-use Rattle.op_refinement.proofs.TrimRows.{MatchesTo}
-use Rattle.op_refinement.proofs.PartRows.{effects_in, IsKnown, tick_ballot, trim_goes}
+use Rattle.op_refinement.proofs.View.{whole_log, node_of}
+use Rattle.op_refinement.proofs.TrimRows.{StepMatches, row_matches}
+use Rattle.op_refinement.proofs.PartRows.{IsKnown, tick_ballot, trim_goes}
 use Rattle.op_refinement.proofs.Plans.{serving-service}
-use Rattle.op_refinement.proofs.Relation.{Reads, PartRel, all_before, IfPartRel, StateRel, IfServes, AreLetters, StepRel}
+use Rattle.op_refinement.proofs.Relation.{Reads, PartRel, all_before, IfPartRel, StageRel, StateRel, SameMemory, state_as, IfServes, AreLetters, StepRel}
 use Rattle.op_refinement.proofs.AtParts.{AtPart, known, part_rel}
 
 -- ---- which event an input is
@@ -64,11 +69,38 @@ abbrev pub proposal_event : List Entry → Option Refusal → Option Event
 proposal_event e (Some r) = None
 proposal_event e None = Some (server.Proposes e)
 
+-- whether a message asks for a base
+abbrev pub asks_base : Body → Bool
+asks_base body.AskBase = true
+asks_base b = false
+
+-- how many bytes the base of the closed list before a configuration takes, where these are too many for one message
+abbrev pub long_list : Option StoredClosed → ℕ → Option ℕ
+long_list None conf = None
+long_list (Some l) conf = cond (eqb (l.conf + 1) conf && not (leb (length l.base) most_part_bytes)) (Some (length l.base)) None
+
+-- the same, where the base is asked for
+abbrev pub long_base : Option StoredClosed → ℕ → Body → Option ℕ
+long_base o conf b = cond (asks_base b) (long_list o conf) None
+
+-- the same, of a message: it has to be of the latest configuration
+abbrev pub long_in : Durable → Msg → Option ℕ
+long_in d msg = cond (eqb msg.conf (latest_of d)) (long_base d.closed msg.conf msg.body) None
+
+-- the letter of this number comes, and asks for a base of so many bytes, if these are too many for one message
+abbrev pub read_as : ℕ → Letter → Option ℕ → Event
+read_as n m None = server.Reads n m
+read_as n m (Some total) = server.ReadsLong n total m
+
+-- a message, and what of a base it asks for; one that is past the limits is none
+abbrev pub delivery_event : table.State → ℕ → Letter → Msg → Option ℕ → Option Event
+delivery_event s n m msg o = cond (is_past s.durable.part s.durable.joining msg) None (Some (read_as n m o))
+
 -- The event that an input is, where a message is this letter, of this number. A leader that takes a read asks its
 -- members as a tick does.
 abbrev pub event_of : ℕ → table.State → ℕ → Letter → Input → Option Event
 event_of me s n m input.Tick = Some (server.Ticks (ballot_at me s.durable.part s.durable.joining s.volatile))
-event_of me s n m (input.Deliver q msg) = cond (is_past s.durable.part s.durable.joining msg) None (Some (server.Reads n m))
+event_of me s n m (input.Deliver q msg) = delivery_event s n m msg (long_in s.durable msg)
 event_of me s n m (input.Commands cs) = proposal_event (entries_of cs) (refusal_of me s.volatile.role s.durable (entries_of cs))
 event_of me s n m (input.Stop members) = proposal_event (entry.Stop (stop_for s.durable.part members) ∷ []) (refusal_of me s.volatile.role s.durable (entry.Stop (stop_for s.durable.part members) ∷ []))
 event_of me s n m input.TrimNow = Some server.Trims
@@ -85,7 +117,7 @@ step_by f me st (Some e) = server.step f me st e
 
 pub record NodeFacts (lists : ℕ → List Entry) (soup : List Letter) (me : ℕ) (s : table.State) (st : State) : Type 0 where
   pub me_low : me < pure.owner_count
-  pub rel : StateRel lists s.durable s.volatile.role st
+  pub rel : StateRel lists s.durable s.volatile st
   pub serves : IfServes lists s.service st.part
   pub above : (pt : Part) → st.part ≡ Some pt → 0 < pt.conf
   pub is : (pt : Part) → st.part ≡ Some pt → PartIs (inner_of pt.conf soup) me pt
@@ -132,25 +164,25 @@ module _ (lists : ℕ → List Entry) (soup : List Letter) (me : ℕ) (f : Fate)
             ∙ ap (λ (es : List Entry). cond (is_some (stop_at_end es)) (Rattle.op_protocol.specs.Configurations.closing_part me p plan) plan) (nothing_since p)
 
     -- what is kept of the part stays, and these messages go out
-    pub rest_rel : (sends : List Letter) → x.volatile.role ≡ s.volatile.role → AreLetters lists (sent_by me x.sends) sends → StepRel lists me f s.durable (plan_of me s waiting x) (says st sends)
+    pub rest_rel : (sends : List Letter) → SameMemory s.volatile x.volatile → AreLetters lists (sent_by me x.sends) sends → StepRel lists me f s.durable (plan_of me s waiting x) (says st sends)
     rest_rel sends same said =
         subst (λ (pl : Planned). StepRel lists me f s.durable pl (says st sends)) (sym closes_not)
         (record {
-          role = s.volatile.role;
-          state = subst (λ (b : List Change). StateRel lists (durable_after s.durable b) s.volatile.role st) (sym batch_none) k.rel;
-          live = λ e. sym same;
+          volatile = x.volatile;
+          state = subst (λ (b : List Change). StateRel lists (durable_after s.durable b) x.volatile st) (sym batch_none) (state_as lists s.durable s.volatile x.volatile st same k.rel);
+          live = λ e. refl;
           said = λ e. said;
           serves = λ e. subst (λ (t : Service). IfServes lists t st.part) (sym service_same) k.serves;
         })
 
     -- a node without a part may be in any role
-    pub rest_partless : s.durable.part ≡ None → (sends : List Letter) → AreLetters lists (sent_by me x.sends) sends → StepRel lists me f s.durable (plan_of me s waiting x) (says st sends)
-    rest_partless hs sends said =
+    pub rest_partless : s.durable.part ≡ None → x.volatile.pieces ≡ s.volatile.pieces → (sends : List Letter) → AreLetters lists (sent_by me x.sends) sends → StepRel lists me f s.durable (plan_of me s waiting x) (says st sends)
+    rest_partless hs pieces sends said =
         subst (λ (pl : Planned). StepRel lists me f s.durable pl (says st sends)) (sym closes_not)
         (record {
-          role = x.volatile.role;
-          state = subst (λ (b : List Change). StateRel lists (durable_after s.durable b) x.volatile.role st) (sym batch_none)
-              (record { part = any_role s.durable.part hs st.part k.rel.part; closed = k.rel.closed; joining = k.rel.joining });
+          volatile = x.volatile;
+          state = subst (λ (b : List Change). StateRel lists (durable_after s.durable b) x.volatile st) (sym batch_none)
+              (record { part = any_role s.durable.part hs st.part k.rel.part; closed = k.rel.closed; joining = k.rel.joining; stage = subst (λ (y : Option Pieces). StageRel lists y st.joining) (sym pieces) k.rel.stage });
           live = λ e. refl;
           said = λ e. said;
           serves = λ e. subst (λ (t : Service). IfServes lists t st.part) (sym service_same) k.serves;
@@ -159,7 +191,7 @@ module _ (lists : ℕ → List Entry) (soup : List Letter) (me : ℕ) (f : Fate)
         some_none : (p : StoredPart) → Some p ≡ None → ⊥
         some_none p e = cc
 
-        any_role : (o : Option StoredPart) → o ≡ None → (y : Option Part) → IfPartRel lists o s.volatile.role y → IfPartRel lists o x.volatile.role y
+        any_role : (o : Option StoredPart) → o ≡ None → (y : Option Part) → IfPartRel lists o s.volatile y → IfPartRel lists o x.volatile y
         any_role None e None h = tt
         any_role None e (Some pt) h = absurd h
         any_role (Some p) e y h = absurd (some_none p e)
@@ -168,16 +200,16 @@ module _ (lists : ℕ → List Entry) (soup : List Letter) (me : ℕ) (f : Fate)
 
   -- the part as the pure machine has it
   abbrev part_of : (p : StoredPart) (front : List Entry) → Part
-  part_of p front = record { conf = p.conf; members = p.members; node = view front p s.volatile.role }
+  part_of p front = record { conf = p.conf; members = p.members; node = node_of front p s.volatile }
 
-  part_path : (p : StoredPart) (pt : Part) (r : PartRel (all_before lists pt.conf) p s.volatile.role pt) → part_of p r.front ≡ pt
+  part_path : (p : StoredPart) (pt : Part) (r : PartRel (all_before lists pt.conf) p s.volatile pt) → part_of p r.front ≡ pt
   part_path p pt r = λ i. record { conf = r.conf i; members = r.members i; node = r.seen i }
 
-  front_is : (p : StoredPart) (pt : Part) (r : PartRel (all_before lists pt.conf) p s.volatile.role pt) → take (pt.node).trimmed (pt.node).log ≡ r.front
+  front_is : (p : StoredPart) (pt : Part) (r : PartRel (all_before lists pt.conf) p s.volatile pt) → take (pt.node).trimmed (pt.node).log ≡ r.front
   front_is p pt r =
       ap (λ (nd : pure.Node). take nd.trimmed nd.log) (sym r.seen) ∙ ap (λ (n : ℕ). take n (whole_log r.front p)) (sym (r.fits).size) ∙ Rattle.std.proofs.Math.Seq.take-append_seam r.front p.tail.items
 
-  at_part : (p : StoredPart) (pt : Part) → st.part ≡ Some pt → (r : PartRel (all_before lists pt.conf) p s.volatile.role pt) → AtPart lists (inner_of p.conf soup) me s p r.front
+  at_part : (p : StoredPart) (pt : Part) → st.part ≡ Some pt → (r : PartRel (all_before lists pt.conf) p s.volatile pt) → AtPart lists (inner_of p.conf soup) me s p r.front
   at_part p pt ht r =
       let e = part_path p pt r in
       let before : all_before lists p.conf ≡ all_before lists pt.conf = ap (all_before lists) r.conf in
@@ -194,14 +226,14 @@ module _ (lists : ℕ → List Entry) (soup : List Letter) (me : ℕ) (f : Fate)
       }
 
   -- a step of the node there
-  module _ (p : StoredPart) (pt : Part) (hs : s.durable.part ≡ Some p) (ht : st.part ≡ Some pt) (r : PartRel (all_before lists pt.conf) p s.volatile.role pt) where
+  module _ (p : StoredPart) (pt : Part) (hs : s.durable.part ≡ Some p) (ht : st.part ≡ Some pt) (r : PartRel (all_before lists pt.conf) p s.volatile pt) where
     abbrev nd : pure.Node
-    nd = view r.front p s.volatile.role
+    nd = node_of r.front p s.volatile
 
     there : AtPart lists (inner_of p.conf soup) me s p r.front
     there = at_part p pt ht r
 
-    pub known_there : IsKnown (inner_of p.conf soup) me r.front p s.volatile.role
+    pub known_there : IsKnown (inner_of p.conf soup) me r.front p s.volatile
     known_there = known lists (inner_of p.conf soup) me s p r.front there
 
     -- where a step closes, it leaves the whole list
@@ -212,13 +244,13 @@ module _ (lists : ℕ → List Entry) (soup : List Letter) (me : ℕ) (f : Fate)
         let after : Part = record { conf = p.conf; members = p.members; node = (fated f (pure.step p.members me nd i)).node } in
         w (server.closed_of after sign) (ap (λ (o : Option StopSign). (server.close_with me st after o).state.closed) e)
 
-    pub acted_there : (n : ℕ) (i : pure.Input) → Comable (inner_of p.conf soup) me i → (waiting : Waiting) (x : PartStep) → MatchesTo r.front me p (effects_in x) (pure.step p.members me nd i)
+    pub acted_there : (n : ℕ) (i : pure.Input) → Comable (inner_of p.conf soup) me i → (waiting : Waiting) (x : PartStep) → StepMatches r.front me p s.volatile x (pure.step p.members me nd i)
         → ((st.joining ≡ None) × (s.durable.joining ≡ None)) ⊎ (decided_list (pure.step p.members me nd i).node ≡ decided_list nd)
         → WholeAfter lists (acted f me st pt n i) → StepRel lists me f s.durable (plan_of me s waiting x) (acted f me st pt n i)
     acted_there n i may waiting x m calm w =
         let e = part_path p pt r in
         subst (λ (y : Part). StepRel lists me f s.durable (plan_of me s waiting x) (acted f me st y n i)) e
-        (part_rel lists (inner_of p.conf soup) me s p r.front there f st k.rel.closed k.rel.joining n i may waiting x m calm hs (ht ∙ ap Some (sym e))
+        (part_rel lists (inner_of p.conf soup) me s p r.front there f st k.rel.closed k.rel.joining k.rel.stage n i may waiting x m calm hs (ht ∙ ap Some (sym e))
         (whole_of n i (subst (λ (y : Part). WholeAfter lists (acted f me st y n i)) (sym e) w)))
 
     -- trimming, sessions and starts decide nothing
@@ -230,4 +262,4 @@ module _ (lists : ℕ → List Entry) (soup : List Letter) (me : ℕ) (f : Fate)
     -- trimming is asked for
     pub trim_now_there : WholeAfter lists (acted f me st pt 0 pure.TrimNow) → StepRel lists me f s.durable (plan_of me s s.waiting (trim_at me (Some p) s.volatile)) (acted f me st pt 0 pure.TrimNow)
     trim_now_there w =
-        acted_there 0 pure.TrimNow tt s.waiting (trim_at me (Some p) s.volatile) (trim_goes (inner_of p.conf soup) me r.front p s.volatile known_there) (inr (quiet_calm pure.TrimNow tt)) w
+        acted_there 0 pure.TrimNow tt s.waiting (trim_at me (Some p) s.volatile) (row_matches r.front me p s.volatile _ _ (trim_goes (inner_of p.conf soup) me r.front p s.volatile known_there)) (inr (quiet_calm pure.TrimNow tt)) w

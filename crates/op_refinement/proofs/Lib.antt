@@ -7,8 +7,10 @@ pub mod FollowerRows
 pub mod Choices
 pub mod LeaderRows
 pub mod TrimRows
+pub mod SyncParts
 pub mod PartRows
 pub mod Relation
+pub mod BasePieces
 pub mod Made
 pub mod Letters
 pub mod Plans
@@ -36,6 +38,7 @@ pub mod Delivers
 pub mod Donors
 pub mod Others
 pub mod Outside
+pub mod LongBases
 pub mod Gathered
 pub mod Bringing
 pub mod Elsewhere

@@ -2,13 +2,12 @@
 use Rattle.std.proofs.Common.{◌≡◌, ℕ, Bool, true, false, cond, List, [], ◌∷◌, ◌++◌, Option, Some, None, refl, sym, ap, ◌∙◌, subst, slice_get, append-nil}
 use Rattle.op_types.specs.Changes.{durable_after}
 use Rattle.op_types.specs.declared.durable.Durable.{Durable}
-use Rattle.op_types.specs.Roles.{Role}
 use Rattle.op_types.specs.declared.answers.Refusal.{Refusal}
 use Rattle.op_types.specs.declared.events.Input.{Input}
 use Rattle.op_types.specs.declared.events.Input.TheVariants as input
 use Rattle.op_types.specs.declared.log.Entry.{Entry}
 use Rattle.op_types.specs.declared.messages.Msg.{Msg}
-use Rattle.op_protocol.specs.State.{Planned, state_after}
+use Rattle.op_protocol.specs.State.{Volatile, Planned, state_after}
 use Rattle.op_protocol.specs.Rows.{step_plan, refusal_of, stop_for}
 use Rattle.op_runs.specs.World.{Node, NodeStatus, Up, Sent, sent_by}
 use Rattle.op_configurations.specs.Servers as server
@@ -22,9 +21,9 @@ use Rattle.op_refinement.proofs.Relation.{StateRel, IfServes, IsLetter, AreLette
 use Rattle.op_refinement.proofs.Letters.{IfLetter, letter_at}
 use Rattle.op_protocol.specs.Reading.{leading_at}
 use Rattle.op_protocol.proofs.Asked.{takes_read}
-use Rattle.op_refinement.proofs.Inputs.{event_of, step_by, is_past, proposal_event}
+use Rattle.op_refinement.proofs.Inputs.{event_of, step_by, is_past, long_in, read_as, proposal_event}
 use Rattle.op_refinement.proofs.Steps.{IfComes, AllRead, StepsGo}
-use Rattle.op_refinement.proofs.Worlds.{lists_of, world_of, state_of, letters_on, facts_of}
+use Rattle.op_refinement.proofs.Worlds.{lists_of, world_of, state_of, grows_of, letters_on, facts_of}
 use Rattle.op_refinement.proofs.Beside.{IfSent, IfStatus, StoppedAs, Inside, NodeRel}
 use Rattle.op_refinement.proofs.PureMoves.{GoesTo, late_of, IfReads, done_goes, stopped_goes}
 
@@ -68,7 +67,7 @@ module _ (go : StepsGo) (first : List ℕ) (ks : List Happening) (messages : Lis
       → StepRel (lists_of first (ks ++ late)) p f n.state.durable plan (step_by f p (state_of first ks p) event)
   step_rel f late read after =
       go first (lists_of first (ks ++ late)) (world_of first ks).soup p f n.state (state_of first ks p) x i m (lists_of first ks)
-      (facts_of first ks late p n.state k.low read k.rel k.serves) read (stands first ks p) (comes late) after
+      (facts_of first ks late p n.state k.low read k.rel k.serves) read (stands first ks p) (grows_of first ks late) (comes late) after
 
 module _ (go : StepsGo) (first : List ℕ) (ks : List Happening) (messages : List Sent) (letters : AreLetters (lists_of first ks) messages (world_of first ks).soup)
     (n : Node) (k : NodeRel first ks messages n) (running : ((world_of first ks).servers n.pid).life ≡ Running) (x : Input) (i : ℕ) (m : Letter) (sent : IfSent messages (world_of first ks).soup n.pid i m x) where
@@ -85,9 +84,13 @@ module _ (go : StepsGo) (first : List ℕ) (ks : List Happening) (messages : Lis
   pub reads_sent : IfReads first ks own running seen
   reads_sent = by x sent
     where
-      delivered : (q : ℕ) (msg : Msg) → IfSent messages (world_of first ks).soup own i m (input.Deliver q msg) → (b : Bool) → IfReads first ks own running (cond b None (Some (server.Reads i m)))
-      delivered q msg s true = tt
-      delivered q msg s false = (s.1, sym (letter_is go first ks messages letters n k x i m sent messages (world_of first ks).soup (lists_of first ks) letters (record { from = q; to = own; message = msg }) s.0 s.1).to)
+      there : (q : ℕ) (msg : Msg) → IfSent messages (world_of first ks).soup own i m (input.Deliver q msg) → (slice_get (world_of first ks).soup i ≡ Some m) × (m.to ≡ own)
+      there q msg s = (s.1, sym (letter_is go first ks messages letters n k x i m sent messages (world_of first ks).soup (lists_of first ks) letters (record { from = q; to = own; message = msg }) s.0 s.1).to)
+
+      delivered : (q : ℕ) (msg : Msg) → IfSent messages (world_of first ks).soup own i m (input.Deliver q msg) → (b : Bool) (t : Option ℕ) → IfReads first ks own running (cond b None (Some (read_as i m t)))
+      delivered q msg s true t = tt
+      delivered q msg s false None = there q msg s
+      delivered q msg s false (Some total) = there q msg s
 
       proposed : (e : List Entry) (r : Option Refusal) → IfReads first ks own running (proposal_event e r)
       proposed e None = tt
@@ -99,7 +102,7 @@ module _ (go : StepsGo) (first : List ℕ) (ks : List Happening) (messages : Lis
 
       by : (y : Input) → IfSent messages (world_of first ks).soup own i m y → IfReads first ks own running (event_of own n.state i m y)
       by input.Tick s = tt
-      by (input.Deliver q msg) s = delivered q msg s (is_past n.state.durable.part n.state.durable.joining msg)
+      by (input.Deliver q msg) s = delivered q msg s (is_past n.state.durable.part n.state.durable.joining msg) (long_in n.state.durable msg)
       by (input.Commands cs) s = proposed _ (refusal_of own n.state.volatile.role n.state.durable (Rattle.op_protocol.specs.Rows.entries_of cs))
       by (input.Stop members) s = proposed _ (refusal_of own n.state.volatile.role n.state.durable (Rattle.op_types.specs.declared.log.Entry.TheVariants.Stop (stop_for n.state.durable.part members) ∷ []))
       by input.TrimNow s = tt
@@ -130,8 +133,8 @@ module _ (go : StepsGo) (first : List ℕ) (ks : List Happening) (messages : Lis
     pub done_rel : (more : List Sent) → NodeRel first (ks ++ done_late) more done
     done_rel more = record {
       low = k.low;
-      rel = subst (λ (st : State). StateRel (lists_of first (ks ++ done_late)) (durable_after n.state.durable planned.batch) planned.volatile.role st) (sym state_is)
-          (subst (λ (r : Role). StateRel (lists_of first (ks ++ done_late)) (durable_after n.state.durable planned.batch) r (step_by Done own (state_of first ks own) seen).state) (done_step.live refl) done_step.state);
+      rel = subst (λ (st : State). StateRel (lists_of first (ks ++ done_late)) (durable_after n.state.durable planned.batch) planned.volatile st) (sym state_is)
+          (subst (λ (r : Volatile). StateRel (lists_of first (ks ++ done_late)) (durable_after n.state.durable planned.batch) r (step_by Done own (state_of first ks own) seen).state) (done_step.live refl) done_step.state);
       serves = subst (λ (st : State). IfServes (lists_of first (ks ++ done_late)) planned.service st.part) (sym state_is) (done_step.serves refl);
       status = ap (λ (sv : Server). sv.life) done_to.here;
     }
@@ -160,7 +163,7 @@ module _ (go : StepsGo) (first : List ℕ) (ks : List Happening) (messages : Lis
       (stopped_to.goes).soup ∙ ap (λ (ms : List Letter). (world_of first ks).soup ++ ms) stopped_to.is ∙ append-nil (world_of first ks).soup in
       record {
         low = k.low;
-        rel = subst (λ (st : State). StateRel (lists_of first (ks ++ stopped_late)) n.state.durable n.state.volatile.role st) (sym same) (Rattle.op_refinement.proofs.Worlds.state_on first ks stopped_late own n.state.durable n.state.volatile.role k.rel);
+        rel = subst (λ (st : State). StateRel (lists_of first (ks ++ stopped_late)) n.state.durable n.state.volatile st) (sym same) (Rattle.op_refinement.proofs.Worlds.state_on first ks stopped_late own n.state.durable n.state.volatile k.rel);
         serves = subst (λ (st : State). IfServes (lists_of first (ks ++ stopped_late)) n.state.service st.part) (sym same) (Rattle.op_refinement.proofs.Worlds.serves_on first ks stopped_late own n.state.service k.serves);
         status = halted (Inside x i m (ap (λ (sv : Server). sv.life) stopped_to.here) refl (subst (λ (soup : List Letter). IfSent messages soup own i m x) (sym none) sent));
       }

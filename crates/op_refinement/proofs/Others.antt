@@ -22,6 +22,7 @@ use Rattle.op_refinement.proofs.Pure as pure
 use Rattle.op_refinement.proofs.View.{view_body}
 use Rattle.op_refinement.proofs.Relation.{IfPartRel, IsSaid, AreLetters, StepRel}
 use Rattle.op_refinement.proofs.Inputs.{NodeFacts, WholeAfter, rest_rel, known_there, acted_there}
+use Rattle.op_refinement.proofs.TrimRows.{row_matches}
 use Rattle.op_refinement.proofs.PartRows.{up_goes}
 use Rattle.op_refinement.proofs.Donors.{members_same, older_letters}
 
@@ -36,6 +37,8 @@ ahead_same lists conf (body.Confirmed n r) y i = ap server.is_ahead (sym i)
 ahead_same lists conf (body.Prepare n na nl nd) y i = ap server.is_ahead (sym i.2)
 ahead_same lists conf (body.Promise n fa fl fd s es) y i = ap server.is_ahead (sym i.2)
 ahead_same lists conf (body.AcceptSync n x es) y i = ap server.is_ahead (sym i.2)
+ahead_same lists conf (body.PromisePart n part) y i = ap server.is_ahead (sym i.2)
+ahead_same lists conf (body.AcceptSyncPart n part) y i = ap server.is_ahead (sym i.2)
 ahead_same lists conf (body.Accept n a es) y i = ap server.is_ahead (sym i.2)
 ahead_same lists conf (body.Accepted n x) y i = ap server.is_ahead (sym i.2)
 ahead_same lists conf (body.Decide n x) y i = ap server.is_ahead (sym i.2)
@@ -53,6 +56,7 @@ ahead_same lists conf (body.Trim x) y i = ap server.is_ahead (sym i.2)
 ahead_same lists conf (body.NextConf members olds len trimmed) y i = ap server.is_ahead (sym i)
 ahead_same lists conf body.AskBase y i = ap server.is_ahead (sym i)
 ahead_same lists conf (body.BasePart at bytes) y i = ap server.is_ahead (sym i.1)
+ahead_same lists conf (body.BasePiece piece) y i = ap server.is_ahead (sym i.1)
 ahead_same lists conf (body.AskSegment from to) y i = ap server.is_ahead (sym i)
 ahead_same lists conf (body.Segment at es) y i = ap server.is_ahead (sym i)
 
@@ -74,6 +78,8 @@ view_request (body.Confirmed n r) x e f = absurd (none_some x e)
 view_request (body.Prepare n na nl nd) x e f = ap asks_for (sym e)
 view_request (body.Promise n fa fl fd s es) x e f = ap asks_for (sym e)
 view_request (body.AcceptSync n y es) x e f = ap asks_for (sym e)
+view_request (body.PromisePart n part) x e f = ap asks_for (sym e)
+view_request (body.AcceptSyncPart n part) x e f = ap asks_for (sym e)
 view_request (body.Accept n a es) x e f = ap asks_for (sym e)
 view_request (body.Accepted n y) x e f = ap asks_for (sym e)
 view_request (body.Decide n y) x e f = ap asks_for (sym e)
@@ -87,6 +93,7 @@ view_request (body.Trim y) x e f = ap asks_for (sym e)
 view_request (body.NextConf members olds len trimmed) x e f = absurd (none_some x e)
 view_request body.AskBase x e f = absurd (none_some x e)
 view_request (body.BasePart at bytes) x e f = absurd (none_some x e)
+view_request (body.BasePiece piece) x e f = absurd (none_some x e)
 view_request (body.AskSegment from to) x e f = absurd (none_some x e)
 view_request (body.Segment at es) x e f = absurd (none_some x e)
 
@@ -99,6 +106,8 @@ request_same lists conf (body.Confirmed z r) y pos n i = ap server.is_request (s
 request_same lists conf (body.Prepare z na nl nd) y pos n i = sym (view_request (body.Prepare z na nl nd) i.0 i.1 refl) ∙ ap server.is_request (sym i.2)
 request_same lists conf (body.Promise z fa fl fd s es) y pos n i = sym (view_request (body.Promise z fa fl fd s es) i.0 i.1 refl) ∙ ap server.is_request (sym i.2)
 request_same lists conf (body.AcceptSync z x es) y pos n i = sym (view_request (body.AcceptSync z x es) i.0 i.1 refl) ∙ ap server.is_request (sym i.2)
+request_same lists conf (body.PromisePart z part) y pos n i = sym (view_request (body.PromisePart z part) i.0 i.1 refl) ∙ ap server.is_request (sym i.2)
+request_same lists conf (body.AcceptSyncPart z part) y pos n i = sym (view_request (body.AcceptSyncPart z part) i.0 i.1 refl) ∙ ap server.is_request (sym i.2)
 request_same lists conf (body.Accept z a es) y pos n i = sym (view_request (body.Accept z a es) i.0 i.1 refl) ∙ ap server.is_request (sym i.2)
 request_same lists conf (body.Accepted z x) y pos n i = sym (view_request (body.Accepted z x) i.0 i.1 refl) ∙ ap server.is_request (sym i.2)
 request_same lists conf (body.Decide z x) y pos n i = sym (view_request (body.Decide z x) i.0 i.1 refl) ∙ ap server.is_request (sym i.2)
@@ -113,31 +122,32 @@ request_same lists conf (body.Trim x) y pos n i = sym (view_request (body.Trim x
 request_same lists conf (body.NextConf members olds len trimmed) y pos n i = absurd (true_false n)
 request_same lists conf body.AskBase y pos n i = ap server.is_request (sym i)
 request_same lists conf (body.BasePart at bytes) y pos n i = absurd (true_false n)
+request_same lists conf (body.BasePiece piece) y pos n i = absurd (true_false n)
 request_same lists conf (body.AskSegment from to) y pos n i = ap server.is_request (sym i)
 request_same lists conf (body.Segment at es) y pos n i = absurd (true_false n)
 
 -- ---- the latest configuration
 
-pub latest_same : (lists : ℕ → List Entry) (role : Rattle.op_types.specs.Roles.Role) (d : Option StoredPart) (l : Option StoredClosed) (o : Option Part) (c : Option Closed) → IfPartRel lists d role o → HoldsIfClosed lists l c → stored_latest_in d l ≡ server.latest_in o c
-latest_same lists role None None None None r h = refl
-latest_same lists role None None None (Some k) r h = absurd h
-latest_same lists role None (Some l) None None r h = absurd h
-latest_same lists role None (Some l) None (Some k) r h = omega (arith, h.conf)
-latest_same lists role None l (Some pt) c r h = absurd r
-latest_same lists role (Some p) l None c r h = absurd r
-latest_same lists role (Some p) l (Some pt) c r h = r.conf
+pub latest_same : (lists : ℕ → List Entry) (v : Volatile) (d : Option StoredPart) (l : Option StoredClosed) (o : Option Part) (c : Option Closed) → IfPartRel lists d v o → HoldsIfClosed lists l c → stored_latest_in d l ≡ server.latest_in o c
+latest_same lists v None None None None r h = refl
+latest_same lists v None None None (Some k) r h = absurd h
+latest_same lists v None (Some l) None None r h = absurd h
+latest_same lists v None (Some l) None (Some k) r h = omega (arith, h.conf)
+latest_same lists v None l (Some pt) c r h = absurd r
+latest_same lists v (Some p) l None c r h = absurd r
+latest_same lists v (Some p) l (Some pt) c r h = r.conf
 
 module _ (lists : ℕ → List Entry) (soup : List Letter) (me : ℕ) (f : Fate) (s : table.State) (st : State) (k : NodeFacts lists soup me s st) (q : ℕ)
     (low : (c : Closed) → st.closed ≡ Some c → c.trimmed ≤ length c.list) where
   pub latest_is : latest_of s.durable ≡ server.latest st
-  latest_is = latest_same lists s.volatile.role s.durable.part s.durable.closed st.part st.closed (k.rel).part (k.rel).closed
+  latest_is = latest_same lists s.volatile s.durable.part s.durable.closed st.part st.closed (k.rel).part (k.rel).closed
 
   -- ---- from an older configuration
 
   members_are : latest_members s.durable ≡ server.latest_members st
   members_are = by s.durable.part st.part (k.rel).part
     where
-      by : (d : Option StoredPart) (o : Option Part) → IfPartRel lists d s.volatile.role o → Rattle.op_protocol.specs.Configurations.latest_members_in d s.durable.closed ≡ server.latest_members_in o st.closed
+      by : (d : Option StoredPart) (o : Option Part) → IfPartRel lists d s.volatile o → Rattle.op_protocol.specs.Configurations.latest_members_in d s.durable.closed ≡ server.latest_members_in o st.closed
       by None None r = members_same lists me None s.durable.closed None st.closed (λ p pt e g. absurd (none_some p e)) refl (k.rel).closed
       by None (Some pt) r = absurd r
       by (Some p) None r = absurd r
@@ -168,17 +178,17 @@ module _ (lists : ℕ → List Entry) (soup : List Letter) (me : ℕ) (f : Fate)
             let z : StepRel lists me f s.durable (plan_of me s s.waiting asking) (says st (letter me q (suc c.conf) (server.Inner pure.PrepareReq) ∷ [])) =
             rest_rel lists soup me f s st k s.waiting asking refl (letter me q (suc c.conf) (server.Inner pure.PrepareReq) ∷ []) refl
             (said_in (suc c.conf) (server.Inner pure.PrepareReq) (latest_is ∙ ap (λ (o : Option Part). server.latest_in o st.closed) ht ∙ ap (λ (o : Option Closed). server.latest_in None o) hc) (ap (λ (b : Bool). cond b server.HeartbeatReply (server.Inner pure.PrepareReq)) (sym (ne_eqb (suc c.conf) 0 (λ x. omega (arith, x)))))) in
-            record { role = z.role; state = z.state; live = z.live; said = z.said; serves = z.serves }
+            record { volatile = z.volatile; state = z.state; live = z.live; said = z.said; serves = z.serves }
         closed_by server.Stopped e ht (Some c) hc =
             let z : StepRel lists me f s.durable (plan_of me s s.waiting asking) (says st (letter me q (suc c.conf) (server.Inner pure.PrepareReq) ∷ [])) =
             rest_rel lists soup me f s st k s.waiting asking refl (letter me q (suc c.conf) (server.Inner pure.PrepareReq) ∷ []) refl
             (said_in (suc c.conf) (server.Inner pure.PrepareReq) (latest_is ∙ ap (λ (o : Option Part). server.latest_in o st.closed) ht ∙ ap (λ (o : Option Closed). server.latest_in None o) hc) (ap (λ (b : Bool). cond b server.HeartbeatReply (server.Inner pure.PrepareReq)) (sym (ne_eqb (suc c.conf) 0 (λ x. omega (arith, x)))))) in
-            record { role = z.role; state = z.state; live = z.live; said = λ d. absurd (stopped_done (sym e ∙ d)); serves = z.serves }
+            record { volatile = z.volatile; state = z.state; live = z.live; said = λ d. absurd (stopped_done (sym e ∙ d)); serves = z.serves }
           where
             stopped_done : server.Stopped ≡ server.Done → ⊥
             stopped_done d = cc
 
-        by : (d : Option StoredPart) → s.durable.part ≡ d → (o : Option Part) → st.part ≡ o → IfPartRel lists d s.volatile.role o → WholeAfter lists (server.sought f me st o st.closed q)
+        by : (d : Option StoredPart) → s.durable.part ≡ d → (o : Option Part) → st.part ≡ o → IfPartRel lists d s.volatile o → WholeAfter lists (server.sought f me st o st.closed q)
             → StepRel lists me f s.durable (plan_of me s s.waiting asking) (server.sought f me st o st.closed q)
         by None hs None ht r w = subst (λ (h : Fate). StepRel lists me f s.durable (plan_of me s s.waiting asking) (server.sought h me st None st.closed q)) refl (closed_by f refl ht st.closed refl)
         by None hs (Some pt) ht r w = absurd r
@@ -186,7 +196,7 @@ module _ (lists : ℕ → List Entry) (soup : List Letter) (me : ℕ) (f : Fate)
         by (Some p) hs (Some pt) ht r w =
             subst (λ (c : ℕ). StepRel lists me f s.durable (plan_of me s s.waiting (remembering s.volatile (message c q body.PrepareReq ∷ []))) (acted f me st pt 0 (pure.Up q))) (sym (ap (λ (o : Option StoredPart). stored_latest_in o s.durable.closed) hs))
             (acted_there lists soup me f s st k p pt hs ht r 0 (pure.Up q) tt s.waiting (with_effects s.volatile (saying s.volatile.role (message p.conf q body.PrepareReq ∷ [])))
-            (inl (up_goes (inner_of p.conf soup) me r.front p s.volatile (known_there lists soup me f s st k p pt hs ht r) q)) (inl (tj, hj)) w)
+            (row_matches r.front me p s.volatile _ _ (inl (up_goes (inner_of p.conf soup) me r.front p s.volatile (known_there lists soup me f s st k p pt hs ht r) q))) (inl (tj, hj)) w)
 
     pub newer_rel : (conf : ℕ) (b : Body) (y : server.Body) → 0 < conf → may_be_above b ≡ false → IsSaid lists conf b y → WholeAfter lists (server.seeks f me st q y)
         → StepRel lists me f s.durable (plan_of me s s.waiting (remembering s.volatile (on_newer s.durable q b))) (server.seeks f me st q y)

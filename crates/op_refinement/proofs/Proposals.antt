@@ -23,7 +23,7 @@ use Rattle.op_refinement.proofs.Relation.{PartRel, all_before, IfPartRel}
 use Rattle.op_refinement.proofs.Proposing.{unrefused, may_propose}
 use Rattle.op_protocol.specs.Reading.{leading_at}
 use Rattle.op_protocol.proofs.Asked.{takes_read}
-use Rattle.op_refinement.proofs.Inputs.{NodeFacts, event_of, ballot_at, is_past, proposal_event, known_there}
+use Rattle.op_refinement.proofs.Inputs.{NodeFacts, event_of, ballot_at, is_past, long_in, read_as, proposal_event, known_there}
 use Rattle.op_refinement.proofs.Worlds.{world_of, state_of}
 use Rattle.op_refinement.proofs.PureMoves.{late_of}
 
@@ -61,11 +61,11 @@ module _ (lists : ℕ → List Entry) (soup : List Letter) (me : ℕ) (s : table
       by None (Some j) x y z = absurd x
       by (Some d) j x y z = absurd (some_none d y)
 
-  taken_at : (p : StoredPart) (pt : Part) → s.durable.part ≡ Some p → st.part ≡ Some pt → PartRel (all_before lists pt.conf) p s.volatile.role pt → Taken
+  taken_at : (p : StoredPart) (pt : Part) → s.durable.part ≡ Some p → st.part ≡ Some pt → PartRel (all_before lists pt.conf) p s.volatile pt → Taken
   taken_at p pt hs ht r =
       let u = unrefused me s.volatile.role s.durable e h p hs in
       let kn = known_there lists soup me server.Done s st k p pt hs ht r in
-      let ok : server.may_propose_in me pt.node e ≡ true = ap (λ (x : pure.Node). server.may_propose_in me x e) (sym r.seen) ∙ may_propose _ me r.front p s.volatile.role e kn ends u.0 in
+      let ok : server.may_propose_in me pt.node e ≡ true = ap (λ (x : pure.Node). server.may_propose_in me x e) (sym r.seen) ∙ may_propose _ me r.front p s.volatile e kn ends u.0 in
       record {
         may = ap (λ (o : Option Part). server.may_propose me st o e) ht ∙ ap (λ (j : Option Joining). not (is_some j) && server.may_propose_in me pt.node e) (joins_nothing u.1) ∙ ok;
         same = λ m. ap (λ (o : Option StoredPart). machine_proposing_in m e o None) hs ∙ ap (λ (c : ℕ). fold (λ (x : Machine) (y : Entry). machine_proposing x c y) m e) r.conf ∙ ap (λ (o : Option Part). proposed_in m o e) (sym ht);
@@ -74,7 +74,7 @@ module _ (lists : ℕ → List Entry) (soup : List Letter) (me : ℕ) (s : table
   pub taken : Taken
   taken = by s.durable.part refl st.part refl (k.rel).part
     where
-      by : (d : Option StoredPart) → s.durable.part ≡ d → (o : Option Part) → st.part ≡ o → IfPartRel lists d s.volatile.role o → Taken
+      by : (d : Option StoredPart) → s.durable.part ≡ d → (o : Option Part) → st.part ≡ o → IfPartRel lists d s.volatile o → Taken
       by None hs o ht r = absurd (partless_refuses me s e hs h)
       by (Some p) hs None ht r = absurd r
       by (Some p) hs (Some pt) ht r = taken_at p pt hs ht r
@@ -101,11 +101,13 @@ module _ (lists : ℕ → List Entry) (first : List ℕ) (ks : List Happening) (
       let t = taken lists w.soup me s (state_of first ks me) k e ends h in
       ap (machine_proposing_in m e s.durable.part) h ∙ t.same m ∙ proposes_late f e t.may
 
-  deliver_late : (g : Fate) (n : ℕ) (x : Letter) (b : Bool) → m ≡ proposed_first m w (late_of first ks me running g (cond b None (Some (server.Reads n x))))
-  deliver_late Done n x true = refl
-  deliver_late Done n x false = refl
-  deliver_late Stopped n x true = refl
-  deliver_late Stopped n x false = refl
+  deliver_late : (g : Fate) (n : ℕ) (x : Letter) (b : Bool) (t : Option ℕ) → m ≡ proposed_first m w (late_of first ks me running g (cond b None (Some (read_as n x t))))
+  deliver_late Done n x true t = refl
+  deliver_late Done n x false None = refl
+  deliver_late Done n x false (Some total) = refl
+  deliver_late Stopped n x true t = refl
+  deliver_late Stopped n x false None = refl
+  deliver_late Stopped n x false (Some total) = refl
 
   asking_late : (g : Fate) (b : Bool) → m ≡ proposed_first m w (late_of first ks me running g (cond b (Some (server.Ticks None)) None))
   asking_late Done true = refl
@@ -126,13 +128,15 @@ module _ (lists : ℕ → List Entry) (first : List ℕ) (ks : List Happening) (
   plain_late Stopped (server.Unlinks q) d = refl
   plain_late Done (server.Reads n x) d = refl
   plain_late Stopped (server.Reads n x) d = refl
+  plain_late Done (server.ReadsLong n total x) d = refl
+  plain_late Stopped (server.ReadsLong n total x) d = refl
 
   -- the same is proposed
   pub proposals_late : (x : Input) (n : ℕ) (l : Letter) → machine_proposing_input m me s x ≡ proposed_first m w (late_of first ks me running f (event_of me s n l x))
   proposals_late input.Tick n l =
       let o : Option ℕ = ballot_at me s.durable.part s.durable.joining s.volatile in
       plain_late f (server.Ticks o) (λ p e. ticks_differ o p e)
-  proposals_late (input.Deliver q msg) n l = deliver_late f n l (is_past s.durable.part s.durable.joining msg)
+  proposals_late (input.Deliver q msg) n l = deliver_late f n l (is_past s.durable.part s.durable.joining msg) (long_in s.durable msg)
   proposals_late (input.Commands cs) n l = entry_late (entries_of cs) (commands_end cs) (refusal_of me s.volatile.role s.durable (entries_of cs)) refl
   proposals_late (input.Stop members) n l = entry_late (entry.Stop (stop_for s.durable.part members) ∷ []) refl (refusal_of me s.volatile.role s.durable (entry.Stop (stop_for s.durable.part members) ∷ [])) refl
   proposals_late input.TrimNow n l = plain_late f server.Trims (λ p e. differ p e)

@@ -14,11 +14,13 @@ event_proposal server.Trims = []
 event_proposal (server.Links q) = []
 event_proposal (server.Unlinks q) = []
 event_proposal (server.Reads n m) = []
+event_proposal (server.ReadsLong n total m) = []
 
 -- what a happening proposes
 abbrev pub proposal : Happening → List Entry
 proposal (worlds.At f p e) = event_proposal e
 proposal (worlds.Delivers f n) = []
+proposal (worlds.DeliversLong f n total) = []
 proposal (worlds.Stops p) = []
 proposal (worlds.Opens p after) = []
 

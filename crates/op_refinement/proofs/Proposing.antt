@@ -18,7 +18,8 @@ use Rattle.op_paxos.specs.Logs.{has_stop}
 use Rattle.op_paxos.specs.Nodes.{owner}
 use Rattle.op_configurations.specs.Servers as server
 use Rattle.op_refinement.proofs.Pure as pure
-use Rattle.op_refinement.proofs.View.{rank, is_same-rank, owner-rank, whole_log, view, view_role}
+use Rattle.op_refinement.proofs.View.{rank, is_same-rank, owner-rank, whole_log, node_of, view_role}
+use Rattle.op_protocol.specs.State.{Volatile}
 use Rattle.op_refinement.proofs.Logs.{len_of-whole, pending-whole}
 use Rattle.op_refinement.proofs.PartRows.{IsKnown}
 
@@ -56,8 +57,9 @@ idle_same (role.Preparing k) = refl
 idle_same (role.Leading l) = refl
 
 -- the pure machine takes it
-pub may_propose : (packets : List pure.Packet) (me : ℕ) (front : List Entry) (p : Part) (r : Role) (es : List Entry) → IsKnown packets me front p r → pure.stops_early es ≡ false → Unrefused me r p es → server.may_propose_in me (view front p r) es ≡ true
-may_propose packets me front p r es k ends u =
+pub may_propose : (packets : List pure.Packet) (me : ℕ) (front : List Entry) (p : Part) (v : Volatile) (es : List Entry) → IsKnown packets me front p v → pure.stops_early es ≡ false → Unrefused me v.role p es → server.may_propose_in me (node_of front p v) es ≡ true
+may_propose packets me front p v es k ends u =
+    let r : Role = v.role in
     let n = or_parts (is_same_ballot p.promised no_ballot) (eqb p.promised.pid me && is_idle r) u.leader in
     let zero_rank : is_same_ballot p.promised no_ballot ≡ eqb (rank p.promised) 0 = is_same-rank p.promised no_ballot (k.small).0 (omega arith) in
     let some : ltb 0 (rank p.promised) ≡ true = lt-ltb 0 (rank p.promised) (above (eqb-false (rank p.promised) 0 (sym zero_rank ∙ n.0))) in

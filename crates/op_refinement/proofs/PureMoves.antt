@@ -77,7 +77,12 @@ module _ (first : List ℕ) (ks : List Happening) (p : ℕ) (running : ((world_o
   delivery_is : (f : Fate) (n : ℕ) (m : Letter) → slice_get w.soup n ≡ Some m → m.to ≡ p → happens w (Delivers f n) ≡ with_server w p (left_by f (server.Reads n m)) (sent_in f (server.Reads n m)) (inside_by f (server.Reads n m))
   unfolding happens delivered
   delivery_is f n m at to =
-      ap (delivered w f n) at ∙ ap (λ (q : ℕ). at_server w f q (w.servers q).life (server.Reads n m)) to ∙ at_is f (server.Reads n m)
+      ap (delivered w f (server.Reads n)) at ∙ ap (λ (q : ℕ). at_server w f q (w.servers q).life (server.Reads n m)) to ∙ at_is f (server.Reads n m)
+
+  long_is : (f : Fate) (n total : ℕ) (m : Letter) → slice_get w.soup n ≡ Some m → m.to ≡ p → happens w (worlds.DeliversLong f n total) ≡ with_server w p (left_by f (server.ReadsLong n total m)) (sent_in f (server.ReadsLong n total m)) (inside_by f (server.ReadsLong n total m))
+  unfolding happens delivered
+  long_is f n total m at to =
+      ap (delivered w f (server.ReadsLong n total)) at ∙ ap (λ (q : ℕ). at_server w f q (w.servers q).life (server.ReadsLong n total m)) to ∙ at_is f (server.ReadsLong n total m)
 
   stops_is : happens w (Stops p) ≡ with_server w p (record { state = st; life = worlds.Down None }) [] []
   unfolding happens stops
@@ -86,6 +91,7 @@ module _ (first : List ℕ) (ks : List Happening) (p : ℕ) (running : ((world_o
   -- ---- which happening an event with its fate is
   abbrev pub happening_of : Fate → Event → Happening
   happening_of f (server.Reads n m) = Delivers f n
+  happening_of f (server.ReadsLong n total m) = worlds.DeliversLong f n total
   happening_of f e = At f p e
 
   abbrev pub late_of : Fate → Option Event → List Happening
@@ -96,10 +102,12 @@ module _ (first : List ℕ) (ks : List Happening) (p : ℕ) (running : ((world_o
   -- a letter that is read was sent to the server
   abbrev pub IfReads : Option Event → Type 0
   IfReads (Some (server.Reads n m)) = (slice_get w.soup n ≡ Some m) × (m.to ≡ p)
+  IfReads (Some (server.ReadsLong n total m)) = (slice_get w.soup n ≡ Some m) × (m.to ≡ p)
   IfReads _ = Unit {0}
 
   event_goes : (f : Fate) (e : Event) → IfReads (Some e) → GoesTo first ks (happening_of f e ∷ []) p (left_by f e) (sent_in f e)
   event_goes f (server.Reads n m) k = goes_with first ks (Delivers f n) p _ _ _ (delivery_is f n m k.0 k.1)
+  event_goes f (server.ReadsLong n total m) k = goes_with first ks (worlds.DeliversLong f n total) p _ _ _ (long_is f n total m k.0 k.1)
   event_goes f (server.Ticks o) k = goes_with first ks (At f p (server.Ticks o)) p _ _ _ (event_is f (server.Ticks o) refl)
   event_goes f (server.Proposes e) k = goes_with first ks (At f p (server.Proposes e)) p _ _ _ (event_is f (server.Proposes e) refl)
   event_goes f server.Trims k = goes_with first ks (At f p server.Trims) p _ _ _ (event_is f server.Trims refl)
@@ -109,6 +117,7 @@ module _ (first : List ℕ) (ks : List Happening) (p : ℕ) (running : ((world_o
   -- the world after an event with its fate
   pub event_world : (f : Fate) (e : Event) → IfReads (Some e) → happens w (happening_of f e) ≡ with_server w p (left_by f e) (sent_in f e) (inside_by f e)
   event_world f (server.Reads n m) k = delivery_is f n m k.0 k.1
+  event_world f (server.ReadsLong n total m) k = long_is f n total m k.0 k.1
   event_world f (server.Ticks o) k = event_is f (server.Ticks o) refl
   event_world f (server.Proposes e) k = event_is f (server.Proposes e) refl
   event_world f server.Trims k = event_is f server.Trims refl

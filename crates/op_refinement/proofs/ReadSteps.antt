@@ -1,6 +1,6 @@
 -- A read that a leader takes is a tick of its server that elects nobody: its members are asked. And a question of a ballot
 -- that isn't promised comes to nothing.
-use Rattle.std.proofs.Common.{◌≡◌, ℕ, suc, Bool, true, false, cond, not, ◌&&◌, is_some, eqb, ltb, List, [], ◌∷◌, ◌++◌, Option, Some, None, refl, sym, ap, ◌∙◌, subst, arith}
+use Rattle.std.proofs.Common.{◌≡◌, ℕ, suc, Bool, true, false, cond, not, ◌&&◌, is_some, ltb, List, [], ◌∷◌, ◌++◌, Option, Some, None, refl, sym, ap, ◌∙◌, subst, arith}
 use Rattle.std.proofs.lemmas.Bool.{both_ways, eq-eqb, le-ltb}
 use Rattle.std.proofs.lemmas.List.{append-nil}
 use Rattle.op_types.specs.Ballots.{is_same_ballot}
@@ -36,7 +36,7 @@ use Rattle.op_refinement.proofs.Inputs.{NodeFacts, event_of, step_by, rest_rel}
 pub reads_rel : (lists : ℕ → List Entry) (me : ℕ) (f : Fate) (s : table.State) (x : Input) (o : Stepped) → (asking_by me s x).sends ≡ []
     → StepRel lists me f s.durable (table_plan me s x) o → StepRel lists me f s.durable (step_plan me s x) o
 reads_rel lists me f s x o none r = record {
-  role = r.role;
+  volatile = r.volatile;
   state = r.state;
   live = r.live;
   said = λ e. subst (λ (ms : List (ℕ × Msg)). AreLetters lists (sent_by me (ms ++ (table_plan me s x).sends)) o.sends) (sym none) (r.said e);
@@ -58,7 +58,7 @@ module _ (lists : ℕ → List Entry) (soup : List Letter) (me : ℕ) (f : Fate)
       (subst (λ (qs : List ℕ). AreLetters lists sent (to_all me p.conf server.HeartbeatRequest qs)) m (others_letters lists me p.conf (body.Confirm n number) server.HeartbeatRequest refl tt p.members))
 
   taken_rel : (r : Read) (p : StoredPart) (l : state.Leading) → leading_at s ≡ Some (p, l) → takes_read me (leading_at s) s.reads ≡ true → (o : Option Part) → st.part ≡ o → (j : Option Joining) → st.joining ≡ j
-      → IfPartRel lists (Some p) s.volatile.role o → HoldsIfJoining lists None j → StepRel lists me f s.durable (step_plan me s (input.Read r)) (server.ticks_in f me st st.joining st.part None)
+      → IfPartRel lists (Some p) s.volatile o → HoldsIfJoining lists None j → StepRel lists me f s.durable (step_plan me s (input.Read r)) (server.ticks_in f me st st.joining st.part None)
   unfolding server.led
   taken_rel r p l e takes None ht j tj rel holds = absurd rel
   taken_rel r p l e takes (Some pt) ht (Some j) tj rel holds = absurd holds
@@ -72,7 +72,7 @@ module _ (lists : ℕ → List Entry) (soup : List Letter) (me : ℕ) (f : Fate)
       subst (λ (x : Option Joining). StepRel lists me f s.durable (step_plan me s (input.Read r)) (server.ticks_in f me st x st.part None)) (sym tj)
       (subst (λ (x : Option Part). StepRel lists me f s.durable (step_plan me s (input.Read r)) (server.ticks_in f me st None x None)) (sym ht)
       (record {
-        role = t.role;
+        volatile = t.volatile;
         state = t.state;
         live = t.live;
         said = λ d. subst (λ (ms : List (ℕ × Msg)). AreLetters lists (sent_by me (ms ++ (table_plan me s (input.Read r)).sends)) letters) (sym sends_are)
@@ -94,7 +94,7 @@ module _ (lists : ℕ → List Entry) (soup : List Letter) (me : ℕ) (f : Fate)
       leads (Some (p, l)) e takes =
           let at = leads_is s.durable.part s.durable.joining s.volatile.role p l e in
           taken_rel r p l e (ap (λ (x : Option (StoredPart × state.Leading)). takes_read me x s.reads) e ∙ takes) st.part refl st.joining refl
-          (subst (λ (d : Option StoredPart). IfPartRel lists d s.volatile.role st.part) at.part (k.rel).part)
+          (subst (λ (d : Option StoredPart). IfPartRel lists d s.volatile st.part) at.part (k.rel).part)
           (subst (λ (d : Option StoredJoining). HoldsIfJoining lists d st.joining) at.joining (k.rel).joining)
 
       by : (b : Bool) → takes_read me (leading_at s) s.reads ≡ b → Goes b
@@ -124,17 +124,17 @@ module _ (lists : ℕ → List Entry) (soup : List Letter) (me : ℕ) (f : Fate)
         ∙ ap (λ (t : Bool). cond (t && true) (with_effects s.volatile (on_confirm p s.volatile.role q b number)) (remembering s.volatile [])) (eq-eqb msg.conf p.conf here)
         ∙ ap (λ (t : Bool). with_effects s.volatile (cond t (saying s.volatile.role (message p.conf q (body.Confirmed b number) ∷ [])) (nothing s.volatile.role))) other
 
-    brings_nothing : brought_by s.durable (input.Deliver q msg) ≡ None
+    brings_nothing : brought_by s.durable s.volatile (input.Deliver q msg) ≡ None
     brings_nothing = by (ltb msg.conf (latest_of s.durable))
       where
-        none_of : (o : Option StoredJoining) → o ≡ None → brought_to o msg.conf msg.body ≡ None
+        none_of : (o : Option StoredJoining) → o ≡ None → brought_to o s.volatile.pieces msg.conf msg.body ≡ None
         none_of None x = refl
         none_of (Some j) x = absurd (differ j x)
           where
             differ : (j : StoredJoining) → Some j ≡ None → ⊥
             differ j x = cc
 
-        by : (t : Bool) → cond t None (brought_to s.durable.joining msg.conf msg.body) ≡ None
+        by : (t : Bool) → cond t None (brought_to s.durable.joining s.volatile.pieces msg.conf msg.body) ≡ None
         by true = refl
         by false = none_of s.durable.joining hj
 

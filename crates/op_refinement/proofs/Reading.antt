@@ -54,10 +54,12 @@ event_was m sv p server.Trims l x c i = inl (c, i)
 event_was m sv p (server.Links q) l x c i = inl (c, i)
 event_was m sv p (server.Unlinks q) l x c i = inl (c, i)
 event_was m sv p (server.Reads n y) l x c i = inl (c, i)
+event_was m sv p (server.ReadsLong n total y) l x c i = inl (c, i)
 
 happening_was : (m : Machine) (w : World) (h : Happening) (x : Entry) (c : ℕ) → IsAmong ((proposed_by m w h).proposed c) x → Was m (proposal h) x
 happening_was m w (worlds.At f p e) x c i = event_was m (w.servers p) p e (w.servers p).life x c i
 happening_was m w (worlds.Delivers f n) x c i = inl (c, i)
+happening_was m w (worlds.DeliversLong f n total) x c i = inl (c, i)
 happening_was m w (worlds.Stops p) x c i = inl (c, i)
 happening_was m w (worlds.Opens p after) x c i = inl (c, i)
 
@@ -103,10 +105,12 @@ event_fit f p server.Trims k x i = absurd i
 event_fit f p (server.Links q) k x i = absurd i
 event_fit f p (server.Unlinks q) k x i = absurd i
 event_fit f p (server.Reads n m) k x i = absurd i
+event_fit f p (server.ReadsLong n total m) k x i = absurd i
 
 one_fit : (h : Happening) → IsFine IsFit h → (x : Entry) → IsAmong (proposal h) x → IsFit x
 one_fit (worlds.At f p e) k x i = event_fit f p e k x i
 one_fit (worlds.Delivers f n) k x i = absurd i
+one_fit (worlds.DeliversLong f n total) k x i = absurd i
 one_fit (worlds.Stops p) k x i = absurd i
 one_fit (worlds.Opens p after) k x i = absurd i
 

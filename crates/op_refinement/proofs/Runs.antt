@@ -81,7 +81,7 @@ module _ (first : List ℕ) (ks : List Happening) (messages : List Sent) (n : No
   node_stands = stored_stands first ks n.pid n.state.durable held
 
   -- its service is that of the list's front
-  served_part : (d : Option StoredPart) (o : Option Part) → st.part ≡ o → IfPartRel (lists_of first ks) d n.state.volatile.role o → IfServes (lists_of first ks) n.state.service o → ServesDecided (lists_of first ks) d n.state.service
+  served_part : (d : Option StoredPart) (o : Option Part) → st.part ≡ o → IfPartRel (lists_of first ks) d n.state.volatile o → IfServes (lists_of first ks) n.state.service o → ServesDecided (lists_of first ks) d n.state.service
   served_part None o e r s = tt
   served_part (Some p) None e r s = absurd r
   served_part (Some p) (Some pt) e r s =
@@ -297,12 +297,12 @@ module _ (Fine : Entry → Type 0) (members : List ℕ) where
   unfolding run start machine_of worlds.machine_after
   start_rel pid low = by (is_member nat_eq members pid) refl
     where
-      first_rel : PartRel [] (Rattle.op_types.specs.Changes.new_part 1 members (Rattle.op_spec.specs.Service.base_bytes Rattle.op_spec.specs.Service.new_service)) Rattle.op_types.specs.Roles.Idle (server.new_part 1 members)
+      first_rel : PartRel [] (Rattle.op_types.specs.Changes.new_part 1 members (Rattle.op_spec.specs.Service.base_bytes Rattle.op_spec.specs.Service.new_service)) (Rattle.op_protocol.specs.Starting.first_volatile pid) (server.new_part 1 members)
       first_rel = record { front = []; fits = record { size = refl; low = omega arith }; seen = refl; small = (omega arith, omega arith); small_role = tt; conf = refl; members = refl; base = refl }
 
       by : (b : Bool) → is_member nat_eq members pid ≡ b → NodeRel members [] [] (first_node members pid)
-      by true e = rw e (record { low = low; rel = rw e (record { part = first_rel; closed = tt; joining = tt }); serves = rw e refl; status = refl })
-      by false e = rw e (record { low = low; rel = rw e (record { part = tt; closed = tt; joining = tt }); serves = rw e tt; status = refl })
+      by true e = rw e (record { low = low; rel = rw e (record { part = first_rel; closed = tt; joining = tt; stage = tt }); serves = rw e refl; status = refl })
+      by false e = rw e (record { low = low; rel = rw e (record { part = tt; closed = tt; joining = tt; stage = tt }); serves = rw e tt; status = refl })
 
   each_start : (ids : List ℕ) → Each (λ q. q < pure.owner_count) ids → Each (NodeRel members [] []) (map (first_node members) ids)
   each_start [] k = tt

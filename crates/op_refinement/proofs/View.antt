@@ -1,9 +1,12 @@
 -- What a part, a role and messages are in the pure machine: ballots are numbers there, and roles go by functions from ids.
-use Rattle.std.proofs.Common.{◌≡◌, ◌<◌, ◌≤◌, length, ℕ, ◌+◌, ◌*◌, Bool, true, false, eqb, ltb, is_some, List, [], ◌∷◌, ◌++◌, map, filter, Option, Some, None, refl, sym, ap, ◌∙◌, subst, ⊎_elim, arith, nat_eq, slice_get}
+use Rattle.std.proofs.Common.{◌≡◌, ◌<◌, ◌≤◌, length, ℕ, ◌+◌, ◌*◌, Bool, true, false, cond, eqb, ltb, leb, is_some, List, [], ◌∷◌, ◌++◌, map, filter, Option, Some, None, refl, sym, ap, ◌∙◌, subst, ⊎_elim, arith, nat_eq, slice_get}
 use Rattle.std.proofs.lemmas.Bool.{lt-ltb, le-ltb, eq-eqb, ne_eqb, cases_order, cond_both}
 use Rattle.std.specs.Set.{is_member}
 use Rattle.op_types.specs.Ballots.{is_below, is_same_ballot}
-use Rattle.op_types.specs.RoleStates.{Preparing, Leading, promise_of, acknowledged_of, report_of}
+use Rattle.op_types.specs.RoleStates.{Preparing, Leading, promise_of, stage_of, acknowledged_of, report_of}
+use Rattle.op_types.specs.Joinings.{Held}
+use Rattle.op_types.specs.Cutting.{parts_from, whole_or_parts, cut, entries_size}
+use Rattle.op_types.specs.Limits.{most_part_bytes}
 use Rattle.op_types.specs.Roles as role
 use Rattle.op_types.specs.Roles.{Role}
 use Rattle.op_types.specs.declared.ballot.Ballot.{Ballot}
@@ -11,10 +14,13 @@ use Rattle.op_types.specs.declared.durable.Part.{Part}
 use Rattle.op_types.specs.declared.messages.Body.{Body}
 use Rattle.op_types.specs.declared.messages.Body.TheVariants as body
 use Rattle.op_types.specs.declared.messages.Msg.{Msg}
+use Rattle.op_types.specs.declared.runs.PromisedRun.{PromisedRun}
+use Rattle.op_types.specs.declared.runs.SyncRun.{SyncRun}
 use Rattle.op_types.specs.declared.role.Promised.{Promised}
 use Rattle.op_types.specs.declared.role.Buffered.{Buffered}
 use Rattle.op_types.specs.declared.log.Entry.{Entry}
-use Rattle.op_protocol.specs.Parts.{message, others, to_each}
+use Rattle.op_protocol.specs.State.{Volatile}
+use Rattle.op_protocol.specs.Parts.{message, messages, others, to_each}
 use Rattle.op_runs.specs.World.{Sent, sent_by}
 use Rattle.op_paxos.specs.Nodes.{owner_count, owner}
 use Rattle.op_refinement.proofs.Pure as pure
@@ -96,7 +102,7 @@ entries_of buffer = map (λ b. b.entry) buffer
 
 -- who prepares
 abbrev pub view_preparing : Preparing → pure.PreparingState
-view_preparing r = record { ballot = rank r.ballot; kept = λ q. view_kept (promise_of r.promises q); buffer = entries_of r.buffer }
+view_preparing r = record { ballot = rank r.ballot; kept = λ q. view_kept (promise_of r.promises q); parts = λ q. stage_of r.stages q; buffer = entries_of r.buffer }
 
 -- who leads
 abbrev pub view_leading : Leading → pure.LeadingState
@@ -112,9 +118,13 @@ view_role (role.Leading l) = pure.Leading (view_leading l)
 abbrev pub whole_log : List Entry → Part → List Entry
 whole_log front p = front ++ p.tail.items
 
--- a node with this part and role, whose trimmed entries were these
-abbrev pub view : List Entry → Part → Role → pure.Node
-view front p r = record { promised = rank p.promised; accepted = rank p.accepted; log = whole_log front p; decided = p.decided; trimmed = p.trimmed; role = view_role r }
+-- a node with this part, role and stage, whose trimmed entries were these
+abbrev pub view : List Entry → Part → Role → Held → pure.Node
+view front p r staged = record { promised = rank p.promised; accepted = rank p.accepted; log = whole_log front p; decided = p.decided; trimmed = p.trimmed; staged = staged; role = view_role r }
+
+-- the same, of what is kept in memory
+abbrev pub node_of : List Entry → Part → Volatile → pure.Node
+node_of front p v = view front p v.role v.staged
 
 -- these entries were trimmed, and no more than what is decided
 pub record Fits (front : List Entry) (p : Part) : Type 0 where
@@ -142,6 +152,8 @@ BodyIsSmall (body.Confirmed b r) = Unit {0}
 BodyIsSmall (body.Prepare n na nl nd) = IsSmall n × IsSmall na
 BodyIsSmall (body.Promise n fa fl fd s es) = IsSmall n × IsSmall fa
 BodyIsSmall (body.AcceptSync n x es) = IsSmall n
+BodyIsSmall (body.PromisePart n part) = IsSmall n × IsSmall part.accepted
+BodyIsSmall (body.AcceptSyncPart n part) = IsSmall n
 BodyIsSmall (body.Accept n a es) = IsSmall n
 BodyIsSmall (body.Accepted n x) = IsSmall n
 BodyIsSmall (body.Decide n x) = IsSmall n
@@ -155,10 +167,19 @@ BodyIsSmall (body.Trim x) = Unit {0}
 BodyIsSmall (body.NextConf members olds len trimmed) = Unit {0}
 BodyIsSmall body.AskBase = Unit {0}
 BodyIsSmall (body.BasePart at bytes) = Unit {0}
+BodyIsSmall (body.BasePiece piece) = Unit {0}
 BodyIsSmall (body.AskSegment from to) = Unit {0}
 BodyIsSmall (body.Segment at es) = Unit {0}
 
 -- ---- messages
+
+-- a part of a promise there
+abbrev pub view_promised_run : PromisedRun → pure.PromisedRun
+view_promised_run part = record { round = rank part.accepted; size = part.len; decided = part.decided; start = part.start; at = part.at; run = part.run }
+
+-- a part of an AcceptSync there
+abbrev pub view_sync_run : SyncRun → pure.SyncRun
+view_sync_run part = record { start = part.start; end = part.end; at = part.at; run = part.run }
 
 -- heartbeats have no counterpart
 abbrev pub view_body : Body → Option pure.Msg
@@ -169,6 +190,8 @@ view_body (body.Confirmed b r) = None
 view_body (body.Prepare n na nl nd) = Some (pure.Prepare (rank n) (rank na) nl nd)
 view_body (body.Promise n fa fl fd s es) = Some (pure.Promise (rank n) (record { round = rank fa; size = fl; decided = fd; start = s; rest = es }))
 view_body (body.AcceptSync n x es) = Some (pure.AcceptSync (rank n) x es)
+view_body (body.PromisePart n part) = Some (pure.PromisePart (rank n) (view_promised_run part))
+view_body (body.AcceptSyncPart n part) = Some (pure.AcceptSyncPart (rank n) (view_sync_run part))
 view_body (body.Accept n a es) = Some (pure.Accept (rank n) a es)
 view_body (body.Accepted n x) = Some (pure.Accepted (rank n) x)
 view_body (body.Decide n x) = Some (pure.Decide (rank n) x)
@@ -182,6 +205,7 @@ view_body (body.Trim x) = Some (pure.Trim x)
 view_body (body.NextConf members olds len trimmed) = None
 view_body body.AskBase = None
 view_body (body.BasePart at bytes) = None
+view_body (body.BasePiece piece) = None
 view_body (body.AskSegment from to) = None
 view_body (body.Segment at es) = None
 
@@ -250,6 +274,25 @@ said_both {conf} me ps qs ss ts a b = subst (λ (xs : List Sent). Says conf (ps 
 -- one message
 pub said_one : (me conf q : ℕ) (b : Body) (m : pure.Msg) → view_body b ≡ Some m → BodyIsSmall b → SaysBy me conf (pure.packet me q m ∷ []) (message conf q b ∷ [])
 said_one me conf q b m e s = record { exact = ap (λ (o : Option pure.Msg). packet_more me q o []) e; small = (s, tt); inner = ((refl, ap is_some e), tt) }
+
+-- messages to one node, in order
+runs_said : (me conf q : ℕ) (part : ℕ → List Entry → Body) (f : ℕ → List Entry → pure.Msg) → ((at : ℕ) (run : List Entry) → (view_body (part at run) ≡ Some (f at run)) × BodyIsSmall (part at run)) → (at : ℕ) (runs : List (List Entry))
+    → SaysBy me conf (pure.packets me q (parts_from f at runs)) (messages conf q (parts_from part at runs))
+runs_said me conf q part f each at [] = says_none
+runs_said me conf q part f each at (run ∷ runs) =
+    said_both me (pure.packet me q (f at run) ∷ []) (pure.packets me q (parts_from f (at + length run) runs)) (message conf q (part at run) ∷ []) (messages conf q (parts_from part (at + length run) runs))
+    (said_one me conf q (part at run) (f at run) (each at run).0 (each at run).1) (runs_said me conf q part f each (at + length run) runs)
+
+-- a message, or its parts
+pub said_parts : (me conf q : ℕ) (b : Body) (part : ℕ → List Entry → Body) (m : pure.Msg) (f : ℕ → List Entry → pure.Msg) → view_body b ≡ Some m → BodyIsSmall b
+    → ((at : ℕ) (run : List Entry) → (view_body (part at run) ≡ Some (f at run)) × BodyIsSmall (part at run)) → (at : ℕ) (es : List Entry)
+    → SaysBy me conf (pure.packets me q (whole_or_parts m f at es)) (messages conf q (whole_or_parts b part at es))
+said_parts me conf q b part m f e s each at es =
+    by (leb (entries_size es) most_part_bytes)
+  where
+    by : (c : Bool) → SaysBy me conf (pure.packets me q (cond c (m ∷ []) (parts_from f at (cut es)))) (messages conf q (cond c (b ∷ []) (parts_from part at (cut es))))
+    by true = said_one me conf q b m e s
+    by false = runs_said me conf q part f each at (cut es)
 
 -- the same message to each of the others that passes
 abbrev pub SaysTo : ℕ → ℕ → (ℕ → Bool) → Body → pure.Msg → List ℕ → Type 0

@@ -3,10 +3,12 @@ use Rattle.std.proofs.Common.{◌≡◌, ◌<◌, ◌≤◌, ℕ, ◌+◌, ◌-�
 use Rattle.std.specs.Ordering.{nat_cmp}
 use Rattle.std.specs.BTreeMap.{insert_entry}
 use Rattle.std.specs.Prelude.{slice_get}
-use Rattle.std.proofs.lemmas.Bool.{true≢false, and_right, and_parts, eqb-true, lt-ltb}
+use Rattle.std.proofs.lemmas.Bool.{true≢false, and_right, and_parts, and_from, eqb-true, eq-eqb, lt-ltb, ltb-false}
 use Rattle.std.proofs.lemmas.List.{length-take-le}
 use Rattle.op_types.specs.Changes.{durable_after, joining_with, joining_option_with}
 use Rattle.op_types.specs.Limits.{most_donors}
+use Rattle.op_types.specs.Stages.{Pieces, with_piece, whole_bytes}
+use Rattle.op_types.specs.declared.runs.Piece.{Piece}
 use Rattle.op_types.specs.Joinings.{Base as StoredBase, donor_at, held_at, held_with, held_run, with_base, with_held}
 use Rattle.op_types.specs.declared.changes.Change.{Change}
 use Rattle.op_types.specs.declared.changes.Change.TheVariants as change
@@ -24,17 +26,21 @@ use Rattle.op_protocol.specs.State.{PartStep, Planned}
 use Rattle.op_protocol.specs.Parts.{message}
 use Rattle.op_protocol.specs.Tick.{remembering}
 use Rattle.op_protocol.specs.Bases.{is_base}
+use Rattle.op_protocol.proofs.Bases.{read_is_base}
 use Rattle.op_protocol.specs.Configurations.{latest_of}
-use Rattle.op_protocol.specs.Joining.{storing, begins, is_new_donor, joins, new_entries, are_some, takes_base, takes_entries, brought_to, holds_more}
+use Rattle.op_protocol.specs.Joining.{storing, storing_news, on_base_piece, takes_piece, base_once, pieces_once, begins, is_new_donor, joins, new_entries, are_some, takes_base, takes_entries, brought_to, holds_more}
 use Rattle.op_protocol.specs.Rows.{is_of_joining, may_be_above, is_prepare_req, on_older, on_newer, on_latest, message_step, brought_by, plan_of, step_bringing, table_plan}
 use Rattle.op_configurations.specs.Servers as server
-use Rattle.op_configurations.specs.Servers.{Part, Closed, Base, Joining, State, Letter, Fate, Stepped, says, unchanged, with_joining, start_if_whole}
+use Rattle.op_configurations.specs.Servers.{Part, Closed, Base, BaseStage, Joining, State, Letter, Fate, Stepped, says, unchanged, with_joining, staged_piece, has_all, is_piece, start_if_whole}
 use Rattle.op_configurations.specs.Laws.{BaseStands, StateStands, BodyStands}
 use Rattle.op_configurations.specs.Stored.{HoldsIfBase, HoldsJoining}
 use Rattle.op_configurations.proofs.Fronts.{some_same}
 use Rattle.op_refinement.proofs.Pure as pure
-use Rattle.op_refinement.proofs.Relation.{Reads, IsSaid, IsLetter, StateRel, StepRel}
-use Rattle.op_refinement.proofs.Inputs.{NodeFacts, is_past, event_of, step_by}
+use Rattle.op_refinement.proofs.Relation.{Reads, IfPiecesRel, IfLacking, StageRel, part_as, IsPiece, IsSaid, IsLetter, StateRel, StepRel}
+use Rattle.op_refinement.proofs.BasePieces.{whole_had, pieces_are, pieces_more}
+use Rattle.op_refinement.proofs.Worlds.{stands_on}
+use Rattle.op_paxos.specs.Agreement.{IsPrefix}
+use Rattle.op_refinement.proofs.Inputs.{NodeFacts, is_past, long_in, delivery_event, step_by}
 use Rattle.op_refinement.proofs.Steps.{AllRead}
 use Rattle.op_refinement.proofs.Others.{ahead_same, latest_is, older_rel}
 use Rattle.op_refinement.proofs.Outside.{Joins, nothing_rel, quiet, news_rel, base_asked_rel, segment_asked_rel}
@@ -54,6 +60,8 @@ joining_same lists conf (body.Confirmed z r) y i = ap server.is_for_joining (sym
 joining_same lists conf (body.Prepare z na nl nd) y i = ap server.is_for_joining (sym i.2)
 joining_same lists conf (body.Promise z fa fl fd a es) y i = ap server.is_for_joining (sym i.2)
 joining_same lists conf (body.AcceptSync z g es) y i = ap server.is_for_joining (sym i.2)
+joining_same lists conf (body.PromisePart z part) y i = ap server.is_for_joining (sym i.2)
+joining_same lists conf (body.AcceptSyncPart z part) y i = ap server.is_for_joining (sym i.2)
 joining_same lists conf (body.Accept z a es) y i = ap server.is_for_joining (sym i.2)
 joining_same lists conf (body.Accepted z g) y i = ap server.is_for_joining (sym i.2)
 joining_same lists conf (body.Decide z g) y i = ap server.is_for_joining (sym i.2)
@@ -71,33 +79,37 @@ joining_same lists conf (body.Trim g) y i = ap server.is_for_joining (sym i.2)
 joining_same lists conf (body.NextConf members olds len trimmed) y i = ap server.is_for_joining (sym i)
 joining_same lists conf body.AskBase y i = ap server.is_for_joining (sym i)
 joining_same lists conf (body.BasePart at bytes) y i = ap server.is_for_joining (sym i.1)
+joining_same lists conf (body.BasePiece piece) y i = ap server.is_for_joining (sym i.1)
 joining_same lists conf (body.AskSegment from to) y i = ap server.is_for_joining (sym i)
 joining_same lists conf (body.Segment at es) y i = ap server.is_for_joining (sym i)
 
 -- nothing else brings it anything
-brings_not : (d : StoredJoining) (c : ℕ) (b : Body) → is_of_joining b ≡ false → brought_to (Some d) c b ≡ None
-brings_not d c (body.HeartbeatRequest r) e = refl
-brings_not d c (body.HeartbeatReply r z g) e = refl
-brings_not d c (body.Confirm z r) e = refl
-brings_not d c (body.Confirmed z r) e = refl
-brings_not d c (body.Prepare z na nl nd) e = refl
-brings_not d c (body.Promise z fa fl fd a es) e = refl
-brings_not d c (body.AcceptSync z g es) e = refl
-brings_not d c (body.Accept z a es) e = refl
-brings_not d c (body.Accepted z g) e = refl
-brings_not d c (body.Decide z g) e = refl
-brings_not d c body.PrepareReq e = refl
-brings_not d c (body.Refuse z g) e = refl
-brings_not d c (body.Forward g) e = refl
-brings_not d c (body.Forwards g) e = refl
-brings_not d c (body.TrimAsk z) e = refl
-brings_not d c (body.Progress z g) e = refl
-brings_not d c (body.Trim g) e = refl
-brings_not d c (body.NextConf members olds len trimmed) e = absurd (true≢false e)
-brings_not d c body.AskBase e = absurd (true≢false e)
-brings_not d c (body.BasePart at bytes) e = absurd (true≢false e)
-brings_not d c (body.AskSegment from to) e = absurd (true≢false e)
-brings_not d c (body.Segment at es) e = absurd (true≢false e)
+brings_not : (d : StoredJoining) (o : Option Pieces) (c : ℕ) (b : Body) → is_of_joining b ≡ false → brought_to (Some d) o c b ≡ None
+brings_not d o c (body.HeartbeatRequest r) e = refl
+brings_not d o c (body.HeartbeatReply r z g) e = refl
+brings_not d o c (body.Confirm z r) e = refl
+brings_not d o c (body.Confirmed z r) e = refl
+brings_not d o c (body.Prepare z na nl nd) e = refl
+brings_not d o c (body.Promise z fa fl fd a es) e = refl
+brings_not d o c (body.AcceptSync z g es) e = refl
+brings_not d o c (body.PromisePart z part) e = refl
+brings_not d o c (body.AcceptSyncPart z part) e = refl
+brings_not d o c (body.Accept z a es) e = refl
+brings_not d o c (body.Accepted z g) e = refl
+brings_not d o c (body.Decide z g) e = refl
+brings_not d o c body.PrepareReq e = refl
+brings_not d o c (body.Refuse z g) e = refl
+brings_not d o c (body.Forward g) e = refl
+brings_not d o c (body.Forwards g) e = refl
+brings_not d o c (body.TrimAsk z) e = refl
+brings_not d o c (body.Progress z g) e = refl
+brings_not d o c (body.Trim g) e = refl
+brings_not d o c (body.NextConf members olds len trimmed) e = absurd (true≢false e)
+brings_not d o c body.AskBase e = absurd (true≢false e)
+brings_not d o c (body.BasePart at bytes) e = absurd (true≢false e)
+brings_not d o c (body.BasePiece piece) e = absurd (true≢false e)
+brings_not d o c (body.AskSegment from to) e = absurd (true≢false e)
+brings_not d o c (body.Segment at es) e = absurd (true≢false e)
 
 -- ---- tests
 
@@ -119,7 +131,7 @@ base_length : (l : List Entry) (y : Base) → BaseStands l y → length y.front 
 base_length l y k = ap (λ (x : List Entry). length x) k.front ∙ length-take-le y.at l k.within
 
 module _ (first : List ℕ) (lists : ℕ → List Entry) (soup : List Letter) (me : ℕ) (f : Fate) (s : table.State) (st : State) (k : NodeFacts lists soup me s st) (read : AllRead lists)
-    (old : ℕ → List Entry) (before : StateStands first old st) (q : ℕ) (n c : ℕ)
+    (old : ℕ → List Entry) (before : StateStands first old st) (grown : (x : ℕ) → IsPrefix (old x) (lists x)) (q : ℕ) (n c : ℕ)
     (d : StoredJoining) (hj : s.durable.joining ≡ Some d) (j : Joining) (tj : st.joining ≡ Some j) (h : HoldsJoining lists d j) where
   low : (l : Closed) → st.closed ≡ Some l → l.trimmed ≤ length l.list
   low l e = (before.closed l e).trimmed
@@ -137,6 +149,10 @@ module _ (first : List ℕ) (lists : ℕ → List Entry) (soup : List Letter) (m
   abbrev idle : Planned
   idle = plan_of me s s.waiting (remembering s.volatile [])
 
+  -- what came in pieces
+  stage_now : StageRel lists s.volatile.pieces (Some j)
+  stage_now = subst (StageRel lists s.volatile.pieces) tj (k.rel).stage
+
   idle_rel : Goes idle (unchanged st)
   idle_rel = nothing_rel lists soup me f s st k q low n c
 
@@ -150,12 +166,12 @@ module _ (first : List ℕ) (lists : ℕ → List Entry) (soup : List Letter) (m
 
   -- the server, with a donor more
   abbrev with_donor_too : ℕ → Joining
-  with_donor_too trimmed = record { conf = j.conf; members = j.members; olds = j.olds; len = j.len; donors = server.with_donor q trimmed j.donors; base = j.base; held = j.held }
+  with_donor_too trimmed = record { conf = j.conf; members = j.members; olds = j.olds; len = j.len; donors = server.with_donor q trimmed j.donors; base = j.base; held = j.held; stage = j.stage }
 
   donor_rel : (trimmed : ℕ) → server.is_donor q j.donors ≡ false → Goes (plan_of me s s.waiting (storing s.volatile (change.JoinDonor q trimmed ∷ []))) (unchanged (with_joining st (with_donor_too trimmed)))
   donor_rel trimmed none =
-      storing_rel lists soup me f s st k q (change.JoinDonor q trimmed ∷ []) (λ p. refl) (λ p. refl) (with_joining st (with_donor_too trimmed))
-      (subst (λ (o : Option StoredJoining). StateRel lists (record (s.durable) { joining = joining_option_with o (change.JoinDonor q trimmed) }) s.volatile.role (with_joining st (with_donor_too trimmed))) (sym hj)
+      storing_rel lists soup me f s st k q s.volatile (change.JoinDonor q trimmed ∷ []) (λ p. refl) (λ p. refl) (with_joining st (with_donor_too trimmed))
+      (subst (λ (o : Option StoredJoining). StateRel lists (record (s.durable) { joining = joining_option_with o (change.JoinDonor q trimmed) }) s.volatile (with_joining st (with_donor_too trimmed))) (sym hj)
       (record {
         part = (k.rel).part;
         closed = (k.rel).closed;
@@ -168,13 +184,14 @@ module _ (first : List ℕ) (lists : ℕ → List Entry) (soup : List Letter) (m
           base = h.base;
           held = h.held;
         };
+        stage = stage_now;
       })) refl
 
   joins_rel : Joins lists soup me f s st k q low n c
   unfolding server.invited_in
   joins_rel members olds len trimmed named higher =
-      subst (λ (o : Option StoredJoining). Goes (plan_of me s s.waiting (storing s.volatile (joins o q c members olds len trimmed))) (unchanged (server.invited_in st st.joining q c members olds len trimmed))) (sym hj)
-      (subst (λ (o : Option Joining). Goes (plan_of me s s.waiting (storing s.volatile (joins (Some d) q c members olds len trimmed))) (unchanged (server.invited_in st o q c members olds len trimmed))) (sym tj)
+      subst (λ (o : Option StoredJoining). Goes (plan_of me s s.waiting (storing_news s.volatile (joins o q c members olds len trimmed))) (unchanged (server.invited_in st st.joining q c members olds len trimmed))) (sym hj)
+      (subst (λ (o : Option Joining). Goes (plan_of me s s.waiting (storing_news s.volatile (joins (Some d) q c members olds len trimmed))) (unchanged (server.invited_in st o q c members olds len trimmed))) (sym tj)
       (by (ltb d.conf c) (ltb j.conf c) (ap (λ (x : ℕ). ltb x c) h.conf)))
     where
       same : (eqb d.conf c && is_new_donor d q trimmed) ≡ (eqb j.conf c && server.is_new_donor q trimmed j)
@@ -187,13 +204,13 @@ module _ (first : List ℕ) (lists : ℕ → List Entry) (soup : List Letter) (m
           not_so (server.is_donor q j.donors) (and_parts (not (server.is_donor q j.donors)) (ltb (length j.donors) 255) y.1).0
 
       more : (a b : Bool) → a ≡ b → (eqb j.conf c && server.is_new_donor q trimmed j) ≡ b
-          → Goes (plan_of me s s.waiting (storing s.volatile (cond a (change.JoinDonor q trimmed ∷ []) []))) (unchanged (cond b (with_joining st (with_donor_too trimmed)) st))
+          → Goes (plan_of me s s.waiting (storing_news s.volatile (cond a (change.JoinDonor q trimmed ∷ []) []))) (unchanged (cond b (with_joining st (with_donor_too trimmed)) st))
       more true true e t = donor_rel trimmed (none_yet t)
       more false false e t = idle_rel
       more true false e t = absurd (true≢false e)
       more false true e t = absurd (true≢false (sym e))
 
-      by : (a b : Bool) → a ≡ b → Goes (plan_of me s s.waiting (storing s.volatile (cond a (begins q c members olds len trimmed) (cond (eqb d.conf c && is_new_donor d q trimmed) (change.JoinDonor q trimmed ∷ []) []))))
+      by : (a b : Bool) → a ≡ b → Goes (plan_of me s s.waiting (storing_news s.volatile (cond a (begins q c members olds len trimmed) (cond (eqb d.conf c && is_new_donor d q trimmed) (change.JoinDonor q trimmed ∷ []) []))))
           (unchanged (cond b (server.begun st q c members olds len trimmed) (cond (eqb j.conf c && server.is_new_donor q trimmed j) (with_joining st (with_donor_too trimmed)) st)))
       by true true e = begins_rel lists soup me f s st k q c members olds len trimmed
       by false false e = more (eqb d.conf c && is_new_donor d q trimmed) (eqb j.conf c && server.is_new_donor q trimmed j) same refl
@@ -221,9 +238,9 @@ module _ (first : List ℕ) (lists : ℕ → List Entry) (soup : List Letter) (m
   stored_with x e = e ∙ ap (λ (o : Option StoredJoining). record (s.durable) { joining = joining_option_with o x }) hj
 
   -- the base of the closed list
-  module _ (at : ℕ) (bytes : List ℕ) (front : List Entry) (is : bytes ≡ base_bytes (service_of (lists_through lists (c - 1 - 1) ++ front))) (was : BaseStands (old (c - 1)) (record { at = at; front = front })) where
+  module _ (at : ℕ) (bytes : List ℕ) (front : List Entry) (stage : Option BaseStage) (is : bytes ≡ base_bytes (service_of (lists_through lists (c - 1 - 1) ++ front))) (was : BaseStands (old (c - 1)) (record { at = at; front = front })) where
     abbrev with_front : Joining
-    with_front = record { conf = j.conf; members = j.members; olds = j.olds; len = j.len; donors = j.donors; base = Some (record { at = at; front = front }); held = j.held }
+    with_front = record { conf = j.conf; members = j.members; olds = j.olds; len = j.len; donors = j.donors; base = Some (record { at = at; front = front }); held = j.held; stage = stage }
 
     abbrev takes_it : Bool
     takes_it = eqb j.conf c && (not (is_some j.base) && leb at j.len)
@@ -246,20 +263,24 @@ module _ (first : List ℕ) (lists : ℕ → List Entry) (soup : List Letter) (m
     is_one : takes_it ≡ true → After (start_if_whole f me st with_front) → is_base bytes ≡ true
     is_one e a =
         let r : Reads (lists_through lists (j.conf - 1 - 1) ++ front) = front_read lists j.conf above read front (front_of first lists f me st with_front (record { at = at; front = front }) refl a) in
-        ap is_base (base_now e) ∙ ap is_some r
+        let t = service_of (lists_through lists (j.conf - 1 - 1) ++ front) in
+        ap is_base (base_now e) ∙ read_is_base (base_bytes t) t r refl
 
     taken_rel : takes_it ≡ true → After (start_if_whole f me st with_front) → Goes (holds_more me s (change.JoinBase at bytes ∷ [])) (start_if_whole f me st with_front)
     taken_rel e a =
         holds_rel lists soup me f s st k read (change.JoinBase at bytes ∷ []) (with_base d (at, bytes)) with_front (stored_with (change.JoinBase at bytes) refl)
-        (record { conf = h.conf; members = h.members; olds = h.olds; len = h.len; donors = h.donors; base = (refl, base_now e); held = h.held }) above first a
+        (record { conf = h.conf; members = h.members; olds = h.olds; len = h.len; donors = h.donors; base = (refl, base_now e); held = h.held }) tt above first a
         (λ y i. subst (λ (x : Base). length x.front ≡ x.at) (some_same (record { at = at; front = front }) y i) (base_length (old (c - 1)) (record { at = at; front = front }) was))
 
-    base_rel : After (server.based f me st st.joining c at front) → Goes (planned_by (brought_to (Some d) c (body.BasePart at bytes)) (body.BasePart at bytes)) (server.based f me st st.joining c at front)
+    base_rel : stage ≡ j.stage → After (server.based f me st st.joining c at front) → Goes (planned_by (brought_to (Some d) s.volatile.pieces c (body.BasePart at bytes)) (body.BasePart at bytes)) (server.based f me st st.joining c at front)
     unfolding server.based
-    base_rel a =
-        subst (λ (o : Option Joining). After (server.based f me st o c at front) → Goes (planned_by (brought_to (Some d) c (body.BasePart at bytes)) (body.BasePart at bytes)) (server.based f me st o c at front)) (sym tj)
-        (by takes_it refl) a
+    base_rel same a =
+        subst (λ (o : Option Joining). After (server.based f me st o c at front) → Goes (planned_by (brought_to (Some d) s.volatile.pieces c (body.BasePart at bytes)) (body.BasePart at bytes)) (server.based f me st o c at front)) (sym tj)
+        (subst (λ (y : Option BaseStage). After (based_with y) → Goes (planned_by (brought_to (Some d) s.volatile.pieces c (body.BasePart at bytes)) (body.BasePart at bytes)) (based_with y)) same (by takes_it refl)) a
       where
+        based_with : Option BaseStage → Stepped
+        based_with y = cond takes_it (start_if_whole f me st (record { conf = j.conf; members = j.members; olds = j.olds; len = j.len; donors = j.donors; base = Some (record { at = at; front = front }); held = j.held; stage = y })) (unchanged st)
+
         by : (b : Bool) → takes_it ≡ b → After (cond b (start_if_whole f me st with_front) (unchanged st))
             → Goes (planned_by (cond (takes_base d c at bytes) (Some (change.JoinBase at bytes ∷ [])) None) (body.BasePart at bytes)) (cond b (start_if_whole f me st with_front) (unchanged st))
         by true e w =
@@ -269,10 +290,123 @@ module _ (first : List ℕ) (lists : ℕ → List Entry) (soup : List Letter) (m
             subst (λ (b : Bool). Goes (planned_by (cond b (Some (change.JoinBase at bytes ∷ [])) None) (body.BasePart at bytes)) (unchanged st))
             (sym (takes_same ∙ ap (λ (b : Bool). b && is_base bytes) e)) (quiet lists soup me f s st k q low n c (body.BasePart at bytes) (λ p i. refl))
 
+  -- a piece of that base
+  module _ (piece : Piece) (front : List Entry) (is : IsPiece (base_bytes (service_of (lists_through lists (c - 1 - 1) ++ front))) piece) (was : BaseStands (old (c - 1)) (record { at = piece.at; front = front })) where
+    abbrev bytes : List ℕ
+    bytes = base_bytes (service_of (lists_through lists (c - 1 - 1) ++ front))
+
+    -- what came with it, and what the server has
+    abbrev came : Pieces
+    came = with_piece s.volatile.pieces piece
+
+    abbrev staged : BaseStage
+    staged = staged_piece j.stage piece.at piece.from (length piece.bytes)
+
+    abbrev takes_one : Bool
+    takes_one = eqb j.conf c && is_piece j piece.at piece.total piece.from (length piece.bytes)
+
+    one_same : takes_piece d c piece ≡ takes_one
+    one_same =
+        let inside : Bool = leb (piece.from + length piece.bytes) piece.total in
+        ap (λ (x : ℕ). eqb x c && (not (is_some d.base) && (leb piece.at d.len && inside))) h.conf
+        ∙ ap (λ (x : ℕ). eqb j.conf c && (not (is_some d.base) && (leb piece.at x && inside))) h.len
+        ∙ ap (λ (b : Bool). eqb j.conf c && (not b && (leb piece.at j.len && inside))) (base_known lists j.conf d.base j.base h.base)
+        ∙ ap (λ (b : Bool). eqb j.conf c && (not (is_some j.base) && (leb piece.at j.len && (b && inside)))) (sym (lt-ltb 0 (length piece.bytes) is.some))
+
+    module _ (e : takes_one ≡ true) where
+      there : j.conf ≡ c
+      there = eqb-true j.conf c (and_parts (eqb j.conf c) (is_piece j piece.at piece.total piece.from (length piece.bytes)) e).0
+
+      lacks : not (is_some j.base) ≡ true
+      lacks = (and_parts (not (is_some j.base)) _ (and_parts (eqb j.conf c) (is_piece j piece.at piece.total piece.from (length piece.bytes)) e).1).0
+
+      within : leb piece.at j.len ≡ true
+      within = (and_parts (leb piece.at j.len) _ (and_parts (not (is_some j.base)) _ (and_parts (eqb j.conf c) (is_piece j piece.at piece.total piece.from (length piece.bytes)) e).1).1).0
+
+      takes_base_now : takes_it piece.at bytes front None refl was ≡ true
+      takes_base_now = and_from (eqb j.conf c) (not (is_some j.base) && leb piece.at j.len) (eq-eqb j.conf c there) (and_from (not (is_some j.base)) (leb piece.at j.len) lacks within)
+
+      is_here : IsPiece (base_bytes (service_of (lists_through lists (j.conf - 1 - 1) ++ front))) piece
+      is_here = subst (λ (x : ℕ). IsPiece (base_bytes (service_of (lists_through lists (x - 1 - 1) ++ front))) piece) (sym there) is
+
+      stands_here : BaseStands (lists (j.conf - 1)) (record { at = piece.at; front = front })
+      stands_here = subst (λ (x : ℕ). BaseStands (lists (x - 1)) (record { at = piece.at; front = front })) (sym there) (stands_on (old (c - 1)) (lists (c - 1)) (record { at = piece.at; front = front }) (grown (c - 1)) was)
+
+      so_far : IfPiecesRel lists j.conf s.volatile.pieces j.stage
+      so_far = lacking j.base lacks stage_now
+        where
+          lacking : (o : Option Base) → not (is_some o) ≡ true → IfLacking o (IfPiecesRel lists j.conf s.volatile.pieces j.stage) → IfPiecesRel lists j.conf s.volatile.pieces j.stage
+          lacking None x y = y
+          lacking (Some b) x y = absurd (true≢false (sym x))
+
+      whole_is : whole_bytes came.bytes ≡ cond (has_all staged.has piece.total) (Some bytes) None
+      whole_is =
+          ap whole_bytes (pieces_are lists j.conf piece front is_here stands_here s.volatile.pieces j.stage so_far)
+          ∙ ap (λ (x : ℕ). whole_bytes (Rattle.op_refinement.proofs.Relation.bytes_had staged.has 0 (base_bytes (service_of (lists_through lists (x - 1 - 1) ++ front))))) there
+          ∙ whole_had staged.has bytes ∙ ap (λ (x : ℕ). cond (has_all staged.has x) (Some bytes) None) (sym is.total)
+
+      -- some are missing still
+      staged_rel : whole_bytes came.bytes ≡ None → Goes (plan_of me s s.waiting (on_base_piece s.durable.joining s.volatile c piece)) (unchanged (with_joining st (record j { stage = Some staged })))
+      staged_rel none =
+          let more : table.Volatile = record (s.volatile) { pieces = Some came } in
+          let row : on_base_piece s.durable.joining s.volatile c piece ≡ storing more [] =
+          ap (λ (o : Option StoredJoining). on_base_piece o s.volatile c piece) hj
+          ∙ ap (λ (b : Bool). cond b (storing (record (s.volatile) { pieces = pieces_once came (whole_bytes came.bytes) }) []) (storing s.volatile [])) (one_same ∙ e)
+          ∙ ap (λ (o : Option (List ℕ)). storing (record (s.volatile) { pieces = pieces_once came o }) []) none in
+          subst (λ (x : PartStep). Goes (plan_of me s s.waiting x) (unchanged (with_joining st (record j { stage = Some staged })))) (sym row)
+          (storing_rel lists soup me f s st k q more [] (λ p. refl) (λ p. refl) (with_joining st (record j { stage = Some staged }))
+          (record {
+            part = part_as lists s.durable.part s.volatile more st.part refl (k.rel).part;
+            closed = (k.rel).closed;
+            joining = subst (λ (o : Option StoredJoining). Rattle.op_configurations.specs.Stored.HoldsIfJoining lists o (Some (record j { stage = Some staged }))) (sym hj)
+                (record { conf = h.conf; members = h.members; olds = h.olds; len = h.len; donors = h.donors; base = h.base; held = h.held });
+            stage = lacking j.base (pieces_more lists j.conf piece front is_here stands_here s.volatile.pieces j.stage so_far);
+          }) refl)
+        where
+          lacking : (o : Option Base) {P : Type 0} → P → IfLacking o P
+          lacking None x = x
+          lacking (Some b) x = tt
+
+      -- by whether all came
+      once_rel : (b : Bool) → has_all staged.has piece.total ≡ b → After (cond b (start_if_whole f me st (with_front piece.at bytes front None refl was)) (unchanged (with_joining st (record j { stage = Some staged }))))
+          → Goes (planned_by (base_once d c piece.at (whole_bytes came.bytes)) (body.BasePiece piece)) (cond b (start_if_whole f me st (with_front piece.at bytes front None refl was)) (unchanged (with_joining st (record j { stage = Some staged }))))
+      once_rel true all w =
+          subst (λ (o : Option (List ℕ)). Goes (planned_by (base_once d c piece.at o) (body.BasePiece piece)) (start_if_whole f me st (with_front piece.at bytes front None refl was)))
+          (sym (whole_is ∙ ap (λ (b : Bool). cond b (Some bytes) None) all))
+          (subst (λ (b : Bool). Goes (planned_by (cond b (Some (change.JoinBase piece.at bytes ∷ [])) None) (body.BasePiece piece)) (start_if_whole f me st (with_front piece.at bytes front None refl was)))
+          (sym (takes_same piece.at bytes front None refl was ∙ ap (λ (b : Bool). b && is_base bytes) takes_base_now ∙ is_one piece.at bytes front None refl was takes_base_now w))
+          (taken_rel piece.at bytes front None refl was takes_base_now w))
+      once_rel false some w =
+          let none : whole_bytes came.bytes ≡ None = whole_is ∙ ap (λ (b : Bool). cond b (Some bytes) None) some in
+          subst (λ (o : Option (List ℕ)). Goes (planned_by (base_once d c piece.at o) (body.BasePiece piece)) (unchanged (with_joining st (record j { stage = Some staged })))) (sym none) (staged_rel none)
+
+    piece_rel : After (server.pieced f me st st.joining c piece.at piece.total piece.from (length piece.bytes) front)
+        → Goes (planned_by (brought_to (Some d) s.volatile.pieces c (body.BasePiece piece)) (body.BasePiece piece)) (server.pieced f me st st.joining c piece.at piece.total piece.from (length piece.bytes) front)
+    unfolding server.pieced server.completed
+    piece_rel a =
+        subst (λ (o : Option Joining). After (server.pieced f me st o c piece.at piece.total piece.from (length piece.bytes) front)
+        → Goes (planned_by (brought_to (Some d) s.volatile.pieces c (body.BasePiece piece)) (body.BasePiece piece)) (server.pieced f me st o c piece.at piece.total piece.from (length piece.bytes) front)) (sym tj)
+        (by takes_one refl) a
+      where
+        completed : Stepped
+        completed = cond (has_all staged.has piece.total) (start_if_whole f me st (with_front piece.at bytes front None refl was)) (unchanged (with_joining st (record j { stage = Some staged })))
+
+        by : (b : Bool) → takes_one ≡ b → After (cond b completed (unchanged st))
+            → Goes (planned_by (cond (takes_piece d c piece) (base_once d c piece.at (whole_bytes came.bytes)) None) (body.BasePiece piece)) (cond b completed (unchanged st))
+        by true e w =
+            subst (λ (b : Bool). Goes (planned_by (cond b (base_once d c piece.at (whole_bytes came.bytes)) None) (body.BasePiece piece)) completed) (sym (one_same ∙ e))
+            (once_rel e (has_all staged.has piece.total) refl w)
+        by false e w =
+            let row : on_base_piece s.durable.joining s.volatile c piece ≡ remembering s.volatile [] =
+            ap (λ (o : Option StoredJoining). on_base_piece o s.volatile c piece) hj
+            ∙ ap (λ (b : Bool). cond b (storing (record (s.volatile) { pieces = pieces_once came (whole_bytes came.bytes) }) []) (storing s.volatile [])) (one_same ∙ e) in
+            subst (λ (b : Bool). Goes (planned_by (cond b (base_once d c piece.at (whole_bytes came.bytes)) None) (body.BasePiece piece)) (unchanged st)) (sym (one_same ∙ e))
+            (subst (λ (x : PartStep). Goes (plan_of me s s.waiting x) (unchanged st)) (sym row) idle_rel)
+
   -- entries of the closed list
   module _ (at : ℕ) (es : List Entry) where
     abbrev with_entries : Joining
-    with_entries = record { conf = j.conf; members = j.members; olds = j.olds; len = j.len; donors = j.donors; base = j.base; held = server.held_with j.held at es }
+    with_entries = record { conf = j.conf; members = j.members; olds = j.olds; len = j.len; donors = j.donors; base = j.base; held = server.held_with j.held at es; stage = j.stage }
 
     abbrev takes_them : Bool
     takes_them = eqb j.conf c && (ltb 0 (length es) && leb (at + length es) j.len)
@@ -304,15 +438,15 @@ module _ (first : List ℕ) (lists : ℕ → List Entry) (soup : List Letter) (m
         by : (b : Bool) → is_some (held_run d.held.items at (length es)) ≡ b → Goes (holds_more me s (cond b [] (change.JoinPart at es ∷ []))) (start_if_whole f me st with_entries)
         by true e =
             holds_rel lists soup me f s st k read [] d with_entries (ap (λ (o : Option StoredJoining). record (s.durable) { joining = o }) hj)
-            (more_held d refl refl refl refl refl refl (sym (held_all d.held.items at es e))) above first a base_size
+            (more_held d refl refl refl refl refl refl (sym (held_all d.held.items at es e))) stage_now above first a base_size
         by false e =
             holds_rel lists soup me f s st k read (change.JoinPart at es ∷ []) (with_held d at es) with_entries (stored_with (change.JoinPart at es) refl)
-            (more_held (with_held d at es) refl refl refl refl refl refl refl) above first a base_size
+            (more_held (with_held d at es) refl refl refl refl refl refl refl) stage_now above first a base_size
 
-    segment_rel : After (server.got_segment f me st st.joining c at es) → Goes (planned_by (brought_to (Some d) c (body.Segment at es)) (body.Segment at es)) (server.got_segment f me st st.joining c at es)
+    segment_rel : After (server.got_segment f me st st.joining c at es) → Goes (planned_by (brought_to (Some d) s.volatile.pieces c (body.Segment at es)) (body.Segment at es)) (server.got_segment f me st st.joining c at es)
     unfolding server.got_segment
     segment_rel a =
-        subst (λ (o : Option Joining). After (server.got_segment f me st o c at es) → Goes (planned_by (brought_to (Some d) c (body.Segment at es)) (body.Segment at es)) (server.got_segment f me st o c at es)) (sym tj)
+        subst (λ (o : Option Joining). After (server.got_segment f me st o c at es) → Goes (planned_by (brought_to (Some d) s.volatile.pieces c (body.Segment at es)) (body.Segment at es)) (server.got_segment f me st o c at es)) (sym tj)
         (by (takes_entries d c at es) takes_them takes_also) a
       where
         by : (b e : Bool) → b ≡ e → After (cond e (start_if_whole f me st with_entries) (unchanged st))
@@ -345,53 +479,66 @@ module _ (first : List ℕ) (lists : ℕ → List Entry) (soup : List Letter) (m
       same None = refl
       same (Some batch) = refl
 
-  asked_rel : (b : Body) (y : server.Body) → Goes (plan_of me s s.waiting (on_latest me s.durable s.volatile q c b)) (server.takes f me st n q c y) → (t : Bool) → Goes (by_test t None b) (done_by t y)
-  asked_rel b y go true = above_rel b y
-  asked_rel b y go false = go
+  asked_rel : (b : Body) (y : server.Body) → may_be_above b ≡ false → ltb c (latest_of s.durable) ≡ false → (c ≡ latest_of s.durable → Goes (plan_of me s s.waiting (on_latest me s.durable s.volatile q c b)) (server.takes f me st n q c y)) → (t : Bool) → is_newer b ≡ t → Goes (by_test t None b) (done_by t y)
+  asked_rel b y may older go true e = above_rel b y
+  asked_rel b y may older go false e =
+      let above : ltb (latest_of s.durable) c ≡ false = sym (and_true (ltb (latest_of s.durable) c)) ∙ ap (λ (x : Bool). ltb (latest_of s.durable) c && not x) (sym may) ∙ e in
+      go (omega (arith, ltb-false (latest_of s.durable) c above, ltb-false c (latest_of s.durable) older))
+    where
+      and_true : (b : Bool) → (b && true) ≡ b
+      and_true true = refl
+      and_true false = refl
 
-  body_rel : (b : Body) (y : server.Body) → is_of_joining b ≡ true → IsSaid lists c b y → BodyStands first old c y → After (done_by (is_newer b) y) → Goes (by_test (is_newer b) (brought_to (Some d) c b) b) (done_by (is_newer b) y)
+  body_rel : (b : Body) (y : server.Body) → is_of_joining b ≡ true → IsSaid lists c b y → BodyStands first old c y → ltb c (latest_of s.durable) ≡ false → long_in s.durable (record { conf = c; body = b }) ≡ None → After (done_by (is_newer b) y) → Goes (by_test (is_newer b) (brought_to (Some d) s.volatile.pieces c b) b) (done_by (is_newer b) y)
   unfolding server.takes
-  body_rel (body.NextConf members olds len trimmed) y e i true_of v =
+  body_rel (body.NextConf members olds len trimmed) y e i true_of older short v =
       let b : Body = body.NextConf members olds len trimmed in
       latest_rel b y None refl
       (λ w. subst (λ (x : server.Body). Goes (planned_by None b) (server.takes f me st n q c x)) (sym i) (news_rel lists soup me f s st k q low n c joins_rel members olds len trimmed)) v
-  body_rel body.AskBase y e i true_of v =
-      asked_rel body.AskBase y (subst (λ (x : server.Body). Goes (planned_by None body.AskBase) (server.takes f me st n q c x)) (sym i) (base_asked_rel lists soup me f s st k q low n c)) (is_newer body.AskBase)
-  body_rel (body.BasePart at bytes) y e i true_of v =
+  body_rel body.AskBase y e i true_of older short v =
+      asked_rel body.AskBase y refl older (λ here. subst (λ (x : server.Body). Goes (planned_by None body.AskBase) (server.takes f me st n q c x)) (sym i) (base_asked_rel lists soup me f s st k q low n c here short)) (is_newer body.AskBase) refl
+  body_rel (body.BasePart at bytes) y e i true_of older short v =
       let b : Body = body.BasePart at bytes in
-      latest_rel b y (brought_to (Some d) c b) refl
-      (subst (λ (x : server.Body). After (server.takes f me st n q c x) → Goes (planned_by (brought_to (Some d) c b) b) (server.takes f me st n q c x)) (sym i.1)
-      (base_rel at bytes i.0 i.2 (subst (BodyStands first old c) i.1 true_of))) v
-  body_rel (body.AskSegment from to) y e i true_of v =
+      latest_rel b y (brought_to (Some d) s.volatile.pieces c b) refl
+      (subst (λ (x : server.Body). After (server.takes f me st n q c x) → Goes (planned_by (brought_to (Some d) s.volatile.pieces c b) b) (server.takes f me st n q c x)) (sym i.1)
+      (base_rel at bytes i.0 j.stage i.2 (subst (BodyStands first old c) i.1 true_of) refl)) v
+  body_rel (body.BasePiece piece) y e i true_of older short v =
+      let b : Body = body.BasePiece piece in
+      latest_rel b y (brought_to (Some d) s.volatile.pieces c b) refl
+      (subst (λ (x : server.Body). After (server.takes f me st n q c x) → Goes (planned_by (brought_to (Some d) s.volatile.pieces c b) b) (server.takes f me st n q c x)) (sym i.1)
+      (piece_rel piece i.0 i.2 (subst (BodyStands first old c) i.1 true_of))) v
+  body_rel (body.AskSegment from to) y e i true_of older short v =
       let b : Body = body.AskSegment from to in
-      asked_rel b y (subst (λ (x : server.Body). Goes (planned_by None b) (server.takes f me st n q c x)) (sym i) (segment_asked_rel lists soup me f s st k q low n c from to)) (is_newer b)
-  body_rel (body.Segment at es) y e i true_of v =
+      asked_rel b y refl older (λ here. subst (λ (x : server.Body). Goes (planned_by None b) (server.takes f me st n q c x)) (sym i) (segment_asked_rel lists soup me f s st k q low n c from to)) (is_newer b) refl
+  body_rel (body.Segment at es) y e i true_of older short v =
       let b : Body = body.Segment at es in
-      latest_rel b y (brought_to (Some d) c b) refl
-      (subst (λ (x : server.Body). After (server.takes f me st n q c x) → Goes (planned_by (brought_to (Some d) c b) b) (server.takes f me st n q c x)) (sym i) (segment_rel at es)) v
-  body_rel (body.HeartbeatRequest r) y e i true_of v = absurd (true≢false (sym e))
-  body_rel (body.HeartbeatReply r z g) y e i true_of v = absurd (true≢false (sym e))
-  body_rel (body.Confirm z r) y e i true_of v = absurd (true≢false (sym e))
-  body_rel (body.Confirmed z r) y e i true_of v = absurd (true≢false (sym e))
-  body_rel (body.Prepare z na nl nd) y e i true_of v = absurd (true≢false (sym e))
-  body_rel (body.Promise z fa fl fd a es) y e i true_of v = absurd (true≢false (sym e))
-  body_rel (body.AcceptSync z g es) y e i true_of v = absurd (true≢false (sym e))
-  body_rel (body.Accept z a es) y e i true_of v = absurd (true≢false (sym e))
-  body_rel (body.Accepted z g) y e i true_of v = absurd (true≢false (sym e))
-  body_rel (body.Decide z g) y e i true_of v = absurd (true≢false (sym e))
-  body_rel body.PrepareReq y e i true_of v = absurd (true≢false (sym e))
-  body_rel (body.Refuse z g) y e i true_of v = absurd (true≢false (sym e))
-  body_rel (body.Forward g) y e i true_of v = absurd (true≢false (sym e))
-  body_rel (body.Forwards g) y e i true_of v = absurd (true≢false (sym e))
-  body_rel (body.TrimAsk z) y e i true_of v = absurd (true≢false (sym e))
-  body_rel (body.Progress z g) y e i true_of v = absurd (true≢false (sym e))
-  body_rel (body.Trim g) y e i true_of v = absurd (true≢false (sym e))
+      latest_rel b y (brought_to (Some d) s.volatile.pieces c b) refl
+      (subst (λ (x : server.Body). After (server.takes f me st n q c x) → Goes (planned_by (brought_to (Some d) s.volatile.pieces c b) b) (server.takes f me st n q c x)) (sym i) (segment_rel at es)) v
+  body_rel (body.HeartbeatRequest r) y e i true_of older short v = absurd (true≢false (sym e))
+  body_rel (body.HeartbeatReply r z g) y e i true_of older short v = absurd (true≢false (sym e))
+  body_rel (body.Confirm z r) y e i true_of older short v = absurd (true≢false (sym e))
+  body_rel (body.Confirmed z r) y e i true_of older short v = absurd (true≢false (sym e))
+  body_rel (body.Prepare z na nl nd) y e i true_of older short v = absurd (true≢false (sym e))
+  body_rel (body.Promise z fa fl fd a es) y e i true_of older short v = absurd (true≢false (sym e))
+  body_rel (body.AcceptSync z g es) y e i true_of older short v = absurd (true≢false (sym e))
+  body_rel (body.PromisePart z part) y e i true_of older short v = absurd (true≢false (sym e))
+  body_rel (body.AcceptSyncPart z part) y e i true_of older short v = absurd (true≢false (sym e))
+  body_rel (body.Accept z a es) y e i true_of older short v = absurd (true≢false (sym e))
+  body_rel (body.Accepted z g) y e i true_of older short v = absurd (true≢false (sym e))
+  body_rel (body.Decide z g) y e i true_of older short v = absurd (true≢false (sym e))
+  body_rel body.PrepareReq y e i true_of older short v = absurd (true≢false (sym e))
+  body_rel (body.Refuse z g) y e i true_of older short v = absurd (true≢false (sym e))
+  body_rel (body.Forward g) y e i true_of older short v = absurd (true≢false (sym e))
+  body_rel (body.Forwards g) y e i true_of older short v = absurd (true≢false (sym e))
+  body_rel (body.TrimAsk z) y e i true_of older short v = absurd (true≢false (sym e))
+  body_rel (body.Progress z g) y e i true_of older short v = absurd (true≢false (sym e))
+  body_rel (body.Trim g) y e i true_of older short v = absurd (true≢false (sym e))
 
 -- ---- whatever comes
 
 module _ (first : List ℕ) (lists : ℕ → List Entry) (soup : List Letter) (me : ℕ) (f : Fate) (s : table.State) (st : State) (k : NodeFacts lists soup me s st) (read : AllRead lists)
-    (old : ℕ → List Entry) (before : StateStands first old st) (q : ℕ) (msg : Msg) (n : ℕ) (m : Letter) (is : IsLetter lists (record { from = q; to = me; message = msg }) m) (stood : BodyStands first old m.conf m.body)
-    (d : StoredJoining) (hj : s.durable.joining ≡ Some d) (j : Joining) (tj : st.joining ≡ Some j) (h : HoldsJoining lists d j) where
+    (old : ℕ → List Entry) (before : StateStands first old st) (grown : (x : ℕ) → IsPrefix (old x) (lists x)) (q : ℕ) (msg : Msg) (n : ℕ) (m : Letter) (is : IsLetter lists (record { from = q; to = me; message = msg }) m) (stood : BodyStands first old m.conf m.body)
+    (d : StoredJoining) (hj : s.durable.joining ≡ Some d) (j : Joining) (tj : st.joining ≡ Some j) (h : HoldsJoining lists d j) (short : long_in s.durable msg ≡ None) where
   low_list : (l : Closed) → st.closed ≡ Some l → l.trimmed ≤ length l.list
   low_list l e = (before.closed l e).trimmed
 
@@ -435,21 +582,21 @@ module _ (first : List ℕ) (lists : ℕ → List Entry) (soup : List Letter) (m
   step_is = ap (λ (o : Option StoredJoining). cond (is_some o && not (is_of_joining msg.body)) (remembering s.volatile []) (cond is_older (remembering s.volatile (on_older s.durable s.durable.closed q))
       (cond is_above (remembering s.volatile (on_newer s.durable q msg.body)) (on_latest me s.durable s.volatile q msg.conf msg.body)))) hj
 
-  brings_is : brought_by s.durable (input.Deliver q msg) ≡ cond is_older None (brought_to (Some d) msg.conf msg.body)
-  brings_is = ap (λ (o : Option StoredJoining). cond is_older None (brought_to o msg.conf msg.body)) hj
+  brings_is : brought_by s.durable s.volatile (input.Deliver q msg) ≡ cond is_older None (brought_to (Some d) s.volatile.pieces msg.conf msg.body)
+  brings_is = ap (λ (o : Option StoredJoining). cond is_older None (brought_to o s.volatile.pieces msg.conf msg.body)) hj
 
-  nothing_brought : (b : Bool) → is_of_joining msg.body ≡ false → cond b None (brought_to (Some d) msg.conf msg.body) ≡ None
+  nothing_brought : (b : Bool) → is_of_joining msg.body ≡ false → cond b None (brought_to (Some d) s.volatile.pieces msg.conf msg.body) ≡ None
   nothing_brought true e = refl
-  nothing_brought false e = brings_not d msg.conf msg.body e
+  nothing_brought false e = brings_not d s.volatile.pieces msg.conf msg.body e
 
   -- a step that brings nothing
-  plan_none : (a b : Bool) → is_of_joining msg.body ≡ a → is_older ≡ b → brought_by s.durable (input.Deliver q msg) ≡ None → table_plan me s (input.Deliver q msg) ≡ plan_of me s s.waiting (row_by a b)
+  plan_none : (a b : Bool) → is_of_joining msg.body ≡ a → is_older ≡ b → brought_by s.durable s.volatile (input.Deliver q msg) ≡ None → table_plan me s (input.Deliver q msg) ≡ plan_of me s s.waiting (row_by a b)
   plan_none a b x y none =
       ap (step_bringing me s (input.Deliver q msg)) none
       ∙ ap (plan_of me s s.waiting) (step_is ∙ ap (λ (t : Bool). row_by t is_older) x ∙ ap (row_by a) y)
 
   abbrev by_body : Option (List Change) → Planned
-  by_body o = by_test first lists soup me f s st k read old before q n msg.conf d hj j tj h is_above o msg.body
+  by_body o = by_test first lists soup me f s st k read old before grown q n msg.conf d hj j tj h is_above o msg.body
 
   plan_brings : (o : Option (List Change)) → is_of_joining msg.body ≡ true → is_older ≡ false → step_bringing me s (input.Deliver q msg) o ≡ by_body o
   plan_brings None x y = ap (plan_of me s s.waiting) (step_is ∙ ap (λ (t : Bool). row_by t is_older) x ∙ ap (row_by true) y)
@@ -464,13 +611,13 @@ module _ (first : List ℕ) (lists : ℕ → List Entry) (soup : List Letter) (m
       (nothing_rel lists soup me f s st k q low_list n msg.conf)
   read_rel true true x y w =
       subst (λ (pl : Planned). StepRel lists me f s.durable pl (says st (server.refers me st st.closed q)))
-      (sym (plan_none true true x y (brings_is ∙ ap (λ (b : Bool). cond b None (brought_to (Some d) msg.conf msg.body)) y)))
+      (sym (plan_none true true x y (brings_is ∙ ap (λ (b : Bool). cond b None (brought_to (Some d) s.volatile.pieces msg.conf msg.body)) y)))
       (older_rel lists soup me f s st k q low_list)
   read_rel true false x y w =
-      let brings : brought_by s.durable (input.Deliver q msg) ≡ brought_to (Some d) msg.conf msg.body = brings_is ∙ ap (λ (b : Bool). cond b None (brought_to (Some d) msg.conf msg.body)) y in
+      let brings : brought_by s.durable s.volatile (input.Deliver q msg) ≡ brought_to (Some d) s.volatile.pieces msg.conf msg.body = brings_is ∙ ap (λ (b : Bool). cond b None (brought_to (Some d) s.volatile.pieces msg.conf msg.body)) y in
       subst (λ (pl : Planned). StepRel lists me f s.durable pl (read_by true false))
-      (sym (ap (step_bringing me s (input.Deliver q msg)) brings ∙ plan_brings (brought_to (Some d) msg.conf msg.body) x y))
-      (body_rel first lists soup me f s st k read old before q n msg.conf d hj j tj h msg.body m.body x said (subst (λ (c : ℕ). BodyStands first old c m.body) (sym is.conf) stood) w)
+      (sym (ap (step_bringing me s (input.Deliver q msg)) brings ∙ plan_brings (brought_to (Some d) s.volatile.pieces msg.conf msg.body) x y))
+      (body_rel first lists soup me f s st k read old before grown q n msg.conf d hj j tj h msg.body m.body x said (subst (λ (c : ℕ). BodyStands first old c m.body) (sym is.conf) stood) y short w)
 
   not_past : is_past s.durable.part s.durable.joining msg ≡ false
   not_past = ap (λ (o : Option StoredJoining). is_past s.durable.part o msg) hj ∙ by s.durable.part
@@ -480,7 +627,7 @@ module _ (first : List ℕ) (lists : ℕ → List Entry) (soup : List Letter) (m
       by (Some p) = refl
 
   -- whatever comes there
-  pub while_joining : StateStands first lists (step_by f me st (event_of me s n m (input.Deliver q msg))).state → Comes (step_by f me st (event_of me s n m (input.Deliver q msg)))
+  pub while_joining : StateStands first lists (step_by f me st (delivery_event s n m msg None)).state → Comes (step_by f me st (delivery_event s n m msg None))
   unfolding server.step
   while_joining =
       subst (λ (b : Bool). StateStands first lists (step_by f me st (cond b None (Some (server.Reads n m)))).state → Comes (step_by f me st (cond b None (Some (server.Reads n m))))) (sym not_past)

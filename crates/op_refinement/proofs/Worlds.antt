@@ -1,6 +1,6 @@
 -- A world of nodes beside a run of the pure machine.
-use Rattle.std.proofs.Common.{◌≡◌, ◌<◌, ◌≤◌, inl, inr, ℕ, suc, ◌-◌, List, [], ◌∷◌, ◌++◌, length, take, drop, Option, Some, None, refl, sym, ap, ◌∙◌, arith, append_assoc}
-use Rattle.op_types.specs.Roles.{Role}
+use Rattle.std.proofs.Common.{◌≡◌, ◌<◌, ◌≤◌, inl, inr, ℕ, suc, ◌-◌, List, [], ◌∷◌, ◌++◌, length, take, drop, Option, Some, None, refl, sym, ap, ◌∙◌, subst, arith, append_assoc, length-append}
+use Rattle.op_types.specs.Stages.{Pieces}
 use Rattle.op_types.specs.declared.durable.Part.{Part as StoredPart}
 use Rattle.op_types.specs.declared.durable.Durable.{Durable}
 use Rattle.op_types.specs.declared.log.Entry.{Entry}
@@ -11,18 +11,27 @@ use Rattle.std.proofs.lemmas.List.{take-take, take-append-le, take-append-drop}
 use Rattle.op_spec.specs.Service.{Service, base_bytes, service_of}
 use Rattle.op_spec.specs.Stands.{lists_through}
 use Rattle.op_protocol.specs.State as table
+use Rattle.op_protocol.specs.State.{Volatile}
 use Rattle.op_runs.specs.World.{Sent}
-use Rattle.op_configurations.specs.Servers.{Part, State, Letter, decided_list, latest, latest_in}
+use Rattle.op_configurations.specs.Servers.{Part, Base, BaseStage, Joining, State, Letter, decided_list, latest, latest_in}
+use Rattle.op_configurations.specs.Laws.{BaseStands}
 use Rattle.op_configurations.specs.Worlds.{World, Happening, run, start, machine_of}
 use Rattle.op_configurations.proofs.Among.{In}
 use Rattle.op_configurations.proofs.Standing.{stands, grows}
-use Rattle.op_configurations.proofs.Fixed.{before_is_fixed, letter_is_fixed, through, holds_on}
+use Rattle.op_configurations.proofs.Fixed.{before_is_fixed, joining_is_fixed, letter_is_fixed, piece_is_fixed, through, holds_on}
 use Rattle.op_configurations.proofs.PartFacts.{part_is}
 use Rattle.op_configurations.proofs.Book.{all_ok}
 use Rattle.op_refinement.proofs.Pure as pure
-use Rattle.op_refinement.proofs.Relation.{Reads, all_before, IfPartRel, StateRel, IfServes, state_holds, IsSaid, AreLetters}
+use Rattle.op_refinement.proofs.Relation.{Reads, all_before, IfPartRel, bytes_had, IfPiecesRel, IfLacking, StageRel, StateRel, IfServes, state_holds, IsPiece, IsSaid, AreLetters}
 use Rattle.op_refinement.proofs.Inputs.{NodeFacts}
 use Rattle.op_refinement.proofs.Steps.{AllRead}
+
+-- a base of a list is one of what the list grows to
+pub stands_on : (l l' : List Entry) (b : Base) → IsPrefix l l' → BaseStands l b → BaseStands l' b
+stands_on l l' b g k = record {
+  within = omega (arith, k.within, ap (λ (x : List Entry). length x) g.1, length-append l g.0);
+  front = k.front ∙ sym (take-append-le b.at l g.0 k.within) ∙ ap (take b.at) g.1;
+}
 
 -- ---- runs of the pure machine
 
@@ -43,7 +52,7 @@ module _ (first : List ℕ) where
       ((k.good).tale).low pt.conf ((((((k.good).servers p).state).part pt has)).opened)
 
   -- lists only grow
-  grows_of : (ks late : List Happening) (c : ℕ) → IsPrefix (lists_of ks c) (lists_of (ks ++ late) c)
+  pub grows_of : (ks late : List Happening) (c : ℕ) → IsPrefix (lists_of ks c) (lists_of (ks ++ late) c)
   grows_of ks late c = let g = (grows first ks late).lists c in (g.0, sym g.1)
 
   -- the lists before a server's configuration stay
@@ -55,7 +64,7 @@ module _ (first : List ℕ) where
 
   -- a stored state stands for a server's after whatever happens elsewhere
   module _ (ks late : List Happening) (p : ℕ) where
-    part_on : (d : Option StoredPart) (r : Role) (o : Option Part) → (state_of ks p).part ≡ o → IfPartRel (lists_of ks) d r o → IfPartRel (lists_of (ks ++ late)) d r o
+    part_on : (d : Option StoredPart) (r : Volatile) (o : Option Part) → (state_of ks p).part ≡ o → IfPartRel (lists_of ks) d r o → IfPartRel (lists_of (ks ++ late)) d r o
     part_on None r None e k = tt
     part_on None r (Some pt) e k = absurd k
     part_on (Some q) r None e k = absurd k
@@ -70,10 +79,31 @@ module _ (first : List ℕ) where
       base = k.base ∙ ap (λ (l : List Entry). base_bytes (service_of (l ++ k.front))) (before_same ks late p pt e);
     }
 
-    pub state_on : (d : Durable) (r : Role) → StateRel (lists_of ks) d r (state_of ks p) → StateRel (lists_of (ks ++ late)) d r (state_of ks p)
+    lacking : (o : Option Base) {A B : Type 0} → (A → B) → IfLacking o A → IfLacking o B
+    lacking None f x = f x
+    lacking (Some b) f x = tt
+
+    -- what came in pieces of a base stands for the same
+    pieces_on : (j : Joining) → (state_of ks p).joining ≡ Some j → (x : Option Pieces) (y : Option BaseStage) → IfPiecesRel (lists_of ks) j.conf x y → IfPiecesRel (lists_of (ks ++ late)) j.conf x y
+    pieces_on j has None None k = tt
+    pieces_on j has None (Some y) k = absurd k
+    pieces_on j has (Some x) None k = absurd k
+    pieces_on j has (Some x) (Some y) k = record {
+      front = k.front;
+      at = k.at;
+      stands = stands_on (lists_of ks (j.conf - 1)) (lists_of (ks ++ late) (j.conf - 1)) (record { at = y.at; front = k.front }) (grows_of ks late (j.conf - 1)) k.stands;
+      bytes = k.bytes ∙ ap (λ (l : List Entry). bytes_had y.has 0 (base_bytes (service_of (l ++ k.front))))
+          (through first ks late (lists_of ks) (lists_of (ks ++ late)) (j.conf - 1 - 1) (λ c low le. joining_is_fixed first ks late p j has c low (omega (arith, low, le))));
+    }
+
+    stage_on : (o : Option Pieces) (q : Option Joining) → (state_of ks p).joining ≡ q → StageRel (lists_of ks) o q → StageRel (lists_of (ks ++ late)) o q
+    stage_on o None e k = tt
+    stage_on o (Some j) e k = lacking j.base (pieces_on j e o j.stage) k
+
+    pub state_on : (d : Durable) (r : Volatile) → StateRel (lists_of ks) d r (state_of ks p) → StateRel (lists_of (ks ++ late)) d r (state_of ks p)
     state_on d r k =
         let h = holds_on first ks late p d (state_holds (lists_of ks) d r (state_of ks p) k) in
-        record { part = part_on d.part r (state_of ks p).part refl k.part; closed = h.closed; joining = h.joining }
+        record { part = part_on d.part r (state_of ks p).part refl k.part; closed = h.closed; joining = h.joining; stage = stage_on r.pieces (state_of ks p).joining refl k.stage }
 
     serves_in : (s : Service) (o : Option Part) → (state_of ks p).part ≡ o → IfServes (lists_of ks) s o → IfServes (lists_of (ks ++ late)) s o
     serves_in s None e k = tt
@@ -91,6 +121,12 @@ module _ (first : List ℕ) where
       k.2 ∙ ap (λ (l : List Entry). base_bytes (service_of (l ++ k.0)))
           (through first ks late (lists_of ks) (lists_of (ks ++ late)) (m.conf - 1 - 1) (λ c low le. letter_is_fixed first ks late m at k.0 k.1 sent c low (omega (arith, low, le)))),
     )
+    body_on m sent (body.BasePiece piece) k = (
+      k.0,
+      k.1,
+      subst (λ (l : List Entry). IsPiece (base_bytes (service_of (l ++ k.0))) piece)
+          (through first ks late (lists_of ks) (lists_of (ks ++ late)) (m.conf - 1 - 1) (λ c low le. piece_is_fixed first ks late m piece.at piece.total piece.from (length piece.bytes) k.0 k.1 sent c low (omega (arith, low, le)))) k.2,
+    )
     body_on m sent (body.HeartbeatRequest round) k = k
     body_on m sent (body.HeartbeatReply round n flag) k = k
     body_on m sent (body.Confirm z round) k = k
@@ -98,6 +134,8 @@ module _ (first : List ℕ) where
     body_on m sent (body.Prepare n na nl nd) k = k
     body_on m sent (body.Promise n fa fl fd s es) k = k
     body_on m sent (body.AcceptSync n x es) k = k
+    body_on m sent (body.PromisePart n part) k = k
+    body_on m sent (body.AcceptSyncPart n part) k = k
     body_on m sent (body.Accept n a es) k = k
     body_on m sent (body.Accepted n x) k = k
     body_on m sent (body.Decide n x) k = k
@@ -148,11 +186,11 @@ module _ (first : List ℕ) where
             ∙ ap (λ (y : ℕ). lists_through l c ++ l y) at,
       )
 
-  pub facts_of : (ks late : List Happening) (p : ℕ) (s : table.State) → p < pure.owner_count → AllRead (lists_of (ks ++ late)) → StateRel (lists_of ks) s.durable s.volatile.role (state_of ks p) → IfServes (lists_of ks) s.service (state_of ks p).part
+  pub facts_of : (ks late : List Happening) (p : ℕ) (s : table.State) → p < pure.owner_count → AllRead (lists_of (ks ++ late)) → StateRel (lists_of ks) s.durable s.volatile (state_of ks p) → IfServes (lists_of ks) s.service (state_of ks p).part
       → NodeFacts (lists_of (ks ++ late)) (world_of ks).soup p s (state_of ks p)
   facts_of ks late p s low read rel serves = record {
     me_low = low;
-    rel = state_on ks late p s.durable s.volatile.role rel;
+    rel = state_on ks late p s.durable s.volatile rel;
     serves = serves_on ks late p s.service serves;
     above = λ pt has. above_of ks p pt has;
     is = λ pt has. part_is first ks p pt has;
