@@ -9,12 +9,19 @@ use Rattle.op_kv.specs.Bases.{IsBase}
 use Rattle.op_record.specs.Ranges.{PartInRange}
 use Rattle.op_protocol.specs.Starting.{volatile_with, first_volatile}
 use Rattle.op_bounds.specs.Messages.{AreIds, BallotOf, MembersOf, NamesKnown}
-use Rattle.op_bounds.specs.States.{PartOf, HeardInRange, VolatileInRange}
+use Rattle.op_bounds.specs.States.{PartOf, HeardInRange, StagedInRange, VolatileInRange, VolatileEndsNowhere}
 use Rattle.op_bounds.proofs.Ballots.{no_ballot_in, own_ballot_in}
+
+-- nothing is kept in memory of a part at first
+pub started_stops : (conf : ℕ) (own leader : Ballot) → VolatileEndsNowhere conf (volatile_with own leader)
+started_stops conf own leader = record { role = tt; staged = λ i d within. absurd (omega arith) }
+
+pub first_stops : (conf me : ℕ) → VolatileEndsNowhere conf (first_volatile me)
+first_stops conf me = started_stops conf (record { number = 1; pid = me }) no_ballot
 
 module _ (Known : ℕ → Type 0) (ids : AreIds Known) where
   pub started : (own leader : Ballot) → BallotOf Known own → BallotOf Known leader → VolatileInRange Known (volatile_with own leader)
-  started own leader in_own in_leader = record { own = in_own; leader = in_leader; floor = no_ballot_in Known; round = omega arith; heard = All-nil (HeardInRange Known); role = tt }
+  started own leader in_own in_leader = record { own = in_own; leader = in_leader; floor = no_ballot_in Known; round = omega arith; heard = All-nil (HeardInRange Known); role = tt; staged = All-nil (StagedInRange Known); pieces = tt }
 
   pub first_volatile_in : (me : ℕ) → Known me → VolatileInRange Known (first_volatile me)
   first_volatile_in me one = started (record { number = 1; pid = me }) no_ballot (own_ballot_in Known me 1 ids one (omega arith)) (no_ballot_in Known)

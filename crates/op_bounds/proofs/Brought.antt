@@ -6,6 +6,7 @@ use Rattle.std.proofs.lemmas.List.Elements.{All-nil, All-cons, All-append, All-f
 use Rattle.op_types.specs.Ranges.{IsMember}
 use Rattle.op_types.specs.Changes.{new_part, closed_joined, durable_joined, durable_joining, durable_after, JoiningOptionApplies}
 use Rattle.op_types.specs.Joinings.{Base, held_run, covered, cover_of}
+use Rattle.op_types.specs.Stages.{Pieces, with_piece, whole_bytes}
 use Rattle.op_types.specs.Roles as role
 use Rattle.op_types.specs.Roles.{Role}
 use Rattle.op_types.specs.declared.log.Entry.{Entry}
@@ -24,30 +25,37 @@ use Rattle.op_kv.specs.Bases.{IsBase}
 use Rattle.op_record.specs.Ranges.{JoiningInRange, ChangeInRange}
 use Rattle.op_protocol.specs.Bases.{is_base, service_in}
 use Rattle.op_protocol.specs.State.{State, Volatile, Waiting}
+use Rattle.op_protocol.specs.Starting.{first_volatile}
 use Rattle.op_protocol.specs.Parts.{others}
 use Rattle.op_protocol.specs.Leader.{given_up_by}
 use Rattle.op_protocol.specs.Configurations.{giving_up}
-use Rattle.op_protocol.specs.Joining.{new_entries, are_some, takes_base, takes_entries, brought_to, joined_service, only_stores, goes_on, goes_on_if, holding, holds_more}
+use Rattle.op_protocol.specs.Joining.{new_entries, are_some, takes_base, takes_entries, takes_piece, base_brought, base_once, brought_to, stores_beside, joined_service, only_stores, goes_on, goes_on_if, holding, holds_more}
 use Rattle.op_protocol.proofs.Plans.{after_both}
 use Rattle.op_bounds.specs.Messages.{AreIds, MembersOf, CauseInRange, BodyInRange, SendInRange, ReplyInRange}
-use Rattle.op_bounds.specs.States.{JoiningOf, DurableOf, IsNamed, RoleInRange, RoleEndsNowhere, VolatileInRange}
+use Rattle.op_bounds.specs.States.{JoiningOf, DurableOf, IsNamed, RoleInRange, RoleEndsNowhere, VolatileInRange, VolatileEndsNowhere}
 use Rattle.op_bounds.specs.Laws.{PlanInRange}
-use Rattle.op_bounds.proofs.ReadBases.{ServiceIn, base_of, service_in_range}
+use Rattle.op_bounds.proofs.ReadBases.{ServiceIn, base_of, base_if_read, service_in_range}
 use Rattle.op_bounds.proofs.Entries.{entries_range, entries_names}
 use Rattle.op_bounds.proofs.Batches.{applies_both}
 use Rattle.op_bounds.proofs.Effects.{role_in, given_up, send_each}
 use Rattle.op_bounds.proofs.Serving.{all_after_in, dropping_in}
 use Rattle.op_bounds.proofs.Placed.{RunIn, run_in, held_entries}
 use Rattle.op_bounds.proofs.JoinChanges.{stored, JoiningIn, JoinsIn, base_in, entries_in, nothing_joined}
+use Rattle.op_bounds.proofs.TickRows.{pieces_now, pieces_stops}
 use Rattle.op_bounds.proofs.Plans.{StepIn}
-use Rattle.op_bounds.proofs.Beginning.{first_volatile_in, new_part_range, new_part_of}
+use Rattle.op_bounds.proofs.Beginning.{first_stops, first_volatile_in, new_part_range, new_part_of}
 
 -- ---- a role that is given up
 
 -- what holds in the last configuration alone holds of no other
 free_role : (r : Role) → RoleEndsNowhere 0 r
 free_role role.Idle = tt
-free_role (role.Preparing r) = ((λ i d within last. absurd (omega (arith, last))), (λ i d within last. absurd (omega (arith, last))))
+free_role (role.Preparing r) =
+    record {
+      promises = λ i d within last. absurd (omega (arith, last));
+      stages = λ i d within j e inside last. absurd (omega (arith, last));
+      buffer = λ i d within last. absurd (omega (arith, last));
+    }
 free_role (role.Leading l) = tt
 
 pub giving_up_in : (Known : ℕ → Type 0) (w : Waiting) (r : Role) (why : Cause) → RoleInRange Known r → CauseInRange Known why → All (ReplyInRange Known) (giving_up w r why).replies
@@ -60,50 +68,65 @@ module _ (Known : ℕ → Type 0) (ids : AreIds Known) (me : ℕ) (o : Option Pa
   base_free None h = refl
   base_free (Some b) h = absurd (true≢false (sym h))
 
-  takes_in : (j : Joining) (c : ℕ) (b : Body) → DurableOf Known (stored o l (Some j)) → BodyInRange Known b → IfSome (brought_to (Some j) c b) (JoinsIn Known me (stored o l (Some j)))
-  takes_in j c (body.BasePart at bytes) d fit =
-      cond_both (takes_base j c at bytes) (Some (change.JoinBase at bytes ∷ [])) None (λ (x : Option (List Change)). IfSome x (JoinsIn Known me (stored o l (Some j))))
+  abbrev Brings : Joining → Option (List Change) → Type 0
+  Brings j x = IfSome x (JoinsIn Known me (stored o l (Some j)))
+
+  base_takes : (j : Joining) (c at : ℕ) (bytes : List ℕ) → DurableOf Known (stored o l (Some j)) → Brings j (base_brought j c at bytes)
+  base_takes j c at bytes d =
+      cond_both (takes_base j c at bytes) (Some (change.JoinBase at bytes ∷ [])) None (Brings j)
       (λ h. let a = and_parts (eqb j.conf c) (not (is_some j.base) && (leb at j.len && is_base bytes)) h in
       let b = and_parts (not (is_some j.base)) (leb at j.len && is_base bytes) a.1 in
       let e = and_parts (leb at j.len) (is_base bytes) b.1 in
-      base_in Known ids me o l j at bytes d (base_free j.base b.0) (leb-true at j.len e.0) (fit.1 e.1))
+      base_in Known ids me o l j at bytes d (base_free j.base b.0) (leb-true at j.len e.0) (base_if_read bytes e.1))
       (λ _. tt)
-  takes_in j c (body.Segment at es) d fit =
-      cond_both (takes_entries j c at es) (Some (new_entries j at es)) None (λ (x : Option (List Change)). IfSome x (JoinsIn Known me (stored o l (Some j))))
+
+  once_takes : (j : Joining) (c at : ℕ) (w : Option (List ℕ)) → DurableOf Known (stored o l (Some j)) → Brings j (base_once j c at w)
+  once_takes j c at None d = tt
+  once_takes j c at (Some bytes) d = base_takes j c at bytes d
+
+  takes_in : (j : Joining) (x : Option Pieces) (c : ℕ) (b : Body) → DurableOf Known (stored o l (Some j)) → BodyInRange Known b → Brings j (brought_to (Some j) x c b)
+  takes_in j x c (body.BasePart at bytes) d fit = base_takes j c at bytes d
+  takes_in j x c (body.BasePiece p) d fit =
+      let w : Option (List ℕ) = whole_bytes (with_piece x p).bytes in
+      cond_both (takes_piece j c p) (base_once j c p.at w) None (Brings j) (λ _. once_takes j c p.at w d) (λ _. tt)
+  takes_in j x c (body.Segment at es) d fit =
+      cond_both (takes_entries j c at es) (Some (new_entries j at es)) None (Brings j)
       (λ h. let a = and_parts (eqb j.conf c) (are_some es && leb (at + length es) j.len) h in
       let within = leb-true (at + length es) j.len (and_parts (are_some es) (leb (at + length es) j.len) a.1).1 in
       cond_both (is_some (held_run j.held.items at (length es))) [] (change.JoinPart at es ∷ []) (JoinsIn Known me (stored o l (Some j)))
       (λ _. nothing_joined Known ids me o l (Some j) d) (λ _. entries_in Known ids me o l j at es d within fit.1.each))
       (λ _. tt)
-  takes_in j c (body.HeartbeatRequest r) d fit = tt
-  takes_in j c (body.HeartbeatReply r z g) d fit = tt
-  takes_in j c (body.Confirm z g) d fit = tt
-  takes_in j c (body.Confirmed z g) d fit = tt
-  takes_in j c (body.Prepare z na nl nd) d fit = tt
-  takes_in j c (body.Promise z fa fl fd a es) d fit = tt
-  takes_in j c (body.AcceptSync z g es) d fit = tt
-  takes_in j c (body.Accept z a es) d fit = tt
-  takes_in j c (body.Accepted z g) d fit = tt
-  takes_in j c (body.Decide z g) d fit = tt
-  takes_in j c body.PrepareReq d fit = tt
-  takes_in j c (body.Refuse z g) d fit = tt
-  takes_in j c (body.Forward g) d fit = tt
-  takes_in j c (body.Forwards g) d fit = tt
-  takes_in j c (body.TrimAsk z) d fit = tt
-  takes_in j c (body.Progress z g) d fit = tt
-  takes_in j c (body.Trim g) d fit = tt
-  takes_in j c (body.NextConf members olds len trimmed) d fit = tt
-  takes_in j c body.AskBase d fit = tt
-  takes_in j c (body.AskSegment from to) d fit = tt
+  takes_in j x c (body.HeartbeatRequest r) d fit = tt
+  takes_in j x c (body.HeartbeatReply r z g) d fit = tt
+  takes_in j x c (body.Confirm z g) d fit = tt
+  takes_in j x c (body.Confirmed z g) d fit = tt
+  takes_in j x c (body.Prepare z na nl nd) d fit = tt
+  takes_in j x c (body.Promise z fa fl fd a es) d fit = tt
+  takes_in j x c (body.AcceptSync z g es) d fit = tt
+  takes_in j x c (body.PromisePart z g) d fit = tt
+  takes_in j x c (body.AcceptSyncPart z g) d fit = tt
+  takes_in j x c (body.Accept z a es) d fit = tt
+  takes_in j x c (body.Accepted z g) d fit = tt
+  takes_in j x c (body.Decide z g) d fit = tt
+  takes_in j x c body.PrepareReq d fit = tt
+  takes_in j x c (body.Refuse z g) d fit = tt
+  takes_in j x c (body.Forward g) d fit = tt
+  takes_in j x c (body.Forwards g) d fit = tt
+  takes_in j x c (body.TrimAsk z) d fit = tt
+  takes_in j x c (body.Progress z g) d fit = tt
+  takes_in j x c (body.Trim g) d fit = tt
+  takes_in j x c (body.NextConf members olds len trimmed) d fit = tt
+  takes_in j x c body.AskBase d fit = tt
+  takes_in j x c (body.AskSegment from to) d fit = tt
 
-  pub brought_in : (old : Option Joining) (c : ℕ) (b : Body) → DurableOf Known (stored o l old) → BodyInRange Known b → IfSome (brought_to old c b) (JoinsIn Known me (stored o l old))
-  brought_in None c b d fit = tt
-  brought_in (Some j) c b d fit = takes_in j c b d fit
+  pub brought_in : (old : Option Joining) (x : Option Pieces) (c : ℕ) (b : Body) → DurableOf Known (stored o l old) → BodyInRange Known b → IfSome (brought_to old x c b) (JoinsIn Known me (stored o l old))
+  brought_in None x c b d fit = tt
+  brought_in (Some j) x c b d fit = takes_in j x c b d fit
 
 -- ---- the start
 
 module _ (Known : ℕ → Type 0) (ids : AreIds Known) (me : ℕ) (one : Known me) (o : Option Part) (l : Option Closed) (old : Option Joining) (v : Volatile) (t : Service) (w : Waiting) (in_volatile : VolatileInRange Known v)
-    (stops : IfSome o (λ p. RoleEndsNowhere p.conf v.role)) (in_service : ServiceIn t) (batch : List Change) (k : JoinsIn Known me (stored o l old) batch) where
+    (stops : IfSome o (λ p. VolatileEndsNowhere p.conf v)) (in_service : ServiceIn t) (batch : List Change) (k : JoinsIn Known me (stored o l old) batch) where
   abbrev here : State
   here = record { durable = stored o l old; volatile = v; service = t; waiting = w; reads = None }
 
@@ -122,7 +145,7 @@ module _ (Known : ℕ → Type 0) (ids : AreIds Known) (me : ℕ) (one : Known m
         after = record {
           durable = k.after;
           volatile = in_volatile;
-          stops = subst (λ (p : Option Part). IfSome p (λ q. RoleEndsNowhere q.conf v.role)) (sym k.part) stops;
+          stops = subst (λ (p : Option Part). IfSome p (λ q. VolatileEndsNowhere q.conf v)) (sym k.part) stops;
           service = in_service.range;
           order = in_service.order;
           reads = tt;
@@ -131,6 +154,29 @@ module _ (Known : ℕ → Type 0) (ids : AreIds Known) (me : ℕ) (one : Known m
 
   only_in : StepIn Known me here (only_stores here batch)
   only_in = record { range = only_range; named = k.named }
+
+  -- no piece of a base stays staged
+  beside_range : (b : Base) → PlanInRange Known here (stores_beside here batch (Some b))
+  beside_range b =
+      record {
+        applies = only_range.applies;
+        batch = only_range.batch;
+        sends = only_range.sends;
+        replies = only_range.replies;
+        read_replies = only_range.read_replies;
+        outcome = only_range.outcome;
+        after = record {
+          durable = only_range.after.durable;
+          volatile = pieces_now Known v None in_volatile tt;
+          stops = pieces_stops v None then.part only_range.after.stops;
+          service = only_range.after.service;
+          order = only_range.after.order;
+          reads = tt;
+        };
+      }
+
+  beside_in : (b : Base) → StepIn Known me here (stores_beside here batch (Some b))
+  beside_in b = record { range = beside_range b; named = k.named }
 
   module _ (j : Joining) (b : Base) (es : List Entry) (is_j : then.joining ≡ Some j) (is_b : j.base ≡ Some b) (is_es : cover_of j ≡ Some es) where
     held : JoiningIn Known j
@@ -198,7 +244,7 @@ module _ (Known : ℕ → Type 0) (ids : AreIds Known) (me : ℕ) (one : Known m
             few = omega (arith, k.few, length-append batch (change.JoinDone base ∷ []));
             each = All-append ChangeInRange batch (change.JoinDone base ∷ []) k.range (All-cons ChangeInRange (change.JoinDone base) [] base_in_range (All-nil ChangeInRange));
           };
-          sends = send_each Known j.conf (others me j.members) body.PrepareReq (omega (arith, held.range.conf), held.range.conf.1) (omega arith)
+          sends = send_each Known j.conf (others me j.members) body.PrepareReq (omega (arith, held.range.conf), held.range.conf.1) (omega arith) (omega arith)
               (All-filter (λ q. not (eqb q me)) Known j.members held.of.members) tt;
           replies = giving_up_in Known w v.role (cause.Stop (j.len - 1)) in_volatile.role (omega (arith, held.range.len));
           read_replies = All-nil (ReplyInRange Known);
@@ -206,7 +252,7 @@ module _ (Known : ℕ → Type 0) (ids : AreIds Known) (me : ℕ) (one : Known m
           after = record {
             durable = subst (DurableOf Known) (sym leaves) left_in;
             volatile = first_volatile_in Known ids me one;
-            stops = subst (λ (x : Durable). IfSome x.part (λ q. RoleEndsNowhere q.conf role.Idle)) (sym leaves) tt;
+            stops = subst (λ (x : Durable). IfSome x.part (λ q. VolatileEndsNowhere q.conf (first_volatile me))) (sym leaves) (first_stops j.conf me);
             service = in_s.range;
             order = in_s.order;
             reads = tt;
@@ -221,7 +267,7 @@ module _ (Known : ℕ → Type 0) (ids : AreIds Known) (me : ℕ) (one : Known m
 
   by_parts : (j : Joining) → then.joining ≡ Some j → (b : Option Base) → j.base ≡ b → (es : Option (List Entry)) → cover_of j ≡ es → StepIn Known me here (goes_on_if me here j batch b es)
   by_parts j is_j (Some b) is_b (Some es) is_es = goes_in j b es is_j is_b is_es
-  by_parts j is_j (Some b) is_b None is_es = only_in
+  by_parts j is_j (Some b) is_b None is_es = beside_in b
   by_parts j is_j None is_b (Some es) is_es = only_in
   by_parts j is_j None is_b None is_es = only_in
 

@@ -1,6 +1,6 @@
 -- Entries of a configuration: each is in range, and the last configuration has no stop-sign.
-use Rattle.std.proofs.Common.{◌≡◌, ◌≤◌, ◌+◌, ℕ, zero, suc, true, false, not, leb, eqb, ◌&&◌, Bool, cond, is_some, List, [], ◌∷◌, ◌++◌, length, take, drop, refl, sym, ap, ◌∙◌, arith, All}
-use Rattle.std.proofs.lemmas.Bool.{leb-true, and_parts, eq-eqb, false≢true}
+use Rattle.std.proofs.Common.{◌≡◌, ◌≤◌, ◌<◌, ◌+◌, ℕ, zero, suc, true, false, not, ltb, leb, eqb, ◌&&◌, Bool, cond, is_some, List, [], ◌∷◌, ◌++◌, length, take, drop, refl, sym, ap, ◌∙◌, arith, All}
+use Rattle.std.proofs.lemmas.Bool.{leb-true, ltb-true, and_parts, eq-eqb, false≢true}
 use Rattle.std.proofs.lemmas.List.{length-map, drop_all}
 use Rattle.std.proofs.lemmas.List.Elements.{All-nil, All-cons, All-head, All-tail, All-append, All-take, All-drop, All-map, All-weaker}
 use Rattle.op_types.specs.Limits.{positions_end, last_conf, most_commands}
@@ -11,7 +11,7 @@ use Rattle.op_types.specs.declared.log.Command.{Command}
 use Rattle.op_types.specs.declared.log.Entry.{Entry}
 use Rattle.op_types.specs.declared.log.Entry.TheVariants as entry
 use Rattle.op_types.specs.declared.durable.Part.{Part}
-use Rattle.op_protocol.specs.Parts.{has_stop, is_admitted}
+use Rattle.op_protocol.specs.Parts.{has_stop, is_admitted, is_run_to}
 use Rattle.op_protocol.specs.Rows.{entries_of}
 use Rattle.op_bounds.specs.Messages.{MembersOf, NamesKnown, EntryOf}
 
@@ -49,6 +49,12 @@ module _ (Known : ℕ → Type 0) (conf : ℕ) where
 
   pub rest_entries : (e : Entry) (es : List Entry) → EntriesIn Known conf (e ∷ es) → EntriesIn Known conf es
   rest_entries e es k = record { each = All-tail (EntryOf Known) e es k.each; ends = λ last. All-tail IsCommand e es (k.ends last) }
+
+-- each of them alone
+pub each_entries : (Known : ℕ → Type 0) (conf : ℕ) (es : List Entry) → All (λ e. EntriesIn Known conf (e ∷ [])) es → EntriesIn Known conf es
+each_entries Known conf [] each = no_entries Known conf
+each_entries Known conf (e ∷ es) each =
+    more_entries Known conf e es (All-head (λ d. EntriesIn Known conf (d ∷ [])) e es each) (each_entries Known conf es (All-tail (λ d. EntriesIn Known conf (d ∷ [])) e es each))
 
 pub entries_range : (Known : ℕ → Type 0) (es : List Entry) → All (EntryOf Known) es → All EntryInRange es
 entries_range Known es k = λ i d within. (k i d within).0
@@ -93,6 +99,11 @@ admitted_in Known p at es each h = record { each = each; ends = admitted_stops p
 -- commands are of any configuration
 pub commands_in : (Known : ℕ → Type 0) (conf : ℕ) (es : List Entry) → All (EntryOf Known) es → All IsCommand es → EntriesIn Known conf es
 commands_in Known conf es each free = record { each = each; ends = λ last. free }
+
+-- what a test of a run tells
+pub run_told : (end at : ℕ) (run : List Entry) → is_run_to end at run ≡ true → (0 < length run) × (at + length run ≤ end)
+run_told end at run h =
+    let a = and_parts (ltb 0 (length run)) (leb (at + length run) end) h in (ltb-true 0 (length run) a.0, leb-true (at + length run) end a.1)
 
 -- ---- what is proposed together: one entry, or several commands
 pub record AreProposed (Known : ℕ → Type 0) (es : List Entry) : Type 0 where

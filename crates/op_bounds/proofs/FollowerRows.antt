@@ -1,5 +1,5 @@
 -- The rows of a follower are in range.
-use Rattle.std.proofs.Common.{◌≤◌, ◌+◌, ◌-◌, min, ℕ, cond, ltb, leb, ◌&&◌, List, [], ◌∷◌, ◌++◌, length, drop, None, arith, length-append, length-drop}
+use Rattle.std.proofs.Common.{◌≤◌, ◌+◌, ◌-◌, min, ℕ, cond, ltb, leb, ◌&&◌, List, [], ◌∷◌, ◌++◌, length, drop, None, arith, length-append, length-drop, All}
 use Rattle.std.proofs.lemmas.Bool.{cond_both, ltb-true, ltb-false, leb-true, and_parts}
 use Rattle.std.proofs.lemmas.List.Elements.{All-nil, All-drop}
 use Rattle.op_types.specs.Ballots.{is_below, is_same_ballot}
@@ -15,19 +15,24 @@ use Rattle.op_types.specs.declared.changes.Change.{Change}
 use Rattle.op_types.specs.declared.changes.Change.TheVariants as change
 use Rattle.op_types.specs.declared.messages.Body.TheVariants as body
 use Rattle.op_types.specs.declared.answers.Cause.TheVariants as cause
-use Rattle.op_protocol.specs.Parts.{log_from, part_after, cutting, appending, message, nothing, saying, first}
+use Rattle.op_protocol.specs.Parts.{log_from, part_after, cutting, appending, message, messages, promise_bodies, promised_run, nothing, saying, first}
 use Rattle.op_protocol.specs.Leader.{given_up_by}
-use Rattle.op_protocol.specs.Follower.{suffix_start, promise_body, promise_higher, on_prepare, added_changes, accepts, accept_entries, on_accept, synced_changes, sync_entries, on_accept_sync, on_decide}
-use Rattle.op_bounds.specs.Messages.{BallotOf, EntryOf, EntriesOf, SendInRange, ReplyInRange, BodyInRange}
+use Rattle.op_protocol.specs.Follower.{suffix_start, promise_higher, on_prepare, added_changes, accepts, accept_entries, on_accept, synced_changes, sync_entries, on_accept_sync, on_decide}
+use Rattle.op_bounds.specs.Messages.{BallotOf, EntryOf, EntriesOf, SendInRange, ReplyInRange}
 use Rattle.op_bounds.proofs.Entries.{EntriesIn, last_entries}
 use Rattle.op_bounds.proofs.Batches.{PartIn, BatchFits, after_batch}
-use Rattle.op_bounds.proofs.Effects.{RoleIn, RowInRange, row_saying, row_nothing, row_first, send_one, given_up}
+use Rattle.op_bounds.proofs.Effects.{RoleIn, RowInRange, row_saying, row_nothing, row_first, Said, send_one, send_bodies, given_up}
+use Rattle.op_bounds.proofs.InParts.{run_entries, parts_said}
 use Rattle.op_bounds.proofs.LogChanges.{fits_appending, fits_log, fits_accepting, few_appending, few_cutting}
 
 -- what is sent of a log is in range
 pub suffix_in : (Known : ℕ → Type 0) (p : Part) (at : ℕ) → PartIn Known p → EntriesOf Known (log_from p at)
 suffix_in Known p at k =
     record { few = omega (arith, length-drop (at - p.trimmed) p.tail.items, k.range.len); each = All-drop (EntryOf Known) (at - p.trimmed) p.tail.items k.entries.each }
+
+-- it ends where the log does, or is empty
+pub suffix_ends : (Known : ℕ → Type 0) (p : Part) (at : ℕ) → PartIn Known p → p.trimmed ≤ at → IsPlace at → at + length (log_from p at) ≤ positions_end
+suffix_ends Known p at k low place = omega (arith, length-drop (at - p.trimmed) p.tail.items, low, place, k.range.len)
 
 pub decided_place : (Known : ℕ → Type 0) (p : Part) → PartIn Known p → IsPlace p.decided
 decided_place Known p k = omega (arith, k.range.decided, k.range.len)
@@ -39,8 +44,26 @@ module _ (Known : ℕ → Type 0) (p : Part) (k : PartIn Known p) (r : Role) (in
       cond_both (is_below na p.accepted) nd (cond (is_same_ballot p.accepted na) nl (len_of p)) IsPlace (λ _. decided)
       (λ _. cond_both (is_same_ballot p.accepted na) nl (len_of p) IsPlace (λ _. len) (λ _. k.range.len))
 
-  promise_in : (n : Ballot) (s : ℕ) → BallotOf Known n → IsPlace s → BodyInRange Known (promise_body p n s)
-  promise_in n s of place = (of, k.accepted, k.range.len, decided_place Known p k, place, suffix_in Known p s k)
+  promise_in : (n : Ballot) (s : ℕ) → BallotOf Known n → p.trimmed ≤ s → IsPlace s → All (Said Known) (promise_bodies p n s)
+  promise_in n s of low place =
+      parts_said Known (Said Known) (λ at run. body.PromisePart n (promised_run p s at run))
+      (λ at run one. record {
+        least = omega arith;
+        carries = one.fits;
+        body = (
+          of,
+          record {
+            accepted = k.accepted;
+            len = k.range.len;
+            decided = decided_place Known p k;
+            start = place;
+            at = omega (arith, one.ends);
+            run = run_entries Known at run one;
+          },
+        );
+      })
+      (body.Promise n p.accepted (len_of p) p.decided s (log_from p s)) s (log_from p s) (suffix_ends Known p s k low place) (suffix_in Known p s k).each
+      (λ one. record { least = omega arith; carries = one.fits; body = (of, k.accepted, k.range.len, decided_place Known p k, place, suffix_in Known p s k) })
 
   higher_in : (n : Ballot) → BallotOf Known n → RowInRange Known p.conf p 1 (promise_higher p r n)
   higher_in n of =
@@ -51,26 +74,27 @@ module _ (Known : ℕ → Type 0) (p : Part) (k : PartIn Known p) (r : Role) (in
   pub prepare_in : (q : ℕ) (n na : Ballot) (nl nd : ℕ) → Known q → BallotOf Known n → IsPlace nl → IsPlace nd → RowInRange Known p.conf p 1 (on_prepare p r q n na nl nd)
   prepare_in q n na nl nd from of len decided =
       cond_both (is_below n p.promised) (saying r (message p.conf q (body.Refuse n p.promised) ∷ []))
-      (cond (ltb (suffix_start p na nl nd) p.trimmed) (nothing r) (first [] (message p.conf q (promise_body p n (suffix_start p na nl nd)) ∷ []) [] (promise_higher p r n))) (RowInRange Known p.conf p 1)
-      (λ _. row_saying Known p.conf p 1 r (message p.conf q (body.Refuse n p.promised) ∷ []) in_role (send_one Known p.conf q (body.Refuse n p.promised) k.range.conf (omega arith) from (of, k.promised)))
-      (λ _. cond_both (ltb (suffix_start p na nl nd) p.trimmed) (nothing r) (first [] (message p.conf q (promise_body p n (suffix_start p na nl nd)) ∷ []) [] (promise_higher p r n)) (RowInRange Known p.conf p 1)
+      (cond (ltb (suffix_start p na nl nd) p.trimmed) (nothing r) (first [] (messages p.conf q (promise_bodies p n (suffix_start p na nl nd))) [] (promise_higher p r n))) (RowInRange Known p.conf p 1)
+      (λ _. row_saying Known p.conf p 1 r (message p.conf q (body.Refuse n p.promised) ∷ []) in_role (send_one Known p.conf q (body.Refuse n p.promised) k.range.conf (omega arith) (omega arith) from (of, k.promised)))
+      (λ _. cond_both (ltb (suffix_start p na nl nd) p.trimmed) (nothing r) (first [] (messages p.conf q (promise_bodies p n (suffix_start p na nl nd))) [] (promise_higher p r n)) (RowInRange Known p.conf p 1)
       (λ _. row_nothing Known p.conf p 1 r in_role)
-      (λ _. row_first Known p.conf p 1 1 [] (message p.conf q (promise_body p n (suffix_start p na nl nd)) ∷ []) [] (promise_higher p r n) tt (omega arith)
-      (send_one Known p.conf q (promise_body p n (suffix_start p na nl nd)) k.range.conf (omega arith) from (promise_in n (suffix_start p na nl nd) of (suffix_place na nl nd len decided)))
+      (λ h. row_first Known p.conf p 1 1 [] (messages p.conf q (promise_bodies p n (suffix_start p na nl nd))) [] (promise_higher p r n) tt (omega arith)
+      (send_bodies Known p.conf q (promise_bodies p n (suffix_start p na nl nd)) k.range.conf from
+      (promise_in n (suffix_start p na nl nd) of (ltb-false (suffix_start p na nl nd) p.trimmed h) (suffix_place na nl nd len decided)))
       (All-nil (ReplyInRange Known)) (higher_in n of)))
 
   -- ---- accepting
   accepts_in : (most q : ℕ) (n : Ballot) (batch : List Change) → Known q → BallotOf Known n → BatchFits Known p batch → length batch ≤ most → RowInRange Known p.conf p most (accepts p r q n batch)
   accepts_in most q n batch from of fit few =
       row_first Known p.conf p most 0 batch (message p.conf q (body.Accepted n (len_of (part_after p batch))) ∷ []) [] (nothing r) fit (omega arith)
-      (send_one Known p.conf q (body.Accepted n (len_of (part_after p batch))) k.range.conf (omega arith) from (of, (after_batch Known p batch k fit).range.len))
+      (send_one Known p.conf q (body.Accepted n (len_of (part_after p batch))) k.range.conf (omega arith) (omega arith) from (of, (after_batch Known p batch k fit).range.len))
       (All-nil (ReplyInRange Known)) (row_nothing Known p.conf (part_after p batch) 0 r in_role)
 
   entries_in : (q : ℕ) (n : Ballot) (at : ℕ) (es : List Entry) → Known q → BallotOf Known n → at + length es ≤ positions_end → EntriesIn Known p.conf es
       → RowInRange Known p.conf p 3 (accept_entries p r q n at es)
   entries_in q n at es from of ends each =
       cond_both (ltb (len_of p) at) (saying r (message p.conf q body.PrepareReq ∷ [])) (accepts p r q n (added_changes p at es)) (RowInRange Known p.conf p 3)
-      (λ _. row_saying Known p.conf p 3 r (message p.conf q body.PrepareReq ∷ []) in_role (send_one Known p.conf q body.PrepareReq k.range.conf (omega arith) from tt))
+      (λ _. row_saying Known p.conf p 3 r (message p.conf q body.PrepareReq ∷ []) in_role (send_one Known p.conf q body.PrepareReq k.range.conf (omega arith) (omega arith) from tt))
       (λ h. accepts_in 3 q n (added_changes p at es) from of
       (fits_appending Known p (drop (len_of p - at) es) (omega (arith, length-drop (len_of p - at) es, ends, ltb-false (len_of p) at h, k.range.len)) (last_entries Known p.conf (len_of p - at) es each))
       (omega (arith, few_appending (drop (len_of p - at) es))))
@@ -81,7 +105,7 @@ module _ (Known : ℕ → Type 0) (p : Part) (k : PartIn Known p) (r : Role) (in
       cond_both (is_same_ballot p.promised n && is_same_ballot p.accepted n) (accept_entries p r q n at es) (nothing r) (RowInRange Known p.conf p 3)
       (λ _. entries_in q n at es from of ends each) (λ _. row_nothing Known p.conf p 3 r in_role)
 
-  sync_in : (q : ℕ) (n : Ballot) (x : ℕ) (es : List Entry) → Known q → BallotOf Known n → x + length es ≤ positions_end → EntriesIn Known p.conf es
+  pub sync_in : (q : ℕ) (n : Ballot) (x : ℕ) (es : List Entry) → Known q → BallotOf Known n → x + length es ≤ positions_end → EntriesIn Known p.conf es
       → RowInRange Known p.conf p 3 (sync_entries p r q n x es)
   sync_in q n x es from of ends each =
       cond_both (leb p.decided x && leb x (len_of p)) (accepts p r q n (synced_changes p n x es)) (nothing r) (RowInRange Known p.conf p 3)

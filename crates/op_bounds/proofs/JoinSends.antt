@@ -1,26 +1,29 @@
 -- What a node asks while it joins, what a donor gives, and the news of a configuration are in range.
-use Rattle.std.proofs.Common.{◌≡◌, ◌≤◌, ◌<◌, ◌+◌, ◌-◌, ◌*◌, ◌/◌, ℕ, zero, suc, true, not, leb, ltb, eqb, nat_eq, ◌&&◌, is_some, List, [], ◌∷◌, length, drop, filter, Option, Some, None, arith, All}
+use Rattle.std.proofs.Common.{◌≡◌, ◌≤◌, ◌<◌, ◌+◌, ◌-◌, ◌*◌, ◌/◌, ℕ, zero, suc, true, not, leb, ltb, eqb, nat_eq, ◌&&◌, is_some, List, [], ◌∷◌, length, take, drop, filter, Option, Some, None, arith, All}
 use Rattle.std.specs.Prelude.{IfSome}
 use Rattle.std.specs.Set.{is_member}
 use Rattle.std.proofs.lemmas.Bool.{cond_both, ltb-true, leb-true, eqb-true, and_parts}
-use Rattle.std.proofs.lemmas.List.{length-take}
+use Rattle.std.proofs.lemmas.List.{length-take, length-drop}
 use Rattle.std.proofs.lemmas.List.Elements.{All-nil, All-cons, All-head, All-tail, All-append, All-filter, All-map, All-weaker, All-take, All-drop}
 use Rattle.std.proofs.lemmas.Nat.{div_below, column_fits_turned}
+use Rattle.op_types.specs.Limits.{most_part_bytes}
 use Rattle.op_types.specs.Ranges.{IsConf, IsPlace}
 use Rattle.op_types.specs.Changes.{closed_len}
 use Rattle.op_types.specs.Joinings.{Donors, Base, held_run}
 use Rattle.op_types.specs.declared.durable.Closed.{Closed}
 use Rattle.op_types.specs.declared.durable.Joining.{Joining}
 use Rattle.op_types.specs.declared.messages.Body.TheVariants as body
+use Rattle.op_types.specs.declared.runs.Piece.{Piece}
 use Rattle.op_kv.specs.Bases.{IsBase}
 use Rattle.op_record.specs.Ranges.{ClosedInRange, DonorsInRange}
-use Rattle.op_protocol.specs.Parts.{message, to_each}
-use Rattle.op_protocol.specs.Joining.{more_trimmed, base_donor, donors_from, part_start, ask_segment, ask_parts, ask_segments, ask_base, asks_with, asks, gives_base, closed_entries, is_within, gives_segment}
+use Rattle.op_protocol.specs.Parts.{message, messages, to_each}
+use Rattle.op_protocol.specs.Joining.{more_trimmed, base_donor, donors_from, part_start, ask_segment, ask_parts, ask_segments, ask_base, asks_with, asks, base_pieces, piece_count, base_bodies, segment_bodies, gives_base, closed_entries, is_within, gives_segment}
 use Rattle.op_protocol.specs.Configurations.{next_conf_body, next_conf_message, new_members, news_of}
 use Rattle.op_bounds.specs.Messages.{EntryOf, BodyInRange, SendInRange}
 use Rattle.op_bounds.specs.States.{ClosedOf}
 use Rattle.op_bounds.proofs.Entries.{entries_of_both}
-use Rattle.op_bounds.proofs.Effects.{send_one}
+use Rattle.op_bounds.proofs.Effects.{Said, send_one, send_bodies}
+use Rattle.op_bounds.proofs.InParts.{run_entries, cut_said}
 use Rattle.op_bounds.proofs.JoinChanges.{JoiningIn}
 
 -- ---- a closed list
@@ -37,7 +40,7 @@ module _ (Known : ℕ → Type 0) (l : Closed) (k : ClosedIn Known l) where
 
   pub news_in : (q : ℕ) → Known q → SendInRange Known (next_conf_message l q)
   news_in q one =
-      record { to = one; conf = λ h. (omega arith, omega (arith, k.range.conf)); message = record { conf = omega (arith, k.range.conf); least = omega (arith, k.range.conf); body = news_body } }
+      record { to = one; carries = omega arith; conf = λ h. (omega arith, omega (arith, k.range.conf)); message = record { conf = omega (arith, k.range.conf); least = omega (arith, k.range.conf); body = news_body } }
 
   each_news : (qs : List ℕ) → All Known qs → All (SendInRange Known) (to_each (l.conf + 1) qs (next_conf_body l))
   each_news qs all = All-map (SendInRange Known) (λ q. next_conf_message l q) qs (All-weaker Known (λ q. SendInRange Known (next_conf_message l q)) news_in qs all)
@@ -48,10 +51,27 @@ module _ (Known : ℕ → Type 0) (l : Closed) (k : ClosedIn Known l) where
   next_conf : (c : ℕ) → eqb (l.conf + 1) c ≡ true → IsConf c
   next_conf c h = let e = eqb-true (l.conf + 1) c h in (omega (arith, e), omega (arith, e, k.range.conf))
 
+  -- each piece has a byte at least
+  pieces_said : (bytes : List ℕ) (from count : ℕ) → from + count * most_part_bytes < length bytes + most_part_bytes → All (Said Known) (base_pieces l.trimmed bytes from count)
+  pieces_said bytes from zero few = All-nil (Said Known)
+  pieces_said bytes from (suc count) few =
+      let piece : Piece = record { at = l.trimmed; total = length bytes; from = from; bytes = take most_part_bytes (drop from bytes) } in
+      let size = length-take most_part_bytes (drop from bytes) in
+      let left = length-drop from bytes in
+      All-cons (Said Known) (body.BasePiece piece) (base_pieces l.trimmed bytes (from + most_part_bytes) count)
+      (record { least = omega arith; carries = omega (arith, size); body = record { at = omega (arith, k.range.len); some = omega (arith, size, left, few); few = omega (arith, size) } })
+      (pieces_said bytes (from + most_part_bytes) count (omega (arith, few)))
+
+  bodies_said : (bytes : List ℕ) → All (Said Known) (base_bodies l.trimmed bytes)
+  bodies_said bytes =
+      cond_both (leb (length bytes) most_part_bytes) (body.BasePart l.trimmed bytes ∷ []) (base_pieces l.trimmed bytes 0 (piece_count (length bytes))) (All (Said Known))
+      (λ h. All-cons (Said Known) (body.BasePart l.trimmed bytes) [] (record { least = omega arith; carries = leb-true (length bytes) most_part_bytes h; body = omega (arith, k.range.len) }) (All-nil (Said Known)))
+      (λ _. pieces_said bytes 0 (piece_count (length bytes)) (omega arith))
+
   pub base_given : (q c : ℕ) → Known q → All (SendInRange Known) (gives_base (Some l) q c)
   base_given q c one =
-      cond_both (eqb (l.conf + 1) c) (message c q (body.BasePart l.trimmed l.base) ∷ []) [] (All (SendInRange Known))
-      (λ h. send_one Known c q (body.BasePart l.trimmed l.base) (next_conf c h) (omega arith) one (omega (arith, k.range.len), λ read. k.range.base)) (λ _. All-nil (SendInRange Known))
+      cond_both (eqb (l.conf + 1) c) (messages c q (base_bodies l.trimmed l.base)) [] (All (SendInRange Known))
+      (λ h. send_bodies Known c q (base_bodies l.trimmed l.base) (next_conf c h) one (bodies_said l.base)) (λ _. All-nil (SendInRange Known))
 
   given_entries : (from to : ℕ) → All (EntryOf Known) (closed_entries l from to)
   given_entries from to =
@@ -59,14 +79,16 @@ module _ (Known : ℕ → Type 0) (l : Closed) (k : ClosedIn Known l) where
 
   pub segment_given : (q c from to : ℕ) → Known q → All (SendInRange Known) (gives_segment (Some l) q c from to)
   segment_given q c from to one =
-      cond_both (eqb (l.conf + 1) c && is_within l from to) (message c q (body.Segment from (closed_entries l from to)) ∷ []) [] (All (SendInRange Known))
+      cond_both (eqb (l.conf + 1) c && is_within l from to) (messages c q (segment_bodies from (closed_entries l from to))) [] (All (SendInRange Known))
       (λ h. let a = and_parts (eqb (l.conf + 1) c) (is_within l from to) h in
       let b = and_parts (leb l.trimmed from) (ltb from to && leb to (closed_len l)) a.1 in
       let d = and_parts (ltb from to) (leb to (closed_len l)) b.1 in
       let low = ltb-true from to d.0 in
       let high = leb-true to (closed_len l) d.1 in
-      send_one Known c q (body.Segment from (closed_entries l from to)) (next_conf c a.0) (omega arith) one
-      (omega (arith, low, high, k.range.len), record { few = omega (arith, length-take (to - from) (drop (from - l.trimmed) l.tail), high, k.range.len); each = given_entries from to }))
+      send_bodies Known c q (segment_bodies from (closed_entries l from to)) (next_conf c a.0) one
+      (cut_said Known (Said Known) (λ at run. body.Segment at run)
+      (λ at run said. record { least = omega arith; carries = said.fits; body = (omega (arith, said.ends), run_entries Known at run said) })
+      from (closed_entries l from to) (omega (arith, length-take (to - from) (drop (from - l.trimmed) l.tail), low, high, k.range.len)) (given_entries from to)))
       (λ _. All-nil (SendInRange Known))
 
 -- ---- asking
@@ -93,7 +115,7 @@ module _ (Known : ℕ → Type 0) (j : Joining) (k : JoiningIn Known j) where
   segment_said : (q from to : ℕ) → Known q → IsPlace from → IsPlace to → All (SendInRange Known) (ask_segment j q from to)
   segment_said q from to one low high =
       cond_both (ltb from to && not (is_some (held_run j.held.items from (to - from)))) (message j.conf q (body.AskSegment from to) ∷ []) [] (All (SendInRange Known))
-      (λ _. send_one Known j.conf q (body.AskSegment from to) in_conf (omega arith) one (low, high)) (λ _. All-nil (SendInRange Known))
+      (λ _. send_one Known j.conf q (body.AskSegment from to) in_conf (omega arith) (omega arith) one (low, high)) (λ _. All-nil (SendInRange Known))
 
   parts_said : (at count i : ℕ) (qs : List ℕ) → at ≤ j.len → i + length qs ≤ count → All Known qs → All (SendInRange Known) (ask_parts j at count i qs)
   parts_said at count i [] within few all = All-nil (SendInRange Known)
@@ -125,7 +147,7 @@ module _ (Known : ℕ → Type 0) (j : Joining) (k : JoiningIn Known j) where
 
   base_said : (d : ℕ × ℕ) → DonorIn d → All (SendInRange Known) (ask_base j d)
   base_said d one =
-      All-append (SendInRange Known) (message j.conf d.0 body.AskBase ∷ []) (ask_segments j d.1) (send_one Known j.conf d.0 body.AskBase in_conf (omega arith) one.0 tt) (segments_said d.1 one.1)
+      All-append (SendInRange Known) (message j.conf d.0 body.AskBase ∷ []) (ask_segments j d.1) (send_one Known j.conf d.0 body.AskBase in_conf (omega arith) (omega arith) one.0 tt) (segments_said d.1 one.1)
 
   with_said : (b : Option Base) (ds : Donors) → IfSome b (λ b. b.0 ≤ j.len) → All DonorIn ds → All (SendInRange Known) (asks_with j b ds)
   with_said (Some b) ds in_base all = segments_said b.0 in_base

@@ -2,7 +2,7 @@
 use Rattle.std.proofs.Common.{◌≡◌, ◌≤◌, ◌+◌, ℕ, zero, suc, cond, ltb, leb, ◌&&◌, ◌||◌, nat_eq, List, [], ◌∷◌, ◌++◌, length, flat_map, Option, Some, None, refl, sym, subst, arith, length-append, All}
 use Rattle.std.specs.Prelude.{IfSome}
 use Rattle.std.specs.Set.{is_member}
-use Rattle.std.proofs.lemmas.Bool.{cond_both, ltb-true}
+use Rattle.std.proofs.lemmas.Bool.{cond_both, ltb-true, ltb-false}
 use Rattle.std.proofs.lemmas.List.Elements.{All-nil, All-append, All-filter}
 use Rattle.op_quorum.specs.Quorums.{is_majority, passing}
 use Rattle.op_types.specs.Ballots.{is_same_ballot}
@@ -19,15 +19,16 @@ use Rattle.op_types.specs.declared.messages.Body.TheVariants as body
 use Rattle.op_types.specs.declared.messages.Msg.{Msg}
 use Rattle.op_types.specs.declared.role.Promised.{Promised}
 use Rattle.op_types.specs.declared.role.Acknowledged.{Acknowledged}
-use Rattle.op_protocol.specs.Parts.{log_from, part_after, part_in_round, cutting, appending, message, others, prepare_body, saying, nothing}
+use Rattle.op_protocol.specs.Parts.{log_from, part_after, part_in_round, cutting, appending, message, messages, others, sync_bodies, sync_run, prepare_body, saying, nothing}
 use Rattle.op_protocol.specs.Promises.{has_quorum, Choice, own_choice, best, chosen_log, chosen_stop, chosen_len, choice_changes, fitting, left_over}
 use Rattle.op_protocol.specs.Leader.{backed, length_at, counted, synced_others, decides, count, sync_start, sync_sends, is_synced_by, sends_by, first_leading, leading_with, begin_leading, adopt_with, adopt, prepares}
 use Rattle.op_bounds.specs.Messages.{BallotOf, BodyInRange, SendInRange, ReplyInRange}
 use Rattle.op_bounds.specs.States.{LeadingInRange, AcknowledgedInRange, ReportInRange}
 use Rattle.op_bounds.proofs.Batches.{PartIn, BatchFits, after_batch}
-use Rattle.op_bounds.proofs.Effects.{PromisedIn, PreparingIn, RowInRange, row_saying, row_nothing, row_first, send_one, send_each, others_all}
+use Rattle.op_bounds.proofs.Effects.{PromisedIn, PreparingIn, RowInRange, row_saying, row_nothing, row_first, Said, send_one, send_each, send_bodies, others_all}
+use Rattle.op_bounds.proofs.InParts.{run_entries, parts_said}
 use Rattle.op_bounds.proofs.LogChanges.{after_adopting, len_after_log, fits_adopting, few_appending, few_cutting}
-use Rattle.op_bounds.proofs.FollowerRows.{suffix_in, decided_place}
+use Rattle.op_bounds.proofs.FollowerRows.{suffix_in, suffix_ends, decided_place}
 use Rattle.op_bounds.proofs.Choices.{ChoiceIn, EndsInRange, promise_found, best_in, stop_at_in, fitting_in, left_over_in}
 
 -- ---- counting
@@ -59,7 +60,7 @@ module _ (Known : ℕ → Type 0) (me : ℕ) (p : Part) (k : PartIn Known p) whe
         batch = ((omega (arith, more, same), omega (arith, le, fits)), tt);
         few = omega arith;
         role = in_leading;
-        sends = send_each Known p.conf (synced_others me p.members l) (body.Decide l.ballot x) k.range.conf (omega arith) (synced_all l) (in_leading.ballot, omega (arith, le, place));
+        sends = send_each Known p.conf (synced_others me p.members l) (body.Decide l.ballot x) k.range.conf (omega arith) (omega arith) (synced_all l) (in_leading.ballot, omega (arith, le, place));
         replies = All-nil (ReplyInRange Known);
         outcome = tt;
       })
@@ -70,14 +71,24 @@ module _ (Known : ℕ → Type 0) (me : ℕ) (p : Part) (k : PartIn Known p) whe
   sync_place l j one =
       cond_both (is_same_ballot j.accepted l.ballot || (is_same_ballot j.accepted l.adopted_round && leb j.len l.adopted_len)) j.len j.decided IsPlace (λ _. one.len) (λ _. one.decided)
 
+  -- the log from there on
+  from_said : (n : Ballot) (at : ℕ) → BallotOf Known n → p.trimmed ≤ at → IsPlace at → All (Said Known) (sync_bodies n at (log_from p at))
+  from_said n at of low place =
+      let ends = suffix_ends Known p at k low place in
+      parts_said Known (Said Known) (λ pos run. body.AcceptSyncPart n (sync_run at (log_from p at) pos run))
+      (λ pos run one. record { least = omega arith; carries = one.fits; body = (of, record { start = place; end = ends; at = omega (arith, one.ends); run = run_entries Known pos run one }) })
+      (body.AcceptSync n at (log_from p at)) at (log_from p at) ends (suffix_in Known p at k).each
+      (λ one. record { least = omega arith; carries = one.fits; body = (of, place, suffix_in Known p at k) })
+
   pub sync_said : (l : Leading) (j : Promised) → BallotOf Known l.ballot → PromisedIn Known p.conf j → All (SendInRange Known) (sync_sends p l j)
   sync_said l j of one =
       let at : ℕ = sync_start l j in
       cond_both (ltb at p.trimmed) (message p.conf j.from (prepare_body p l.ballot) ∷ [])
-      (cond (leb at (len_of p)) (message p.conf j.from (body.AcceptSync l.ballot at (log_from p at)) ∷ []) []) (All (SendInRange Known))
-      (λ _. send_one Known p.conf j.from (prepare_body p l.ballot) k.range.conf (omega arith) one.from (prepare_said l.ballot of))
-      (λ _. cond_both (leb at (len_of p)) (message p.conf j.from (body.AcceptSync l.ballot at (log_from p at)) ∷ []) [] (All (SendInRange Known))
-      (λ _. send_one Known p.conf j.from (body.AcceptSync l.ballot at (log_from p at)) k.range.conf (omega arith) one.from (of, sync_place l j one, suffix_in Known p at k))
+      (cond (leb at (len_of p)) (messages p.conf j.from (sync_bodies l.ballot at (log_from p at))) []) (All (SendInRange Known))
+      (λ _. send_one Known p.conf j.from (prepare_body p l.ballot) k.range.conf (omega arith) (omega arith) one.from (prepare_said l.ballot of))
+      (λ h. cond_both (leb at (len_of p)) (messages p.conf j.from (sync_bodies l.ballot at (log_from p at))) [] (All (SendInRange Known))
+      (λ _. send_bodies Known p.conf j.from (sync_bodies l.ballot at (log_from p at)) k.range.conf one.from
+      (from_said l.ballot at of (ltb-false at p.trimmed h) (sync_place l j one)))
       (λ _. All-nil (SendInRange Known)))
 
   said_by : (l : Leading) (o : Option Promised) → BallotOf Known l.ballot → IfSome o (PromisedIn Known p.conf) → All (SendInRange Known) (sends_by p l o)

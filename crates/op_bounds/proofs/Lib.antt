@@ -3,16 +3,19 @@ pub mod Entries
 pub mod Batches
 pub mod Ballots
 pub mod Effects
+pub mod Placed
+pub mod Staged
+pub mod InParts
 pub mod LogChanges
 pub mod FollowerRows
 pub mod Choices
 pub mod Leading
 pub mod LeaderRows
 pub mod TickRows
+pub mod SyncRows
 pub mod TrimRows
 pub mod PartSteps
 pub mod Serving
-pub mod Placed
 pub mod JoinChanges
 pub mod JoinSends
 pub mod Beginning
@@ -23,3 +26,4 @@ pub mod Steps
 pub mod Starts
 pub mod Runs
 pub mod Known
+pub mod Frames

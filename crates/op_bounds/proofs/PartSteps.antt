@@ -15,7 +15,7 @@ use Rattle.op_types.specs.declared.answers.Refusal.{Refusal}
 use Rattle.op_types.specs.declared.answers.Refusal.TheVariants as refusal
 use Rattle.op_protocol.specs.State.{Volatile}
 use Rattle.op_protocol.specs.Parts.{is_admitted, is_admitted_body, others, message, saying, nothing}
-use Rattle.op_protocol.specs.Leader.{on_promise, on_accepted, on_prepare_req, on_forward, propose}
+use Rattle.op_protocol.specs.Leader.{on_promise, on_promise_part, on_accepted, on_prepare_req, on_forward, propose}
 use Rattle.op_protocol.specs.Follower.{on_prepare, on_accept_sync, on_accept, on_decide}
 use Rattle.op_protocol.specs.Reading.{on_confirm}
 use Rattle.op_protocol.specs.Trimming.{on_progress, on_trim_ask, on_trim}
@@ -27,6 +27,7 @@ use Rattle.op_bounds.proofs.Batches.{PartIn}
 use Rattle.op_bounds.proofs.Effects.{RoleIn, RowInRange, row_saying, row_nothing, send_one, others_all, all_at}
 use Rattle.op_bounds.proofs.Ballots.{has_owner}
 use Rattle.op_bounds.proofs.FollowerRows as follower
+use Rattle.op_bounds.proofs.SyncRows as syncing
 use Rattle.op_bounds.proofs.LeaderRows as leader
 use Rattle.op_bounds.proofs.TrimRows as trimming
 use Rattle.op_bounds.proofs.TickRows.{VolatileIn, role_of, PartStepInRange, effects_in, remembering_in, request_in, reply_in, refuse_in}
@@ -50,6 +51,11 @@ module _ (Known : ℕ → Type 0) (ids : AreIds Known) (me : ℕ) (one : Known m
   body_in v q (body.AcceptSync n x es) in_volatile from fit admitted =
       effects_in Known p 3 v (on_accept_sync p v.role q n x es) (omega arith) in_volatile
       (follower.accept_sync_in Known p k v.role (role_of Known p.conf v in_volatile) q n x es from fit.0 (admitted_ends p x es admitted) (admitted_in Known p x es fit.2.each admitted))
+  body_in v q (body.PromisePart n part) in_volatile from fit admitted =
+      effects_in Known p 5 v (on_promise_part me p v.role q n part) (omega arith) in_volatile
+      (leader.promise_part_in Known me p k v.role q n part (role_of Known p.conf v in_volatile) from fit.1 (admitted_ends p part.at part.run admitted) (admitted_in Known p part.at part.run fit.1.run.each admitted))
+  body_in v q (body.AcceptSyncPart n part) in_volatile from fit admitted =
+      syncing.sync_part_in Known p k v in_volatile q n from fit.0 part fit.1 (admitted_ends p part.at part.run admitted) (admitted_in Known p part.at part.run fit.1.run.each admitted)
   body_in v q (body.Accept n at es) in_volatile from fit admitted =
       effects_in Known p 3 v (on_accept p v.role q n at es) (omega arith) in_volatile
       (follower.accept_in Known p k v.role (role_of Known p.conf v in_volatile) q n at es from fit.0 (admitted_ends p at es admitted) (admitted_in Known p at es fit.2.each admitted))
@@ -62,10 +68,10 @@ module _ (Known : ℕ → Type 0) (ids : AreIds Known) (me : ℕ) (one : Known m
   body_in v q (body.Refuse n b) in_volatile from fit admitted = refuse_in Known ids me one p k v b in_volatile fit.1
   body_in v q (body.Forward e) in_volatile from fit admitted =
       effects_in Known p 2 v (on_forward me p v.role (e ∷ [])) (omega arith) in_volatile
-      (leader.forward_in Known me p k v.role (e ∷ []) (role_of Known p.conf v in_volatile) (admitted_in Known p 0 (e ∷ []) (All-cons (EntryOf Known) e [] fit (All-nil (EntryOf Known))) admitted))
+      (leader.forward_in Known me p k v.role (e ∷ []) (role_of Known p.conf v in_volatile) (admitted_in Known p 0 (e ∷ []) (All-cons (EntryOf Known) e [] fit (All-nil (EntryOf Known))) admitted) (omega arith))
   body_in v q (body.Forwards es) in_volatile from fit admitted =
       effects_in Known p 2 v (on_forward me p v.role es) (omega arith) in_volatile
-      (leader.forward_in Known me p k v.role es (role_of Known p.conf v in_volatile) (commands_in Known p.conf es fit.each fit.commands))
+      (leader.forward_in Known me p k v.role es (role_of Known p.conf v in_volatile) (commands_in Known p.conf es fit.each fit.commands) fit.few)
   body_in v q (body.TrimAsk n) in_volatile from fit admitted =
       effects_in Known p 0 v (on_trim_ask p v.role q n) (omega arith) in_volatile (trimming.trim_ask_in Known me p k v.role q n (role_of Known p.conf v in_volatile) from fit)
   body_in v q (body.Progress n x) in_volatile from fit admitted =
@@ -78,6 +84,7 @@ module _ (Known : ℕ → Type 0) (ids : AreIds Known) (me : ℕ) (one : Known m
   body_in v q (body.NextConf members olds len trimmed) in_volatile from fit admitted = remembering_in Known p v [] in_volatile (All-nil (SendInRange Known))
   body_in v q body.AskBase in_volatile from fit admitted = remembering_in Known p v [] in_volatile (All-nil (SendInRange Known))
   body_in v q (body.BasePart at bytes) in_volatile from fit admitted = remembering_in Known p v [] in_volatile (All-nil (SendInRange Known))
+  body_in v q (body.BasePiece piece) in_volatile from fit admitted = remembering_in Known p v [] in_volatile (All-nil (SendInRange Known))
   body_in v q (body.AskSegment a b) in_volatile from fit admitted = remembering_in Known p v [] in_volatile (All-nil (SendInRange Known))
   body_in v q (body.Segment at es) in_volatile from fit admitted = remembering_in Known p v [] in_volatile (All-nil (SendInRange Known))
 
@@ -103,5 +110,5 @@ module _ (Known : ℕ → Type 0) (ids : AreIds Known) (me : ℕ) (one : Known m
   pub up_in : (r : Role) (q : ℕ) → RoleIn Known p.conf r → RowInRange Known p.conf p 0 (session_up me p r q)
   up_in r q in_role =
       cond_both (is_member nat_eq (others me p.members) q) (saying r (message p.conf q body.PrepareReq ∷ [])) (nothing r) (RowInRange Known p.conf p 0)
-      (λ h. row_saying Known p.conf p 0 r (message p.conf q body.PrepareReq ∷ []) in_role (send_one Known p.conf q body.PrepareReq k.range.conf (omega arith) (all_at Known (others me p.members) q (others_all Known me p k) h) tt))
+      (λ h. row_saying Known p.conf p 0 r (message p.conf q body.PrepareReq ∷ []) in_role (send_one Known p.conf q body.PrepareReq k.range.conf (omega arith) (omega arith) (all_at Known (others me p.members) q (others_all Known me p k) h) tt))
       (λ _. row_nothing Known p.conf p 0 r in_role)

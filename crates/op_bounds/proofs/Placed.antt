@@ -92,19 +92,26 @@ pub record RunIn (Known : ℕ → Type 0) (count : ℕ) (es : List Entry) : Type
   pub size : length es ≡ count
   pub each : All (EntryOf Known) es
 
-module _ (Known : ℕ → Type 0) (xs : List (ℕ × Entry)) (each : All (λ x. EntryOf Known x.1) xs) where
-  pub run_in : (n count : ℕ) (es : List Entry) → held_run xs n count ≡ Some es → RunIn Known count es
-  run_in n zero es h = subst (RunIn Known 0) (some_is [] es h) (record { size = refl; each = All-nil (EntryOf Known) })
-  run_in n (suc count) es h =
-      by (held_at xs n) (held_run xs (n + 1) count) refl (All-lookup (EntryOf Known) (is_at (nat_cmp n)) xs each) h (λ ds k. run_in (n + 1) count ds k)
+-- what holds of each that is held holds of each in a run
+module _ (P : Entry → Type 0) (xs : List (ℕ × Entry)) (each : All (λ x. P x.1) xs) where
+  abbrev RunOf : ℕ → List Entry → Type 0
+  RunOf count es = (length es ≡ count) × All P es
+
+  pub run_all : (n count : ℕ) (es : List Entry) → held_run xs n count ≡ Some es → RunOf count es
+  run_all n zero es h = subst (RunOf 0) (some_is [] es h) (refl, All-nil P)
+  run_all n (suc count) es h =
+      by (held_at xs n) (held_run xs (n + 1) count) refl (All-lookup P (is_at (nat_cmp n)) xs each) h (λ ds k. run_all (n + 1) count ds k)
     where
-      by : (o : Option Entry) (r : Option (List Entry)) → held_run xs (n + 1) count ≡ r → IfSome o (EntryOf Known) → with_first o r ≡ Some es
-          → ((ds : List Entry) → held_run xs (n + 1) count ≡ Some ds → RunIn Known count ds) → RunIn Known (suc count) es
+      by : (o : Option Entry) (r : Option (List Entry)) → held_run xs (n + 1) count ≡ r → IfSome o P → with_first o r ≡ Some es
+          → ((ds : List Entry) → held_run xs (n + 1) count ≡ Some ds → RunOf count ds) → RunOf (suc count) es
       by None r e one k rest = absurd (none_is es k)
       by (Some x) None e one k rest = absurd (none_is es k)
       by (Some x) (Some ds) e one k rest =
           let more = rest ds e in
-          subst (RunIn Known (suc count)) (some_is (x ∷ ds) es k) (record { size = ap suc more.size; each = All-cons (EntryOf Known) x ds one more.each })
+          subst (RunOf (suc count)) (some_is (x ∷ ds) es k) (ap suc more.0, All-cons P x ds one more.1)
+
+pub run_in : (Known : ℕ → Type 0) (xs : List (ℕ × Entry)) → All (λ x. EntryOf Known x.1) xs → (n count : ℕ) (es : List Entry) → held_run xs n count ≡ Some es → RunIn Known count es
+run_in Known xs each n count es h = let run = run_all (EntryOf Known) xs each n count es h in record { size = run.0; each = run.1 }
 
 pub held_entries : (Known : ℕ → Type 0) (len : ℕ) (xs : List (ℕ × Entry)) → HeldIn Known len xs → All (λ x. EntryOf Known x.1) xs
 held_entries Known len xs k = λ i d within. (held_each len 0 xs k.range i d within, k.names i d within)

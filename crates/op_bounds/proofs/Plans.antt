@@ -10,7 +10,6 @@ use Rattle.op_types.specs.Limits.{last_conf}
 use Rattle.op_types.specs.Ranges.{IsMember, EntryInRange}
 use Rattle.op_types.specs.Stops.{stop_at_end}
 use Rattle.op_types.specs.Changes.{IsEnded, closed_by, decided_tail, part_with, part_after_closed, new_part, durable_after, Applies}
-use Rattle.op_types.specs.Roles.{Idle}
 use Rattle.op_types.specs.declared.log.Entry.{Entry}
 use Rattle.op_types.specs.declared.answers.Cause.TheVariants as cause
 use Rattle.op_types.specs.declared.answers.Outcome.{Outcome}
@@ -26,6 +25,7 @@ use Rattle.op_kv.specs.Bases.{IsBase}
 use Rattle.op_record.specs.Ranges.{PartInRange, ChangeInRange}
 use Rattle.op_protocol.specs.Bases.{service_in, service_at}
 use Rattle.op_protocol.specs.State.{State, Volatile, Waiting, PartStep, Planned}
+use Rattle.op_protocol.specs.Starting.{first_volatile}
 use Rattle.op_protocol.specs.Parts.{part_after, decided_since}
 use Rattle.op_protocol.specs.Configurations.{news_of, giving_up, closing_part}
 use Rattle.op_protocol.specs.Leader.{given_up_by}
@@ -34,7 +34,7 @@ use Rattle.op_protocol.specs.Rows.{based, planned, plan_of}
 use Rattle.op_protocol.proofs.Based.{with_base}
 use Rattle.op_protocol.proofs.Plans.{after_both}
 use Rattle.op_bounds.specs.Messages.{AreIds, MembersOf, OutcomeInRange, SendInRange, ReplyInRange}
-use Rattle.op_bounds.specs.States.{PartOf, DurableOf, IsNamed, RoleEndsNowhere, VolatileInRange}
+use Rattle.op_bounds.specs.States.{PartOf, DurableOf, IsNamed, VolatileInRange, VolatileEndsNowhere}
 use Rattle.op_bounds.specs.Laws.{PlanInRange}
 use Rattle.op_bounds.proofs.ReadBases.{ServiceIn, base_of, service_in_range}
 use Rattle.op_bounds.proofs.Entries.{EntriesIn, entries_range, entries_names, first_entries, drop_ends, ended_some, ended_stops, ended_names}
@@ -44,7 +44,7 @@ use Rattle.op_bounds.proofs.TickRows.{role_of, PartStepInRange}
 use Rattle.op_bounds.proofs.Serving.{ServedIn, all_after_in, serving_in, dropping_in}
 use Rattle.op_bounds.proofs.JoinChanges.{stored, JoinsIn, joining_batch}
 use Rattle.op_bounds.proofs.JoinSends.{ClosedIn, news_said}
-use Rattle.op_bounds.proofs.Beginning.{first_volatile_in, new_part_range, new_part_of}
+use Rattle.op_bounds.proofs.Beginning.{first_stops, first_volatile_in, new_part_range, new_part_of}
 
 -- the plan is in range, and the node stays a member of its part's configuration and of the one that it joins
 pub record StepIn (Known : ℕ → Type 0) (me : ℕ) (s : State) (p : Planned) : Type 0 where
@@ -213,8 +213,8 @@ module _ (Known : ℕ → Type 0) (ids : AreIds Known) (me : ℕ) (one : Known m
           durable = subst (DurableOf Known) (sym landed.stored)
               (record { range = record { part = left_range; closed = d.range.closed; joining = d.range.joining }; part = left_of; closed = d.closed; joining = d.joining });
           volatile = fit.volatile.range;
-          stops = subst (λ (e : Durable). IfSome e.part (λ q. RoleEndsNowhere q.conf x.volatile.role)) (sym landed.stored)
-              (subst (λ (c : ℕ). RoleEndsNowhere c x.volatile.role) (sym left_conf) fit.volatile.stops);
+          stops = subst (λ (e : Durable). IfSome e.part (λ q. VolatileEndsNowhere q.conf x.volatile)) (sym landed.stored)
+              (subst (λ (c : ℕ). VolatileEndsNowhere c x.volatile) (sym left_conf) fit.volatile.stops);
           service = served.service.range;
           order = served.service.order;
           reads = tt;
@@ -267,9 +267,10 @@ module _ (Known : ℕ → Type 0) (ids : AreIds Known) (me : ℕ) (one : Known m
         cond_both named (Some (new_part (list.conf + 1) list.next base)) None (λ (o : Option Part). IfSome o (PartOf Known))
         (λ _. new_part_of Known (list.conf + 1) list.next base new_members_in) (λ _. tt)
 
-    next_idle : IfSome next (λ q. RoleEndsNowhere q.conf Idle)
+    next_idle : IfSome next (λ q. VolatileEndsNowhere q.conf (first_volatile me))
     next_idle =
-        cond_both named (Some (new_part (list.conf + 1) list.next base)) None (λ (o : Option Part). IfSome o (λ q. RoleEndsNowhere q.conf Idle)) (λ _. tt) (λ _. tt)
+        cond_both named (Some (new_part (list.conf + 1) list.next base)) None (λ (o : Option Part). IfSome o (λ q. VolatileEndsNowhere q.conf (first_volatile me)))
+        (λ _. first_stops (list.conf + 1) me) (λ _. tt)
 
     next_named : IfSome next (λ q. IsMember q.members me)
     next_named =
@@ -297,7 +298,7 @@ module _ (Known : ℕ → Type 0) (ids : AreIds Known) (me : ℕ) (one : Known m
             durable = subst (DurableOf Known) (sym after)
                 (record { range = record { part = next_range; closed = list_in.range; joining = d.range.joining }; part = next_known; closed = list_in.of; joining = d.joining });
             volatile = first_volatile_in Known ids me one;
-            stops = subst (λ (e : Durable). IfSome e.part (λ q. RoleEndsNowhere q.conf Idle)) (sym after) next_idle;
+            stops = subst (λ (e : Durable). IfSome e.part (λ q. VolatileEndsNowhere q.conf (first_volatile me))) (sym after) next_idle;
             service = served.service.range;
             order = served.service.order;
             reads = tt;
@@ -335,7 +336,7 @@ module _ (Known : ℕ → Type 0) (me : ℕ) (l : Option Closed) (j : Option Joi
       ap (λ (b : List Change). is_some (stop_at_end (decided_since p (part_after p b)))) e.0 ∙ ap (λ (es : List Entry). is_some (stop_at_end es)) none in
       cond-false (is_some (stop_at_end (decided_since p (part_after p (map (based p) batch))))) (closing_part me (part_after p (map (based p) batch)) y) y goes ∙ same
 
-  pub quiet_plan : (o : Option Part) → JoinsIn Known me (stored o l j) batch → VolatileInRange Known v → IfSome o (λ p. RoleEndsNowhere p.conf v.role) → ServiceIn t → All (SendInRange Known) sends → IfSome outcome (OutcomeInRange Known)
+  pub quiet_plan : (o : Option Part) → JoinsIn Known me (stored o l j) batch → VolatileInRange Known v → IfSome o (λ p. VolatileEndsNowhere p.conf v) → ServiceIn t → All (SendInRange Known) sends → IfSome outcome (OutcomeInRange Known)
       → StepIn Known me (there o) (plan_of me (there o) others (quiet_step v batch sends outcome))
   quiet_plan o k in_volatile stops in_service said told =
       subst (StepIn Known me (there o)) (sym (quiet_is o (λ p e. joining_batch p p batch k.kinds)))
@@ -351,7 +352,7 @@ module _ (Known : ℕ → Type 0) (me : ℕ) (l : Option Closed) (j : Option Joi
           after = record {
             durable = k.after;
             volatile = in_volatile;
-            stops = subst (λ (p : Option Part). IfSome p (λ q. RoleEndsNowhere q.conf v.role)) (sym k.part) stops;
+            stops = subst (λ (p : Option Part). IfSome p (λ q. VolatileEndsNowhere q.conf v)) (sym k.part) stops;
             service = in_service.range;
             order = in_service.order;
             reads = tt;

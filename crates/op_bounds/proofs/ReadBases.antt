@@ -1,19 +1,17 @@
 -- Whatever bytes are read as a service's base, what is read is in range and in order. And a base that is short enough is read.
-use Rattle.std.proofs.Common.{◌≡◌, ℕ, zero, suc, ◌+◌, ◌-◌, ◌^◌, ◌≤◌, Bool, true, eqb, ltb, cond, IsTrue, List, [], ◌∷◌, length, take, drop, Option, Some, None, Result, Ok, Err, refl, sym, ap, subst, ◌∙◌, inl, inr, arith}
-use Rattle.std.specs.Prelude.{is_some}
+use Rattle.std.proofs.Common.{◌≡◌, ℕ, zero, suc, ◌+◌, ◌-◌, ◌^◌, ◌≤◌, Bool, true, eqb, ltb, cond, IsTrue, List, [], ◌∷◌, length, take, drop, Result, Ok, Err, refl, sym, ap, subst, ◌∙◌, inl, inr, arith}
 use Rattle.std.specs.Result.{result_ok}
 use Rattle.std.specs.Int.{Width, w8, w16, w64}
 use Rattle.std.specs.Cmp.{nat_cmp_total}
 use Rattle.std.specs.Cmp.Lexicographic.{nat_list_cmp_total}
 use Rattle.std.specs.List.Sorted.{IsStrictlySortedBy}
 use Rattle.std.specs.Map.{keys_of}
-use Rattle.std.proofs.lemmas.Bool.{ltb-false, false≢true}
+use Rattle.std.proofs.lemmas.Bool.{ltb-false}
 use Rattle.std.proofs.lemmas.List.{length-take, length-drop}
 use Rattle.op_types.specs.declared.answers.Answer.{Answer}
 use Rattle.op_types.specs.declared.answers.Answer.TheVariants as answer
 use Rattle.op_types.specs.declared.answers.Applied.{Applied}
 use Rattle.op_fields.specs.Form.{◌>>=◌, Form, Options, number_read, number, counted, pair, fitted, tested, option, no_option, whole}
-use Rattle.op_fields.specs.Reads.{IsBytes}
 use Rattle.op_fields.proofs.Formats.{bind_ok, guard, passed, chosen, ok_is, number_within}
 use Rattle.op_entry.specs.Forms.{key, value, key_value, client_number}
 use Rattle.op_spec.specs.Service.{Pairs, Service, new_service, base_bytes}
@@ -23,8 +21,7 @@ use Rattle.op_kv.specs.Bases.{IsBase, HasBase, no_fields, kept_options, kept_ans
 use Rattle.op_kv.proofs.BaseReads.{pairs_fit, clients_fit, has_base}
 use Rattle.op_kv.proofs.Climbs.{climbs_rise}
 use Rattle.op_protocol.specs.Bases.{service_read, is_base, or_new, service_in}
-use Rattle.op_protocol.proofs.Bases.{service_is_read, read_bytes_are}
-use Rattle.op_bounds.specs.Messages.{IsBaseIfRead}
+use Rattle.op_protocol.proofs.Bases.{service_is_read, ReadsAs, read_is_base, base_is_read}
 
 -- what is read by this form has an encoding
 abbrev Keeps : {A : Type 0} → Form A → Type 0
@@ -175,16 +172,15 @@ service_in_range bytes = by (whole base bytes) refl
 pub base_of : (s : Service) → ServiceIn s → IsBase (base_bytes s)
 base_of s k = (s, k.range, k.order, refl)
 
--- bytes that are read as a base are one
-pub base_if_read : (bytes : List ℕ) → IsBytes bytes → IsBaseIfRead bytes
-base_if_read bytes fits h = by (service_read bytes) refl
-  where
-    by : (o : Option Service) → service_read bytes ≡ o → IsBase bytes
-    by None e = absurd (false≢true (sym (ap is_some e) ∙ h))
-    by (Some s) e = let t = read_bytes_are bytes s fits e in (s, t.1.range, t.1.order, t.0)
+-- bytes that pass for a base are one
+pub base_if_read : (bytes : List ℕ) → is_base bytes ≡ true → IsBase bytes
+base_if_read bytes h =
+    let r : ReadsAs bytes = base_is_read bytes h in
+    let k : ServiceIn r.service = subst ServiceIn (ap or_new r.read) (service_in_range bytes) in
+    (r.service, k.range, k.order, r.is)
 
 -- a base that is short enough is read
 pub short_base_is_read : (bytes : List ℕ) → IsBase bytes → length bytes ≤ 2 ^ 64 - 1 → is_base bytes ≡ true
 short_base_is_read bytes is short =
     let s : Service = is.0 in
-    ap is_base is.3 ∙ ap is_some (service_is_read s (has_base s is.1 is.2 (omega (arith, ap length is.3, short))))
+    read_is_base bytes s (ap service_read is.3 ∙ service_is_read s (has_base s is.1 is.2 (omega (arith, ap length is.3, short)))) is.3

@@ -1,5 +1,5 @@
 -- What comes of reads is in range: questions and answers, and the reads that wait.
-use Rattle.std.proofs.Common.{◌≡◌, ◌<◌, ℕ, suc, inr, Bool, true, false, cond, eqb, ◌&&◌, List, [], ◌∷◌, ◌++◌, map, filter, not, Option, Some, None, refl, ap, arith}
+use Rattle.std.proofs.Common.{◌<◌, ℕ, suc, inr, Bool, eqb, ◌&&◌, List, [], map, filter, not, Option, Some, None, arith}
 use Rattle.std.proofs.lemmas.Bool.{cond_both, eqb-false}
 use Rattle.std.proofs.lemmas.List.Elements.{All-nil, All-cons, All-append, All-filter, All-map, All-weaker}
 use Rattle.std.specs.Prelude.{All, IfSome, length, nat_le, nat_eq, option_map}
@@ -20,12 +20,11 @@ use Rattle.op_types.specs.declared.messages.Body.{Body}
 use Rattle.op_types.specs.declared.messages.Body.TheVariants as body
 use Rattle.op_types.specs.declared.answers.Cause.{Cause}
 use Rattle.op_types.specs.declared.answers.Cause.TheVariants as cause
-use Rattle.op_types.specs.declared.answers.Reply.{Reply}
 use Rattle.op_types.specs.declared.answers.Outcome.{Outcome}
 use Rattle.op_reads.specs.declared.asked_read.AskedRead.{AskedRead}
-use Rattle.op_reads.specs.Reads.{WaitingRead, Reads, with_read, confirming, with_confirmed, is_confirmed, answered, without_answered}
+use Rattle.op_reads.specs.Reads.{WaitingRead, Reads, with_read, confirming, with_confirmed, is_confirmed, without_answered}
 use Rattle.op_record.specs.Ranges.{PartInRange, ClosedInRange}
-use Rattle.op_spec.specs.Service.{Service, value_at}
+use Rattle.op_spec.specs.Service.{Service}
 use Rattle.op_protocol.specs.State.{State, Planned}
 use Rattle.op_protocol.specs.Parts.{others}
 use Rattle.op_protocol.specs.Configurations.{latest_of}
@@ -101,7 +100,7 @@ module _ (Known : ℕ → Type 0) (me : ℕ) where
       (λ h. let below : suc reads.count < positions_end = omega (arith, old.count, eqb-false (suc reads.count) positions_end h) in
       record {
         reads = asked_one reads r old fit below;
-        sends = send_each Known p.conf (others me p.members) (body.Confirm l.ballot (suc reads.count)) part.range.conf (omega arith) (others_all Known me p part) (ballot, (omega arith, omega (arith, below)));
+        sends = send_each Known p.conf (others me p.members) (body.Confirm l.ballot (suc reads.count)) part.range.conf (omega arith) (omega arith) (others_all Known me p part) (ballot, (omega arith, omega (arith, below)));
         outcome = tt;
       })
 

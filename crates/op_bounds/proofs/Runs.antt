@@ -43,7 +43,7 @@ message_found Known (m ∷ ms) (suc i) each = message_found Known ms i (All-tail
 sent_in : (Known : ℕ → Type 0) (me : ℕ) (sends : List (ℕ × Msg)) → Known me → All (SendInRange Known) sends → All (SentInRange Known) (sent_by me sends)
 sent_in Known me sends one each =
     All-map (SentInRange Known) (λ s. record { from = me; to = s.0; message = s.1 }) sends
-    (All-weaker (SendInRange Known) (λ s. SentInRange Known (record { from = me; to = s.0; message = s.1 })) (λ s k. record { from = one; to = k.to; conf = k.conf; message = k.message }) sends each)
+    (All-weaker (SendInRange Known) (λ s. SentInRange Known (record { from = me; to = s.0; message = s.1 })) (λ s k. record { from = one; to = k.to; conf = k.conf; carries = k.carries; message = k.message }) sends each)
 
 -- ---- deeds
 

@@ -8,7 +8,6 @@ use Rattle.std.proofs.lemmas.Bool.{cond_both}
 use Rattle.std.proofs.lemmas.Map.Views.{All-insert_key}
 use Rattle.std.proofs.lemmas.List.Elements.{All-nil, All-head, All-tail, All-map, All-weaker, All-filter}
 use Rattle.op_types.specs.Changes.{empty_durable}
-use Rattle.op_types.specs.Roles.{Idle}
 use Rattle.op_types.specs.declared.durable.Closed.{Closed}
 use Rattle.op_types.specs.declared.durable.Joining.{Joining}
 use Rattle.op_types.specs.declared.durable.Part.{Part}
@@ -16,10 +15,10 @@ use Rattle.op_types.specs.declared.durable.Durable.{Durable}
 use Rattle.op_types.specs.declared.messages.Body.TheVariants as body
 use Rattle.op_spec.specs.Service.{new_service, base_bytes}
 use Rattle.op_protocol.specs.Parts.{others}
-use Rattle.op_protocol.specs.Starting.{restart_ballot, requests_to_prepare, service_after_restart, volatile_after_restart, state_after_restart}
+use Rattle.op_protocol.specs.Starting.{first_volatile, restart_ballot, requests_to_prepare, service_after_restart, volatile_after_restart, state_after_restart}
 use Rattle.op_runs.specs.World.{first_durable, durable_at_start, first_node, node_ids, first_world}
 use Rattle.op_bounds.specs.Messages.{AreIds, MembersOf, SendInRange}
-use Rattle.op_bounds.specs.States.{DurableOf, IsNamed, RoleEndsNowhere, VolatileInRange, StateInRange}
+use Rattle.op_bounds.specs.States.{DurableOf, IsNamed, VolatileInRange, VolatileEndsNowhere, StateInRange}
 use Rattle.op_bounds.specs.Laws.{OpeningsStayInRange, SentInRange, NodeInRange, WorldInRange, StartsAreInRange}
 use Rattle.op_bounds.proofs.ReadBases.{ServiceIn, new_service_in, base_of}
 use Rattle.op_bounds.proofs.Batches.{part_in}
@@ -27,7 +26,7 @@ use Rattle.op_bounds.proofs.Effects.{send_each}
 use Rattle.op_bounds.proofs.Ballots.{restart_ballot_in}
 use Rattle.op_bounds.proofs.JoinChanges.{stored}
 use Rattle.op_bounds.proofs.Plans.{part_bases}
-use Rattle.op_bounds.proofs.Beginning.{started, first_volatile_in, new_part_range, new_part_of}
+use Rattle.op_bounds.proofs.Beginning.{started_stops, first_stops, started, first_volatile_in, new_part_range, new_part_of}
 
 -- ---- an opening
 
@@ -36,9 +35,9 @@ module _ (Known : ℕ → Type 0) (ids : AreIds Known) (me : ℕ) (one : Known m
   memory None d = first_volatile_in Known ids me one
   memory (Some p) d = started Known ids (restart_ballot me p.promised) p.promised (restart_ballot_in Known me p.promised ids one) d.part.promised
 
-  idle : (o : Option Part) → IfSome o (λ p. RoleEndsNowhere p.conf (volatile_after_restart me o).role)
+  idle : (o : Option Part) → IfSome o (λ p. VolatileEndsNowhere p.conf (volatile_after_restart me o))
   idle None = tt
-  idle (Some p) = tt
+  idle (Some p) = started_stops p.conf (restart_ballot me p.promised) p.promised
 
   service : (o : Option Part) → DurableOf Known (stored o l j) → ServiceIn (service_after_restart o)
   service None d = new_service_in
@@ -51,7 +50,7 @@ module _ (Known : ℕ → Type 0) (ids : AreIds Known) (me : ℕ) (one : Known m
   asked None x d = All-nil (SendInRange Known)
   asked (Some p) (Some x) d = All-nil (SendInRange Known)
   asked (Some p) None d =
-      send_each Known p.conf (others me p.members) body.PrepareReq d.range.part.conf (omega arith) (All-filter (λ q. not (eqb q me)) Known p.members d.part.members) tt
+      send_each Known p.conf (others me p.members) body.PrepareReq d.range.part.conf (omega arith) (omega arith) (All-filter (λ q. not (eqb q me)) Known p.members d.part.members) tt
 
 pub openings_stay : (Known : ℕ → Type 0) → OpeningsStayInRange Known
 openings_stay Known ids me one d k =
@@ -87,13 +86,13 @@ module _ (Known : ℕ → Type 0) (ids : AreIds Known) (members : List ℕ) (ran
   -- what is stored at the start, and who is a member
   record StoredAtStart (me : ℕ) (d : Durable) : Type 0 where
     pub fits : DurableOf Known d
-    pub idle : IfSome d.part (λ p. RoleEndsNowhere p.conf Idle)
+    pub idle : IfSome d.part (λ p. VolatileEndsNowhere p.conf (first_volatile me))
     pub named : IsNamed me d
 
   at_start : (me : ℕ) → StoredAtStart me (durable_at_start members me)
   at_start me =
       cond_both (is_member nat_eq members me) (first_durable members) empty_durable (StoredAtStart me)
-      (λ h. record { fits = member_durable; idle = tt; named = record { part = h; joining = tt } })
+      (λ h. record { fits = member_durable; idle = first_stops 1 me; named = record { part = h; joining = tt } })
       (λ _. record { fits = spare_durable; idle = tt; named = record { part = tt; joining = tt } })
 
   first_node_in : (me : ℕ) → Known me → NodeInRange Known (first_node members me)

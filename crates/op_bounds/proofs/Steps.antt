@@ -7,6 +7,7 @@ use Rattle.std.proofs.lemmas.List.Elements.{All-nil, All-cons, All-head, All-fil
 use Rattle.op_types.specs.Limits.{last_conf}
 use Rattle.op_types.specs.Ranges.{IsPlace, AreCommands}
 use Rattle.op_types.specs.Changes.{IsCommand, EndsNowhere, len_of, durable_after}
+use Rattle.op_types.specs.Stages.{Pieces, with_piece, whole_bytes}
 use Rattle.op_types.specs.Roles as role
 use Rattle.op_types.specs.Roles.{Role}
 use Rattle.op_types.specs.declared.log.Command.{Command}
@@ -25,6 +26,8 @@ use Rattle.op_types.specs.declared.events.Input.TheVariants as input
 use Rattle.op_types.specs.declared.messages.Body.{Body}
 use Rattle.op_types.specs.declared.messages.Body.TheVariants as body
 use Rattle.op_types.specs.declared.messages.Msg.{Msg}
+use Rattle.op_types.specs.declared.runs.Piece.{Piece}
+use Rattle.op_msg.specs.Ranges.{PieceInRange}
 use Rattle.op_spec.specs.Service.{Service}
 use Rattle.op_protocol.specs.State.{State, Volatile, Waiting, PartStep, Planned, with_effects}
 use Rattle.op_protocol.specs.Parts.{is_admitted, message}
@@ -32,10 +35,10 @@ use Rattle.op_protocol.specs.Leader.{session_down, propose}
 use Rattle.op_protocol.specs.Trimming.{trim_now}
 use Rattle.op_protocol.specs.Tick.{remembering, on_tick}
 use Rattle.op_protocol.specs.Configurations.{latest_of, latest_members, next_conf_message}
-use Rattle.op_protocol.specs.Joining.{storing, on_next_conf, joins, asks, gives_base, gives_segment, brought_to}
+use Rattle.op_protocol.specs.Joining.{storing, begins_joining, storing_news, on_next_conf, joins, asks, gives_base, gives_segment, takes_piece, pieces_once, on_base_piece, brought_to}
 use Rattle.op_protocol.specs.Rows.{on_message, message_at, is_of_joining, may_be_above, is_prepare_req, on_older, on_newer, on_latest, message_step, brought_by, entries_of, open_refusal, part_refusal, pending_at, refusal_after, refusal_of, stop_for, answering, proposal_at, proposal_step, tick_at, trim_at, session_up, up_at, step_at, plan_of, waiting_at, step_bringing, table_plan, step_plan}
 use Rattle.op_bounds.specs.Messages.{AreIds, MembersOf, BodyInRange, least_conf_of, MsgInRange, SendInRange, RefusalInRange, OutcomeInRange, InputInRange}
-use Rattle.op_bounds.specs.States.{ClosedOf, DurableOf, IsNamed, RoleInRange, RoleEndsNowhere, VolatileInRange, StateInRange}
+use Rattle.op_bounds.specs.States.{ClosedOf, DurableOf, IsNamed, RoleInRange, VolatileInRange, VolatileEndsNowhere, StateInRange}
 use Rattle.op_bounds.specs.Laws.{StepsStayInRange}
 use Rattle.op_record.specs.Ranges.{ClosedInRange}
 use Rattle.op_bounds.proofs.ReadBases.{ServiceIn}
@@ -44,7 +47,7 @@ use Rattle.op_bounds.proofs.Batches.{PartIn, part_in}
 use Rattle.op_bounds.proofs.Choices.{stop_at_in}
 use Rattle.op_bounds.proofs.LeaderRows as leader
 use Rattle.op_bounds.proofs.TrimRows as trimming
-use Rattle.op_bounds.proofs.TickRows.{VolatileIn, role_of, PartStepInRange, effects_in, tick_in}
+use Rattle.op_bounds.proofs.TickRows.{VolatileIn, role_of, pieces_now, pieces_stops, PartStepInRange, effects_in, tick_in}
 use Rattle.op_bounds.proofs.PartSteps.{RefusalTells, message_in, open_tells, proposed_in, up_in}
 use Rattle.op_bounds.proofs.JoinChanges.{stored, JoinsIn, nothing_joined, joins_in, held_here}
 use Rattle.op_bounds.proofs.JoinSends.{ClosedIn, news_in, base_given, segment_given, asks_said}
@@ -59,7 +62,7 @@ RefusalTellsAt Known o es (Some r) = RefusalInRange r
 RefusalTellsAt Known o es None = IfSome o (λ p. (is_admitted p (len_of p) es ≡ true) × Known p.promised.pid)
 
 module _ (Known : ℕ → Type 0) (ids : AreIds Known) (me : ℕ) (one : Known me) (o : Option Part) (l : Option Closed) (j : Option Joining) (v : Volatile) (t : Service) (w : Waiting)
-    (d : DurableOf Known (stored o l j)) (in_volatile : VolatileInRange Known v) (stops : IfSome o (λ p. RoleEndsNowhere p.conf v.role)) (in_service : ServiceIn t) (others : Waiting) where
+    (d : DurableOf Known (stored o l j)) (in_volatile : VolatileInRange Known v) (stops : IfSome o (λ p. VolatileEndsNowhere p.conf v)) (in_service : ServiceIn t) (others : Waiting) where
   abbrev here : State
   here = record { durable = stored o l j; volatile = v; service = t; waiting = w; reads = None }
 
@@ -69,8 +72,8 @@ module _ (Known : ℕ → Type 0) (ids : AreIds Known) (me : ℕ) (one : Known m
 
   -- ---- steps that change nothing of a part
 
-  stores : (batch : List Change) → JoinsIn Known me (stored o l j) batch → Fine (storing v batch)
-  stores batch k = quiet_plan Known me l j v v t w others batch [] None o k in_volatile stops in_service (All-nil (SendInRange Known)) tt
+  stores : (y : Volatile) (batch : List Change) → VolatileInRange Known y → IfSome o (λ p. VolatileEndsNowhere p.conf y) → JoinsIn Known me (stored o l j) batch → Fine (storing y batch)
+  stores y batch in_y ends k = quiet_plan Known me l j v y t w others batch [] None o k in_y ends in_service (All-nil (SendInRange Known)) tt
 
   says : (sends : List (ℕ × Msg)) → All (SendInRange Known) sends → Fine (remembering v sends)
   says sends said = quiet_plan Known me l j v v t w others [] sends None o (nothing_joined Known ids me o l j d) in_volatile stops in_service said tt
@@ -84,7 +87,7 @@ module _ (Known : ℕ → Type 0) (ids : AreIds Known) (me : ℕ) (one : Known m
 -- ---- at a part
 
 module _ (Known : ℕ → Type 0) (ids : AreIds Known) (me : ℕ) (one : Known me) (p : Part) (l : Option Closed) (j : Option Joining) (v : Volatile) (t : Service) (w : Waiting)
-    (d : DurableOf Known (stored (Some p) l j)) (in_volatile : VolatileInRange Known v) (stops : RoleEndsNowhere p.conf v.role) (in_service : ServiceIn t) (others : Waiting) where
+    (d : DurableOf Known (stored (Some p) l j)) (in_volatile : VolatileInRange Known v) (stops : VolatileEndsNowhere p.conf v) (in_service : ServiceIn t) (others : Waiting) where
   at_part : (x : PartStep) → PartStepInRange Known p x → Fine Known ids me one (Some p) l j v t w d in_volatile stops in_service others x
   at_part x fit = part_plan Known ids me one p l j v t w d in_service others x fit
 
@@ -144,7 +147,7 @@ module _ (Known : ℕ → Type 0) (ids : AreIds Known) (me : ℕ) (one : Known m
   Stored o = DurableOf Known (stored o l j)
 
   abbrev Stops : Option Part → Type 0
-  Stops o = IfSome o (λ p. RoleEndsNowhere p.conf v.role)
+  Stops o = IfSome o (λ p. VolatileEndsNowhere p.conf v)
 
   abbrev Plan : Option Part → PartStep → Type 0
   Plan o x = let s : State = record { durable = stored o l j; volatile = v; service = t; waiting = w; reads = None } in StepIn Known me s (plan_of me s others x)
@@ -196,13 +199,36 @@ module _ (Known : ℕ → Type 0) (ids : AreIds Known) (me : ℕ) (one : Known m
       cond_both (is_some j || (is_of_joining b || is_prepare_req b)) [] (message (latest_of (stored o l j)) q body.PrepareReq ∷ []) (All (SendInRange Known))
       (λ _. All-nil (SendInRange Known))
       (λ _. All-cons (SendInRange Known) (message (latest_of (stored o l j)) q body.PrepareReq) []
-      (record { to = known; conf = λ (h : true ≡ false). absurd (true≢false h); message = record { conf = omega (arith, above, small); least = omega arith; body = tt } }) (All-nil (SendInRange Known)))
+      (record { to = known; carries = omega arith; conf = λ (h : true ≡ false). absurd (true≢false h); message = record { conf = omega (arith, above, small); least = omega arith; body = tt } }) (All-nil (SendInRange Known)))
+
+  -- what is stored of news
+  news_stored : (o : Option Part) (batch : List Change) → Stored o → Stops o → JoinsIn Known me (stored o l j) batch → Plan o (storing_news v batch)
+  news_stored o batch d stops k =
+      cond_both (begins_joining batch) (record v { pieces = None }) v (λ (y : Volatile). Plan o (storing y batch))
+      (λ _. stores Known ids me one o l j v t w d in_volatile stops in_service others (record v { pieces = None }) batch (pieces_now Known v None in_volatile tt) (pieces_stops v None o stops) k)
+      (λ _. stores Known ids me one o l j v t w d in_volatile stops in_service others v batch in_volatile stops k)
+
+  -- a piece of a base comes
+  staged_at : (s : Pieces) (x : Option (List ℕ)) → IsPlace s.at → IfSome (pieces_once s x) (λ y. IsPlace y.at)
+  staged_at s None place = place
+  staged_at s (Some bytes) place = tt
+
+  piece_here : (o : Option Part) (x : Option Joining) (c : ℕ) (piece : Piece) → Stored o → Stops o → PieceInRange piece → Plan o (on_base_piece x v c piece)
+  piece_here o None c piece d stops fit = still o d stops
+  piece_here o (Some x) c piece d stops fit =
+      let s : Pieces = with_piece v.pieces piece in
+      let left : Option Pieces = pieces_once s (whole_bytes s.bytes) in
+      cond_both (takes_piece x c piece) (storing (record v { pieces = left }) []) (storing v []) (Plan o)
+      (λ _. stores Known ids me one o l j v t w d in_volatile stops in_service others (record v { pieces = left }) []
+      (pieces_now Known v left in_volatile (staged_at s (whole_bytes s.bytes) fit.at)) (pieces_stops v left o stops) (nothing_joined Known ids me o l j d))
+      (λ _. still o d stops)
 
   news_here : (o : Option Part) (q c : ℕ) (members olds : List ℕ) (len trimmed : ℕ) → Stored o → Stops o → Known q → c ≤ last_conf → 2 ≤ c → BodyInRange Known (body.NextConf members olds len trimmed)
       → Plan o (on_next_conf me (stored o l j) v q c members olds len trimmed)
   news_here o q c members olds len trimmed d stops from small least fit =
-      cond_both (is_member nat_eq members me && ltb (latest_of (stored o l j)) c) (storing v (joins j q c members olds len trimmed)) (storing v []) (Plan o)
-      (λ h. stores Known ids me one o l j v t w d in_volatile stops in_service others (joins j q c members olds len trimmed)
+      let batch : List Change = joins j q c members olds len trimmed in
+      cond_both (is_member nat_eq members me && ltb (latest_of (stored o l j)) c) (storing_news v batch) (storing v []) (Plan o)
+      (λ h. news_stored o batch d stops
       (joins_in Known ids me o l j q c members olds len trimmed d (least, small) (and_parts (is_member nat_eq members me) (ltb (latest_of (stored o l j)) c) h).0 fit.0 fit.1 fit.2 from))
       (λ _. still o d stops)
 
@@ -217,6 +243,9 @@ module _ (Known : ℕ → Type 0) (ids : AreIds Known) (me : ℕ) (one : Known m
   latest_here o q c (body.Prepare z na nl nd) d stops from small least fit = at_message o q _ d stops from fit
   latest_here o q c (body.Promise z fa fl fd a es) d stops from small least fit = at_message o q _ d stops from fit
   latest_here o q c (body.AcceptSync z g es) d stops from small least fit = at_message o q _ d stops from fit
+  latest_here o q c (body.BasePiece piece) d stops from small least fit = piece_here o j c piece d stops fit
+  latest_here o q c (body.PromisePart z g) d stops from small least fit = at_message o q _ d stops from fit
+  latest_here o q c (body.AcceptSyncPart z g) d stops from small least fit = at_message o q _ d stops from fit
   latest_here o q c (body.Accept z a es) d stops from small least fit = at_message o q _ d stops from fit
   latest_here o q c (body.Accepted z g) d stops from small least fit = at_message o q _ d stops from fit
   latest_here o q c (body.Decide z g) d stops from small least fit = at_message o q _ d stops from fit
@@ -309,7 +338,7 @@ module _ (Known : ℕ → Type 0) (ids : AreIds Known) (me : ℕ) (one : Known m
   ended None q d stops =
       subst (Plan None) (sym (down_quiet v.role q))
       (quiet_plan Known me l j v (record v { role = (session_down v.role q).role }) t w others [] [] None None (nothing_joined Known ids me None l j d)
-      (record { own = in_volatile.own; leader = in_volatile.leader; floor = in_volatile.floor; round = in_volatile.round; heard = in_volatile.heard; role = lone_role v.role q in_volatile.role })
+      (record { own = in_volatile.own; leader = in_volatile.leader; floor = in_volatile.floor; round = in_volatile.round; heard = in_volatile.heard; role = lone_role v.role q in_volatile.role; staged = in_volatile.staged; pieces = in_volatile.pieces })
       tt in_service (All-nil (SendInRange Known)) tt)
 
   -- ---- whatever comes
@@ -325,11 +354,11 @@ module _ (Known : ℕ → Type 0) (ids : AreIds Known) (me : ℕ) (one : Known m
 
 -- ---- what an input brings
 
-module _ (Known : ℕ → Type 0) (ids : AreIds Known) (me : ℕ) (o : Option Part) (l : Option Closed) (j : Option Joining) (d : DurableOf Known (stored o l j)) where
-  pub input_brings : (x : Input) → InputInRange Known x → IfSome (brought_by (stored o l j) x) (JoinsIn Known me (stored o l j))
+module _ (Known : ℕ → Type 0) (ids : AreIds Known) (me : ℕ) (o : Option Part) (l : Option Closed) (j : Option Joining) (v : Volatile) (d : DurableOf Known (stored o l j)) where
+  pub input_brings : (x : Input) → InputInRange Known x → IfSome (brought_by (stored o l j) v x) (JoinsIn Known me (stored o l j))
   input_brings (input.Deliver q m) fit =
-      cond_both (ltb m.conf (latest_of (stored o l j))) None (brought_to j m.conf m.body) (λ (y : Option (List Change)). IfSome y (JoinsIn Known me (stored o l j))) (λ _. tt)
-      (λ _. brought_in Known ids me o l j m.conf m.body d fit.1.body)
+      cond_both (ltb m.conf (latest_of (stored o l j))) None (brought_to j v.pieces m.conf m.body) (λ (y : Option (List Change)). IfSome y (JoinsIn Known me (stored o l j))) (λ _. tt)
+      (λ _. brought_in Known ids me o l j v.pieces m.conf m.body d fit.1.body)
   input_brings input.Tick fit = tt
   input_brings (input.Commands cs) fit = tt
   input_brings (input.Stop members) fit = tt
@@ -341,7 +370,7 @@ module _ (Known : ℕ → Type 0) (ids : AreIds Known) (me : ℕ) (o : Option Pa
 -- ---- the whole step
 
 bringing : (Known : ℕ → Type 0) → AreIds Known → (me : ℕ) → Known me → (o : Option Part) (l : Option Closed) (j : Option Joining) (v : Volatile) (t : Service) (w : Waiting)
-    → (d : DurableOf Known (stored o l j)) → VolatileInRange Known v → IfSome o (λ p. RoleEndsNowhere p.conf v.role) → ServiceIn t → (x : Input) → InputInRange Known x
+    → (d : DurableOf Known (stored o l j)) → VolatileInRange Known v → IfSome o (λ p. VolatileEndsNowhere p.conf v) → ServiceIn t → (x : Input) → InputInRange Known x
     → (b : Option (List Change)) → IfSome b (JoinsIn Known me (stored o l j))
     → (let s : State = record { durable = stored o l j; volatile = v; service = t; waiting = w; reads = None } in StepIn Known me s (step_bringing me s x b))
 bringing Known ids me one o l j v t w d in_volatile stops in_service x fit (Some batch) k = holds_in Known ids me one o l j v t w in_volatile stops in_service batch k
@@ -354,7 +383,7 @@ table_in : (Known : ℕ → Type 0) → AreIds Known → (me : ℕ) → Known me
 table_in Known ids me one s k x fit =
     subst (λ (p : Planned). StepIn Known me s p) (table_unread me s None x)
     (let t = bringing Known ids me one s.durable.part s.durable.closed s.durable.joining s.volatile s.service s.waiting k.durable k.volatile k.stops (record { range = k.service; order = k.order }) x fit
-    (brought_by s.durable x) (input_brings Known ids me s.durable.part s.durable.closed s.durable.joining k.durable x fit) in
+    (brought_by s.durable s.volatile x) (input_brings Known ids me s.durable.part s.durable.closed s.durable.joining s.volatile k.durable x fit) in
     let r = t.range in
     record { range = record { applies = r.applies; batch = r.batch; sends = r.sends; replies = r.replies; read_replies = r.read_replies; outcome = r.outcome; after = r.after }; named = t.named })
 

@@ -1,12 +1,18 @@
 -- A tick, heartbeats and refusals are in range.
-use Rattle.std.proofs.Common.{◌≤◌, ◌+◌, ℕ, Bool, true, false, not, cond, ltb, eqb, ◌&&◌, List, [], ◌∷◌, length, arith, All}
+use Rattle.std.proofs.Common.{◌≤◌, ◌+◌, ℕ, Bool, true, false, not, cond, ltb, eqb, ◌&&◌, List, [], ◌∷◌, length, Option, Some, None, arith, All}
 use Rattle.std.specs.Prelude.{IfSome}
 use Rattle.std.proofs.lemmas.Bool.{cond_both, ltb-true}
 use Rattle.std.proofs.lemmas.List.Elements.{All-nil, All-cons, All-append, All-filter}
 use Rattle.op_types.specs.Ballots.{is_below}
 use Rattle.op_types.specs.Limits.{greatest_number}
 use Rattle.op_types.specs.Effects.{Effects}
+use Rattle.op_types.specs.Joinings.{Held}
+use Rattle.op_types.specs.Stages.{Pieces}
+use Rattle.op_types.specs.Ranges.{IsPlace}
+use Rattle.op_types.specs.Changes.{EndsNowhere}
+use Rattle.op_types.specs.declared.log.Entry.{Entry}
 use Rattle.op_types.specs.declared.ballot.Ballot.{Ballot}
+use Rattle.op_types.specs.declared.changes.Change.{Change}
 use Rattle.op_types.specs.declared.durable.Part.{Part}
 use Rattle.op_types.specs.declared.messages.Body.TheVariants as body
 use Rattle.op_types.specs.declared.messages.Heard.{Heard}
@@ -15,25 +21,58 @@ use Rattle.op_types.specs.declared.verdict.Verdict.{Verdict}
 use Rattle.op_types.specs.declared.verdict.Verdict.TheVariants as verdict
 use Rattle.op_protocol.specs.Heartbeats.{next_round, without, heard_with, heard_in, is_other}
 use Rattle.op_protocol.specs.Election.{Candidate, Ended, winner, least, raised_ballot, hears_majority, too_low, decided_by, round_end}
-use Rattle.op_protocol.specs.State.{Volatile, PartStep, with_effects}
+use Rattle.op_protocol.specs.State.{Volatile, PartStep, raises_promise, staged_after, with_effects}
 use Rattle.op_protocol.specs.Parts.{message, others, first}
 use Rattle.op_protocol.specs.Leader.{lead}
 use Rattle.op_protocol.specs.Tick.{candidate_of, next_round_state, requests, remembering, with_floor_at, only_asks, elected, by_verdict, on_tick, on_heartbeat_request, on_heartbeat_reply, on_refuse}
 use Rattle.op_bounds.specs.Messages.{AreIds, BallotOf, SendInRange, ReplyInRange, OutcomeInRange}
-use Rattle.op_bounds.specs.States.{HeardInRange, VolatileInRange, RoleEndsNowhere}
+use Rattle.op_bounds.specs.States.{HeardInRange, StagedInRange, VolatileInRange, VolatileEndsNowhere}
 use Rattle.op_bounds.proofs.Batches.{PartIn, BatchFits}
-use Rattle.op_bounds.proofs.Effects.{RoleIn, role_in, role_range, RowInRange, row_first, send_one, send_each, others_all}
+use Rattle.op_bounds.proofs.Effects.{StagedIn, staged_in, staged_range, RoleIn, role_in, role_range, RowInRange, row_first, send_one, send_each, others_all}
 use Rattle.op_bounds.proofs.LeaderRows.{lead_in}
 use Rattle.op_bounds.proofs.Ballots.{own_ballot_in, greater_in, greatest_in}
 
 -- what a node of a configuration keeps in memory, in range
 pub record VolatileIn (Known : ℕ → Type 0) (conf : ℕ) (v : Volatile) : Type 0 where
   pub range : VolatileInRange Known v
-  pub stops : RoleEndsNowhere conf v.role
+  pub stops : VolatileEndsNowhere conf v
 
 -- its role
 pub role_of : (Known : ℕ → Type 0) (conf : ℕ) (v : Volatile) → VolatileIn Known conf v → RoleIn Known conf v.role
-role_of Known conf v k = role_in Known conf v.role k.range.role k.stops
+role_of Known conf v k = role_in Known conf v.role k.range.role k.stops.role
+
+-- what it has staged
+pub staged_of : (Known : ℕ → Type 0) (conf : ℕ) (v : Volatile) → VolatileIn Known conf v → All (StagedIn Known conf) v.staged
+staged_of Known conf v k = staged_in Known conf v.staged k.range.staged k.stops.staged
+
+-- it stages this in the place of that
+pub staging_in : (Known : ℕ → Type 0) (conf : ℕ) (v : Volatile) (xs : Held) → VolatileIn Known conf v → All (StagedIn Known conf) xs → VolatileIn Known conf (record v { staged = xs })
+staging_in Known conf v xs k each =
+    record {
+      range = record {
+        own = k.range.own;
+        leader = k.range.leader;
+        floor = k.range.floor;
+        round = k.range.round;
+        heard = k.range.heard;
+        role = k.range.role;
+        staged = (staged_range Known conf xs each).0;
+        pieces = k.range.pieces;
+      };
+      stops = record { role = k.stops.role; staged = (staged_range Known conf xs each).1 };
+    }
+
+-- it has these pieces of a base
+pub pieces_now : (Known : ℕ → Type 0) (v : Volatile) (x : Option Pieces) → VolatileInRange Known v → IfSome x (λ s. IsPlace s.at) → VolatileInRange Known (record v { pieces = x })
+pieces_now Known v x k fit = record { own = k.own; leader = k.leader; floor = k.floor; round = k.round; heard = k.heard; role = k.role; staged = k.staged; pieces = fit }
+
+pub pieces_stops : (v : Volatile) (x : Option Pieces) (o : Option Part) → IfSome o (λ p. VolatileEndsNowhere p.conf v) → IfSome o (λ p. VolatileEndsNowhere p.conf (record v { pieces = x }))
+pieces_stops v x None k = tt
+pieces_stops v x (Some p) k = record { role = k.role; staged = k.staged }
+
+-- what stays of it after a batch
+stays_staged : (P : ℕ × Entry → Type 0) (batch : List Change) (xs : Held) → All P xs → All P (staged_after batch xs)
+stays_staged P batch xs each = cond_both (raises_promise batch) [] xs (All P) (λ _. All-nil P) (λ _. each)
 
 -- what a step does at a part, in range
 pub record PartStepInRange (Known : ℕ → Type 0) (p : Part) (x : PartStep) : Type 0 where
@@ -57,8 +96,13 @@ effects_in Known p most v e small in_volatile row =
           round = in_volatile.range.round;
           heard = in_volatile.range.heard;
           role = (role_range Known p.conf e.role row.role).0;
+          staged = stays_staged (StagedInRange Known) e.batch v.staged in_volatile.range.staged;
+          pieces = in_volatile.range.pieces;
         };
-        stops = (role_range Known p.conf e.role row.role).1;
+        stops = record {
+          role = (role_range Known p.conf e.role row.role).1;
+          staged = stays_staged (λ x. EndsNowhere p.conf (x.1 ∷ [])) e.batch v.staged in_volatile.stops.staged;
+        };
       };
       sends = row.sends;
       replies = row.replies;
@@ -78,8 +122,10 @@ floor_in Known conf v b in_volatile of =
         round = in_volatile.range.round;
         heard = in_volatile.range.heard;
         role = in_volatile.range.role;
+        staged = in_volatile.range.staged;
+        pieces = in_volatile.range.pieces;
       };
-      stops = in_volatile.stops;
+      stops = record { role = in_volatile.stops.role; staged = in_volatile.stops.staged };
     }
 
 -- ---- the end of a round
@@ -131,7 +177,7 @@ next_round_small round = cond_both (ltb round greatest_number) (round + 1) 1 (λ
 
 module _ (Known : ℕ → Type 0) (ids : AreIds Known) (me : ℕ) (one : Known me) (p : Part) (k : PartIn Known p) where
   requests_said : (round : ℕ) → round ≤ greatest_number → All (SendInRange Known) (requests me p round)
-  requests_said round small = send_each Known p.conf (others me p.members) (body.HeartbeatRequest round) k.range.conf (omega arith) (others_all Known me p k) small
+  requests_said round small = send_each Known p.conf (others me p.members) (body.HeartbeatRequest round) k.range.conf (omega arith) (omega arith) (others_all Known me p k) small
 
   asks_in : (v : Volatile) → VolatileIn Known p.conf v → PartStepInRange Known p (only_asks me p v)
   asks_in v in_volatile = remembering_in Known p v (requests me p v.round) in_volatile (requests_said v.round in_volatile.range.round)
@@ -156,15 +202,24 @@ module _ (Known : ℕ → Type 0) (ids : AreIds Known) (me : ℕ) (one : Known m
       let ended : EndedIn Known e = round_end_in Known (candidate_of me p v) v.heard ids (record { me = one; own = in_volatile.range.own; leader = in_volatile.range.leader; floor = in_volatile.range.floor }) in_volatile.range.heard in
       verdict_in (next_round_state v e.after) e.verdict
       (record {
-        range = record { own = ended.after.own; leader = ended.after.leader; floor = ended.after.floor; round = next_round_small v.round; heard = All-nil (HeardInRange Known); role = in_volatile.range.role };
-        stops = in_volatile.stops;
+        range = record {
+          own = ended.after.own;
+          leader = ended.after.leader;
+          floor = ended.after.floor;
+          round = next_round_small v.round;
+          heard = All-nil (HeardInRange Known);
+          role = in_volatile.range.role;
+          staged = in_volatile.range.staged;
+          pieces = in_volatile.range.pieces;
+        };
+        stops = record { role = in_volatile.stops.role; staged = in_volatile.stops.staged };
       })
       ended.verdict
 
   -- ---- messages
   pub request_in : (v : Volatile) (q round : ℕ) → VolatileIn Known p.conf v → Known q → round ≤ greatest_number → PartStepInRange Known p (on_heartbeat_request p v q round)
   request_in v q round in_volatile from small =
-      remembering_in Known p v (message p.conf q (body.HeartbeatReply round v.own v.flag) ∷ []) in_volatile (send_one Known p.conf q (body.HeartbeatReply round v.own v.flag) k.range.conf (omega arith) from (small, in_volatile.range.own))
+      remembering_in Known p v (message p.conf q (body.HeartbeatReply round v.own v.flag) ∷ []) in_volatile (send_one Known p.conf q (body.HeartbeatReply round v.own v.flag) k.range.conf (omega arith) (omega arith) from (small, in_volatile.range.own))
 
   heard_more : (current : ℕ) (heard : List Heard) (round : ℕ) (h : Heard) → All (HeardInRange Known) heard → HeardInRange Known h → All (HeardInRange Known) (heard_in me p.members current heard round h)
   heard_more current heard round h each of =
@@ -184,8 +239,10 @@ module _ (Known : ℕ → Type 0) (ids : AreIds Known) (me : ℕ) (one : Known m
           round = in_volatile.range.round;
           heard = heard_more v.round v.heard round h in_volatile.range.heard of;
           role = in_volatile.range.role;
+          staged = in_volatile.range.staged;
+          pieces = in_volatile.range.pieces;
         };
-        stops = in_volatile.stops;
+        stops = record { role = in_volatile.stops.role; staged = in_volatile.stops.staged };
       })
       (All-nil (SendInRange Known))
 

@@ -59,7 +59,7 @@ module _ (Known : ℕ → Type 0) (me : ℕ) (p : Part) (k : PartIn Known p) whe
       cond_both (ltb p.trimmed x) (first (change.Trim x [] ∷ []) (to_each p.conf (others me p.members) (body.Trim x)) [] (nothing (role.Leading l))) (nothing (role.Leading l)) (RowInRange Known p.conf p 1)
       (λ h. let above = ltb-true p.trimmed x h in
       row_first Known p.conf p 1 0 (change.Trim x [] ∷ []) (to_each p.conf (others me p.members) (body.Trim x)) [] (nothing (role.Leading l)) ((omega arith, low), tt) (omega arith)
-      (send_each Known p.conf (others me p.members) (body.Trim x) k.range.conf (omega arith) (others_all Known me p k) (omega (arith, low, decided_place Known p k)))
+      (send_each Known p.conf (others me p.members) (body.Trim x) k.range.conf (omega arith) (omega arith) (others_all Known me p k) (omega (arith, low, decided_place Known p k)))
       (All-nil (ReplyInRange Known)) (row_nothing Known p.conf _ 0 (role.Leading l) in_leading))
       (λ _. row_nothing Known p.conf p 1 (role.Leading l) in_leading)
 
@@ -76,7 +76,7 @@ module _ (Known : ℕ → Type 0) (me : ℕ) (p : Part) (k : PartIn Known p) whe
   trim_now_in (role.Leading l) in_role =
       row_answered Known p.conf p 1 outcome.Asked (first [] (to_each p.conf (others me p.members) (body.TrimAsk l.ballot)) [] (trims_if_all me p (without_reports l))) tt
       (row_first Known p.conf p 1 1 [] (to_each p.conf (others me p.members) (body.TrimAsk l.ballot)) [] (trims_if_all me p (without_reports l)) tt (omega arith)
-      (send_each Known p.conf (others me p.members) (body.TrimAsk l.ballot) k.range.conf (omega arith) (others_all Known me p k) in_role.ballot)
+      (send_each Known p.conf (others me p.members) (body.TrimAsk l.ballot) k.range.conf (omega arith) (omega arith) (others_all Known me p k) in_role.ballot)
       (All-nil (ReplyInRange Known)) (if_all_in (without_reports l) (no_reports Known l in_role)))
 
   pub progress_in : (r : Role) (q : ℕ) (n : Ballot) (x : ℕ) → RoleIn Known p.conf r → Known q → IsPlace x → RowInRange Known p.conf p 1 (on_progress me p r q n x)
@@ -93,7 +93,7 @@ module _ (Known : ℕ → Type 0) (me : ℕ) (p : Part) (k : PartIn Known p) whe
   trim_ask_in r q n in_role from of =
       cond_both (is_same_ballot p.promised n) (saying r (message p.conf q (body.Progress n p.decided) ∷ [])) (nothing r) (RowInRange Known p.conf p 0)
       (λ _. row_saying Known p.conf p 0 r (message p.conf q (body.Progress n p.decided) ∷ []) in_role
-      (send_one Known p.conf q (body.Progress n p.decided) k.range.conf (omega arith) from (of, decided_place Known p k)))
+      (send_one Known p.conf q (body.Progress n p.decided) k.range.conf (omega arith) (omega arith) from (of, decided_place Known p k)))
       (λ _. row_nothing Known p.conf p 0 r in_role)
 
   -- ---- a member that a leader asks whether its ballot is promised
@@ -101,7 +101,7 @@ module _ (Known : ℕ → Type 0) (me : ℕ) (p : Part) (k : PartIn Known p) whe
   confirm_in r q n number in_role from of fit =
       cond_both (is_same_ballot p.promised n) (saying r (message p.conf q (body.Confirmed n number) ∷ [])) (nothing r) (RowInRange Known p.conf p 0)
       (λ _. row_saying Known p.conf p 0 r (message p.conf q (body.Confirmed n number) ∷ []) in_role
-      (send_one Known p.conf q (body.Confirmed n number) k.range.conf (omega arith) from (of, fit)))
+      (send_one Known p.conf q (body.Confirmed n number) k.range.conf (omega arith) (omega arith) from (of, fit)))
       (λ _. row_nothing Known p.conf p 0 r in_role)
 
   pub trim_in : (r : Role) (x : ℕ) → RoleIn Known p.conf r → RowInRange Known p.conf p 1 (on_trim p r x)

@@ -1,8 +1,12 @@
 -- What stays in range over a step, and over a run.
-use Rattle.std.specs.Prelude.{ℕ, List, All, IfSome}
+use Rattle.std.specs.Prelude.{◌≤◌, ℕ, List, length, All, IfSome}
 use Rattle.op_runs.specs.declared.events.What.{What}
 use Rattle.op_runs.specs.declared.events.What.TheVariants as what
 use Rattle.op_runs.specs.Possible.{WhatInRange, SparesInRange}
+use Rattle.op_types.specs.Limits.{most_part_bytes, most_peer_body}
+use Rattle.op_types.specs.declared.messages.Msg.{Msg}
+use Rattle.op_msg.specs.Forms.{addressed}
+use Rattle.op_msg.specs.Sizes.{carried_size}
 use Rattle.op_types.specs.Ranges.{IsPid, IsMember, MembersInRange}
 use Rattle.op_types.specs.Changes.{Applies}
 use Rattle.op_types.specs.declared.durable.Durable.{Durable}
@@ -54,6 +58,7 @@ pub record SentInRange (Known : ℕ → Type 0) (m : Sent) : Type 0 where
   pub from : Known m.from
   pub to : Known m.to
   pub conf : NamesConf m.message
+  pub carries : carried_size m.message.body ≤ most_part_bytes
   pub message : MsgInRange Known m.message
 
 -- what an opening of this node may find
@@ -126,3 +131,29 @@ AllRunsStayInRange =
     (members spares : List ℕ) → MembersInRange members → SparesInRange members spares
     → (happenings : List Happening) → All (λ h. WhatInRange h.event.what) happenings
     → WorldInRange IsPid (run_of (first_world members spares) happenings)
+
+-- ---- frames between servers
+
+-- the body of the frame that brings this from this server to its addressee is no longer than it may be
+abbrev pub FitsFrame : ℕ → ℕ × Msg → Type 0
+FitsFrame me s = length (addressed.text (me, s.0, s.1)) ≤ most_peer_body
+
+-- where these ids are known, so is that of each message which a step in range sends
+abbrev pub StepsFitFrames : (ℕ → Type 0) → Type 0
+StepsFitFrames Known =
+    AreIds Known → (me : ℕ) → Known me → (s : State) → StateInRange Known s
+    → (x : Input) → InputInRange Known x
+    → All (FitsFrame me) (step_plan me s x).sends
+
+-- and that of each which a node sends when it is opened
+abbrev pub OpeningsFitFrames : (ℕ → Type 0) → Type 0
+OpeningsFitFrames Known =
+    AreIds Known → (me : ℕ) → Known me → (d : Durable) → DurableOf Known d
+    → All (FitsFrame me) (sends_after_restart me d)
+
+-- whomever stop-signs name, so is that of each message that is ever sent in a run
+abbrev pub RunsFitFrames : Type 0
+RunsFitFrames =
+    (members spares : List ℕ) → MembersInRange members → SparesInRange members spares
+    → (happenings : List Happening) → All (λ h. WhatInRange h.event.what) happenings
+    → All (λ m. FitsFrame m.from (m.to, m.message)) (run_of (first_world members spares) happenings).messages

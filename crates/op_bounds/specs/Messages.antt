@@ -1,6 +1,6 @@
 -- Which ballots, messages, answers and inputs are in range, where Known says which ids may be named.
 use Rattle.std.specs.Prelude.{◌≡◌, ◌<◌, ◌≤◌, ◌⊎◌, ℕ, Bool, true, false, List, length, All}
-use Rattle.op_types.specs.Limits.{greatest_number, positions_end, last_conf, most_commands}
+use Rattle.op_types.specs.Limits.{greatest_number, positions_end, last_conf, most_commands, most_part_bytes}
 use Rattle.op_types.specs.Changes.{IsCommand}
 use Rattle.op_types.specs.Ranges.{IsConf, IsPlace, IsPid, IsNumber, IsValue, BallotInRange, MembersInRange, EntryInRange, ReadInRange, AreCommands}
 use Rattle.op_types.specs.declared.log.Entry.{Entry}
@@ -9,6 +9,8 @@ use Rattle.op_types.specs.declared.ballot.Ballot.{Ballot}
 use Rattle.op_types.specs.declared.messages.Body.{Body}
 use Rattle.op_types.specs.declared.messages.Body.TheVariants as body
 use Rattle.op_types.specs.declared.messages.Msg.{Msg}
+use Rattle.op_types.specs.declared.runs.PromisedRun.{PromisedRun}
+use Rattle.op_types.specs.declared.runs.SyncRun.{SyncRun}
 use Rattle.op_types.specs.declared.answers.Answer.{Answer}
 use Rattle.op_types.specs.declared.answers.Answer.TheVariants as answer
 use Rattle.op_types.specs.declared.answers.Cause.{Cause}
@@ -20,9 +22,9 @@ use Rattle.op_types.specs.declared.answers.Refusal.TheVariants as refusal
 use Rattle.op_types.specs.declared.answers.Reply.{Reply}
 use Rattle.op_types.specs.declared.events.Input.{Input}
 use Rattle.op_types.specs.declared.events.Input.TheVariants as input
-use Rattle.op_kv.specs.Bases.{IsBase}
 use Rattle.op_record.specs.Ranges.{IsClosedLen}
-use Rattle.op_protocol.specs.Bases.{is_base}
+use Rattle.op_msg.specs.Ranges.{PieceInRange}
+use Rattle.op_msg.specs.Sizes.{carried_size}
 use Rattle.op_protocol.specs.Rows.{is_prepare_req}
 
 -- the known ids are those of servers
@@ -64,9 +66,21 @@ pub record ForwardsInRange (Known : ℕ → Type 0) (es : List Entry) : Type 0 w
   pub each : All (EntryOf Known) es
   pub commands : All IsCommand es
 
--- bytes that are read as a base are one
-abbrev pub IsBaseIfRead : List ℕ → Type 0
-IsBaseIfRead bytes = is_base bytes ≡ true → IsBase bytes
+-- a part of a promise
+pub record PromisedRunOf (Known : ℕ → Type 0) (r : PromisedRun) : Type 0 where
+  pub accepted : BallotOf Known r.accepted
+  pub len : IsPlace r.len
+  pub decided : IsPlace r.decided
+  pub start : IsPlace r.start
+  pub at : IsPlace r.at
+  pub run : EntriesOf Known r.run
+
+-- a part of an AcceptSync
+pub record SyncRunOf (Known : ℕ → Type 0) (r : SyncRun) : Type 0 where
+  pub start : IsPlace r.start
+  pub end : IsPlace r.end
+  pub at : IsPlace r.at
+  pub run : EntriesOf Known r.run
 
 -- ---- messages
 
@@ -91,9 +105,12 @@ BodyInRange Known (body.Trim x) = IsPlace x
 BodyInRange Known (body.NextConf members olds len trimmed) =
     MembersOf Known members × MembersOf Known olds × IsClosedLen len × IsPlace trimmed
 BodyInRange Known body.AskBase = Unit {0}
-BodyInRange Known (body.BasePart at bytes) = IsPlace at × IsBaseIfRead bytes
+BodyInRange Known (body.BasePart at bytes) = IsPlace at
 BodyInRange Known (body.AskSegment from to) = IsPlace from × IsPlace to
 BodyInRange Known (body.Segment at es) = IsPlace at × EntriesOf Known es
+BodyInRange Known (body.PromisePart n part) = BallotOf Known n × PromisedRunOf Known part
+BodyInRange Known (body.AcceptSyncPart n part) = BallotOf Known n × SyncRunOf Known part
+BodyInRange Known (body.BasePiece p) = PieceInRange p
 BodyInRange Known (body.Confirm n number) = BallotOf Known n × IsNumber number
 BodyInRange Known (body.Confirmed n number) = BallotOf Known n × IsNumber number
 
@@ -112,10 +129,11 @@ pub record MsgInRange (Known : ℕ → Type 0) (m : Msg) : Type 0 where
 abbrev pub NamesConf : Msg → Type 0
 NamesConf m = is_prepare_req m.body ≡ false → IsConf m.conf
 
--- a message in range that names a configuration, to a known id
+-- a message in range that names a configuration, and carries no more than a part, to a known id
 pub record SendInRange (Known : ℕ → Type 0) (s : ℕ × Msg) : Type 0 where
   pub to : Known s.0
   pub conf : NamesConf s.1
+  pub carries : carried_size s.1.body ≤ most_part_bytes
   pub message : MsgInRange Known s.1
 
 -- ---- answers

@@ -3,9 +3,11 @@ use Rattle.std.specs.Prelude.{◌≤◌, ◌<◌, ◌+◌, ℕ, [], ◌∷◌, l
 use Rattle.op_types.specs.Limits.{greatest_number, positions_end}
 use Rattle.op_types.specs.Changes.{EndsNowhere}
 use Rattle.op_types.specs.Ranges.{IsMember, IsPlace, ReadInRange}
+use Rattle.op_types.specs.Joinings.{Held}
 use Rattle.op_types.specs.RoleStates.{Preparing, Leading}
 use Rattle.op_types.specs.Roles as role
 use Rattle.op_types.specs.Roles.{Role}
+use Rattle.op_types.specs.declared.log.Entry.{Entry}
 use Rattle.op_types.specs.declared.durable.Part.{Part}
 use Rattle.op_types.specs.declared.durable.Closed.{Closed}
 use Rattle.op_types.specs.declared.durable.Joining.{Joining}
@@ -66,6 +68,16 @@ pub record PromisedInRange (Known : ℕ → Type 0) (k : Promised) : Type 0 wher
   pub ends : k.start + length k.entries ≤ positions_end
   pub entries : All (EntryOf Known) k.entries
 
+-- an entry that is staged, below the end of positions
+pub record StagedInRange (Known : ℕ → Type 0) (x : ℕ × Entry) : Type 0 where
+  pub at : x.0 < positions_end
+  pub entry : EntryOf Known x.1
+
+-- what came so far of a sender's promise
+pub record StageInRange (Known : ℕ → Type 0) (s : ℕ × Held) : Type 0 where
+  pub from : Known s.0
+  pub staged : All (StagedInRange Known) s.1
+
 -- a proposal that waits
 abbrev pub BufferedInRange : (ℕ → Type 0) → Buffered → Type 0
 BufferedInRange Known b = EntryOf Known b.entry
@@ -84,6 +96,7 @@ pub record ReportInRange (Known : ℕ → Type 0) (r : Report) : Type 0 where
 pub record PreparingInRange (Known : ℕ → Type 0) (r : Preparing) : Type 0 where
   pub ballot : BallotOf Known r.ballot
   pub promises : All (PromisedInRange Known) r.promises
+  pub stages : All (StageInRange Known) r.stages
   pub buffer : All (BufferedInRange Known) r.buffer
 
 -- what a leader keeps
@@ -101,11 +114,20 @@ RoleInRange Known role.Idle = Unit {0}
 RoleInRange Known (role.Preparing r) = PreparingInRange Known r
 RoleInRange Known (role.Leading l) = LeadingInRange Known l
 
--- what a node keeps that prepares the last configuration has no stop-sign
+-- what is staged in the last configuration has no stop-sign
+abbrev pub StagedEndsNowhere : ℕ → Held → Type 0
+StagedEndsNowhere conf held = All (λ x. EndsNowhere conf (x.1 ∷ [])) held
+
+-- nor has what a node keeps that prepares
+pub record PreparingEndsNowhere (conf : ℕ) (r : Preparing) : Type 0 where
+  pub promises : All (λ k. EndsNowhere conf k.entries) r.promises
+  pub stages : All (λ s. StagedEndsNowhere conf s.1) r.stages
+  pub buffer : All (λ b. EndsNowhere conf (b.entry ∷ [])) r.buffer
+
+-- nor has any role
 abbrev pub RoleEndsNowhere : ℕ → Role → Type 0
 RoleEndsNowhere conf role.Idle = Unit {0}
-RoleEndsNowhere conf (role.Preparing r) =
-    All (λ k. EndsNowhere conf k.entries) r.promises × All (λ b. EndsNowhere conf (b.entry ∷ [])) r.buffer
+RoleEndsNowhere conf (role.Preparing r) = PreparingEndsNowhere conf r
 RoleEndsNowhere conf (role.Leading l) = Unit {0}
 
 -- a heartbeat reply that is kept
@@ -120,6 +142,13 @@ pub record VolatileInRange (Known : ℕ → Type 0) (v : Volatile) : Type 0 wher
   pub round : v.round ≤ greatest_number
   pub heard : All (HeardInRange Known) v.heard
   pub role : RoleInRange Known v.role
+  pub staged : All (StagedInRange Known) v.staged
+  pub pieces : IfSome v.pieces (λ s. IsPlace s.at)
+
+-- no stop-sign of the last configuration is kept in memory
+pub record VolatileEndsNowhere (conf : ℕ) (v : Volatile) : Type 0 where
+  pub role : RoleEndsNowhere conf v.role
+  pub staged : StagedEndsNowhere conf v.staged
 
 -- ---- reads
 
@@ -138,7 +167,7 @@ pub record ReadsInRange (reads : Reads) : Type 0 where
 pub record StateInRange (Known : ℕ → Type 0) (s : State) : Type 0 where
   pub durable : DurableOf Known s.durable
   pub volatile : VolatileInRange Known s.volatile
-  pub stops : IfSome s.durable.part (λ p. RoleEndsNowhere p.conf s.volatile.role)
+  pub stops : IfSome s.durable.part (λ p. VolatileEndsNowhere p.conf s.volatile)
   pub service : ServiceInRange s.service
   pub order : ServiceIsOrdered s.service
   pub reads : IfSome s.reads ReadsInRange

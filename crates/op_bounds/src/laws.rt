@@ -2,6 +2,7 @@ ghost use Rattle.std.specs.Prelude.{ℕ, Bool};
 ghost use Rattle.op_bounds.specs.Messages.{Passes};
 ghost use Rattle.op_bounds.specs.Laws.{StepsStayInRange, OpeningsStayInRange};
 ghost use Rattle.op_bounds.specs.Laws.{StartsAreInRange, HappeningsStayInRange, RunsStayInRange, RunsOfNodesStayInRange, AllRunsStayInRange};
+ghost use Rattle.op_bounds.specs.Laws.{StepsFitFrames, OpeningsFitFrames, RunsFitFrames};
 
 /// Whichever servers' ids may be named, as those of the members or all: a step of a node in range, from an input in range,
 /// stores a batch that applies and is in range, sends messages in range to such ids alone, answers in range, and leaves the
@@ -27,4 +28,13 @@ pub fn runs_stay_in_range()
     ensures run { (known : ℕ → Bool) → RunsStayInRange (Passes known) }
     ensures nodes { RunsOfNodesStayInRange }
     ensures all { AllRunsStayInRange }
+{}
+
+/// Whichever servers' ids may be named: the body of the frame that brings a message is no longer than the body of a frame between
+/// servers may be, for each message that a node in range sends in a step from an input in range, or when it is opened. So it is
+/// for each message that is ever sent in a run.
+pub fn messages_fit_frames()
+    ensures step { (known : ℕ → Bool) → StepsFitFrames (Passes known) }
+    ensures opening { (known : ℕ → Bool) → OpeningsFitFrames (Passes known) }
+    ensures run { RunsFitFrames }
 {}

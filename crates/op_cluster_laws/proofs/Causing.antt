@@ -180,7 +180,7 @@ told_kept n ds d c x (inl (read, r, there, asked, e)) = inl (read, r, replied_ke
 told_kept n ds d c x (inr none) = inr none
 
 given_kept : (me : ℕ) (n : Standing) (ds : List Deed) (g : Frame) (c : ℕ) (frame : List ℕ) → IsGiven me n ds c frame → IsGiven me n (ds ++ says g ∷ []) c frame
-given_kept me n ds g c frame (inl (d, m, sent, peer, e)) = inl (d, m, sent_kept n ds (says g) (d, m) sent, peers_says me c ds g peer, e)
+given_kept me n ds g c frame (inl (d, m, sent, fits, peer, e)) = inl (d, m, sent_kept n ds (says g) (d, m) sent, fits, peers_says me c ds g peer, e)
 given_kept me n ds g c frame (inr (x, told, client, e)) = inr (x, told_kept n ds (says g) c x told, clients_says c ds g client, e)
 
 pub caused_says : (me : ℕ) (n : Standing) (ds : List Deed) (fs : List Frame) → AreCaused me n ds → Each (λ f. IsGiven me n ds f.0 f.1) fs → AreCaused me n (ds ++ map says fs)

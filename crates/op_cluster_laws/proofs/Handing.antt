@@ -16,15 +16,16 @@ use Rattle.op_command.specs.Replies.{said_of as denied}
 use Rattle.op_serving.specs.declared.node.Given.{Given}
 use Rattle.op_serving.specs.declared.wanted.Wanted.{Wanted}
 use Rattle.op_serving.specs.declared.wanted.Wanted.TheVariants.{Commands, Stop, Trim, Read}
-use Rattle.op_serving.specs.Wire.{peer_frame, client_frame}
+use Rattle.op_serving.specs.Wire.{fits_peer, peer_frame, client_frame}
 use Rattle.op_serving.specs.State.{find, changed, with_bytes, if_its, open_of, Key, Awaited, Loop, Askers, awaited_cmp, is_open, session_of, waits_for}
-use Rattle.op_serving.specs.Handing.{Frame, frame_at, said_at, sent, sent_all, frames_sent, forgotten, answered, replied, replied_all, frames_replied, handed_out, frames_handed, Told, said_each, refusal_of, said_of_refusal, said_of_outcome, said_of_read, said_at_once, said_of_denial, told, told_all, frames_told, asked_by_one, asked, waits_unless, waits_if_asked, keys_that_wait, is_read, proposed, frames_proposed, excused, frames_excused}
+use Rattle.op_serving.specs.Handing.{Frame, frame_at, said_at, goes_to, sent, sent_all, frames_sent, forgotten, answered, replied, replied_all, frames_replied, handed_out, frames_handed, Told, said_each, refusal_of, said_of_refusal, said_of_outcome, said_of_read, said_at_once, said_of_denial, told, told_all, frames_told, asked_by_one, asked, waits_unless, waits_if_asked, keys_that_wait, is_read, proposed, frames_proposed, excused, frames_excused}
 use Rattle.op_serving.specs.declared.session.Session.{Session}
 use Rattle.std.proofs.lemmas.Bool.{cases_eq}
 use Rattle.op_connections.proofs.Tables.{found_own, found_other}
 use Rattle.op_cluster_laws.specs.Outputs.{answers_of}
 use Rattle.op_connections.proofs.Queueing.{queued}
 use Rattle.op_serving.proofs.KeyOrder.{key_total}
+use Rattle.op_serving.proofs.Fits.{goes_tells}
 use Rattle.op_queues.proofs.Askers.{key_is}
 use Rattle.op_cluster_laws.proofs.Lists.{Each, each_both}
 
@@ -122,16 +123,18 @@ module _ (P : Awaited → ℕ → Type 0) (R : ℕ → Type 0) (G : Frame → Ty
 
   -- ---- messages
 
-  -- they may be sent to a peer's connection
+  -- they may be sent to a peer's connection, if the peer takes them
   abbrev pub MayBeSent : ℕ × Msg → Type 0
-  MayBeSent m = (c : ℕ) → R c → G (c, peer_frame me m.0 m.1)
+  MayBeSent m = (c : ℕ) → fits_peer me m.0 m.1 ≡ true → R c → G (c, peer_frame me m.0 m.1)
 
   hands_sent : (ms : List (ℕ × Msg)) (s : Loop) → Each MayBeSent ms → Hands s (frames_sent ms s) (sent_all ms s)
   hands_sent [] s h = hands_none s
   hands_sent (m ∷ ms) s h =
-      let o : Option ℕ = session_of m.0 s in
+      let o : Option ℕ = goes_to m s in
       hands_then s (sent m s) (sent_all ms (sent m s)) (frame_at o (peer_frame s.me m.0 m.1)) (frames_sent ms (sent m s))
-      (hands_at o (peer_frame s.me m.0 m.1) s (λ c e is r. subst (λ k. G (c, peer_frame k m.0 m.1)) (sym is) (h.0 c (r m.0 c e))))
+      (hands_at o (peer_frame s.me m.0 m.1) s (λ c e is r.
+      let t = goes_tells m s c e in
+      subst (λ k. G (c, peer_frame k m.0 m.1)) (sym is) (h.0 c (subst (λ k. fits_peer k m.0 m.1 ≡ true) is t.0) (r m.0 c t.1))))
       (hands_sent ms (sent m s) h.1)
 
   -- ---- replies

@@ -308,7 +308,7 @@ module _ (me : ℕ) (n : Standing) (u : Unread) where
           knows_handed m (handed_out g (proposed w o m)) (frames_proposed w o ++ frames_handed g (proposed w o m)) same (λ c. queues_given c w g o m)
           (hands_given (may_ask m) may_hear may_say me w g o m (asks m same) (tells (may_ask m))
           (each_map (λ x. Contains g.sends x) (MayBeSent (may_ask m) may_hear may_say me)
-          (λ x there c peer. inl (x.0, x.1, sent_now n s.deeds (enters who i f) x (subst (λ (z : Given). Contains z.sends x) (sym gave) there), peers_entered me c s.deeds who i f [] peer, refl)) g.sends (each_own g.sends))
+          (λ x there c fits peer. inl (x.0, x.1, sent_now n s.deeds (enters who i f) x (subst (λ (z : Given). Contains z.sends x) (sym gave) there), fits, peers_entered me c s.deeds who i f [] peer, refl)) g.sends (each_own g.sends))
           (λ read. each_map (λ r. Contains (answers_of read g) r) (MayBeReplied (may_ask m) may_hear may_say me read)
           (λ r there c ask. inr (
             _,

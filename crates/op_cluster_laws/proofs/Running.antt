@@ -451,9 +451,9 @@ module _ (members spares : List ℕ) (counts : ℕ → ℕ) (ms : MembersInRange
 
     -- what was given out can be read
     can_then : (now : List Happened) (hs : List Happening) → Beside now hs → (r : ℕ) → IsNode r → (before since : List Happened) → now ≡ before ++ since → CanBeRead r (L r before).first (L r before).deeds
-    can_then now hs b r is before since split d msg there short =
+    can_then now hs b r is before since split d msg there fits =
         let k = b.messages before since split r is d msg there in
-        can_be_read (sent r d msg) (numbered_all (SentInRange IsPid) (world hs).messages k.0 (sent r d msg) (all_runs_stay members spares ms ss hs b.range).messages k.1) short
+        can_be_read (sent r d msg) (numbered_all (SentInRange IsPid) (world hs).messages k.0 (sent r d msg) (all_runs_stay members spares ms ss hs b.range).messages k.1) fits
 
     read_then : (now later : List Happened) (hs : List Happening) → trace ≡ now ++ later → Beside now hs → (p q : ℕ) (msg : Msg) → IsNode p → WasRead p (L p now).deeds q msg
         → IsNode q × ((before since : List Happened) × (now ≡ before ++ since) × Contains (sent_in (L q before).first (L q before).deeds) (p, msg))

@@ -1,26 +1,23 @@
 -- What a connection took is the first part of what was said for it: its greeting, and frames of messages that the node gave
 -- out, unless it is a client's.
-use Rattle.std.proofs.Common.{◌≡◌, ◌+◌, ℕ, List, [], ◌∷◌, ◌++◌, Bool, true, false, ◌==◌, if◌then◌else◌, Option, Some, None, length, map, flat_map, refl, sym, ◌∙◌, ap, subst, append_assoc, append-nil, arith, ◌⊎◌, inl, inr}
+use Rattle.std.proofs.Common.{◌≡◌, ℕ, List, [], ◌∷◌, ◌++◌, Bool, true, false, ◌==◌, if◌then◌else◌, Option, Some, None, map, flat_map, refl, sym, ◌∙◌, ap, subst, append_assoc, append-nil, ◌⊎◌, inl, inr}
 use Rattle.std.proofs.lemmas.Bool.{cases_eq, eq-eqb, ne_eqb}
-use Rattle.std.proofs.lemmas.List.{length-append}
 use Rattle.std.proofs.lemmas.List.{map-append}
 use Rattle.std.specs.Prelude.{fold, All}
 use Rattle.std.proofs.lemmas.List.Elements.{All-nil, All-head, All-tail}
 use Rattle.std.specs.List.{Contains}
 use Rattle.op_types.specs.declared.messages.Msg.{Msg}
-use Rattle.op_fields.specs.Form.{encoded}
-use Rattle.std.specs.Int.{w64}
 use Rattle.op_msg.specs.Forms.{addressed}
 use Rattle.op_frame.specs.Framing.{frame_of}
 use Rattle.op_serving.specs.Cores.{Standing}
 use Rattle.op_command.specs.declared.reply.ClientReply.{ClientReply}
-use Rattle.op_serving.specs.Wire.{peer_head, peer_frame, client_frame}
+use Rattle.op_serving.specs.Wire.{peer_head, fits_peer, peer_frame, client_frame}
 use Rattle.op_serving.specs.Inputs.{Deed, begins, hears, enters, says, takes}
 use Rattle.op_serving.specs.Promise.{Life, life, newborn, and_then}
 use Rattle.op_connections.specs.Waiting.{framed_then, frames_for, MayWait}
 use Rattle.op_connections.proofs.Waiting.{joined_up, joined_both, frames_more}
 use Rattle.op_cluster_laws.specs.Outputs.{sent_in}
-use Rattle.op_cluster_laws.specs.Readings.{IsOfPeer, IsShort, began_then, began, IsClients}
+use Rattle.op_cluster_laws.specs.Readings.{IsOfPeer, began_then, began, IsClients}
 use Rattle.op_cluster_laws.specs.Causes.{IsTold, TakesSaid, IsCaused, CausedBehind}
 use Rattle.op_cluster_laws.proofs.Lists.{Each, each_map, each_both}
 use Rattle.op_cluster_laws.proofs.Causing.{life_push, began_push, sent_kept, told_kept, peers_later, peers_says, peer_or_client}
@@ -179,18 +176,14 @@ frames_of me ms = flat_map (λ m. frame_of peer_head (text_of me m)) ms
 abbrev pub frame_from : ℕ → ℕ × Msg → List ℕ
 frame_from me m = peer_frame me m.0 m.1
 
--- it was given out
-abbrev pub WasSent : Standing → List Deed → ℕ × Msg → Type 0
-WasSent n ds m = Contains (sent_in n ds) m
-
--- and is short
-abbrev pub IsSent : ℕ → Standing → List Deed → ℕ × Msg → Type 0
-IsSent me n ds m = WasSent n ds m × IsShort peer_head (text_of me m)
+-- it was given out, and its peer takes it
+abbrev pub WasSent : ℕ → Standing → List Deed → ℕ × Msg → Type 0
+WasSent me n ds m = Contains (sent_in n ds) m × (fits_peer me m.0 m.1 ≡ true)
 
 pub record SaysFrames (me : ℕ) (n : Standing) (ds : List Deed) (c : ℕ) : Type 0 where
   pub sent : List (ℕ × Msg)
   pub said : frames_for c ds ≡ map (frame_from me) sent
-  pub given : Each (WasSent n ds) sent
+  pub given : Each (WasSent me n ds) sent
   pub peer : (sent ≡ []) ⊎ IsOfPeer me c ds
 
 -- what a client's session was told
@@ -202,12 +195,6 @@ pub record SaysReplies (n : Standing) (ds : List Deed) (c : ℕ) : Type 0 where
   pub said : frames_for c ds ≡ map client_frame told
   pub are : Each (IsTold n ds c) told
 
-short_text : (me : ℕ) (m : ℕ × Msg) → MayWait (frame_from me m) → IsShort peer_head (text_of me m)
-unfolding peer_frame
-short_text me m le =
-    let all : length (frame_of peer_head (text_of me m)) ≡ length (encoded w64 (length (text_of me m))) + length (text_of me m) = length-append (encoded w64 (length (text_of me m))) (text_of me m) in
-    omega (arith, all, le)
-
 frame_is : (me : ℕ) (m : ℕ × Msg) → frame_from me m ≡ frame_of peer_head (text_of me m)
 unfolding peer_frame
 frame_is me m = refl
@@ -216,8 +203,8 @@ module _ (me : ℕ) (n : Standing) (c : ℕ) where
   abbrev pub Says : List Deed → Type 0
   Says ds = (IsClients c ds × SaysReplies n ds c) ⊎ SaysFrames me n ds c
 
-  sent_more : (ds : List Deed) (d : Deed) (ms : List (ℕ × Msg)) → Each (WasSent n ds) ms → Each (WasSent n (ds ++ d ∷ [])) ms
-  sent_more ds d ms h = each_map (WasSent n ds) (WasSent n (ds ++ d ∷ [])) (λ m k. sent_kept n ds d m k) ms h
+  sent_more : (ds : List Deed) (d : Deed) (ms : List (ℕ × Msg)) → Each (WasSent me n ds) ms → Each (WasSent me n (ds ++ d ∷ [])) ms
+  sent_more ds d ms h = each_map (WasSent me n ds) (WasSent me n (ds ++ d ∷ [])) (λ m k. (sent_kept n ds d m k.0, k.1)) ms h
 
   told_more : (ds : List Deed) (d : Deed) (xs : List ClientReply) → Each (IsTold n ds c) xs → Each (IsTold n (ds ++ d ∷ []) c) xs
   told_more ds d xs h = each_map (IsTold n ds c) (IsTold n (ds ++ d ∷ []) c) (λ x k. told_kept n ds d c x k) xs h
@@ -295,11 +282,11 @@ module _ (me : ℕ) (n : Standing) (c : ℕ) where
 
       own : e ≡ c → IsCaused me n ds d → Says ds → Says (ds ++ d ∷ [])
       own same (inr (x, is, j, f)) h = told x (subst (λ z. IsTold n ds z x) same is) (subst (λ z. IsClients z ds) same j) f same h
-      own same (inl (to, m, sent, peer, f)) (inl (j, k)) = absurd (peer_or_client me c ds (subst (λ z. IsOfPeer me z ds) same peer) j)
-      own same (inl (to, m, sent, peer, f)) (inr j) = inr (record {
+      own same (inl (to, m, sent, fits, peer, f)) (inl (j, k)) = absurd (peer_or_client me c ds (subst (λ z. IsOfPeer me z ds) same peer) j)
+      own same (inl (to, m, sent, fits, peer, f)) (inr j) = inr (record {
         sent = j.sent ++ (to, m) ∷ [];
         said = said_own same ∙ ap (λ l. l ++ frame ∷ []) j.said ∙ ap (λ g. map (frame_from me) j.sent ++ g ∷ []) f ∙ sym (map-append (frame_from me) j.sent ((to, m) ∷ []));
-        given = each_both (WasSent n (ds ++ d ∷ [])) j.sent ((to, m) ∷ []) (sent_more ds d j.sent j.given) (sent_kept n ds d (to, m) sent, tt);
+        given = each_both (WasSent me n (ds ++ d ∷ [])) j.sent ((to, m) ∷ []) (sent_more ds d j.sent j.given) ((sent_kept n ds d (to, m) sent, fits), tt);
         peer = inr (peers_says me c ds (e, frame) (subst (λ z. IsOfPeer me z ds) same peer));
       })
 
@@ -343,20 +330,20 @@ frames_same me [] = refl
 frames_same me (m ∷ ms) = ap (λ g. g ++ flat_map (frame_from me) ms) (frame_is me m) ∙ ap (λ l. frame_of peer_head (text_of me m) ++ l) (frames_same me ms)
 
 module _ (me : ℕ) (n : Standing) (c : ℕ) where
-  -- messages that were given out, and are short
+  -- messages that were given out, and that peers take
   pub record TookSent (ds : List Deed) : Type 0 where
     pub sent : List (ℕ × Msg)
-    pub given : Each (IsSent me n ds) sent
+    pub given : Each (WasSent me n ds) sent
     pub rest : List ℕ
     pub is : base_of (began c ds) ++ frames_of me sent ≡ (life c ds).taken ++ rest
 
   pub took_sent : (ds : List Deed) → CausedBehind me n [] ds → SaysFrames me n ds c → TookSent ds
   took_sent ds k s =
       let t = took_frames me n c ds k in
-      let own = first_of (frame_from me) (WasSent n ds) s.sent t.first t.others (sym s.said ∙ t.split) s.given t.short in
+      let own = first_of (frame_from me) (WasSent me n ds) s.sent t.first t.others (sym s.said ∙ t.split) s.given t.short in
       record {
         sent = own.0;
-        given = each_map (λ m. WasSent n ds m × MayWait (frame_from me m)) (IsSent me n ds) (λ m h. (h.0, short_text me m h.1)) own.0 own.2;
+        given = each_map (λ m. WasSent me n ds m × MayWait (frame_from me m)) (WasSent me n ds) (λ m h. h.0) own.0 own.2;
         rest = t.rest;
         is = ap (λ l. base_of (began c ds) ++ l) (sym (frames_same me own.0) ∙ sym (joined_map (frame_from me) own.0) ∙ ap joined_up own.1) ∙ t.is;
       }

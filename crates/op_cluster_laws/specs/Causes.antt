@@ -14,7 +14,7 @@ use Rattle.op_command.specs.declared.said.Said.TheVariants as said
 use Rattle.op_serving.specs.Cores.{Standing, reopens}
 use Rattle.op_serving.specs.Fates.{Fate, finds}
 use Rattle.op_serving.specs.State.{Key}
-use Rattle.op_serving.specs.Wire.{peer_frame, client_frame}
+use Rattle.op_serving.specs.Wire.{fits_peer, peer_frame, client_frame}
 use Rattle.op_serving.specs.Handing.{answered}
 use Rattle.op_serving.specs.Inputs.{Deed, begins, hears, enters, says, takes}
 use Rattle.op_serving.specs.Turns.{hello}
@@ -56,12 +56,12 @@ IsTold n early c x =
     × MayAnswer read early c (a.client, a.seq) × (x ≡ answered a))
     ⊎ ((a : Answer) → x.said ≡ said.Answer a → ⊥)
 
--- the frame of a message that the node gave out, for a peer's session, or of something that a client is
--- told, for a client's
+-- the frame of a message that the node gave out and its peer takes, for a peer's session, or of something
+-- that a client is told, for a client's
 abbrev pub IsGiven : ℕ → Standing → List Deed → ℕ → List ℕ → Type 0
 IsGiven me n early c frame =
-    ((d : ℕ) × (m : Msg) × Contains (sent_in n early) (d, m) × IsOfPeer me c early
-    × (frame ≡ peer_frame me d m))
+    ((d : ℕ) × (m : Msg) × Contains (sent_in n early) (d, m) × (fits_peer me d m ≡ true)
+    × IsOfPeer me c early × (frame ≡ peer_frame me d m))
     ⊎ ((x : ClientReply) × IsTold n early c x × IsClients c early × (frame ≡ client_frame x))
 
 -- it has taken the first part of what was said for it, with these bytes

@@ -4,9 +4,10 @@ ghost use Rattle.op_cluster_laws.specs.Orders.{AnswersComeFirst, ClientsReadRepl
 ghost use Rattle.op_cluster_laws.specs.Worlds.{OfClusters, ClustersAreRuns, DeliveriesWereGiven, NodesAgree};
 
 /// Each deed of a node that serves by the loop's rules comes from those before it: a message that it takes was read whole from a
-/// peer's connection, a request from a client's; a frame that it says is that of a message that it gave out, or of what a client
-/// is told, at a client's connection; what a connection took is the first part of its greeting and of the frames for it; and a
-/// node takes what its disks store only where it had failed. Of such a node are the deeds of each run that `serve` promises.
+/// peer's connection, a request from a client's; a frame that it says is that of a message that it gave out, and that is no longer
+/// than a peer reads, or of what a client is told, at a client's connection; what a connection took is the first part of its
+/// greeting and of the frames for it; and a node takes what its disks store only where it had failed. Of such a node are the deeds
+/// of each run that `serve` promises.
 pub fn deeds_have_causes()
     ensures causes { DeedsAreCaused }
     ensures serving { RunsServe }

@@ -191,6 +191,18 @@ admitted first ks t b none n s p got conf_is kind = of_letter (slice_get (world_
       where
         differ : (i x : ℕ) (xs : List Entry) → pure.AcceptSync i x xs ≡ pure.PrepareReq → ⊥
         differ i x xs e = cc
+    by l at same (body.PromisePart z part) k said =
+        let r = of_said l (body.PromisePart z part) _ at same (said _ refl (λ e. differ _ _ e)) in
+        is_admitted_if p part.at part.run r.0 (free_in l.conf same part.run r.1)
+      where
+        differ : (i : ℕ) (run : pure.PromisedRun) → pure.PromisePart i run ≡ pure.PrepareReq → ⊥
+        differ i run e = cc
+    by l at same (body.AcceptSyncPart z part) k said =
+        let r = of_said l (body.AcceptSyncPart z part) _ at same (said _ refl (λ e. differ _ _ e)) in
+        is_admitted_if p part.at part.run r.0 (free_in l.conf same part.run r.1)
+      where
+        differ : (i : ℕ) (run : pure.SyncRun) → pure.AcceptSyncPart i run ≡ pure.PrepareReq → ⊥
+        differ i run e = cc
     by l at same (body.Accept z a es) k said =
         let r = of_said l (body.Accept z a es) _ at same (said _ refl (λ e. differ _ _ _ e)) in
         is_admitted_if p a es r.0 (free_in l.conf same es r.1)
@@ -205,6 +217,7 @@ admitted first ks t b none n s p got conf_is kind = of_letter (slice_get (world_
     by l at same (body.NextConf ms olds len trimmed) k said = absurd k
     by l at same body.AskBase k said = absurd k
     by l at same (body.BasePart a bytes) k said = absurd k
+    by l at same (body.BasePiece x) k said = absurd k
     by l at same (body.AskSegment from to) k said = absurd k
     by l at same (body.Segment a es) k said = absurd k
     by l at same (body.Decide z x) k said = absurd k

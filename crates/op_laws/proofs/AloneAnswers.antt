@@ -41,13 +41,13 @@ module _ (first : List ℕ) (ks : List worlds.Happening) (t : Execution) (b : Is
 
   -- all of its log is decided before
   pub whole : x.part.decided ≡ len_of x.part
-  whole = by (state_of first ks x.node.pid).part refl (subst (λ (o : Option Part). IfPartRel (lists_of first ks) o x.node.state.volatile.role (state_of first ks x.node.pid).part) x.has (rel.rel).part)
+  whole = by (state_of first ks x.node.pid).part refl (subst (λ (o : Option Part). IfPartRel (lists_of first ks) o x.node.state.volatile (state_of first ks x.node.pid).part) x.has (rel.rel).part)
     where
-      by : (o : Option Member) → (state_of first ks x.node.pid).part ≡ o → IfPartRel (lists_of first ks) (Some x.part) x.node.state.volatile.role o → x.part.decided ≡ len_of x.part
+      by : (o : Option Member) → (state_of first ks x.node.pid).part ≡ o → IfPartRel (lists_of first ks) (Some x.part) x.node.state.volatile o → x.part.decided ≡ len_of x.part
       by None has r = absurd r
       by (Some pt) has r =
           let stood : PartStands first (lists_of first ks) x.part = subst (IfPartStands first (lists_of first ks)) x.has (node_stands first ks t.world.messages x.node rel).part in
-          let all : len_of x.part ≤ x.part.decided = log_is_decided first ks x.node.pid pt has x.part x.node.state.volatile.role r lead leads x.majority in
+          let all : len_of x.part ≤ x.part.decided = log_is_decided first ks x.node.pid pt has x.part x.node.state.volatile r lead leads x.majority in
           omega (arith, all, decided_within first (lists_of first ks) x.part stood)
 
   -- and its service has applied what stands before in the lists
@@ -58,11 +58,11 @@ module _ (first : List ℕ) (ks : List worlds.Happening) (t : Execution) (b : Is
 
   -- it has decided what it adopted
   adopted : lead.adopted_len ≤ x.part.decided
-  adopted = by (state_of first ks x.node.pid).part refl (subst (λ (o : Option Part). IfPartRel (lists_of first ks) o x.node.state.volatile.role (state_of first ks x.node.pid).part) x.has (rel.rel).part)
+  adopted = by (state_of first ks x.node.pid).part refl (subst (λ (o : Option Part). IfPartRel (lists_of first ks) o x.node.state.volatile (state_of first ks x.node.pid).part) x.has (rel.rel).part)
     where
-      by : (o : Option Member) → (state_of first ks x.node.pid).part ≡ o → IfPartRel (lists_of first ks) (Some x.part) x.node.state.volatile.role o → lead.adopted_len ≤ x.part.decided
+      by : (o : Option Member) → (state_of first ks x.node.pid).part ≡ o → IfPartRel (lists_of first ks) (Some x.part) x.node.state.volatile o → lead.adopted_len ≤ x.part.decided
       by None has r = absurd r
-      by (Some pt) has r = omega (arith, whole, adopted_within first ks x.node.pid pt has x.part x.node.state.volatile.role r lead leads)
+      by (Some pt) has r = omega (arith, whole, adopted_within first ks x.node.pid pt has x.part x.node.state.volatile r lead leads)
 
 -- its lines then
 abbrev AnswersSo : (t : Execution) (h : Happening) (proposal : Proposal) → TakesAlone t h proposal → Type 0

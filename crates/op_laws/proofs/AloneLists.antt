@@ -89,13 +89,13 @@ module _ (first : List ℕ) (ks late : List worlds.Happening) (t : Execution) (h
     len : len_of p ≡ length (t.machine.lists p.conf)
 
   before : Before
-  before = of_part (state_of first ks n.pid).part refl (subst (λ (o : Option Part). IfPartRel (lists_of first ks) o n.state.volatile.role (state_of first ks n.pid).part) x.has (rel.rel).part)
+  before = of_part (state_of first ks n.pid).part refl (subst (λ (o : Option Part). IfPartRel (lists_of first ks) o n.state.volatile (state_of first ks n.pid).part) x.has (rel.rel).part)
     where
-      of_part : (o : Option Member) → (state_of first ks n.pid).part ≡ o → IfPartRel (lists_of first ks) (Some p) n.state.volatile.role o → Before
+      of_part : (o : Option Member) → (state_of first ks n.pid).part ≡ o → IfPartRel (lists_of first ks) (Some p) n.state.volatile o → Before
       of_part None has r = absurd r
       of_part (Some pt) has r =
           let is : r.front ++ p.tail.items ≡ t.machine.lists p.conf =
-          whole_is_list first ks n.pid pt has p n.state.volatile.role r lead leads x.majority ∙ ap (lists_of first ks) (sym r.conf) ∙ ap (λ (y : Machine). y.lists p.conf) (sym b.machine) in
+          whole_is_list first ks n.pid pt has p n.state.volatile r lead leads x.majority ∙ ap (lists_of first ks) (sym r.conf) ∙ ap (λ (y : Machine). y.lists p.conf) (sym b.machine) in
           record { front = r.front; size = (r.fits).size; is = is; len = len_of-whole r.front p r.fits ∙ ap (λ (y : List Entry). length y) is }
 
   -- all that the list gets then
@@ -142,9 +142,9 @@ module _ (first : List ℕ) (ks late : List worlds.Happening) (t : Execution) (h
     after_of : (q : Part) → (durable_after x.node.state.durable (step_plan x.node.pid x.node.state (input.Commands commands)).batch).part ≡ Some q → (es : List Entry)
         → (q.conf ≡ x.part.conf) × (q.members ≡ x.part.members) × (q.trimmed ≡ x.part.trimmed) × (q.tail.items ≡ x.part.tail.items ++ es) → m.state.volatile.role ≡ role.Leading lead → After es
     after_of q has_part es same still =
-        of_part (state_of first (ks ++ late) x.node.pid).part refl (subst (λ (o : Option Part). IfPartRel (lists_of first (ks ++ late)) o m.state.volatile.role (state_of first (ks ++ late) x.node.pid).part) has_part (rel_after.rel).part)
+        of_part (state_of first (ks ++ late) x.node.pid).part refl (subst (λ (o : Option Part). IfPartRel (lists_of first (ks ++ late)) o m.state.volatile (state_of first (ks ++ late) x.node.pid).part) has_part (rel_after.rel).part)
       where
-        of_part : (o : Option Member) → (state_of first (ks ++ late) x.node.pid).part ≡ o → IfPartRel (lists_of first (ks ++ late)) (Some q) m.state.volatile.role o → After es
+        of_part : (o : Option Member) → (state_of first (ks ++ late) x.node.pid).part ≡ o → IfPartRel (lists_of first (ks ++ late)) (Some q) m.state.volatile o → After es
         of_part None has r = absurd r
         of_part (Some pt) has r =
             let many : is_majority (passing (λ k. Rattle.std.specs.Prelude.nat_eq k x.node.pid) q.members) (length q.members) ≡ true =
@@ -152,7 +152,7 @@ module _ (first : List ℕ) (ks late : List worlds.Happening) (t : Execution) (h
             record {
               front = r.front;
               size = (r.fits).size ∙ same.2;
-              is = ap (λ (es : List Entry). r.front ++ es) (sym same.3) ∙ whole_is_list first (ks ++ late) x.node.pid pt has q m.state.volatile.role r lead still many
+              is = ap (λ (es : List Entry). r.front ++ es) (sym same.3) ∙ whole_is_list first (ks ++ late) x.node.pid pt has q m.state.volatile r lead still many
                   ∙ ap (lists_of first (ks ++ late)) (sym r.conf ∙ same.0) ∙ ap (λ (y : Machine). y.lists x.part.conf) (sym after.machine);
             }
 

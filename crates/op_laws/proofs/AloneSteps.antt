@@ -117,7 +117,7 @@ module _ (t : Execution) (h : Happening) (proposal : Proposal) (x : TakesAlone t
   pl = planned s ws row
 
   plan_is : table_plan n.pid s z ≡ closing n.pid s.durable.part pl
-  plan_is = ap (step_bringing n.pid s z) (brings_nothing s.durable proposal) ∙ ap (plan_of n.pid s ws) row_is
+  plan_is = ap (step_bringing n.pid s z) (brings_nothing s.durable s.volatile proposal) ∙ ap (plan_of n.pid s ws) row_is
 
   no_replies : row.replies ≡ []
   no_replies = cond_both (ltb p.decided (counted n.pid p.members len l.acknowledged)) _ _ (λ (e : Effects). e.replies ≡ []) (λ _. refl) (λ _. refl)

@@ -118,6 +118,9 @@ module _ (me : ℕ) (s : State) where
   of_message q m (Some (p, l)) e (body.Prepare z na nl nd) says = Keeps refl
   of_message q m (Some (p, l)) e (body.Promise z fa fl fd a es) says = Keeps refl
   of_message q m (Some (p, l)) e (body.AcceptSync z g es) says = Keeps refl
+  of_message q m (Some (p, l)) e (body.PromisePart z part) says = Keeps refl
+  of_message q m (Some (p, l)) e (body.AcceptSyncPart z part) says = Keeps refl
+  of_message q m (Some (p, l)) e (body.BasePiece x) says = Keeps refl
   of_message q m (Some (p, l)) e (body.Accept z a es) says = Keeps refl
   of_message q m (Some (p, l)) e (body.Accepted z g) says = Keeps refl
   of_message q m (Some (p, l)) e (body.Decide z g) says = Keeps refl

@@ -4,6 +4,7 @@ use Rattle.std.proofs.lemmas.Bool.{cond_both, cond-true, cond-false, cases_Bool,
 use Rattle.std.specs.Set.{is_member}
 use Rattle.op_types.specs.Ballots.{is_same_ballot}
 use Rattle.op_types.specs.Changes.{len_of, closed_by, durable_closing, durable_after}
+use Rattle.op_types.specs.Stages.{Pieces}
 use Rattle.op_types.specs.Stops.{stop_at_end}
 use Rattle.op_types.specs.RoleStates.{Leading, with_acknowledged}
 use Rattle.op_types.specs.Roles.{Role}
@@ -135,10 +136,10 @@ module _ (me : ℕ) (v : Volatile) (q : ℕ) (b : Ballot) (x : ℕ) where
       cond_both (is_some d.joining && true) _ _ (OnlyDecides v) (λ _. inl refl)
       (λ _. cond_both (ltb c (latest_of d)) _ _ (OnlyDecides v) (λ _. inl refl) (λ _. cond_both (ltb (latest_of d) c && true) _ _ (OnlyDecides v) (λ _. inl refl) (λ _. at_part d.part c)))
 
-nothing_brought : (o : Option Joining) (t : Bool) (c : ℕ) (b : Ballot) (x : ℕ) → cond t None (brought_to o c (body.Accepted b x)) ≡ None
-nothing_brought o true c b x = refl
-nothing_brought None false c b x = refl
-nothing_brought (Some j) false c b x = refl
+nothing_brought : (o : Option Joining) (pieces : Option Pieces) (t : Bool) (c : ℕ) (b : Ballot) (x : ℕ) → cond t None (brought_to o pieces c (body.Accepted b x)) ≡ None
+nothing_brought o pieces true c b x = refl
+nothing_brought None pieces false c b x = refl
+nothing_brought (Some j) pieces false c b x = refl
 
 module _ (first : List ℕ) (ks late : List worlds.Happening) (t : Execution) (h : Happening) (b : IsBeside first ks t) (read : AllRead (lists_of first ks)) (later : IsBeside first (ks ++ late) (execution_with t h)) (x : ClosesOnAccepted t h) where
   abbrev n : Node
@@ -176,9 +177,9 @@ module _ (first : List ℕ) (ks late : List worlds.Happening) (t : Execution) (h
   facts = facts_of first ks [] n.pid s rel.low (subst (λ (l : List worlds.Happening). AllRead (lists_of first l)) (sym (append-nil ks)) read) rel.rel rel.serves
 
   tidy : Tidy p.tail.items
-  tidy = by (state_of first ks n.pid).part refl (subst (λ (o : Option Part). IfPartRel (lists_of first (ks ++ [])) o s.volatile.role (state_of first ks n.pid).part) x.has (facts.rel).part)
+  tidy = by (state_of first ks n.pid).part refl (subst (λ (o : Option Part). IfPartRel (lists_of first (ks ++ [])) o s.volatile (state_of first ks n.pid).part) x.has (facts.rel).part)
     where
-      by : (o : Option Member) → (state_of first ks n.pid).part ≡ o → IfPartRel (lists_of first (ks ++ [])) (Some p) s.volatile.role o → Tidy p.tail.items
+      by : (o : Option Member) → (state_of first ks n.pid).part ≡ o → IfPartRel (lists_of first (ks ++ [])) (Some p) s.volatile o → Tidy p.tail.items
       by None e r = absurd r
       by (Some pt) e r = tidy_suffix r.front p.tail.items (known_there (lists_of first (ks ++ [])) (world_of first ks).soup n.pid server.Done s (state_of first ks n.pid) facts p pt x.has e r).tidy
 
@@ -199,7 +200,7 @@ module _ (first : List ℕ) (ks late : List worlds.Happening) (t : Execution) (h
   closed = closing_part n.pid (part_after p plan.batch) plan
 
   of_row : table_plan n.pid s z ≡ cond ends closed plan
-  of_row = ap (λ o. step_bringing n.pid s z o) (nothing_brought s.durable.joining (ltb p.conf (latest_of s.durable)) p.conf x.ballot x.size) ∙ moves.plan_is n.pid s z above p x.has ws
+  of_row = ap (λ o. step_bringing n.pid s z o) (nothing_brought s.durable.joining s.volatile.pieces (ltb p.conf (latest_of s.durable)) p.conf x.ballot x.size) ∙ moves.plan_is n.pid s z above p x.has ws
 
   world_is : world_after t.world h ≡ world_by_fate h.fate h.event.line t.world n z
   world_is =

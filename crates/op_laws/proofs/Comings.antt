@@ -26,7 +26,7 @@ use Rattle.op_configurations.specs.Worlds.{machine_of, event_in, events_in}
 use Rattle.op_configurations.proofs.Standing.{stands}
 use Rattle.op_configurations.proofs.Views.{decided_there}
 use Rattle.op_refinement.proofs.Pure as pure
-use Rattle.op_refinement.proofs.View.{IsSmall, rank, whole_log, view, view_role, view_preparing}
+use Rattle.op_refinement.proofs.View.{IsSmall, rank, whole_log, node_of, view_role, view_preparing}
 use Rattle.op_refinement.proofs.Inputs.{proposal_event}
 use Rattle.op_refinement.proofs.Worlds.{lists_of, world_of, state_of}
 use Rattle.op_refinement.proofs.Proposals.{Taken, taken}
@@ -34,7 +34,7 @@ use Rattle.op_refinement.proofs.Runs.{Track}
 use Rattle.op_laws.specs.Proposals.{Proposal, entries_for, IsTaken}
 use Rattle.op_laws.specs.Alone.{IsKnownAt}
 use Rattle.op_laws.specs.Exchange as there
-use Rattle.op_laws.specs.Exchange.{Term, Delivery, Sending, KeepsTo, IfKeepsTo, IsOne, IsCalm, node_before, node_role, part_members, members_at, IsPlaced, IsDropped, IsToldDropped, IsIn, promise_body, FiveSteps, Prepares, Takes, Comes}
+use Rattle.op_laws.specs.Exchange.{Term, Delivery, Sending, KeepsTo, IfKeepsTo, IsOne, IsCalm, node_before, node_role, part_members, members_at, IsPlaced, IsDropped, IsToldDropped, IsIn, Prepares, Takes, Comes}
 use Rattle.op_laws.proofs.Reached.{world_of_run}
 use Rattle.op_laws.proofs.Proposals.{input_of, deed_is, event_is, ends_late}
 use Rattle.op_laws.proofs.Slots.{double, double_is, second_of}
@@ -164,7 +164,7 @@ module _ (members : List ℕ) (t : Execution) (hs : List Happening) (k : Track m
   pub taken_there : ledger.refuses ((at_event (at i0)).nodes p) cs ≡ false
   taken_there =
       let u = leader_at i0 in
-      let log : List Entry = (view (u.part_rel).front (u.keeps).part n0.state.volatile.role).log in
+      let log : List Entry = (node_of (u.part_rel).front (u.keeps).part n0.state.volatile).log in
       let ok : server.may_propose n0.pid (state_of members (k.ks i0) n0.pid) (Some u.part) cs ≡ true = ap (λ (o : Option Part). server.may_propose n0.pid (state_of members (k.ks i0) n0.pid) o cs) (sym u.has_part) ∙ may in
       let free : overflows ((u.part).node).log cs ≡ false = not_second (is_some (state_of members (k.ks i0) n0.pid).joining) (overflows ((u.part).node).log cs) _ ok in
       let free_here : overflows log cs ≡ false = ap (λ (z : Member). overflows z.log cs) (u.part_rel).seen ∙ free in
@@ -235,7 +235,7 @@ module _ (members : List ℕ) (t : Execution) (hs : List Happening) (k : Track m
       ⊎ (((place : ℕ) × IsPlaced t.world p hs y.proposed_at place × (slice_get log_then place ≡ Some e))
       ⊎ ((d : IsDropped t.world p hs y.proposed_at e) × IsToldDropped t.world p hs e (d.buffered).adds_at))
 
-  node_then : (paxos.run ms es W0).nodes p ≡ view ((leader_at end).part_rel).front ((leader_at end).keeps).part ((leader_at end).node).state.volatile.role
+  node_then : (paxos.run ms es W0).nodes p ≡ node_of ((leader_at end).part_rel).front ((leader_at end).keeps).part ((leader_at end).node).state.volatile
   node_then = ap (λ (w : paxos.World). w.nodes p) (last_world members t hs k p pt has) ∙ member_is members t hs k p pt has x same end p (leader_at end)
 
   pub arrives : Arrives
@@ -252,7 +252,7 @@ module _ (members : List ℕ) (t : Execution) (hs : List Happening) (k : Track m
   -- what is decided in the log is known
   pub decided_in_log : (place : ℕ) → place < ((leader_at end).keeps).part.decided → slice_get log_then place ≡ Some e → IsKnownAt (execution_of t hs).machine x.conf p e place
   decided_in_log place lt got =
-      let then : (paxos.run ms (early ++ es) paxos.start).nodes p ≡ view ((leader_at end).part_rel).front ((leader_at end).keeps).part ((leader_at end).node).state.volatile.role =
+      let then : (paxos.run ms (early ++ es) paxos.start).nodes p ≡ node_of ((leader_at end).part_rel).front ((leader_at end).keeps).part ((leader_at end).node).state.volatile =
       ap (λ (w : paxos.World). w.nodes p) (run_append ms early es paxos.start) ∙ node_then in
       let d : px.IsDecided ms pt.conf (early ++ es) p e place = one.is_decided ms pt.conf (early ++ es) p e place (omega (arith, lt, ap (λ (n : Member). n.decided) then), ap (λ (n : Member). slice_get n.log place) then ∙ got) in
       known_here_too place d.0 d.1

@@ -7,10 +7,12 @@ use Rattle.op_types.specs.Roles.{Role}
 use Rattle.op_types.specs.Roles as role
 use Rattle.op_types.specs.declared.log.Entry.{Entry}
 use Rattle.op_types.specs.declared.messages.Body.{Body}
+use Rattle.op_protocol.specs.Parts.{sync_bodies}
 use Rattle.op_runs.specs.World.{World, Happening, node_at, run_of, deed_of}
 use Rattle.op_laws.specs.Exchange as there
-use Rattle.op_laws.specs.Exchange.{Term, before, node_before, node_role, node_len, IsMessage, Delivery, Sending, SendsAccept, IfKeepsTo, KeepsSessionsOf, IsCalm, Begins, IsBuffered, IsPlaced, IsFullAt, IsDropped, IsToldDropped, IsIn, FiveSteps, Takes, Comes}
+use Rattle.op_laws.specs.Exchange.{Term, before, node_before, node_role, node_len, IsMessage, Delivery, Sending, SendsAll, LeavesAlone, RestsBetween, InTurn, SendsAccept, IfKeepsTo, KeepsSessionsOf, IsCalm, Begins, IsBuffered, IsPlaced, IsFullAt, IsDropped, IsToldDropped, IsIn, FiveSteps, Takes, Comes}
 use Rattle.op_laws.specs.Led.{IsBelowAt}
+use Rattle.op_laws.proofs.Turns.{turn_order}
 
 take_less : (hs : List Happening) (j n : ℕ) → j ≤ n → take j (take n hs) ≡ take j hs
 take_less hs zero n le = nothing (take n hs) ∙ sym (nothing hs)
@@ -84,6 +86,22 @@ module _ (w : World) (hs : List Happening) (n : ℕ) where
     new = subst (λ (v : World). length v.messages ≤ s.number) (sym (same i (omega (arith, lt)))) s.new;
     message = subst (λ (v : World). IsMessage v s.number conf p q b) (sym (same (suc i) (omega (arith, lt)))) s.message;
   }
+
+  pub sends_front : (conf i p q : ℕ) (bs : List Body) → i < n → SendsAll w hs conf i p q bs → SendsAll w front conf i p q bs
+  sends_front conf i p q bs lt s b among = sending_front conf i p q b lt (s b among)
+
+  rests_front : (q i j : ℕ) → j ≤ n → RestsBetween w hs q i j → RestsBetween w front q i j
+  rests_front q i j short r k h lo hi is =
+      let g = got k h is in
+      subst (λ (v : World). LeavesAlone q (deed_of v.messages h.event.what)) (sym (same k (omega (arith, hi, short)))) (r k h lo hi g.1)
+
+  pub turn_front : (conf i j p q : ℕ) (bs : List Body) → j < n → InTurn w hs conf i j p q bs → InTurn w front conf i j p q bs
+  turn_front conf i j p q [] lt t = absurd t
+  turn_front conf i j p q (b ∷ []) lt t = (t.0, delivery_front conf i p q b (omega (arith, lt, t.0)) t.1)
+  turn_front conf i j p q (b ∷ (c ∷ bs)) lt t =
+      let h : ℕ = (t.1).0 in
+      let later : h ≤ j = turn_order w hs conf h j p q (c ∷ bs) (t.1).3 in
+      (delivery_front conf i p q b (omega (arith, lt, (t.1).1, later)) t.0, (h, (t.1).1, rests_front q i h (omega (arith, lt, later)) (t.1).2, turn_front conf h j p q (c ∷ bs) lt (t.1).3))
 
   pub comes_front : (p : ℕ) (at : there.Proposed) (e : Entry) → at.0 < n → Comes w p hs at e → Comes w p front at e
   comes_front p at e lt c = record {
@@ -218,7 +236,10 @@ module _ (w : World) (hs : List Happening) (n : ℕ) where
       )
 
   -- ---- the five steps, where the last of them is in the front
-  module _ (x : Term) (q : ℕ) (at : there.Proposed) (in_time : at.0 < n) (st : FiveSteps w hs x q at) (short : st.ack_at < n) where
+  module _ (x : Term) (q : ℕ) (at : there.Proposed) (in_time : at.0 < n) (st : FiveSteps w hs x q at) (heard : st.promise_at < n) (short : st.ack_at < n) where
+    pub synced_after : st.sync_from ≤ st.sync_at
+    synced_after = turn_order w hs x.conf st.sync_from st.sync_at x.leader q (sync_bodies x.ballot st.start st.rest) st.synced
+
     pub accept_time : (i a : ℕ) (entries : List Entry) → st.sync_sent < i → i ≤ st.last → SendsAccept w hs i x q a entries → st.accept_at i < n
     accept_time i a entries lo hi s = omega (arith, st.after_accepts i a entries lo hi s, st.after_ack, short)
 
@@ -229,21 +250,23 @@ module _ (w : World) (hs : List Happening) (n : ℕ) where
     steps_front = record {
       prepare_at = st.prepare_at;
       asked = st.asked;
-      prepared = delivery_front x.conf st.prepare_at x.leader q _ (omega (arith, st.after_prepare, st.on_promise, st.after_sending, st.after_sync, st.after_ack, short)) st.prepared;
-      below = subst (λ (v : World). IsBelowAt x.ballot (node_at v.nodes q)) (sym (same st.prepare_at (omega (arith, st.after_prepare, st.on_promise, st.after_sending, st.after_sync, st.after_ack, short)))) st.below;
+      prepared = delivery_front x.conf st.prepare_at x.leader q _ (omega (arith, st.after_prepare, st.on_promise, st.after_sending, synced_after, st.after_sync, st.after_ack, short)) st.prepared;
+      below = subst (λ (v : World). IsBelowAt x.ballot (node_at v.nodes q)) (sym (same st.prepare_at (omega (arith, st.after_prepare, st.on_promise, st.after_sending, synced_after, st.after_sync, st.after_ack, short)))) st.below;
+      promise_from = st.promise_from;
       promise_at = st.promise_at;
       told = st.told;
-      answered = sending_front x.conf st.prepare_at q x.leader _ (omega (arith, st.after_prepare, st.on_promise, st.after_sending, st.after_sync, st.after_ack, short)) st.answered;
+      answered = sends_front x.conf st.prepare_at q x.leader _ (omega (arith, st.after_prepare, st.on_promise, st.after_sending, synced_after, st.after_sync, st.after_ack, short)) st.answered;
       after_prepare = st.after_prepare;
-      promised = delivery_front x.conf st.promise_at q x.leader _ (omega (arith, st.on_promise, st.after_sending, st.after_sync, st.after_ack, short)) st.promised;
+      promised = turn_front x.conf st.promise_from st.promise_at q x.leader _ heard st.promised;
       sync_sent = st.sync_sent;
+      sync_from = st.sync_from;
       sync_at = st.sync_at;
       start = st.start;
       rest = st.rest;
       on_promise = st.on_promise;
-      sent = sending_front x.conf st.sync_sent x.leader q _ (omega (arith, st.after_sending, st.after_sync, st.after_ack, short)) st.sent;
+      sent = sends_front x.conf st.sync_sent x.leader q _ (omega (arith, st.after_sending, synced_after, st.after_sync, st.after_ack, short)) st.sent;
       after_sending = st.after_sending;
-      synced = delivery_front x.conf st.sync_at x.leader q _ (omega (arith, st.after_sync, st.after_ack, short)) st.synced;
+      synced = turn_front x.conf st.sync_from st.sync_at x.leader q _ (omega (arith, st.after_sync, st.after_ack, short)) st.synced;
       last = st.last;
       accept_at = st.accept_at;
       accepted = λ i a entries lo hi s.

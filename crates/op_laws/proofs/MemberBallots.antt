@@ -1,18 +1,22 @@
 -- Where members alone are elected, each ballot that is promised is a member's.
-use Rattle.std.proofs.Common.{◌≡◌, ℕ, ◌⊎◌, inl, inr, ⊎_elim, List, [], ◌∷◌, ◌++◌, length, Bool, true, ◌&&◌, ◌==◌, drop, refl, sym, subst, Option, Some, None}
+use Rattle.std.proofs.Common.{◌≡◌, ℕ, ◌⊎◌, inl, inr, ⊎_elim, List, [], ◌∷◌, ◌++◌, length, Bool, true, ◌&&◌, ◌==◌, ◌+◌, drop, refl, sym, subst, Option, Some, None}
 use Rattle.std.specs.Prelude.{nat_lt, nat_le, min, slice_get}
 use Rattle.std.proofs.lemmas.Bool.{cond_both, and_parts, eqb-true}
 use Rattle.op_types.specs.declared.log.Entry.{Entry}
-use Rattle.op_spec.specs.Machine.{IsAmong}
+use Rattle.op_types.specs.Joinings.{Held, held_with}
+use Rattle.op_types.specs.Stages.{front_from}
+use Rattle.op_spec.specs.Machine.{IsAmong, with_at}
+use Rattle.op_paxos.specs.Parts.{is_run_to, told_by}
 use Rattle.op_paxos.specs.Logs.{overflows}
 use Rattle.op_paxos.specs.Nodes.{owner, Promised, PreparingState, LeadingState, Role, Idle, Preparing, Leading, Node}
-use Rattle.op_paxos.specs.Messages.{Msg, Prepare, Promise, AcceptSync, Accept, Accepted, Decide, PrepareReq, Refuse, Forward, TrimAsk, Progress, Trim, Packet, Effect, packet, broadcast}
-use Rattle.op_paxos.specs.Follower.{suffix_at, on_prepare, appended, on_accept, synced_to, on_accept_sync, on_decide}
-use Rattle.op_paxos.specs.Leader.{is_usable, own_candidate, best, sync_at, sync_sends, all_sends, majority_length, recount, adopted_node, new_leading, adopt_with, adopt, has_quorum, prepared, on_elected, on_promise_in, on_accepted_in, extended, on_propose_in, on_forward_in, on_prepare_req_in, without}
+use Rattle.op_paxos.specs.Messages.{PromisedRun, SyncRun, Msg, Prepare, Promise, PromisePart, AcceptSync, AcceptSyncPart, Accept, Accepted, Decide, PrepareReq, Refuse, Forward, TrimAsk, Progress, Trim, Packet, Effect, packet, broadcast}
+use Rattle.op_paxos.specs.Follower.{suffix_at, promise_of, on_prepare, appended, on_accept, synced_to, on_accept_sync, unstaged, synced_once, on_first_part, appended_staged, on_later_part, on_accept_sync_part, on_decide}
+use Rattle.op_paxos.specs.Leader.{is_usable, own_candidate, best, sync_at, sync_sends, all_sends, majority_length, recount, adopted_node, new_leading, adopt_with, adopt, has_quorum, prepared, on_elected, on_promise_in, promised_once, on_promise_part_in, on_accepted_in, extended, on_propose_in, on_forward_in, on_prepare_req_in, without}
 use Rattle.op_paxos.specs.Trimming.{on_trim_ask, on_trim, trim_all, on_progress_in, on_trim_now_in}
 use Rattle.op_paxos.specs.Worlds.{on_msg, Input, Elected, Proposal, Comes, Up, Down, Starts, TrimNow, step, World, Event, Leads, Proposes, Delivers, Restarts, Trims, Links, Unlinks, Stops, stepped, taken_by, input_of, fate_of, applied, happens, run, start}
 use Rattle.op_paxos.proofs.Membership.{single, in_append, in_from_get}
 use Rattle.op_paxos.proofs.LeaderSteps.{in_spread}
+use Rattle.op_paxos.proofs.SentParts.{promise_packets, sync_packets}
 use Rattle.op_paxos.proofs.Updates.{upd_both}
 
 -- who is elected by an event is a member
@@ -82,7 +86,7 @@ module _ (ms : List ℕ) (p : ℕ) where
   sync_ours nd l b q None = none_ours
   sync_ours nd l b q (Some pm) =
       cond_both (nat_lt (sync_at l pm) nd.trimmed) _ _ (AllOurs ms) (λ e. one_ours q (Prepare l.ballot nd.accepted (length nd.log) nd.decided) b)
-      (λ c. cond_both (nat_le (sync_at l pm) (length nd.log)) _ _ (AllOurs ms) (λ e. one_ours q (AcceptSync l.ballot (sync_at l pm) (drop (sync_at l pm) nd.log)) tt) (λ e. none_ours))
+      (λ c. cond_both (nat_le (sync_at l pm) (length nd.log)) _ _ (AllOurs ms) (λ e. sync_packets (λ m. MsgOurs ms m.msg) p q l.ballot (sync_at l pm) (drop (sync_at l pm) nd.log) tt (λ at run r. tt)) (λ e. none_ours))
 
   all_sync_ours : (nd : Node) (l : LeadingState) → IsOurs ms l.ballot → (kept : ℕ → Option Promised) (qs : List ℕ) → AllOurs ms (all_sends p nd l kept qs)
   all_sync_ours nd l b kept [] = none_ours
@@ -105,6 +109,19 @@ module _ (ms : List ℕ) (p : ℕ) where
   first_ours : (pre : List Packet) (o : Effect) → AllOurs ms pre → Out ms o → Out ms (record { node = o.node; sends = pre ++ o.sends })
   first_ours pre o h k = record { node = k.node; sends = both_ours pre o.sends h k.sends }
 
+  promise_ours : (nd : Node) → NodeOurs ms nd → (r : Role) → RoleOurs ms r → (q n : ℕ) (pm : Promised) → Out ms (on_promise_in ms p nd r q n pm)
+  unfolding on_promise_in
+  promise_ours nd h Idle k q n pm = record { node = h; sends = none_ours }
+  promise_ours nd h (Preparing r) k q n pm = cond_both ((n == r.ballot) && is_usable nd pm) _ _ (Out ms) (λ e. prepared_ours nd _ h.promised k) (λ e. record { node = h; sends = none_ours })
+  promise_ours nd h (Leading l) k q n pm = cond_both (n == l.ballot) _ _ (Out ms) (λ e. gives _ (sync_sends p nd l q (Some pm)) h.promised k (sync_ours nd l k q (Some pm))) (λ e. record { node = h; sends = none_ours })
+
+  -- one that comes in parts
+  once_ours : (nd : Node) → NodeOurs ms nd → (r : PreparingState) → IsOurs ms r.ballot → (q : ℕ) (part : PromisedRun) (held : Held) (o : Option (List Entry)) → Out ms (promised_once ms p nd r q part held o)
+  unfolding promised_once
+  once_ours nd h r k q part held None = gives _ [] h.promised k none_ours
+  once_ours nd h r k q part held (Some es) =
+      promise_ours (record nd { role = Preparing (record r { parts = with_at q [] r.parts }) }) (record { promised = h.promised; role = k }) (Preparing (record r { parts = with_at q [] r.parts })) k q r.ballot (told_by part es)
+
   module _ (nd : Node) (ours : NodeOurs ms nd) where
     stays : Out ms (record { node = nd; sends = [] })
     stays = record { node = ours; sends = none_ours }
@@ -119,14 +136,14 @@ module _ (ms : List ℕ) (p : ℕ) where
         let b : IsOurs ms n = inr (subst (IsAmong ms) (sym own) mine) in
         first_ours (broadcast p (λ q. true) (Prepare n nd.accepted (length nd.log) nd.decided) ms) _
         (spread_ours (λ q. true) (Prepare n nd.accepted (length nd.log) nd.decided) b)
-        (prepared_ours (record nd { promised = n; role = Idle }) (record { ballot = n; kept = λ q. None; buffer = [] }) b b))
+        (prepared_ours (record nd { promised = n; staged = []; role = Idle }) (record { ballot = n; kept = λ q. None; parts = λ q. []; buffer = [] }) b b))
         (λ e. stays)
 
-    promise_ours : (r : Role) → RoleOurs ms r → (q n : ℕ) (pm : Promised) → Out ms (on_promise_in ms p nd r q n pm)
-    unfolding on_promise_in
-    promise_ours Idle k q n pm = stays
-    promise_ours (Preparing r) k q n pm = cond_both ((n == r.ballot) && is_usable nd pm) _ _ (Out ms) (λ e. prepared_ours nd _ ours.promised k) (λ e. stays)
-    promise_ours (Leading l) k q n pm = cond_both (n == l.ballot) _ _ (Out ms) (λ e. gives _ (sync_sends p nd l q (Some pm)) ours.promised k (sync_ours nd l k q (Some pm))) (λ e. stays)
+    promise_part_ours : (r : Role) → RoleOurs ms r → (q n : ℕ) (part : PromisedRun) → Out ms (on_promise_part_in ms p nd r q n part)
+    unfolding on_promise_part_in
+    promise_part_ours Idle k q n part = stays
+    promise_part_ours (Preparing r) k q n part = cond_both ((n == r.ballot) && (nat_le part.start part.at && is_run_to part.size part.at part.run)) _ _ (Out ms) (λ e. once_ours nd ours r k q part _ _) (λ e. stays)
+    promise_part_ours (Leading l) k q n part = cond_both (part.at + length part.run == part.size) _ _ (Out ms) (λ e. promise_ours nd ours (Leading l) k q n (told_by part [])) (λ e. stays)
 
     accepted_ours : (r : Role) → RoleOurs ms r → (q n x : ℕ) → Out ms (on_accepted_in ms p nd r q n x)
     unfolding on_accepted_in
@@ -165,7 +182,7 @@ module _ (ms : List ℕ) (p : ℕ) where
     unfolding on_prepare
     prepare_ours q n na nl d b = cond_both (nat_lt n nd.promised) _ _ (Out ms) (λ e. says q (Refuse n nd.promised) tt)
         (λ e. cond_both (nat_lt (suffix_at nd na nl d) nd.trimmed) _ _ (Out ms) (λ c. stays)
-        (λ c. gives _ _ b (cond_both (nat_lt nd.promised n) Idle nd.role (RoleOurs ms) (λ x. tt) (λ x. ours.role)) (one_ours q _ tt)))
+        (λ c. gives _ _ b (cond_both (nat_lt nd.promised n) Idle nd.role (RoleOurs ms) (λ x. tt) (λ x. ours.role)) (promise_packets (λ m. MsgOurs ms m.msg) p q n (promise_of nd (suffix_at nd na nl d)) tt (λ at run r. tt))))
 
     accept_ours : (q n a : ℕ) (es : List Entry) → Out ms (on_accept p nd q n a es)
     unfolding on_accept appended
@@ -177,6 +194,19 @@ module _ (ms : List ℕ) (p : ℕ) where
     take_ours q n x es = cond_both ((nd.promised == n) && nat_lt nd.accepted n) _ _ (Out ms)
         (λ e. cond_both (nat_le nd.decided x && nat_le x (length nd.log)) _ _ (Out ms) (λ c. gives _ _ ours.promised ours.role (one_ours q _ tt)) (λ c. stays))
         (λ e. accept_ours q n x es)
+
+    synced_ours : (q n x : ℕ) (s : Held) (o : Option (List Entry)) → Out ms (synced_once p (record nd { staged = s }) q n x o)
+    unfolding synced_once synced_to
+    synced_ours q n x s None = gives _ [] ours.promised ours.role none_ours
+    synced_ours q n x s (Some es) = cond_both (nat_le nd.decided x && nat_le x (length nd.log)) _ _ (λ o. Out ms (unstaged o)) (λ c. gives _ _ ours.promised ours.role (one_ours q _ tt)) (λ c. gives _ [] ours.promised ours.role none_ours)
+
+    sync_part_ours : (q n : ℕ) (part : SyncRun) → Out ms (on_accept_sync_part p nd q n part)
+    unfolding on_accept_sync_part on_first_part on_later_part appended_staged
+    sync_part_ours q n part = cond_both ((nd.promised == n) && nat_lt nd.accepted n) _ _ (Out ms)
+        (λ e. cond_both ((nat_le nd.decided part.start && nat_le part.start (length nd.log)) && (nat_le part.start part.at && is_run_to part.end part.at part.run)) _ _ (Out ms) (λ c. synced_ours q n part.start _ _) (λ c. stays))
+        (λ e. cond_both ((nd.promised == n) && ((nd.accepted == n) && is_run_to part.end part.at part.run)) _ _ (Out ms)
+        (λ c. gives _ _ ours.promised ours.role (cond_both (nat_lt (length (nd.log ++ front_from (held_with nd.staged part.at part.run) (length nd.log))) part.at) _ _ (λ b. AllOurs ms (packet p q b ∷ [])) (λ d. one_ours q PrepareReq tt) (λ d. one_ours q _ tt)))
+        (λ c. stays))
 
     decide_ours : (n x : ℕ) → Out ms (on_decide nd n x)
     unfolding on_decide
@@ -214,8 +244,10 @@ module _ (ms : List ℕ) (p : ℕ) where
     msg_ours : (q : ℕ) (m : Msg) → MsgOurs ms m → Out ms (on_msg ms p nd q m)
     unfolding on_msg
     msg_ours q (Prepare n na nl d) k = prepare_ours q n na nl d k
-    msg_ours q (Promise n pm) k = promise_ours nd.role ours.role q n pm
+    msg_ours q (Promise n pm) k = promise_ours nd ours nd.role ours.role q n pm
+    msg_ours q (PromisePart n part) k = promise_part_ours nd.role ours.role q n part
     msg_ours q (AcceptSync n x es) k = take_ours q n x es
+    msg_ours q (AcceptSyncPart n part) k = sync_part_ours q n part
     msg_ours q (Accept n a es) k = accept_ours q n a es
     msg_ours q (Accepted n x) k = accepted_ours nd.role ours.role q n x
     msg_ours q (Decide n x) k = decide_ours n x

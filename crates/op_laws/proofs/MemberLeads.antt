@@ -8,9 +8,9 @@ use Rattle.op_spec.specs.Machine.{Machine, IsAmong, first_machine}
 use Rattle.op_paxos.specs.Worlds as paxos
 use Rattle.op_paxos.specs.Messages.{Msg}
 use Rattle.op_paxos.specs.Worlds.{Input, Elected, Proposal, Comes, Up, Down, Starts, TrimNow}
-use Rattle.op_configurations.specs.Servers.{Part, Closed, Joining, State, Letter, Body, Inner, HeartbeatRequest, HeartbeatReply, NextConf, AskBase, BasePart, AskSegment, Segment, Fate, Done as ServerDone, Stopped as ServerStopped, Stepped, Inside, Event, Ticks, Proposes, Trims, Links, Unlinks, Reads, acted, acted_in, restarted, started, based, got_segment, inner, answers_beat, takes, is_request, sought, seeks, reads, is_for_joining, is_ahead, latest, led, ticks_in, links_in, step, may_propose}
+use Rattle.op_configurations.specs.Servers.{Part, Closed, Joining, BaseStage, State, Letter, Body, Inner, HeartbeatRequest, HeartbeatReply, NextConf, AskBase, BasePart, BasePiece, AskSegment, Segment, Fate, Done as ServerDone, Stopped as ServerStopped, Stepped, Inside, Event, Ticks, Proposes, Trims, Links, Unlinks, Reads, ReadsLong, acted, acted_in, restarted, started, based, has_all, completed, is_piece, pieced, without_pieces, got_segment, inner, answers_beat, takes, is_request, sought, seeks, reads, asks_base, answers_long, is_for_joining, is_ahead, latest, led, ticks_in, links_in, step, may_propose}
 use Rattle.op_configurations.specs.Worlds as worlds
-use Rattle.op_configurations.specs.Worlds.{Life, Running, World, Happening, At, Delivers, Stops, Opens, is_letter, with_fate, plain_event, place_in, event_in, events_in, stepped, at_server, delivered, stops, found, opening_fate, opened, opens, happens, run, start, machine_with, machine_after, machine_of}
+use Rattle.op_configurations.specs.Worlds.{Life, Running, World, Happening, At, Delivers, DeliversLong, Stops, Opens, is_letter, with_fate, plain_event, place_in, event_in, events_in, stepped, at_server, delivered, stops, found, opening_fate, opened, opens, happens, run, start, machine_with, machine_after, machine_of}
 use Rattle.op_configurations.proofs.Tale.{Tale, StateOk, Onward}
 use Rattle.op_configurations.proofs.Goes.{Good, start_good, first_tale}
 use Rattle.op_configurations.proofs.Book.{BookOk, Next, next, first_book}
@@ -67,6 +67,15 @@ module _ (f : Fate) (p : ℕ) (st : State) where
   based_own None c at front = tt
   based_own (Some j) c at front = both ((j.conf == c) && (not (is_some j.base) && nat_le at j.len)) _ _ (started_own _ _) tt
 
+  completed_own : (j : Joining) (at : ℕ) (front : List Entry) (total : ℕ) (s : BaseStage) → AllOwn st.part (completed f p st j at front total s).inside
+  unfolding completed
+  completed_own j at front total s = both (has_all s.has total) _ _ (started_own _ _) tt
+
+  pieced_own : (o : Option Joining) (c at total from_at count : ℕ) (front : List Entry) → AllOwn st.part (pieced f p st o c at total from_at count front).inside
+  unfolding pieced
+  pieced_own None c at total from_at count front = tt
+  pieced_own (Some j) c at total from_at count front = both ((j.conf == c) && is_piece j at total from_at count) _ _ (completed_own j at front total _) tt
+
   segment_own : (o : Option Joining) (c a : ℕ) (es : List Entry) → AllOwn st.part (got_segment f p st o c a es).inside
   unfolding got_segment
   segment_own None c a es = tt
@@ -89,6 +98,7 @@ module _ (f : Fate) (p : ℕ) (st : State) where
   takes_own n q c (NextConf members olds len t) = tt
   takes_own n q c AskBase = tt
   takes_own n q c (BasePart at front) = based_own st.joining c at front
+  takes_own n q c (BasePiece at total from_at count front) = pieced_own st.joining c at total from_at count front
   takes_own n q c (AskSegment a b) = tt
   takes_own n q c (Segment a es) = segment_own st.joining c a es
 
@@ -109,6 +119,10 @@ module _ (f : Fate) (p : ℕ) (st : State) where
       both (is_some st.joining && not (is_for_joining l.body)) _ _ tt
       (both (nat_lt l.conf (latest st)) _ _ tt
       (both (nat_lt (latest st) l.conf && not (is_ahead l.body)) _ _ (seeks_own l.from l.body) (takes_own n l.from l.conf l.body)))
+
+  long_own : (total : ℕ) (l : Letter) → AllOwn st.part (answers_long p st total l).inside
+  unfolding answers_long
+  long_own total l = both (asks_base l.body && (l.conf == latest st)) _ _ tt tt
 
   led_own : (pt : Part) → st.part ≡ Some pt → (n : Option ℕ) → AllOwn st.part (led f p st pt n).inside
   unfolding led
@@ -133,6 +147,7 @@ module _ (f : Fate) (p : ℕ) (st : State) where
   step_own (Links q) = links_own st.joining q st.part refl
   step_own (Unlinks q) = acted_in_own st.part refl (Down q)
   step_own (Reads n l) = reads_own n l
+  step_own (ReadsLong n total l) = long_own total l
 
 -- ---- as events of a configuration
 
@@ -188,10 +203,10 @@ module _ (w : World) (c : ℕ) where
   at_adds f p Running e = stepped_adds f p e
   at_adds f p (worlds.Down o) e = adds_none
 
-  delivered_adds : (f : Fate) (n : ℕ) (o : Option Letter) → Adds w (delivered w f n o) c
+  delivered_adds : (f : Fate) (read : Letter → Event) (o : Option Letter) → Adds w (delivered w f read o) c
   unfolding delivered
-  delivered_adds f n None = adds_none
-  delivered_adds f n (Some m) = at_adds f m.to (w.servers m.to).life (Reads n m)
+  delivered_adds f read None = adds_none
+  delivered_adds f read (Some m) = at_adds f m.to (w.servers m.to).life (read m)
 
   stops_adds : (p : ℕ) (l : Life) → Adds w (stops w p l) c
   unfolding stops
@@ -210,13 +225,15 @@ module _ (w : World) (c : ℕ) where
   opens_adds p after Running = adds_none
   opens_adds p after (worlds.Down o) =
       let s = found p after (w.servers p).state o in
-      let k = restarted (opening_fate (s.state).joining) p s.state (s.state).part in
-      (p, s.inside ++ k.inside, own_append ((w.servers p).state).part s.inside k.inside (found_own p after (w.servers p).state o) (restarted_own (opening_fate (s.state).joining) p s.state (s.state).part ((w.servers p).state).part), refl)
+      let z : State = without_pieces s.state in
+      let k = restarted (opening_fate z.joining) p z z.part in
+      (p, s.inside ++ k.inside, own_append ((w.servers p).state).part s.inside k.inside (found_own p after (w.servers p).state o) (restarted_own (opening_fate z.joining) p z z.part ((w.servers p).state).part), refl)
 
   happens_adds : (h : Happening) → Adds w (happens w h) c
   unfolding happens
   happens_adds (At f p e) = cond_both (is_letter e) w (at_server w f p (w.servers p).life e) (λ (u : World). Adds w u c) (λ _. adds_none) (λ _. at_adds f p (w.servers p).life e)
-  happens_adds (Delivers f n) = delivered_adds f n (slice_get w.soup n)
+  happens_adds (Delivers f n) = delivered_adds f (Reads n) (slice_get w.soup n)
+  happens_adds (DeliversLong f n total) = delivered_adds f (ReadsLong n total) (slice_get w.soup n)
   happens_adds (Stops p) = stops_adds p (w.servers p).life
   happens_adds (Opens p after) = opens_adds p after (w.servers p).life
 

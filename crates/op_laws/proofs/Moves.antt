@@ -1,13 +1,14 @@
 -- A step either goes on to a later configuration, or keeps the part: then the leader's ballot and the promise never fall.
-use Rattle.std.proofs.Common.{◌≡◌, ◌<◌, ◌≤◌, ◌⊎◌, inl, inr, ℕ, ◌+◌, Bool, true, false, cond, not, ◌&&◌, eqb, ltb, is_some, nat_eq, List, [], ◌∷◌, ◌++◌, All, map, Option, Some, None, refl, sym, ap, ◌∙◌, subst, arith}
+use Rattle.std.proofs.Common.{◌≡◌, ◌<◌, ◌≤◌, ◌⊎◌, inl, inr, ℕ, ◌+◌, Bool, true, false, cond, not, ◌&&◌, eqb, ltb, leb, is_some, nat_eq, List, [], ◌∷◌, ◌++◌, All, map, Option, Some, None, refl, sym, ap, ◌∙◌, subst, arith}
 use Rattle.std.proofs.lemmas.Bool.{cond_both, cond-true, cond-false, cases_Bool}
 use Rattle.std.specs.Prelude.{nat_lt}
 use Rattle.std.specs.Set.{is_member}
-use Rattle.op_types.specs.Ballots.{is_below}
+use Rattle.op_types.specs.Ballots.{is_below, is_same_ballot}
 use Rattle.op_types.specs.Limits.{greatest_number}
 use Rattle.op_types.specs.Roles.{Idle}
-use Rattle.op_types.specs.Changes.{closed_by, part_after_closed, durable_closing, durable_joined, durable_with, durable_after, closed_joined}
-use Rattle.op_types.specs.Joinings.{Base, cover_of}
+use Rattle.op_types.specs.Changes.{len_of, closed_by, part_after_closed, durable_closing, durable_joined, durable_with, durable_after, closed_joined}
+use Rattle.op_types.specs.Joinings.{Held, Base, cover_of}
+use Rattle.op_types.specs.Stages.{with_piece, whole_bytes}
 use Rattle.op_types.specs.Stops.{stop_at_end}
 use Rattle.op_types.specs.declared.answers.Refusal.{Refusal}
 use Rattle.op_types.specs.declared.ballot.Ballot.{Ballot}
@@ -25,14 +26,17 @@ use Rattle.op_types.specs.declared.messages.Body.{Body}
 use Rattle.op_types.specs.declared.messages.Body.TheVariants as body
 use Rattle.op_types.specs.declared.messages.Heard.{Heard}
 use Rattle.op_types.specs.declared.messages.Msg.{Msg}
+use Rattle.op_types.specs.declared.runs.SyncRun.{SyncRun}
+use Rattle.op_types.specs.declared.runs.Piece.{Piece}
 use Rattle.op_types.specs.declared.verdict.Verdict.{Verdict}
 use Rattle.op_types.specs.declared.verdict.Verdict.TheVariants as verdict
 use Rattle.op_spec.specs.Service.{base_bytes}
 use Rattle.op_protocol.specs.State.{State, Volatile, Waiting, PartStep, Planned}
 use Rattle.op_protocol.specs.Configurations.{latest_in, latest_of, closing_part, closing}
 use Rattle.op_protocol.specs.Election.{Candidate, Ended, winner, least, too_low, decided_by, hears_majority, round_end}
-use Rattle.op_protocol.specs.Joining.{new_entries, takes_base, takes_entries, brought_to, joins, goes_on_if, holding, holds_more}
-use Rattle.op_protocol.specs.Parts.{is_admitted_body, part_after, decided_since}
+use Rattle.op_protocol.specs.Follower.{synced_once, on_accept_sync_part}
+use Rattle.op_protocol.specs.Joining.{storing, begins_joining, storing_news, new_entries, takes_base, takes_entries, takes_piece, base_brought, base_once, brought_to, on_base_piece, joins, stores_beside, goes_on_if, holding, holds_more}
+use Rattle.op_protocol.specs.Parts.{is_run_to, is_admitted_body, part_after, decided_since}
 use Rattle.op_protocol.specs.Tick.{candidate_of, next_round_state, by_verdict}
 use Rattle.op_protocol.specs.Rows.{refusal_of, stop_for, entries_of, on_body, message_at, is_of_joining, may_be_above, on_older, on_newer, on_latest, message_step, brought_by, proposal_at, tick_at, trim_at, up_at, step_at, waiting_at, based, planned, plan_of, step_bringing, table_plan, step_plan}
 use Rattle.op_protocol.proofs.Plans.{after_both}
@@ -65,12 +69,32 @@ verdict_stays me p v verdict.Nobody = refl
 verdict_stays me p v (verdict.Raised b) = refl
 verdict_stays me p v (verdict.Elected n) = either v (eqb n.pid me) _ _ (either v (is_below p.promised n) _ _ refl refl) refl
 
+synced_stays : (p : Part) (v : Volatile) (q : ℕ) (n : Ballot) (start : ℕ) (held : Held) (o : Option (List Entry)) → Stays v (synced_once p v q n start held o)
+synced_stays p v q n start held None = refl
+synced_stays p v q n start held (Some es) = refl
+
+sync_part_stays : (p : Part) (v : Volatile) (q : ℕ) (n : Ballot) (part : SyncRun) → Stays v (on_accept_sync_part p v q n part)
+sync_part_stays p v q n part =
+    either v (is_same_ballot p.promised n && is_below p.accepted n) _ _
+    (either v ((leb p.decided part.start && leb part.start (len_of p)) && (leb part.start part.at && is_run_to part.end part.at part.run)) _ _ (synced_stays p v q n part.start _ _) refl)
+    (either v (is_same_ballot p.promised n && (is_same_ballot p.accepted n && is_run_to part.end part.at part.run)) _ _ refl refl)
+
+piece_stays : (o : Option Joining) (v : Volatile) (c : ℕ) (x : Piece) → Stays v (on_base_piece o v c x)
+piece_stays None v c x = refl
+piece_stays (Some j) v c x = either v (takes_piece j c x) _ _ refl refl
+
+news_stays : (v : Volatile) (batch : List Change) → Stays v (storing_news v batch)
+news_stays v batch = cond_both (begins_joining batch) _ _ (λ (w : Volatile). Stays v (storing w batch)) (λ _. refl) (λ _. refl)
+
 body_stays : (me : ℕ) (p : Part) (v : Volatile) (q : ℕ) (b : Body) → Stays v (on_body me p v q b)
 body_stays me p v q (body.HeartbeatRequest r) = refl
 body_stays me p v q (body.HeartbeatReply r b f) = refl
 body_stays me p v q (body.Prepare n na nl nd) = refl
 body_stays me p v q (body.Promise n fa fl fd s es) = refl
 body_stays me p v q (body.AcceptSync n x es) = refl
+body_stays me p v q (body.PromisePart n part) = refl
+body_stays me p v q (body.AcceptSyncPart n part) = sync_part_stays p v q n part
+body_stays me p v q (body.BasePiece x) = refl
 body_stays me p v q (body.Accept n a es) = refl
 body_stays me p v q (body.Accepted n x) = refl
 body_stays me p v q (body.Decide n x) = refl
@@ -94,7 +118,7 @@ message_stays me None v q m = refl
 message_stays me (Some p) v q m = either v (eqb m.conf p.conf && is_admitted_body p m.body) _ _ (body_stays me p v q m.body) refl
 
 latest_stays : (me : ℕ) (d : Durable) (v : Volatile) (q c : ℕ) (b : Body) → Stays v (on_latest me d v q c b)
-latest_stays me d v q c (body.NextConf members olds len trimmed) = either v (is_member nat_eq members me && nat_lt (latest_of d) c) _ _ refl refl
+latest_stays me d v q c (body.NextConf members olds len trimmed) = either v (is_member nat_eq members me && nat_lt (latest_of d) c) _ _ (news_stays v (joins d.joining q c members olds len trimmed)) refl
 latest_stays me d v q c body.AskBase = refl
 latest_stays me d v q c (body.AskSegment from to) = refl
 latest_stays me d v q c (body.HeartbeatRequest r) = message_stays me d.part v q _
@@ -102,6 +126,9 @@ latest_stays me d v q c (body.HeartbeatReply r z g) = message_stays me d.part v 
 latest_stays me d v q c (body.Prepare z na nl nd) = message_stays me d.part v q _
 latest_stays me d v q c (body.Promise z fa fl fd a es) = message_stays me d.part v q _
 latest_stays me d v q c (body.AcceptSync z g es) = message_stays me d.part v q _
+latest_stays me d v q c (body.PromisePart z part) = message_stays me d.part v q _
+latest_stays me d v q c (body.AcceptSyncPart z part) = message_stays me d.part v q _
+latest_stays me d v q c (body.BasePiece x) = piece_stays d.joining v c x
 latest_stays me d v q c (body.Accept z a es) = message_stays me d.part v q _
 latest_stays me d v q c (body.Accepted z g) = message_stays me d.part v q _
 latest_stays me d v q c (body.Decide z g) = message_stays me d.part v q _
@@ -212,7 +239,7 @@ pub record StaysIn (me : ℕ) (s : State) (x : Input) (pl : Planned) : Type 0 wh
   pub closed : (durable_after s.durable pl.batch).closed ≡ s.durable.closed
   pub members : (p q : Part) → s.durable.part ≡ Some p → (durable_after s.durable pl.batch).part ≡ Some q → q.members ≡ p.members
   -- what the row promises is promised
-  pub promised : brought_by s.durable x ≡ None → (p : Part) → s.durable.part ≡ Some p
+  pub promised : brought_by s.durable s.volatile x ≡ None → (p : Part) → s.durable.part ≡ Some p
       → (q : Part) × ((durable_after s.durable pl.batch).part ≡ Some q) × (q.promised ≡ (part_after p (step_at me s.durable s.volatile x).batch).promised)
 
 -- a step to a later configuration, in which the node is idle at first
@@ -327,7 +354,7 @@ module _ (me : ℕ) (s : State) (x : Input) (above : JoiningIsAbove s.durable) w
   kept_same (Some p) = (p, refl, refl, inl refl)
 
   -- nothing of the part changes
-  module _ (is_tick : elected_step me s.volatile d x ≡ None) (brings : brought_by d x ≡ None → ⊥) where
+  module _ (is_tick : elected_step me s.volatile d x ≡ None) (brings : brought_by d s.volatile x ≡ None → ⊥) where
     rests : (batch : List Change) → HoldsMore batch → StaysIn me s x (Rattle.op_protocol.specs.Joining.only_stores s batch)
     unfolding StepOk
     rests batch k = record {
@@ -338,10 +365,18 @@ module _ (me : ℕ) (s : State) (x : Input) (above : JoiningIsAbove s.durable) w
       promised = λ n p h. absurd (brings n);
     }
 
+    -- no piece of a base stays beside a base
+    rests_beside : (batch : List Change) → HoldsMore batch → (b : Option Base) → StaysIn me s x (stores_beside s batch b)
+    unfolding StepOk
+    rests_beside batch k None = rests batch k
+    rests_beside batch k (Some b) =
+        let r = rests batch k in
+        record { leader = inl (refl, is_tick); part = r.part; closed = r.closed; members = r.members; promised = r.promised }
+
     goes : (batch : List Change) → HoldsMore batch → (j : Joining) → d.joining ≡ Some j → (k : Joining) → (durable_after d batch).joining ≡ Some k → k.conf ≡ j.conf
         → (b : Option Base) → k.base ≡ b → (es : Option (List Entry)) → cover_of k ≡ es → Moves me s x (goes_on_if me s k batch b es)
     goes batch h j e k has same None hb es hc = inr (rests batch h)
-    goes batch h j e k has same (Some b) hb None hc = inr (rests batch h)
+    goes batch h j e k has same (Some b) hb None hc = inr (rests_beside batch h (Some b))
     goes batch h j e k has same (Some b) hb (Some es) hc =
         let t = Rattle.op_protocol.specs.Joining.joined_service b es in
         let done : Change = change.JoinDone (base_bytes t) in
@@ -359,9 +394,8 @@ module _ (me : ℕ) (s : State) (x : Input) (above : JoiningIsAbove s.durable) w
         subst (λ (o : Option Joining). Moves me s x (holding me s batch o)) (sym k.1) (goes batch h j e k.0 k.1 k.2 (k.0).base refl (cover_of k.0) refl)
 
   -- what is brought is held
-  brought_more : (j : Joining) → d.joining ≡ Some j → (c : ℕ) (b : Body) (batch : List Change) → brought_to (Some j) c b ≡ Some batch → HoldsMore batch
-  brought_more j e c (body.BasePart at bytes) batch k =
-      by (takes_base j c at bytes) k
+  base_more : (j : Joining) (c at : ℕ) (bytes : List ℕ) (batch : List Change) → base_brought j c at bytes ≡ Some batch → HoldsMore batch
+  base_more j c at bytes batch k = by (takes_base j c at bytes) k
     where
       by : (t : Bool) → cond t (Some (change.JoinBase at bytes ∷ [])) None ≡ Some batch → HoldsMore batch
       by true k = subst HoldsMore (some_batch _ batch k) (record {
@@ -369,6 +403,18 @@ module _ (me : ℕ) (s : State) (x : Input) (above : JoiningIsAbove s.durable) w
         closed = refl;
         joining = λ i f. (_, ap (λ (o : Option Joining). Rattle.op_types.specs.Changes.joining_option_with o (change.JoinBase at bytes)) f, refl);
       })
+      by false k = absurd (none_some batch k)
+
+  once_more : (j : Joining) (c at : ℕ) (o : Option (List ℕ)) (batch : List Change) → base_once j c at o ≡ Some batch → HoldsMore batch
+  once_more j c at None batch k = absurd (none_some batch k)
+  once_more j c at (Some bytes) batch k = base_more j c at bytes batch k
+
+  brought_more : (j : Joining) → d.joining ≡ Some j → (c : ℕ) (b : Body) (batch : List Change) → brought_to (Some j) s.volatile.pieces c b ≡ Some batch → HoldsMore batch
+  brought_more j e c (body.BasePart at bytes) batch k = base_more j c at bytes batch k
+  brought_more j e c (body.BasePiece y) batch k = by (takes_piece j c y) k
+    where
+      by : (t : Bool) → cond t (base_once j c y.at (whole_bytes (with_piece s.volatile.pieces y).bytes)) None ≡ Some batch → HoldsMore batch
+      by true k = once_more j c y.at (whole_bytes (with_piece s.volatile.pieces y).bytes) batch k
       by false k = absurd (none_some batch k)
   brought_more j e c (body.Segment at es) batch k = by (takes_entries j c at es) k
     where
@@ -385,6 +431,8 @@ module _ (me : ℕ) (s : State) (x : Input) (above : JoiningIsAbove s.durable) w
   brought_more j e c (body.Prepare z na nl nd) batch k = absurd (none_some batch k)
   brought_more j e c (body.Promise z fa fl fd a es) batch k = absurd (none_some batch k)
   brought_more j e c (body.AcceptSync z g es) batch k = absurd (none_some batch k)
+  brought_more j e c (body.PromisePart z part) batch k = absurd (none_some batch k)
+  brought_more j e c (body.AcceptSyncPart z part) batch k = absurd (none_some batch k)
   brought_more j e c (body.Accept z a es) batch k = absurd (none_some batch k)
   brought_more j e c (body.Accepted z g) batch k = absurd (none_some batch k)
   brought_more j e c (body.Decide z g) batch k = absurd (none_some batch k)
@@ -401,17 +449,20 @@ module _ (me : ℕ) (s : State) (x : Input) (above : JoiningIsAbove s.durable) w
   brought_more j e c body.AskBase batch k = absurd (none_some batch k)
   brought_more j e c (body.AskSegment from to) batch k = absurd (none_some batch k)
 
-  brought_joining : (o : Option Joining) (c : ℕ) (b : Body) (batch : List Change) → brought_to o c b ≡ Some batch → (j : Joining) × (o ≡ Some j)
+  brought_joining : (o : Option Joining) (c : ℕ) (b : Body) (batch : List Change) → brought_to o s.volatile.pieces c b ≡ Some batch → (j : Joining) × (o ≡ Some j)
   brought_joining None c b batch k = absurd (none_some batch (sym (nothing_to c b) ∙ k))
     where
-      nothing_to : (c : ℕ) (b : Body) → brought_to None c b ≡ None
+      nothing_to : (c : ℕ) (b : Body) → brought_to None s.volatile.pieces c b ≡ None
       nothing_to c (body.BasePart at bytes) = refl
+      nothing_to c (body.BasePiece y) = refl
       nothing_to c (body.Segment at es) = refl
       nothing_to c (body.HeartbeatRequest r) = refl
       nothing_to c (body.HeartbeatReply r z g) = refl
       nothing_to c (body.Prepare z na nl nd) = refl
       nothing_to c (body.Promise z fa fl fd a es) = refl
       nothing_to c (body.AcceptSync z g es) = refl
+      nothing_to c (body.PromisePart z part) = refl
+      nothing_to c (body.AcceptSyncPart z part) = refl
       nothing_to c (body.Accept z a es) = refl
       nothing_to c (body.Accepted z g) = refl
       nothing_to c (body.Decide z g) = refl
@@ -430,11 +481,11 @@ module _ (me : ℕ) (s : State) (x : Input) (above : JoiningIsAbove s.durable) w
   brought_joining (Some j) c b batch k = (j, refl)
 
   -- only a delivery brings something
-  brought_is : (y : Input) (batch : List Change) → brought_by d y ≡ Some batch → (elected_step me s.volatile d y ≡ None) × ((c : ℕ) × (b : Body) × (brought_to d.joining c b ≡ Some batch))
+  brought_is : (y : Input) (batch : List Change) → brought_by d s.volatile y ≡ Some batch → (elected_step me s.volatile d y ≡ None) × ((c : ℕ) × (b : Body) × (brought_to d.joining s.volatile.pieces c b ≡ Some batch))
   unfolding elected_step
   brought_is (input.Deliver q m) batch k = (refl, (m.conf, m.body, by (ltb m.conf (latest_of d)) k))
     where
-      by : (t : Bool) → cond t None (brought_to d.joining m.conf m.body) ≡ Some batch → brought_to d.joining m.conf m.body ≡ Some batch
+      by : (t : Bool) → cond t None (brought_to d.joining s.volatile.pieces m.conf m.body) ≡ Some batch → brought_to d.joining s.volatile.pieces m.conf m.body ≡ Some batch
       by true k = absurd (none_some batch k)
       by false k = k
   brought_is input.Tick batch k = absurd (none_some batch k)
@@ -445,12 +496,12 @@ module _ (me : ℕ) (s : State) (x : Input) (above : JoiningIsAbove s.durable) w
   brought_is (input.Up q) batch k = absurd (none_some batch k)
   brought_is (input.Down q) batch k = absurd (none_some batch k)
 
-  bringing_moves : (o : Option (List Change)) → brought_by d x ≡ o → Moves me s x (step_bringing me s x o)
+  bringing_moves : (o : Option (List Change)) → brought_by d s.volatile x ≡ o → Moves me s x (step_bringing me s x o)
   bringing_moves None k = row_moves (waiting_at me s x)
   bringing_moves (Some batch) k =
       let b = brought_is x batch k in
       let j = brought_joining d.joining (b.1).0 (b.1).1 batch (b.1).2 in
-      held_moves b.0 (λ n. none_some batch (sym n ∙ k)) batch (brought_more j.0 j.1 (b.1).0 (b.1).1 batch (subst (λ (o : Option Joining). brought_to o (b.1).0 (b.1).1 ≡ Some batch) j.1 (b.1).2)) j.0 j.1
+      held_moves b.0 (λ n. none_some batch (sym n ∙ k)) batch (brought_more j.0 j.1 (b.1).0 (b.1).1 batch (subst (λ (o : Option Joining). brought_to o s.volatile.pieces (b.1).0 (b.1).1 ≡ Some batch) j.1 (b.1).2)) j.0 j.1
 
   -- what comes of reads touches nothing of this
   reading_moves : Moves me s x (table_plan me s x) → Moves me s x (step_plan me s x)
@@ -459,7 +510,7 @@ module _ (me : ℕ) (s : State) (x : Input) (above : JoiningIsAbove s.durable) w
 
   -- each step
   pub step_moves : Moves me s x (step_plan me s x)
-  step_moves = reading_moves (bringing_moves (brought_by d x) refl)
+  step_moves = reading_moves (bringing_moves (brought_by d s.volatile x) refl)
 
 -- a step inside a configuration leaves the latest one
 pub latest_same : (me : ℕ) (s : State) (x : Input) (pl : Planned) → StaysIn me s x pl → latest_of (durable_after s.durable pl.batch) ≡ latest_of s.durable

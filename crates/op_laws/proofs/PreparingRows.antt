@@ -6,8 +6,10 @@ use Rattle.std.specs.Set.{is_member}
 use Rattle.op_types.specs.Ballots.{is_below, is_same_ballot}
 use Rattle.op_types.specs.Changes.{len_of, part_with}
 use Rattle.op_types.specs.Effects.{Effects}
+use Rattle.op_types.specs.Joinings.{Held, held_with, held_run}
+use Rattle.op_types.specs.Stages.{front_from}
 use Rattle.op_types.specs.Limits.{positions_end}
-use Rattle.op_types.specs.RoleStates.{Preparing, Leading, with_promise, with_buffered, with_acknowledged, with_report, without_reports}
+use Rattle.op_types.specs.RoleStates.{Preparing, Leading, with_promise, with_stage, without_stage, told_by, promised_entries, staged_with, with_buffered, with_acknowledged, with_report, without_reports}
 use Rattle.op_types.specs.Roles as role
 use Rattle.op_types.specs.Roles.{Role}
 use Rattle.op_types.specs.declared.answers.Refusal.{Refusal}
@@ -28,19 +30,21 @@ use Rattle.op_types.specs.declared.messages.Body.TheVariants as body
 use Rattle.op_types.specs.declared.messages.Msg.{Msg}
 use Rattle.op_types.specs.declared.role.Buffered.{Buffered}
 use Rattle.op_types.specs.declared.role.Promised.{Promised}
+use Rattle.op_types.specs.declared.runs.PromisedRun.{PromisedRun}
+use Rattle.op_types.specs.declared.runs.SyncRun.{SyncRun}
 use Rattle.op_types.specs.declared.verdict.Verdict.{Verdict}
 use Rattle.op_types.specs.declared.verdict.Verdict.TheVariants as verdict
 use Rattle.op_protocol.specs.State.{State, Volatile, Waiting, PartStep}
 use Rattle.op_protocol.specs.Election.{Ended, round_end}
-use Rattle.op_protocol.specs.Parts.{pending, is_admitted_body, part_after, part_in_round, cutting, appending, others, message, nothing, first}
+use Rattle.op_protocol.specs.Parts.{pending, is_run_to, is_admitted_body, part_after, part_in_round, cutting, appending, others, messages, promise_bodies, nothing, first}
 use Rattle.op_protocol.specs.Promises.{has_quorum, is_usable, Choice, own_choice, best, chosen_stop, chosen_len, chosen_log, fitting}
-use Rattle.op_protocol.specs.Leader.{counted, count, first_leading, leading_with, adopt, on_promise, on_accepted, on_prepare_req, waiting_as, propose, on_forward_leading, on_forward, session_down, lead}
-use Rattle.op_protocol.specs.Follower.{suffix_start, promise_body, on_prepare, on_accept_sync, on_accept, on_decide}
+use Rattle.op_protocol.specs.Leader.{counted, count, first_leading, leading_with, adopt, on_promise, promised_once, on_promise_part, on_accepted, on_prepare_req, waiting_as, propose, on_forward_leading, on_forward, session_down, lead}
+use Rattle.op_protocol.specs.Follower.{suffix_start, on_prepare, sync_entries, on_accept_sync, synced_once, on_accept_sync_part, on_accept, on_decide}
 use Rattle.op_protocol.specs.Tick.{candidate_of, next_round_state, by_verdict}
 use Rattle.op_protocol.specs.Serving.{serving, dropping}
 use Rattle.op_protocol.specs.Rows.{entries_of, refusal_of, stop_for, on_body, message_at, may_be_above, on_latest, proposal_at, step_at, newly_decided, planned}
 use Rattle.op_protocol.specs.Configurations.{latest_of}
-use Rattle.op_protocol.specs.Joining.{storing}
+use Rattle.op_protocol.specs.Joining.{storing_news}
 use Rattle.op_protocol.specs.Trimming.{least_reported, trims, trims_reported, trim_now, on_progress, on_trim_ask, on_trim}
 use Rattle.op_protocol.proofs.StepBatches.{Rises}
 use Rattle.op_refinement.proofs.View.{Each, Each-append}
@@ -148,11 +152,34 @@ promise_quiet me p (role.Preparing r) n k =
     (λ _. keeps_on p r _ refl tt r refl [] (sym (append-nil r.buffer)))
 promise_quiet me p (role.Leading l) n k = cond_both (is_same_ballot n l.ballot) _ _ (IsQuiet p (role.Leading l)) (λ _. leads p _ _ _ refl) (λ _. leads p _ _ _ refl)
 
+-- what is staged doesn't matter
+unstaged_quiet : (p : Part) (r k : Preparing) (e : Effects) → k.buffer ≡ r.buffer → IsQuiet p (role.Preparing k) e → IsQuiet p (role.Preparing r) e
+unstaged_quiet p r k e same z = record {
+  prepared = λ s at stays. (r, refl);
+  grown = λ x s was at stays.
+      let g = z.grown k s refl at stays in
+      (g.0, g.1 ∙ ap (λ (b : List Buffered). b ++ g.0) (same ∙ ap (λ (y : Preparing). y.buffer) (same_prep r x was)));
+  quiet = λ x s was at stays apart. z.quiet k s refl at stays apart;
+}
+
+once_quiet : (me : ℕ) (p : Part) (r : Preparing) (q : ℕ) (part : PromisedRun) (held : Held) (o : Option (List Entry)) → IsQuiet p (role.Preparing r) (promised_once me p r q part held o)
+once_quiet me p r q part held None = keeps_on p r _ refl tt (with_stage r q held) refl [] (sym (append-nil r.buffer))
+once_quiet me p r q part held (Some es) = unstaged_quiet p r (without_stage r q) _ refl (promise_quiet me p (role.Preparing (without_stage r q)) r.ballot (told_by q part es))
+
+promise_part_quiet : (me : ℕ) (p : Part) (ρ : Role) (q : ℕ) (n : Ballot) (part : PromisedRun) → IsQuiet p ρ (on_promise_part me p ρ q n part)
+promise_part_quiet me p role.Idle q n part = idles p _ _ refl
+promise_part_quiet me p (role.Preparing r) q n part =
+    cond_both (is_same_ballot n r.ballot && (leb part.start part.at && is_run_to part.len part.at part.run)) _ _ (IsQuiet p (role.Preparing r))
+    (λ _. once_quiet me p r q part (staged_with r q part) (promised_entries part (staged_with r q part)))
+    (λ _. keeps_on p r _ refl tt r refl [] (sym (append-nil r.buffer)))
+promise_part_quiet me p (role.Leading l) q n part =
+    cond_both (eqb (part.at + length part.run) part.len) _ _ (IsQuiet p (role.Leading l)) (λ _. promise_quiet me p (role.Leading l) n (told_by q part [])) (λ _. leads p _ _ l refl)
+
 prepare_quiet : (p : Part) (ρ : Role) (q : ℕ) (n na : Ballot) (nl nd : ℕ) → IsQuiet p ρ (on_prepare p ρ q n na nl nd)
 prepare_quiet p ρ q n na nl nd =
     cond_both (is_below n p.promised) _ _ (IsQuiet p ρ) (λ _. same_role p ρ _ refl refl tt)
     (λ _. cond_both (ltb (suffix_start p na nl nd) p.trimmed) _ _ (IsQuiet p ρ) (λ _. same_role p ρ _ refl refl tt)
-    (λ _. cond_both (is_below p.promised n) _ _ (λ (e : Effects). IsQuiet p ρ (first [] (message p.conf q (promise_body p n (suffix_start p na nl nd)) ∷ []) [] e)) (λ _. idles p ρ _ refl) (λ _. same_role p ρ _ refl refl tt)))
+    (λ _. cond_both (is_below p.promised n) _ _ (λ (e : Effects). IsQuiet p ρ (first [] (messages p.conf q (promise_bodies p n (suffix_start p na nl nd))) [] e)) (λ _. idles p ρ _ refl) (λ _. same_role p ρ _ refl refl tt)))
 
 accept_quiet : (p : Part) (ρ : Role) (q : ℕ) (n : Ballot) (at : ℕ) (es : List Entry) → IsQuiet p ρ (on_accept p ρ q n at es)
 accept_quiet p ρ q n at es =
@@ -161,15 +188,17 @@ accept_quiet p ρ q n at es =
     (λ _. same_role p ρ _ refl refl (Each-append IsUndecided (appending (drop (len_of p - at) es)) [] (undecided_appending (drop (len_of p - at) es)) tt)))
     (λ _. same_role p ρ _ refl refl tt)
 
-sync_quiet : (p : Part) (ρ : Role) (q : ℕ) (n : Ballot) (x : ℕ) (es : List Entry) → IsQuiet p ρ (on_accept_sync p ρ q n x es)
-sync_quiet p ρ q n x es =
+synced_quiet : (p : Part) (ρ : Role) (q : ℕ) (n : Ballot) (x : ℕ) (es : List Entry) → IsQuiet p ρ (sync_entries p ρ q n x es)
+synced_quiet p ρ q n x es =
     let batch : List Change = cutting p x ++ appending es ++ change.Accept n ∷ [] in
-    cond_both (is_same_ballot p.promised n && is_below p.accepted n) _ _ (IsQuiet p ρ)
-    (λ _. cond_both (leb p.decided x && leb x (len_of p)) _ _ (IsQuiet p ρ)
+    cond_both (leb p.decided x && leb x (len_of p)) _ _ (IsQuiet p ρ)
     (λ _. same_role p ρ _ refl refl (Each-append IsUndecided batch []
     (Each-append IsUndecided (cutting p x ++ appending es) (change.Accept n ∷ []) (Each-append IsUndecided (cutting p x) (appending es) (undecided_cutting p x) (undecided_appending es)) (tt, tt)) tt))
-    (λ _. same_role p ρ _ refl refl tt))
-    (λ _. accept_quiet p ρ q n x es)
+    (λ _. same_role p ρ _ refl refl tt)
+
+sync_quiet : (p : Part) (ρ : Role) (q : ℕ) (n : Ballot) (x : ℕ) (es : List Entry) → IsQuiet p ρ (on_accept_sync p ρ q n x es)
+sync_quiet p ρ q n x es =
+    cond_both (is_same_ballot p.promised n && is_below p.accepted n) _ _ (IsQuiet p ρ) (λ _. synced_quiet p ρ q n x es) (λ _. accept_quiet p ρ q n x es)
 
 decide_quiet : (p : Part) (ρ : Role) (n : Ballot) (x : ℕ) → IsQuiet p ρ (on_decide p ρ n x)
 decide_quiet p ρ n x =
@@ -248,12 +277,28 @@ effects_in x = record { batch = x.batch; role = x.volatile.role; sends = x.sends
 abbrev pub StepIsQuiet : Part → Volatile → PartStep → Type 0
 StepIsQuiet p v x = IsQuiet p v.role (effects_in x)
 
+synced_once_quiet : (p : Part) (v : Volatile) (q : ℕ) (n : Ballot) (x : ℕ) (held : Held) (o : Option (List Entry)) → StepIsQuiet p v (synced_once p v q n x held o)
+synced_once_quiet p v q n x held None = same_role p v.role _ refl refl tt
+synced_once_quiet p v q n x held (Some es) = synced_quiet p v.role q n x es
+
+sync_part_quiet : (p : Part) (v : Volatile) (q : ℕ) (n : Ballot) (part : SyncRun) → StepIsQuiet p v (on_accept_sync_part p v q n part)
+sync_part_quiet p v q n part =
+    let held : Held = held_with v.staged part.at part.run in
+    let front : List Entry = front_from held (len_of p) in
+    cond_both (is_same_ballot p.promised n && is_below p.accepted n) _ _ (λ (x : PartStep). StepIsQuiet p v x)
+    (λ _. cond_both ((leb p.decided part.start && leb part.start (len_of p)) && (leb part.start part.at && is_run_to part.end part.at part.run)) _ _ (λ (x : PartStep). StepIsQuiet p v x)
+    (λ _. synced_once_quiet p v q n part.start held (held_run held part.start (part.end - part.start))) (λ _. same_role p v.role _ refl refl tt))
+    (λ _. cond_both (is_same_ballot p.promised n && (is_same_ballot p.accepted n && is_run_to part.end part.at part.run)) _ _ (λ (x : PartStep). StepIsQuiet p v x)
+    (λ _. same_role p v.role _ refl refl (Each-append IsUndecided (appending front) [] (undecided_appending front) tt)) (λ _. same_role p v.role _ refl refl tt))
+
 body_quiet : (me : ℕ) (p : Part) (v : Volatile) (q : ℕ) (b : Body) → StepIsQuiet p v (on_body me p v q b)
 body_quiet me p v q (body.HeartbeatRequest r) = same_role p v.role _ refl refl tt
 body_quiet me p v q (body.HeartbeatReply r b f) = same_role p v.role _ refl refl tt
 body_quiet me p v q (body.Prepare n na nl nd) = prepare_quiet p v.role q n na nl nd
 body_quiet me p v q (body.Promise n fa fl fd s es) = promise_quiet me p v.role n (record { from = q; accepted = fa; len = fl; decided = fd; start = s; entries = es })
 body_quiet me p v q (body.AcceptSync n x es) = sync_quiet p v.role q n x es
+body_quiet me p v q (body.PromisePart n part) = promise_part_quiet me p v.role q n part
+body_quiet me p v q (body.AcceptSyncPart n part) = sync_part_quiet p v q n part
 body_quiet me p v q (body.Accept n a es) = accept_quiet p v.role q n a es
 body_quiet me p v q (body.Accepted n x) = accepted_quiet me p v.role q n x
 body_quiet me p v q (body.Decide n x) = decide_quiet p v.role n x
@@ -299,10 +344,11 @@ module _ (me : ℕ) (p : Part) (c : Option Closed) (v : Volatile) where
   latest_quiet : (q conf : ℕ) (b : Body) → StepIsQuiet p v (on_latest me here v q conf b)
   latest_quiet q conf (body.NextConf members olds len trimmed) =
       cond_both (is_member nat_eq members me && ltb (latest_of here) conf) _ _ (λ (x : PartStep). StepIsQuiet p v x)
-      (λ _. cond_both (leb trimmed len) _ _ (λ (batch : List Change). StepIsQuiet p v (storing v batch)) (λ _. same_role p v.role _ refl refl (tt, (tt, tt))) (λ _. same_role p v.role _ refl refl tt))
+      (λ _. cond_both (leb trimmed len) _ _ (λ (batch : List Change). StepIsQuiet p v (storing_news v batch)) (λ _. same_role p v.role _ refl refl (tt, (tt, tt))) (λ _. same_role p v.role _ refl refl tt))
       (λ _. same_role p v.role _ refl refl tt)
   latest_quiet q conf body.AskBase = same_role p v.role _ refl refl tt
   latest_quiet q conf (body.AskSegment from to) = same_role p v.role _ refl refl tt
+  latest_quiet q conf (body.BasePiece x) = same_role p v.role _ refl refl tt
   latest_quiet q conf b = message_quiet me p v q (record { conf = conf; body = b })
 
   -- a step

@@ -28,9 +28,9 @@ pub step_is : (me : ℕ) (d : Durable) (v : Volatile) (x : Proposal) → step_at
 step_is me d v (proposed.Commands commands) = refl
 step_is me d v (proposed.Stop members) = refl
 
-pub brings_nothing : (d : Durable) (x : Proposal) → brought_by d (input_of x) ≡ None
-brings_nothing d (proposed.Commands commands) = refl
-brings_nothing d (proposed.Stop members) = refl
+pub brings_nothing : (d : Durable) (v : Volatile) (x : Proposal) → brought_by d v (input_of x) ≡ None
+brings_nothing d v (proposed.Commands commands) = refl
+brings_nothing d v (proposed.Stop members) = refl
 
 pub event_is : (me : ℕ) (s : State) (n : ℕ) (l : Letter) (x : Proposal)
     → inputs.event_of me s n l (input_of x) ≡ proposal_event (entries_at s.durable.part x) (refusal_of me s.volatile.role s.durable (entries_at s.durable.part x))

@@ -99,5 +99,5 @@ module _ (history : List Entry) where
     bringing_told me x (Some batch) place = holding_told me batch (durable_after s.durable batch).joining
 
     -- a step of a node whose service has applied a front of the history, which goes on with what the step decides
-    pub step_told : (me : ℕ) (x : Input) → (brought_by s.durable x ≡ None → (newly me x ≡ []) ⊎ IsPlaced s (newly me x)) → Tells (step_plan me s x)
-    step_told me x place = bringing_told me x (brought_by s.durable x) place
+    pub step_told : (me : ℕ) (x : Input) → (brought_by s.durable s.volatile x ≡ None → (newly me x ≡ []) ⊎ IsPlaced s (newly me x)) → Tells (step_plan me s x)
+    step_told me x place = bringing_told me x (brought_by s.durable s.volatile x) place

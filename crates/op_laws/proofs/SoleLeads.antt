@@ -122,7 +122,7 @@ module _ (first : List ℕ) (ks : List worlds.Happening) (t : Execution) (b : Is
       (taken (lists_of first (ks ++ [])) (world_of first ks).soup n.pid n.state (state_of first ks n.pid)
       (facts_of first ks [] n.pid n.state rel.low (subst (λ (l : List worlds.Happening). AllRead (lists_of first l)) (sym (append-nil ks)) read) rel.rel rel.serves) es (ends_late n.state.durable.part proposal) x.free).may
 
-  leads_by : (pt : Part) → (state_of first ks n.pid).part ≡ Some pt → PartRel (all_before (lists_of first ks) pt.conf) x.part n.state.volatile.role pt → (l : Leading) × (n.state.volatile.role ≡ role.Leading l)
+  leads_by : (pt : Part) → (state_of first ks n.pid).part ≡ Some pt → PartRel (all_before (lists_of first ks) pt.conf) x.part n.state.volatile pt → (l : Leading) × (n.state.volatile.role ≡ role.Leading l)
   leads_by pt has r =
       let may = (and_parts (not (is_some (state_of first ks n.pid).joining)) (server.may_propose_in n.pid pt.node es) (ap (λ (o : Option Part). server.may_propose n.pid (state_of first ks n.pid) o es) (sym has) ∙ takes)).1 in
       let rising : AreRising 0 pt.members = subst (AreRising 0) (sym (((stands first ks n.pid).part pt has).members ∙ ap (λ (m : Machine). members_of first m.lists pt.conf) (sym b.machine))) (rise pt.conf) in
@@ -131,9 +131,9 @@ module _ (first : List ℕ) (ks : List worlds.Happening) (t : Execution) (b : Is
       leading_of n.state.volatile.role l.0 (ap (λ (y : pure.Node). y.role) r.seen ∙ l.1)
 
   leads_here : (l : Leading) × (n.state.volatile.role ≡ role.Leading l)
-  leads_here = of_part (state_of first ks n.pid).part refl (subst (λ (o : Option StoredPart). IfPartRel (lists_of first ks) o n.state.volatile.role (state_of first ks n.pid).part) x.has (rel.rel).part)
+  leads_here = of_part (state_of first ks n.pid).part refl (subst (λ (o : Option StoredPart). IfPartRel (lists_of first ks) o n.state.volatile (state_of first ks n.pid).part) x.has (rel.rel).part)
     where
-      of_part : (o : Option Part) → (state_of first ks n.pid).part ≡ o → IfPartRel (lists_of first ks) (Some x.part) n.state.volatile.role o → (l : Leading) × (n.state.volatile.role ≡ role.Leading l)
+      of_part : (o : Option Part) → (state_of first ks n.pid).part ≡ o → IfPartRel (lists_of first ks) (Some x.part) n.state.volatile o → (l : Leading) × (n.state.volatile.role ≡ role.Leading l)
       of_part None has r = absurd r
       of_part (Some pt) has r = leads_by pt has r
 

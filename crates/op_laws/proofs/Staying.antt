@@ -14,7 +14,7 @@ use Rattle.op_protocol.specs.Configurations.{latest_of, closing_part}
 use Rattle.op_protocol.specs.Joining.{brought_to}
 use Rattle.op_protocol.specs.Parts.{part_after}
 use Rattle.op_protocol.specs.Rows.{brought_by, planned, plan_of, step_at, step_bringing, table_plan, step_plan, waiting_at}
-use Rattle.op_protocol.specs.State.{State, Waiting, PartStep, Planned}
+use Rattle.op_protocol.specs.State.{State, Volatile, Waiting, PartStep, Planned}
 use Rattle.op_protocol.proofs.Based.{based_after}
 use Rattle.op_laws.proofs.Moves as moves
 use Rattle.op_laws.proofs.Moves.{JoiningIsAbove}
@@ -22,21 +22,21 @@ use Rattle.op_laws.proofs.Moves.{JoiningIsAbove}
 none_some : {A : Type 0} (a : A) → None ≡ Some a → ⊥
 none_some a e = cc
 
-nothing_brought : (d : Durable) (x : Input) → d.joining ≡ None → brought_by d x ≡ None
-nothing_brought d input.Tick e = refl
-nothing_brought d (input.Deliver q m) e =
-    cond_both (ltb m.conf (latest_of d)) None (brought_to d.joining m.conf m.body) (λ (o : Option (List Change)). o ≡ None) (λ _. refl)
-    (λ _. ap (λ (o : Option Joining). brought_to o m.conf m.body) e ∙ nothing_to m.conf m.body)
+nothing_brought : (d : Durable) (v : Volatile) (x : Input) → d.joining ≡ None → brought_by d v x ≡ None
+nothing_brought d v input.Tick e = refl
+nothing_brought d v (input.Deliver q m) e =
+    cond_both (ltb m.conf (latest_of d)) None (brought_to d.joining v.pieces m.conf m.body) (λ (o : Option (List Change)). o ≡ None) (λ _. refl)
+    (λ _. ap (λ (o : Option Joining). brought_to o v.pieces m.conf m.body) e ∙ nothing_to m.conf m.body)
   where
-    nothing_to : (c : ℕ) (b : Body) → brought_to None c b ≡ None
+    nothing_to : (c : ℕ) (b : Body) → brought_to None v.pieces c b ≡ None
     nothing_to c (body.BasePart at bytes) = refl
     nothing_to c _ = refl
-nothing_brought d (input.Commands cs) e = refl
-nothing_brought d (input.Stop ms) e = refl
-nothing_brought d input.TrimNow e = refl
-nothing_brought d (input.Read r) e = refl
-nothing_brought d (input.Up q) e = refl
-nothing_brought d (input.Down q) e = refl
+nothing_brought d v (input.Commands cs) e = refl
+nothing_brought d v (input.Stop ms) e = refl
+nothing_brought d v input.TrimNow e = refl
+nothing_brought d v (input.Read r) e = refl
+nothing_brought d v (input.Up q) e = refl
+nothing_brought d v (input.Down q) e = refl
 
 module _ (me : ℕ) (s : State) (x : Input) (p : Part) (has : s.durable.part ≡ Some p) (stays : s.durable.joining ≡ None) where
   abbrev row : PartStep
@@ -50,7 +50,7 @@ module _ (me : ℕ) (s : State) (x : Input) (p : Part) (has : s.durable.part ≡
 
   -- the plan of its row, closed or not
   pub of_row : table_plan me s x ≡ plan_of me s ws row
-  of_row = ap (λ o. step_bringing me s x o) (nothing_brought s.durable x stays)
+  of_row = ap (λ o. step_bringing me s x o) (nothing_brought s.durable s.volatile x stays)
 
   -- its row's plan, where the latest configuration stays
   pub planned_is : latest_of (durable_after s.durable (step_plan me s x).batch) ≡ latest_of s.durable → table_plan me s x ≡ planned s ws row

@@ -80,7 +80,7 @@ module _ (client seq : ℕ) where
     bringing_knows x (Some batch) = holding_knows batch (durable_after s.durable batch).joining
 
     step_knows : (x : Input) → Known client seq (step_plan me s x).waiting (step_plan me s x).replies
-    step_knows x = bringing_knows x (brought_by s.durable x)
+    step_knows x = bringing_knows x (brought_by s.durable s.volatile x)
 
 -- ---- a happening
 

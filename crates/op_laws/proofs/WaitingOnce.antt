@@ -181,7 +181,7 @@ module _ (me : ℕ) (s : State) (rises : Rises s.waiting) where
   bringing_rises x (Some batch) = holding_rises batch (durable_after s.durable batch).joining
 
   step_rises : (x : Input) → Rises (step_plan me s x).waiting
-  step_rises x = bringing_rises x (brought_by s.durable x)
+  step_rises x = bringing_rises x (brought_by s.durable s.volatile x)
 
 -- ---- a run
 

@@ -21,11 +21,14 @@ use Rattle.op_refinement.proofs.Runs.{Track}
 use Rattle.op_laws.specs.Led.{HasBelow, IsBelowAt}
 use Rattle.op_laws.specs.Exchange as there
 use Rattle.op_quorum.specs.Quorums.{is_majority, passing}
-use Rattle.op_laws.specs.Exchange.{Term, Delivery, Sending, KeepsTo, IfKeepsTo, IsOne, IsCalm, node_before, node_role, part_members, members_at, IsPlaced, IsDropped, IsToldDropped, IsIn, promise_body, FiveSteps, Prepares, Takes, Exchange}
+use Rattle.op_laws.specs.Exchange.{Term, Delivery, Sending, KeepsTo, IfKeepsTo, IsOne, IsCalm, node_before, node_role, part_members, members_at, IsPlaced, IsDropped, IsToldDropped, IsIn, SendsAll, InTurn, told_bodies, FiveSteps, Prepares, Takes, Exchange}
 use Rattle.op_laws.proofs.Reached.{world_of_run}
 use Rattle.op_laws.proofs.Slots.{double, double_is, half, half_odd}
-use Rattle.op_laws.proofs.Lifting.{W, W_is, events, world_at, last_world, added, pad, two, got_two, Here, member_is, OwnStep, own_step, calm_here, mid_node, calm_there}
+use Rattle.op_laws.proofs.Lifting.{W, W_is, events, world_at, last_world, added, pad, two, got_two, Here, member_is, OwnStep, own_step, calm_here, mid_node, calm_there, rests_there}
 use Rattle.op_laws.proofs.Lifting as lifting
+use Rattle.op_paxos.specs.Parts.{promise_messages, sync_messages}
+use Rattle.op_protocol.specs.Parts.{sync_bodies}
+use Rattle.op_laws.proofs.Turns.{turn_order, IsViewed, AreViewed, promise_viewed, sync_viewed}
 use Rattle.op_laws.proofs.Sendings.{sending_there, AcceptHere, accept_here, IsExchanged, AllAdmitted, delivery_there}
 use Rattle.op_laws.proofs.AnsweredDrops.{dropped_told}
 use Rattle.op_laws.proofs.Comings.{Arrival, Decides, one_in, in_one, cs, comes_here, proposed_there, taken_there, members_is, prepares_there, members_there, calm_then, early, known_here_too}
@@ -47,12 +50,6 @@ rank-same a b sa sb e =
 
 no_accept : (n a : ℕ) (xs : List Entry) → pure.Accept n a xs ≡ pure.PrepareReq → ⊥
 no_accept n a xs e = cc
-
-no_sync : (n x : ℕ) (xs : List Entry) → pure.AcceptSync n x xs ≡ pure.PrepareReq → ⊥
-no_sync n x xs e = cc
-
-no_promise : (n : ℕ) (pm : pure.Promised) → pure.Promise n pm ≡ pure.PrepareReq → ⊥
-no_promise n pm e = cc
 
 no_prepare : (n a b c : ℕ) → pure.Prepare n a b c ≡ pure.PrepareReq → ⊥
 no_prepare n a b c e = cc
@@ -95,6 +92,45 @@ module _ (members : List ℕ) (t : Execution) (hs : List Happening) (k : Track m
   to_leader : (i q : ℕ) (z : Body) (m : pure.Msg) → IsExchanged z → Delivery t.world hs x.conf i q p z → view_body z ≡ Some m → (m ≡ pure.PrepareReq → ⊥) → px.Delivery ms W0 es (at i) q p m
   to_leader i q z m kind d v other = delivery_there members t hs k p pt has admits x same i q p z m kind (subst (λ (c : ℕ). Delivery t.world hs c i q p z) same d) (leader_at i) (leader_at (suc i)) v other
 
+  -- ---- messages in parts
+  sends_all : (i a q : ℕ) (bs : List Body) (ms_ : List pure.Msg) → AreViewed bs ms_ → SendsAll t.world hs x.conf i a q bs → px.SendsAll ms W0 es (at i) a q ms_
+  sends_all i a q [] [] v s m among = absurd among
+  sends_all i a q [] (z ∷ zs) v s m among = absurd v
+  sends_all i a q (b ∷ bs) [] v s m among = absurd v
+  sends_all i a q (b ∷ bs) (z ∷ zs) v s m (inl e) = subst (λ (y : pure.Msg). px.Sending ms W0 es (at i) a q y) e (sends i a q b z (s b (inl refl)) (v.0).view (v.0).other)
+  sends_all i a q (b ∷ bs) (z ∷ zs) v s m (inr among) = sends_all i a q bs zs v.1 (λ d inside. s d (inr inside)) m among
+
+  -- in turn at a node that nothing disturbs
+  module _ (with : List ℕ) (q i0 end : ℕ) (calm : IsCalm t.world hs x with q i0 end) where
+    here_calm : (j : ℕ) → i0 ≤ j → j ≤ end → Here members t hs k p pt has x j q
+    here_calm j le up_to = calm_here members t hs k p pt has x same sb with q i0 end calm j le up_to
+
+    comes_calm : (i a : ℕ) (z : Body) (m : pure.Msg) → IsViewed z m → i0 ≤ i → i < end → Delivery t.world hs x.conf i a q z → px.Delivery ms W0 es (at i) a q m
+    comes_calm i a z m v le up_to d =
+        delivery_there members t hs k p pt has admits x same i a q z m v.kind (subst (λ (c : ℕ). Delivery t.world hs c i a q z) same d) (here_calm i le (omega (arith, up_to))) (here_calm (suc i) (omega (arith, le)) (omega (arith, up_to))) v.view v.other
+
+    turn_calm : (i j a : ℕ) (bs : List Body) (zs : List pure.Msg) → AreViewed bs zs → i0 ≤ i → j < end → InTurn t.world hs x.conf i j a q bs → px.InTurn ms W0 es (at i) (at j) a q zs
+    turn_calm i j a [] zs v le up_to d = absurd d
+    turn_calm i j a (b ∷ bs) [] v le up_to d = absurd v
+    turn_calm i j a (b ∷ []) (z ∷ []) v le up_to d = (ap at d.0, comes_calm i a b z v.0 le (omega (arith, d.0, up_to)) d.1)
+    turn_calm i j a (b ∷ []) (z ∷ (y ∷ zs)) v le up_to d = absurd v.1
+    turn_calm i j a (b ∷ (c ∷ bs)) (z ∷ []) v le up_to d = absurd v.1
+    turn_calm i j a (b ∷ (c ∷ bs)) (z ∷ (y ∷ zs)) v le up_to d =
+        let h : ℕ = (d.1).0 in
+        let lt : i < h = (d.1).1 in
+        let later : h ≤ j = turn_order t.world hs x.conf h j a q (c ∷ bs) (d.1).3 in (
+          comes_calm i a b z v.0 le (omega (arith, lt, later, up_to)) d.0,
+          (
+            at h,
+            omega (arith, lt, double_is i, double_is h),
+            rests_there members t hs k p pt has x same sb with q i0 end calm i h le (omega (arith, later, up_to)) (d.1).2,
+            turn_calm h j a (c ∷ bs) (y ∷ zs) v.1 (omega (arith, le, lt)) up_to (d.1).3,
+          ),
+        )
+
+  turn_at_leader : (i j q : ℕ) (bs : List Body) (zs : List pure.Msg) → AreViewed bs zs → InTurn t.world hs x.conf i j q p bs → px.InTurn ms W0 es (at i) (at j) q p zs
+  turn_at_leader i j q bs zs v d = turn_calm others p 0 (suc j) (y.arrival.calm (suc j)) i j q bs zs v (omega arith) (omega arith) d
+
   -- ---- the five steps with one other
   module _ (q : ℕ) (a0 : there.Proposed) (st : FiveSteps t.world hs x q a0) (cq : IsCalm t.world hs x (p ∷ []) q st.prepare_at (suc st.ack_sent)) where
     other_at : (j : ℕ) → st.prepare_at ≤ j → j ≤ suc st.ack_sent → Here members t hs k p pt has x j q
@@ -103,13 +139,21 @@ module _ (members : List ℕ) (t : Execution) (hs : List Happening) (k : Track m
     to_other : (i : ℕ) (z : Body) (m : pure.Msg) → IsExchanged z → Delivery t.world hs x.conf i p q z → st.prepare_at ≤ i → i ≤ st.ack_sent → view_body z ≡ Some m → (m ≡ pure.PrepareReq → ⊥) → px.Delivery ms W0 es (at i) p q m
     to_other i z m kind d le up_to v other = delivery_there members t hs k p pt has admits x same i p q z m kind (subst (λ (c : ℕ). Delivery t.world hs c i p q z) same d) (other_at i le (omega (arith, up_to))) (other_at (suc i) (omega (arith, le)) (omega (arith, up_to))) v other
 
+    turn_at_other : (i j : ℕ) (bs : List Body) (zs : List pure.Msg) → AreViewed bs zs → st.prepare_at ≤ i → j ≤ st.ack_sent → InTurn t.world hs x.conf i j p q bs → px.InTurn ms W0 es (at i) (at j) p q zs
+    turn_at_other i j bs zs v le up_to d = turn_calm (p ∷ []) q st.prepare_at (suc st.ack_sent) cq i j p bs zs v le (omega (arith, up_to)) d
+
+    synced_after : st.sync_from ≤ st.sync_at
+    synced_after = turn_order t.world hs x.conf st.sync_from st.sync_at p q (sync_bodies b st.start st.rest) st.synced
+
+    soon : st.prepare_at < suc st.ack_sent
+    soon = omega (arith, st.after_prepare, st.on_promise, st.after_sending, synced_after, st.after_sync)
+
     below_there : ((at_event (at st.prepare_at)).nodes q).promised < rank b
     below_there =
-        let early : st.prepare_at < suc st.ack_sent = omega (arith, st.after_prepare, st.on_promise, st.after_sending, st.after_sync) in
-        let u = other_at st.prepare_at (omega arith) (omega (arith, early)) in
+        let u = other_at st.prepare_at (omega arith) (omega (arith, soon)) in
         let n : node_before t.world hs st.prepare_at q ≡ Some u.node = ap (λ (w : World). node_at w.nodes q) (sym (world_of_run t (take st.prepare_at hs))) ∙ u.at_place in
         let below : HasBelow b (Some (u.keeps).part) = subst (HasBelow b) (u.keeps).has (subst (IsBelowAt b) n st.below) in
-        let is = mid_node members t hs k p pt has x same sb (p ∷ []) q st.prepare_at (suc st.ack_sent) cq st.prepare_at (omega arith) early ∙ member_is members t hs k p pt has x same st.prepare_at q u in
+        let is = mid_node members t hs k p pt has x same sb (p ∷ []) q st.prepare_at (suc st.ack_sent) cq st.prepare_at (omega arith) soon ∙ member_is members t hs k p pt has x same st.prepare_at q u in
         omega (arith, ltb-true (rank ((u.keeps).part).promised) (rank b) (sym (is_below-rank ((u.keeps).part).promised b ((u.part_rel).small).0 sb) ∙ below), ap (λ (v : Member). v.promised) is)
 
     -- an Accept of the ballot that the leader sends
@@ -146,28 +190,30 @@ module _ (members : List ℕ) (t : Execution) (hs : List Happening) (k : Track m
         let h : half i ≡ r.place = ap half r.is ∙ half_odd r.place in
         let z = st.accepted r.place a xs (omega (arith, lo, r.is, double_is st.sync_sent, double_is r.place)) (omega (arith, hi, r.is, double_is st.last, double_is r.place)) r.sending in
         subst (λ (n : ℕ). (at st.sync_at < at (st.accept_at n)) × px.Delivery ms W0 es (at (st.accept_at n)) p q (pure.Accept (rank b) a xs)) (sym h)
-        (omega (arith, z.0, double_is st.sync_at, double_is (st.accept_at r.place)), to_other (st.accept_at r.place) (body.Accept b a xs) (pure.Accept (rank b) a xs) tt z.1 (omega (arith, z.0, st.after_sending, st.on_promise, st.after_prepare)) (st.after_accepts r.place a xs (omega (arith, lo, r.is, double_is st.sync_sent, double_is r.place)) (omega (arith, hi, r.is, double_is st.last, double_is r.place)) r.sending) refl (no_accept (rank b) a xs))
+        (omega (arith, z.0, double_is st.sync_at, double_is (st.accept_at r.place)), to_other (st.accept_at r.place) (body.Accept b a xs) (pure.Accept (rank b) a xs) tt z.1 (omega (arith, z.0, st.after_sending, synced_after, st.on_promise, st.after_prepare)) (st.after_accepts r.place a xs (omega (arith, lo, r.is, double_is st.sync_sent, double_is r.place)) (omega (arith, hi, r.is, double_is st.last, double_is r.place)) r.sending) refl (no_accept (rank b) a xs))
 
     five : px.Steps ms W0 es (rank b) p q (at a0.0, a0.1)
     unfolding Carried
     five = record {
       prepare_at = at st.prepare_at;
       asked = (rank st.asked.0, st.asked.1, st.asked.2);
-      prepared = to_other st.prepare_at (body.Prepare b st.asked.0 st.asked.1 st.asked.2) (pure.Prepare (rank b) (rank st.asked.0) st.asked.1 st.asked.2) tt st.prepared (omega arith) (omega (arith, st.after_prepare, st.on_promise, st.after_sending, st.after_sync)) refl (no_prepare (rank b) (rank st.asked.0) st.asked.1 st.asked.2);
+      prepared = to_other st.prepare_at (body.Prepare b st.asked.0 st.asked.1 st.asked.2) (pure.Prepare (rank b) (rank st.asked.0) st.asked.1 st.asked.2) tt st.prepared (omega arith) (omega (arith, st.after_prepare, st.on_promise, st.after_sending, synced_after, st.after_sync)) refl (no_prepare (rank b) (rank st.asked.0) st.asked.1 st.asked.2);
       below = below_there;
+      promise_from = at st.promise_from;
       promise_at = at st.promise_at;
       told = view_promise st.told;
-      answered = sends st.prepare_at q p (promise_body b st.told) (pure.Promise (rank b) (view_promise st.told)) st.answered refl (no_promise (rank b) (view_promise st.told));
-      after_prepare = omega (arith, st.after_prepare, double_is st.prepare_at, double_is st.promise_at);
-      promised = to_leader st.promise_at q (promise_body b st.told) (pure.Promise (rank b) (view_promise st.told)) tt st.promised refl (no_promise (rank b) (view_promise st.told));
+      answered = sends_all st.prepare_at q p (told_bodies b st.told) (promise_messages (rank b) (view_promise st.told)) (promise_viewed b st.told) st.answered;
+      after_prepare = omega (arith, st.after_prepare, double_is st.prepare_at, double_is st.promise_from);
+      promised = turn_at_leader st.promise_from st.promise_at q (told_bodies b st.told) (promise_messages (rank b) (view_promise st.told)) (promise_viewed b st.told) st.promised;
       sync_sent = at st.sync_sent;
+      sync_from = at st.sync_from;
       sync_at = at st.sync_at;
       start = st.start;
       rest = st.rest;
-      on_promise = omega (arith, st.on_promise, double_is st.promise_at, double_is st.sync_sent);
-      sent = sends st.sync_sent p q (body.AcceptSync b st.start st.rest) (pure.AcceptSync (rank b) st.start st.rest) st.sent refl (no_sync (rank b) st.start st.rest);
-      after_sending = omega (arith, st.after_sending, double_is st.sync_sent, double_is st.sync_at);
-      synced = to_other st.sync_at (body.AcceptSync b st.start st.rest) (pure.AcceptSync (rank b) st.start st.rest) tt st.synced (omega (arith, st.after_sending, st.on_promise, st.after_prepare)) st.after_sync refl (no_sync (rank b) st.start st.rest);
+      on_promise = omega (arith, st.on_promise, double_is st.promise_from, double_is st.sync_sent);
+      sent = sends_all st.sync_sent p q (sync_bodies b st.start st.rest) (sync_messages (rank b) st.start st.rest) (sync_viewed b st.start st.rest) st.sent;
+      after_sending = omega (arith, st.after_sending, double_is st.sync_sent, double_is st.sync_from);
+      synced = turn_at_other st.sync_from st.sync_at (sync_bodies b st.start st.rest) (sync_messages (rank b) st.start st.rest) (sync_viewed b st.start st.rest) (omega (arith, st.after_sending, st.on_promise, st.after_prepare)) st.after_sync st.synced;
       last = at st.last;
       accept_at = λ i. at (st.accept_at (half i));
       accepted = accepted_at;

@@ -4,10 +4,10 @@ use Rattle.std.proofs.lemmas.Bool.{eqb-true, ltb-true, cases_lt}
 use Rattle.op_quorum.specs.Quorums.{is_majority, passing}
 use Rattle.op_types.specs.Changes.{len_of}
 use Rattle.op_types.specs.RoleStates.{Leading}
-use Rattle.op_types.specs.Roles.{Role}
 use Rattle.op_types.specs.Roles as role
 use Rattle.op_types.specs.declared.durable.Part.{Part as StoredPart}
 use Rattle.op_types.specs.declared.log.Entry.{Entry}
+use Rattle.op_protocol.specs.State.{Volatile}
 use Rattle.op_spec.specs.Machine.{members_of}
 use Rattle.op_spec.specs.Stands.{PartStands}
 use Rattle.op_paxos.specs.Nodes.{majority_passes}
@@ -95,9 +95,9 @@ log_is_list first ks pid pt has l leads many =
     sym (take_all (pt.node).decided (pt.node).log all) ∙ s.entries ∙ take_all (pt.node).decided (lists_of first ks pt.conf) (omega (arith, within, all))
 
 -- ---- a node beside it
-pub log_is_decided : (first : List ℕ) (ks : List worlds.Happening) (pid : ℕ) (pt : Part) → (state_of first ks pid).part ≡ Some pt → (p : StoredPart) (r : Role) → PartRel (all_before (lists_of first ks) pt.conf) p r pt
-    → (l : Leading) → r ≡ role.Leading l → is_majority (passing (λ q. q == pid) p.members) (length p.members) ≡ true → len_of p ≤ p.decided
-log_is_decided first ks pid pt has p r k l leads many =
+pub log_is_decided : (first : List ℕ) (ks : List worlds.Happening) (pid : ℕ) (pt : Part) → (state_of first ks pid).part ≡ Some pt → (p : StoredPart) (v : Volatile) → PartRel (all_before (lists_of first ks) pt.conf) p v pt
+    → (l : Leading) → v.role ≡ role.Leading l → is_majority (passing (λ q. q == pid) p.members) (length p.members) ≡ true → len_of p ≤ p.decided
+log_is_decided first ks pid pt has p v k l leads many =
     let is : (pt.node).role ≡ pure.Leading (view_leading l) = ap (λ (y : pure.Node). y.role) (sym k.seen) ∙ ap view_role leads in
     let all : length (pt.node).log ≤ (pt.node).decided = log_decided first ks pid pt has (view_leading l) is (subst (λ (x : List ℕ). majority_passes x (λ q. q == pid) ≡ true) k.members many) in
     let size : len_of p ≡ length (pt.node).log = len_of-whole k.front p k.fits ∙ ap (λ (y : pure.Node). length y.log) k.seen in
@@ -122,9 +122,9 @@ lead_within first ks pid pt has l leads =
     )
 
 -- so it does at the node beside it
-pub adopted_within : (first : List ℕ) (ks : List worlds.Happening) (pid : ℕ) (pt : Part) → (state_of first ks pid).part ≡ Some pt → (p : StoredPart) (r : Role) → PartRel (all_before (lists_of first ks) pt.conf) p r pt
-    → (l : Leading) → r ≡ role.Leading l → l.adopted_len ≤ len_of p
-adopted_within first ks pid pt has p r k l leads =
+pub adopted_within : (first : List ℕ) (ks : List worlds.Happening) (pid : ℕ) (pt : Part) → (state_of first ks pid).part ≡ Some pt → (p : StoredPart) (v : Volatile) → PartRel (all_before (lists_of first ks) pt.conf) p v pt
+    → (l : Leading) → v.role ≡ role.Leading l → l.adopted_len ≤ len_of p
+adopted_within first ks pid pt has p v k l leads =
     let is : (pt.node).role ≡ pure.Leading (view_leading l) = ap (λ (y : pure.Node). y.role) (sym k.seen) ∙ ap view_role leads in
     omega (arith, lead_within first ks pid pt has (view_leading l) is, len_of-whole k.front p k.fits, ap (λ (y : pure.Node). length y.log) k.seen)
 
@@ -134,8 +134,8 @@ decided_within first lists p k =
     let list : List Entry = lists p.conf in
     omega (arith, k.trimmed, k.decided, ap (λ (es : List Entry). length es) k.entries, length-take (p.decided - p.trimmed) p.tail.items, length-drop p.trimmed (take p.decided list), length-take p.decided list)
 
-pub whole_is_list : (first : List ℕ) (ks : List worlds.Happening) (pid : ℕ) (pt : Part) → (state_of first ks pid).part ≡ Some pt → (p : StoredPart) (r : Role) → (k : PartRel (all_before (lists_of first ks) pt.conf) p r pt)
-    → (l : Leading) → r ≡ role.Leading l → is_majority (passing (λ q. q == pid) p.members) (length p.members) ≡ true → whole_log k.front p ≡ lists_of first ks pt.conf
-whole_is_list first ks pid pt has p r k l leads many =
+pub whole_is_list : (first : List ℕ) (ks : List worlds.Happening) (pid : ℕ) (pt : Part) → (state_of first ks pid).part ≡ Some pt → (p : StoredPart) (v : Volatile) → (k : PartRel (all_before (lists_of first ks) pt.conf) p v pt)
+    → (l : Leading) → v.role ≡ role.Leading l → is_majority (passing (λ q. q == pid) p.members) (length p.members) ≡ true → whole_log k.front p ≡ lists_of first ks pt.conf
+whole_is_list first ks pid pt has p v k l leads many =
     let is : (pt.node).role ≡ pure.Leading (view_leading l) = ap (λ (y : pure.Node). y.role) (sym k.seen) ∙ ap view_role leads in
     ap (λ (y : pure.Node). y.log) k.seen ∙ log_is_list first ks pid pt has (view_leading l) is (subst (λ (x : List ℕ). majority_passes x (λ q. q == pid) ≡ true) k.members many)

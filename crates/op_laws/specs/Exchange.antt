@@ -4,6 +4,7 @@ use Rattle.std.specs.Set.{is_member}
 use Rattle.op_quorum.specs.Quorums.{is_majority, passing}
 use Rattle.op_types.specs.Ballots.{is_below}
 use Rattle.op_types.specs.Changes.{len_of}
+use Rattle.op_types.specs.Cutting.{whole_or_parts}
 use Rattle.op_types.specs.Limits.{positions_end}
 use Rattle.op_types.specs.RoleStates.{Preparing, Leading}
 use Rattle.op_types.specs.Roles as role
@@ -19,12 +20,13 @@ use Rattle.op_types.specs.declared.log.Entry.TheVariants as entry
 use Rattle.op_types.specs.declared.messages.Body.{Body}
 use Rattle.op_types.specs.declared.messages.Body.TheVariants as body
 use Rattle.op_types.specs.declared.role.Promised.{Promised}
+use Rattle.op_types.specs.declared.runs.PromisedRun.{PromisedRun}
 use Rattle.op_runs.specs.declared.summary.Line.{Line}
 use Rattle.op_runs.specs.declared.summary.Line.TheVariants as line
 use Rattle.op_spec.specs.Machine.{IsAmong}
-use Rattle.op_protocol.specs.Parts.{pending}
+use Rattle.op_protocol.specs.Parts.{pending, sync_bodies}
 use Rattle.op_protocol.specs.Configurations.{latest_of}
-use Rattle.op_runs.specs.World.{World, Node, Up, Happening, Doing, Steps, Deed, deed_of, node_at, run_of}
+use Rattle.op_runs.specs.World.{World, Node, Up, Happening, Doing, Steps, Tells, Deed, deed_of, node_at, run_of}
 use Rattle.op_runs.specs.Run.{Execution, first_execution, execution_of}
 use Rattle.op_laws.specs.Runs.{RunInRange}
 use Rattle.op_laws.specs.Led.{IsBelowAt}
@@ -65,6 +67,35 @@ pub record Sending (w : World) (hs : List Happening) (conf i p q : ℕ) (b : Bod
   pub number : ℕ
   pub new : length (before w hs i).messages ≤ number
   pub message : IsMessage (before w hs (suc i)) number conf p q b
+
+-- at happening number i p sends q all of these messages
+abbrev pub SendsAll : World → List Happening → ℕ → ℕ → ℕ → ℕ → List Body → Type 0
+SendsAll w hs conf i p q bodies = (b : Body) → IsAmong bodies b → Sending w hs conf i p q b
+
+-- what only tells of a node
+abbrev pub IsTold : Doing → Type 0
+IsTold (Tells x) = Unit {0}
+IsTold _ = ⊥
+
+-- nothing is done at q by this deed
+abbrev pub LeavesAlone : ℕ → Option Deed → Type 0
+LeavesAlone q None = Unit {0}
+LeavesAlone q (Some d) = d.pid ≡ q → IsTold d.doing
+
+-- between happenings number i and j nothing is done at q
+abbrev pub RestsBetween : World → List Happening → ℕ → ℕ → ℕ → Type 0
+RestsBetween w hs q i j =
+    (k : ℕ) (h : Happening) → i < k → k < j → slice_get hs k ≡ Some h
+    → LeavesAlone q (deed_of (before w hs k).messages h.event.what)
+
+-- these messages from p to q are delivered one after the other, the first at happening number i
+-- and the last at happening number j, and nothing is done at q between
+abbrev pub InTurn : World → List Happening → ℕ → ℕ → ℕ → ℕ → ℕ → List Body → Type 0
+InTurn w hs conf i j p q [] = ⊥
+InTurn w hs conf i j p q (b ∷ []) = (i ≡ j) × Delivery w hs conf i p q b
+InTurn w hs conf i j p q (b ∷ (c ∷ bodies)) =
+    Delivery w hs conf i p q b × ((h : ℕ) × (i < h) × RestsBetween w hs q i h ×
+    InTurn w hs conf h j p q (c ∷ bodies))
 
 -- at happening number i the leader of a term sends q an Accept: these entries, from this start on
 abbrev pub SendsAccept : World → List Happening → ℕ → Term → ℕ → ℕ → List Entry → Type 0
@@ -206,6 +237,16 @@ IsIn place start entries = (start ≤ place) × (place < start + length entries)
 abbrev pub promise_body : Ballot → Promised → Body
 promise_body b k = body.Promise b k.accepted k.len k.decided k.start k.entries
 
+-- a run of its entries
+abbrev pub run_told : Promised → ℕ → List Entry → PromisedRun
+run_told k at run =
+    record { accepted = k.accepted; len = k.len; decided = k.decided; start = k.start; at = at; run = run }
+
+-- what brings it: itself, or its parts in order
+abbrev pub told_bodies : Ballot → Promised → List Body
+told_bodies b k =
+    whole_or_parts (promise_body b k) (λ at run. body.PromisePart b (run_told k at run)) k.start k.entries
+
 -- the five steps of a term's leader with q, where something is proposed here: each by the number of its
 -- happening
 pub record FiveSteps (w : World) (hs : List Happening) (x : Term) (q : ℕ) (at : Proposed) : Type 0 where
@@ -215,22 +256,27 @@ pub record FiveSteps (w : World) (hs : List Happening) (x : Term) (q : ℕ) (at 
   pub prepared :
       Delivery w hs x.conf prepare_at x.leader q (body.Prepare x.ballot asked.0 asked.1 asked.2)
   pub below : IsBelowAt x.ballot (node_before w hs prepare_at q)
-  -- 2. the Promise that q answered is delivered to the leader
+  -- 2. the Promise that q answered, or each PromisePart sent in its place in the order of sending, is
+  -- delivered to the leader, with no other event there between the parts: from one happening on, and up to
+  -- another
+  pub promise_from : ℕ
   pub promise_at : ℕ
   pub told : Promised
-  pub answered : Sending w hs x.conf prepare_at q x.leader (promise_body x.ballot told)
-  pub after_prepare : prepare_at < promise_at
-  pub promised : Delivery w hs x.conf promise_at q x.leader (promise_body x.ballot told)
-  -- 3. an AcceptSync that the leader sent to q on that Promise is delivered to q
+  pub answered : SendsAll w hs x.conf prepare_at q x.leader (told_bodies x.ballot told)
+  pub after_prepare : prepare_at < promise_from
+  pub promised : InTurn w hs x.conf promise_from promise_at q x.leader (told_bodies x.ballot told)
+  -- 3. an AcceptSync that the leader sent to q on that Promise, or each AcceptSyncPart sent in its place in
+  -- the order of sending, is delivered to q, with no other event there between the parts
   pub sync_sent : ℕ
+  pub sync_from : ℕ
   pub sync_at : ℕ
   pub start : ℕ
   pub rest : List Entry
-  pub on_promise : promise_at ≤ sync_sent
-  pub sent : Sending w hs x.conf sync_sent x.leader q (body.AcceptSync x.ballot start rest)
-  pub after_sending : sync_sent < sync_at
-  pub synced : Delivery w hs x.conf sync_at x.leader q (body.AcceptSync x.ballot start rest)
-  -- 4. each Accept that the leader sent to q after that AcceptSync,
+  pub on_promise : promise_from ≤ sync_sent
+  pub sent : SendsAll w hs x.conf sync_sent x.leader q (sync_bodies x.ballot start rest)
+  pub after_sending : sync_sent < sync_from
+  pub synced : InTurn w hs x.conf sync_from sync_at x.leader q (sync_bodies x.ballot start rest)
+  -- 4. each Accept that the leader sent to q after that AcceptSync (or its parts),
   -- up to a last one, is delivered to q in the order of sending
   pub last : ℕ
   pub accept_at : ℕ → ℕ
@@ -297,6 +343,7 @@ members_at (Some n) = part_members n.state.durable.part
 pub record AllAnswer (w : World) (hs : List Happening) (x : Term) (others : List ℕ) (at : Proposed) (last : ℕ)
     : Type 0 where
   pub steps : (q : ℕ) → IsOne others q → FiveSteps w hs x q at
+  pub heard : (q : ℕ) (i : IsOne others q) → (steps q i).promise_at < last
   pub by_last : (q : ℕ) (i : IsOne others q) → (steps q i).ack_at ≤ last
   pub calm : (q : ℕ) (i : IsOne others q)
       → IsCalm w hs x (x.leader ∷ []) q (steps q i).prepare_at (suc (steps q i).ack_sent)

@@ -6,10 +6,12 @@ use Rattle.op_types.specs.declared.durable.Closed.{Closed}
 use Rattle.op_types.specs.declared.durable.Joining.{Joining}
 use Rattle.op_types.specs.declared.durable.Durable.{Durable}
 use Rattle.op_types.specs.declared.log.Entry.{Entry}
+use Rattle.op_types.specs.declared.runs.Piece.{Piece}
 use Rattle.op_types.specs.declared.messages.Body.{Body}
 use Rattle.op_types.specs.declared.messages.Body.TheVariants as body
 use Rattle.op_spec.specs.Machine.{Machine, IsAmong, members_of}
-use Rattle.op_spec.specs.Stands.{BaseStands}
+use Rattle.op_spec.specs.Service.{base_bytes, service_of}
+use Rattle.op_spec.specs.Stands.{BaseStands, prefix_of}
 use Rattle.op_runs.specs.World.{Happening}
 use Rattle.op_runs.specs.Run.{Execution, first_execution, execution_of}
 use Rattle.op_laws.specs.Runs.{RunInRange}
@@ -48,12 +50,21 @@ pub record SegmentIsTrue (list : List Entry) (at : ℕ) (entries : List Entry) :
   pub within : at + length entries ≤ length list
   pub entries_are : entries ≡ take (length entries) (drop at list)
 
--- What a message of a configuration says is true: news, a base and a segment of the list before, how much its
--- sender has decided, and that every member knows what is to be trimmed.
+-- these bytes stand at their place in the base of the list's entries before a position
+pub record PieceIsTrue (lists : ℕ → List Entry) (conf : ℕ) (p : Piece) : Type 0 where
+  pub within : p.at ≤ length (lists conf)
+  pub total : p.total ≡ length (base_bytes (service_of (prefix_of lists conf p.at)))
+  pub inside : p.from + length p.bytes ≤ p.total
+  pub bytes :
+      p.bytes ≡ take (length p.bytes) (drop p.from (base_bytes (service_of (prefix_of lists conf p.at))))
+
+-- What a message of a configuration says is true: news, a base, a piece of one and a segment of the list
+-- before, how much its sender has decided, and that every member knows what is to be trimmed.
 abbrev pub BodyIsTrue : List ℕ → Machine → ℕ → ℕ → Body → Type 0
 BodyIsTrue first m from conf (body.NextConf members olds len trimmed) =
     NewsIsTrue first m.lists conf members olds len trimmed
 BodyIsTrue first m from conf (body.BasePart at bytes) = BaseStands m.lists (conf - 1) (at, bytes)
+BodyIsTrue first m from conf (body.BasePiece p) = PieceIsTrue m.lists (conf - 1) p
 BodyIsTrue first m from conf (body.Segment at entries) = SegmentIsTrue (m.lists (conf - 1)) at entries
 BodyIsTrue first m from conf (body.Decide n x) = x ≤ m.known from conf
 BodyIsTrue first m from conf (body.Progress n x) = x ≤ m.known from conf

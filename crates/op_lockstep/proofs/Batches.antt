@@ -11,7 +11,7 @@ use Rattle.op_types.specs.declared.durable.Joining.{Joining}
 use Rattle.op_types.specs.declared.durable.Part.{Part}
 use Rattle.op_types.specs.declared.events.Input.{Input}
 use Rattle.op_types.specs.declared.events.Input.TheVariants as input
-use Rattle.op_protocol.specs.State.{State, Waiting, PartStep, Planned}
+use Rattle.op_protocol.specs.State.{State, Volatile, Waiting, PartStep, Planned}
 use Rattle.op_protocol.specs.Parts.{part_after, decided_since}
 use Rattle.op_protocol.specs.Configurations.{latest_of, closing, closing_part}
 use Rattle.op_protocol.specs.Joining.{brought_to}
@@ -88,17 +88,17 @@ pub decides_nothing : (p q : Part) → q.decided ≡ p.decided → decided_since
 decides_nothing p q e = ap (λ (n : ℕ). drop (p.decided - q.trimmed) (take (n - q.trimmed) q.tail.items)) e ∙ nothing_between (p.decided - q.trimmed) q.tail.items
 
 -- ---- the plan
-pub nothing_brought : (d : Durable) (x : Input) → d.joining ≡ None → brought_by d x ≡ None
-nothing_brought d input.Tick e = refl
-nothing_brought d (input.Deliver q m) e =
-    by_test (ltb m.conf (latest_of d)) (λ (b : Bool). cond b None (brought_to d.joining m.conf m.body) ≡ None) (λ _. refl)
-    (λ _. ap (λ (o : Option Joining). brought_to o m.conf m.body) e)
-nothing_brought d (input.Commands cs) e = refl
-nothing_brought d (input.Stop ms) e = refl
-nothing_brought d input.TrimNow e = refl
-nothing_brought d (input.Read r) e = refl
-nothing_brought d (input.Up q) e = refl
-nothing_brought d (input.Down q) e = refl
+pub nothing_brought : (d : Durable) (v : Volatile) (x : Input) → d.joining ≡ None → brought_by d v x ≡ None
+nothing_brought d v input.Tick e = refl
+nothing_brought d v (input.Deliver q m) e =
+    by_test (ltb m.conf (latest_of d)) (λ (b : Bool). cond b None (brought_to d.joining v.pieces m.conf m.body) ≡ None) (λ _. refl)
+    (λ _. ap (λ (o : Option Joining). brought_to o v.pieces m.conf m.body) e)
+nothing_brought d v (input.Commands cs) e = refl
+nothing_brought d v (input.Stop ms) e = refl
+nothing_brought d v input.TrimNow e = refl
+nothing_brought d v (input.Read r) e = refl
+nothing_brought d v (input.Up q) e = refl
+nothing_brought d v (input.Down q) e = refl
 
 -- a step that leaves the log as it is and decides no stop-sign is planned as the part's row says
 pub plan_is : (me : ℕ) (s : State) (x : Input) (a : Part) (y : PartStep) → s.durable.part ≡ Some a → s.durable.joining ≡ None
@@ -108,7 +108,7 @@ plan_is me s x a y has stays is light ends =
     let ws : Waiting = waiting_at me s x in
     let pl : Planned = planned s ws y in
     let same : pl.batch ≡ y.batch = ap (λ (o : Option Part). based_batch o y.batch) has ∙ light_based a y.batch light in (
-      ap (λ o. step_bringing me s x o) (nothing_brought s.durable x stays) ∙ ap (λ (z : PartStep). plan_of me s ws z) is ∙ ap (λ (o : Option Part). closing me o pl) has
+      ap (λ o. step_bringing me s x o) (nothing_brought s.durable s.volatile x stays) ∙ ap (λ (z : PartStep). plan_of me s ws z) is ∙ ap (λ (o : Option Part). closing me o pl) has
           ∙ ap (λ (b : List Change). cond (is_some (stop_at_end (decided_since a (part_after a b)))) (closing_part me (part_after a b) pl) pl) same
           ∙ ap (λ (t : Bool). cond t (closing_part me (part_after a y.batch) pl) pl) ends,
       same,

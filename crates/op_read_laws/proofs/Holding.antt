@@ -281,6 +281,9 @@ module _ (r : Followed) where
   true_later j h q p c (body.Prepare z na nl nd) k = tt
   true_later j h q p c (body.Promise z fa fl fd a es) k = tt
   true_later j h q p c (body.AcceptSync z g es) k = tt
+  true_later j h q p c (body.PromisePart z part) k = tt
+  true_later j h q p c (body.AcceptSyncPart z part) k = tt
+  true_later j h q p c (body.BasePiece x) k = tt
   true_later j h q p c (body.Accept z a es) k = tt
   true_later j h q p c (body.Accepted z g) k = tt
   true_later j h q p c (body.Decide z g) k = tt
@@ -305,6 +308,9 @@ module _ (r : Followed) where
   plain_true j q p c (body.Prepare z na nl nd) k = tt
   plain_true j q p c (body.Promise z fa fl fd a es) k = tt
   plain_true j q p c (body.AcceptSync z g es) k = tt
+  plain_true j q p c (body.PromisePart z part) k = tt
+  plain_true j q p c (body.AcceptSyncPart z part) k = tt
+  plain_true j q p c (body.BasePiece x) k = tt
   plain_true j q p c (body.Accept z a es) k = tt
   plain_true j q p c (body.Accepted z g) k = tt
   plain_true j q p c (body.Decide z g) k = tt

@@ -102,7 +102,7 @@ module _ (r : Followed) where
   pub record Seen (j q : ℕ) (m : Node) (p : StoredPart) : Type 0 where
     pub part : Part
     pub has : (state_of r.members (ks j) q).part ≡ Some part
-    pub rel : PartRel (all_before (lists_of r.members (ks j)) part.conf) p m.state.volatile.role part
+    pub rel : PartRel (all_before (lists_of r.members (ks j)) part.conf) p m.state.volatile part
 
   pub node_rel : (j q : ℕ) (m : Node) → node_at (world_at j).nodes q ≡ Some m → (m.pid ≡ q) × NodeRel r.members (ks j) (world_at j).messages m
   node_rel j q m at = subst (IfThere (NodeRel r.members (ks j) (world_at j).messages) q) at (found (NodeRel r.members (ks j) (world_at j).messages) (world_at j).nodes ((r.track).beside j).nodes q)
@@ -111,10 +111,10 @@ module _ (r : Followed) where
   seen j q m at p has =
       let k = node_rel j q m at in
       by (state_of r.members (ks j) q).part refl
-      (subst (λ (o : Option StoredPart). IfPartRel (lists_of r.members (ks j)) o m.state.volatile.role (state_of r.members (ks j) q).part) has
-      (subst (λ (x : ℕ). IfPartRel (lists_of r.members (ks j)) m.state.durable.part m.state.volatile.role (state_of r.members (ks j) x).part) k.0 (k.1).rel.part))
+      (subst (λ (o : Option StoredPart). IfPartRel (lists_of r.members (ks j)) o m.state.volatile (state_of r.members (ks j) q).part) has
+      (subst (λ (x : ℕ). IfPartRel (lists_of r.members (ks j)) m.state.durable.part m.state.volatile (state_of r.members (ks j) x).part) k.0 (k.1).rel.part))
     where
-      by : (o : Option Part) → (state_of r.members (ks j) q).part ≡ o → IfPartRel (lists_of r.members (ks j)) (Some p) m.state.volatile.role o → Seen j q m p
+      by : (o : Option Part) → (state_of r.members (ks j) q).part ≡ o → IfPartRel (lists_of r.members (ks j)) (Some p) m.state.volatile o → Seen j q m p
       by None e x = absurd x
       by (Some pt) e x = record { part = pt; has = e; rel = x }
 

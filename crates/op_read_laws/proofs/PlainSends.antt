@@ -1,15 +1,17 @@
 -- What a step of the table sends: it asks nobody to confirm a ballot, and confirms one only to whom asks for the promise.
-use Rattle.std.proofs.Common.{◌≡◌, ℕ, ◌-◌, ◌+◌, Bool, true, false, not, cond, eqb, is_some, List, [], ◌∷◌, ◌++◌, length, flat_map, Option, Some, None, refl, subst, ◌⊎◌, inl, inr}
+use Rattle.std.proofs.Common.{◌≡◌, ℕ, zero, suc, ◌-◌, ◌+◌, Bool, true, false, not, cond, eqb, is_some, List, [], ◌∷◌, ◌++◌, length, flat_map, Option, Some, None, refl, subst, ◌⊎◌, inl, inr}
 use Rattle.std.specs.Prelude.{◌==◌, ◌&&◌, nat_lt, nat_le, nat_eq, min, ◌||◌}
 use Rattle.std.proofs.lemmas.Bool.{and_parts, eqb-true}
 use Rattle.std.specs.Set.{is_member}
 use Rattle.op_types.specs.Ballots.{is_below, is_same_ballot}
 use Rattle.op_types.specs.Changes.{len_of, part_with, durable_after, closed_by}
-use Rattle.op_types.specs.Joinings.{Base, Donors, held_run, cover_of}
-use Rattle.op_types.specs.Limits.{positions_end}
+use Rattle.op_types.specs.Cutting.{entries_size, cut, parts_from, whole_or_parts}
+use Rattle.op_types.specs.Joinings.{Base, Donors, Held, held_with, held_run, cover_of}
+use Rattle.op_types.specs.Stages.{front_from}
+use Rattle.op_types.specs.Limits.{positions_end, most_part_bytes}
 use Rattle.op_types.specs.Stops.{stop_at_end}
 use Rattle.op_types.specs.Effects.{Effects}
-use Rattle.op_types.specs.RoleStates.{Preparing, Leading, promise_of, with_promise, with_acknowledged, with_report, without_reports}
+use Rattle.op_types.specs.RoleStates.{Preparing, Leading, promise_of, with_promise, without_stage, told_by, promised_entries, staged_with, with_acknowledged, with_report, without_reports}
 use Rattle.op_types.specs.Roles as role
 use Rattle.op_types.specs.Roles.{Role}
 use Rattle.op_types.specs.declared.answers.Refusal.{Refusal}
@@ -28,18 +30,20 @@ use Rattle.op_types.specs.declared.messages.Body.{Body}
 use Rattle.op_types.specs.declared.messages.Body.TheVariants as body
 use Rattle.op_types.specs.declared.messages.Msg.{Msg}
 use Rattle.op_types.specs.declared.role.Promised.{Promised}
+use Rattle.op_types.specs.declared.runs.PromisedRun.{PromisedRun}
+use Rattle.op_types.specs.declared.runs.SyncRun.{SyncRun}
 use Rattle.op_types.specs.declared.verdict.Verdict.{Verdict}
 use Rattle.op_types.specs.declared.verdict.Verdict.TheVariants as verdict
 use Rattle.op_protocol.specs.State.{State, Volatile, PartStep, Planned, with_effects}
 use Rattle.op_protocol.specs.Election.{round_end}
-use Rattle.op_protocol.specs.Parts.{pending, is_admitted_body, part_after, part_in_round, decided_since, others, message, to_each, prepare_body, saying, nothing, first}
+use Rattle.op_protocol.specs.Parts.{log_from, pending, is_run_to, is_admitted_body, part_after, part_in_round, appending, decided_since, others, message, messages, sync_run, sync_bodies, promised_run, promise_bodies, to_each, prepare_body, saying, nothing, first}
 use Rattle.op_protocol.specs.Promises.{has_quorum, is_usable, Choice, chosen_log}
-use Rattle.op_protocol.specs.Leader.{counted, count, decides, decided_again, synced_others, sync_start, sync_sends, sends_by, first_leading, leading_with, adopt_with, adopt, prepares, lead, on_promise, on_accepted, on_prepare_req, extends, forward_body, on_forward_leading, on_forward, session_down, propose}
-use Rattle.op_protocol.specs.Follower.{suffix_start, promise_body, promise_higher, on_prepare, accepts, added_changes, accept_entries, on_accept, synced_changes, sync_entries, on_accept_sync, on_decide}
+use Rattle.op_protocol.specs.Leader.{counted, count, decides, decided_again, synced_others, sync_start, sync_sends, sends_by, first_leading, leading_with, adopt_with, adopt, prepares, first_preparing, lead, on_promise, promised_once, on_promise_part, on_accepted, on_prepare_req, extends, forward_body, on_forward_leading, on_forward, session_down, propose}
+use Rattle.op_protocol.specs.Follower.{suffix_start, promise_higher, on_prepare, accepts, added_changes, accept_entries, on_accept, synced_changes, sync_entries, on_accept_sync, synced_once, on_first_part, accept_front, appended_staged, on_later_part, on_accept_sync_part, on_decide}
 use Rattle.op_protocol.specs.Tick.{candidate_of, next_round_state, requests, remembering, with_floor_at, only_asks, elected, by_verdict}
 use Rattle.op_protocol.specs.Trimming.{least_reported, trims, trims_reported, trims_if_all, trim_now, on_progress, on_trim_ask, on_trim}
 use Rattle.op_protocol.specs.Configurations.{latest_of, latest_members, next_conf_message, new_members, next_conf_body, closing_part, closing}
-use Rattle.op_protocol.specs.Joining.{storing, joins, asks_with, part_start, ask_segment, ask_parts, base_donor, gives_base, gives_segment, is_within, goes_on_if, holding}
+use Rattle.op_protocol.specs.Joining.{storing, storing_news, joins, takes_piece, on_base_piece, base_pieces, piece_count, base_bodies, closed_entries, asks_with, part_start, ask_segment, ask_parts, base_donor, gives_base, gives_segment, is_within, goes_on_if, holding}
 use Rattle.op_protocol.specs.Rows.{on_body, message_at, is_of_joining, is_prepare_req, may_be_above, on_older, on_newer, on_latest, message_step, brought_by, refusal_of, stop_for, entries_of, proposal_at, tick_at, trim_at, up_at, step_at, waiting_at, planned, step_bringing, table_plan}
 use Rattle.op_protocol.specs.Starting.{requests_to_prepare, sends_after_restart}
 use Rattle.op_refinement.proofs.View.{Each, Each-append}
@@ -62,6 +66,31 @@ each_plain conf (q ∷ qs) b k = (k, each_plain conf qs b k)
 both_plain : (xs ys : List (ℕ × Msg)) → ArePlain xs → ArePlain ys → ArePlain (xs ++ ys)
 both_plain xs ys k l = Each-append (λ s. IsPlain (s.1).body) xs ys k l
 
+-- ---- long messages
+
+runs_plain : (part : ℕ → List Entry → Body) → ((at : ℕ) (run : List Entry) → IsPlain (part at run)) → (conf q at : ℕ) (runs : List (List Entry)) → ArePlain (messages conf q (parts_from part at runs))
+runs_plain part each conf q at [] = tt
+runs_plain part each conf q at (run ∷ runs) = (each at run, runs_plain part each conf q (at + length run) runs)
+
+whole_plain : (whole : Body) (part : ℕ → List Entry → Body) → IsPlain whole → ((at : ℕ) (run : List Entry) → IsPlain (part at run)) → (conf q at : ℕ) (es : List Entry) → ArePlain (messages conf q (whole_or_parts whole part at es))
+whole_plain whole part k each conf q at es =
+    either (λ bodies. ArePlain (messages conf q bodies)) (nat_le (entries_size es) most_part_bytes) (whole ∷ []) (parts_from part at (cut es)) (k, tt) (runs_plain part each conf q at (cut es))
+
+syncs_in_parts : (conf q : ℕ) (n : Ballot) (start : ℕ) (es : List Entry) → ArePlain (messages conf q (sync_bodies n start es))
+syncs_in_parts conf q n start es = whole_plain (body.AcceptSync n start es) (λ at run. body.AcceptSyncPart n (sync_run start es at run)) tt (λ at run. tt) conf q start es
+
+promises_in_parts : (p : Part) (q : ℕ) (n : Ballot) (start : ℕ) → ArePlain (messages p.conf q (promise_bodies p n start))
+promises_in_parts p q n start =
+    whole_plain (body.Promise n p.accepted (len_of p) p.decided start (log_from p start)) (λ at run. body.PromisePart n (promised_run p start at run)) tt (λ at run. tt) p.conf q start (log_from p start)
+
+pieces_plain : (conf q at : ℕ) (bytes : List ℕ) (from count : ℕ) → ArePlain (messages conf q (base_pieces at bytes from count))
+pieces_plain conf q at bytes from zero = tt
+pieces_plain conf q at bytes from (suc count) = (tt, pieces_plain conf q at bytes (from + most_part_bytes) count)
+
+bases_plain : (conf q at : ℕ) (bytes : List ℕ) → ArePlain (messages conf q (base_bodies at bytes))
+bases_plain conf q at bytes =
+    either (λ bodies. ArePlain (messages conf q bodies)) (nat_le (length bytes) most_part_bytes) (body.BasePart at bytes ∷ []) (base_pieces at bytes 0 (piece_count (length bytes))) (tt, tt) (pieces_plain conf q at bytes 0 (piece_count (length bytes)))
+
 -- ---- rows
 
 -- the effects send nothing else
@@ -74,7 +103,9 @@ count_plain me p len l otherwise k =
     either Plain (nat_lt p.decided x) (decides me p l x) (saying (role.Leading l) otherwise) (each_plain p.conf (synced_others me p.members l) (body.Decide l.ballot x) tt) k
 
 sync_plain : (p : Part) (l : Leading) (k : Promised) → ArePlain (sync_sends p l k)
-sync_plain p l k = either ArePlain (nat_lt (sync_start l k) p.trimmed) _ _ (tt, tt) (either ArePlain (nat_le (sync_start l k) (len_of p)) _ _ (tt, tt) tt)
+sync_plain p l k =
+    either ArePlain (nat_lt (sync_start l k) p.trimmed) _ _ (tt, tt)
+    (either ArePlain (nat_le (sync_start l k) (len_of p)) _ _ (syncs_in_parts p.conf k.from l.ballot (sync_start l k) (log_from p (sync_start l k))) tt)
 
 by_plain : (p : Part) (l : Leading) (o : Option Promised) → ArePlain (sends_by p l o)
 by_plain p l None = tt
@@ -96,12 +127,24 @@ preparing_plain me p r = either Plain (has_quorum me p.members r.promises) (adop
 leading_plain : (me : ℕ) (p : Part) (r : Role) (n : Ballot) → Plain (lead me p r n)
 leading_plain me p r n =
     both_plain (to_each p.conf (others me p.members) (prepare_body p n)) _ (each_plain p.conf (others me p.members) (prepare_body p n) tt)
-    (preparing_plain me (part_with p (change.Promise n)) (record { ballot = n; promises = []; buffer = [] }))
+    (preparing_plain me (part_with p (change.Promise n)) (first_preparing n))
 
 promise_plain : (me : ℕ) (p : Part) (r : Role) (n : Ballot) (k : Promised) → Plain (on_promise me p r n k)
 promise_plain me p role.Idle n k = tt
 promise_plain me p (role.Preparing r) n k = either Plain (is_same_ballot n r.ballot && is_usable p k) (prepares me p (with_promise r k)) (nothing (role.Preparing r)) (preparing_plain me p (with_promise r k)) tt
 promise_plain me p (role.Leading l) n k = either Plain (is_same_ballot n l.ballot) (saying _ (sync_sends p l k)) (nothing (role.Leading l)) (sync_plain p l k) tt
+
+once_plain : (me : ℕ) (p : Part) (r : Preparing) (q : ℕ) (part : PromisedRun) (held : Held) (o : Option (List Entry)) → Plain (promised_once me p r q part held o)
+once_plain me p r q part held None = tt
+once_plain me p r q part held (Some es) = promise_plain me p (role.Preparing (without_stage r q)) r.ballot (told_by q part es)
+
+promise_part_plain : (me : ℕ) (p : Part) (r : Role) (q : ℕ) (n : Ballot) (part : PromisedRun) → Plain (on_promise_part me p r q n part)
+promise_part_plain me p role.Idle q n part = tt
+promise_part_plain me p (role.Preparing r) q n part =
+    either Plain (is_same_ballot n r.ballot && (nat_le part.start part.at && is_run_to part.len part.at part.run)) (promised_once me p r q part (staged_with r q part) (promised_entries part (staged_with r q part))) (nothing (role.Preparing r))
+    (once_plain me p r q part (staged_with r q part) (promised_entries part (staged_with r q part))) tt
+promise_part_plain me p (role.Leading l) q n part =
+    either Plain (part.at + length part.run == part.len) (on_promise me p (role.Leading l) n (told_by q part [])) (nothing (role.Leading l)) (promise_plain me p (role.Leading l) n (told_by q part [])) tt
 
 accepted_plain : (me : ℕ) (p : Part) (r : Role) (q : ℕ) (n : Ballot) (x : ℕ) → Plain (on_accepted me p r q n x)
 accepted_plain me p role.Idle q n x = tt
@@ -148,20 +191,23 @@ session_plain (role.Leading l) q = tt
 prepare_plain : (p : Part) (r : Role) (q : ℕ) (n na : Ballot) (nl nd : ℕ) → Plain (on_prepare p r q n na nl nd)
 prepare_plain p r q n na nl nd =
     let s = suffix_start p na nl nd in
-    let promised = first [] (message p.conf q (promise_body p n s) ∷ []) [] (promise_higher p r n) in
+    let promised = first [] (messages p.conf q (promise_bodies p n s)) [] (promise_higher p r n) in
     let higher : Plain (promise_higher p r n) = either Plain (is_below p.promised n) _ (nothing r) tt tt in
     either Plain (is_below n p.promised) (saying r (message p.conf q (body.Refuse n p.promised) ∷ [])) (cond (nat_lt s p.trimmed) (nothing r) promised) (tt, tt)
-    (either Plain (nat_lt s p.trimmed) (nothing r) promised tt (tt, higher))
+    (either Plain (nat_lt s p.trimmed) (nothing r) promised tt (both_plain (messages p.conf q (promise_bodies p n s)) _ (promises_in_parts p q n s) higher))
 
 accept_plain : (p : Part) (r : Role) (q : ℕ) (n : Ballot) (at : ℕ) (entries : List Entry) → Plain (on_accept p r q n at entries)
 accept_plain p r q n at entries =
     either Plain (is_same_ballot p.promised n && is_same_ballot p.accepted n) (accept_entries p r q n at entries) (nothing r)
     (either Plain (nat_lt (len_of p) at) (saying r (message p.conf q body.PrepareReq ∷ [])) (accepts p r q n (added_changes p at entries)) (tt, tt) (tt, tt)) tt
 
+synced_plain : (p : Part) (r : Role) (q : ℕ) (n : Ballot) (x : ℕ) (entries : List Entry) → Plain (sync_entries p r q n x entries)
+synced_plain p r q n x entries = either Plain (nat_le p.decided x && nat_le x (len_of p)) (accepts p r q n (synced_changes p n x entries)) (nothing r) (tt, tt) tt
+
 syncing_plain : (p : Part) (r : Role) (q : ℕ) (n : Ballot) (x : ℕ) (entries : List Entry) → Plain (on_accept_sync p r q n x entries)
 syncing_plain p r q n x entries =
     either Plain (is_same_ballot p.promised n && is_below p.accepted n) (sync_entries p r q n x entries) (on_accept p r q n x entries)
-    (either Plain (nat_le p.decided x && nat_le x (len_of p)) (accepts p r q n (synced_changes p n x entries)) (nothing r) (tt, tt) tt) (accept_plain p r q n x entries)
+    (synced_plain p r q n x entries) (accept_plain p r q n x entries)
 
 decide_plain : (p : Part) (r : Role) (n : Ballot) (x : ℕ) → Plain (on_decide p r n x)
 decide_plain p r n x =
@@ -204,12 +250,34 @@ trim_plain p r x = either Plain (nat_lt p.trimmed x && nat_le x p.decided) (firs
 abbrev StepIsPlain : PartStep → Type 0
 StepIsPlain x = ArePlain x.sends
 
+synced_once_plain : (p : Part) (v : Volatile) (q : ℕ) (n : Ballot) (x : ℕ) (held : Held) (o : Option (List Entry)) → StepIsPlain (synced_once p v q n x held o)
+synced_once_plain p v q n x held None = tt
+synced_once_plain p v q n x held (Some es) = synced_plain p v.role q n x es
+
+front_plain : (p : Part) (r : Role) (q : ℕ) (n : Ballot) (at : ℕ) (es : List Entry) → Plain (accept_front p r q n at es)
+front_plain p r q n at es =
+    let len : ℕ = len_of (part_after p (appending es)) in
+    (either IsPlain (nat_lt len at) body.PrepareReq (body.Accepted n len) tt tt, tt)
+
+sync_part_plain : (p : Part) (v : Volatile) (q : ℕ) (n : Ballot) (part : SyncRun) → StepIsPlain (on_accept_sync_part p v q n part)
+sync_part_plain p v q n part =
+    let held : Held = held_with v.staged part.at part.run in
+    either StepIsPlain (is_same_ballot p.promised n && is_below p.accepted n) (on_first_part p v q n part) (on_later_part p v q n part)
+    (either StepIsPlain ((nat_le p.decided part.start && nat_le part.start (len_of p)) && (nat_le part.start part.at && is_run_to part.end part.at part.run))
+    (synced_once p v q n part.start held (held_run held part.start (part.end - part.start))) (with_effects v (nothing v.role))
+    (synced_once_plain p v q n part.start held (held_run held part.start (part.end - part.start))) tt)
+    (either StepIsPlain (is_same_ballot p.promised n && (is_same_ballot p.accepted n && is_run_to part.end part.at part.run)) (appended_staged p v q n part.at held) (with_effects v (nothing v.role))
+    (front_plain p v.role q n part.at (front_from held (len_of p))) tt)
+
 body_plain : (me : ℕ) (p : Part) (v : Volatile) (q : ℕ) (b : Body) → IsPlain b → StepIsPlain (on_body me p v q b)
 body_plain me p v q (body.HeartbeatRequest round) k = (tt, tt)
 body_plain me p v q (body.HeartbeatReply round b flag) k = tt
 body_plain me p v q (body.Prepare n na nl nd) k = prepare_plain p v.role q n na nl nd
 body_plain me p v q (body.Promise n fa fl fd s entries) k = promise_plain me p v.role n (record { from = q; accepted = fa; len = fl; decided = fd; start = s; entries = entries })
 body_plain me p v q (body.AcceptSync n x entries) k = syncing_plain p v.role q n x entries
+body_plain me p v q (body.PromisePart n part) k = promise_part_plain me p v.role q n part
+body_plain me p v q (body.AcceptSyncPart n part) k = sync_part_plain p v q n part
+body_plain me p v q (body.BasePiece x) k = tt
 body_plain me p v q (body.Accept n at entries) k = accept_plain p v.role q n at entries
 body_plain me p v q (body.Accepted n x) k = accepted_plain me p v.role q n x
 body_plain me p v q (body.Decide n x) k = decide_plain p v.role n x
@@ -267,6 +335,9 @@ module _ (me : ℕ) (d : Durable) (v : Volatile) (q : ℕ) where
   body_replies p has m here (body.Prepare n na nl nd) says = plain_answers d q m _ (body_plain me p v q (body.Prepare n na nl nd) tt)
   body_replies p has m here (body.Promise n fa fl fd s es) says = plain_answers d q m _ (body_plain me p v q (body.Promise n fa fl fd s es) tt)
   body_replies p has m here (body.AcceptSync n x es) says = plain_answers d q m _ (body_plain me p v q (body.AcceptSync n x es) tt)
+  body_replies p has m here (body.PromisePart n part) says = plain_answers d q m _ (body_plain me p v q (body.PromisePart n part) tt)
+  body_replies p has m here (body.AcceptSyncPart n part) says = plain_answers d q m _ (body_plain me p v q (body.AcceptSyncPart n part) tt)
+  body_replies p has m here (body.BasePiece x) says = tt
   body_replies p has m here (body.Accept n at es) says = plain_answers d q m _ (body_plain me p v q (body.Accept n at es) tt)
   body_replies p has m here (body.Accepted n x) says = plain_answers d q m _ (body_plain me p v q (body.Accepted n x) tt)
   body_replies p has m here (body.Decide n x) says = plain_answers d q m _ (body_plain me p v q (body.Decide n x) tt)
@@ -296,22 +367,30 @@ module _ (me : ℕ) (d : Durable) (v : Volatile) (q : ℕ) where
 
   latest_replies : (m : Msg) (b : Body) → m.body ≡ b → Replies m (on_latest me d v q m.conf b)
   latest_replies m (body.NextConf members olds len trimmed) says =
-      either (Replies m) (is_member nat_eq members me && nat_lt (latest_of d) m.conf) (storing v (joins d.joining q m.conf members olds len trimmed)) (storing v []) tt tt
+      either (Replies m) (is_member nat_eq members me && nat_lt (latest_of d) m.conf) (storing_news v (joins d.joining q m.conf members olds len trimmed)) (storing v []) tt tt
   latest_replies m body.AskBase says = plain_answers d q m _ (base_plain d.closed)
     where
       base_plain : (o : Option Closed) → ArePlain (gives_base o q m.conf)
       base_plain None = tt
-      base_plain (Some l) = either ArePlain (l.conf + 1 == m.conf) _ [] (tt, tt) tt
+      base_plain (Some l) = either ArePlain (l.conf + 1 == m.conf) _ [] (bases_plain m.conf q l.trimmed l.base) tt
   latest_replies m (body.AskSegment from to) says = plain_answers d q m _ (segment_plain d.closed)
     where
       segment_plain : (o : Option Closed) → ArePlain (gives_segment o q m.conf from to)
       segment_plain None = tt
-      segment_plain (Some l) = either ArePlain (l.conf + 1 == m.conf && is_within l from to) _ [] (tt, tt) tt
+      segment_plain (Some l) =
+          either ArePlain (l.conf + 1 == m.conf && is_within l from to) _ [] (runs_plain (λ at run. body.Segment at run) (λ at run. tt) m.conf q from (cut (closed_entries l from to))) tt
   latest_replies m (body.HeartbeatRequest r) says = of_body m (body.HeartbeatRequest r) says
   latest_replies m (body.HeartbeatReply r z g) says = of_body m (body.HeartbeatReply r z g) says
   latest_replies m (body.Prepare z na nl nd) says = of_body m (body.Prepare z na nl nd) says
   latest_replies m (body.Promise z fa fl fd a es) says = of_body m (body.Promise z fa fl fd a es) says
   latest_replies m (body.AcceptSync z g es) says = of_body m (body.AcceptSync z g es) says
+  latest_replies m (body.PromisePart z part) says = of_body m (body.PromisePart z part) says
+  latest_replies m (body.AcceptSyncPart z part) says = of_body m (body.AcceptSyncPart z part) says
+  latest_replies m (body.BasePiece x) says = piece_plain d.joining
+    where
+      piece_plain : (o : Option Joining) → Replies m (on_base_piece o v m.conf x)
+      piece_plain None = tt
+      piece_plain (Some j) = either (Replies m) (takes_piece j m.conf x) _ _ tt tt
   latest_replies m (body.Accept z a es) says = of_body m (body.Accept z a es) says
   latest_replies m (body.Accepted z g) says = of_body m (body.Accepted z g) says
   latest_replies m (body.Decide z g) says = of_body m (body.Decide z g) says
@@ -449,7 +528,7 @@ module _ (me : ℕ) (s : State) (x : Input) where
 
   -- each step but for its reads
   pub table_says : Says s.durable x (table_plan me s x).sends
-  table_says = bringing_says (brought_by s.durable x)
+  table_says = bringing_says (brought_by s.durable s.volatile x)
 
 -- an opening asks to be prepared alone
 pub opening_plain : (me : ℕ) (d : Durable) → ArePlain (sends_after_restart me d)

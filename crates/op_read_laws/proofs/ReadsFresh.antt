@@ -20,7 +20,7 @@ use Rattle.op_runs.specs.World.{World, Node, node_at, first_node, node_ids}
 use Rattle.op_runs.specs.Run.{Execution, first_execution, execution_of, ServesDecided}
 use Rattle.op_runs.specs.Fresh.{ReadAt, stepping, Comes, reads_of_leader, IsAnswered, IsFresh, CameFresh}
 use Rattle.op_paxos.specs.Nodes.{majority_passes}
-use Rattle.op_paxos.proofs.Buffers.{get_taken}
+use Rattle.op_types.proofs.Elements.{get_taken}
 use Rattle.op_configurations.specs.Servers.{Part as Member}
 use Rattle.op_configurations.specs.Worlds.{machine_of}
 use Rattle.op_refinement.proofs.Pure as pure
