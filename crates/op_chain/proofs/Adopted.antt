@@ -5,7 +5,6 @@ use Rattle.std.proofs.lemmas.Bool.{cases_Bool}
 use Rattle.op_types.specs.Changes.{durable_after}
 use Rattle.op_types.specs.Roomed.{Roomed}
 use Rattle.op_types.specs.Rooms.{no_needs, with_room}
-use Rattle.op_types.specs.Roles.{Role, role_of}
 use Rattle.op_types.specs.declared.answers.Reply.{Reply}
 use Rattle.op_types.specs.declared.durable.Durable.{Durable}
 use Rattle.op_types.specs.declared.durable.Part.{Part}
@@ -14,7 +13,7 @@ use Rattle.op_protocol.specs.State as step
 use Rattle.op_protocol.specs.State.{State, Planned, Waiting}
 use Rattle.op_protocol.specs.Serving.{Dropping, dropping, dropping_reply, is_of_stop, waits}
 use Rattle.op_kv.specs.Over.{service_over}
-use Rattle.op_instance.specs.Memory.{volatile_of, turned_in}
+use Rattle.op_instance.specs.Memory.{volatile_of, adopted_in}
 use Rattle.op_instance.specs.Sound.{IfSound, IsSoundNode, AreOfOneConf, IfNodeOf, IsNode}
 use Rattle.op_instance.specs.declared.volatile.Volatile.{Volatile}
 use Rattle.op_chain.specs.Answering.{dropped_of, giving_reply, giving}
@@ -74,14 +73,15 @@ renewed_is (Some r) kept x same = refl
 
 -- ---- the memory of a node stays that of what it stores
 
-part_node : (me : ℕ) (o q : Option Part) (v w : Volatile) → IfNodeOf me o v → IfSound q (role_of w.role) → AreOfOneConf q o → w.election.me ≡ v.election.me → w.election.members ≡ v.election.members → w.rounds.me ≡ v.rounds.me → w.rounds.members ≡ v.rounds.members
+part_node : (me : ℕ) (o q : Option Part) (v w : Volatile) → IfNodeOf me o v → IfSound q (volatile_of w) → AreOfOneConf q o → w.election.me ≡ v.election.me → w.election.members ≡ v.election.members → w.rounds.me ≡ v.rounds.me → w.rounds.members ≡ v.rounds.members
     → IfNodeOf me q w
 part_node me None None v w node sound same a b c d = tt
 part_node me None (Some q) v w node sound same a b c d = absurd same
 part_node me (Some p) None v w node sound same a b c d = tt
 part_node me (Some p) (Some q) v w node sound same a b c d =
     record {
-      sound = sound;
+      sound = sound.sound;
+      staged = sound.staged;
       kept = record { elector = a ∙ node.kept.elector; electors = b ∙ node.kept.electors ∙ ap length (sym same.1); listener = c ∙ node.kept.listener; members = d ∙ node.kept.members ∙ sym same.1 };
     }
 
@@ -91,7 +91,7 @@ part_node me (Some p) (Some q) v w node sound same a b c d =
 pub record Made (old : Chain) (plan : ChainPlan) (kept : Volatile) (new : Chain) (g : Given) : Type 0 where
   pub me : new.me ≡ old.me
   pub durable : new.durable ≡ with_room no_needs (durable_after old.durable plan.plan.batch)
-  pub turned : volatile_of kept ≡ turned_in plan.plan.turn (volatile_of old.volatile)
+  pub turned : volatile_of kept ≡ adopted_in plan.plan.batch plan.plan.turn (volatile_of old.volatile)
   pub elector : kept.election.me ≡ old.volatile.election.me
   pub electors : kept.election.members ≡ old.volatile.election.members
   pub listener : kept.rounds.me ≡ old.volatile.rounds.me
@@ -128,9 +128,8 @@ module _ (old new : Chain) (plan : ChainPlan) (kept : Volatile) (g : Given) (k :
 
   node_by : (o : Option Renewal) → LeavesWith old.me (state_of old).durable plan.plan o old.volatile → IsNode old.me left (volatile_anew o kept)
   node_by None row =
-      let role : (turned_in plan.plan.turn (volatile_of old.volatile)).role ≡ role_of kept.role = ap (λ (v : step.Volatile). v.role) (sym k.turned) in
       let before : IsNode old.me (state_of old).durable old.volatile = node_room no_needs old.me old.durable old.volatile sound.node in
-      let after : IsSoundNode old.me left (role_of kept.role) = subst (λ (r : Role). IsSoundNode old.me left r) role row.step.sound in
+      let after : IsSoundNode old.me left (volatile_of kept) = subst (λ (v : step.Volatile). IsSoundNode old.me left v) (sym k.turned) row.step.sound in
       record {
         part = part_node old.me (state_of old).durable.part left.part old.volatile kept before.part after.part row.step.same k.elector k.electors k.listener k.members;
         closed = after.closed;
@@ -155,7 +154,7 @@ module _ (old new : Chain) (plan : ChainPlan) (kept : Volatile) (g : Given) (k :
       let e = giving d.waiting plan.replies in
       record {
         batch = plan.plan.batch;
-        volatile = turned_in plan.plan.turn (volatile_of old.volatile);
+        volatile = adopted_in plan.plan.batch plan.plan.turn (volatile_of old.volatile);
         service = service_over old.service.service plan.service;
         waiting = e.waiting;
         reads = None;

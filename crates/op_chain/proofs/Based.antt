@@ -5,7 +5,6 @@ use Rattle.std.proofs.lemmas.List.Elements.{All-nil, All-cons, All-head, All-tai
 use Rattle.op_types.specs.Limits.{positions_end}
 use Rattle.op_types.specs.Changes.{part_with, part_option_with, PartOptionApplies, ChangeApplies, Applies, joining_with, joining_option_with, durable_joined, durable_with, durable_after}
 use Rattle.op_types.specs.Joinings.{Base, cover_of}
-use Rattle.op_types.specs.Roles.{Role}
 use Rattle.op_types.specs.declared.changes.Change.{Change}
 use Rattle.op_types.specs.declared.changes.Change.TheVariants as change
 use Rattle.op_types.specs.declared.durable.Closed.{Closed}
@@ -15,7 +14,7 @@ use Rattle.op_types.specs.declared.durable.Part.{Part}
 use Rattle.op_types.specs.declared.log.Entry.{Entry}
 use Rattle.op_record.specs.Ranges.{ChangeInRange}
 use Rattle.op_spec.specs.Service.{base_bytes}
-use Rattle.op_protocol.specs.State.{PartStep}
+use Rattle.op_protocol.specs.State.{Volatile, PartStep}
 use Rattle.op_protocol.specs.Bases.{service_at}
 use Rattle.op_protocol.specs.Rows.{based, based_batch}
 use Rattle.op_protocol.proofs.Based.{with_base}
@@ -205,19 +204,20 @@ rebases p d x (c ∷ batch) inside all =
       leaves = ap (λ (e : Durable). durable_after e (map (based p) batch)) one.1 ∙ rest.leaves;
     }
 
-sound_rebased : (me : ℕ) (o : Option Part) (k : Option Closed) (j : Option Joining) (x : List ℕ) (r : Role) → IsSoundNode me (of_parts o k j) r → IsSoundNode me (rebased (of_parts o k j) x) r
-sound_rebased me None k j x r sound = record { part = tt; closed = sound.closed; joining = sound.joining }
-sound_rebased me (Some p) k j x r sound =
-    let s : IsSound p r = sound.part in
-    let t : IsSound (with_base p x) r = record {
+sound_rebased : (me : ℕ) (o : Option Part) (k : Option Closed) (j : Option Joining) (x : List ℕ) (v : Volatile) → IsSoundNode me (of_parts o k j) v → IsSoundNode me (rebased (of_parts o k j) x) v
+sound_rebased me None k j x v sound = record { part = tt; closed = sound.closed; joining = sound.joining }
+sound_rebased me (Some p) k j x v sound =
+    let s : IsSound p v.role = sound.part.sound in
+    let t : IsSound (with_base p x) v.role = record {
       conf = s.conf;
       positions = record { trimmed = s.positions.trimmed; decided = s.positions.decided; small = s.positions.small };
       members = s.members;
       log = s.log;
       promises = s.promises;
       stops = s.stops;
+      stages = s.stages;
     } in
-    record { part = t; closed = sound.closed; joining = sound.joining }
+    record { part = record { sound = t; staged = sound.part.staged }; closed = sound.closed; joining = sound.joining }
 
 same_rebased : (o q : Option Part) (x : List ℕ) → AreOfOneConf o q → AreOfOneConf (part_rebased o x) q
 same_rebased None None x same = tt
@@ -232,7 +232,7 @@ part_step me p k j y sound inside =
     let is : Rebases p d p.base y.batch = rebases p d p.base y.batch inside sound.applies in
     record {
       applies = is.applies;
-      sound = subst (λ (z : Durable). IsSoundNode me z y.volatile.role) (sym is.leaves) (sound_rebased me e.part e.closed e.joining is.base y.volatile.role sound.sound);
+      sound = subst (λ (z : Durable). IsSoundNode me z y.volatile) (sym is.leaves) (sound_rebased me e.part e.closed e.joining is.base y.volatile sound.sound);
       same = subst (λ (z : Durable). AreOfOneConf z.part (Some p)) (sym is.leaves) (same_rebased e.part (Some p) is.base sound.same);
     }
 

@@ -8,6 +8,7 @@ use Rattle.std.proofs.lemmas.List.{length-take}
 use Rattle.std.proofs.lemmas.List.Elements.{All-nil}
 use Rattle.op_types.specs.Ballots.{no_ballot}
 use Rattle.op_types.specs.Limits.{positions_end, last_conf}
+use Rattle.op_types.specs.Joinings.{Held}
 use Rattle.op_types.specs.Ranges.{IsMember}
 use Rattle.op_types.specs.Stops.{stop_at_end, named_by}
 use Rattle.op_types.specs.Changes.{IsCommand, IsEnded, len_of, new_part, closed_len, closed_by, decided_tail, part_after_closed, durable_closing, durable_after, PartOptionApplies, Applies}
@@ -15,6 +16,7 @@ use Rattle.op_types.specs.Roles.{Role, Idle, role_of, turned}
 use Rattle.op_types.specs.declared.answers.Cause.TheVariants as cause
 use Rattle.op_types.specs.declared.changes.Change.{Change}
 use Rattle.op_types.specs.declared.changes.Change.TheVariants as change
+use Rattle.op_types.specs.declared.log.Entry.{Entry}
 use Rattle.op_types.specs.declared.durable.Durable.{Durable}
 use Rattle.op_types.specs.declared.durable.Part.{Part}
 use Rattle.op_types.specs.declared.log.StopSign.{StopSign}
@@ -32,7 +34,8 @@ use Rattle.op_protocol.proofs.Plans as plans
 use Rattle.op_protocol.proofs.StepBatches.{IsInside, inside_after}
 use Rattle.op_kv.specs.Over.{MapState}
 use Rattle.op_plans.specs.Positions.{FitsPositions}
-use Rattle.op_instance.specs.Sound.{IsSound, IfSound, IsSoundStep, ListFits, IsNodeOf, IfNodeOf, IsNode}
+use Rattle.op_follower.specs.Staging.{StagedIsAdmitted}
+use Rattle.op_instance.specs.Sound.{IsSound, IsSoundPart, IfSound, IsSoundStep, ListFits, IsNodeOf, IfNodeOf, IsNode}
 use Rattle.op_instance.specs.declared.volatile.Volatile.{Volatile}
 use Rattle.op_instance.proofs.Batches.{conf_after}
 use Rattle.op_instance.proofs.Batches.{after_both as parts_after_both}
@@ -59,7 +62,14 @@ new_part_sound conf me members base number named =
       log = λ last. All-nil IsCommand;
       promises = tt;
       stops = tt;
+      stages = tt;
     }
+
+-- nothing is staged
+pub none_staged : (conf : ℕ) (staged : Held) → staged ≡ [] → StagedIsAdmitted conf staged
+none_staged conf staged is =
+    let none : StagedIsAdmitted conf [] = record { small = tt; stops = λ last. All-nil (λ (x : ℕ × Entry). IsCommand x.1) } in
+    subst (λ (h : Held). StagedIsAdmitted conf h) (sym is) none
 
 -- what a member of it keeps in memory
 pub new_node : (conf me : ℕ) (members base : List ℕ) (v : Volatile) → conf ≤ last_conf → IsMember members me → BeginsAnew me members v → IsNodeOf me (new_part conf members base) v
@@ -67,6 +77,7 @@ new_node conf me members base v number named anew =
     let idle : role_of v.role ≡ Idle = ap (λ (w : step.Volatile). w.role) anew.first in
     record {
       sound = subst (λ (r : Role). IsSound (new_part conf members base) r) (sym idle) (new_part_sound conf me members base number named);
+      staged = none_staged conf v.staged.items (ap (λ (w : step.Volatile). w.staged) anew.first);
       kept = anew.kept named (new_part conf members base) refl;
     }
 
@@ -115,8 +126,11 @@ module _ (me : ℕ) (d : Durable) (p : Part) (y : PartStep) (is : d.part ≡ Som
   leaves : (durable_after d y.batch).part ≡ Some left
   leaves = inside_after d p y.batch inside is
 
+  left_part : IsSoundPart left y.volatile
+  left_part = subst (λ (o : Option Part). IfSound o y.volatile) leaves sound.sound.part
+
   left_sound : IsSound left y.volatile.role
-  left_sound = subst (λ (o : Option Part). IfSound o y.volatile.role) leaves sound.sound.part
+  left_sound = left_part.sound
 
   left_ended : is_some (stop_at_end (decided_since p left)) ≡ true → IsEnded left
   left_ended ends = ended p left left_sound.log left_sound.conf ends

@@ -6,7 +6,6 @@ use Rattle.op_types.specs.Ballots.{no_ballot}
 use Rattle.op_types.specs.Limits.{last_conf}
 use Rattle.op_types.specs.Changes.{closed_len, part_with, closed_joined, joining_with, durable_joined, durable_with, durable_after, Applies}
 use Rattle.op_types.specs.Joinings.{Held, Base, held_at, with_first, held_run, cover_of}
-use Rattle.op_types.specs.Roles.{Role}
 use Rattle.op_types.specs.declared.answers.Cause.{Cause}
 use Rattle.op_types.specs.declared.answers.Cause.TheVariants as cause
 use Rattle.op_types.specs.declared.changes.Change.{Change}
@@ -18,7 +17,9 @@ use Rattle.op_types.specs.declared.durable.Part.{Part}
 use Rattle.op_types.specs.declared.log.Entry.{Entry}
 use Rattle.op_types.specs.declared.messages.Body.{Body}
 use Rattle.op_types.specs.declared.messages.Body.TheVariants as body
+use Rattle.op_types.specs.Stages.{Pieces}
 use Rattle.op_protocol.specs.State as step
+use Rattle.op_protocol.specs.State.{raises_promise}
 use Rattle.op_protocol.specs.Parts.{part_after}
 use Rattle.op_protocol.specs.Configurations.{latest_of}
 use Rattle.op_protocol.specs.Reading.{decided_of, why_given_up}
@@ -33,7 +34,7 @@ use Rattle.op_chain.specs.Plans.{BeginsAnew, IsPartAfter, BeginsIn}
 use Rattle.op_chain.specs.declared.renewal.Renewal.{Renewal}
 use Rattle.op_chain.proofs.Based.{of_parts}
 use Rattle.op_chain.proofs.Closes.{new_node}
-use Rattle.op_chain.proofs.Joined.{applies_both, brought_applies}
+use Rattle.op_chain.proofs.Joined.{applies_both, once_brought, brought_applies}
 use Rattle.op_chain.proofs.Steps.{same_conf, same_members, same_len}
 
 -- ---- what is brought
@@ -52,12 +53,15 @@ new_hold : (at : ℕ) (es : List Entry) (b : Bool) → All Holds (cond b [] (cha
 new_hold at es true = All-nil Holds
 new_hold at es false = All-cons Holds (change.JoinPart at es) [] tt (All-nil Holds)
 
-brought_holds : (j : Joining) (c : ℕ) (b : Body) (batch : List Change) → brought_to (Some j) c b ≡ Some batch → All Holds batch
-brought_holds j c (body.BasePart at bytes) batch is =
-    subst (λ (cs : List Change). All Holds cs) (by_test (takes_base j c at bytes) (change.JoinBase at bytes ∷ []) batch is) (All-cons Holds (change.JoinBase at bytes) [] tt (All-nil Holds))
-brought_holds j c (body.Segment at es) batch is =
+base_holds : (at : ℕ) (bytes : List ℕ) (batch : List Change) → change.JoinBase at bytes ∷ [] ≡ batch → All Holds batch
+base_holds at bytes batch is = subst (λ (cs : List Change). All Holds cs) is (All-cons Holds (change.JoinBase at bytes) [] tt (All-nil Holds))
+
+brought_holds : (j : Joining) (s : Option Pieces) (c : ℕ) (b : Body) (batch : List Change) → brought_to (Some j) s c b ≡ Some batch → All Holds batch
+brought_holds j s c (body.BasePart at bytes) batch is = base_holds at bytes batch (by_test (takes_base j c at bytes) (change.JoinBase at bytes ∷ []) batch is)
+brought_holds j s c (body.BasePiece p) batch is = let whole = once_brought j s c p batch is in base_holds p.at whole.0 batch whole.2
+brought_holds j s c (body.Segment at es) batch is =
     subst (λ (cs : List Change). All Holds cs) (by_test (takes_entries j c at es) (new_entries j at es) batch is) (new_hold at es (is_some (held_run j.held.items at (length es))))
-brought_holds j c b batch is = absurd cc
+brought_holds j s c b batch is = absurd cc
 
 one_held : (o : Option Part) (k : Option Closed) (j : Joining) (c : Change) → Holds c → durable_with (of_parts o k (Some j)) c ≡ of_parts o k (Some (joining_with j c))
 one_held o k j (change.JoinBase at bytes) holds = refl
@@ -82,6 +86,13 @@ all_kept p (c ∷ batch) holds =
 held_part : (o : Option Part) (batch : List Change) (left : Option Part) → All Holds batch → left ≡ o → IsPartAfter o batch left
 held_part None batch left holds is = is
 held_part (Some p) batch left holds is = is ∙ ap (λ (q : Part). Some q) (sym (all_kept p batch holds))
+
+-- none of them raises the promise
+all_calm : (batch : List Change) → All Holds batch → raises_promise batch ≡ false
+all_calm [] holds = refl
+all_calm (change.JoinBase at bytes ∷ batch) holds = all_calm batch (All-tail Holds (change.JoinBase at bytes) batch holds)
+all_calm (change.JoinPart at es ∷ batch) holds = all_calm batch (All-tail Holds (change.JoinPart at es) batch holds)
+all_calm (c ∷ batch) holds = absurd (All-head Holds c batch holds)
 
 fits_one : (me : ℕ) (o : Option Part) (k : Option Closed) (j : Joining) (c : Change) (batch : List Change) → Holds c → JoiningFits me j → Applies (of_parts o k (Some j)) (c ∷ batch) → JoiningFits me (joining_with j c)
 fits_one me o k j (change.JoinBase at bytes) batch holds fits all =
@@ -129,9 +140,9 @@ joined_fits me j b es fits is covers =
 
 -- ---- a node that joins
 
-module _ (me : ℕ) (d : Durable) (j : Joining) (is : d.joining ≡ Some j) (c : ℕ) (b : Body) (batch : List Change) (brings : brought_to d.joining c b ≡ Some batch) where
-  brought_here : brought_to (Some j) c b ≡ Some batch
-  brought_here = subst (λ (o : Option Joining). brought_to o c b ≡ Some batch) is brings
+module _ (me : ℕ) (d : Durable) (j : Joining) (is : d.joining ≡ Some j) (s : Option Pieces) (c : ℕ) (b : Body) (batch : List Change) (brings : brought_to d.joining s c b ≡ Some batch) where
+  brought_here : brought_to (Some j) s c b ≡ Some batch
+  brought_here = subst (λ (o : Option Joining). brought_to o s c b ≡ Some batch) is brings
 
   abbrev here : Durable
   here = of_parts d.part d.closed (Some j)
@@ -140,29 +151,33 @@ module _ (me : ℕ) (d : Durable) (j : Joining) (is : d.joining ≡ Some j) (c :
   here_is = ap (λ (o : Option Joining). of_parts d.part d.closed o) is
 
   holds : All Holds batch
-  holds = brought_holds j c b batch brought_here
+  holds = brought_holds j s c b batch brought_here
 
   pub hold_applies : Applies d batch
-  hold_applies = subst (λ (e : Durable). Applies e batch) (sym here_is) (brought_applies d.part d.closed j c b batch brought_here)
+  hold_applies = subst (λ (e : Durable). Applies e batch) (sym here_is) (brought_applies d.part d.closed j s c b batch brought_here)
 
   -- what it holds then, and nothing else changes
   pub hold_leaves : durable_after d batch ≡ of_parts d.part d.closed (Some (joining_after j batch))
   hold_leaves = ap (λ (e : Durable). durable_after e batch) here_is ∙ all_held d.part d.closed j batch holds
 
   hold_fits : JoiningFits me j → JoiningFits me (joining_after j batch)
-  hold_fits fits = fits_all me d.part d.closed j batch holds fits (brought_applies d.part d.closed j c b batch brought_here)
+  hold_fits fits = fits_all me d.part d.closed j batch holds fits (brought_applies d.part d.closed j s c b batch brought_here)
 
   alike : (o : Option Part) → AreOfOneConf o o
   alike None = tt
   alike (Some p) = (refl, refl)
 
-  fits_of : (r : Role) → IsSoundNode me d r → JoiningFits me j
-  fits_of r sound = subst (λ (o : Option Joining). IfJoiningFits me o) is sound.joining
+  fits_of : (v : step.Volatile) → IsSoundNode me d v → JoiningFits me j
+  fits_of v sound = subst (λ (o : Option Joining). IfJoiningFits me o) is sound.joining
 
-  pub hold_sound : (r : Role) → IsSoundNode me d r → IsSoundNode me (durable_after d batch) r
-  hold_sound r sound =
-      let after : IsSoundNode me (of_parts d.part d.closed (Some (joining_after j batch))) r = record { part = sound.part; closed = sound.closed; joining = hold_fits (fits_of r sound) } in
-      subst (λ (e : Durable). IsSoundNode me e r) (sym hold_leaves) after
+  pub hold_sound : (v : step.Volatile) → IsSoundNode me d v → IsSoundNode me (durable_after d batch) v
+  hold_sound v sound =
+      let after : IsSoundNode me (of_parts d.part d.closed (Some (joining_after j batch))) v = record { part = sound.part; closed = sound.closed; joining = hold_fits (fits_of v sound) } in
+      subst (λ (e : Durable). IsSoundNode me e v) (sym hold_leaves) after
+
+  -- no promise is raised
+  pub hold_calms : raises_promise batch ≡ false
+  hold_calms = all_calm batch holds
 
   pub hold_same : AreOfOneConf (durable_after d batch).part d.part
   hold_same = subst (λ (e : Durable). AreOfOneConf e.part d.part) (sym hold_leaves) (alike d.part)
@@ -188,9 +203,9 @@ module _ (me : ℕ) (d : Durable) (j : Joining) (is : d.joining ≡ Some j) (c :
         ∙ ap (λ (o : Option Base). durable_joined whole base o (cover_of whole) (of_parts d.part d.closed (Some whole))) has
         ∙ ap (λ (o : Option (List Entry)). durable_joined whole base (Some x) o (of_parts d.part d.closed (Some whole))) covers
 
-    go_node : (r : Role) (v : Volatile) → IsSoundNode me d r → BeginsAnew me j.members v → IsNode me (durable_after d (batch ++ change.JoinDone base ∷ [])) v
-    go_node r v sound anew =
-        let fits : JoiningFits me whole = hold_fits (fits_of r sound) in
+    go_node : (w : step.Volatile) (v : Volatile) → IsSoundNode me d w → BeginsAnew me j.members v → IsNode me (durable_after d (batch ++ change.JoinDone base ∷ [])) v
+    go_node w v sound anew =
+        let fits : JoiningFits me whole = hold_fits (fits_of w sound) in
         let begun : BeginsAnew me whole.members v = subst (λ (ms : List ℕ). BeginsAnew me ms v) (sym (same_members j batch)) anew in
         let node : IsNode me (durable_joined whole base (Some x) (Some es) (of_parts d.part d.closed (Some whole))) v = record {
           part = new_node whole.conf me whole.members base v fits.last fits.member begun;
@@ -200,10 +215,10 @@ module _ (me : ℕ) (d : Durable) (j : Joining) (is : d.joining ≡ Some j) (c :
         subst (λ (e : Durable). IsNode me e v) (sym gone) node
 
     -- why the node leads no more
-    go_why : (r : Role) → IsSoundNode me d r
+    go_why : (w : step.Volatile) → IsSoundNode me d w
         → why_given_up (latest_of d) (durable_after d (batch ++ change.JoinDone base ∷ [])).part (durable_after d (batch ++ change.JoinDone base ∷ [])).closed ≡ why_joined (latest_of d) d.joining
-    go_why r sound =
-        let fits : JoiningFits me whole = hold_fits (fits_of r sound) in
+    go_why w sound =
+        let fits : JoiningFits me whole = hold_fits (fits_of w sound) in
         let why : ℕ → ℕ → Cause = λ conf len. cond (eqb conf (latest_of d)) (cause.Ballot no_ballot) (cause.Stop (len - 1)) in
         let same : why whole.conf (closed_len (closed_joined whole x es)) ≡ why j.conf j.len =
         ap (λ (n : ℕ). why whole.conf n) (joined_len me whole x es fits has covers ∙ same_len j batch) ∙ ap (λ (n : ℕ). why n j.len) (same_conf j batch) in
@@ -211,11 +226,11 @@ module _ (me : ℕ) (d : Durable) (j : Joining) (is : d.joining ≡ Some j) (c :
         ∙ same
         ∙ ap (λ (o : Option Joining). why_joined (latest_of d) o) (sym is)
 
-    pub go_leaves : (r : Role) (y : Renewal) (m : MapState) → IsSoundNode me d r → BeginsAnew me j.members y.volatile → y.service ≡ Some m → BeginsIn me d (batch ++ change.JoinDone base ∷ []) y
-    go_leaves r y m sound anew serves =
+    pub go_leaves : (w : step.Volatile) (y : Renewal) (m : MapState) → IsSoundNode me d w → BeginsAnew me j.members y.volatile → y.service ≡ Some m → BeginsIn me d (batch ++ change.JoinDone base ∷ []) y
+    go_leaves w y m sound anew serves =
         record {
-          node = go_node r y.volatile sound anew;
-          idle = ap (λ (w : step.Volatile). w.role) anew.first;
+          node = go_node w y.volatile sound anew;
+          idle = ap (λ (v : step.Volatile). v.role) anew.first;
           undecided = ap (λ (e : Durable). decided_of e.part) gone;
-          why = go_why r sound ∙ ap (λ (o : Option MapState). why_anew d (batch ++ change.JoinDone base ∷ []) o) (sym serves);
+          why = go_why w sound ∙ ap (λ (o : Option MapState). why_anew d (batch ++ change.JoinDone base ∷ []) o) (sym serves);
         }

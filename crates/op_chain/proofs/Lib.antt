@@ -2,6 +2,7 @@ pub mod Adopted
 pub mod Answered
 pub mod Based
 pub mod Bases
+pub mod Beside
 pub mod Closes
 pub mod Coming
 pub mod Decided
@@ -17,4 +18,5 @@ pub mod Rooms
 pub mod Slices
 pub mod Steps
 pub mod Stored
+pub mod Takes
 pub mod Trims

@@ -17,21 +17,22 @@ use Rattle.op_instance.specs.declared.volatile.Volatile.{Volatile}
 use Rattle.op_kv.specs.Bases.{IsBase}
 use Rattle.op_chain.specs.Bringing.{HasBase}
 use Rattle.op_chain.specs.Chains.{IsPartFor, IfPartFor, CanOpen}
+use Rattle.op_chain.proofs.Closes.{none_staged}
 
 has_member : (members : List ℕ) (me : ℕ) → IsMember members me → 0 < length members
 has_member [] me is = absurd (cc)
 has_member (p ∷ members) me is = omega arith
 
 -- what a member keeps in memory is of its part, and it has no role
-part_opened : (me : ℕ) (p : Part) (v : Volatile) → IsPartFor me p → role_of v.role ≡ Idle → IsKeptBy me p v → IsNodeOf me p v
-part_opened me p v fits idle kept =
-    let sound : IsSound p Idle = record { conf = fits.conf; positions = fits.positions; members = has_member p.members me fits.member; log = fits.log; promises = tt; stops = tt } in
-    record { sound = subst (λ (r : Role). IsSound p r) (sym idle) sound; kept = kept }
+part_opened : (me : ℕ) (p : Part) (v : Volatile) → IsPartFor me p → role_of v.role ≡ Idle → v.staged.items ≡ [] → IsKeptBy me p v → IsNodeOf me p v
+part_opened me p v fits idle none kept =
+    let sound : IsSound p Idle = record { conf = fits.conf; positions = fits.positions; members = has_member p.members me fits.member; log = fits.log; promises = tt; stops = tt; stages = tt } in
+    record { sound = subst (λ (r : Role). IsSound p r) (sym idle) sound; staged = none_staged p.conf v.staged.items none; kept = kept }
 
-pub member_opened : (me : ℕ) (d : Durable) (p : Part) (v : Volatile) → CanOpen me d → d.part ≡ Some p → role_of v.role ≡ Idle → IsKeptBy me p v → IsNode me d v
-member_opened me d p v can is idle kept =
+pub member_opened : (me : ℕ) (d : Durable) (p : Part) (v : Volatile) → CanOpen me d → d.part ≡ Some p → role_of v.role ≡ Idle → v.staged.items ≡ [] → IsKeptBy me p v → IsNode me d v
+member_opened me d p v can is idle none kept =
     let fits : IsPartFor me p = subst (λ (o : Option Part). IfPartFor me o) is can.part in
-    record { part = subst (λ (o : Option Part). IfNodeOf me o v) (sym is) (part_opened me p v fits idle kept); closed = can.closed; joining = can.joining }
+    record { part = subst (λ (o : Option Part). IfNodeOf me o v) (sym is) (part_opened me p v fits idle none kept); closed = can.closed; joining = can.joining }
 
 -- a server without a part keeps nothing of one
 pub spare_opened : (me : ℕ) (d : Durable) (v : Volatile) → CanOpen me d → d.part ≡ None → IsNode me d v

@@ -1,14 +1,14 @@
 -- A step that is made ready: what it does is what the step table plans, it applies, and it leaves a sound node.
-use Rattle.std.proofs.Common.{◌≡◌, ◌+◌, ℕ, inl, inr, ◌∷◌, ◌++◌, List, [], All, Option, Some, None, Result, Ok, Err, IfOk, refl, sym, ap, ◌∙◌, subst, append-nil, length}
+use Rattle.std.proofs.Common.{◌≡◌, ◌+◌, ℕ, inl, inr, ◌∷◌, ◌++◌, false, List, [], All, Option, Some, None, Result, Ok, Err, IfOk, refl, sym, ap, ◌∙◌, subst, append-nil, length}
 use Rattle.std.specs.Prelude.{is_some, nat_eq}
 use Rattle.std.specs.Set.{is_member}
 use Rattle.std.proofs.lemmas.Bool.{cases_Bool}
 use Rattle.std.proofs.lemmas.List.Elements.{All-nil, All-cons, All-head, All-tail}
 use Rattle.op_types.specs.Changes.{closed_by, durable_after, Applies}
-use Rattle.op_types.specs.Effects.{nothing_plan}
-use Rattle.op_types.specs.Joinings.{Base, cover_of}
+use Rattle.op_types.specs.Joinings.{Held, Base, cover_of}
 use Rattle.op_types.specs.Roles.{Role, role_of}
 use Rattle.op_types.specs.Rooms.{no_needs, with_room}
+use Rattle.op_types.specs.Stages.{Pieces}
 use Rattle.op_types.specs.Stops.{stop_at_end}
 use Rattle.op_types.specs.declared.answers.Outcome.{Outcome}
 use Rattle.op_types.specs.declared.answers.Reply.{Reply}
@@ -21,24 +21,24 @@ use Rattle.op_types.specs.declared.events.Input.{Input}
 use Rattle.op_types.specs.declared.log.Entry.{Entry}
 use Rattle.op_types.specs.declared.messages.Body.{Body}
 use Rattle.op_types.specs.declared.plan.Plan.{Plan}
-use Rattle.op_types.specs.declared.role.Role as role
 use Rattle.op_types.specs.declared.turn.Turn.{Turn}
 use Rattle.op_record.specs.Ranges.{ChangeInRange, BatchInRange}
 use Rattle.op_spec.specs.Service.{Service, base_bytes}
 use Rattle.op_protocol.specs.State as step
-use Rattle.op_protocol.specs.State.{State, PartStep, Planned, Waiting}
+use Rattle.op_protocol.specs.State.{State, PartStep, Planned, Waiting, raises_promise}
 use Rattle.op_protocol.specs.Parts.{part_after, decided_since}
 use Rattle.op_protocol.specs.Configurations.{closing}
 use Rattle.op_protocol.specs.Joining.{brought_to, holds_more}
 use Rattle.op_protocol.specs.Rows.{brought_by, step_at, waiting_at, based_batch, newly_decided, planned, plan_of, step_bringing, table_plan}
 use Rattle.op_protocol.proofs.StepBatches.{IsInside, inside_after, inside_none, step_inside, inside_all_based}
 use Rattle.op_kv.specs.Over.{Written, MapState, service_over}
-use Rattle.op_instance.specs.Memory.{volatile_of, part_step_of, HasRoomIn}
+use Rattle.op_follower.specs.Staging.{StagedIsAdmitted}
+use Rattle.op_instance.specs.Memory.{volatile_of, adopted_in, part_step_of, HasRoomIn}
 use Rattle.op_instance.specs.Sound.{IsSound, IfSound, IsSoundNode, IsSoundStep, IfNodeOf, IsNode}
 use Rattle.op_instance.specs.declared.volatile.Volatile.{Volatile}
 use Rattle.op_instance.proofs.StepsApply.{sound_step}
 use Rattle.op_chain.specs.Answering.{IsServed, HasRoomFor}
-use Rattle.op_chain.specs.Bringing.{joining_after, joined, IfJoined}
+use Rattle.op_chain.specs.Bringing.{joining_after, joined, IfJoined, turn_beside, turn_holding}
 use Rattle.op_chain.specs.Chains.{state_of, HaveBases, IsSoundChain, IsSame, Admits}
 use Rattle.op_chain.specs.Plans.{renewed, planned_by, made_by, IsPartAfter, Stays, BeginsIn, LeavesWith, HasRoomToTell, Prepares, waiters_of, waiting_by, based_step, told_anew, IfMayClose, IfCloses, IfGoesOn, Serves}
 use Rattle.op_chain.specs.declared.chain.Chain.{Chain}
@@ -51,8 +51,8 @@ use Rattle.op_chain.specs.Waiting.{WaitingSet}
 use Rattle.op_chain.proofs.Adopted.{state_with, state_is}
 use Rattle.op_chain.proofs.Based.{begins_fit, bases_after, based_sound}
 use Rattle.op_chain.proofs.Closes.{may_close, close_applies, close_leaves}
-use Rattle.op_chain.proofs.Leaves.{hold_applies, hold_leaves, hold_sound, hold_same, hold_part, go_applies, go_leaves}
-use Rattle.op_chain.proofs.Steps.{chain_plan, step_table, storing_plan, join_table, waits_table}
+use Rattle.op_chain.proofs.Leaves.{hold_applies, hold_leaves, hold_sound, hold_calms, hold_same, hold_part, go_applies, go_leaves}
+use Rattle.op_chain.proofs.Steps.{chain_plan, step_table, storing_plan, IsKept, holding_kept, join_table, waits_table}
 
 -- ---- words of lists and records
 
@@ -70,42 +70,42 @@ batch_made ws v s plan = renewed_batch plan.renewal _
 
 -- ---- the same node
 
-sound_part : (me : ℕ) (o : Option Part) (v : Volatile) → IfNodeOf me o v → IfSound o (role_of v.role)
+sound_part : (me : ℕ) (o : Option Part) (v : Volatile) → IfNodeOf me o v → IfSound o (volatile_of v)
 sound_part me None v node = tt
-sound_part me (Some p) v node = node.sound
+sound_part me (Some p) v node = record { sound = node.sound; staged = node.staged }
 
-pub sound_of : (me : ℕ) (d : Durable) (v : Volatile) → IsNode me d v → IsSoundNode me d (role_of v.role)
+pub sound_of : (me : ℕ) (d : Durable) (v : Volatile) → IsNode me d v → IsSoundNode me d (volatile_of v)
 sound_of me d v node = record { part = sound_part me d.part v node.part; closed = node.closed; joining = node.joining }
 
-part_same : (me : ℕ) (o : Option Part) (v : Volatile) (r : role.Role) → role_of r ≡ role_of v.role → IfNodeOf me o v → (let w : Volatile = record v { role = r } in IfNodeOf me o w)
-part_same me None v r same node = tt
-part_same me (Some p) v r same node =
+-- the memory of a node with another role and other entries staged, which are seen as the same
+abbrev alike : Volatile → Volatile → Volatile
+alike v w = record v { role = w.role; staged = w.staged }
+
+part_same : (me : ℕ) (o : Option Part) (v w : Volatile) → volatile_of (alike v w) ≡ volatile_of v → IfNodeOf me o v → IfNodeOf me o (alike v w)
+part_same me None v w same node = tt
+part_same me (Some p) v w same node =
     record {
-      sound = subst (λ (x : Role). IsSound p x) (sym same) node.sound;
+      sound = subst (λ (x : step.Volatile). IsSound p x.role) (sym same) node.sound;
+      staged = subst (λ (x : step.Volatile). StagedIsAdmitted p.conf x.staged) (sym same) node.staged;
       kept = record { elector = node.kept.elector; electors = node.kept.electors; listener = node.kept.listener; members = node.kept.members };
     }
 
-node_same : (me : ℕ) (d : Durable) (v : Volatile) (r : role.Role) → role_of r ≡ role_of v.role → IsNode me d v → (let w : Volatile = record v { role = r } in IsNode me d w)
-node_same me d v r same node = record { part = part_same me d.part v r same node.part; closed = node.closed; joining = node.joining }
+node_same : (me : ℕ) (d : Durable) (v w : Volatile) → volatile_of (alike v w) ≡ volatile_of v → IsNode me d v → IsNode me d (alike v w)
+node_same me d v w same node = record { part = part_same me d.part v w same node.part; closed = node.closed; joining = node.joining }
 
 -- a chain with the same state, but for room
 pub record IsLike (a c : Chain) : Type 0 where
   pub me : c.me ≡ a.me
   pub durable : c.durable ≡ a.durable
-  pub volatile : (let v : Volatile = record a.volatile { role = c.volatile.role } in c.volatile ≡ v)
-  pub role : role_of c.volatile.role ≡ role_of a.volatile.role
+  pub volatile : c.volatile ≡ alike a.volatile c.volatile
+  pub same : volatile_of c.volatile ≡ volatile_of a.volatile
   pub service : c.service.service ≡ a.service.service
   pub waiting : c.waiting.waiting ≡ a.waiting.waiting
 
-volatile_like : (a c : Chain) → IsLike a c → volatile_of c.volatile ≡ volatile_of a.volatile
-volatile_like a c like =
-    ap volatile_of like.volatile
-    ∙ ap (λ (r : Role). let v : step.Volatile = record (volatile_of a.volatile) { role = r } in v) like.role
-
 sound_like : (a c : Chain) → IsLike a c → IsSoundChain a → IsSoundChain c
 sound_like a c like sound =
-    let v : Volatile = record a.volatile { role = c.volatile.role } in
-    let here : IsNode a.me a.durable v = node_same a.me a.durable a.volatile c.volatile.role like.role sound.node in
+    let same : volatile_of (alike a.volatile c.volatile) ≡ volatile_of a.volatile = ap volatile_of (sym like.volatile) ∙ like.same in
+    let here : IsNode a.me a.durable (alike a.volatile c.volatile) = node_same a.me a.durable a.volatile c.volatile same sound.node in
     let kept : IsNode a.me a.durable c.volatile = subst (λ (w : Volatile). IsNode a.me a.durable w) (sym like.volatile) here in
     let stored : IsNode a.me c.durable c.volatile = subst (λ (d : Durable). IsNode a.me d c.volatile) (sym like.durable) kept in
     record {
@@ -117,7 +117,7 @@ pub same_like : (a c : Chain) → IsLike a c → IsSoundChain a → IsSame a c
 same_like a c like sound =
     record {
       me = like.me;
-      state = state_is (ap (λ (d : Durable). with_room no_needs d) like.durable) (volatile_like a c like) like.service like.waiting;
+      state = state_is (ap (λ (d : Durable). with_room no_needs d) like.durable) (like.same) like.service like.waiting;
       sound = sound_like a c like sound;
     }
 
@@ -138,7 +138,7 @@ closing_more me (Some p) x = elim (cases_Bool (is_some (stop_at_end (decided_sin
 ]
 
 -- the step that an admitted input makes, where the log has no room
-module _ (a : Chain) (x : Input) (admits : Admits a x) (bare : with_room no_needs a.durable ≡ a.durable) (none : brought_by a.durable x ≡ None) where
+module _ (a : Chain) (x : Input) (admits : Admits a x) (bare : with_room no_needs a.durable ≡ a.durable) (none : brought_by a.durable (volatile_of a.volatile) x ≡ None) where
   -- what the step does at the part, with the bases of what it trims
   abbrev stepped : PartStep
   stepped = step_at a.me a.durable (volatile_of a.volatile) x
@@ -221,7 +221,7 @@ module _ (a : Chain) (x : Input) (admits : Admits a x) (bare : with_room no_need
           let waits : c.waiting.next ≡ waiting_then =
           next ∙ ap (λ (o : Option Outcome). waiting_by o a.waiting.waiting (waiters_of x)) outcome ∙ waits_table a.me (state_at a) x in
           ap (λ (ws : Waiting). made_by ws (volatile_of c.volatile) c.service.service ready) waits
-          ∙ ap (λ (v : step.Volatile). made_by waiting_then v c.service.service ready) (volatile_like a c like)
+          ∙ ap (λ (v : step.Volatile). made_by waiting_then v c.service.service ready) (like.same)
           ∙ ap (λ (s : Service). made_by waiting_then (volatile_of a.volatile) s ready) like.service
           ∙ step_table a.me waiting_then (volatile_of a.volatile) (state_at a) stepped plan new served.change served.replies r room row serves.change serves.replies closes
           ∙ sym table_is
@@ -241,7 +241,7 @@ module _ (a : Chain) (x : Input) (admits : Admits a x) (bare : with_room no_need
       stays y same over =
           let v : step.Volatile = volatile_of c.volatile in
           let here : IsSoundStep a.me a.durable (part_step_of new v) =
-          subst (λ (w : step.Volatile). IsSoundStep a.me a.durable (part_step_of new w)) (sym (volatile_like a c like))
+          subst (λ (w : step.Volatile). IsSoundStep a.me a.durable (part_step_of new w)) (sym (like.same))
           (subst (λ (n : Plan). IsSoundStep a.me a.durable (part_step_of n (volatile_of a.volatile))) (sym same) done_sound) in
           let part : IsPartAfter a.durable.part new.batch (durable_after a.durable new.batch).part =
           subst (λ (n : Plan). IsPartAfter a.durable.part n.batch (durable_after a.durable n.batch).part) (sym same) (part_by a.durable.part refl) in
@@ -288,64 +288,97 @@ joined_parts s (Some x) (Some xs) is = (x, xs, refl, refl)
 joined_parts s (Some x) None is = absurd cc
 joined_parts s None es is = absurd cc
 
-module _ (a : Chain) (sound : IsSoundChain a) (bare : with_room no_needs a.durable ≡ a.durable) (at : ℕ) (b : Body) (batch : List Change) (brings : brought_to a.durable.joining at b ≡ Some batch)
+part_kept : (o : Option Part) (v w : step.Volatile) → IsKept v w → IfSound o v → IfSound o w
+part_kept None v w same sound = tt
+part_kept (Some p) v w same sound =
+    record {
+      sound = subst (λ (r : Role). IsSound p r) (sym same.role) sound.sound;
+      staged = subst (λ (h : Held). StagedIsAdmitted p.conf h) (sym same.staged) sound.staged;
+    }
+
+-- what is sound hangs on the role and on what is staged alone
+sound_kept : (me : ℕ) (d : Durable) (v w : step.Volatile) → IsKept v w → IsSoundNode me d v → IsSoundNode me d w
+sound_kept me d v w same sound = record { part = part_kept d.part v w same sound.part; closed = sound.closed; joining = sound.joining }
+
+-- there is room to stay beside a base
+holding_room : (o : Option Joining) (batch : List Change) (v : Volatile) → HasRoomIn (turn_holding o batch) v
+holding_room None batch v = tt
+holding_room (Some j) batch v = by (joining_after j batch).base
+  where
+    by : (o : Option Base) → HasRoomIn (turn_beside o) v
+    by None = tt
+    by (Some b) = tt
+
+module _ (a : Chain) (sound : IsSoundChain a) (bare : with_room no_needs a.durable ≡ a.durable) (s : Option Pieces) (at : ℕ) (b : Body) (batch : List Change) (brings : brought_to a.durable.joining s at b ≡ Some batch)
     (j : Joining) (is : a.durable.joining ≡ Some j) (m : Option MapState) (whole : IfJoined j batch m) (range : BatchInRange (holds_more a.me (state_of a) batch).batch) where
   module _ (c : Chain) (new : Plan) (kv : Written) (r : Option Renewal) (room : Room) (like : IsLike a c) (same : service_over a.service.service kv ≡ a.service.service)
-      (goes : IfGoesOn a.me a.durable.joining m (role_of a.volatile.role) (storing_plan batch) new r) where
+      (goes : IfGoesOn a.me a.durable.joining m (role_of a.volatile.role) (storing_plan batch (turn_holding a.durable.joining batch)) new r) where
     abbrev held : ChainPlan
     held = chain_plan new kv [] r room
 
-    goes_here : IfGoesOn a.me (Some j) m (role_of a.volatile.role) (storing_plan batch) new r
-    goes_here = subst (λ (o : Option Joining). IfGoesOn a.me o m (role_of a.volatile.role) (storing_plan batch) new r) is goes
+    -- the plan that stores what is brought
+    abbrev storing : Plan
+    storing = storing_plan batch (turn_holding (Some j) batch)
+
+    goes_here : IfGoesOn a.me (Some j) m (role_of a.volatile.role) storing new r
+    goes_here = subst (λ (o : Option Joining). IfGoesOn a.me o m (role_of a.volatile.role) (storing_plan batch (turn_holding o batch)) new r) is goes
+
+    calms : raises_promise batch ≡ false
+    calms = hold_calms a.me a.durable j is s at b batch brings
 
     holds_then : (durable_after a.durable batch).joining ≡ Some (joining_after j batch)
-    holds_then = ap (λ (d : Durable). d.joining) (hold_leaves a.me a.durable j is at b batch brings)
+    holds_then = ap (λ (d : Durable). d.joining) (hold_leaves a.me a.durable j is s at b batch brings)
 
     pub join_is : c.waiting.next ≡ a.waiting.waiting → planned_by c held ≡ holds_more a.me (state_of a) batch
     join_is next =
         ap (λ (ws : Waiting). made_by ws (volatile_of c.volatile) c.service.service held) next
-        ∙ ap (λ (v : step.Volatile). made_by a.waiting.waiting v c.service.service held) (volatile_like a c like)
+        ∙ ap (λ (v : step.Volatile). made_by a.waiting.waiting v c.service.service held) (like.same)
         ∙ ap (λ (s : Service). made_by a.waiting.waiting (volatile_of a.volatile) s held) like.service
-        ∙ join_table a.me (state_at a) batch kv same room new j m r whole holds_then goes_here
+        ∙ join_table a.me (state_at a) batch kv same room new calms j m r whole holds_then goes_here
         ∙ sym (ap (λ (s : State). holds_more a.me s batch) (state_rested a bare))
 
-    node_sound : IsSoundNode a.me a.durable (role_of a.volatile.role)
+    node_sound : IsSoundNode a.me a.durable (volatile_of a.volatile)
     node_sound = sound_of a.me a.durable a.volatile sound.node
 
-    joins_stay : (y : Option Renewal) → new ≡ storing_plan batch → y ≡ None → (Applies a.durable new.batch) × LeavesWith a.me a.durable new y c.volatile
+    stored_sound : IsSoundNode a.me (durable_after a.durable batch) (part_step_of storing (volatile_of a.volatile)).volatile
+    stored_sound =
+        let v : step.Volatile = volatile_of a.volatile in
+        sound_kept a.me (durable_after a.durable batch) v (adopted_in batch (turn_holding (Some j) batch) v) (holding_kept (Some j) batch v calms) (hold_sound a.me a.durable j is s at b batch brings v node_sound)
+
+    joins_stay : (y : Option Renewal) → new ≡ storing → y ≡ None → (Applies a.durable new.batch) × LeavesWith a.me a.durable new y c.volatile
     joins_stay y is_plan over =
-        let here : IsSoundStep a.me a.durable (part_step_of (storing_plan batch) (volatile_of a.volatile)) = record {
-          applies = hold_applies a.me a.durable j is at b batch brings;
-          sound = hold_sound a.me a.durable j is at b batch brings (role_of a.volatile.role) node_sound;
-          same = hold_same a.me a.durable j is at b batch brings;
+        let here : IsSoundStep a.me a.durable (part_step_of storing (volatile_of a.volatile)) = record {
+          applies = hold_applies a.me a.durable j is s at b batch brings;
+          sound = stored_sound;
+          same = hold_same a.me a.durable j is s at b batch brings;
         } in
         let there : IsSoundStep a.me a.durable (part_step_of new (volatile_of c.volatile)) =
-        subst (λ (w : step.Volatile). IsSoundStep a.me a.durable (part_step_of new w)) (sym (volatile_like a c like))
+        subst (λ (w : step.Volatile). IsSoundStep a.me a.durable (part_step_of new w)) (sym (like.same))
         (subst (λ (n : Plan). IsSoundStep a.me a.durable (part_step_of n (volatile_of a.volatile))) (sym is_plan) here) in
         let part : IsPartAfter a.durable.part new.batch (durable_after a.durable new.batch).part =
-        subst (λ (n : Plan). IsPartAfter a.durable.part n.batch (durable_after a.durable n.batch).part) (sym is_plan) (hold_part a.me a.durable j is at b batch brings) in
+        subst (λ (n : Plan). IsPartAfter a.durable.part n.batch (durable_after a.durable n.batch).part) (sym is_plan) (hold_part a.me a.durable j is s at b batch brings) in
         let left : Stays a.me a.durable new c.volatile = record { step = there; part = part } in
         (there.applies, subst (λ (o : Option Renewal). LeavesWith a.me a.durable new o c.volatile) (sym over) left)
 
-    joins_by : (s : Option MapState) (y : Option Renewal) → IfJoined j batch s → IfGoesOn a.me (Some j) s (role_of a.volatile.role) (storing_plan batch) new y → (Applies a.durable new.batch) × LeavesWith a.me a.durable new y c.volatile
+    joins_by : (z : Option MapState) (y : Option Renewal) → IfJoined j batch z → IfGoesOn a.me (Some j) z (role_of a.volatile.role) storing new y → (Applies a.durable new.batch) × LeavesWith a.me a.durable new y c.volatile
     joins_by None y all k = joins_stay y k.0 k.1
-    joins_by (Some s) None all k = absurd k
-    joins_by (Some s) (Some y) all k =
-        let parts = joined_parts s.service (joining_after j batch).base (cover_of (joining_after j batch)) all in
-        let base : List ℕ = base_bytes s.service in
+    joins_by (Some z) None all k = absurd k
+    joins_by (Some z) (Some y) all k =
+        let parts = joined_parts z.service (joining_after j batch).base (cover_of (joining_after j batch)) all in
+        let base : List ℕ = base_bytes z.service in
         let stores : new.batch ≡ batch ++ change.JoinDone base ∷ [] = ap (λ (n : Plan). n.batch) k.plan in (
-          subst (λ (cs : List Change). Applies a.durable cs) (sym stores) (go_applies a.me a.durable j is at b batch brings base parts.0 parts.1 parts.2 parts.3),
+          subst (λ (cs : List Change). Applies a.durable cs) (sym stores) (go_applies a.me a.durable j is s at b batch brings base parts.0 parts.1 parts.2 parts.3),
           subst (λ (cs : List Change). BeginsIn a.me a.durable cs y) (sym stores)
-              (go_leaves a.me a.durable j is at b batch brings base parts.0 parts.1 parts.2 parts.3 (role_of a.volatile.role) y s node_sound k.anew k.service),
+              (go_leaves a.me a.durable j is s at b batch brings base parts.0 parts.1 parts.2 parts.3 (volatile_of a.volatile) y z node_sound k.anew k.service),
         )
 
     join_goes : (Applies a.durable new.batch) × LeavesWith a.me a.durable new r c.volatile
     join_goes = joins_by m r whole goes_here
 
-    turn_by : (s : Option MapState) (y : Option Renewal) → IfGoesOn a.me (Some j) s (role_of a.volatile.role) (storing_plan batch) new y → new.turn ≡ nothing_plan.turn
+    turn_by : (z : Option MapState) (y : Option Renewal) → IfGoesOn a.me (Some j) z (role_of a.volatile.role) storing new y → new.turn ≡ turn_holding (Some j) batch
     turn_by None y k = ap (λ (n : Plan). n.turn) k.0
-    turn_by (Some s) None k = absurd k
-    turn_by (Some s) (Some y) k = ap (λ (n : Plan). n.turn) k.plan
+    turn_by (Some z) None k = absurd k
+    turn_by (Some z) (Some y) k = ap (λ (n : Plan). n.turn) k.plan
 
     pub join_prepared : c.waiting.next ≡ a.waiting.waiting → c.service.waiting ≡ 0 → HasRoomToTell held → Prepares c (holds_more a.me (state_of a) batch) held
     join_prepared next settled tells =
@@ -359,7 +392,7 @@ module _ (a : Chain) (sound : IsSoundChain a) (bare : with_room no_needs a.durab
           sound = sound_like a c like sound;
           table = join_is next;
           applies = subst (λ (d : Durable). Applies d new.batch) (sym stored) join_goes.0;
-          turn = subst (λ (t : Turn). HasRoomIn t c.volatile) (sym (turn_by m r goes_here)) tt;
+          turn = subst (λ (t : Turn). HasRoomIn t c.volatile) (sym (turn_by m r goes_here)) (holding_room (Some j) batch c.volatile);
           settled = settled;
           after = record {
             node = subst (λ (d : Durable). LeavesWith c.me d new r c.volatile) (sym stored) leaves;
@@ -368,16 +401,16 @@ module _ (a : Chain) (sound : IsSoundChain a) (bare : with_room no_needs a.durab
           room = tells;
         }
 
--- ---- the pieces of a step
+-- ---- how a plan comes about
 
--- a chain in whose memory a role has room
-pub like_stepped : (a b : Chain) → (let c : Chain = record a { volatile = record a.volatile { role = b.volatile.role } } in b ≡ c) → role_of b.volatile.role ≡ role_of a.volatile.role → IsLike a b
+-- a chain in whose memory a role and what is staged have room
+pub like_stepped : (a b : Chain) → (let c : Chain = record a { volatile = alike a.volatile b.volatile } in b ≡ c) → volatile_of b.volatile ≡ volatile_of a.volatile → IsLike a b
 like_stepped a b is same =
     record {
       me = ap (λ (n : Chain). n.me) is;
       durable = ap (λ (n : Chain). n.durable) is;
       volatile = ap (λ (n : Chain). n.volatile) is;
-      role = same;
+      same = same;
       service = ap (λ (n : Chain). n.service.service) is;
       waiting = ap (λ (n : Chain). n.waiting.waiting) is;
     }
@@ -385,16 +418,16 @@ like_stepped a b is same =
 -- one whose service is settled
 pub like_served : (a b : Chain) (m : MapState) → IsLike a b → m.service ≡ b.service.service → (let c : Chain = record b { service = m } in IsLike a c)
 like_served a b m like same =
-    record { me = like.me; durable = like.durable; volatile = like.volatile; role = like.role; service = same ∙ like.service; waiting = like.waiting }
+    record { me = like.me; durable = like.durable; volatile = like.volatile; same = like.same; service = same ∙ like.service; waiting = like.waiting }
 
 -- one where others may wait
 pub like_waiting : (a b : Chain) (w : WaitingSet) → IsLike a b → w.waiting ≡ b.waiting.waiting → (let c : Chain = record b { waiting = w } in IsLike a c)
 like_waiting a b w like same =
-    record { me = like.me; durable = like.durable; volatile = like.volatile; role = like.role; service = like.service; waiting = same ∙ like.waiting }
+    record { me = like.me; durable = like.durable; volatile = like.volatile; same = like.same; service = like.service; waiting = same ∙ like.waiting }
 
 -- a chain is like itself
 pub like_self : (a : Chain) → IsLike a a
-like_self a = record { me = refl; durable = refl; volatile = refl; role = refl; service = refl; waiting = refl }
+like_self a = record { me = refl; durable = refl; volatile = refl; same = refl; service = refl; waiting = refl }
 
 -- equal chains are alike
 pub like_is : (a b c : Chain) → IsLike a b → c ≡ b → IsLike a c
@@ -405,7 +438,7 @@ pub closes_like : (a c : Chain) (kv : Written) (old new : Plan) (r : Option Rene
     → IfCloses c.me c.durable.part (service_over c.service.service kv) (role_of c.volatile.role) old new r
     → IfCloses a.me a.durable.part (service_over a.service.service kv) (role_of a.volatile.role) old new r
 closes_like a c kv old new r like closes =
-    subst (λ (q : Role). IfCloses a.me a.durable.part (service_over a.service.service kv) q old new r) like.role
+    subst (λ (v : step.Volatile). IfCloses a.me a.durable.part (service_over a.service.service kv) v.role old new r) like.same
     (subst (λ (s : Service). IfCloses a.me a.durable.part (service_over s kv) (role_of c.volatile.role) old new r) like.service
     (subst (λ (d : Durable). IfCloses a.me d.part (service_over c.service.service kv) (role_of c.volatile.role) old new r) like.durable
     (subst (λ (n : ℕ). IfCloses n c.durable.part (service_over c.service.service kv) (role_of c.volatile.role) old new r) like.me closes)))
@@ -414,7 +447,7 @@ closes_like a c kv old new r like closes =
 pub goes_like : (a c : Chain) (m : Option MapState) (old new : Plan) (r : Option Renewal) → IsLike a c
     → IfGoesOn c.me c.durable.joining m (role_of c.volatile.role) old new r → IfGoesOn a.me a.durable.joining m (role_of a.volatile.role) old new r
 goes_like a c m old new r like goes =
-    subst (λ (q : Role). IfGoesOn a.me a.durable.joining m q old new r) like.role
+    subst (λ (v : step.Volatile). IfGoesOn a.me a.durable.joining m v.role old new r) like.same
     (subst (λ (d : Durable). IfGoesOn a.me d.joining m (role_of c.volatile.role) old new r) like.durable
     (subst (λ (n : ℕ). IfGoesOn n c.durable.joining m (role_of c.volatile.role) old new r) like.me goes))
 

@@ -43,7 +43,9 @@ part_node n me (Some p) v node =
             log = node.sound.log;
             promises = node.sound.promises;
             stops = node.sound.stops;
+            stages = node.sound.stages;
           };
+      staged = node.staged;
       kept = record { elector = node.kept.elector; electors = node.kept.electors; listener = node.kept.listener; members = node.kept.members };
     }
 

@@ -1,10 +1,10 @@
 -- What adopting a plan makes is what the step table plans.
-use Rattle.std.proofs.Common.{◌≡◌, ℕ, ◌-◌, ◌∷◌, ◌++◌, List, [], map, Option, Some, None, refl, sym, ap, ◌∙◌}
+use Rattle.std.proofs.Common.{◌≡◌, ℕ, ◌-◌, ◌∷◌, ◌++◌, true, false, List, [], map, Option, Some, None, refl, sym, ap, ◌∙◌}
 use Rattle.std.specs.Prelude.{is_some}
 use Rattle.std.proofs.lemmas.Bool.{cond-true, cond-false}
 use Rattle.op_types.specs.Changes.{joining_with, durable_after}
 use Rattle.op_types.specs.Effects.{nothing_plan}
-use Rattle.op_types.specs.Joinings.{Base, cover_of}
+use Rattle.op_types.specs.Joinings.{Held, Base, cover_of}
 use Rattle.op_types.specs.Roles.{Role, Idle, Preparing, Leading, turned}
 use Rattle.op_types.specs.Stops.{stop_at_end}
 use Rattle.op_types.specs.declared.answers.Cause.TheVariants as cause
@@ -27,19 +27,19 @@ use Rattle.op_types.specs.declared.turn.Turn.{Turn}
 use Rattle.op_types.specs.declared.turn.Turn.TheVariants as turn
 use Rattle.op_spec.specs.Service.{Service, all_after}
 use Rattle.op_protocol.specs.State as step
-use Rattle.op_protocol.specs.State.{State, PartStep, Planned, Waiting}
+use Rattle.op_protocol.specs.State.{State, PartStep, Planned, Waiting, raises_promise, staged_after}
 use Rattle.op_protocol.specs.Parts.{part_after, decided_since}
 use Rattle.op_protocol.specs.Configurations.{closing_part, closing}
-use Rattle.op_protocol.specs.Joining.{joined_service, only_stores, goes_on_if, holding, holds_more}
+use Rattle.op_protocol.specs.Joining.{joined_service, only_stores, stores_beside, goes_on_if, holding, holds_more}
 use Rattle.op_protocol.specs.Leader.{propose, given_up_by}
 use Rattle.op_protocol.specs.Rows.{entries_of, refusal_of, proposal_at, step_at, waiting_each, waiting_for, waiting_at, based_batch, newly_decided, planned_serving, planned, plan_of}
 use Rattle.op_protocol.specs.Serving.{Served, dropping, waiting_with}
 use Rattle.op_protocol.specs.Starting.{first_volatile}
 use Rattle.op_protocol.proofs.Based.{based_decides}
 use Rattle.op_kv.specs.Over.{Written, MapState, service_over}
-use Rattle.op_instance.specs.Memory.{turned_in, part_step_of}
+use Rattle.op_instance.specs.Memory.{turned_in, adopted_in, part_step_of}
 use Rattle.op_chain.specs.Answering.{replies_to, giving}
-use Rattle.op_chain.specs.Bringing.{joining_after, joined, IfJoined}
+use Rattle.op_chain.specs.Bringing.{joining_after, joined, IfJoined, turn_beside, turn_holding}
 use Rattle.op_chain.specs.Plans.{service_anew, made_by, waiters_of, waiting_by, based_step, closed_plan, Closes, IfCloses, joined_plan, GoesOn, IfGoesOn}
 use Rattle.op_chain.specs.Waiting.{with_waiters}
 use Rattle.op_chain.specs.declared.chain_plan.ChainPlan.{ChainPlan}
@@ -110,6 +110,9 @@ role_turned : (t : Turn) (v : step.Volatile) → turned t v.role ≡ (turned_in 
 role_turned (turn.Hear h) v = refl
 role_turned (turn.RaiseFloor b) v = refl
 role_turned (turn.NextRound e n) v = refl
+role_turned (turn.Stage at run from) v = refl
+role_turned (turn.StagePiece p fresh) v = refl
+role_turned turn.DropPieces v = refl
 role_turned t v = refl
 
 module _ (me : ℕ) (ws : Waiting) (v : step.Volatile) (s : Service) (change : Written) (replies : List Reply) (room : Room) (plan new : Plan) where
@@ -184,51 +187,92 @@ pub same_len : (j : Joining) (batch : List Change) → (joining_after j batch).l
 same_len j [] = refl
 same_len j (c ∷ batch) = same_len (joining_with j c) batch ∙ len_joined j c
 
--- a plan of these changes, and of nothing else
-abbrev pub storing_plan : List Change → Plan
-storing_plan batch = record nothing_plan { batch = batch }
+-- a plan of these changes, and of this turn
+abbrev pub storing_plan : List Change → Turn → Plan
+storing_plan batch t = record nothing_plan { batch = batch; turn = t }
 
-module _ (me : ℕ) (s : State) (batch : List Change) (change : Written) (same : service_over s.service change ≡ s.service) (room : Room) (new : Plan) where
-  stored : made_by s.waiting s.volatile s.service (chain_plan (storing_plan batch) change [] None room) ≡ only_stores s batch
-  stored = ap (λ (t : Service). let x : Planned = record (only_stores s batch) { service = t } in x) same
+-- a turn beside a base leaves the role
+beside_role : (o : Option Base) (r : Role) → turned (turn_beside o) r ≡ r
+beside_role None r = refl
+beside_role (Some b) r = refl
 
-  gone_on : (j k : Joining) (m : MapState) (r : Renewal) → GoesOn me j m s.volatile.role (storing_plan batch) new r → k.conf ≡ j.conf → k.members ≡ j.members → k.len ≡ j.len
+pub holding_role : (o : Option Joining) (batch : List Change) (r : Role) → turned (turn_holding o batch) r ≡ r
+holding_role None batch r = refl
+holding_role (Some j) batch r = beside_role (joining_after j batch).base r
+
+-- what is staged of a log stays where no promise is raised
+calm : (batch : List Change) (staged : Held) → raises_promise batch ≡ false → staged_after batch staged ≡ staged
+calm batch staged is = cond-false (raises_promise batch) [] staged is
+
+-- the role, and what is staged of a log, stay
+pub record IsKept (v w : step.Volatile) : Type 0 where
+  pub role : w.role ≡ v.role
+  pub staged : w.staged ≡ v.staged
+
+kept_beside : (o : Option Base) (batch : List Change) (v : step.Volatile) → raises_promise batch ≡ false → IsKept v (adopted_in batch (turn_beside o) v)
+kept_beside None batch v calms = record { role = refl; staged = calm batch v.staged calms }
+kept_beside (Some b) batch v calms = record { role = refl; staged = calm batch v.staged calms }
+
+pub holding_kept : (o : Option Joining) (batch : List Change) (v : step.Volatile) → raises_promise batch ≡ false → IsKept v (adopted_in batch (turn_holding o batch) v)
+holding_kept None batch v calms = record { role = refl; staged = calm batch v.staged calms }
+holding_kept (Some j) batch v calms = kept_beside (joining_after j batch).base batch v calms
+
+module _ (me : ℕ) (s : State) (batch : List Change) (change : Written) (same : service_over s.service change ≡ s.service) (room : Room) (new : Plan) (calms : raises_promise batch ≡ false) where
+  -- what the plan of this turn does, where nothing begins anew
+  abbrev stored_with : Turn → Planned
+  stored_with t = made_by s.waiting s.volatile s.service (chain_plan (storing_plan batch t) change [] None room)
+
+  served_same : (t : Turn) → (let x : Planned = record (only_stores s batch) { volatile = adopted_in batch t s.volatile } in stored_with t ≡ x)
+  served_same t = ap (λ (u : Service). let x : Planned = record (only_stores s batch) { volatile = adopted_in batch t s.volatile; service = u } in x) same
+
+  -- no piece stays staged beside a base
+  stored : (b : Option Base) → stored_with (turn_beside b) ≡ stores_beside s batch b
+  stored None =
+      served_same turn.Stay
+      ∙ ap (λ (h : Held). let v : step.Volatile = record s.volatile { staged = h } in let x : Planned = record (only_stores s batch) { volatile = v } in x) (calm batch s.volatile.staged calms)
+  stored (Some b) =
+      served_same turn.DropPieces
+      ∙ ap (λ (h : Held). let v : step.Volatile = record s.volatile { staged = h; pieces = None } in let x : Planned = record (only_stores s batch) { volatile = v } in x) (calm batch s.volatile.staged calms)
+
+  gone_on : (j k : Joining) (m : MapState) (r : Renewal) (t : Turn) → turned t s.volatile.role ≡ s.volatile.role → GoesOn me j m s.volatile.role (storing_plan batch t) new r → k.conf ≡ j.conf → k.members ≡ j.members → k.len ≡ j.len
       → (b : Option Base) (es : Option (List Entry)) → Some m.service ≡ joined b es → made_by s.waiting s.volatile s.service (chain_plan new change [] (Some r) room) ≡ goes_on_if me s k batch b es
-  gone_on j k m r goes conf members len (Some b) (Some es) is =
-      let t : Service = joined_service b es in
-      let served : m.service ≡ t = cc in
-      let more : Service → ℕ → List ℕ → Plan = λ u c ms. joined_plan me (record k { conf = c; members = ms }) u (storing_plan batch) in
+  gone_on j k m r t role goes conf members len (Some b) (Some es) is =
+      let u : Service = joined_service b es in
+      let served : m.service ≡ u = cc in
+      let more : Service → ℕ → List ℕ → Plan = λ z c ms. joined_plan me (record k { conf = c; members = ms }) z (storing_plan batch t) in
       let x : Plan → Planned = λ n. made_by s.waiting s.volatile s.service (chain_plan n change [] None room) in
       let why : ℕ → List Reply = λ n. given_up_by s.volatile.role (cause.Stop (n - 1)) in
+      let told : r.given_up ≡ why k.len = goes.given_up ∙ ap (λ (q : Role). given_up_by q (cause.Stop (j.len - 1))) role ∙ ap why (sym len) in
       ap (λ (n : Plan). made_by s.waiting s.volatile s.service (chain_plan n change [] (Some r) room)) goes.plan
       ∙ ap (λ (w : step.Volatile). anew_of w (service_anew r.service (service_over s.service change)) r.given_up (x (more m.service j.conf j.members))) goes.anew.first
       ∙ ap (λ (o : Option MapState). anew_of (first_volatile me) (service_anew o (service_over s.service change)) r.given_up (x (more m.service j.conf j.members))) goes.service
-      ∙ ap (λ (rs : List Reply). anew_of (first_volatile me) m.service rs (x (more m.service j.conf j.members))) (goes.given_up ∙ ap why (sym len))
-      ∙ ap (λ (u : Service). anew_of (first_volatile me) u (why k.len) (x (more u j.conf j.members))) served
-      ∙ ap (λ (c : ℕ). anew_of (first_volatile me) t (why k.len) (x (more t c j.members))) (sym conf)
-      ∙ ap (λ (ms : List ℕ). anew_of (first_volatile me) t (why k.len) (x (more t k.conf ms))) (sym members)
-  gone_on j k m r goes conf members len (Some b) None is = absurd cc
-  gone_on j k m r goes conf members len None es is = absurd cc
+      ∙ ap (λ (rs : List Reply). anew_of (first_volatile me) m.service rs (x (more m.service j.conf j.members))) told
+      ∙ ap (λ (z : Service). anew_of (first_volatile me) z (why k.len) (x (more z j.conf j.members))) served
+      ∙ ap (λ (c : ℕ). anew_of (first_volatile me) u (why k.len) (x (more u c j.members))) (sym conf)
+      ∙ ap (λ (ms : List ℕ). anew_of (first_volatile me) u (why k.len) (x (more u k.conf ms))) (sym members)
+  gone_on j k m r t role goes conf members len (Some b) None is = absurd cc
+  gone_on j k m r t role goes conf members len None es is = absurd cc
 
-  not_yet : (k : Joining) (b : Option Base) (es : Option (List Entry)) → None ≡ joined b es → only_stores s batch ≡ goes_on_if me s k batch b es
+  not_yet : (k : Joining) (b : Option Base) (es : Option (List Entry)) → None ≡ joined b es → stores_beside s batch b ≡ goes_on_if me s k batch b es
   not_yet k (Some b) (Some es) is = absurd cc
   not_yet k (Some b) None is = refl
   not_yet k None es is = refl
 
-  by_service : (j : Joining) (m : Option MapState) (r : Option Renewal) → IfJoined j batch m → IfGoesOn me (Some j) m s.volatile.role (storing_plan batch) new r
+  by_service : (j : Joining) (m : Option MapState) (r : Option Renewal) → IfJoined j batch m → IfGoesOn me (Some j) m s.volatile.role (storing_plan batch (turn_holding (Some j) batch)) new r
       → made_by s.waiting s.volatile s.service (chain_plan new change [] r room) ≡ holding me s batch (Some (joining_after j batch))
   by_service j None r is goes =
       let k : Joining = joining_after j batch in
       ap (λ (n : Plan). made_by s.waiting s.volatile s.service (chain_plan n change [] r room)) goes.0
-      ∙ ap (λ (o : Option Renewal). made_by s.waiting s.volatile s.service (chain_plan (storing_plan batch) change [] o room)) goes.1
-      ∙ stored ∙ not_yet k k.base (cover_of k) is
+      ∙ ap (λ (o : Option Renewal). made_by s.waiting s.volatile s.service (chain_plan (storing_plan batch (turn_beside k.base)) change [] o room)) goes.1
+      ∙ stored k.base ∙ not_yet k k.base (cover_of k) is
   by_service j (Some m) None is goes = absurd goes
   by_service j (Some m) (Some r) is goes =
-      let k : Joining = joining_after j batch in gone_on j k m r goes (same_conf j batch) (same_members j batch) (same_len j batch) k.base (cover_of k) is
+      let k : Joining = joining_after j batch in
+      gone_on j k m r (turn_beside k.base) (beside_role k.base s.volatile.role) goes (same_conf j batch) (same_members j batch) (same_len j batch) k.base (cover_of k) is
 
   -- the plan of an input that brings something of a closed list
   pub join_table : (j : Joining) (m : Option MapState) (r : Option Renewal) → IfJoined j batch m → (durable_after s.durable batch).joining ≡ Some (joining_after j batch)
-      → IfGoesOn me (Some j) m s.volatile.role (storing_plan batch) new r → made_by s.waiting s.volatile s.service (chain_plan new change [] r room) ≡ holds_more me s batch
+      → IfGoesOn me (Some j) m s.volatile.role (storing_plan batch (turn_holding (Some j) batch)) new r → made_by s.waiting s.volatile s.service (chain_plan new change [] r room) ≡ holds_more me s batch
   join_table j m r is after goes = by_service j m r is goes ∙ ap (λ (o : Option Joining). holding me s batch o) (sym after)
 
 -- ---- who waits

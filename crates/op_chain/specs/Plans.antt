@@ -34,7 +34,7 @@ use Rattle.op_protocol.specs.Starting.{first_volatile}
 use Rattle.op_protocol.specs.Rows.{based_batch, newly_decided, table_plan}
 use Rattle.op_plans.specs.Positions.{FitsPositions}
 use Rattle.op_kv.specs.Over.{MapState, service_over}
-use Rattle.op_instance.specs.Memory.{volatile_of, turned_in, part_step_of, IsKeptBy, HasRoomIn}
+use Rattle.op_instance.specs.Memory.{volatile_of, adopted_in, part_step_of, IsKeptBy, HasRoomIn}
 use Rattle.op_instance.specs.Sound.{IsNode, IsSoundStep}
 use Rattle.op_instance.specs.declared.volatile.Volatile.{Volatile}
 use Rattle.op_chain.specs.Answering as answering
@@ -77,7 +77,7 @@ made_by waiting v s plan =
     renewed plan.renewal
     (record {
       batch = plan.plan.batch;
-      volatile = turned_in plan.plan.turn v;
+      volatile = adopted_in plan.plan.batch plan.plan.turn v;
       service = service_over s plan.service;
       waiting = g.waiting;
       reads = None;

@@ -2,6 +2,7 @@ ghost use Rattle.std.specs.Prelude.{◌≡◌, ◌≤◌, ℕ, length, fold, Opt
 ghost use Rattle.op_types.specs.Stops.{stop_at_end};
 ghost use Rattle.op_types.specs.Roles.{role_of};
 ghost use Rattle.op_types.specs.Rooms.{with_room, no_needs};
+ghost use Rattle.op_types.specs.Stages.{Pieces};
 ghost use Rattle.op_types.specs.declared.durable.Joining.{Joining};
 ghost use Rattle.op_types.specs.declared.events.Input as input;
 ghost use Rattle.op_types.specs.declared.messages.Body as body;
@@ -29,7 +30,7 @@ use crate::chain_plan::ChainPlan;
 use crate::closing::{given_up_after, push_news};
 use crate::deciding::{decided_after, serve_decided};
 use crate::given::Given;
-use crate::joining::bringing;
+use crate::joining::{bringing, turn_holding};
 use crate::renewal::{Anew, Renewal, begin, push_requests};
 use crate::room::Room;
 use crate::served::Served;
@@ -140,7 +141,14 @@ impl Chain {
             (Prepares self.new (table_plan self.old.me (state_of self.old) input)) }
     {
         let latest = self.stored().latest();
-        match bringing(self.alloc, latest, &self.durable.joining, input)? {
+        let brought = bringing(
+            self.alloc,
+            latest,
+            &self.durable.joining,
+            &self.volatile.pieces,
+            input,
+        )?;
+        match brought {
             Brought::Nothing(input) => self.plan_step(input),
             Brought::Changes(batch, service) => self.plan_joining(batch, service),
         }
@@ -162,7 +170,7 @@ impl Chain {
     fn plan_step(&mut self, input: Input) -> Result<ChainPlan, NoMemory>
         requires admits { Admits self.old input }
         requires rested { with_room no_needs self.old.durable ≡ self.old.durable }
-        requires none { brought_by self.old.durable input ≡ None }
+        requires none { brought_by self.old.durable (volatile_of self.old.volatile) input ≡ None }
         ensures same { IsSame self.old self.new }
         ensures rested { self.new.durable ≡ self.old.durable }
         ensures prepares { IfOk result
@@ -202,8 +210,8 @@ impl Chain {
     fn plan_joining(&mut self, batch: Batch, service: Option<Map>) -> Result<ChainPlan, NoMemory>
         requires sound { IsSoundChain self.old }
         requires rested { with_room no_needs self.old.durable ≡ self.old.durable }
-        requires brought { (c : ℕ) × (b : body.Body)
-            × (brought_to self.old.durable.joining c b ≡ Some batch) }
+        requires brought { (o : Option Pieces) × (c : ℕ) × (b : body.Body)
+            × (brought_to self.old.durable.joining o c b ≡ Some batch) }
         requires served { (j : Joining) × (self.old.durable.joining ≡ Some j) × IfJoined j batch service }
         requires range { BatchInRange (holds_more self.old.me (state_of self.old) batch).batch }
         ensures same { IsSame self.old self.new }
@@ -214,6 +222,7 @@ impl Chain {
         // A plan of nothing settles the service.
         let (_, change) = self.service.plan(self.alloc, &[])?;
         let mut plan = Plan::nothing(self.alloc);
+        plan.turn = turn_holding(&self.durable.joining, batch.as_slice());
         plan.batch = batch;
         let renewal = self.go_on(&mut plan, service)?;
         self.waiting.make_room(&[])?;
@@ -227,9 +236,12 @@ impl Chain {
     fn step(&mut self, input: Input) -> Result<Plan, NoMemory>
         requires { IsSoundChain self.old }
         ensures rest { self.new ≡ record self.old {
-          volatile = record self.old.volatile { role = self.new.volatile.role };
+          volatile = record self.old.volatile {
+            role = self.new.volatile.role;
+            staged = self.new.volatile.staged;
+          };
         } }
-        ensures role { role_of self.new.volatile.role ≡ role_of self.old.volatile.role }
+        ensures same { volatile_of self.new.volatile ≡ volatile_of self.old.volatile }
         ensures step { IfOk result (λ plan. part_step_of plan (volatile_of self.old.volatile)
             ≡ based_step self.old.durable.part
             (step_at self.old.me self.old.durable (volatile_of self.old.volatile) input)) }
@@ -341,8 +353,8 @@ impl Chain {
             replies: mut given,
             mut told,
         } = room;
+        self.volatile.adopt(turn, &batch);
         self.durable.adopt(batch);
-        self.volatile.adopt(turn);
         self.service.adopt(service);
         self.waiting.let_wait();
         give_up(&mut self.waiting, &mut told, given_up);

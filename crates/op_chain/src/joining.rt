@@ -1,37 +1,42 @@
 //! A node that joins holds what is brought of the closed list, and goes on once it has all.
-ghost use Rattle.std.specs.Prelude.{◌≡◌, Some, true, IsTrue, IfOk, IfSome, is_some};
+ghost use Rattle.std.specs.Prelude.{◌≡◌, Some, ℕ, true, IsTrue, IfOk, IfSome};
 ghost use Rattle.op_types.specs.Rooms.{joining_with_room};
 ghost use Rattle.op_kv.specs.Bases.{IsBase};
 ghost use Rattle.op_protocol.specs.Bases.{is_base};
-ghost use Rattle.op_protocol.specs.Joining.{brought_to};
-ghost use Rattle.op_chain.specs.Bringing.{Brings, BringsBase, IsBrought, IfJoined, joining_after, HasBase};
+ghost use Rattle.op_protocol.specs.Joining.{takes_base, takes_entries};
+ghost use Rattle.op_segments.specs.Brought.{held_base, held_entries};
+ghost use Rattle.op_chain.specs.Bringing.{Brings, BringsOf, nothing_of, IsCompleted, IsHeld, IsBrought, IfJoined, joining_after, HasBase};
+ghost use Rattle.op_chain.specs.Bringing.{is_join_base, has_base, turn_holding};
 
 use crate::brought::Brought;
 use crate::trimming::service_from;
 use op_kv::Map;
-use op_segments::{WholeFail, take, whole};
-use op_types::{Batch, Body, ConfNo, Durable, Input, Joining, Msg, NoMemory, copy_batch};
+use op_segments::{WholeFail, completed, take_base, take_entries, whole};
+use op_types::{
+    Batch, Blob, Body, Change, ConfNo, Durable, Entries, Input, Joining, Msg, NoMemory, Pid, Piece,
+    Pieces, Turn, copy_batch,
+};
 use std::alloc::Global;
 
-/// What an input brings to a node that joins. It takes a base where it holds none, and entries; both have to stand in the
-/// closed list, and to be of the configuration that it joins.
+/// What an input brings to a node that joins, with so much of a base as came in pieces. It takes a base where it holds none,
+/// and entries; both have to stand in the closed list, and to be of the configuration that it joins.
 pub(crate) fn bringing(
     alloc: Global,
     latest: ConfNo,
     joining: &Option<Joining>,
+    pieces: &Option<Pieces>,
     input: Input,
 ) -> Result<Brought, NoMemory>
     requires { IfSome joining.now HasBase }
-    ensures { IfOk result (Brings latest joining.now input) }
+    ensures { IfOk result (Brings latest joining.now pieces.now input) }
 {
     let Some(joining) = joining else {
         return Ok(Brought::Nothing(input));
     };
     match input {
         Input::Deliver(from, message) => {
-            if latest <= message.conf && takes(joining, &message) {
-                let (batch, service) = bring(alloc, joining, message.body)?;
-                Ok(Brought::Changes(batch, service))
+            if latest <= message.conf {
+                bring(alloc, joining, pieces, from, message)
             } else {
                 Ok(Brought::Nothing(Input::Deliver(from, message)))
             }
@@ -40,25 +45,63 @@ pub(crate) fn bringing(
     }
 }
 
-/// Whether a node that joins takes what a message brings.
-fn takes(joining: &Joining, message: &Msg) -> bool
-    ensures base { IsTrue result → BringsBase message.now.body }
-    ensures takes { result ≡ is_some (brought_to (Some joining.now) message.now.conf message.now.body) }
+/// What a message brings that the node takes: a base, also one that a piece completes, or entries.
+fn bring(
+    alloc: Global,
+    joining: &Joining,
+    pieces: &Option<Pieces>,
+    from: Pid,
+    message: Msg,
+) -> Result<Brought, NoMemory>
+    requires { HasBase joining.now }
+    ensures { IfOk result (BringsOf joining.now pieces.now from message) }
 {
-    match &message.body {
+    let Msg { conf, body } = message;
+    match body {
         Body::BasePart(at, base) => {
-            joining.conf == message.conf
-                && joining.base.is_none()
-                && *at <= joining.len
-                && is_base(base.as_slice())
+            if takes_base(joining, conf, at, &base) {
+                return hold_base(alloc, joining, at, base);
+            }
+            Ok(nothing(from, conf, Body::BasePart(at, base)))
+        }
+        Body::BasePiece(piece) => {
+            match completed_base(alloc, joining, pieces, conf, &piece)? {
+                Some(base) => hold_base(alloc, joining, piece.at, base),
+                None => Ok(nothing(from, conf, Body::BasePiece(piece))),
+            }
         }
         Body::Segment(at, entries) => {
-            joining.conf == message.conf
-                && !entries.is_empty()
-                && *at as u128 + entries.len() as u128 <= joining.len as u128
+            if takes_entries(joining, conf, at, &entries) {
+                return hold_entries(alloc, joining, at, entries);
+            }
+            Ok(nothing(from, conf, Body::Segment(at, entries)))
         }
-        _ => false,
+        body => Ok(nothing(from, conf, body)),
     }
+}
+
+/// A message brings nothing.
+fn nothing(from: Pid, conf: ConfNo, body: Body) -> Brought
+    ensures { result ≡ nothing_of from conf body }
+{
+    Brought::Nothing(Input::Deliver(from, Msg { conf, body }))
+}
+
+/// Whether the node takes a base.
+fn takes_base(joining: &Joining, conf: ConfNo, at: u64, base: &Blob) -> bool
+    ensures base { IsTrue result → IsBase base.now }
+    ensures takes { result ≡ takes_base joining.now conf at base.now }
+{
+    joining.conf == conf && joining.base.is_none() && at <= joining.len && is_base(base.as_slice())
+}
+
+/// Whether it takes entries.
+fn takes_entries(joining: &Joining, conf: ConfNo, at: u64, entries: &Entries) -> bool
+    ensures { result ≡ takes_entries joining.now conf at entries.now }
+{
+    joining.conf == conf
+        && !entries.is_empty()
+        && at as u128 + entries.len() as u128 <= joining.len as u128
 }
 
 /// Whether these bytes are the base of a service.
@@ -69,17 +112,56 @@ fn is_base(bytes: &[u8]) -> bool
     Map::is_base(bytes)
 }
 
-/// What a message brings that the node takes, and the service after the closed list, if the node has all of it then.
-fn bring(alloc: Global, joining: &Joining, body: Body) -> Result<(Batch, Option<Map>), NoMemory>
-    requires held { HasBase joining.now }
-    requires base { BringsBase body }
-    requires takes { is_some (brought_to (Some joining.now) joining.now.conf body) ≡ true }
-    ensures batch { IfOk result (λ x. brought_to (Some joining.now) joining.now.conf body ≡ Some x.0) }
-    ensures service { IfOk result (λ x. IfJoined joining.now x.0 x.1) }
+/// The base that a piece completes, if the node takes it.
+fn completed_base(
+    alloc: Global,
+    joining: &Joining,
+    pieces: &Option<Pieces>,
+    conf: ConfNo,
+    piece: &Piece,
+) -> Result<Option<Blob>, NoMemory>
+    ensures { IfOk result (IsCompleted joining.now pieces.now conf piece.now) }
 {
-    let batch = take(alloc, joining, body)?;
+    match completed(alloc, joining, pieces, conf, piece)? {
+        Some(base) if takes_base(joining, conf, piece.at, &base) => Ok(Some(base)),
+        _ => Ok(None),
+    }
+}
+
+/// A base is held that the node takes.
+fn hold_base(alloc: Global, joining: &Joining, at: u64, base: Blob) -> Result<Brought, NoMemory>
+    requires held { HasBase joining.now }
+    requires base { IsBase base }
+    requires takes { (c : ℕ) × (takes_base joining.now c at base ≡ true) }
+    ensures { IfOk result (IsHeld joining.now (held_base joining.now at base)) }
+{
+    let batch = take_base(alloc, joining, at, base)?;
+    hold(alloc, joining, batch)
+}
+
+/// Entries are held that it takes.
+fn hold_entries(
+    alloc: Global,
+    joining: &Joining,
+    at: u64,
+    entries: Entries,
+) -> Result<Brought, NoMemory>
+    requires held { HasBase joining.now }
+    requires takes { (c : ℕ) × (takes_entries joining.now c at entries ≡ true) }
+    ensures { IfOk result (IsHeld joining.now (held_entries joining.now at entries)) }
+{
+    let batch = take_entries(alloc, joining, at, entries)?;
+    hold(alloc, joining, batch)
+}
+
+/// Changes are held, with the service after the closed list, if the node has all of it then.
+fn hold(alloc: Global, joining: &Joining, batch: Batch) -> Result<Brought, NoMemory>
+    requires brought { IsBrought joining.now batch }
+    requires base { HasBase (joining_after joining.now batch) }
+    ensures { IfOk result (IsHeld joining.now batch) }
+{
     let service = joined_service(alloc, joining, &batch)?;
-    Ok((batch, service))
+    Ok(Brought::Changes(batch, service))
 }
 
 /// The service after the closed list, if base and entries cover it once these changes are made.
@@ -114,5 +196,39 @@ fn holding(alloc: Global, joining: &Joining, batch: &Batch) -> Result<Option<Joi
     match durable.after(copy_batch(alloc, batch.as_slice())?)? {
         Some(after) => Ok(after.joining),
         None => Ok(None),
+    }
+}
+
+#[tactic(auto, using(crate::proofs::Beside::drops_still, crate::proofs::Beside::drops_then, crate::proofs::Beside::stays_then))]
+/// The turn of a step by which a node that joins holds these changes: no piece of a base stays staged beside a base.
+pub(crate) fn turn_holding(joining: &Option<Joining>, batch: &[Change]) -> Turn
+    ensures { result ≡ turn_holding joining.now batch.now }
+{
+    let Some(joining) = joining else {
+        return Turn::Stay;
+    };
+    if joining.base.is_some() || has_base(batch) {
+        return Turn::DropPieces;
+    }
+    Turn::Stay
+}
+
+/// Whether these changes bring a base.
+fn has_base(batch: &[Change]) -> bool
+    ensures { result ≡ has_base batch.now }
+{
+    match batch {
+        [] => false,
+        [first, rest @ ..] => is_join_base(first) || has_base(rest),
+    }
+}
+
+/// Whether a change brings a base.
+fn is_join_base(change: &Change) -> bool
+    ensures { result ≡ is_join_base change.now }
+{
+    match change {
+        Change::JoinBase(_, _) => true,
+        _ => false,
     }
 }

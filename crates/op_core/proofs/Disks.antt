@@ -46,7 +46,7 @@ use Rattle.op_serving.specs.Inputs.{Deed, begins, hears, enters, says, takes}
 use Rattle.op_serving.specs.Ranges.{InputInRange}
 use Rattle.op_serving.specs.Reopenings.{FindStored, unstored_after, unstored_behind}
 use Rattle.op_core.specs.Disks.{Stores, StepStores, CoreStores}
-use Rattle.op_core.specs.NodeCores.{IsOfBytes, IsServable, handed, handed_of, handed_again, standing_at, standing_of}
+use Rattle.op_core.specs.NodeCores.{IsServable, handed, handed_of, handed_again, standing_at, standing_of}
 use Rattle.op_core.specs.declared.node_core.NodeCore.{NodeCore}
 use Rattle.op_core.proofs.NodeCores.{input_of, gives_at, after_so, same_me, same_failed}
 
@@ -91,9 +91,9 @@ takes_one me d before after one first second =
     taken me d (⊎_elim (λ is. subst (λ (e : Durable). IsNamed me e) (sym is) first) (λ is. subst (λ (e : Durable). IsNamed me e) (sym is) second) one)
 
 -- what a step stores names its node still
-named_at : (me : ℕ) (s : State) (o : Option ℕ) (x : Input) → IsPid me → StateInRange IsPid s → InputInRange x → IsOfBytes x → IsNamed me s.durable → IsNamed me (after_input (record { me = me; state = s; failed = o }) x).state.durable
-named_at me s None x one range r w named = steps_name IsPid servers me one s range x (input_of x r w) named
-named_at me s (Some count) x one range r w named = named
+named_at : (me : ℕ) (s : State) (o : Option ℕ) (x : Input) → IsPid me → StateInRange IsPid s → InputInRange x → IsNamed me s.durable → IsNamed me (after_input (record { me = me; state = s; failed = o }) x).state.durable
+named_at me s None x one range r named = steps_name IsPid servers me one s range x (input_of x r) named
+named_at me s (Some count) x one range r named = named
 
 -- ---- a node that has failed
 
@@ -120,7 +120,7 @@ module _ {D : Type 0} (state : D → DiskState) where
     unstored_named = subst (λ (k : NodeState). IsNamed k.me u) (sym same) s.unstored_named;
   }
 
-  module _ (n m : Node D) (x : Input) (ready : IsServable n) (range : InputInRange x) (bytes : IsOfBytes x) where
+  module _ (n m : Node D) (x : Input) (ready : IsServable n) (range : InputInRange x) where
     abbrev me : ℕ
     me = (node_of n).me
 
@@ -132,7 +132,7 @@ module _ {D : Type 0} (state : D → DiskState) where
 
     named_after : IsNamed me before → IsNamed (after_input (node_of n) x).me (after_input (node_of n) x).state.durable
     named_after named = subst (λ (p : ℕ). IsNamed p (after_input (node_of n) x).state.durable) (sym (same_me (node_of n) x))
-        (named_at me (node_of n).state n.failed x ready.me ready.range range bytes named)
+        (named_at me (node_of n).state n.failed x ready.me ready.range range named)
 
     -- it ends
     done_stores : (given : NodeGiven) → Stepped (node_of n) x (Ok given) (node_of m) → DiskSteps state before batch n.store m.store (Ok given) → (u : Durable) → Stores state u n → Stores state u m
@@ -157,7 +157,7 @@ module _ {D : Type 0} (state : D → DiskState) where
         let made : batch ≡ (step_plan me (node_of n).state x).batch = ap (λ (o : Option ℕ). stores (record (node_of n) { failed = o }) x) e in
         let after : Durable = durable_after before (step_plan me (node_of n).state x).batch in
         let one : StoreOneOf before after (disks_of state m.store) = subst (λ (b : List Change). StoreOneOf before (durable_after before b) (disks_of state m.store)) made (failed_step state before batch n.store m.store count t (s.up e)) in
-        let goes : IsNamed me after = steps_name IsPid servers me ready.me (node_of n).state ready.range x (input_of x range bytes) s.named in
+        let goes : IsNamed me after = steps_name IsPid servers me ready.me (node_of n).state ready.range x (input_of x range) s.named in
         record {
           up = λ up. let bad : Some count ≡ None = sym (ap (λ (k : NodeState). k.failed) d) ∙ up in absurd cc;
           failed = λ _. subst (λ (k : NodeState). StoreOneOf k.state.durable after (disks_of state m.store)) (sym d) one;

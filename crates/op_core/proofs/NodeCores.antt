@@ -23,16 +23,16 @@ use Rattle.op_msg.specs.Ranges.{BodyInRange, ForwardedInRange, ForwardsInRange, 
 use Rattle.op_command.specs.Ranges.{AnswerInRange, OutcomeInRange}
 use Rattle.op_protocol.specs.State.{State}
 use Rattle.op_protocol.specs.Rows.{step_plan}
-use Rattle.op_protocol.specs.Starting.{sends_after_restart}
+use Rattle.op_protocol.specs.Starting.{first_volatile, sends_after_restart}
 use Rattle.op_bounds.specs.Messages.{EntryOf, EntriesOf}
 use Rattle.op_bounds.specs.Messages as known
-use Rattle.op_bounds.specs.States.{RoleEndsNowhere, StateInRange}
-use Rattle.op_types.specs.Roles.{Idle}
+use Rattle.op_bounds.specs.States.{VolatileEndsNowhere, StateInRange}
 use Rattle.op_bounds.specs.Laws.{PlanInRange, OpeningInRange}
 use Rattle.op_bounds.proofs.Steps.{steps_stay}
 use Rattle.op_bounds.proofs.Starts.{openings_stay}
+use Rattle.op_bounds.proofs.Beginning.{first_stops}
 use Rattle.op_bounds.proofs.Known.{servers, ballot_any, members_any, entry_any, entries_any, durable_any}
-use Rattle.op_bounds.proofs.ReadBases.{base_if_read}
+use Rattle.op_bounds.proofs.Frames.{message_is}
 use Rattle.op_server.specs.declared.given.Given.{Given}
 use Rattle.op_node.specs.Nodes as node
 use Rattle.op_node.specs.Nodes.{NodeState, node_of, stores, Stepped, AdmitsInput, IsSoundNode}
@@ -48,15 +48,9 @@ use Rattle.op_node.specs.declared.fail.StepFail.{StepFail}
 use Rattle.op_node.specs.declared.fail.StepFail.TheVariants as fails
 use Rattle.op_serving.specs.Cores as cores
 use Rattle.op_serving.specs.Ranges.{InputInRange, SendInRange, ReplyInRange, GivenInRange}
-use Rattle.op_core.specs.NodeCores.{BringsBytes, IsOfBytes, handed, handed_of, handed_again, standing_at, IsServable}
+use Rattle.op_core.specs.NodeCores.{handed, handed_of, handed_again, standing_at, IsServable}
 
 -- ---- from one form of range to the other
-
-entry_is : (e : Entry) → EntryOf IsPid e → EntryInRange e
-entry_is e r = r.0
-
-entries_is : (es : List Entry) → EntriesOf IsPid es → EntriesInRange positions_end es
-entries_is es r = record { few = r.few; each = All-weaker (EntryOf IsPid) EntryInRange entry_is es r.each }
 
 forwards_of : (es : List Entry) → ForwardsInRange es → known.ForwardsInRange IsPid es
 forwards_of es r =
@@ -67,80 +61,52 @@ forwards_of es r =
       commands = All-weaker ForwardedInRange IsCommand (λ e f. f.1) es r.each;
     }
 
-both : (es : List Entry) → All (EntryOf IsPid) es → All IsCommand es → All ForwardedInRange es
-both es r f k d lt = (entry_is (get_or es k d) (r k d lt), f k d lt)
-
-forwards_is : (es : List Entry) → known.ForwardsInRange IsPid es → ForwardsInRange es
-forwards_is es r = record { several = r.several; few = r.few; each = both es r.each r.commands }
-
 least_of : (b : Body) (c : ℕ) → least_conf_of b ≤ c → known.least_conf_of b ≤ c
 least_of (body.NextConf members olds len trimmed) c h = h
 least_of _ c h = h
 
-least_is : (b : Body) (c : ℕ) → known.least_conf_of b ≤ c → least_conf_of b ≤ c
-least_is (body.NextConf members olds len trimmed) c h = h
-least_is _ c h = h
+body_of : (b : Body) → BodyInRange b → known.BodyInRange IsPid b
+body_of (body.HeartbeatRequest round) r = r
+body_of (body.HeartbeatReply round b flag) r = (r.0, ballot_any b r.1)
+body_of (body.Prepare n na nl nd) r = (ballot_any n r.0, ballot_any na r.1, r.2, r.3)
+body_of (body.Promise n fa fl fd s es) r = (ballot_any n r.0, ballot_any fa r.1, r.2, r.3, r.4, entries_any es r.5)
+body_of (body.PromisePart n part) r = (
+  ballot_any n r.0,
+  record { accepted = ballot_any part.accepted r.1.accepted; len = r.1.len; decided = r.1.decided; start = r.1.start; at = r.1.at; run = entries_any part.run r.1.run },
+)
+body_of (body.AcceptSyncPart n part) r = (ballot_any n r.0, record { start = r.1.start; end = r.1.end; at = r.1.at; run = entries_any part.run r.1.run })
+body_of (body.BasePiece piece) r = r
+body_of (body.AcceptSync n x es) r = (ballot_any n r.0, r.1, entries_any es r.2)
+body_of (body.Accept n at es) r = (ballot_any n r.0, r.1, entries_any es r.2)
+body_of (body.Accepted n x) r = (ballot_any n r.0, r.1)
+body_of (body.Decide n x) r = (ballot_any n r.0, r.1)
+body_of body.PrepareReq r = tt
+body_of (body.Refuse n b) r = (ballot_any n r.0, ballot_any b r.1)
+body_of (body.Forward e) r = entry_any e r
+body_of (body.Forwards es) r = forwards_of es r
+body_of (body.TrimAsk n) r = ballot_any n r
+body_of (body.Progress n x) r = (ballot_any n r.0, r.1)
+body_of (body.Trim x) r = r
+body_of (body.NextConf members olds len trimmed) r = (members_any members r.0, members_any olds r.1, r.2, r.3)
+body_of body.AskBase r = tt
+body_of (body.BasePart at bytes) r = r
+body_of (body.AskSegment from to) r = r
+body_of (body.Segment at es) r = (r.0, entries_any es r.1)
+body_of (body.Confirm n number) r = (ballot_any n r.0, r.1)
+body_of (body.Confirmed n number) r = (ballot_any n r.0, r.1)
 
-body_of : (b : Body) → BodyInRange b → BringsBytes b → known.BodyInRange IsPid b
-body_of (body.HeartbeatRequest round) r w = r
-body_of (body.HeartbeatReply round b flag) r w = (r.0, ballot_any b r.1)
-body_of (body.Prepare n na nl nd) r w = (ballot_any n r.0, ballot_any na r.1, r.2, r.3)
-body_of (body.Promise n fa fl fd s es) r w = (ballot_any n r.0, ballot_any fa r.1, r.2, r.3, r.4, entries_any es r.5)
-body_of (body.AcceptSync n x es) r w = (ballot_any n r.0, r.1, entries_any es r.2)
-body_of (body.Accept n at es) r w = (ballot_any n r.0, r.1, entries_any es r.2)
-body_of (body.Accepted n x) r w = (ballot_any n r.0, r.1)
-body_of (body.Decide n x) r w = (ballot_any n r.0, r.1)
-body_of body.PrepareReq r w = tt
-body_of (body.Refuse n b) r w = (ballot_any n r.0, ballot_any b r.1)
-body_of (body.Forward e) r w = entry_any e r
-body_of (body.Forwards es) r w = forwards_of es r
-body_of (body.TrimAsk n) r w = ballot_any n r
-body_of (body.Progress n x) r w = (ballot_any n r.0, r.1)
-body_of (body.Trim x) r w = r
-body_of (body.NextConf members olds len trimmed) r w = (members_any members r.0, members_any olds r.1, r.2, r.3)
-body_of body.AskBase r w = tt
-body_of (body.BasePart at bytes) r w = (r, base_if_read bytes w)
-body_of (body.AskSegment from to) r w = r
-body_of (body.Segment at es) r w = (r.0, entries_any es r.1)
-body_of (body.Confirm n number) r w = (ballot_any n r.0, r.1)
-body_of (body.Confirmed n number) r w = (ballot_any n r.0, r.1)
-
-body_is : (b : Body) → known.BodyInRange IsPid b → BodyInRange b
-body_is (body.HeartbeatRequest round) r = r
-body_is (body.HeartbeatReply round b flag) r = (r.0, r.1.range)
-body_is (body.Prepare n na nl nd) r = (r.0.range, r.1.range, r.2, r.3)
-body_is (body.Promise n fa fl fd s es) r = (r.0.range, r.1.range, r.2, r.3, r.4, entries_is es r.5)
-body_is (body.AcceptSync n x es) r = (r.0.range, r.1, entries_is es r.2)
-body_is (body.Accept n at es) r = (r.0.range, r.1, entries_is es r.2)
-body_is (body.Accepted n x) r = (r.0.range, r.1)
-body_is (body.Decide n x) r = (r.0.range, r.1)
-body_is body.PrepareReq r = tt
-body_is (body.Refuse n b) r = (r.0.range, r.1.range)
-body_is (body.Forward e) r = entry_is e r
-body_is (body.Forwards es) r = forwards_is es r
-body_is (body.TrimAsk n) r = r.range
-body_is (body.Progress n x) r = (r.0.range, r.1)
-body_is (body.Trim x) r = r
-body_is (body.NextConf members olds len trimmed) r = (r.0.range, r.1.range, r.2, r.3)
-body_is body.AskBase r = tt
-body_is (body.BasePart at bytes) r = r.0
-body_is (body.AskSegment from to) r = r
-body_is (body.Segment at es) r = (r.0, entries_is es r.1)
-body_is (body.Confirm n number) r = (r.0.range, r.1)
-body_is (body.Confirmed n number) r = (r.0.range, r.1)
-
-pub input_of : (x : Input) → InputInRange x → IsOfBytes x → known.InputInRange IsPid x
-input_of input.Tick r w = tt
-input_of (input.Deliver q m) r w = (r.0, record { conf = r.1.conf; least = least_of m.body m.conf r.1.least; body = body_of m.body r.1.body w })
-input_of (input.Commands cs) r w = r
-input_of (input.Stop members) r w = members_any members r
-input_of input.TrimNow r w = tt
-input_of (input.Read x) r w = r
-input_of (input.Up q) r w = r
-input_of (input.Down q) r w = r
+pub input_of : (x : Input) → InputInRange x → known.InputInRange IsPid x
+input_of input.Tick r = tt
+input_of (input.Deliver q m) r = (r.0, record { conf = r.1.conf; least = least_of m.body m.conf r.1.least; body = body_of m.body r.1.body })
+input_of (input.Commands cs) r = r
+input_of (input.Stop members) r = members_any members r
+input_of input.TrimNow r = tt
+input_of (input.Read x) r = r
+input_of (input.Up q) r = r
+input_of (input.Down q) r = r
 
 pub send_is : (s : ℕ × Msg) → known.SendInRange IsPid s → SendInRange s
-send_is s r = (r.to, record { conf = r.message.conf; least = least_is s.1.body s.1.conf r.message.least; body = body_is s.1.body r.message.body })
+send_is s r = (r.to, message_is IsPid s.1 r.message)
 
 cause_is : (a : Answer) → known.AnswerInRange IsPid a → AnswerInRange a
 cause_is answer.Done r = tt
@@ -157,12 +123,12 @@ reply_is a r = record { asked = r.asked; answer = cause_is a.answer r.answer }
 -- ---- a step
 
 -- what a node stores is in range
-batch_at : (me : ℕ) (s : State) (o : Option ℕ) (x : Input) → IsPid me → StateInRange IsPid s → InputInRange x → IsOfBytes x → BatchInRange (stores (record { me = me; state = s; failed = o }) x)
-batch_at me s None x one range r w = (steps_stay IsPid servers me one s range x (input_of x r w)).batch
-batch_at me s (Some count) x one range r w = record { few = omega arith; each = All-nil ChangeInRange }
+batch_at : (me : ℕ) (s : State) (o : Option ℕ) (x : Input) → IsPid me → StateInRange IsPid s → InputInRange x → BatchInRange (stores (record { me = me; state = s; failed = o }) x)
+batch_at me s None x one range r = (steps_stay IsPid servers me one s range x (input_of x r)).batch
+batch_at me s (Some count) x one range r = record { few = omega arith; each = All-nil ChangeInRange }
 
-pub batch_in : (n : NodeState) (x : Input) → IsPid n.me → StateInRange IsPid n.state → InputInRange x → IsOfBytes x → BatchInRange (stores n x)
-batch_in n x one range r w = batch_at n.me n.state n.failed x one range r w
+pub batch_in : (n : NodeState) (x : Input) → IsPid n.me → StateInRange IsPid n.state → InputInRange x → BatchInRange (stores n x)
+batch_in n x one range r = batch_at n.me n.state n.failed x one range r
 
 -- what it gives out, but that the count of a fault fits its type
 pub record Handed (g : Given) : Type 0 where
@@ -181,28 +147,28 @@ refused_at count (input.Read r) = record { sends = All-nil SendInRange; replies 
 refused_at count (input.Up q) = record { sends = All-nil SendInRange; replies = All-nil ReplyInRange; read_replies = All-nil ReplyInRange; outcome = tt }
 refused_at count (input.Down q) = record { sends = All-nil SendInRange; replies = All-nil ReplyInRange; read_replies = All-nil ReplyInRange; outcome = tt }
 
-handed_at : (me : ℕ) (s : State) (o : Option ℕ) (x : Input) → IsPid me → StateInRange IsPid s → InputInRange x → IsOfBytes x → Handed (node.gives (record { me = me; state = s; failed = o }) x)
-handed_at me s None x one range r w =
-    let p : PlanInRange IsPid s (step_plan me s x) = steps_stay IsPid servers me one s range x (input_of x r w) in
+handed_at : (me : ℕ) (s : State) (o : Option ℕ) (x : Input) → IsPid me → StateInRange IsPid s → InputInRange x → Handed (node.gives (record { me = me; state = s; failed = o }) x)
+handed_at me s None x one range r =
+    let p : PlanInRange IsPid s (step_plan me s x) = steps_stay IsPid servers me one s range x (input_of x r) in
     record {
       sends = All-weaker (known.SendInRange IsPid) SendInRange send_is (step_plan me s x).sends p.sends;
       replies = All-weaker (known.ReplyInRange IsPid) ReplyInRange reply_is (step_plan me s x).replies p.replies;
       read_replies = All-weaker (known.ReplyInRange IsPid) ReplyInRange reply_is (step_plan me s x).read_replies p.read_replies;
       outcome = p.outcome;
     }
-handed_at me s (Some count) x one range r w = refused_at count x
+handed_at me s (Some count) x one range r = refused_at count x
 
-pub given_in : (n : NodeState) (x : Input) → IsPid n.me → StateInRange IsPid n.state → InputInRange x → IsOfBytes x → Handed (node.gives n x)
-given_in n x one range r w = handed_at n.me n.state n.failed x one range r w
+pub given_in : (n : NodeState) (x : Input) → IsPid n.me → StateInRange IsPid n.state → InputInRange x → Handed (node.gives n x)
+given_in n x one range r = handed_at n.me n.state n.failed x one range r
 
 -- its state after it
-after_at : (me : ℕ) (s : State) (o : Option ℕ) (x : Input) → IsPid me → StateInRange IsPid s → InputInRange x → IsOfBytes x
+after_at : (me : ℕ) (s : State) (o : Option ℕ) (x : Input) → IsPid me → StateInRange IsPid s → InputInRange x
     → StateInRange IsPid (node.after_input (record { me = me; state = s; failed = o }) x).state
-after_at me s None x one range r w = (steps_stay IsPid servers me one s range x (input_of x r w)).after
-after_at me s (Some count) x one range r w = range
+after_at me s None x one range r = (steps_stay IsPid servers me one s range x (input_of x r)).after
+after_at me s (Some count) x one range r = range
 
-pub after_in : (n : NodeState) (x : Input) → IsPid n.me → StateInRange IsPid n.state → InputInRange x → IsOfBytes x → StateInRange IsPid (node.after_input n x).state
-after_in n x one range r w = after_at n.me n.state n.failed x one range r w
+pub after_in : (n : NodeState) (x : Input) → IsPid n.me → StateInRange IsPid n.state → InputInRange x → StateInRange IsPid (node.after_input n x).state
+after_in n x one range r = after_at n.me n.state n.failed x one range r
 
 me_at : (me : ℕ) (s : State) (o : Option ℕ) (x : Input) → (node.after_input (record { me = me; state = s; failed = o }) x).me ≡ me
 me_at me s None x = refl
@@ -219,20 +185,20 @@ pub same_failed : (n : NodeState) (x : Input) → (node.after_input n x).failed 
 same_failed n x = failed_at n.me n.state n.failed x
 
 -- the node can do the step
-pub admits : {D : Type 0} (n : Node D) (x : Input) → IsServable n → InputInRange x → IsOfBytes x → AdmitsInput n x
-admits n x s r w = record { sound = s.sound; range = batch_in (node_of n) x s.me s.range r w }
+pub admits : {D : Type 0} (n : Node D) (x : Input) → IsServable n → InputInRange x → AdmitsInput n x
+admits n x s r = record { sound = s.sound; range = batch_in (node_of n) x s.me s.range r }
 
 -- it can be served after it
-pub stays : {D : Type 0} (n m : Node D) (x : Input) (result : Result Given StepFail) → IsServable n → InputInRange x → IsOfBytes x → Stepped (node_of n) x result (node_of m) → IsSoundNode m → IsServable m
-stays n m x (Ok given) s r w d sound =
+pub stays : {D : Type 0} (n m : Node D) (x : Input) (result : Result Given StepFail) → IsServable n → InputInRange x → Stepped (node_of n) x result (node_of m) → IsSoundNode m → IsServable m
+stays n m x (Ok given) s r d sound =
     record {
       me = subst IsPid (sym (ap (λ (k : NodeState). k.me) d.1 ∙ same_me (node_of n) x)) s.me;
       sound = sound;
-      range = subst (StateInRange IsPid) (sym (ap (λ (k : NodeState). k.state) d.1)) (after_in (node_of n) x s.me s.range r w);
+      range = subst (StateInRange IsPid) (sym (ap (λ (k : NodeState). k.state) d.1)) (after_in (node_of n) x s.me s.range r);
     }
-stays n m x (Err (fails.DiskFail count)) s r w d sound =
+stays n m x (Err (fails.DiskFail count)) s r d sound =
     record { me = subst IsPid (sym (ap (λ (k : NodeState). k.me) d)) s.me; sound = sound; range = subst (StateInRange IsPid) (sym (ap (λ (k : NodeState). k.state) d)) s.range }
-stays n m x (Err fails.NoMemory) s r w d sound =
+stays n m x (Err fails.NoMemory) s r d sound =
     record { me = subst IsPid (sym (ap (λ (k : NodeState). k.me) d)) s.me; sound = sound; range = subst (StateInRange IsPid) (sym (ap (λ (k : NodeState). k.state) d)) s.range }
 
 -- it is the step that serving knows
@@ -257,13 +223,13 @@ after_so me s None f x = refl
 after_so me s (Some count) f x = refl
 
 -- what it gives out is in range
-pub gave : {D : Type 0} (n m : Node D) (x : Input) (result : Result Given StepFail) → IsServable n → InputInRange x → IsOfBytes x → Stepped (node_of n) x result (node_of m)
+pub gave : {D : Type 0} (n m : Node D) (x : Input) (result : Result Given StepFail) → IsServable n → InputInRange x → Stepped (node_of n) x result (node_of m)
     → IfOk result (λ g. IfSome g.outcome (known.OutcomeInRange IsPid) → IfSome g.outcome OutcomeInRange) → IfOk (handed result) GivenInRange
-gave n m x (Ok given) s r w d fits =
-    let h : Handed given = subst Handed (sym d.0) (given_in (node_of n) x s.me s.range r w) in
+gave n m x (Ok given) s r d fits =
+    let h : Handed given = subst Handed (sym d.0) (given_in (node_of n) x s.me s.range r) in
     record { sends = h.sends; replies = h.replies; read_replies = h.read_replies; outcome = fits h.outcome }
-gave n m x (Err (fails.DiskFail count)) s r w d fits = tt
-gave n m x (Err fails.NoMemory) s r w d fits = tt
+gave n m x (Err (fails.DiskFail count)) s r d fits = tt
+gave n m x (Err fails.NoMemory) s r d fits = tt
 
 -- ---- an opening
 
@@ -286,9 +252,9 @@ joining_for_in me (Some j) r = kept_joining (is_member nat_eq j.members me) j r
 pub durable_for_in : (me : ℕ) (d : Durable) → DurableInRange d → DurableInRange (durable_for me d)
 durable_for_in me d r = record { part = part_for_in me d.part r.part; closed = r.closed; joining = joining_for_in me d.joining r.joining }
 
-idle_ends : (o : Option Part) → IfSome o (λ p. RoleEndsNowhere p.conf Idle)
-idle_ends None = tt
-idle_ends (Some p) = tt
+first_ends : (me : ℕ) (o : Option Part) → IfSome o (λ p. VolatileEndsNowhere p.conf (first_volatile me))
+first_ends me None = tt
+first_ends me (Some p) = first_stops p.conf me
 
 opening_at : (me : ℕ) (is_new : Bool) (d : Durable) → IsPid me → DurableInRange d → StateInRange IsPid (opening_state me is_new d)
 opening_at me true d one r =
@@ -296,7 +262,7 @@ opening_at me true d one r =
     record {
       durable = durable_any (durable_for me d) (durable_for_in me d r);
       volatile = first.state.volatile;
-      stops = idle_ends (durable_for me d).part;
+      stops = first_ends me (durable_for me d).part;
       service = first.state.service;
       order = first.state.order;
       reads = tt;

@@ -1,12 +1,7 @@
 -- A node over its disks, as it is served.
 use Rattle.std.specs.Prelude.{◌-◌, ℕ, List, [], length, take, Option, Some, None, Result, Ok, Err}
 use Rattle.op_types.specs.Ranges.{IsPid}
-use Rattle.op_types.specs.declared.events.Input.{Input}
-use Rattle.op_types.specs.declared.events.Input.TheVariants.{Deliver}
-use Rattle.op_types.specs.declared.messages.Body.{Body}
-use Rattle.op_types.specs.declared.messages.Body.TheVariants.{BasePart}
 use Rattle.op_types.specs.declared.messages.Msg.{Msg}
-use Rattle.op_fields.specs.Reads.{IsBytes}
 use Rattle.op_outside.specs.Disks.{DiskState}
 use Rattle.op_runs.specs.declared.summary.NodeLine.{NodeLine}
 use Rattle.op_runs.specs.declared.summary.Running.{Running}
@@ -27,16 +22,6 @@ use Rattle.op_serving.specs.declared.node.Given.{Given}
 use Rattle.op_serving.specs.declared.node.StepFail.{StepFail}
 use Rattle.op_serving.specs.declared.node.StepFail.TheVariants as fails
 use Rattle.op_serving.specs.Cores.{Standing}
-
--- what a message brings as a base is bytes
-abbrev pub BringsBytes : Body → Type 0
-BringsBytes (BasePart at bytes) = IsBytes bytes
-BringsBytes _ = Unit {0}
-
--- the same of an input
-abbrev pub IsOfBytes : Input → Type 0
-IsOfBytes (Deliver q m) = BringsBytes m.body
-IsOfBytes _ = Unit {0}
 
 -- a node's state, and the count of faults of its disks
 abbrev pub standing_at : NodeState → ℕ → Standing

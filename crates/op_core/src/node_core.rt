@@ -1,6 +1,5 @@
 ghost use Rattle.std.specs.Prelude.{◌≡◌, false, true, IfOk, IfSome};
 ghost use Rattle.op_command.specs.Ranges.{OutcomeInRange};
-ghost use Rattle.op_fields.specs.Reads.{IsBytes};
 ghost use Rattle.op_bounds.specs.Messages.{OutcomeInRange as IsOutcomeOf};
 ghost use Rattle.op_types.specs.Ranges.{IsPid};
 ghost use Rattle.op_types.specs.declared.events.Input.TheVariants.{Tick};
@@ -9,7 +8,6 @@ ghost use Rattle.op_serving.specs.Fates.{Steps};
 ghost use Rattle.op_serving.specs.Ranges.{InputInRange, GivenInRange};
 ghost use Rattle.op_core.specs.Disks.{StepStores};
 ghost use Rattle.op_core.specs.NodeCores.{
-  IsOfBytes,
   IsServable,
   handed,
   handed_again,
@@ -23,7 +21,7 @@ use op_outside::Disk;
 use op_runs::{NodeLine, Running};
 use op_serving::{Core, Given, StepFail};
 use op_store::StoreFail;
-use op_types::{Blob, Body, Input, NoMemory, Outcome, Pid, Refusal, Replies, Sends};
+use op_types::{Blob, Input, NoMemory, Outcome, Pid, Refusal, Replies, Sends};
 use std::alloc::Global;
 
 /// A node over its disks, which is served.
@@ -98,7 +96,6 @@ fn step<D: Disk>(node: &mut Node<D>, input: Input) -> Result<Given, StepFail>
     ensures given { IfOk result GivenInRange }
     ensures ready { IsServable node.new }
 {
-    brings_bytes(&input);
     let done = node.step(input);
     count_fits(&done);
     hand_on(done)
@@ -163,25 +160,6 @@ fn hand_on_again(done: Result<Sends, StoreFail>) -> Result<Given, StepFail>
         Err(StoreFail::Damaged { .. }) => Err(StepFail::Damaged),
         Err(StoreFail::NoMemory) => Err(StepFail::NoMemory),
     }
-}
-
-/// What an input brings as a base is bytes.
-fn brings_bytes(input: &Input)
-    ensures { IsOfBytes input.now }
-{
-    let Input::Deliver(_, message) = input else {
-        return;
-    };
-    if let Body::BasePart(_, base) = &message.body {
-        are_bytes(base.as_slice());
-    }
-}
-
-/// These are bytes.
-fn are_bytes(bytes: &[u8])
-    ensures { IsBytes bytes.now }
-{
-    let _count = bytes.len();
 }
 
 /// The count of faults in an outcome fits its type.

@@ -121,7 +121,7 @@ fn sync_entries(member: &Member, role: &Role, from: Pid, accept: Accept) -> Resu
 }
 
 /// The changes by which the leader's log takes the place of the own one.
-fn synced_batch(
+pub(crate) fn synced_batch(
     member: &Member,
     ballot: Ballot,
     at: u64,

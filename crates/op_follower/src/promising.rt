@@ -44,16 +44,7 @@ pub fn on_prepare(
         return Ok(member.nothing());
     }
     let mut plan = promise_higher(member, role, prepare.ballot)?;
-    let suffix = member.log_from(start)?;
-    let body = Body::Promise(
-        prepare.ballot,
-        part.accepted,
-        member.log_len(),
-        part.decided,
-        start,
-        suffix,
-    );
-    member.send(&mut plan.sends, from, body)?;
+    member.send_promise(&mut plan.sends, from, prepare.ballot, start)?;
     Ok(plan)
 }
 

@@ -8,7 +8,7 @@ use Rattle.op_types.specs.Limits.{positions_end, last_conf}
 use Rattle.op_types.specs.Ballots.{is_below, is_same_ballot}
 use Rattle.op_types.specs.Changes.{len_of, part_with, IsCommand, EndsNowhere}
 use Rattle.op_types.specs.RoleStates as state
-use Rattle.op_types.specs.RoleStates.{promise_of, with_promise, with_buffered, with_synced, without_synced, with_acknowledged, report_of, with_report, without_reports}
+use Rattle.op_types.specs.RoleStates.{promise_of, with_promise, stage_of, stages_without, without_stage, told_by, promised_entries, staged_with, with_buffered, with_synced, without_synced, with_acknowledged, report_of, with_report, without_reports}
 use Rattle.op_types.specs.Roles.{Role, Idle, Preparing, Leading}
 use Rattle.op_types.specs.Effects.{Effects}
 use Rattle.op_types.specs.declared.ballot.Ballot.{Ballot}
@@ -21,17 +21,21 @@ use Rattle.op_types.specs.declared.messages.Msg.{Msg}
 use Rattle.op_types.specs.declared.role.Buffered.{Buffered}
 use Rattle.op_types.specs.declared.role.Promised.{Promised}
 use Rattle.op_types.specs.declared.role.Report.{Report}
-use Rattle.op_protocol.specs.Parts.{pending, part_after, part_in_round, cutting, appending, message, others, to_each, saying, nothing, first}
+use Rattle.op_types.specs.declared.runs.PromisedRun.{PromisedRun}
+use Rattle.op_types.specs.Joinings.{Held}
+use Rattle.op_protocol.specs.Parts.{pending, part_after, part_in_round, cutting, appending, message, others, to_each, is_run_to, saying, nothing, first}
 use Rattle.op_protocol.specs.Promises.{has_quorum, is_usable, is_above, Choice, own_choice, better, best, choice_changes, chosen_log, chosen_stop, chosen_len, stop_here, fitting}
-use Rattle.op_protocol.specs.Leader.{backed, counted, decides, count, is_synced, sync_sends, first_leading, leading_with, begin_leading, adopt_with, adopt, prepares, lead, on_promise, decided_again, on_accepted, on_prepare_req, extends, propose, on_forward_leading, on_forward, session_down, waiting_as}
-use Rattle.op_protocol.specs.Follower.{suffix_start, on_prepare, added_changes, accepts, accept_entries, on_accept, synced_changes, sync_entries, on_accept_sync, on_decide}
+use Rattle.op_protocol.specs.Leader.{backed, counted, decides, count, is_synced, sync_sends, first_leading, leading_with, begin_leading, adopt_with, adopt, prepares, first_preparing, lead, on_promise, promised_once, on_promise_part, decided_again, on_accepted, on_prepare_req, extends, propose, on_forward_leading, on_forward, session_down, waiting_as}
+use Rattle.op_protocol.specs.Follower.{suffix_start, on_prepare, added_changes, accepts, accept_entries, on_accept, synced_changes, sync_entries, on_accept_sync, accept_front, on_decide}
 use Rattle.op_protocol.specs.Reading.{on_confirm}
 use Rattle.op_protocol.specs.Trimming.{lesser, least_reported, trims, trims_reported, trims_if_all, trim_now, on_progress, on_trim_ask, on_trim}
 use Rattle.op_plans.specs.Positions.{FitsPositions}
-use Rattle.op_leader.specs.Adopting.{AreAdmitted, PromisesAreAdmitted, ChoiceFits}
+use Rattle.op_follower.specs.Staging.{StagedIsAdmitted}
+use Rattle.op_follower.proofs.Gaps.{admitted_with, run_small, run_commands, none_admitted}
+use Rattle.op_leader.specs.Adopting.{PromisesAreAdmitted, AreStagedWithin, StagesAreAdmitted, ChoiceFits}
 use Rattle.op_leader.proofs.Fits.{best_fits}
-use Rattle.op_leader.proofs.Admitted.{admitted_with}
-use Rattle.op_instance.specs.Sound.{StopsFit, IsSound}
+use Rattle.op_leader.proofs.Admitted as promised
+use Rattle.op_instance.specs.Sound.{StopsFit, StagesFit, IsSound}
 use Rattle.op_instance.proofs.Batches.{BatchApplies, joined, conf_after, choice_part, adopted_part, appending_applies, replaced_applies}
 
 -- a batch applies to a part, and this role may follow
@@ -39,6 +43,7 @@ pub record Leaves (p : Part) (batch : List Change) (r : Role) : Type 0 where
   pub applies : BatchApplies p batch
   pub promises : PromisesAreAdmitted r
   pub stops : StopsFit p.conf r
+  pub stages : StagesFit p.conf r
 
 abbrev pub RowLeaves : Part → Effects → Type 0
 RowLeaves p e = Leaves p e.batch e.role
@@ -52,11 +57,11 @@ by_test : (p : Part) (b : Bool) (d e : Effects) → (b ≡ true → RowLeaves p 
 by_test p true d e so other = so refl
 by_test p false d e so other = other refl
 
-says : (p : Part) (r : Role) (sends : List (ℕ × Msg)) → IsSound p r → RowLeaves p (saying r sends)
-says p r sends sound = record { applies = tt; promises = sound.promises; stops = sound.stops }
+pub says : (p : Part) (r : Role) (sends : List (ℕ × Msg)) → IsSound p r → RowLeaves p (saying r sends)
+says p r sends sound = record { applies = tt; promises = sound.promises; stops = sound.stops; stages = sound.stages }
 
 leads : (p : Part) (l : state.Leading) (sends : List (ℕ × Msg)) → RowLeaves p (saying (Leading l) sends)
-leads p l sends = record { applies = tt; promises = tt; stops = tt }
+leads p l sends = record { applies = tt; promises = tt; stops = tt; stages = tt }
 
 -- ---- a follower
 
@@ -64,10 +69,10 @@ pub prepare_leaves : (p : Part) (r : Role) (q : ℕ) (n na : Ballot) (nl nd : �
 prepare_leaves p r q n na nl nd sound =
     by_test p (is_below n p.promised) (saying r (message p.conf q (body.Refuse n p.promised) ∷ [])) _ (λ low. says p r (message p.conf q (body.Refuse n p.promised) ∷ []) sound)
     (λ high. by_test p (nat_lt (suffix_start p na nl nd) p.trimmed) (nothing r) _ (λ gone. says p r [] sound)
-    (λ here. by_test p (is_below p.promised n) _ (nothing r) (λ above. record { applies = (tt, tt); promises = tt; stops = tt }) (λ same. says p r [] sound)))
+    (λ here. by_test p (is_below p.promised n) _ (nothing r) (λ above. record { applies = (tt, tt); promises = tt; stops = tt; stages = tt }) (λ same. says p r [] sound)))
 
 accepts_leaves : (p : Part) (r : Role) (q : ℕ) (n : Ballot) (batch : List Change) → IsSound p r → BatchApplies p batch → RowLeaves p (accepts p r q n batch)
-accepts_leaves p r q n batch sound all = record { applies = joined p batch [] all tt; promises = sound.promises; stops = sound.stops }
+accepts_leaves p r q n batch sound all = record { applies = joined p batch [] all tt; promises = sound.promises; stops = sound.stops; stages = sound.stages }
 
 added_small : (p : Part) (at : ℕ) (es : List Entry) → FitsPositions p → at ≤ len_of p → at + length es ≤ positions_end → len_of p + length (drop (len_of p - at) es) ≤ positions_end
 added_small p at es fits low small = let len = length-drop (len_of p - at) es in let ends : len_of p ≤ positions_end = fits.small in omega arith
@@ -80,15 +85,24 @@ accept_leaves p r q n at es sound may =
     (appending_applies p (drop (len_of p - at) es) (added_small p at es sound.positions (ltb-false (len_of p) at whole) may.small) (λ last. All-drop IsCommand (len_of p - at) es (may.stops last)))))
     (λ other. says p r [] sound)
 
-pub accept_sync_leaves : (p : Part) (r : Role) (q : ℕ) (n : Ballot) (x : ℕ) (es : List Entry) → IsSound p r → MayGo p x es → RowLeaves p (on_accept_sync p r q n x es)
-accept_sync_leaves p r q n x es sound may =
-    by_test p (is_same_ballot p.promised n && is_below p.accepted n) (sync_entries p r q n x es) (on_accept p r q n x es)
-    (λ new. by_test p (nat_le p.decided x && nat_le x (len_of p)) (accepts p r q n (synced_changes p n x es)) (nothing r)
+pub sync_leaves : (p : Part) (r : Role) (q : ℕ) (n : Ballot) (x : ℕ) (es : List Entry) → IsSound p r → MayGo p x es → RowLeaves p (sync_entries p r q n x es)
+sync_leaves p r q n x es sound may =
+    by_test p (nat_le p.decided x && nat_le x (len_of p)) (accepts p r q n (synced_changes p n x es)) (nothing r)
     (λ here. let both = and_parts (nat_le p.decided x) (nat_le x (len_of p)) here in
     accepts_leaves p r q n (synced_changes p n x es) sound
     (joined p (cutting p x ++ appending es) (change.Accept n ∷ []) (replaced_applies p x es sound.positions (leb-true p.decided x both.0) (leb-true x (len_of p) both.1) may.small may.stops) (tt, tt)))
-    (λ off. says p r [] sound))
+    (λ off. says p r [] sound)
+
+pub accept_sync_leaves : (p : Part) (r : Role) (q : ℕ) (n : Ballot) (x : ℕ) (es : List Entry) → IsSound p r → MayGo p x es → RowLeaves p (on_accept_sync p r q n x es)
+accept_sync_leaves p r q n x es sound may =
+    by_test p (is_same_ballot p.promised n && is_below p.accepted n) (sync_entries p r q n x es) (on_accept p r q n x es)
+    (λ new. sync_leaves p r q n x es sound may)
     (λ old. accept_leaves p r q n x es sound may)
+
+-- what is staged goes on from the log
+pub front_leaves : (p : Part) (r : Role) (q : ℕ) (n : Ballot) (at : ℕ) (es : List Entry) → IsSound p r → MayGo p (len_of p) es → RowLeaves p (accept_front p r q n at es)
+front_leaves p r q n at es sound may =
+    record { applies = joined p (appending es) [] (appending_applies p es may.small may.stops) tt; promises = sound.promises; stops = sound.stops; stages = sound.stages }
 
 pub decide_leaves : (p : Part) (r : Role) (n : Ballot) (x : ℕ) → IsSound p r → RowLeaves p (on_decide p r n x)
 decide_leaves p r n x sound =
@@ -96,7 +110,7 @@ decide_leaves p r n x sound =
     (λ all. let rest = and_parts (is_same_ballot p.promised n) (is_same_ballot p.accepted n && nat_lt p.decided (min x (len_of p))) all in
     let both = and_parts (is_same_ballot p.accepted n) (nat_lt p.decided (min x (len_of p))) rest.1 in
     let more : p.decided < min x (len_of p) = ltb-true p.decided (min x (len_of p)) both.1 in
-    record { applies = ((omega arith, omega arith), tt); promises = sound.promises; stops = sound.stops })
+    record { applies = ((omega arith, omega arith), tt); promises = sound.promises; stops = sound.stops; stages = sound.stages })
     (λ none. says p r [] sound)
 
 -- ---- a leader
@@ -114,7 +128,7 @@ count_leaves me p len l otherwise within =
     let x : ℕ = counted me p.members len l.acknowledged in
     by_test p (nat_lt p.decided x) (decides me p l x) (saying (Leading l) otherwise)
     (λ more. let new : p.decided < x = ltb-true p.decided x more in let low : x ≤ len = backed_low _ p.members len in
-    record { applies = ((omega arith, omega arith), tt); promises = tt; stops = tt })
+    record { applies = ((omega arith, omega arith), tt); promises = tt; stops = tt; stages = tt })
     (λ none. leads p l otherwise)
 
 extends_leaves : (me : ℕ) (p : Part) (l : state.Leading) (es : List Entry) → len_of p + length es ≤ positions_end → EndsNowhere p.conf es → RowLeaves p (extends me p l es)
@@ -122,12 +136,12 @@ extends_leaves me p l es room stops =
     let q : Part = part_with p (change.Append es) in
     let len = length-append p.tail.items es in
     let counts : RowLeaves q (count me q (len_of p + length es) l []) = count_leaves me q (len_of p + length es) l [] (omega arith) in
-    record { applies = ((omega arith, stops), counts.applies); promises = counts.promises; stops = counts.stops }
+    record { applies = ((omega arith, stops), counts.applies); promises = counts.promises; stops = counts.stops; stages = counts.stages }
 
 begins_leaves : (me : ℕ) (p : Part) (l : state.Leading) (promises : List Promised) → RowLeaves p (begin_leading me p l promises)
 begins_leaves me p l promises =
     let counts : RowLeaves p (count me p (len_of p) (leading_with p l promises) []) = count_leaves me p (len_of p) (leading_with p l promises) [] (omega arith) in
-    record { applies = counts.applies; promises = counts.promises; stops = counts.stops }
+    record { applies = counts.applies; promises = counts.promises; stops = counts.stops; stages = counts.stages }
 
 -- the length of the log of a choice
 chosen_end : (p : Part) (c : Choice) → FitsPositions p → ChoiceFits p c → chosen_len p c ≡ c.start + length c.entries
@@ -156,6 +170,7 @@ adopt_with_leaves me p r c more fits chosen stops small also =
       applies = joined p changes _ made (subst (λ (x : Part). BatchApplies x (begin_leading me after (first_leading r.ballot c) r.promises).batch) (sym is) begins.applies);
       promises = begins.promises;
       stops = begins.stops;
+      stages = begins.stages;
     }
 
 -- ---- the choice, and what is buffered
@@ -225,7 +240,7 @@ prepares_leaves me p r sound =
 
 pub lead_leaves : (me : ℕ) (p : Part) (r : Role) (n : Ballot) → IsSound p r → RowLeaves p (lead me p r n)
 lead_leaves me p r n sound =
-    let s : state.Preparing = record { ballot = n; promises = []; buffer = [] } in
+    let s : state.Preparing = first_preparing n in
     let q : Part = part_with p (change.Promise n) in
     let here : IsSound q (Preparing s) =
     record {
@@ -235,9 +250,14 @@ lead_leaves me p r n sound =
       log = sound.log;
       promises = tt;
       stops = (All-nil (λ k. EndsNowhere q.conf k.entries), All-nil (λ b. EndsNowhere q.conf (b.entry ∷ [])));
+      stages = All-nil (λ s. StagedIsAdmitted q.conf s.1);
     } in
     let led : RowLeaves q (prepares me q s) = prepares_leaves me q s here in
-    record { applies = (tt, led.applies); promises = led.promises; stops = led.stops }
+    record { applies = (tt, led.applies); promises = led.promises; stops = led.stops; stages = led.stages }
+
+leading_leaves : (me : ℕ) (p : Part) (l : state.Leading) (n : Ballot) (k : Promised) → RowLeaves p (on_promise me p (Leading l) n k)
+leading_leaves me p l n k =
+    by_test p (is_same_ballot n l.ballot) (saying (Leading (cond (is_synced p l k) (with_synced l k.from) l)) (sync_sends p l k)) (nothing (Leading l)) (λ own. leads p (cond (is_synced p l k) (with_synced l k.from) l) (sync_sends p l k)) (λ other. leads p l [])
 
 pub promise_leaves : (me : ℕ) (p : Part) (r : Role) (n : Ballot) (k : Promised) → IsSound p r → MayGo p k.start k.entries → RowLeaves p (on_promise me p r n k)
 promise_leaves me p Idle n k sound may = says p Idle [] sound
@@ -248,12 +268,74 @@ promise_leaves me p (Preparing r) n k sound may =
       positions = sound.positions;
       members = sound.members;
       log = sound.log;
-      promises = admitted_with r.promises k sound.promises may.small;
+      promises = promised.admitted_with r.promises k sound.promises may.small;
       stops = (All-push (λ k. EndsNowhere p.conf k.entries) (filter (λ j. not (j.from == k.from)) r.promises) k (All-filter (λ j. not (j.from == k.from)) (λ k. EndsNowhere p.conf k.entries) r.promises sound.stops.0) may.stops, sound.stops.1);
+      stages = sound.stages;
     }))
     (λ other. says p (Preparing r) [] sound)
-promise_leaves me p (Leading l) n k sound may =
-    by_test p (is_same_ballot n l.ballot) (saying (Leading (cond (is_synced p l k) (with_synced l k.from) l)) (sync_sends p l k)) (nothing (Leading l)) (λ own. leads p (cond (is_synced p l k) (with_synced l k.from) l) (sync_sends p l k)) (λ other. leads p l [])
+promise_leaves me p (Leading l) n k sound may = leading_leaves me p l n k
+
+-- what is staged of a sender's promise may come to the log, with a run of it more
+stage_fits : (conf : ℕ) (stages : List (ℕ × Held)) (q : ℕ) → All (λ s. StagedIsAdmitted conf s.1) stages → StagedIsAdmitted conf (stage_of stages q)
+stage_fits conf [] q all = none_admitted conf
+stage_fits conf (s ∷ stages) q all = by (s.0 == q) (All-head (λ s. StagedIsAdmitted conf s.1) s stages all) (stage_fits conf stages q (All-tail (λ s. StagedIsAdmitted conf s.1) s stages all))
+  where
+    by : (b : Bool) → StagedIsAdmitted conf s.1 → StagedIsAdmitted conf (stage_of stages q) → StagedIsAdmitted conf (cond b s.1 (stage_of stages q))
+    by true one rest = one
+    by false one rest = rest
+
+all_within : (conf : ℕ) (stages : List (ℕ × Held)) → All (λ s. StagedIsAdmitted conf s.1) stages → AreStagedWithin stages
+all_within conf [] all = tt
+all_within conf (s ∷ stages) all =
+    let one : StagedIsAdmitted conf s.1 = All-head (λ s. StagedIsAdmitted conf s.1) s stages all in
+    (one.small, all_within conf stages (All-tail (λ s. StagedIsAdmitted conf s.1) s stages all))
+
+-- what is staged of promises ends within the positions
+pub stages_within : (conf : ℕ) (r : Role) → StagesFit conf r → StagesAreAdmitted r
+stages_within conf Idle fits = tt
+stages_within conf (Preparing r) fits = all_within conf r.stages fits
+stages_within conf (Leading l) fits = tt
+
+once_leaves : (me : ℕ) (p : Part) (r : state.Preparing) (q : ℕ) (part : PromisedRun) (held : Held) (o : Option (List Entry)) → IsSound p (Preparing r) → part.start ≤ positions_end → StagedIsAdmitted p.conf held
+    → promised_entries part held ≡ o → RowLeaves p (promised_once me p r q part held o)
+once_leaves me p r q part held None sound low may is =
+    record {
+      applies = tt;
+      promises = sound.promises;
+      stops = sound.stops;
+      stages = All-push (λ s. StagedIsAdmitted p.conf s.1) (stages_without r.stages q) (q, held) (All-filter (λ s. not (s.0 == q)) (λ s. StagedIsAdmitted p.conf s.1) r.stages sound.stages) may;
+    }
+once_leaves me p r q part held (Some es) sound low may is =
+    promise_leaves me p (Preparing (without_stage r q)) r.ballot (told_by q part es)
+    (record {
+      conf = sound.conf;
+      positions = sound.positions;
+      members = sound.members;
+      log = sound.log;
+      promises = sound.promises;
+      stops = sound.stops;
+      stages = All-filter (λ s. not (s.0 == q)) (λ s. StagedIsAdmitted p.conf s.1) r.stages sound.stages;
+    })
+    (record {
+      small = run_small held part.start (part.len - part.start) es may.small low is;
+      stops = λ last. run_commands held part.start (part.len - part.start) es (may.stops last) is;
+    })
+
+pub promise_part_leaves : (me : ℕ) (p : Part) (r : Role) (q : ℕ) (n : Ballot) (part : PromisedRun) → IsSound p r → MayGo p part.at part.run → RowLeaves p (on_promise_part me p r q n part)
+promise_part_leaves me p Idle q n part sound may = says p Idle [] sound
+promise_part_leaves me p (Preparing r) q n part sound may =
+    by_test p (is_same_ballot n r.ballot && (nat_le part.start part.at && is_run_to part.len part.at part.run)) (promised_once me p r q part (staged_with r q part) (promised_entries part (staged_with r q part))) (nothing (Preparing r))
+    (λ taken. let rest = and_parts (is_same_ballot n r.ballot) (nat_le part.start part.at && is_run_to part.len part.at part.run) taken in
+    let both = and_parts (nat_le part.start part.at) (is_run_to part.len part.at part.run) rest.1 in
+    let low : part.start ≤ part.at = leb-true part.start part.at both.0 in
+    let small : part.at + length part.run ≤ positions_end = may.small in
+    once_leaves me p r q part (staged_with r q part) (promised_entries part (staged_with r q part)) sound (omega arith)
+    (admitted_with p.conf (stage_of r.stages q) part.at part.run (stage_fits p.conf r.stages q sound.stages) may.small may.stops) refl)
+    (λ other. says p (Preparing r) [] sound)
+promise_part_leaves me p (Leading l) q n part sound may =
+    by_test p (part.at + length part.run == part.len) (on_promise me p (Leading l) n (told_by q part [])) (nothing (Leading l))
+    (λ last. leading_leaves me p l n (told_by q part []))
+    (λ other. leads p l [])
 
 pub accepted_leaves : (me : ℕ) (p : Part) (r : Role) (q : ℕ) (n : Ballot) (x : ℕ) → IsSound p r → RowLeaves p (on_accepted me p r q n x)
 accepted_leaves me p Idle q n x sound = says p Idle [] sound
@@ -264,8 +346,8 @@ accepted_leaves me p (Leading l) q n x sound =
 
 pub prepare_req_leaves : (p : Part) (r : Role) (q : ℕ) → IsSound p r → RowLeaves p (on_prepare_req p r q)
 prepare_req_leaves p Idle q sound = says p Idle [] sound
-prepare_req_leaves p (Preparing r) q sound = record { applies = tt; promises = sound.promises; stops = sound.stops }
-prepare_req_leaves p (Leading l) q sound = record { applies = tt; promises = tt; stops = tt }
+prepare_req_leaves p (Preparing r) q sound = record { applies = tt; promises = sound.promises; stops = sound.stops; stages = sound.stages }
+prepare_req_leaves p (Leading l) q sound = record { applies = tt; promises = tt; stops = tt; stages = tt }
 
 -- ---- proposals
 
@@ -279,14 +361,14 @@ each_ends conf own (e ∷ es) stops =
 
 buffered_leaves : (p : Part) (r : state.Preparing) (own : Bool) (es : List Entry) → IsSound p (Preparing r) → EndsNowhere p.conf es → RowLeaves p (nothing (Preparing (with_buffered r (waiting_as own es))))
 buffered_leaves p r own es sound stops =
-    record { applies = tt; promises = sound.promises; stops = (sound.stops.0, All-append (λ b. EndsNowhere p.conf (b.entry ∷ [])) r.buffer (waiting_as own es) sound.stops.1 (each_ends p.conf own es stops)) }
+    record { applies = tt; promises = sound.promises; stages = sound.stages; stops = (sound.stops.0, All-append (λ b. EndsNowhere p.conf (b.entry ∷ [])) r.buffer (waiting_as own es) sound.stops.1 (each_ends p.conf own es stops)) }
 
 pub propose_leaves : (me : ℕ) (p : Part) (r : Role) (es : List Entry) → IsSound p r → len_of p + length es ≤ positions_end → EndsNowhere p.conf es → RowLeaves p (propose me p r es)
-propose_leaves me p Idle es sound room stops = record { applies = tt; promises = tt; stops = tt }
+propose_leaves me p Idle es sound room stops = record { applies = tt; promises = tt; stops = tt; stages = tt }
 propose_leaves me p (Preparing r) es sound room stops =
-    let kept = buffered_leaves p r true es sound stops in record { applies = tt; promises = kept.promises; stops = kept.stops }
+    let kept = buffered_leaves p r true es sound stops in record { applies = tt; promises = kept.promises; stops = kept.stops; stages = kept.stages }
 propose_leaves me p (Leading l) es sound room stops =
-    let added : RowLeaves p (extends me p l es) = extends_leaves me p l es room stops in record { applies = added.applies; promises = added.promises; stops = added.stops }
+    let added : RowLeaves p (extends me p l es) = extends_leaves me p l es room stops in record { applies = added.applies; promises = added.promises; stops = added.stops; stages = added.stages }
 
 forward_by : (me : ℕ) (p : Part) (l : state.Leading) (es : List Entry) (o : Option ℕ) → EndsNowhere p.conf es → RowLeaves p (on_forward_leading me p l es o)
 forward_by me p l es (Some pos) stops = leads p l []
@@ -322,7 +404,7 @@ least_low reports (q ∷ qs) k x is = least_by (report_of reports q) (least_repo
 trims_leaves : (me : ℕ) (p : Part) (l : state.Leading) (x : ℕ) → x ≤ p.decided → RowLeaves p (trims me p l x)
 trims_leaves me p l x known =
     by_test p (nat_lt p.trimmed x) (first (change.Trim x [] ∷ []) (to_each p.conf (others me p.members) (body.Trim x)) [] (nothing (Leading l))) (nothing (Leading l))
-    (λ more. let low : p.trimmed < x = ltb-true p.trimmed x more in record { applies = ((omega arith, known), tt); promises = tt; stops = tt })
+    (λ more. let low : p.trimmed < x = ltb-true p.trimmed x more in record { applies = ((omega arith, known), tt); promises = tt; stops = tt; stages = tt })
     (λ none. leads p l [])
 
 reported_leaves : (me : ℕ) (p : Part) (l : state.Leading) (o : Option ℕ) → ((x : ℕ) → o ≡ Some x → x ≤ p.decided) → RowLeaves p (trims_reported me p l o)
@@ -333,10 +415,10 @@ all_leaves : (me : ℕ) (p : Part) (l : state.Leading) → RowLeaves p (trims_if
 all_leaves me p l = reported_leaves me p l (least_reported l.reports (others me p.members) p.decided) (λ x is. least_low l.reports (others me p.members) p.decided x is)
 
 pub trim_now_leaves : (me : ℕ) (p : Part) (r : Role) → IsSound p r → RowLeaves p (trim_now me p r)
-trim_now_leaves me p Idle sound = record { applies = tt; promises = sound.promises; stops = sound.stops }
-trim_now_leaves me p (Preparing r) sound = record { applies = tt; promises = sound.promises; stops = sound.stops }
+trim_now_leaves me p Idle sound = record { applies = tt; promises = sound.promises; stops = sound.stops; stages = sound.stages }
+trim_now_leaves me p (Preparing r) sound = record { applies = tt; promises = sound.promises; stops = sound.stops; stages = sound.stages }
 trim_now_leaves me p (Leading l) sound =
-    let row : RowLeaves p (trims_if_all me p (without_reports l)) = all_leaves me p (without_reports l) in record { applies = row.applies; promises = row.promises; stops = row.stops }
+    let row : RowLeaves p (trims_if_all me p (without_reports l)) = all_leaves me p (without_reports l) in record { applies = row.applies; promises = row.promises; stops = row.stops; stages = row.stages }
 
 pub progress_leaves : (me : ℕ) (p : Part) (r : Role) (q : ℕ) (n : Ballot) (x : ℕ) → IsSound p r → RowLeaves p (on_progress me p r q n x)
 progress_leaves me p Idle q n x sound = says p Idle [] sound
@@ -358,5 +440,5 @@ trim_leaves p r x sound =
     by_test p (nat_lt p.trimmed x && nat_le x p.decided) (first (change.Trim x [] ∷ []) [] [] (nothing r)) (nothing r)
     (λ here. let both = and_parts (nat_lt p.trimmed x) (nat_le x p.decided) here in
     let low : p.trimmed < x = ltb-true p.trimmed x both.0 in
-    record { applies = ((omega arith, leb-true x p.decided both.1), tt); promises = sound.promises; stops = sound.stops })
+    record { applies = ((omega arith, leb-true x p.decided both.1), tt); promises = sound.promises; stops = sound.stops; stages = sound.stages })
     (λ off. says p r [] sound)

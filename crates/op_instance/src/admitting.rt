@@ -40,6 +40,8 @@ pub(crate) fn is_admitted_body(part: &Part, body: &Body) -> bool
         Body::Promise(_, _, _, _, start, entries) => is_admitted(part, *start, entries.as_slice()),
         Body::AcceptSync(_, start, entries) => is_admitted(part, *start, entries.as_slice()),
         Body::Accept(_, at, entries) => is_admitted(part, *at, entries.as_slice()),
+        Body::PromisePart(_, run) => is_admitted(part, run.at, run.run.as_slice()),
+        Body::AcceptSyncPart(_, run) => is_admitted(part, run.at, run.run.as_slice()),
         Body::Forward(entry) => is_admitted_entry(part, entry),
         Body::Forwards(entries) => !has_stop(entries.as_slice()),
         Body::HeartbeatRequest(_)
@@ -55,6 +57,7 @@ pub(crate) fn is_admitted_body(part: &Part, body: &Body) -> bool
         | Body::NextConf(_, _, _, _)
         | Body::AskBase
         | Body::BasePart(_, _)
+        | Body::BasePiece(_)
         | Body::AskSegment(_, _)
         | Body::Segment(_, _)
         | Body::Confirm(_, _)

@@ -16,9 +16,12 @@ use crate::joining::News;
 use crate::routing::{is_of_joining, is_prepare_req, may_be_above};
 use crate::stored::Stored;
 use crate::volatile::Volatile;
-use op_follower::{Accept, Prepare, on_accept, on_accept_sync, on_confirm, on_decide, on_prepare};
+use op_follower::{
+    Accept, Prepare, on_accept, on_accept_sync, on_accept_sync_part, on_confirm, on_decide,
+    on_prepare,
+};
 use op_heartbeat::Rounds;
-use op_leader::{on_accepted, on_forward, on_prepare_req, on_promise};
+use op_leader::{on_accepted, on_forward, on_prepare_req, on_promise, on_promise_part};
 use op_plans::{Member, one};
 use op_trim::{on_progress, on_trim, on_trim_ask};
 use op_types::{Ballot, Body, Heard, Msg, Pid, Plan, Promised, Role, Sends, Turn};
@@ -35,8 +38,11 @@ pub(crate) fn deliver(
     requires { IsNode stored.now.me stored.now.durable.now volatile.old }
     ensures step { IfOk result (λ plan. part_step_of plan (volatile_of volatile.old)
         ≡ message_step stored.now.me stored.now.durable.now (volatile_of volatile.old) from message) }
-    ensures rest { volatile.new ≡ record volatile.old { role = volatile.new.role } }
-    ensures role { role_of volatile.new.role ≡ role_of volatile.old.role }
+    ensures rest { volatile.new ≡ record volatile.old {
+      role = volatile.new.role;
+      staged = volatile.new.staged;
+    } }
+    ensures same { volatile_of volatile.new ≡ volatile_of volatile.old }
     ensures room { IfOk result (λ plan. HasRoomIn plan.turn volatile.new) }
 {
     if stored.durable.joining.is_some() && !is_of_joining(&message.body) {
@@ -78,8 +84,11 @@ fn deliver_latest(
     ensures step { IfOk result (λ plan. part_step_of plan (volatile_of volatile.old)
         ≡ on_latest stored.now.me stored.now.durable.now (volatile_of volatile.old) from
         message.conf message.body) }
-    ensures rest { volatile.new ≡ record volatile.old { role = volatile.new.role } }
-    ensures role { role_of volatile.new.role ≡ role_of volatile.old.role }
+    ensures rest { volatile.new ≡ record volatile.old {
+      role = volatile.new.role;
+      staged = volatile.new.staged;
+    } }
+    ensures same { volatile_of volatile.new ≡ volatile_of volatile.old }
     ensures room { IfOk result (λ plan. HasRoomIn plan.turn volatile.new) }
 {
     let Msg { conf, body } = message;
@@ -95,6 +104,7 @@ fn deliver_latest(
             stored.hear_news(from, news)
         }
         Body::AskBase => Ok(stored.sending(stored.give_base(from, conf)?)),
+        Body::BasePiece(piece) => stored.stage_piece(&volatile.pieces, conf, piece),
         Body::AskSegment(start, end) => {
             Ok(stored.sending(stored.give_segment(from, conf, start, end)?))
         }
@@ -112,8 +122,11 @@ fn deliver_at(
     requires { IfNodeOf stored.now.me stored.now.durable.now.part volatile.old }
     ensures step { IfOk result (λ plan. part_step_of plan (volatile_of volatile.old)
         ≡ message_at stored.now.me stored.now.durable.now.part (volatile_of volatile.old) from message) }
-    ensures rest { volatile.new ≡ record volatile.old { role = volatile.new.role } }
-    ensures role { role_of volatile.new.role ≡ role_of volatile.old.role }
+    ensures rest { volatile.new ≡ record volatile.old {
+      role = volatile.new.role;
+      staged = volatile.new.staged;
+    } }
+    ensures same { volatile_of volatile.new ≡ volatile_of volatile.old }
     ensures room { IfOk result (λ plan. HasRoomIn plan.turn volatile.new) }
 {
     match &stored.durable.part {
@@ -132,8 +145,11 @@ fn deliver_to(
     requires { IsNodeOf member.now.me member.now.part.now volatile.old }
     ensures step { IfOk result (λ plan. part_step_of plan (volatile_of volatile.old)
         ≡ on_message member.now.me member.now.part.now (volatile_of volatile.old) from message) }
-    ensures rest { volatile.new ≡ record volatile.old { role = volatile.new.role } }
-    ensures role { role_of volatile.new.role ≡ role_of volatile.old.role }
+    ensures rest { volatile.new ≡ record volatile.old {
+      role = volatile.new.role;
+      staged = volatile.new.staged;
+    } }
+    ensures same { volatile_of volatile.new ≡ volatile_of volatile.old }
     ensures room { IfOk result (λ plan. HasRoomIn plan.turn volatile.new) }
 {
     if message.conf == member.part.conf && is_admitted_body(member.part, &message.body) {
@@ -154,8 +170,11 @@ fn receive(
     requires admitted { is_admitted_body member.now.part.now body ≡ true }
     ensures step { IfOk result (λ plan. part_step_of plan (volatile_of volatile.old)
         ≡ on_body member.now.me member.now.part.now (volatile_of volatile.old) from body) }
-    ensures rest { volatile.new ≡ record volatile.old { role = volatile.new.role } }
-    ensures role { role_of volatile.new.role ≡ role_of volatile.old.role }
+    ensures rest { volatile.new ≡ record volatile.old {
+      role = volatile.new.role;
+      staged = volatile.new.staged;
+    } }
+    ensures same { volatile_of volatile.new ≡ volatile_of volatile.old }
     ensures room { IfOk result (λ plan. HasRoomIn plan.turn volatile.new) }
 {
     match body {
@@ -169,6 +188,9 @@ fn receive(
             Ok(hear(member.alloc, volatile, round, heard))
         }
         Body::Refuse(_, ballot) => Ok(raise_floor(member.alloc, ballot)),
+        Body::AcceptSyncPart(ballot, part) => {
+            on_accept_sync_part(member, &mut volatile.staged, from, ballot, part)
+        }
         body => route(member, &mut volatile.role, from, body),
     }
 }
@@ -196,7 +218,7 @@ fn raise_floor(alloc: Global, ballot: Ballot) -> Plan
     plan
 }
 
-/// What a message does to a role. What is of heartbeats, of elections or of joining does nothing here.
+/// What a message does to a role. What is of heartbeats, of elections, of what is staged or of joining does nothing here.
 fn route(member: &Member, role: &mut Role, from: Pid, body: Body) -> Result<Plan, NoMemory>
     requires sound { IsSound member.now.part.now (role_of role.old) }
     requires admitted { is_admitted_body member.now.part.now body ≡ true }
@@ -226,6 +248,7 @@ fn route(member: &Member, role: &mut Role, from: Pid, body: Body) -> Result<Plan
             };
             on_promise(member, role, ballot, promised)
         }
+        Body::PromisePart(ballot, part) => on_promise_part(member, role, from, ballot, part),
         Body::AcceptSync(ballot, at, entries) => {
             let accept = Accept {
                 ballot,
@@ -254,9 +277,11 @@ fn route(member: &Member, role: &mut Role, from: Pid, body: Body) -> Result<Plan
         Body::HeartbeatRequest(_)
         | Body::HeartbeatReply(_, _, _)
         | Body::Refuse(_, _)
+        | Body::AcceptSyncPart(_, _)
         | Body::NextConf(_, _, _, _)
         | Body::AskBase
         | Body::BasePart(_, _)
+        | Body::BasePiece(_)
         | Body::AskSegment(_, _)
         | Body::Segment(_, _)
         | Body::Confirmed(_, _) => Ok(member.nothing()),

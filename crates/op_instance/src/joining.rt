@@ -1,18 +1,22 @@
 //! A node hears of a configuration, and gives to those that join one.
-ghost use Rattle.std.specs.Prelude.{◌≡◌, ◌∷◌, ◌++◌, [], IfOk, OnOk};
-ghost use Rattle.op_types.specs.declared.turn.Turn.TheVariants.{Stay};
+ghost use Rattle.std.specs.Prelude.{◌≡◌, ◌∷◌, ◌++◌, ◌+◌, ◌≤◌, ◌<◌, ◌^◌, [], length, take, drop, IfOk, OnOk};
+ghost use Rattle.op_types.specs.Limits.{most_part_bytes};
 ghost use Rattle.op_protocol.specs.State as steps;
+ghost use Rattle.op_protocol.specs.Parts.{messages};
 ghost use Rattle.op_protocol.specs.Configurations.{next_conf_message};
-ghost use Rattle.op_protocol.specs.Joining.{begins, is_new_donor, joins, on_next_conf, gives_base, gives_segment, is_within, closed_entries};
+ghost use Rattle.op_protocol.specs.Joining.{begins, is_new_donor, joins, on_next_conf, base_pieces, piece_count, base_bodies, segment_bodies, gives_base, gives_segment, is_within, closed_entries, on_base_piece};
 ghost use Rattle.op_protocol.specs.Rows.{on_older};
-ghost use Rattle.op_instance.specs.Memory.{part_step_of};
+ghost use Rattle.op_segments.specs.Staging.{HasRoomToPiece};
+ghost use Rattle.op_instance.specs.Memory.{part_step_of, IsPlain, news_turn};
 ghost use Rattle.op_instance.specs.Sound.{IfListFits, ListFits};
 
 use crate::stored::{Stored, closed_len};
 use op_plans::suffix;
+use op_segments::stage_piece;
 use op_types::{
-    Batch, Body, Change, Closed, ConfNo, Entries, Joining, ListLen, MOST_DONORS, Members, Msg, Pid,
-    Plan, Sends, copy_entries, is_among,
+    Batch, Blob, Body, Change, Closed, ConfNo, Entry, Joining, ListLen, MOST_DONORS,
+    MOST_PART_BYTES, Members, Msg, Pid, Piece, Pieces, Plan, Sends, Turn, copy_entries, first_run,
+    is_among,
 };
 use std::alloc::{AllocError as NoMemory, Global};
 
@@ -39,12 +43,34 @@ impl Stored<'_> {
         ensures step { IfOk result (λ plan. (v : steps.Volatile) → part_step_of plan v
             ≡ on_next_conf self.now.me self.now.durable.now v from
             news.conf news.members news.olds news.len news.trimmed) }
-        ensures turn { IfOk result (λ plan. plan.turn ≡ Stay) }
+        ensures turn { IfOk result (λ plan. IsPlain plan.turn) }
     {
-        let mut plan = self.nothing();
-        if is_among(news.members.as_slice(), self.me) && self.latest() < news.conf {
-            plan.batch = join_batch(self.alloc, &self.durable.joining, from, news)?;
+        if !is_among(news.members.as_slice(), self.me) || news.conf <= self.latest() {
+            return Ok(self.nothing());
         }
+        let batch = join_batch(self.alloc, &self.durable.joining, from, news)?;
+        let mut plan = self.nothing();
+        plan.turn = news_turn(batch.as_slice());
+        plan.batch = batch;
+        Ok(plan)
+    }
+
+    /// A piece of a base comes that doesn't complete one: it is staged, if the node joins with that base.
+    pub(crate) fn stage_piece(
+        &self,
+        pieces: &Option<Pieces>,
+        conf: ConfNo,
+        piece: Piece,
+    ) -> Result<Plan, NoMemory>
+        ensures step { IfOk result (λ plan. (v : steps.Volatile) → v.pieces ≡ pieces.now
+            → part_step_of plan v ≡ on_base_piece self.now.durable.now.joining v conf piece) }
+        ensures room { IfOk result (λ plan. HasRoomToPiece plan.turn pieces.now) }
+    {
+        let Some(joining) = &self.durable.joining else {
+            return Ok(self.nothing());
+        };
+        let mut plan = self.nothing();
+        plan.turn = stage_piece(self.alloc, joining, pieces, conf, piece)?;
         Ok(plan)
     }
 
@@ -71,8 +97,7 @@ impl Stored<'_> {
         let mut sends = Sends::new(self.alloc);
         if let Some(closed) = &self.durable.closed {
             if closed.conf + 1 == conf {
-                let body = Body::BasePart(closed.trimmed, closed.base.copy(self.alloc)?);
-                sends.push((to, Msg { conf, body }))?;
+                push_base(self.alloc, &mut sends, to, conf, closed)?;
             }
         }
         Ok(sends)
@@ -93,9 +118,8 @@ impl Stored<'_> {
         let mut sends = Sends::new(self.alloc);
         if let Some(closed) = &self.durable.closed {
             if closed.conf + 1 == conf && is_within(closed, start, end) {
-                let entries = entries_between(self.alloc, closed, start, end)?;
-                let body = Body::Segment(start, entries);
-                sends.push((to, Msg { conf, body }))?;
+                let entries = entries_between(closed, start, end);
+                push_segments(self.alloc, &mut sends, to, conf, start, entries)?;
             }
         }
         Ok(sends)
@@ -121,21 +145,121 @@ fn is_within(closed: &Closed, start: u64, end: u64) -> bool
     closed.trimmed <= start && start < end && end <= closed_len(closed)
 }
 
-/// Copies of the entries of a closed list from one position to another.
-fn entries_between(
-    alloc: Global,
-    closed: &Closed,
-    start: u64,
-    end: u64,
-) -> Result<Entries, NoMemory>
-    ensures { IfOk result (λ entries. entries ≡ closed_entries closed.now start end) }
+/// The entries of a closed list from one position to another.
+fn entries_between(closed: &Closed, start: u64, end: u64) -> &[Entry]
+    ensures { result.now ≡ closed_entries closed.now start end }
 {
     let tail = closed.tail.as_slice();
     let first = start.saturating_sub(closed.trimmed);
     let count = end.saturating_sub(start);
     let rest = suffix(tail, first);
     let count = rest.len().min(count as usize);
-    copy_entries(alloc, &rest[..count])
+    &rest[..count]
+}
+
+/// Adds what brings the base of a closed list to a node: itself, or its pieces where it is long.
+fn push_base(
+    alloc: Global,
+    sends: &mut Sends,
+    to: Pid,
+    conf: ConfNo,
+    closed: &Closed,
+) -> Result<(), NoMemory>
+    ensures { OnOk result (sends.new
+        ≡ sends.old ++ messages conf to (base_bodies closed.now.trimmed closed.now.base)) }
+{
+    let bytes = closed.base.as_slice();
+    if bytes.len() > MOST_PART_BYTES {
+        return push_pieces(alloc, sends, to, conf, closed);
+    }
+    let body = Body::BasePart(closed.trimmed, closed.base.copy(alloc)?);
+    sends.push((to, Msg { conf, body }))
+}
+
+/// Adds the pieces of a closed list's base.
+fn push_pieces(
+    alloc: Global,
+    sends: &mut Sends,
+    to: Pid,
+    conf: ConfNo,
+    closed: &Closed,
+) -> Result<(), NoMemory>
+    ensures { OnOk result (sends.new ≡ sends.old ++ messages conf to
+        (base_pieces closed.now.trimmed closed.now.base 0 (piece_count (length closed.now.base)))) }
+{
+    let bytes = closed.base.as_slice();
+    let count = piece_count(bytes.len());
+    for i in 0..count {
+        let from = i * MOST_PART_BYTES;
+        let piece = Piece {
+            at: closed.trimmed,
+            total: bytes.len() as u64,
+            from: from as u64,
+            bytes: Blob::from_slice(alloc, piece_at(bytes, from))?,
+        };
+        let body = Body::BasePiece(piece);
+        sends.push((to, Msg { conf, body }))?;
+    }
+    Ok(())
+}
+
+/// How many pieces so many bytes make.
+fn piece_count(total: usize) -> usize
+    ensures { result ≡ piece_count total }
+{
+    total.div_ceil(MOST_PART_BYTES)
+}
+
+/// The piece of a base from a place on: as many bytes as go into one, or as there are.
+fn piece_at(bytes: &[u8], from: usize) -> &[u8]
+    requires { from ≤ length bytes.now }
+    ensures { result.now ≡ take most_part_bytes (drop from bytes.now) }
+{
+    let rest = bytes_from(bytes, from);
+    let count = rest.len().min(MOST_PART_BYTES);
+    &rest[..count]
+}
+
+/// The bytes from a place on.
+fn bytes_from(bytes: &[u8], from: usize) -> &[u8]
+    requires { from ≤ length bytes.now }
+    ensures { result.now ≡ drop from bytes.now }
+{
+    &bytes[from..]
+}
+
+/// Adds a segment for each run of these entries, which begin at a position.
+fn push_segments(
+    alloc: Global,
+    sends: &mut Sends,
+    to: Pid,
+    conf: ConfNo,
+    start: u64,
+    entries: &[Entry],
+) -> Result<(), NoMemory>
+    requires { start + length entries.now < 2 ^ 64 }
+    ensures { OnOk result (sends.new
+        ≡ sends.old ++ messages conf to (segment_bodies start entries.now)) }
+{
+    let mut at = start;
+    let mut rest = entries;
+    while let Some((run, others)) = first_run(rest) {
+        let body = Body::Segment(at, copy_entries(alloc, run)?);
+        sends.push((to, Msg { conf, body }))?;
+        at += run.len() as u64;
+        rest = others;
+    }
+    Ok(())
+}
+
+/// No piece of a base stays staged where these changes begin to join another configuration.
+fn news_turn(batch: &[Change]) -> Turn
+    ensures { result ≡ news_turn batch.now }
+{
+    match batch {
+        [Change::JoinBegin(_, _, _, _), ..] => Turn::DropPieces,
+        _ => Turn::Stay,
+    }
 }
 
 /// The changes of a node that hears of a configuration: it joins the greatest that it hears of.

@@ -77,8 +77,11 @@ impl Stored<'_> {
         ensures step { IfOk result (λ plan. part_step_of plan (volatile_of volatile.old)
             ≡ proposal_step self.now.me self.now.durable.now (volatile_of volatile.old)
             (entries_of commands)) }
-        ensures rest { volatile.new ≡ record volatile.old { role = volatile.new.role } }
-        ensures role { role_of volatile.new.role ≡ role_of volatile.old.role }
+        ensures rest { volatile.new ≡ record volatile.old {
+          role = volatile.new.role;
+          staged = volatile.new.staged;
+        } }
+        ensures same { volatile_of volatile.new ≡ volatile_of volatile.old }
         ensures room { IfOk result (λ plan. HasRoomIn plan.turn volatile.new) }
     {
         let proposed = Proposed {
@@ -101,8 +104,11 @@ impl Stored<'_> {
         ensures step { IfOk result (λ plan. part_step_of plan (volatile_of volatile.old)
             ≡ proposal_step self.now.me self.now.durable.now (volatile_of volatile.old)
             (entry.Stop (stop_for self.now.durable.now.part members) ∷ [])) }
-        ensures rest { volatile.new ≡ record volatile.old { role = volatile.new.role } }
-        ensures role { role_of volatile.new.role ≡ role_of volatile.old.role }
+        ensures rest { volatile.new ≡ record volatile.old {
+          role = volatile.new.role;
+          staged = volatile.new.staged;
+        } }
+        ensures same { volatile_of volatile.new ≡ volatile_of volatile.old }
         ensures room { IfOk result (λ plan. HasRoomIn plan.turn volatile.new) }
     {
         let proposed = Proposed {
@@ -126,8 +132,11 @@ impl Stored<'_> {
         requires places { IfEnd self.now.durable.now.part (length entries) }
         ensures step { IfOk result (λ plan. part_step_of plan (volatile_of volatile.old)
             ≡ proposal_at self.now.me self.now.durable.now.part (volatile_of volatile.old) entries None) }
-        ensures rest { volatile.new ≡ record volatile.old { role = volatile.new.role } }
-        ensures role { role_of volatile.new.role ≡ role_of volatile.old.role }
+        ensures rest { volatile.new ≡ record volatile.old {
+          role = volatile.new.role;
+          staged = volatile.new.staged;
+        } }
+        ensures same { volatile_of volatile.new ≡ volatile_of volatile.old }
         ensures room { IfOk result (λ plan. HasRoomIn plan.turn volatile.new) }
     {
         match &self.durable.part {

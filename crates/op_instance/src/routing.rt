@@ -12,6 +12,7 @@ pub(crate) fn is_of_joining(body: &Body) -> bool
         Body::NextConf(_, _, _, _)
         | Body::AskBase
         | Body::BasePart(_, _)
+        | Body::BasePiece(_)
         | Body::AskSegment(_, _)
         | Body::Segment(_, _) => true,
         _ => false,
@@ -23,7 +24,10 @@ pub(crate) fn may_be_above(body: &Body) -> bool
     ensures { result ≡ may_be_above body.now }
 {
     match body {
-        Body::NextConf(_, _, _, _) | Body::BasePart(_, _) | Body::Segment(_, _) => true,
+        Body::NextConf(_, _, _, _)
+        | Body::BasePart(_, _)
+        | Body::BasePiece(_)
+        | Body::Segment(_, _) => true,
         _ => false,
     }
 }

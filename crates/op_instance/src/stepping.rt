@@ -25,8 +25,11 @@ impl Stored<'_> {
         requires { IsNode self.now.me self.now.durable.now volatile.old }
         ensures step { IfOk result (λ plan. part_step_of plan (volatile_of volatile.old)
             ≡ step_at self.now.me self.now.durable.now (volatile_of volatile.old) input) }
-        ensures rest { volatile.new ≡ record volatile.old { role = volatile.new.role } }
-        ensures role { role_of volatile.new.role ≡ role_of volatile.old.role }
+        ensures rest { volatile.new ≡ record volatile.old {
+          role = volatile.new.role;
+          staged = volatile.new.staged;
+        } }
+        ensures same { volatile_of volatile.new ≡ volatile_of volatile.old }
         ensures room { IfOk result (λ plan. HasRoomIn plan.turn volatile.new) }
     {
         match input {

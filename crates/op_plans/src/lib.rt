@@ -2,12 +2,15 @@
 #![tactic(auto)]
 
 mod dropping;
+mod head;
 mod joining;
 mod log;
 mod member;
+mod parts;
 mod sends;
 
 pub use dropping::{given_up, push_dropped};
+pub use head::Head;
 pub use joining::{first, joined, one};
 pub use log::{ends_with_stop, is_stop, push_append, suffix, without_prefix};
 pub use member::Member;

@@ -1,45 +1,42 @@
--- What is brought to a node that joins, of the configuration that it joins, is what it holds then.
-use Rattle.std.proofs.Common.{◌≡◌, ℕ, Bool, true, false, cond, ◌&&◌, List, [], ◌∷◌, Result, Ok, Err, refl, sym, ap, subst, ◌∙◌}
-use Rattle.std.specs.Prelude.{not, nat_le, Some, None, is_some, IfOk}
-use Rattle.std.proofs.lemmas.Bool.{eq-eqb}
+-- What is brought to a node that joins, and that it takes, is what it holds then.
+use Rattle.std.proofs.Common.{◌≡◌, ℕ, Bool, true, false, cond, ◌&&◌, List, [], ◌∷◌, refl}
+use Rattle.std.specs.Prelude.{◌==◌, not, nat_le, Option, Some, None, is_some}
+use Rattle.op_types.specs.Stages.{Pieces, with_piece, whole_bytes}
 use Rattle.op_types.specs.declared.log.Entry.{Entry}
 use Rattle.op_types.specs.declared.changes.Change.{Change}
 use Rattle.op_types.specs.declared.changes.Change.TheVariants as change
 use Rattle.op_types.specs.declared.durable.Joining.{Joining}
-use Rattle.op_types.specs.declared.messages.Body.{Body}
 use Rattle.op_types.specs.declared.messages.Body.TheVariants as body
+use Rattle.op_types.specs.declared.runs.Piece.{Piece}
 use Rattle.op_protocol.specs.Bases.{is_base}
-use Rattle.op_protocol.specs.Joining.{new_entries}
-use Rattle.op_segments.specs.Brought.{IsBaseIfPart, stands_in, held_base, held_entries, changes_of, brought_by}
+use Rattle.op_protocol.specs.Joining.{new_entries, takes_base, takes_entries, takes_piece, base_once, brought_to}
+use Rattle.op_segments.specs.Brought.{stands_in, held_base, held_entries}
+use Rattle.op_segments.specs.Staging.{completed}
 
-both : (b c : Bool) (l : List Change) → changes_of (cond (true && (b && (c && true))) (Some l) None) ≡ cond (b && c) l []
-both true true l = refl
-both true false l = refl
-both false c l = refl
+base_by : (a b c d : Bool) (l : List Change) → (a && (b && (c && d))) ≡ true → cond (a && (b && (c && d))) (Some l) None ≡ Some (cond (b && c) l [])
+base_by true true true true l is = refl
+base_by true true true false l is = absurd cc
+base_by true true false d l is = absurd cc
+base_by true false c d l is = absurd cc
+base_by false b c d l is = absurd cc
 
-one : (b : Bool) (l : List Change) → changes_of (cond (true && b) (Some l) None) ≡ cond b l []
-one true l = refl
-one false l = refl
+-- a base
+pub base_held : (j : Joining) (o : Option Pieces) (c at : ℕ) (bytes : List ℕ) → takes_base j c at bytes ≡ true → brought_to (Some j) o c (body.BasePart at bytes) ≡ Some (held_base j at bytes)
+base_held j o c at bytes takes = base_by (j.conf == c) (not (is_some j.base)) (nat_le at j.len) (is_base bytes) (change.JoinBase at bytes ∷ []) takes
 
-base_brought : (j : Joining) (at : ℕ) (bytes : List ℕ) → is_base bytes ≡ true → brought_by j (body.BasePart at bytes) ≡ held_base j at bytes
-base_brought j at bytes fit =
-    let l : List Change = change.JoinBase at bytes ∷ [] in
-    let b : Bool = not (is_some j.base) in
-    let c : Bool = nat_le at j.len in
-    ap (λ (a : Bool). changes_of (cond (a && (b && (c && is_base bytes))) (Some l) None)) (eq-eqb j.conf j.conf refl)
-    ∙ ap (λ (d : Bool). changes_of (cond (true && (b && (c && d))) (Some l) None)) fit ∙ both b c l
+entries_by : (a b : Bool) (l : List Change) → (a && b) ≡ true → cond (a && b) (Some l) None ≡ Some (cond b l [])
+entries_by true true l is = refl
+entries_by true false l is = absurd cc
+entries_by false b l is = absurd cc
 
-segment_brought : (j : Joining) (at : ℕ) (es : List Entry) → brought_by j (body.Segment at es) ≡ held_entries j at es
-segment_brought j at es =
-    ap (λ (a : Bool). changes_of (cond (a && stands_in j at es) (Some (new_entries j at es)) None)) (eq-eqb j.conf j.conf refl)
-    ∙ one (stands_in j at es) (new_entries j at es)
+-- entries
+pub entries_held : (j : Joining) (o : Option Pieces) (c at : ℕ) (es : List Entry) → takes_entries j c at es ≡ true → brought_to (Some j) o c (body.Segment at es) ≡ Some (held_entries j at es)
+entries_held j o c at es takes = entries_by (j.conf == c) (stands_in j at es) (new_entries j at es) takes
 
-pub base_held : {E : Type 0} (j : Joining) (part : Body) (at : ℕ) (bytes : List ℕ) (r : Result (List Change) E) → part ≡ body.BasePart at bytes → IsBaseIfPart part
-    → IfOk r (λ b. b ≡ held_base j at bytes) → IfOk r (λ b. b ≡ brought_by j part)
-base_held j part at bytes (Ok b) is fit h = h ∙ sym (base_brought j at bytes (subst IsBaseIfPart is fit)) ∙ ap (brought_by j) (sym is)
-base_held j part at bytes (Err e) is fit h = tt
+piece_by : (b : Bool) (j : Joining) (c at : ℕ) (w : Option (List ℕ)) → cond b (base_once j c at w) None ≡ base_once j c at (cond b w None)
+piece_by true j c at w = refl
+piece_by false j c at w = refl
 
-pub segment_held : {E : Type 0} (j : Joining) (part : Body) (at : ℕ) (es : List Entry) (r : Result (List Change) E) → part ≡ body.Segment at es
-    → IfOk r (λ b. b ≡ held_entries j at es) → IfOk r (λ b. b ≡ brought_by j part)
-segment_held j part at es (Ok b) is h = h ∙ sym (segment_brought j at es) ∙ ap (brought_by j) (sym is)
-segment_held j part at es (Err e) is h = tt
+-- a piece brings what the base does that it completes
+pub piece_brought : (j : Joining) (o : Option Pieces) (c : ℕ) (p : Piece) → brought_to (Some j) o c (body.BasePiece p) ≡ base_once j c p.at (completed j o c p)
+piece_brought j o c p = piece_by (takes_piece j c p) j c p.at (whole_bytes (with_piece o p).bytes)

@@ -1,18 +1,10 @@
 -- What is brought to a node that joins.
-use Rattle.std.specs.Prelude.{◌≡◌, ◌&&◌, ℕ, ◌+◌, nat_le, Bool, true, not, List, [], ◌∷◌, length, Option, Some, None, is_some, if◌then◌else◌}
+use Rattle.std.specs.Prelude.{◌&&◌, ℕ, ◌+◌, nat_le, Bool, not, List, [], ◌∷◌, length, Option, Some, None, is_some, if◌then◌else◌}
 use Rattle.op_types.specs.declared.log.Entry.{Entry}
 use Rattle.op_types.specs.declared.changes.Change.{Change}
 use Rattle.op_types.specs.declared.changes.Change.TheVariants as change
 use Rattle.op_types.specs.declared.durable.Joining.{Joining}
-use Rattle.op_types.specs.declared.messages.Body.{Body}
-use Rattle.op_types.specs.declared.messages.Body.TheVariants as body
-use Rattle.op_protocol.specs.Bases.{is_base}
-use Rattle.op_protocol.specs.Joining.{are_some, new_entries, brought_to}
-
--- what is brought as a base is one
-abbrev pub IsBaseIfPart : Body → Type 0
-IsBaseIfPart (body.BasePart at bytes) = is_base bytes ≡ true
-IsBaseIfPart _ = Unit {0}
+use Rattle.op_protocol.specs.Joining.{are_some, new_entries}
 
 -- there are entries, and all of them stand in the closed list
 abbrev pub stands_in : Joining → ℕ → List Entry → Bool
@@ -29,12 +21,3 @@ held_base j at bytes = if not (is_some j.base) && nat_le at j.len then change.Jo
 -- the change by which entries are held, where they stand in the closed list and aren't held yet
 abbrev pub held_entries : Joining → ℕ → List Entry → List Change
 held_entries j at entries = if stands_in j at entries then new_entries j at entries else []
-
--- these changes, if there are any
-abbrev pub changes_of : Option (List Change) → List Change
-changes_of None = []
-changes_of (Some batch) = batch
-
--- the changes by which a node holds what is brought to it, of the configuration that it joins
-abbrev pub brought_by : Joining → Body → List Change
-brought_by j b = changes_of (brought_to (Some j) j.conf b)

@@ -1,23 +1,10 @@
 //! What comes of a closed list is held.
 ghost use Rattle.std.specs.Prelude.{◌≡◌, IfOk};
-ghost use Rattle.op_segments.specs.Brought.{IsBaseIfPart, end_in, held_base, held_entries, brought_by};
+ghost use Rattle.op_segments.specs.Brought.{end_in, held_base, held_entries};
 
 use crate::asking::is_held;
-use op_types::{Batch, Blob, Body, Change, Entries, Joining};
+use op_types::{Batch, Blob, Change, Entries, Joining};
 use std::alloc::{AllocError as NoMemory, Global};
-
-/// The changes by which a node holds what was brought: a base where it has none yet, or entries where they bring a position
-/// that isn't held. What doesn't stand in the closed list brings nothing, nor does any other message.
-pub fn take(alloc: Global, joining: &Joining, part: Body) -> Result<Batch, NoMemory>
-    requires { IsBaseIfPart part }
-    ensures { IfOk result (λ batch. batch ≡ brought_by joining.now part) }
-{
-    match part {
-        Body::BasePart(at, base) => take_base(alloc, joining, at, base),
-        Body::Segment(at, entries) => take_entries(alloc, joining, at, entries),
-        _ => Ok(Batch::new(alloc)),
-    }
-}
 
 /// The change by which a base is held, where none is and where it stands in the closed list.
 pub fn take_base(alloc: Global, joining: &Joining, at: u64, base: Blob) -> Result<Batch, NoMemory>

@@ -5,8 +5,10 @@ mod asking;
 mod covering;
 mod fail;
 mod holding;
+mod staging;
 
 pub use asking::plan;
 pub use covering::whole;
 pub use fail::WholeFail;
-pub use holding::{take, take_base, take_entries};
+pub use holding::{take_base, take_entries};
+pub use staging::{completed, stage_piece};

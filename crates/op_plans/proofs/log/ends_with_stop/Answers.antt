@@ -1,4 +1,4 @@
-use Rattle.std.proofs.Common.{◌≡◌, ap, sym, ◌∙◌}
+use Rattle.std.proofs.Common.{ap, sym, ◌∙◌}
 use Rattle.op_plans.proofs.Ends.{is_stop, ends_with}
 use Rattle.op_plans.proofs.log.ends_with_stop.Goals as goal
 

@@ -38,14 +38,14 @@ returns c x p =
     let plan = c.args.plan in
     let new = c.renew.new.self in
     let given : Given = record { sends = plan.plan.sends; replies = c.into_seq-2.result; outcome = plan.plan.outcome } in
-    let made : Made old plan c.adopt-2.new.self new given = record {
+    let made : Made old plan c.adopt.new.self new given = record {
       me = ap (λ (n : Chain). n.me) c.renew.ensures.rest;
-      durable = ap (λ (n : Chain). n.durable) c.renew.ensures.rest ∙ c.adopt.ensures;
-      turned = c.adopt-2.ensures.turned;
-      elector = c.adopt-2.ensures.elector;
-      electors = c.adopt-2.ensures.electors;
-      listener = c.adopt-2.ensures.listener;
-      members = c.adopt-2.ensures.members;
+      durable = ap (λ (n : Chain). n.durable) c.renew.ensures.rest ∙ c.adopt-2.ensures;
+      turned = c.adopt.ensures.turned;
+      elector = c.adopt.ensures.elector;
+      electors = c.adopt.ensures.electors;
+      listener = c.adopt.ensures.listener;
+      members = c.adopt.ensures.members;
       volatile = ap (λ (n : Chain). n.volatile) c.renew.ensures.rest;
       service = c.renew.ensures.service ∙ ap (λ (s : Service). service_by plan.renewal s) c.adopt-3.ensures;
       told = all_told c.let_wait.new.self c.give_up.new.waiting plan.room.told c.give_up.new.told old.waiting.next plan.plan.replies c.let_wait.ensures.waiting p.room.nobody_told c.give_up.ensures.told
@@ -54,4 +54,4 @@ returns c x p =
       sends = refl;
       outcome = refl;
     } in
-    subst (λ (t : Planned). Adopts old t new given) p.table (plan_adopted old new plan c.adopt-2.new.self given made p.sound p.after)
+    subst (λ (t : Planned). Adopts old t new given) p.table (plan_adopted old new plan c.adopt.new.self given made p.sound p.after)

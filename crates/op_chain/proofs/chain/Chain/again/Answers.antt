@@ -13,7 +13,7 @@ returns-clause-sound c =
     elim c.match-durable.branch [
       | in-Some+in_ok-volatile-in-Some w ↦
           node_as me d c.match-durable.volatile _ w.volatile-is
-          (member_opened me d w.in-Some.part _ c.requires w.in-Some.is (ap (λ (v : step.Volatile). v.role) w.in_ok-volatile-in-Some.ensures.after) (w.in_ok-volatile-in-Some.ensures.kept))
+          (member_opened me d w.in-Some.part _ c.requires w.in-Some.is (ap (λ (v : step.Volatile). v.role) w.in_ok-volatile-in-Some.ensures.after) (ap (λ (v : step.Volatile). v.staged) w.in_ok-volatile-in-Some.ensures.after) (w.in_ok-volatile-in-Some.ensures.kept))
       | in-None+in_ok-volatile-in-None w ↦ spare_opened me d c.match-durable.volatile c.requires w.in-None.is
     ] in
     record { node = record { part = node.part; closed = node.closed; joining = node.joining }; bases = record { part = c.requires.bases.part; joining = c.requires.bases.joining } }

@@ -1,9 +1,12 @@
 use Rattle.std.proofs.Common.{◌≡◌, List, [], sym, ap, subst, ◌∙◌}
 use Rattle.op_types.specs.Roles.{role_of}
 use Rattle.op_types.specs.declared.answers.Reply.{Reply}
+use Rattle.op_types.specs.declared.changes.Change.{Change}
 use Rattle.op_types.specs.declared.plan.Plan.{Plan}
+use Rattle.op_types.specs.declared.turn.Turn.{Turn}
 use Rattle.op_protocol.specs.State.{Planned}
 use Rattle.op_protocol.specs.Joining.{holds_more}
+use Rattle.op_chain.specs.Bringing.{turn_holding}
 use Rattle.op_chain.specs.Chains.{state_of}
 use Rattle.op_chain.specs.Plans.{HasRoomToTell, Prepares, IfGoesOn}
 use Rattle.op_chain.specs.declared.chain.Chain.{Chain}
@@ -11,7 +14,7 @@ use Rattle.op_chain.specs.declared.chain_plan.ChainPlan.{ChainPlan}
 use Rattle.op_chain.specs.declared.room.Room.{Room}
 use Rattle.op_chain.specs.declared.serving.Serving.{Serving}
 use Rattle.op_chain.proofs.Prepared.{IsLike, join_prepared, like_self, like_served, like_waiting}
-use Rattle.op_chain.proofs.Steps.{chain_plan}
+use Rattle.op_chain.proofs.Steps.{chain_plan, storing_plan}
 use Rattle.op_chain.proofs.chain.Chain.plan_joining.Goals as goal
 
 pub returns-clause-prepares : goal.returns-clause-prepares
@@ -25,10 +28,12 @@ returns-clause-prepares c =
     let served : Chain = record a { service = c.plan.new.self } in
     let last : Chain = record served { waiting = c.make_room.new.self } in
     let like : IsLike a last = like_waiting a served c.make_room.new.self (like_served a a c.plan.new.self (like_self a) c.plan.ensures.stays) c.make_room.ensures.same in
-    let goes = subst (λ (n : Plan). let old : Plan = record n { batch = batch } in IfGoesOn a.me a.durable.joining m (role_of a.volatile.role) old new r) c.nothing-plan.ensures c.in_ok-renewal.ensures in
+    let turn : c.turn_holding.result ≡ turn_holding a.durable.joining batch = c.turn_holding.ensures ∙ ap (λ (b : List Change). turn_holding a.durable.joining b) c.as_slice.ensures in
+    let before = subst (λ (n : Plan). let old : Plan = record n { batch = batch; turn = c.turn_holding.result } in IfGoesOn a.me a.durable.joining m (role_of a.volatile.role) old new r) c.nothing-plan.ensures c.in_ok-renewal.ensures in
+    let goes = subst (λ (t : Turn). IfGoesOn a.me a.durable.joining m (role_of a.volatile.role) (storing_plan batch t) new r) turn before in
     let t : Planned = holds_more a.me (state_of a) batch in
     let made : (room : Room) → HasRoomToTell (chain_plan new kv [] r room) → Prepares last t (chain_plan new kv [] r room) = λ room tells.
-    join_prepared a c.requires.sound c.requires.rested c.requires.brought.0 c.requires.brought.1 batch c.requires.brought.2 c.requires.served.0 c.requires.served.1 m c.requires.served.2 c.requires.range
+    join_prepared a c.requires.sound c.requires.rested c.requires.brought.0 c.requires.brought.1 c.requires.brought.2 batch c.requires.brought.3 c.requires.served.0 c.requires.served.1 m c.requires.served.2 c.requires.range
     last new kv r room like c.in_ok-change.ensures.change goes c.in_ok-make_room.ensures.room c.in_ok-change.ensures.ready tells in
     let replies = c.new-replies.result in
     let here : (room : Room) → HasRoomToTell (chain_plan new kv replies r room) → Prepares last t (chain_plan new kv replies r room) =

@@ -33,7 +33,7 @@ returns-clause-prepares c =
     let made : Served = record { change = s.service; replies = s.replies; stop = told.served.0 } in
     let served : Chain = record stepped { service = last.service } in
     let roomed : Chain = record served { waiting = last.waiting } in
-    let first : IsLike a stepped = like_stepped a stepped c.step.ensures.rest c.step.ensures.role in
+    let first : IsLike a stepped = like_stepped a stepped c.step.ensures.rest c.step.ensures.same in
     let next : IsLike a served = like_served a stepped last.service first c.serve.ensures.service in
     let like : IsLike a last = like_is a roomed last (like_waiting a served last.waiting next c.serve.ensures.waiting) c.serve.ensures.rest in
     let serves : IsServed a.service.service (newly_decided a.durable.part plan.batch) made =
