@@ -25,4 +25,5 @@ pub mod Turns
 pub mod Folding
 pub mod Awaiting
 pub mod Heeding
+pub mod Holding
 pub mod Runs

@@ -11,9 +11,9 @@ use Rattle.op_serving.specs.declared.node.Given.{Given}
 use Rattle.op_serving.specs.declared.session.Session.{Session}
 use Rattle.op_serving.specs.declared.wanted.Wanted.{Wanted}
 use Rattle.op_serving.specs.Wire.{peer_frame, client_frame}
-use Rattle.op_serving.specs.State.{Awaited, Key, Loop, find, changed, with_bytes, session_of, waits_for}
+use Rattle.op_serving.specs.State.{Awaited, Key, Loop, find, changed, with_bytes, waits_for}
 use Rattle.op_serving.specs.Losses.{most_marks}
-use Rattle.op_serving.specs.Handing.{Frame, frame_at, said_at, sent, sent_all, frames_sent, forgotten, answered, replied, replied_all, frames_replied, handed_out, frames_handed, Told, said_at_once, said_of_denial, told, told_all, frames_told, asked_by_one, asked, is_read, keys_that_wait, proposed, frames_proposed, excused, frames_excused}
+use Rattle.op_serving.specs.Handing.{Frame, frame_at, said_at, goes_to, sent, sent_all, frames_sent, forgotten, answered, replied, replied_all, frames_replied, handed_out, frames_handed, Told, said_at_once, said_of_denial, told, told_all, frames_told, asked_by_one, asked, is_read, keys_that_wait, proposed, frames_proposed, excused, frames_excused}
 use Rattle.std.specs.Map.{keys_of}
 use Rattle.op_connections.proofs.Tables.{found_own, found_other, keys_changed}
 
@@ -112,8 +112,8 @@ queues_at c (Some d) b s = queues_one c d b s
 queues_sent : (c : ℕ) (ms : List (ℕ × Msg)) (s : Loop) → Queues c s (frames_sent ms s) (sent_all ms s)
 queues_sent c [] s = queues_none c s s refl refl refl refl refl refl
 queues_sent c (m ∷ ms) s =
-    queues_then c s (sent m s) (sent_all ms (sent m s)) (frame_at (session_of m.0 s) (peer_frame s.me m.0 m.1)) (frames_sent ms (sent m s))
-    (queues_at c (session_of m.0 s) (peer_frame s.me m.0 m.1) s) (queues_sent c ms (sent m s))
+    queues_then c s (sent m s) (sent_all ms (sent m s)) (frame_at (goes_to m s) (peer_frame s.me m.0 m.1)) (frames_sent ms (sent m s))
+    (queues_at c (goes_to m s) (peer_frame s.me m.0 m.1) s) (queues_sent c ms (sent m s))
 
 queues_reply : (c : ℕ) (read : Bool) (r : Reply) (s : Loop) → Queues c s (frame_at (map.get s.askers (read, (r.client, r.seq))) (client_frame (answered r))) (replied read r s)
 queues_reply c read r s =

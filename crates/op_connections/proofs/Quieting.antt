@@ -9,8 +9,9 @@ use Rattle.op_serving.specs.Cores.{Standing, gives, reopens}
 use Rattle.op_serving.specs.Fates.{Fate, done, finds, faults, damaged, lost}
 use Rattle.op_serving.specs.Wire.{peer_frame}
 use Rattle.op_serving.specs.State.{Loop, find, left_by, session_of, counted}
-use Rattle.op_serving.specs.Handing.{Frame, frame_at, sent_all, frames_sent, replied_all, frames_replied, frames_handed}
+use Rattle.op_serving.specs.Handing.{Frame, frame_at, goes_to, sent_all, frames_sent, replied_all, frames_replied, frames_handed}
 use Rattle.op_serving.specs.Inputs.{State, Luck, kept, is_lost_here, fate_of, next_fate, frames_after, calm, enter, give, drained, given_together, leaves, over}
+use Rattle.op_serving.proofs.Fits.{goes_tells}
 use Rattle.op_connections.proofs.Queueing.{bytes_for}
 use Rattle.op_connections.proofs.Walking.{Falls, drained_holds}
 use Rattle.op_connections.proofs.Fading.{Stays, stays_then, stays_left, stays_calm, stays_enter}
@@ -30,12 +31,12 @@ handed_none g s sends replies reads =
 handed_other : (c q : ℕ) (g : Given) (s : Loop) → Upping q g → (session_of q s ≡ Some c → ⊥) → read_frames g s ≡ [] → bytes_for c (frames_handed g s) ≡ []
 handed_other c q g s u other reads = ap (λ fs. bytes_for c ((frames_sent g.sends s ++ frames_replied false g.replies (sent_all g.sends s)) ++ fs)) reads ∙ elim u.sends [
   | inl none ↦ rw (none, u.replies) refl
-  | inr one ↦ rw (one.1, u.replies) (at_other (session_of q s) refl one.0)
+  | inr one ↦ rw (one.1, u.replies) (at_other one.0 (goes_to (q, one.0) s) refl)
 ]
   where
-    at_other : (o : Option ℕ) → session_of q s ≡ o → (m : Msg) → bytes_for c (((frame_at o (peer_frame s.me q m) ++ []) ++ []) ++ []) ≡ []
-    at_other None e m = refl
-    at_other (Some d) e m = ap (λ b. (if b then peer_frame s.me q m else []) ++ []) (ne_eqb d c (λ k. other (e ∙ ap Some k)))
+    at_other : (m : Msg) (o : Option ℕ) → goes_to (q, m) s ≡ o → bytes_for c (((frame_at o (peer_frame s.me q m) ++ []) ++ []) ++ []) ≡ []
+    at_other m None e = refl
+    at_other m (Some d) e = ap (λ b. (if b then peer_frame s.me q m else []) ++ []) (ne_eqb d c (λ k. other ((goes_tells (q, m) s d e).1 ∙ ap Some k)))
 
 -- what is asked of what comes of an input: an opening comes only of a tick at a node that failed
 module _ (P : Fate → Type 0) (n : Standing) (i : Input) (shut : reopens n i ≡ false) (as_done : P done) (as_faults : (k : ℕ) → P (faults k)) (as_damaged : P damaged) (as_lost : P lost) where

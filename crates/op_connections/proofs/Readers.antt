@@ -21,10 +21,10 @@ use Rattle.op_serving.specs.declared.wanted.Wanted.{Wanted}
 use Rattle.op_serving.specs.declared.wanted.Wanted.TheVariants.{Commands, Stop, Trim, Read}
 use Rattle.op_serving.specs.Cores.{Standing, given_of, gives, after_input, faulted, refused_with, reopened}
 use Rattle.op_serving.specs.Fates.{Fate, done, finds, faults, damaged, lost, after_fate}
-use Rattle.op_serving.specs.State.{Key, Awaited, Loop, awaited_cmp, is_conn, is_open, kind_at, left_at, left_by, session_of, counted}
+use Rattle.op_serving.specs.State.{Key, Awaited, Loop, awaited_cmp, is_conn, is_open, kind_at, left_at, left_by, counted}
 use Rattle.op_serving.specs.Wire.{peer_frame, client_frame}
 use Rattle.op_serving.specs.Losses.{most_marks, mark_at, noted, stopped_if, marked, lost_one, is_due, settle}
-use Rattle.op_serving.specs.Handing.{said_at, sent, sent_all, forgotten, answered, replied, replied_all, frame_at, frames_replied, handed_out, Told, said_at_once, said_of_denial, told, told_all, asked_by_one, asked, waits_if_asked, refusal_of, waits_unless, proposed, excused}
+use Rattle.op_serving.specs.Handing.{said_at, goes_to, sent, sent_all, forgotten, answered, replied, replied_all, frame_at, frames_replied, handed_out, Told, said_at_once, said_of_denial, told, told_all, asked_by_one, asked, waits_if_asked, refusal_of, waits_unless, proposed, excused}
 use Rattle.op_serving.specs.Inputs.{State, Luck, asked_by, begins, calm, enter, entered_with, loop_after, next_fate, noting}
 use Rattle.op_serving.specs.Reading.{hello_len}
 use Rattle.op_serving.specs.Turns.{accepted, dialled, first_bytes, joined, joining, taken_by, up_at, up_peer}
@@ -104,7 +104,7 @@ nobody_said (Some c) b s h = h
 
 nobody_sent : (ms : List (ℕ × Msg)) (s : Loop) → NobodyReads s → NobodyReads (sent_all ms s)
 nobody_sent [] s h = h
-nobody_sent (m ∷ ms) s h = nobody_sent ms (sent m s) (nobody_said (session_of m.0 s) (peer_frame s.me m.0 m.1) s h)
+nobody_sent (m ∷ ms) s h = nobody_sent ms (sent m s) (nobody_said (goes_to m s) (peer_frame s.me m.0 m.1) s h)
 
 nobody_reply : (read : Bool) (r : Reply) (s : Loop) → NobodyReads s → NobodyReads (replied read r s)
 nobody_reply read r s h =

@@ -1,5 +1,6 @@
 -- A run keeps what each connection is promised, and the node is the fold of its step.
 use Rattle.std.proofs.Common.{Bool, true, false, is_some, option_map, ◌⊎◌, ◌≡◌, ◌<◌, ◌++◌, [], ℕ, List, length, Option, Some, None, refl, sym, ◌∙◌, ap, subst, inl, inr, arith}
+use Rattle.op_types.specs.declared.log.Command.{Command}
 use Rattle.op_serving.specs.Cores.{Standing}
 use Rattle.std.specs.FinMap as map
 use Rattle.op_serving.specs.State.{awaited_cmp, find}
@@ -17,14 +18,15 @@ use Rattle.op_serving.specs.Pump.{Settings, Stage, turn, time, dials, asks, read
 use Rattle.op_serving.specs.Answers.{Answers}
 use Rattle.op_serving.specs.Promise.{newborn, life, at_conn, KeepsClosed, KeepsOpen, KeepsAt, Keeps, folded}
 use Rattle.op_connections.specs.Runs.{Begins, inputs, luck_of, IsRun, calls_of}
-use Rattle.op_connections.proofs.Keeping.{kept_promise}
+use Rattle.op_connections.proofs.Keeping.{formed, Open, OpenAt, kept_promise}
 use Rattle.op_connections.proofs.Dealing.{AllKept}
 use Rattle.op_connections.proofs.Folding.{Folds, folds_none, folds_closed}
 use Rattle.op_connections.proofs.Pumping.{Goes, run_kept}
 use Rattle.op_connections.proofs.Promises.{promises_closed}
 use Rattle.op_connections.proofs.Registering.{Registered}
-use Rattle.op_connections.specs.Hearing.{HearsAll}
+use Rattle.op_connections.specs.Hearing.{HearsAll, HoldsLess}
 use Rattle.op_connections.proofs.Fading.{front_in}
+use Rattle.op_connections.proofs.Holding.{held_short}
 use Rattle.op_connections.proofs.Heeding.{AllAwait, Heeds, heeds_closed}
 use Rattle.op_connections.specs.Waiting.{QueuesAreShort, FramesAreShort}
 use Rattle.op_connections.proofs.Shedding.{fit_short}
@@ -151,6 +153,15 @@ module _ (o : Settings) (l : Luck) (line : Standing → List ℕ) (given : List 
       let me : ℕ = p.driver.loop.me in
       let g : Goes o l line (Heeds me) (heeds_closed me l line) p = record { holds = record { kept = kept_before p.driver b; awaits = awaits_before p.driver b }; runs = inr (few_before p.driver b) } in
       (run_kept o l line (Heeds me) (heeds_closed me l line) given p is g).holds.awaits c y.kind y.frames (ap front_in there)
+
+  -- of each no more than a part of a hello or a frame
+  pub holds : HoldsLess (after o l line given p).driver
+  holds c y there =
+      let me : ℕ = p.driver.loop.me in
+      let t : State = (after o l line given p).driver in
+      let cs : List Command = at_conn c t.loop.gathered in
+      let own : Open me formed [] (life c t.deeds) cs y = subst (OpenAt me formed [] (life c t.deeds) cs) there (all_kept o l line given p b is c).at in
+      held_short y.kind y.frames cs own.form (heeds c y there)
 
 -- ---- what waits
 

@@ -5,19 +5,21 @@ ghost use Rattle.op_serving.specs.Pump.{Settings, Pump, Answer, after, calls};
 ghost use Rattle.op_serving.specs.Answers.{Answers};
 ghost use Rattle.op_serving.specs.Promise.{Keeps, folded};
 ghost use Rattle.op_connections.specs.Runs.{Begins, IsRun, inputs, calls_of};
-ghost use Rattle.op_connections.specs.Hearing.{HearsAll};
+ghost use Rattle.op_connections.specs.Hearing.{HearsAll, HoldsLess};
 ghost use Rattle.op_connections.specs.Waiting.{FramesAreShort, QueuesAreShort};
 ghost use Rattle.op_connections.specs.Taking.{IsBetween, IsDone};
 
 /// Whatever net and clock answer, and wherever memory is wanting: the inputs of each connection are those of the frames of the
-/// bytes that it read, in order, each command for its own connection, and no whole frame of an open one is left; the bytes that it
-/// took are the first of its hello and of the frames for it, and while it is open the others wait. No more bytes wait for it than
+/// bytes that it read, in order, each command for its own connection, and of an open one no whole frame is left, and no more than a
+/// part of a hello or a frame; the bytes that it took are the first of its hello and of the frames for it, and while it is open the others wait. No more bytes wait for it than
 /// may, so each frame that was said for it is short.
 pub fn connections_keep()
     ensures keeps { (o : Settings) (l : Luck) (line : Standing → List ℕ) (answers : List Answer) (p : Pump)
         → Begins p.driver → Answers o l line answers p → Keeps (after o l line answers p).driver }
     ensures hears { (o : Settings) (l : Luck) (line : Standing → List ℕ) (answers : List Answer) (p : Pump)
         → Begins p.driver → Answers o l line answers p → HearsAll (after o l line answers p).driver }
+    ensures holds { (o : Settings) (l : Luck) (line : Standing → List ℕ) (answers : List Answer) (p : Pump)
+        → Begins p.driver → Answers o l line answers p → HoldsLess (after o l line answers p).driver }
     ensures queues { (o : Settings) (l : Luck) (line : Standing → List ℕ) (answers : List Answer) (p : Pump)
         → Begins p.driver → Answers o l line answers p
         → QueuesAreShort (after o l line answers p).driver.loop }

@@ -18,8 +18,7 @@ use Rattle.op_serving.specs.Fates.{Fate, done, finds, faults, damaged, lost, aft
 use Rattle.op_driver.specs.Driver.{Served, Stores, with_deeds, Knows, Enters}
 use Rattle.op_serving.specs.Losses as losses
 use Rattle.op_serving.specs.Losses.{most_marks, mark_at, noted, marked, is_here, is_due, settle, settled, IsCalm, IsFrom, Foretells, Grew, KeepsKinds}
-use Rattle.op_queues.proofs.Settling.{kinds_then, marked_kinds, grew_trans, grew_still, stopped_lost, stopped_place, from_own, here_own, from_counted, counted_grew}
-use Rattle.op_queues.proofs.Sending.{does_nothing}
+use Rattle.op_queues.proofs.Settling.{kinds_then, marked_kinds, grew_trans, grew_still, stopped_lost, stopped_place, from_own, here_own, from_counted, counted_grew, does_nothing}
 use Rattle.op_driver.proofs.Stepping.{steps_says, walks_says, went_none}
 use Rattle.op_driver.proofs.Calm.{no_left, not_here, went_up, later_marks, split_marks, calm_before, calm_lost, calm_full}
 

@@ -1,29 +1,24 @@
-ghost use Rattle.std.specs.Prelude.{◌≡◌, ◌≢◌, ◌↔◌, ◌<◌, ◌≤◌, ◌+◌, ◌-◌, ◌∷◌, [], ℕ, List, length, drop, map, true, false, IsTrue, None, IfOk, IfSome, IfNone, OnOk, OnErr};
-ghost use Rattle.op_types.specs.Limits.{most_commands};
-ghost use Rattle.op_types.specs.Ranges.{IsPid, CommandInRange};
+ghost use Rattle.std.specs.Prelude.{◌≡◌, ◌≢◌, ◌↔◌, ◌<◌, ◌≤◌, ◌+◌, ◌-◌, ◌∷◌, [], length, drop, map, true, false, IsTrue, None, IfOk, IfSome, IfNone, OnOk, OnErr};
+ghost use Rattle.op_types.specs.Ranges.{IsPid};
 ghost use Rattle.op_types.specs.declared.events.Input.TheVariants as input;
-ghost use Rattle.op_types.specs.declared.events.Request.TheVariants as request;
-ghost use Rattle.op_command.specs.Ranges.{RequestInRange, SaidInRange};
-ghost use Rattle.op_command.specs.declared.said.Said.TheVariants.{Status};
-ghost use Rattle.op_serving.specs.declared.hearing.Heard.TheVariants.{Asks};
 ghost use Rattle.op_serving.specs.State.{down_of, find, is_open, kind_at, left_by, next, session_of, shed};
 ghost use Rattle.op_serving.specs.Ranges.{InputInRange, GivenInRange, KindInRange, WantedInRange};
 ghost use Rattle.op_serving.specs.Losses.{most_marks, lost_by, settled, size, Stays, Does as SessionsDo};
 ghost use Rattle.op_serving.specs.Counts.{hello_in, most_inputs};
 ghost use Rattle.op_serving.specs.Handing.{handed_out, proposed};
-ghost use Rattle.op_serving.specs.Inputs.{enter, give, flushed, leaves, over, proposes};
-ghost use Rattle.op_serving.specs.Reading.{feeds, frames_at, held_in, is_peer, joins_others, links, on_frame, read, replaced};
+ghost use Rattle.op_serving.specs.Inputs.{enter, give, flushed, leaves, over};
 ghost use Rattle.op_serving.specs.Turns.{happens_at, joined, joining, queue_in, taken_of, ticked, turn_begins, waiting_from, wrote};
-ghost use Rattle.op_queues.specs.Hearing.{FoundInRange, HeardInRange, least_taken};
+ghost use Rattle.op_queues.specs.Hearing.{FoundInRange, least_taken};
 ghost use Rattle.op_queues.specs.Gathering.{RunInRange};
 ghost use Rattle.op_driver.specs.Driver.{Acts, Does, FromCalm, Drained, Enters, Gives, IsIdle, Loses, Rests, IsDrained, IsShed, hello_left};
-ghost use Rattle.op_driver.specs.Dealing.{Deals, DealsAll, GathersOn, Handles, HandlesAlone, TakesOn, Taken, framed, greeted, makes_way, tells_now};
+ghost use Rattle.op_driver.specs.Dealing.{TakesOn};
 
-use op_command::Said;
+mod dealing;
+
 use op_outside::Conn;
-use op_queues::{Front, Run, Sessions, asked_by, of_no_command};
-use op_serving::{Core, Given, Heard, Kind, StepFail, Wanted, goes_up};
-use op_types::{Command, Input, NoMemory, Pid, Refusal, Request};
+use op_queues::{Front, Run, Sessions, asked_by};
+use op_serving::{Core, Given, Kind, StepFail, Wanted, goes_up};
+use op_types::{Input, NoMemory, Pid, Refusal};
 use std::marker::Model;
 
 /// A served node with its sessions.
@@ -234,23 +229,6 @@ impl<K: Core> Driver<K> {
         }
     }
 
-    /// Bytes that a connection read, and all that they complete. Where they find no memory, its session is
-    /// lost.
-    pub fn read(&mut self, conn: Conn, bytes: &[u8])
-        requires open { is_open conn self.old.loop ≡ true }
-        requires at { self.old.loop.place.at ≢ 0 }
-        requires frames { self.old.loop.place.frames ≡ 0 }
-        requires none { IsDrained self.old.loop }
-        ensures acts { Acts K.stores (λ l s. read l K.line conn bytes.now s) self.old self.new }
-        ensures rests { Rests self.old.loop self.new.loop }
-        ensures most { most_inputs self.new.loop ≤ most_inputs self.old.loop + length bytes.now }
-    {
-        match self.feed(conn, bytes) {
-            Ok(held) => self.deal_all(conn, held),
-            Err(_) => self.lose(conn),
-        }
-    }
-
     /// A session is lost for want of memory, and its peer goes down.
     fn lose(&mut self, conn: Conn)
         requires { is_open conn self.old.loop ≡ true }
@@ -370,332 +348,11 @@ impl<K: Core> Driver<K> {
         self.sessions.kind(conn)
     }
 
-    /// Deals with what stands at the front of a session, so often, or up to what ends it.
-    fn deal_all(&mut self, conn: Conn, most: usize)
-        requires at { self.old.loop.place.at ≢ 0 }
-        requires frames { self.old.loop.place.frames ≡ 0 }
-        requires none { IsDrained self.old.loop }
-        ensures deals { DealsAll K.stores K.line conn most self.old self.new }
-        ensures most { most_inputs self.new.loop ≤ most_inputs self.old.loop }
-    {
-        let mut frames = 0;
-        let mut left = most;
-        'fronts: while left > 0 {
-            left -= 1;
-            match self.deal_front(conn, frames) {
-                Some(now) => frames = now,
-                None => return,
-            }
-        }
-    }
-
-    /// Adds bytes to what a session has read. Gives how many it holds then. Without memory nothing changes.
-    fn feed(&mut self, conn: Conn, bytes: &[u8]) -> Result<usize, NoMemory>
-        ensures held { IfOk result (λ n. n ≡ held_in (find conn self.new.loop.sessions)) }
-        ensures ok { OnOk result (self.new ≡ record self.old { loop = feeds conn bytes.now self.old.loop }) }
-        ensures err { OnErr result (self.new ≡ self.old) }
-    {
-        self.sessions.feed(conn, bytes)
-    }
-
-    /// Deals with what stands at the front of a session, behind so many frames of this read. Gives how many
-    /// there are then, or None where no more is to be dealt with.
-    fn deal_front(&mut self, conn: Conn, frames: u64) -> Option<u64>
-        requires at { self.old.loop.place.at ≢ 0 }
-        requires frames { self.old.loop.place.frames ≡ frames }
-        requires none { IsDrained self.old.loop }
-        requires room { frames < u64.MAX }
-        ensures deals { Deals K.stores K.line conn frames result self.old self.new }
-        ensures most { most_inputs self.new.loop ≤ most_inputs self.old.loop }
-    {
-        match self.take_front(conn) {
-            Ok(Front::Waits) => None,
-            Ok(Front::Refused) => {
-                self.end(conn);
-                None
-            }
-            Ok(Front::Hello(peer)) => self.greet(conn, peer, frames),
-            Ok(Front::Frame(heard)) => self.take_frame(conn, heard, frames),
-            Err(_) => {
-                self.lose(conn);
-                None
-            }
-        }
-    }
-
-    /// A peer has said who it is: behind the commands that were gathered its earlier session ends, and it goes
-    /// up. A stranger's session ends.
-    fn greet(&mut self, conn: Conn, peer: Pid, frames: u64) -> Option<u64>
-        requires at { self.old.loop.place.at ≢ 0 }
-        requires frames { self.old.loop.place.frames ≡ frames }
-        requires none { IsDrained self.old.loop }
-        ensures taken { Taken K.stores (greeted K.line conn peer frames) conn frames result
-            self.old self.new }
-        ensures most { most_inputs self.new.loop ≤ most_inputs self.old.loop + 1 }
-    {
-        if !self.is_peer(peer) {
-            self.end(conn);
-            return None;
-        }
-        self.make_way(conn, peer);
-        if !self.is_open(conn) {
-            return None;
-        }
-        self.link(peer, conn);
-        self.give(&[], Input::Up(peer));
-        Some(frames)
-    }
-
-    /// What was gathered is given, and then the earlier session of a peer ends, if this connection still has one.
-    fn make_way(&mut self, conn: Conn, peer: Pid)
-        requires at { self.old.loop.place.at ≢ 0 }
-        requires none { IsDrained self.old.loop }
-        ensures does { Does K.stores (λ l s. makes_way l conn peer s) self.old self.new }
-        ensures stays { Stays self.old.loop self.new.loop }
-        ensures none { IsDrained self.new.loop }
-        ensures most { most_inputs self.new.loop ≤ most_inputs self.old.loop }
-    {
-        self.flush();
-        if self.is_open(conn) {
-            self.replace(peer);
-        }
-    }
-
-    /// The session of a peer ends, if it has one.
-    fn replace(&mut self, peer: Pid)
-        requires at { self.old.loop.place.at ≢ 0 }
-        requires none { IsDrained self.old.loop }
-        ensures does { Does K.stores (λ l s. replaced l (session_of peer self.old.loop) s) self.old self.new }
-        ensures stays { Stays self.old.loop self.new.loop }
-        ensures none { IsDrained self.new.loop }
-        ensures most { most_inputs self.new.loop ≤ most_inputs self.old.loop }
-    {
-        if let Some(earlier) = self.session_of(peer) {
-            self.end(earlier);
-        }
-    }
-
-    /// Whether an id is that of a known peer. The own id is none.
-    fn is_peer(&self, id: Pid) -> bool
-        ensures peer { result ≡ is_peer id self.now.loop }
-        ensures range { IsTrue result → IsPid id }
-    {
-        self.sessions.is_peer(id)
-    }
-
-    /// A connection is from now on this peer's session.
-    fn link(&mut self, peer: Pid, conn: Conn)
-        requires { IsPid peer }
-        ensures { self.new ≡ record self.old { loop = links peer conn self.old.loop } }
-    {
-        self.sessions.link(peer, conn);
-    }
-
-    /// A frame that says this: it is dealt with and counted, unless it ends the session.
-    fn take_frame(&mut self, conn: Conn, heard: Heard, frames: u64) -> Option<u64>
-        requires open { is_open conn self.old.loop ≡ true }
-        requires at { self.old.loop.place.at ≢ 0 }
-        requires frames { self.old.loop.place.frames ≡ frames }
-        requires none { IsDrained self.old.loop }
-        requires range { HeardInRange heard × (frames < u64.MAX) }
-        ensures taken { Taken K.stores (framed K.line conn heard frames) conn frames result
-            self.old self.new }
-        ensures most { most_inputs self.new.loop ≤ most_inputs self.old.loop + 1 }
-    {
-        match self.hear(conn, heard) {
-            Ok(()) => {}
-            Err(_) => return None,
-        }
-        let counted = self.count_frame(conn, frames)?;
-        self.drain();
-        Some(counted)
-    }
-
-    /// One more frame of this read was dealt with, if its session is still there.
-    fn count_frame(&mut self, conn: Conn, frames: u64) -> Option<u64>
-        requires { frames < u64.MAX }
-        ensures some { IfSome result (λ k. (k ≡ frames + 1) × (is_open conn self.old.loop ≡ true)
-            × (self.new ≡ record self.old { loop = frames_at (frames + 1) self.old.loop })) }
-        ensures none { IfNone result ((is_open conn self.old.loop ≡ false) × (self.new ≡ self.old)) }
-        ensures most { most_inputs self.new.loop ≤ most_inputs self.old.loop }
-    {
-        if !self.is_open(conn) {
-            return None;
-        }
-        self.begin_frame(frames + 1);
-        Some(frames + 1)
-    }
-
-    /// So many frames of this read were dealt with.
-    fn begin_frame(&mut self, frames: u64)
-        ensures { self.new ≡ record self.old { loop = frames_at frames self.old.loop } }
-    {
-        self.sessions.begin_frame(frames);
-    }
-
-    /// What a frame says is dealt with: all but a command comes behind the commands that were gathered. Where
-    /// that finds no memory, its session is lost.
-    fn hear(&mut self, conn: Conn, heard: Heard) -> Result<(), NoMemory>
-        requires open { is_open conn self.old.loop ≡ true }
-        requires at { self.old.loop.place.at ≢ 0 }
-        requires none { IsDrained self.old.loop }
-        requires range { HeardInRange heard }
-        ensures ok { OnOk result (Handles K.stores K.line conn heard self.old self.new) }
-        ensures err { OnErr result (Loses K.stores conn self.old self.new) }
-        ensures most { most_inputs self.new.loop ≤ most_inputs self.old.loop + 1 }
-    {
-        if joins_others(&heard) {
-            return self.hear_alone(conn, heard);
-        }
-        if self.gathered_len() == 0 {
-            return self.hear_alone(conn, heard);
-        }
-        self.flush_some();
-        if self.is_open(conn) {
-            match self.hear_alone(conn, heard) {
-                Ok(()) => {}
-                Err(_) => {}
-            }
-        }
-        Ok(())
-    }
-
     /// How many commands were gathered.
     fn gathered_len(&self) -> usize
         ensures { result ≡ length self.now.loop.gathered }
     {
         self.sessions.gathered_len()
-    }
-
-    /// What a frame says is dealt with by itself. Where that finds no memory, its session is lost.
-    fn hear_alone(&mut self, conn: Conn, heard: Heard) -> Result<(), NoMemory>
-        requires open { is_open conn self.old.loop ≡ true }
-        requires at { self.old.loop.place.at ≢ 0 }
-        requires none { IsDrained self.old.loop }
-        requires range { HeardInRange heard }
-        ensures ok { OnOk result (HandlesAlone K.stores K.line conn heard self.old self.new) }
-        ensures err { OnErr result (Loses K.stores conn self.old self.new) }
-        ensures most { most_inputs self.new.loop ≤ most_inputs self.old.loop + 1 }
-    {
-        match heard {
-            Heard::Message(from, message) => {
-                self.give(&[conn], Input::Deliver(from, message));
-                Ok(())
-            }
-            Heard::Foreign => Ok(()),
-            Heard::Noise => {
-                self.end(conn);
-                Ok(())
-            }
-            Heard::Asks(request) => self.ask(conn, request),
-            Heard::Mistake(at) => self.tell(conn, Said::BadRequest(at)),
-        }
-    }
-
-    /// What a client asks.
-    fn ask(&mut self, conn: Conn, request: Request) -> Result<(), NoMemory>
-        requires open { is_open conn self.old.loop ≡ true }
-        requires none { IsDrained self.old.loop }
-        requires range { RequestInRange request }
-        ensures ok { OnOk result (HandlesAlone K.stores K.line conn (Asks request) self.old self.new) }
-        ensures err { OnErr result (Loses K.stores conn self.old self.new) }
-        ensures most { most_inputs self.new.loop ≤ most_inputs self.old.loop + 1 }
-    {
-        match request {
-            Request::Command(command) => self.propose(conn, command),
-            Request::Stop(members) => {
-                self.give(&[conn], Input::Stop(members));
-                Ok(())
-            }
-            Request::Trim => {
-                self.give(&[conn], Input::TrimNow);
-                Ok(())
-            }
-            Request::Read(read) => {
-                self.give(&[conn], Input::Read(read));
-                Ok(())
-            }
-            Request::Status => self.tell_status(conn),
-            Request::End => {
-                self.tell(conn, Said::Ended)?;
-                self.note_end();
-                Ok(())
-            }
-        }
-    }
-
-    /// An end request was read.
-    fn note_end(&mut self)
-        ensures { self.new ≡ record self.old { loop = record self.old.loop { ending = true } } }
-    {
-        self.sessions.end();
-    }
-
-    /// A client's command is gathered; the most that one input may have are given at once.
-    fn propose(&mut self, conn: Conn, command: Command) -> Result<(), NoMemory>
-        requires open { is_open conn self.old.loop ≡ true }
-        requires none { IsDrained self.old.loop }
-        requires range { CommandInRange command }
-        ensures ok { OnOk result
-            (HandlesAlone K.stores K.line conn (Asks (request.Command command)) self.old self.new) }
-        ensures err { OnErr result (Loses K.stores conn self.old self.new) }
-        ensures most { most_inputs self.new.loop ≤ most_inputs self.old.loop + 1 }
-    {
-        match self.gather(conn, command) {
-            Ok(None) => Ok(()),
-            Ok(Some(run)) => {
-                self.give_run(run);
-                Ok(())
-            }
-            Err(_) => {
-                self.lose(conn);
-                Err(NoMemory)
-            }
-        }
-    }
-
-    /// A command is gathered. Gives all that are, where they are the most that one input may have.
-    fn gather(&mut self, conn: Conn, command: Command) -> Result<Option<Run>, NoMemory>
-        requires { CommandInRange command }
-        ensures ok { IfOk result (λ r. GathersOn conn command self.old r self.new) }
-        ensures range { IfOk result (λ r. IfSome r RunInRange) }
-        ensures err { OnErr result (self.new ≡ self.old) }
-    {
-        self.sessions.gather(conn, command)
-    }
-
-    /// A client is told where the node stands.
-    fn tell_status(&mut self, conn: Conn) -> Result<(), NoMemory>
-        requires open { is_open conn self.old.loop ≡ true }
-        ensures ok { OnOk result (self.new ≡ tells_now conn (Status (K.line self.old.node)) self.old) }
-        ensures err { OnErr result (Loses K.stores conn self.old self.new) }
-        ensures most { most_inputs self.new.loop ≤ most_inputs self.old.loop }
-    {
-        match self.core.status(self.sessions.alloc()) {
-            Ok(line) => self.tell(conn, Said::Status(line)),
-            Err(_) => {
-                self.lose(conn);
-                Err(NoMemory)
-            }
-        }
-    }
-
-    /// A client is told something that is of no command.
-    fn tell(&mut self, conn: Conn, said: Said) -> Result<(), NoMemory>
-        requires open { is_open conn self.old.loop ≡ true }
-        requires said { SaidInRange said }
-        ensures ok { OnOk result (self.new ≡ tells_now conn said self.old) }
-        ensures err { OnErr result (Loses K.stores conn self.old self.new) }
-        ensures most { most_inputs self.new.loop ≤ most_inputs self.old.loop }
-    {
-        let told = of_no_command(said);
-        match self.sessions.queue_reply(conn, &told) {
-            Ok(()) => Ok(()),
-            Err(_) => {
-                self.lose(conn);
-                Err(NoMemory)
-            }
-        }
     }
 
     /// Ends the sessions for which more bytes wait than may, and gives the Downs of those that are over, until none
@@ -791,16 +448,4 @@ fn hand_out(sessions: &mut Sessions, wanted: Option<Wanted>, given: Given)
     sessions.send_all(&sends);
     sessions.reply_all(false, replies);
     sessions.reply_all(true, read_replies);
-}
-
-/// Whether a frame says a command, or nothing to this node. What else it says comes behind the commands that were
-/// gathered.
-fn joins_others(heard: &Heard) -> bool
-    ensures { result ≡ joins_others heard.now }
-{
-    match heard {
-        Heard::Asks(Request::Command(_)) => true,
-        Heard::Foreign => true,
-        _ => false,
-    }
 }

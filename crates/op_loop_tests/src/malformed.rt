@@ -10,8 +10,9 @@ const STATUS: &[u8] = b"C\0\0\0\x01\x04";
 /// The reply to it.
 const LINE: &[u8] = b"\x0c\0\x23node 1 config 1 decided 0 trimmed 0";
 
-/// The connection of session 3 ends after a write of three bytes. Session 4 sends the longest head of a client's frame, 5 a message of
-/// no kind, 6 the longest head of a peer's frame, 7 two bytes of a hello, 8 a request in single bytes, and 9 one in one piece.
+/// The connection of session 3 ends after a write of three bytes. Session 4 sends the greatest head of a client's frame, 5 a message of
+/// no kind, 6 the head of a peer's longest frame, whose body has 1,048,576 bytes, 7 two bytes of a hello, 8 a request in single bytes,
+/// 9 one in one piece, and 10 the head of a peer's frame that is a byte too long.
 const MALFORMED: &[Step] = &[
     Step::Happens(&[
         Happening::Accepted(3),
@@ -21,6 +22,7 @@ const MALFORMED: &[Step] = &[
         Happening::Accepted(7),
         Happening::Accepted(8),
         Happening::Accepted(9),
+        Happening::Accepted(10),
         Happening::Readable(3),
     ]),
     Step::Comes(STATUS),
@@ -38,10 +40,11 @@ const MALFORMED: &[Step] = &[
         Happening::Readable(8),
         Happening::Readable(8),
         Happening::Readable(9),
+        Happening::Readable(10),
     ]),
     Step::Comes(b"C\xff\xff\xff\xff"),
     Step::Comes(b"P\0\0\0\x03\0\0\0\0\0\0\0\x0d\0\0\0\x03\0\0\0\x01\x63\0\0\0\x01"),
-    Step::Comes(b"P\0\0\0\x02\xff\xff\xff\xff\xff\xff\xff\xff"),
+    Step::Comes(b"P\0\0\0\x02\0\0\0\0\0\x10\0\0"),
     Step::Comes(b"P\0"),
     Step::Comes(b"C"),
     Step::Comes(b"\0"),
@@ -50,9 +53,10 @@ const MALFORMED: &[Step] = &[
     Step::Comes(b"\x01"),
     Step::Comes(b"\x04"),
     Step::Comes(STATUS),
+    Step::Comes(b"P\0\0\0\x03\0\0\0\0\0\x10\0\x01"),
 ];
 
-/// Sessions 3 to 5 are closed; 6 and 7 wait for more, and 8 and 9 are answered.
+/// Sessions 3 to 5 and 10 are closed; 6 and 7 wait for more, and 8 and 9 are answered.
 const EACH_ALONE: &[Conduct] = &[
     (3, Wrote::Any, 1),
     (4, Wrote::Bytes(b""), 1),
@@ -61,6 +65,7 @@ const EACH_ALONE: &[Conduct] = &[
     (7, Wrote::Bytes(b""), 0),
     (8, Wrote::Reply(LINE), 0),
     (9, Wrote::Reply(LINE), 0),
+    (10, Wrote::Any, 1),
 ];
 
 #[test]

@@ -1,5 +1,5 @@
 -- Messages and the sessions that are lost for want of memory.
-use Rattle.std.proofs.Common.{◌≡◌, ◌<◌, get_or, ◌+◌, ◌∷◌, [], ◌++◌, ℕ, Bool, List, length, true, false, if◌then◌else◌, nat_lt, ◌==◌, Option, Some, None, refl, sym, ◌∙◌, ap, ◌⊎◌, inl, inr, take, arith}
+use Rattle.std.proofs.Common.{◌≡◌, ◌<◌, get_or, ◌+◌, ◌∷◌, [], ◌++◌, ℕ, Bool, List, length, true, false, if◌then◌else◌, nat_lt, ◌==◌, Option, Some, None, refl, sym, ◌∙◌, ap, ◌⊎◌, inl, inr, take}
 use Rattle.std.proofs.lemmas.Bool.{cases_Bool, eqb-true}
 use Rattle.std.proofs.lemmas.List.{take_more}
 use Rattle.std.specs.FinMap as map
@@ -8,16 +8,16 @@ use Rattle.op_serving.specs.declared.kind.Kind.{Kind}
 use Rattle.op_serving.specs.declared.kind.Kind.TheVariants.{Unknown, Peer, Client}
 use Rattle.op_serving.specs.declared.node.Given.{Given}
 use Rattle.op_serving.specs.declared.session.Session.{Session}
-use Rattle.op_serving.specs.Wire.{peer_frame, client_frame}
-use Rattle.op_serving.specs.State.{Awaited, Key, Loop, awaited_cmp, without, find, is_open, kind_at, if_its, open_of, session_of, left_at, left_by}
-use Rattle.op_serving.specs.Losses.{most_marks, mark_at, noted, stopped_if, lost_by, settled, Does}
+use Rattle.op_serving.specs.Wire.{fits_peer, peer_frame, client_frame}
+use Rattle.op_serving.specs.State.{Awaited, Key, Loop, awaited_cmp, without, find, is_open, kind_at, if_its, open_of, left_at, left_by}
+use Rattle.op_serving.specs.Losses.{most_marks, mark_at, noted, stopped_if, lost_by}
 use Rattle.op_types.specs.declared.answers.Reply.{Reply}
 use Rattle.op_command.specs.declared.reply.ClientReply.{ClientReply}
 use Rattle.op_command.specs.declared.said.Said.{Said}
-use Rattle.op_serving.specs.Handing.{said_at, sent, sent_all, forgotten, answered, replied, replied_all, handed_out, of_command, said_each, Told, told, told_all}
+use Rattle.op_serving.specs.Handing.{said_at, goes_to, sent, sent_all, forgotten, answered, replied, replied_all, handed_out, of_command, said_each, Told, told, told_all}
 use Rattle.op_queues.proofs.Tables.{find_without}
 use Rattle.op_queues.proofs.Askers.{unless_at, get_without, nobody_without, nobody_asks}
-use Rattle.op_queues.proofs.Settling.{Blind, found_lost, stays_same, blind_waits, closed_waits, grew_still}
+use Rattle.op_queues.proofs.Settling.{Blind, found_lost, blind_waits, closed_waits}
 
 -- ---- what a loss leaves
 
@@ -79,12 +79,17 @@ past_open q d b s None = refl
 past_open q d b s (Some None) = refl
 past_open q d b s (Some (Some c)) = past_to (if_its q c) c refl (its q c) d b s
 
+-- where a peer takes them
+past_fit : (fits : Bool) (q d : ℕ) (b : List ℕ) (s : Loop) (w : Option (Option ℕ)) → lost_by d (said_at (if fits then open_of q w s.sessions else None) b s) ≡ said_at (if fits then open_of q w (lost_by d s).sessions else None) b (lost_by d s)
+past_fit true q d b s w = past_open q d b s w
+past_fit false q d b s w = refl
+
 past_sent : (m : ℕ × Msg) (d : ℕ) (s : Loop) → lost_by d (sent m s) ≡ sent m (lost_by d s)
 past_sent m d s =
     let u : Loop = lost_by d s in
-    past_open m.0 d (peer_frame s.me m.0 m.1) s (find m.0 s.peers)
-    ∙ ap (λ ps. said_at (open_of m.0 (find m.0 ps) u.sessions) (peer_frame s.me m.0 m.1) u) (sym (lost_peers d s))
-    ∙ ap (λ n. said_at (open_of m.0 (find m.0 u.peers) u.sessions) (peer_frame n m.0 m.1) u) (sym (lost_me d s))
+    past_fit (fits_peer s.me m.0 m.1) m.0 d (peer_frame s.me m.0 m.1) s (find m.0 s.peers)
+    ∙ ap (λ ps. said_at (if fits_peer s.me m.0 m.1 then open_of m.0 (find m.0 ps) u.sessions else None) (peer_frame s.me m.0 m.1) u) (sym (lost_peers d s))
+    ∙ ap (λ n. said_at (if fits_peer n m.0 m.1 then open_of m.0 (find m.0 u.peers) u.sessions else None) (peer_frame n m.0 m.1) u) (sym (lost_me d s))
 
 said_lost : (o : Option ℕ) (b : List ℕ) (s : Loop) → (said_at o b s).lost ≡ s.lost
 said_lost None b s = refl
@@ -100,9 +105,9 @@ said_opens d (Some c) b s = (blind_waits c b).opens d s
 
 pub blind_sent : (m : ℕ × Msg) → Blind (sent m)
 blind_sent m = record {
-  lost = λ s. said_lost (session_of m.0 s) (peer_frame s.me m.0 m.1) s;
-  place = λ s. said_place (session_of m.0 s) (peer_frame s.me m.0 m.1) s;
-  opens = λ d s. said_opens d (session_of m.0 s) (peer_frame s.me m.0 m.1) s;
+  lost = λ s. said_lost (goes_to m s) (peer_frame s.me m.0 m.1) s;
+  place = λ s. said_place (goes_to m s) (peer_frame s.me m.0 m.1) s;
+  opens = λ d s. said_opens d (goes_to m s) (peer_frame s.me m.0 m.1) s;
   past = λ d s. past_sent m d s;
 }
 
@@ -179,10 +184,6 @@ replied_more read (x ∷ xs) r s = replied_more read xs r (replied read x s)
 pub sent_more : (xs : List (ℕ × Msg)) (m : ℕ × Msg) (s : Loop) → sent_all (xs ++ m ∷ []) s ≡ sent m (sent_all xs s)
 sent_more [] m s = refl
 sent_more (x ∷ xs) m s = sent_more xs m (sent x s)
-
--- nothing is done
-pub does_nothing : (f : Loop → Loop) (s : Loop) → f s ≡ s → Does (λ ms x. settled ms (f x)) s s
-does_nothing f s e = record { grew = grew_still refl refl; ends = omega arith; most = omega arith; kinds = λ c. inl refl; stays = stays_same refl; is = λ marks h. ap (settled marks) e }
 
 -- one more was taken
 pub taken_more : {X : Type 0} (xs : List X) (i : ℕ) (x : X) → i < length xs → x ≡ get_or xs i x → take (i + 1) xs ≡ take i xs ++ x ∷ []

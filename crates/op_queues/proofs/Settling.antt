@@ -262,39 +262,6 @@ queued_is c bytes s marks h few f =
     let same : lost_by c (waits_for c bytes s) ≡ lost_by c s = b.past c s ∙ closed_waits c bytes (lost_by c s) (gone c s) in
     ap (λ r. settle r (waits_for c bytes s)) (next_mark c s marks f) ∙ rw due (ap (settle f.rest) same) ∙ sym (ap (λ r. settle r (lost_by c s)) (after_mark c s marks f))
 
--- bytes that found none are as good as queued: their session is lost
-pub queued_lost : (c : ℕ) (bytes : List ℕ) (s t : Loop) → t ≡ lost_if_open c s → (is_open c s ≡ true → length s.lost < most_marks) → Does (λ ms x. settled ms (waits_for c bytes x)) s t
-queued_lost c bytes s t e room = elim (cases_Bool (is_open c s)) [
-  | inr h ↦ (let same : t ≡ s = e ∙ rw h refl in queued_found c bytes s t (same ∙ sym (closed_waits c bytes s (not_found c s.sessions h))))
-  | inl h ↦ (
-      let w : List ℕ = bytes in
-      let u : Loop = lost_by c s in
-      let m : Mark = mark_at s.place (Some c) in
-      let is_u : t ≡ u = e ∙ rw h refl in
-      rw is_u (record {
-        grew = record {
-          added = m ∷ [];
-          lost = lost_lost c s;
-          from = All-cons (IsFrom s.place) m [] (from_own s.place (Some c)) (All-nil (IsFrom s.place));
-          place = λ x f. rw (lost_place c s) at f;
-          counts = rw (lost_place c s) (omega arith);
-        };
-        ends = size_lost c s;
-        most = most_lost c s;
-        kinds = lost_kinds c s;
-        stays = stays_same (lost_place c s);
-        is = λ marks f. queued_is c bytes s marks h (room h) f;
-      }))
-]
-
--- what is done counts by what it comes to
-pub does_as : (f g : Loop → Loop) {s t : Loop} → f s ≡ g s → Does (λ ms x. settled ms (f x)) s t → Does (λ ms x. settled ms (g x)) s t
-does_as f g e d = record { grew = d.grew; ends = d.ends; most = d.most; kinds = d.kinds; stays = d.stays; is = λ marks h. sym (ap (settled marks) e) ∙ d.is marks h }
-
--- what is done to begin with leaves marks and place
-pub does_after : (f g : Loop → Loop) {s u t : Loop} → u.lost ≡ s.lost → u.place ≡ s.place → size u ≤ size s → most_inputs u ≤ most_inputs s → KeepsKinds s u → g s ≡ f u → Does (λ ms x. settled ms (f x)) u t → Does (λ ms x. settled ms (g x)) s t
-does_after f g {s} {u} {t} l p n m k e d = record { grew = grew_trans (grew_still l p) d.grew; ends = omega (arith, n, d.ends); most = omega (arith, m, d.most); kinds = kinds_then s u t k d.kinds; stays = stays_then (stays_same p) d.stays; is = λ marks h. ap (settled marks) e ∙ d.is marks h }
-
 -- a loss grows by its mark
 pub lost_grew : (c : ℕ) (s : Loop) → Grew s (lost_by c s)
 lost_grew c s = record {
@@ -310,6 +277,36 @@ pub lost_first : (c : ℕ) (s : Loop) (marks : List Mark) → is_open c s ≡ tr
 lost_first c s marks h few f =
     let due : is_due (mark_at s.place (Some c)) s ≡ true = rw (is_few (length s.lost) few, here_own s.place (Some c), h) refl in
     ap (λ r. settle r s) (next_mark c s marks f) ∙ rw due refl ∙ sym (ap (λ r. settle r (lost_by c s)) (after_mark c s marks f))
+
+-- nothing is done
+pub does_nothing : (f : Loop → Loop) (s : Loop) → f s ≡ s → Does (λ ms x. settled ms (f x)) s s
+does_nothing f s e = record { grew = grew_still refl refl; ends = omega arith; most = omega arith; kinds = λ c. inl refl; stays = stays_same refl; is = λ marks h. ap (settled marks) e }
+
+-- a session that is lost, as good as this
+lost_does : (f : Loop → Loop) (c : ℕ) (s : Loop) → ((marks : List Mark) → Foretells marks (lost_by c s) → settled marks (f s) ≡ settled marks (lost_by c s)) → Does (λ ms x. settled ms (f x)) s (lost_by c s)
+lost_does f c s is = record { grew = lost_grew c s; ends = size_lost c s; most = most_lost c s; kinds = lost_kinds c s; stays = stays_same (lost_place c s); is = is }
+
+-- bytes that found none are as good as queued: their session is lost
+pub queued_lost : (c : ℕ) (bytes : List ℕ) (s t : Loop) → t ≡ lost_if_open c s → (is_open c s ≡ true → length s.lost < most_marks) → Does (λ ms x. settled ms (waits_for c bytes x)) s t
+queued_lost c bytes s t e room = elim (cases_Bool (is_open c s)) [
+  | inr h ↦ (let same : t ≡ s = e ∙ rw h refl in queued_found c bytes s t (same ∙ sym (closed_waits c bytes s (not_found c s.sessions h))))
+  | inl h ↦ (let is_u : t ≡ lost_by c s = e ∙ rw h refl in rw is_u (lost_does (waits_for c bytes) c s (λ marks f. queued_is c bytes s marks h (room h) f)))
+]
+
+-- a session is lost, and nothing is done
+pub lost_alone : (c : ℕ) (s t : Loop) → t ≡ lost_if_open c s → (is_open c s ≡ true → length s.lost < most_marks) → Does (λ ms x. settled ms x) s t
+lost_alone c s t e room = elim (cases_Bool (is_open c s)) [
+  | inr h ↦ (let same : t ≡ s = e ∙ rw h refl in rw same (does_nothing (λ x. x) s refl))
+  | inl h ↦ (let is_u : t ≡ lost_by c s = e ∙ rw h refl in rw is_u (lost_does (λ x. x) c s (λ marks f. lost_first c s marks h (room h) f)))
+]
+
+-- what is done counts by what it comes to
+pub does_as : (f g : Loop → Loop) {s t : Loop} → f s ≡ g s → Does (λ ms x. settled ms (f x)) s t → Does (λ ms x. settled ms (g x)) s t
+does_as f g e d = record { grew = d.grew; ends = d.ends; most = d.most; kinds = d.kinds; stays = d.stays; is = λ marks h. sym (ap (settled marks) e) ∙ d.is marks h }
+
+-- what is done to begin with leaves marks and place
+pub does_after : (f g : Loop → Loop) {s u t : Loop} → u.lost ≡ s.lost → u.place ≡ s.place → size u ≤ size s → most_inputs u ≤ most_inputs s → KeepsKinds s u → g s ≡ f u → Does (λ ms x. settled ms (f x)) u t → Does (λ ms x. settled ms (g x)) s t
+does_after f g {s} {u} {t} l p n m k e d = record { grew = grew_trans (grew_still l p) d.grew; ends = omega (arith, n, d.ends); most = omega (arith, m, d.most); kinds = kinds_then s u t k d.kinds; stays = stays_then (stays_same p) d.stays; is = λ marks h. ap (settled marks) e ∙ d.is marks h }
 
 -- a later count is from this one
 pub from_counted : (s : Loop) → s.place.inputs ≤ next s.place.inputs → (m : Mark) → IsFrom (counted s).place m → IsFrom s.place m

@@ -19,10 +19,10 @@ use Rattle.op_serving.specs.declared.node.Given.{Given}
 use Rattle.op_serving.specs.declared.session.Session.{Session}
 use Rattle.op_serving.specs.declared.wanted.Wanted.{Wanted}
 use Rattle.op_serving.specs.Cores.{Standing, gives, given_again}
-use Rattle.op_serving.specs.State.{Key, Table, Loop, find, changed_at, down_of, left_at, left_by, session_of, waits_for, counted}
+use Rattle.op_serving.specs.State.{Key, Table, Loop, find, changed_at, down_of, left_at, left_by, waits_for, counted}
 use Rattle.op_serving.specs.Wire.{peer_frame, client_frame}
 use Rattle.op_serving.specs.Losses.{most_marks, mark_at, noted, stopped_if, marked, lost_by, lost_one, is_due, settle, size}
-use Rattle.op_serving.specs.Handing.{said_at, sent, sent_all, forgotten, answered, replied, replied_all, handed_out, said_of_denial, said_at_once, Told, told_all, asked_by_one, asked, is_read, keys_that_wait, proposed, excused}
+use Rattle.op_serving.specs.Handing.{said_at, goes_to, sent, sent_all, forgotten, answered, replied, replied_all, handed_out, said_of_denial, said_at_once, Told, told_all, asked_by_one, asked, is_read, keys_that_wait, proposed, excused}
 use Rattle.op_serving.specs.Inputs.{loop_after}
 use Rattle.op_serving.specs.Fates.{Fate, done, finds, faults, damaged, lost}
 use Rattle.op_queues.proofs.Tables.{without_less}
@@ -80,7 +80,7 @@ size_said None bytes s = refl
 size_said (Some c) bytes s = size_waits c bytes s
 
 pub size_sent : (m : ℕ × Msg) (s : Loop) → size (sent m s) ≡ size s
-size_sent m s = size_said (session_of m.0 s) (peer_frame s.me m.0 m.1) s
+size_sent m s = size_said (goes_to m s) (peer_frame s.me m.0 m.1) s
 
 size_sent_all : (ms : List (ℕ × Msg)) (s : Loop) → size (sent_all ms s) ≡ size s
 size_sent_all [] s = refl

@@ -1,28 +1,48 @@
-ghost use Rattle.std.specs.Prelude.{◌≡◌, ◌≤◌, ◌+◌, drop, length, OnOk};
+ghost use Rattle.std.specs.Prelude.{◌≡◌, ◌≤◌, ◌+◌, drop, length, IfOk, OnOk};
 ghost use Rattle.op_types.specs.Ranges.{IsPid};
 ghost use Rattle.op_frame.specs.Framing.{frame_of};
-ghost use Rattle.op_msg.specs.Ranges.{MsgInRange};
+ghost use Rattle.op_msg.specs.Ranges.{greatest_length, CountsAreShort, MsgInRange};
 ghost use Rattle.op_command.specs.Ranges.{ReplyInRange};
-ghost use Rattle.op_serving.specs.Wire.{peer_frame, client_frame, peer_head, client_head};
+ghost use Rattle.op_serving.specs.Wire.{fits_peer, peer_frame, client_frame, peer_head, client_head};
 
 use op_command::ClientReply;
 use op_fields::{NoMemory, put_u32, put_u64};
 use op_serving::{CLIENT_HEAD, PEER_HEAD};
-use op_types::{Msg, Pid};
+use op_types::{Body, MOST_PEER_BODY, Msg, Pid};
 
-/// Writes a message as a frame, over what was there.
+/// Writes a message as a frame, over what was there, and tells whether a peer takes it.
 #[tactic(auto, unfolding(op_serving::specs::Wire::peer_frame))]
-pub fn put_message(out: &mut Vec<u8>, from: Pid, to: Pid, m: &Msg) -> Result<(), NoMemory>
+pub fn put_message(out: &mut Vec<u8>, from: Pid, to: Pid, m: &Msg) -> Result<bool, NoMemory>
     requires from { IsPid from }
     requires to { IsPid to }
     requires message { MsgInRange m.now }
-    ensures { OnOk result (out.new.items ≡ peer_frame from to m.now) }
+    ensures frame { OnOk result (out.new.items ≡ peer_frame from to m.now) }
+    ensures fits { IfOk result (λ fits. fits ≡ fits_peer from to m.now) }
 {
     out.clear();
     put_u64(out, 0)?;
     op_msg::put(out, from, to, m)?;
+    read_counts(&m.body);
+    let len = out.len() - PEER_HEAD as usize;
     lay_long(out.as_mut_slice());
-    Ok(())
+    Ok(len <= MOST_PEER_BODY)
+}
+
+/// Eight bytes can tell each number of bytes that a message names, since it has no more of them here.
+fn read_counts(body: &Body)
+    ensures { CountsAreShort body.now }
+{
+    if let Body::BasePiece(piece) = body {
+        read_count(piece.total);
+        read_count(piece.from);
+    }
+}
+
+/// Eight bytes can tell a number of bytes.
+fn read_count(count: u64)
+    ensures { count ≤ greatest_length }
+{
+    let _ = count;
 }
 
 /// Writes a reply as a frame, over what was there.

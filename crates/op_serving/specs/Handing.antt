@@ -13,7 +13,7 @@ use Rattle.op_command.specs.Replies.{said_of as denied}
 use Rattle.op_serving.specs.declared.wanted.Wanted.{Wanted}
 use Rattle.op_serving.specs.declared.wanted.Wanted.TheVariants.{Commands, Stop, Trim, Read}
 use Rattle.op_serving.specs.declared.node.Given.{Given}
-use Rattle.op_serving.specs.Wire.{peer_frame, client_frame}
+use Rattle.op_serving.specs.Wire.{fits_peer, peer_frame, client_frame}
 use Rattle.op_serving.specs.State.{Key, Awaited, Loop, is_open, session_of, waits_for}
 
 -- a frame for a connection
@@ -29,9 +29,13 @@ abbrev pub said_at : Option ℕ → List ℕ → Loop → Loop
 said_at None bytes s = s
 said_at (Some c) bytes s = waits_for c bytes s
 
--- a message for a peer without a session is lost
+-- where a message goes: to its peer's session, if there is one, and the peer takes the frame
+abbrev pub goes_to : ℕ × Msg → Loop → Option ℕ
+goes_to m s = if fits_peer s.me m.0 m.1 then session_of m.0 s else None
+
+-- a message that goes nowhere is lost
 abbrev pub sent : ℕ × Msg → Loop → Loop
-sent m s = said_at (session_of m.0 s) (peer_frame s.me m.0 m.1) s
+sent m s = said_at (goes_to m s) (peer_frame s.me m.0 m.1) s
 
 abbrev pub sent_all : List (ℕ × Msg) → Loop → Loop
 sent_all [] s = s
@@ -39,7 +43,7 @@ sent_all (m ∷ ms) s = sent_all ms (sent m s)
 
 abbrev pub frames_sent : List (ℕ × Msg) → Loop → List Frame
 frames_sent [] s = []
-frames_sent (m ∷ ms) s = frame_at (session_of m.0 s) (peer_frame s.me m.0 m.1) ++ frames_sent ms (sent m s)
+frames_sent (m ∷ ms) s = frame_at (goes_to m s) (peer_frame s.me m.0 m.1) ++ frames_sent ms (sent m s)
 
 -- a client is told something at a connection
 abbrev pub told : ℕ → ClientReply → Loop → Loop

@@ -1,6 +1,7 @@
 -- What a connection reads: its first bytes, its frames, and the inputs that they are.
 use Rattle.std.specs.Prelude.{◌+◌, ◌∷◌, [], ℕ, zero, suc, List, length, take, drop, true, false, ◌==◌, ◌&&◌, not, nat_lt, is_some, Bool, if◌then◌else◌, Option, Some, None, Result, Ok, Err}
 use Rattle.std.specs.Int.{w32, from_be_bytes}
+use Rattle.op_types.specs.Limits.{most_peer_body}
 use Rattle.op_types.specs.declared.events.Input.TheVariants as input
 use Rattle.op_types.specs.declared.events.Request.{Request}
 use Rattle.op_types.specs.declared.events.Request.TheVariants as request
@@ -26,7 +27,7 @@ abbrev pub client_limit : ℕ
 client_limit = 65536
 
 abbrev pub peer_limit : ℕ
-peer_limit = 18446744073709551615
+peer_limit = most_peer_body
 
 -- the first byte of a client's connection, `C`, and of a peer's, `P`, behind which its id stands
 abbrev pub client_byte : ℕ

@@ -6,7 +6,7 @@ use crate::greeting::put_hello;
 use crate::kind::Kind;
 use crate::queue::Queue;
 use op_frame::Frames;
-use op_types::{NoMemory, Pid};
+use op_types::{MOST_PEER_BODY, NoMemory, Pid};
 use std::alloc::Global;
 
 /// How many bytes the head of a client's frame has.
@@ -19,7 +19,7 @@ pub const PEER_HEAD: u8 = 8;
 pub const CLIENT_LIMIT: u64 = 65_536;
 
 /// The longest body of a peer's frame.
-pub const PEER_LIMIT: u64 = u64::MAX;
+pub const PEER_LIMIT: u64 = MOST_PEER_BODY as u64;
 
 /// How many bytes may wait for a connection: 16 MiB. A session for which more wait is over.
 pub const MOST_WAITING: usize = 16_777_216;

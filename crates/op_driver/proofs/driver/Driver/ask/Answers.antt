@@ -8,7 +8,7 @@ use Rattle.op_serving.specs.Inputs.{give}
 use Rattle.op_serving.specs.Reading.{on_frame}
 use Rattle.op_driver.specs.Driver.{with_deeds, Served}
 use Rattle.op_driver.specs.Dealing.{HandlesAlone}
-use Rattle.op_driver.proofs.Dealing.{on_ok_as, given_handles, told_handles, ended_handles}
+use Rattle.op_driver.proofs.Handling.{on_ok_as, given_handles, told_handles, ended_handles}
 use Rattle.op_serving.specs.Counts.{most_inputs}
 use Rattle.op_queues.proofs.Counting.{most_same}
 use Rattle.op_driver.proofs.driver.Driver.ask.Goals as goal

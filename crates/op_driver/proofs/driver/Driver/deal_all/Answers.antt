@@ -1,5 +1,6 @@
 use Rattle.std.proofs.Common.{◌≡◌, ◌+◌, ◌-◌, refl, subst, arith}
-use Rattle.op_driver.proofs.Dealing.{rests_then, Reached, reached_start, reached_more, reached_end, reached_all}
+use Rattle.op_driver.proofs.Handling.{rests_then}
+use Rattle.op_driver.proofs.Dealing.{Reached, reached_start, reached_more, reached_end, reached_all}
 use Rattle.op_driver.proofs.driver.Driver.deal_all.Goals as goal
 
 pub fronts-init : goal.fronts-init

@@ -1,7 +1,7 @@
 use Rattle.std.proofs.Common.{rules, ◌≤◌, length, refl}
 use Rattle.op_serving.specs.Inputs.{flushed}
 use Rattle.op_driver.proofs.Draining.{gives_does}
-use Rattle.op_driver.proofs.Dealing.{flush_nothing}
+use Rattle.op_driver.proofs.Handling.{flush_nothing}
 use Rattle.op_driver.proofs.driver.Driver.flush.Goals as goal
 
 pub returns-then-gathered_len-gt0-clause-does : goal.returns-then-gathered_len-gt0-clause-does

@@ -1,4 +1,4 @@
-use Rattle.op_driver.proofs.Dealing.{flush_gives}
+use Rattle.op_driver.proofs.Handling.{flush_gives}
 use Rattle.std.proofs.Common.{ap, arith}
 use Rattle.op_serving.specs.Counts.{most_inputs}
 use Rattle.op_driver.specs.Driver.{Served}

@@ -1,7 +1,7 @@
 use Rattle.std.proofs.Common.{rules, ◌≡◌, true, false}
 use Rattle.op_serving.specs.Reading.{joins_others}
 use Rattle.op_serving.specs.State.{is_open}
-use Rattle.op_driver.proofs.Dealing.{closed_handles, behind_handles, lost_handles}
+use Rattle.op_driver.proofs.Handling.{closed_handles, behind_handles, lost_handles}
 use Rattle.op_driver.proofs.driver.Driver.hear.Goals as goal
 
 pub returns-in-Ok-clause-ok : goal.returns-in-Ok-clause-ok

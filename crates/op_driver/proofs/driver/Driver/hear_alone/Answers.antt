@@ -5,7 +5,7 @@ use Rattle.op_serving.specs.Inputs.{give}
 use Rattle.op_serving.specs.Reading.{on_frame}
 use Rattle.op_driver.specs.Driver.{with_deeds}
 use Rattle.op_queues.proofs.Settling.{stays_same}
-use Rattle.op_driver.proofs.Dealing.{nothing_does, on_ok_as, given_handles, told_handles, drains_at}
+use Rattle.op_driver.proofs.Handling.{nothing_does, on_ok_as, given_handles, told_handles, drains_at}
 use Rattle.op_driver.proofs.driver.Driver.hear_alone.Goals as goal
 
 pub returns-in-Message-clause-ok : goal.returns-in-Message-clause-ok

@@ -1,7 +1,7 @@
 use Rattle.std.proofs.Common.{rules, ◌≡◌, refl, true, false}
 use Rattle.op_serving.specs.State.{is_open, session_of}
 use Rattle.op_serving.specs.Reading.{replaced}
-use Rattle.op_driver.proofs.Dealing.{does_as, behind_closed, behind_goes}
+use Rattle.op_driver.proofs.Handling.{does_as, behind_closed, behind_goes}
 use Rattle.op_driver.proofs.driver.Driver.make_way.Goals as goal
 
 pub returns-then-is_open-clause-does : goal.returns-then-is_open-clause-does

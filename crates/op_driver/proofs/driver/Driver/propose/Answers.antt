@@ -1,4 +1,4 @@
-use Rattle.op_driver.proofs.Dealing.{gathered_handles, full_handles}
+use Rattle.op_driver.proofs.Handling.{gathered_handles, full_handles}
 use Rattle.std.proofs.Common.{ap, arith}
 use Rattle.op_serving.specs.Counts.{most_inputs}
 use Rattle.op_queues.proofs.Counting.{most_gathers, most_releases}

@@ -1,7 +1,7 @@
 use Rattle.std.proofs.Common.{rules, ap, ◌≡◌, None}
 use Rattle.op_serving.specs.State.{session_of}
 use Rattle.op_serving.specs.Reading.{replaced}
-use Rattle.op_driver.proofs.Dealing.{nothing_does}
+use Rattle.op_driver.proofs.Handling.{nothing_does}
 use Rattle.op_driver.proofs.driver.Driver.replace.Goals as goal
 
 pub returns-in_default-clause-does : goal.returns-in_default-clause-does

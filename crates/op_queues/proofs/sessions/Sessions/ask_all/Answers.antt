@@ -2,8 +2,7 @@ use Rattle.std.proofs.Common.{◌+◌, [], ℕ, false, refl, sym, ◌∙◌, ap,
 use Rattle.std.proofs.lemmas.List.{take_more, take_all}
 use Rattle.op_serving.specs.State.{Key, Loop}
 use Rattle.op_serving.specs.Handing.{asked_by_one, asked}
-use Rattle.op_queues.proofs.Settling.{does_then, does_as}
-use Rattle.op_queues.proofs.Sending.{does_nothing}
+use Rattle.op_queues.proofs.Settling.{does_then, does_as, does_nothing}
 use Rattle.op_queues.proofs.Asking.{blind_asked_by_one, asked_more}
 use Rattle.op_queues.proofs.sessions.Sessions.ask_all.Goals as goal
 

@@ -4,8 +4,8 @@ use Rattle.op_command.specs.declared.said.Said.{Said}
 use Rattle.op_command.specs.Replies.{said_of as denied}
 use Rattle.op_serving.specs.State.{Key, Loop}
 use Rattle.op_serving.specs.Handing.{of_command, said_each, told, told_all}
-use Rattle.op_queues.proofs.Settling.{does_then, does_as}
-use Rattle.op_queues.proofs.Sending.{blind_told, does_nothing, said_more, told_more}
+use Rattle.op_queues.proofs.Settling.{does_then, does_as, does_nothing}
+use Rattle.op_queues.proofs.Sending.{blind_told, said_more, told_more}
 use Rattle.op_queues.proofs.sessions.Sessions.deny_all.Goals as goal
 
 pub loop-conn-init : goal.loop-conn-init

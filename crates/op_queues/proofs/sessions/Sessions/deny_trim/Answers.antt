@@ -4,8 +4,7 @@ use Rattle.op_command.specs.Replies.{said_of as denied}
 use Rattle.op_serving.specs.declared.wanted.Wanted.TheVariants.{Trim}
 use Rattle.op_serving.specs.State.{Loop}
 use Rattle.op_serving.specs.Handing.{no_command, said_of_denial, told, told_all}
-use Rattle.op_queues.proofs.Settling.{does_as}
-use Rattle.op_queues.proofs.Sending.{does_nothing}
+use Rattle.op_queues.proofs.Settling.{does_as, does_nothing}
 use Rattle.op_queues.proofs.sessions.Sessions.deny_trim.Goals as goal
 
 pub returns-in-None : goal.returns-in-None

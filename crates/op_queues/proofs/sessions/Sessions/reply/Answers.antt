@@ -6,8 +6,7 @@ use Rattle.op_serving.specs.Counts.{most_inputs}
 use Rattle.op_queues.proofs.Counting.{most_same}
 use Rattle.op_serving.specs.Wire.{client_frame}
 use Rattle.op_serving.specs.Handing.{said_at, forgotten, answered, replied}
-use Rattle.op_queues.proofs.Settling.{does_after}
-use Rattle.op_queues.proofs.Sending.{does_nothing}
+use Rattle.op_queues.proofs.Settling.{does_after, does_nothing}
 use Rattle.op_queues.proofs.sessions.Sessions.reply.Goals as goal
 
 forgets : (key : Awaited) (s t : Loop) → t ≡ forgotten key s → (size t ≤ size s) × (most_inputs t ≤ most_inputs s)

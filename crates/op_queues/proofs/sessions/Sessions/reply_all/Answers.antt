@@ -4,8 +4,8 @@ use Rattle.std.proofs.lemmas.List.{append-nil}
 use Rattle.std.specs.Vec.Iter.{into_iter_items, into_iter_len}
 use Rattle.op_types.specs.declared.answers.Reply.{Reply}
 use Rattle.op_serving.specs.Handing.{replied, replied_all}
-use Rattle.op_queues.proofs.Settling.{does_then, does_as}
-use Rattle.op_queues.proofs.Sending.{blind_replied, replied_more, does_nothing}
+use Rattle.op_queues.proofs.Settling.{does_then, does_as, does_nothing}
+use Rattle.op_queues.proofs.Sending.{blind_replied, replied_more}
 use Rattle.op_queues.proofs.sessions.Sessions.reply_all.Goals as goal
 
 nil_of_length : {A : Type 0} (xs : List A) → length xs ≡ 0 → xs ≡ []

@@ -1,8 +1,8 @@
 use Rattle.std.proofs.Common.{refl, sym, ◌∙◌, ap, subst, ◌≡◌, ◌+◌, ◌++◌, ◌∷◌, [], take}
 use Rattle.std.proofs.lemmas.List.{take_all}
 use Rattle.op_serving.specs.Handing.{sent, sent_all}
-use Rattle.op_queues.proofs.Settling.{does_then, does_as}
-use Rattle.op_queues.proofs.Sending.{blind_sent, sent_more, does_nothing, taken_more}
+use Rattle.op_queues.proofs.Settling.{does_then, does_as, does_nothing}
+use Rattle.op_queues.proofs.Sending.{blind_sent, sent_more, taken_more}
 use Rattle.op_queues.proofs.sessions.Sessions.send_all.Goals as goal
 
 pub loop-message-init : goal.loop-message-init

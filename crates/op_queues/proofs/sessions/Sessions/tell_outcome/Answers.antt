@@ -3,8 +3,7 @@ use Rattle.op_types.specs.declared.answers.Outcome.{Outcome}
 use Rattle.op_command.specs.declared.said.Said.TheVariants as said
 use Rattle.op_serving.specs.State.{Loop}
 use Rattle.op_serving.specs.Handing.{no_command, said_of_outcome, told, told_all}
-use Rattle.op_queues.proofs.Settling.{does_as}
-use Rattle.op_queues.proofs.Sending.{does_nothing}
+use Rattle.op_queues.proofs.Settling.{does_as, does_nothing}
 use Rattle.op_queues.proofs.sessions.Sessions.tell_outcome.Goals as goal
 
 pub returns-in-None : goal.returns-in-None

@@ -1,0 +1,285 @@
+//! What is handed out of a step: messages, answers, and what else clients are told.
+ghost use Rattle.std.specs.Prelude.{◌≡◌, ◌<◌, All, OnOk, OnErr, IfSome, None, true, false, if◌then◌else◌};
+ghost use Rattle.std.specs.FinMap as map;
+ghost use Rattle.op_types.specs.Ranges.{IsPid};
+ghost use Rattle.op_msg.specs.Ranges.{MsgInRange};
+ghost use Rattle.op_command.specs.Replies.{said_of as denied};
+ghost use Rattle.op_command.specs.Ranges.{ReplyInRange, DenialInRange, OutcomeInRange, RefusalInRange, SaidInRange};
+ghost use Rattle.op_serving.specs.declared.wanted.Wanted.TheVariants.{Trim};
+ghost use Rattle.op_serving.specs.Wire.{fits_peer, peer_frame, client_frame};
+ghost use Rattle.op_serving.specs.State.{is_open, session_of, waits_for};
+ghost use Rattle.op_serving.specs.Ranges.{KeyInRange, KeyAtInRange, WantedInRange, SendInRange, ReplyInRange as AnswerInRange};
+ghost use Rattle.op_serving.specs.Losses.{settled, Does};
+ghost use Rattle.op_serving.specs.Handing.{sent, sent_all, forgotten, replied, replied_all, asked, asked_by_one, of_command, no_command, said_each, said_of_refusal, said_of_outcome, said_of_read, said_of_denial, told, told_all, waits_if_asked, waits_unless, proposed, excused};
+
+use super::Sessions;
+use crate::asked::{denied, of_command, of_no_command, refusal};
+use crate::asker_table::{forget, put_asker};
+use crate::encoding::{put_message, put_reply};
+use crate::session_table::add;
+use op_command::{ClientReply, Said};
+use op_outside::Conn;
+use op_serving::{Awaited, Key, Wanted};
+use op_types::{Msg, NoMemory, Outcome, Pid, Refusal, Replies, Reply, Sends};
+
+impl Sessions {
+    /// A message for a peer without a session is lost, and one that is too long for its peer.
+    pub fn send(&mut self, message: &(Pid, Msg))
+        requires { SendInRange message.now }
+        ensures { Does (λ marks s. settled marks (sent message.now s)) self.old self.new }
+    {
+        let Some(conn) = self.session_of(message.0) else {
+            return;
+        };
+        match self.queue_message(conn, message.0, &message.1) {
+            Ok(()) => {}
+            Err(_) => self.lose(conn),
+        }
+    }
+
+    /// Messages, in their order.
+    pub fn send_all(&mut self, sends: &Sends)
+        requires { All SendInRange sends.now }
+        ensures { Does (λ marks s. settled marks (sent_all sends.now s)) self.old self.new }
+    {
+        for message in sends.as_slice() {
+            self.send(message);
+        }
+    }
+
+    /// Adds a message to what waits for a connection, if its peer takes it. Without memory nothing changes.
+    fn queue_message(&mut self, conn: Conn, to: Pid, message: &Msg) -> Result<(), NoMemory>
+        requires to { IsPid to }
+        requires message { MsgInRange message.now }
+        ensures ok { OnOk result (self.new ≡ if fits_peer self.old.me to message.now
+            then waits_for conn (peer_frame self.old.me to message.now) self.old else self.old) }
+        ensures err { OnErr result (self.new ≡ self.old) }
+    {
+        if !put_message(&mut self.frame, self.me, to, message)? {
+            return Ok(());
+        }
+        let is_over = add(&mut self.sessions, conn, self.frame.as_slice())?;
+        self.overfull = self.overfull || is_over;
+        Ok(())
+    }
+
+    /// Where the answer to a command or a read goes: to the session that asked last. Then nobody waits.
+    fn asker(&mut self, key: Awaited) -> Option<Conn>
+        ensures conn { result ≡ map.get self.old.askers key }
+        ensures new { self.new ≡ forgotten key self.old }
+    {
+        forget(&mut self.askers, key)
+    }
+
+    /// A command or a read is asked for: who asked for it before waits no more, and this session does. Where that
+    /// finds no memory, the session is lost.
+    fn ask(&mut self, read: bool, conn: Conn, key: Key)
+        ensures { Does (λ marks s. settled marks (asked_by_one read (conn, key) s)) self.old self.new }
+    {
+        if !self.is_open(conn) {
+            self.asker((read, key));
+            return;
+        }
+        match self.note(conn, (read, key)) {
+            Ok(()) => {}
+            Err(_) => self.lose(conn),
+        }
+    }
+
+    /// Notes who asks last for a command or a read. Without memory nothing changes, and nobody had asked.
+    fn note(&mut self, conn: Conn, key: Awaited) -> Result<(), NoMemory>
+        ensures ok { OnOk result
+            (self.new ≡ record self.old { askers = map.insert self.old.askers key conn }) }
+        ensures err { OnErr result (self.new ≡ self.old) }
+        ensures absent { OnErr result (map.get self.old.askers key ≡ None) }
+    {
+        put_asker(&mut self.askers, conn, key)
+    }
+
+    /// Commands are asked for, in their order.
+    fn ask_all(&mut self, keys: &[(Conn, Key)])
+        ensures { Does (λ marks s. settled marks (asked false keys.now s)) self.old self.new }
+    {
+        for (conn, key) in keys {
+            self.ask(false, *conn, *key);
+        }
+    }
+
+    /// What becomes of what was asked for: commands wait for their answers, or each is told why it is refused;
+    /// a read waits where the members are asked, and of all else what becomes of it is told.
+    pub fn propose(&mut self, wanted: Option<Wanted>, outcome: Option<Outcome>)
+        requires wanted { IfSome wanted WantedInRange }
+        requires outcome { IfSome outcome OutcomeInRange }
+        ensures { Does (λ marks s. settled marks (proposed wanted outcome s)) self.old self.new }
+    {
+        match wanted {
+            None => {}
+            Some(Wanted::Commands(keys)) => self.propose_all(keys.as_slice(), refusal(outcome)),
+            Some(Wanted::Stop(conn)) => self.tell_outcome(conn, outcome),
+            Some(Wanted::Trim(conn)) => self.tell_outcome(conn, outcome),
+            Some(Wanted::Read(conn, key)) => self.propose_read(conn, key, outcome),
+        }
+    }
+
+    /// Commands wait for their answers, or each is told why it is refused.
+    fn propose_all(&mut self, keys: &[(Conn, Key)], why: Option<Refusal>)
+        requires keys { All KeyAtInRange keys.now }
+        requires why { IfSome why RefusalInRange }
+        ensures { Does (λ marks s. settled marks (told_all (said_of_refusal keys.now why)
+            (asked false (waits_unless why keys.now) s))) self.old self.new }
+    {
+        match why {
+            None => self.ask_all(keys),
+            Some(why) => self.deny_all(keys, Some(why)),
+        }
+    }
+
+    /// A read waits for its answer where the members are asked; else what becomes of it is told.
+    fn propose_read(&mut self, conn: Conn, key: Key, outcome: Option<Outcome>)
+        requires key { KeyInRange key }
+        requires outcome { IfSome outcome OutcomeInRange }
+        ensures { Does (λ marks s. settled marks (told_all (said_of_read conn key outcome)
+            (asked true (waits_if_asked conn key outcome) s))) self.old self.new }
+    {
+        match outcome {
+            None => {}
+            Some(Outcome::Asked) => self.ask(true, conn, key),
+            Some(outcome) => self.tell_key(conn, key, Said::Outcome(outcome)),
+        }
+    }
+
+    /// A client is told something of a command or a read.
+    fn tell_key(&mut self, conn: Conn, key: Key, said: Said)
+        requires key { KeyInRange key }
+        requires said { SaidInRange said }
+        ensures { Does (λ marks s. settled marks (told conn (of_command key said) s)) self.old self.new }
+    {
+        let what = of_command(key, said);
+        self.answer(conn, &what);
+    }
+
+    /// An outcome is told, if there is one.
+    fn tell_outcome(&mut self, conn: Conn, outcome: Option<Outcome>)
+        requires { IfSome outcome OutcomeInRange }
+        ensures { Does (λ marks s. settled marks (told_all (said_of_outcome conn outcome) s))
+            self.old self.new }
+    {
+        match outcome {
+            None => {}
+            Some(outcome) => self.tell(conn, Said::Outcome(outcome)),
+        }
+    }
+
+    /// Clients whose input was not done are told why; None stands for want of memory.
+    pub fn excuse(&mut self, wanted: Option<Wanted>, why: Option<Refusal>)
+        requires wanted { IfSome wanted WantedInRange }
+        requires why { DenialInRange why }
+        ensures { Does (λ marks s. settled marks (excused wanted why s)) self.old self.new }
+    {
+        match wanted {
+            None => {}
+            Some(Wanted::Commands(keys)) => self.deny_all(keys.as_slice(), why),
+            Some(Wanted::Stop(conn)) => self.tell(conn, denied(why)),
+            Some(Wanted::Trim(conn)) => self.deny_trim(conn, why),
+            Some(Wanted::Read(conn, key)) => self.deny(conn, key, why),
+        }
+    }
+
+    /// Each of these commands is told why it was not done.
+    fn deny_all(&mut self, keys: &[(Conn, Key)], why: Option<Refusal>)
+        requires keys { All KeyAtInRange keys.now }
+        requires why { DenialInRange why }
+        ensures { Does (λ marks s. settled marks (told_all (said_each keys.now (denied why)) s))
+            self.old self.new }
+    {
+        for (conn, key) in keys {
+            self.deny(*conn, *key, why);
+        }
+    }
+
+    /// A command or a read is told why it was not done.
+    fn deny(&mut self, conn: Conn, key: Key, why: Option<Refusal>)
+        requires key { KeyInRange key }
+        requires why { DenialInRange why }
+        ensures { Does (λ marks s. settled marks (told conn (of_command key (denied why)) s))
+            self.old self.new }
+    {
+        self.tell_key(conn, key, denied(why));
+    }
+
+    /// Who asked for trimming is told why it was not done, but not that it was lost.
+    fn deny_trim(&mut self, conn: Conn, why: Option<Refusal>)
+        requires { DenialInRange why }
+        ensures { Does (λ marks s. settled marks (told_all (said_of_denial (Trim conn) why) s))
+            self.old self.new }
+    {
+        match why {
+            None => {}
+            Some(why) => self.tell(conn, denied(Some(why))),
+        }
+    }
+
+    /// A client is told something that is of no command.
+    fn tell(&mut self, conn: Conn, said: Said)
+        requires { SaidInRange said }
+        ensures { Does (λ marks s. settled marks (told conn (no_command said) s)) self.old self.new }
+    {
+        let what = of_no_command(said);
+        self.answer(conn, &what);
+    }
+
+    /// The answer to a command, or to a read, goes to the session that asked last for it.
+    pub fn reply(&mut self, read: bool, decided: Reply)
+        requires { AnswerInRange decided }
+        ensures { Does (λ marks s. settled marks (replied read decided s)) self.old self.new }
+    {
+        let Reply {
+            client,
+            seq,
+            answer,
+        } = decided;
+        let Some(conn) = self.asker((read, (client, seq))) else {
+            return;
+        };
+        let told = ClientReply {
+            client,
+            seq,
+            said: Said::Answer(answer),
+        };
+        self.answer(conn, &told);
+    }
+
+    /// Answers to commands, or to reads, in their order.
+    pub fn reply_all(&mut self, read: bool, replies: Replies)
+        requires { All AnswerInRange replies }
+        ensures { Does (λ marks s. settled marks (replied_all read replies s)) self.old self.new }
+    {
+        for decided in replies.into_vec() {
+            self.reply(read, decided);
+        }
+    }
+
+    /// A client is told something at a connection.
+    pub fn answer(&mut self, conn: Conn, told: &ClientReply)
+        requires { ReplyInRange told.now }
+        ensures { Does (λ marks s. settled marks (waits_for conn (client_frame told.now) s))
+            self.old self.new }
+    {
+        match self.queue_reply(conn, told) {
+            Ok(()) => {}
+            Err(_) => self.lose(conn),
+        }
+    }
+
+    /// Adds a reply to what waits for a connection. Without memory nothing changes.
+    pub fn queue_reply(&mut self, conn: Conn, told: &ClientReply) -> Result<(), NoMemory>
+        requires { ReplyInRange told.now }
+        ensures ok { OnOk result (self.new ≡ waits_for conn (client_frame told.now) self.old) }
+        ensures err { OnErr result (self.new ≡ self.old) }
+    {
+        put_reply(&mut self.frame, told)?;
+        let is_over = add(&mut self.sessions, conn, self.frame.as_slice())?;
+        self.overfull = self.overfull || is_over;
+        Ok(())
+    }
+}
