@@ -189,7 +189,7 @@ const DECIDED: &str =
     "answer 8 appended 1 0\nreply 1 7 1 done\nconfig 1 members 1 2 3\nentry 1 0 put 7 1 a x\nnode 1 config 1 decided 1 trimmed 0\nnode 2 config 1 decided 1 trimmed 0\nnode 3 config 1 decided 0 trimmed 0\n";
 
 /// How a replay of this text ends, and what it writes.
-fn replayed(alloc: Global, text: &str) -> Result<(Status, Vec<u8>), AllocError> {
+pub fn replayed(alloc: Global, text: &str) -> Result<(Status, Vec<u8>), AllocError> {
     let mut input = source(alloc, text, 4096, &[])?;
     let mut sinks = Sinks::new(alloc, 4096, 100)?;
     let status = ended_over(alloc, &["replay"], &mut input, &mut sinks)?;

@@ -16,6 +16,8 @@ mod letters;
 #[cfg(test)]
 mod mirrored;
 #[cfg(test)]
+mod parts;
+#[cfg(test)]
 mod reads;
 #[cfg(test)]
 mod replays;
