@@ -35,8 +35,8 @@ brought_at at run place = if nat_lt place at then None else slice_get run (place
 abbrev pub telling : Part → ℕ → List Change → Body → Plan
 telling p q batch b = record nothing_plan { batch = batch; sends = message p.conf q b ∷ [] }
 
--- what the leader is told of the log's new length: where entries are still missing before a place, it is asked
--- to prepare
+-- what the leader is told of the log's new length: where entries are still missing before a place,
+-- it is asked to prepare
 abbrev pub appended_body : Ballot → ℕ → ℕ → Body
 appended_body n len at = if nat_lt len at then body.PrepareReq else body.Accepted n len
 

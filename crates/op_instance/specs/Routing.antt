@@ -11,8 +11,8 @@ use Rattle.op_protocol.specs.Trimming.{on_trim_ask, on_progress, on_trim}
 use Rattle.op_protocol.specs.Follower.{on_prepare, on_accept_sync, on_accept, on_decide}
 use Rattle.op_protocol.specs.Reading.{on_confirm}
 
--- the row of a message, by what it says; what is of heartbeats, of elections, of what is staged or of joining has
--- none, and what tells a leader of its reads
+-- the row of a message, by what it says; what is of heartbeats, of elections, of what is staged
+-- or of joining has none, and what tells a leader of its reads
 abbrev pub row_of : ℕ → Part → Role → ℕ → Body → Effects
 row_of me p r q (body.Prepare n na nl nd) = on_prepare p r q n na nl nd
 row_of me p r q (body.Promise n fa fl fd s entries) =
