@@ -11,8 +11,9 @@ use Rattle.op_types.specs.declared.events.Request.TheVariants as request
 use Rattle.op_types.specs.declared.messages.Msg.{Msg}
 use Rattle.op_serving.specs.Cores.{Standing}
 use Rattle.op_serving.specs.Fates.{Fate}
-use Rattle.op_serving.specs.Handing.{Frame}
+use Rattle.op_serving.specs.Room.{Frame}
 use Rattle.op_serving.specs.State.{Key}
+use Rattle.op_serving.specs.Wire.{fits_peer, peer_frame}
 use Rattle.op_serving.specs.Inputs.{Deed, enters, says}
 use Rattle.op_fields.specs.Form.{encoded}
 use Rattle.op_serving.specs.Reading.{client_byte, peer_byte}
@@ -182,6 +183,24 @@ told_kept n ds d c x (inr none) = inr none
 given_kept : (me : ℕ) (n : Standing) (ds : List Deed) (g : Frame) (c : ℕ) (frame : List ℕ) → IsGiven me n ds c frame → IsGiven me n (ds ++ says g ∷ []) c frame
 given_kept me n ds g c frame (inl (d, m, sent, fits, peer, e)) = inl (d, m, sent_kept n ds (says g) (d, m) sent, fits, peers_says me c ds g peer, e)
 given_kept me n ds g c frame (inr (x, told, client, e)) = inr (x, told_kept n ds (says g) c x told, clients_says c ds g client, e)
+
+-- of a message that was given out, for the session of a peer that takes it
+abbrev pub IsSent : ℕ → Standing → List Deed → Frame → Type 0
+IsSent me n early f = (d : ℕ) × (m : Msg) × Contains (sent_in n early) (d, m) × (fits_peer me d m ≡ true) × IsOfPeer me f.0 early × (f.1 ≡ peer_frame me d m)
+
+-- it stays so behind another deed, where the session does
+pub sent_later : (me : ℕ) (n : Standing) (ds : List Deed) (d : Deed) (f : Frame) → IsOfPeer me f.0 (ds ++ d ∷ []) → IsSent me n ds f → IsSent me n (ds ++ d ∷ []) f
+sent_later me n ds d f peer (to, m, there, fits, before, e) = (to, m, sent_kept n ds d (to, m) there, fits, peer, e)
+
+-- whose session a sent frame is for
+pub sent_peer : (me : ℕ) (n : Standing) (ds : List Deed) (f : Frame) → IsSent me n ds f → IsOfPeer me f.0 ds
+sent_peer me n ds f (to, m, there, fits, peer, e) = peer
+
+pub sent_says : (me : ℕ) (n : Standing) (ds : List Deed) (gs : List Frame) (f : Frame) → IsSent me n ds f → IsSent me n (ds ++ map says gs) f
+sent_says me n ds [] f k = subst (λ l. IsSent me n l f) (sym (append-nil ds)) k
+sent_says me n ds (g ∷ gs) f k =
+    subst (λ l. IsSent me n l f) (append_assoc ds (says g ∷ []) (map says gs))
+    (sent_says me n (ds ++ says g ∷ []) gs f (sent_later me n ds (says g) f (peers_says me f.0 ds g (sent_peer me n ds f k)) k))
 
 pub caused_says : (me : ℕ) (n : Standing) (ds : List Deed) (fs : List Frame) → AreCaused me n ds → Each (λ f. IsGiven me n ds f.0 f.1) fs → AreCaused me n (ds ++ map says fs)
 caused_says me n ds [] h g = subst (λ l. AreCaused me n l) (sym (append-nil ds)) h

@@ -11,6 +11,7 @@ use Rattle.op_serving.specs.declared.kind.Kind.TheVariants.{Unknown, Peer, Clien
 use Rattle.op_serving.specs.declared.mark.Mark.{Mark}
 use Rattle.op_serving.specs.declared.session.Session.{Session}
 use Rattle.op_serving.specs.State.{Awaited, Loop, Table, awaited_cmp, find, without, kind_at, down_of, left_at, left_by}
+use Rattle.op_serving.specs.Room.{Frame}
 use Rattle.op_serving.specs.Losses.{most_marks, mark_at, noted, stopped_if, marked, lost_by, lost_one, is_due, settle}
 use Rattle.op_serving.specs.Inputs.{State, Luck, calm}
 use Rattle.op_queues.proofs.Askers.{unless_at, get_without}
@@ -24,6 +25,7 @@ pub record Quiet (s t : Loop) : Type 1 where
   pub askers : (key : Awaited) (c : ℕ) → map.get t.askers key ≡ Some c → (map.get s.askers key ≡ Some c) × (find c t.sessions ≡ find c s.sessions)
   pub gathered : (Q : ℕ × Command → Type 0) → Each Q s.gathered → Each (λ e. Q e × (find e.0 t.sessions ≡ find e.0 s.sessions)) t.gathered
   pub fewer : length t.gathered ≤ length s.gathered
+  pub behind : (Q : Frame → Type 0) → Each Q s.behind → Each (λ e. Q e × (find e.0 t.sessions ≡ find e.0 s.sessions)) t.behind
   pub downs : (Q : ℕ → Type 0) → ((c q h : ℕ) → kind_at c s ≡ Some (Peer q h) → Q q) → Each Q s.downs → Each Q t.downs
 
 -- whose a session is
@@ -46,18 +48,21 @@ quiet_then s m t a b = record {
   gathered = λ Q h. each_map (λ e. (Q e × (find e.0 m.sessions ≡ find e.0 s.sessions)) × (find e.0 t.sessions ≡ find e.0 m.sessions)) (λ e. Q e × (find e.0 t.sessions ≡ find e.0 s.sessions))
       (λ e k. (k.0.0, k.1 ∙ k.0.1)) t.gathered (b.gathered (λ e. Q e × (find e.0 m.sessions ≡ find e.0 s.sessions)) (a.gathered Q h));
   fewer = (let j = a.fewer in let k = b.fewer in omega (arith, j, k));
+  behind = λ Q h. each_map (λ e. (Q e × (find e.0 m.sessions ≡ find e.0 s.sessions)) × (find e.0 t.sessions ≡ find e.0 m.sessions)) (λ e. Q e × (find e.0 t.sessions ≡ find e.0 s.sessions))
+      (λ e k. (k.0.0, k.1 ∙ k.0.1)) t.behind (b.behind (λ e. Q e × (find e.0 m.sessions ≡ find e.0 s.sessions)) (a.behind Q h));
   downs = λ Q kinds h. b.downs Q (λ c q n e. kinds c q n (kind_before s m a c (Peer q n) e)) (a.downs Q kinds h);
 }
 
 -- of these nothing changed, and no Down is to come but those
-pub quiet_like : (s t : Loop) → t.me ≡ s.me → t.peers ≡ s.peers → t.sessions ≡ s.sessions → t.askers ≡ s.askers → t.gathered ≡ s.gathered → ((Q : ℕ → Type 0) → Each Q s.downs → Each Q t.downs) → Quiet s t
-quiet_like s t me peers sessions askers gathered downs = record {
+pub quiet_like : (s t : Loop) → t.me ≡ s.me → t.peers ≡ s.peers → t.sessions ≡ s.sessions → t.askers ≡ s.askers → t.gathered ≡ s.gathered → t.behind ≡ s.behind → ((Q : ℕ → Type 0) → Each Q s.downs → Each Q t.downs) → Quiet s t
+quiet_like s t me peers sessions askers gathered behind downs = record {
   me = me;
   peers = peers;
   sessions = λ c y e. ap (find c) (sym sessions) ∙ e;
   askers = λ key c e. (ap (λ z. map.get z key) (sym askers) ∙ e, ap (find c) sessions);
   gathered = λ Q h. each_map Q (λ e. Q e × (find e.0 t.sessions ≡ find e.0 s.sessions)) (λ e k. (k, ap (find e.0) sessions)) t.gathered (subst (λ l. Each Q l) (sym gathered) h);
   fewer = (let e = ap length gathered in omega (arith, e));
+  behind = λ Q h. each_map Q (λ e. Q e × (find e.0 t.sessions ≡ find e.0 s.sessions)) (λ e k. (k, ap (find e.0) sessions)) t.behind (subst (λ l. Each Q l) (sym behind) h);
   downs = λ Q kinds h. downs Q h;
 }
 
@@ -73,14 +78,16 @@ unless_apart d c (Some x) e = elim (cases_Bool (x == d)) [
       (k, λ is. let bad : true ≡ false = sym (eq-eqb x d (same ∙ is)) ∙ h in cc))
 ]
 
-gathered_without : (d : ℕ) (ss : Table Session) (Q : ℕ × Command → Type 0) (es : Table Command) → Each Q es → Each (λ e. Q e × (find e.0 (without d ss) ≡ find e.0 ss)) (without d es)
-gathered_without d ss Q [] h = tt
-gathered_without d ss Q (e ∷ es) h = elim (cases_Bool (is_at (nat_cmp d) e.0)) [
-  | inl g ↦ rw g (gathered_without d ss Q es h.1)
-  | inr g ↦ (
-      let apart : e.0 ≡ d → ⊥ = λ is. (let bad : true ≡ false = sym (is_at_own d) ∙ ap (λ n. is_at (nat_cmp d) n) (sym is) ∙ g in cc) in
-      rw g ((h.0, find_apart e.0 d ss apart), gathered_without d ss Q es h.1))
-]
+-- what of a table stays is of other sessions
+module _ {X : Type 0} (d : ℕ) (ss : Table Session) (Q : ℕ × X → Type 0) where
+  each_without : (es : Table X) → Each Q es → Each (λ e. Q e × (find e.0 (without d ss) ≡ find e.0 ss)) (without d es)
+  each_without [] h = tt
+  each_without (e ∷ es) h = elim (cases_Bool (is_at (nat_cmp d) e.0)) [
+    | inl g ↦ rw g (each_without es h.1)
+    | inr g ↦ (
+        let apart : e.0 ≡ d → ⊥ = λ is. (let bad : true ≡ false = sym (is_at_own d) ∙ ap (λ n. is_at (nat_cmp d) n) (sym is) ∙ g in cc) in
+        rw g ((h.0, find_apart e.0 d ss apart), each_without es h.1))
+  ]
 
 fewer_without : (d : ℕ) (es : Table Command) → length (without d es) ≤ length es
 fewer_without d [] = omega arith
@@ -99,7 +106,7 @@ downs_of Q (Peer q n) h = by_written (n == 0)
 downs_of Q Client h = tt
 
 quiet_over : (d : ℕ) (o : Option Kind) (s : Loop) → kind_at d s ≡ o → Quiet s (left_at d o s)
-quiet_over d None s e = quiet_like s s refl refl refl refl refl (λ Q h. h)
+quiet_over d None s e = quiet_like s s refl refl refl refl refl refl (λ Q h. h)
 quiet_over d (Some k) s e = record {
   me = refl;
   peers = refl;
@@ -108,8 +115,9 @@ quiet_over d (Some k) s e = record {
     | inr apart ↦ sym (find_apart c d s.sessions apart) ∙ there
   ];
   askers = λ key c there. let j = unless_apart d c (map.get s.askers key) (sym (get_without d s.askers key) ∙ there) in (j.0, find_apart c d s.sessions j.1);
-  gathered = λ Q h. gathered_without d s.sessions Q s.gathered h;
+  gathered = λ Q h. each_without d s.sessions Q s.gathered h;
   fewer = fewer_without d s.gathered;
+  behind = λ Q h. each_without d s.sessions Q s.behind h;
   downs = λ Q kinds h. each_both Q s.downs (down_of k) h (downs_of Q k (λ q n is. kinds d q n (e ∙ ap (λ z. Some z) is)));
 }
 
@@ -122,7 +130,7 @@ none_got : (key : Awaited) (c : ℕ) → map.get (map.empty {R = awaited_cmp}) k
 none_got key c e = let bad : None ≡ Some c = sym (map.get-empty awaited_cmp key) ∙ e in cc
 
 quiet_stopped : (b : Bool) (s : Loop) → Quiet s (stopped_if b s)
-quiet_stopped true s = quiet_like s s refl refl refl refl refl (λ Q h. h)
+quiet_stopped true s = quiet_like s s refl refl refl refl refl refl (λ Q h. h)
 quiet_stopped false s = record {
   me = refl;
   peers = refl;
@@ -130,24 +138,25 @@ quiet_stopped false s = record {
   askers = λ key c e. absurd (none_got key c e);
   gathered = λ Q h. tt;
   fewer = omega arith;
+  behind = λ Q h. tt;
   downs = λ Q kinds h. tt;
 }
 
 pub quiet_marked : (conn : Option ℕ) (s : Loop) → Quiet s (marked conn s)
 quiet_marked conn s =
     let u : Loop = noted (mark_at s.place conn) s in
-    quiet_then s u (marked conn s) (quiet_like s u refl refl refl refl refl (λ Q h. h)) (quiet_stopped (nat_lt (length s.lost + 1) most_marks) u)
+    quiet_then s u (marked conn s) (quiet_like s u refl refl refl refl refl refl (λ Q h. h)) (quiet_stopped (nat_lt (length s.lost + 1) most_marks) u)
 
 quiet_one : (o : Option ℕ) (s : Loop) → Quiet s (lost_one o s)
-quiet_one None s = quiet_like s s refl refl refl refl refl (λ Q h. h)
+quiet_one None s = quiet_like s s refl refl refl refl refl refl (λ Q h. h)
 quiet_one (Some c) s = quiet_then s (marked (Some c) s) (lost_by c s) (quiet_marked (Some c) s) (quiet_left c (marked (Some c) s))
 
 quiet_due : (b : Bool) (ms : List Mark) (o : Option ℕ) (s : Loop) → Quiet s (settle ms (lost_one o s)) → Quiet s (if b then settle ms (lost_one o s) else s)
 quiet_due true ms o s k = k
-quiet_due false ms o s k = quiet_like s s refl refl refl refl refl (λ Q h. h)
+quiet_due false ms o s k = quiet_like s s refl refl refl refl refl refl (λ Q h. h)
 
 pub quiet_settle : (ms : List Mark) (s : Loop) → Quiet s (settle ms s)
-quiet_settle [] s = quiet_like s s refl refl refl refl refl (λ Q h. h)
+quiet_settle [] s = quiet_like s s refl refl refl refl refl refl (λ Q h. h)
 quiet_settle (m ∷ ms) s = quiet_due (is_due m s) ms m.conn s (quiet_then s (lost_one m.conn s) (settle ms (lost_one m.conn s)) (quiet_one m.conn s) (quiet_settle ms (lost_one m.conn s)))
 
 pub quiet_calm : (l : Luck) (s : State) → Quiet s.loop (calm l s).loop

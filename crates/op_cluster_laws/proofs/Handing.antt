@@ -1,7 +1,8 @@
 -- What is handed out: each frame for a connection is of a message, or of what a client is told.
-use Rattle.std.proofs.Common.{◌≡◌, ◌++◌, ◌∷◌, [], ℕ, Bool, true, false, cond, List, Option, Some, None, if◌then◌else◌, refl, sym, ◌∙◌, ap, subst, ◌⊎◌, inl, inr}
+use Rattle.std.proofs.Common.{◌≡◌, ◌++◌, ◌∷◌, [], ℕ, zero, suc, Bool, true, false, cond, List, Option, Some, None, if◌then◌else◌, refl, sym, ◌∙◌, ap, subst, ◌⊎◌, inl, inr}
 use Rattle.std.specs.FinMap as map
 use Rattle.std.specs.BTreeMap.{is_at}
+use Rattle.std.specs.Ordering.{nat_cmp}
 use Rattle.op_types.specs.declared.answers.Answer.{Answer}
 use Rattle.op_types.specs.declared.answers.Outcome.{Outcome}
 use Rattle.op_types.specs.declared.answers.Outcome.TheVariants as outcome
@@ -17,10 +18,12 @@ use Rattle.op_serving.specs.declared.node.Given.{Given}
 use Rattle.op_serving.specs.declared.wanted.Wanted.{Wanted}
 use Rattle.op_serving.specs.declared.wanted.Wanted.TheVariants.{Commands, Stop, Trim, Read}
 use Rattle.op_serving.specs.Wire.{fits_peer, peer_frame, client_frame}
-use Rattle.op_serving.specs.State.{find, changed, with_bytes, if_its, open_of, Key, Awaited, Loop, Askers, awaited_cmp, is_open, session_of, waits_for}
-use Rattle.op_serving.specs.Handing.{Frame, frame_at, said_at, goes_to, sent, sent_all, frames_sent, forgotten, answered, replied, replied_all, frames_replied, handed_out, frames_handed, Told, said_each, refusal_of, said_of_refusal, said_of_outcome, said_of_read, said_at_once, said_of_denial, told, told_all, frames_told, asked_by_one, asked, waits_unless, waits_if_asked, keys_that_wait, is_read, proposed, frames_proposed, excused, frames_excused}
+use Rattle.op_serving.specs.State.{Table, find, changed, with_bytes, if_its, open_of, Key, Awaited, Loop, Askers, awaited_cmp, is_open, session_of, waits_for}
+use Rattle.op_serving.specs.Handing.{frame_at, said_at, goes_to, sent_behind, sent_at, sent, sent_all, frames_behind, frames_sent_at, frames_sent, forgotten, answered, replied, replied_all, frames_replied, handed_out, frames_handed, Told, said_each, refusal_of, said_of_refusal, said_of_outcome, said_of_read, said_at_once, said_of_denial, told, told_all, frames_told, asked_by_one, asked, waits_unless, waits_if_asked, keys_that_wait, is_read, proposed, frames_proposed, excused, frames_excused}
+use Rattle.op_serving.specs.Room.{Frame, has_room, count_at, goes_ahead, kept, placed, frames_placed, frame_of, without_first, first_moved, moved_in, moved, frames_moved_in, frames_moved}
 use Rattle.op_serving.specs.declared.session.Session.{Session}
-use Rattle.std.proofs.lemmas.Bool.{cases_eq}
+use Rattle.std.proofs.lemmas.Bool.{cases_eq, cases_Bool}
+use Rattle.op_conns.proofs.Numbers.{is_at_one}
 use Rattle.op_connections.proofs.Tables.{found_own, found_other}
 use Rattle.op_cluster_laws.specs.Outputs.{answers_of}
 use Rattle.op_connections.proofs.Queueing.{queued}
@@ -96,17 +99,60 @@ session_waits q d bytes s = by_peer (find q s.peers)
 peers_waits : (R : ℕ → Type 0) (d : ℕ) (bytes : List ℕ) (s : Loop) → PeersAre R s → PeersAre R (waits_for d bytes s)
 peers_waits R d bytes s h q c e = h q c (sym (session_waits q d bytes s) ∙ e)
 
-module _ (P : Awaited → ℕ → Type 0) (R : ℕ → Type 0) (G : Frame → Type 0) (me : ℕ) where
+-- nor does what moves up
+session_first : (q c : ℕ) (o : Option (List ℕ)) (s : Loop) → session_of q (first_moved c o s) ≡ session_of q s
+session_first q c None s = refl
+session_first q c (Some bytes) s = session_waits q c bytes (record s { behind = without_first c s.behind })
+
+session_if : (q : ℕ) (b : Bool) (s t : Loop) → session_of q t ≡ session_of q s → session_of q (if b then t else s) ≡ session_of q s
+session_if q true s t e = e
+session_if q false s t e = refl
+
+session_moved_in : (k q c : ℕ) (s : Loop) → session_of q (moved_in k c s) ≡ session_of q s
+session_moved_in zero q c s = refl
+session_moved_in (suc k) q c s =
+    let u : Loop = first_moved c (find c s.behind) s in
+    session_if q (has_room (find c s.sessions)) s (moved_in k c u) (session_moved_in k q c u ∙ session_first q c (find c s.behind) s)
+
+session_moved : (q c : ℕ) (s : Loop) → session_of q (moved c s) ≡ session_of q s
+unfolding moved
+session_moved q c s = session_moved_in (count_at c s.behind) q c s
+
+-- what waits behind are such frames
+abbrev pub BehindAre : (Frame → Type 0) → Loop → Type 0
+BehindAre B s = Each B s.behind
+
+-- so is the first of a connection
+first_behind : (B : Frame → Type 0) (c : ℕ) (bytes : List ℕ) (t : Table (List ℕ)) → find c t ≡ Some bytes → Each B t → B (c, bytes)
+first_behind B c bytes [] e h = absurd cc
+first_behind B c bytes (f ∷ fs) e h = elim (cases_Bool (is_at (nat_cmp c) f.0)) [
+  | inl g ↦ (
+      let same : f.1 ≡ bytes = (let k = rw g at e in cc) in
+      subst (λ z. B (c, z)) same (subst (λ d. B (d, f.1)) (sym (is_at_one c f.0 g)) h.0))
+  | inr g ↦ first_behind B c bytes fs (rw g at e) h.1
+]
+
+-- and so are those that are left without it
+less_behind : (B : Frame → Type 0) (c : ℕ) (t : Table (List ℕ)) → Each B t → Each B (without_first c t)
+less_behind B c [] h = tt
+less_behind B c (f ∷ fs) h = elim (cases_Bool (is_at (nat_cmp c) f.0)) [
+  | inl g ↦ rw g h.1
+  | inr g ↦ rw g (h.0, less_behind B c fs h.1)
+]
+
+-- a frame that may wait behind may be said
+module _ (P : Awaited → ℕ → Type 0) (R : ℕ → Type 0) (B G : Frame → Type 0) (may : (f : Frame) → B f → G f) (me : ℕ) where
   -- these frames are handed out of one to the other
   pub record Hands (s : Loop) (fs : List Frame) (t : Loop) : Type 0 where
     pub me_is : t.me ≡ s.me
     pub downs : t.downs ≡ s.downs
     pub askers : AskersAre P s → AskersAre P t
     pub peers : PeersAre R s → PeersAre R t
-    pub frames : s.me ≡ me → AskersAre P s → PeersAre R s → Each G fs
+    pub behind : s.me ≡ me → PeersAre R s → BehindAre B s → BehindAre B t
+    pub frames : s.me ≡ me → AskersAre P s → PeersAre R s → BehindAre B s → Each G fs
 
   pub hands_none : (s : Loop) → Hands s [] s
-  hands_none s = record { me_is = refl; downs = refl; askers = λ h. h; peers = λ h. h; frames = λ e h r. tt }
+  hands_none s = record { me_is = refl; downs = refl; askers = λ h. h; peers = λ h. h; behind = λ e r b. b; frames = λ e h r b. tt }
 
   pub hands_then : (s m t : Loop) (fs gs : List Frame) → Hands s fs m → Hands m gs t → Hands s (fs ++ gs) t
   hands_then s m t fs gs a b = record {
@@ -114,28 +160,87 @@ module _ (P : Awaited → ℕ → Type 0) (R : ℕ → Type 0) (G : Frame → Ty
     downs = b.downs ∙ a.downs;
     askers = λ h. b.askers (a.askers h);
     peers = λ h. b.peers (a.peers h);
-    frames = λ e h r. each_both G fs gs (a.frames e h r) (b.frames (a.me_is ∙ e) (a.askers h) (a.peers r));
+    behind = λ e r w. b.behind (a.me_is ∙ e) (a.peers r) (a.behind e r w);
+    frames = λ e h r w. each_both G fs gs (a.frames e h r w) (b.frames (a.me_is ∙ e) (a.askers h) (a.peers r) (a.behind e r w));
   }
 
-  hands_at : (o : Option ℕ) (bytes : List ℕ) (s : Loop) → ((c : ℕ) → o ≡ Some c → s.me ≡ me → PeersAre R s → G (c, bytes)) → Hands s (frame_at o bytes) (said_at o bytes s)
-  hands_at None bytes s g = hands_none s
-  hands_at (Some c) bytes s g = record { me_is = refl; downs = refl; askers = λ h. h; peers = peers_waits R c bytes s; frames = λ e h r. (g c refl e r, tt) }
+  hands_if : (b : Bool) (s : Loop) (fs : List Frame) (t : Loop) → Hands s fs t → Hands s (if b then fs else []) (if b then t else s)
+  hands_if true s fs t h = h
+  hands_if false s fs t h = hands_none s
+
+  -- ---- what waits behind
+
+  -- a frame waits behind
+  hands_kept : (b : Bool) (f : Frame) (s : Loop) → (s.me ≡ me → PeersAre R s → B f) → Hands s [] (kept b f s)
+  hands_kept true f s g = record {
+    me_is = refl;
+    downs = refl;
+    askers = λ h. h;
+    peers = λ r. r;
+    behind = λ e r w. each_both B s.behind (f ∷ []) w (g e r, tt);
+    frames = λ e h r w. tt;
+  }
+  hands_kept false f s g = hands_none s
+
+  -- a frame waits for its connection, or behind what does
+  hands_placed : (b : Bool) (f : Frame) (s : Loop) → (s.me ≡ me → PeersAre R s → B f) → Hands s (frames_placed b f) (placed b f s)
+  hands_placed true f s g = record {
+    me_is = refl;
+    downs = refl;
+    askers = λ h. h;
+    peers = peers_waits R f.0 f.1 s;
+    behind = λ e r w. w;
+    frames = λ e h r w. (may f (g e r), tt);
+  }
+  hands_placed false f s g = hands_kept (is_open f.0 s) f s g
+
+  -- the first of those that wait behind moves up
+  hands_first : (c : ℕ) (o : Option (List ℕ)) (s : Loop) → find c s.behind ≡ o → Hands s (frame_of c o) (first_moved c o s)
+  hands_first c None s e = hands_none s
+  hands_first c (Some bytes) s e = record {
+    me_is = refl;
+    downs = refl;
+    askers = λ h. h;
+    peers = peers_waits R c bytes (record s { behind = without_first c s.behind });
+    behind = λ is r w. less_behind B c s.behind w;
+    frames = λ is h r w. (may (c, bytes) (first_behind B c bytes s.behind e w), tt);
+  }
+
+  hands_moved_in : (k c : ℕ) (s : Loop) → Hands s (frames_moved_in k c s) (moved_in k c s)
+  hands_moved_in zero c s = hands_none s
+  hands_moved_in (suc k) c s =
+      let o : Option (List ℕ) = find c s.behind in
+      let u : Loop = first_moved c o s in
+      hands_if (has_room (find c s.sessions)) s (frame_of c o ++ frames_moved_in k c u) (moved_in k c u)
+      (hands_then s u (moved_in k c u) (frame_of c o) (frames_moved_in k c u) (hands_first c o s refl) (hands_moved_in k c u))
+
+  hands_moved : (c : ℕ) (s : Loop) → Hands s (frames_moved c s) (moved c s)
+  unfolding moved frames_moved
+  hands_moved c s = hands_moved_in (count_at c s.behind) c s
 
   -- ---- messages
 
   -- they may be sent to a peer's connection, if the peer takes them
   abbrev pub MayBeSent : ℕ × Msg → Type 0
-  MayBeSent m = (c : ℕ) → fits_peer me m.0 m.1 ≡ true → R c → G (c, peer_frame me m.0 m.1)
+  MayBeSent m = (c : ℕ) → fits_peer me m.0 m.1 ≡ true → R c → B (c, peer_frame me m.0 m.1)
+
+  -- what waits behind moves up before it
+  hands_sent_at : (o : Option ℕ) (m : ℕ × Msg) (s : Loop) → goes_to m s ≡ o → MayBeSent m → Hands s (frames_sent_at o m s) (sent_at o m s)
+  hands_sent_at None m s e h = hands_none s
+  hands_sent_at (Some c) m s e h =
+      let t : Loop = moved c s in
+      let a : Hands s (frames_moved c s) t = hands_moved c s in
+      let own = goes_tells m s c e in
+      hands_then s t (sent_behind c m t) (frames_moved c s) (frames_behind c m t) a
+      (hands_placed (goes_ahead m.1 (find c t.sessions) (count_at c t.behind)) (c, peer_frame t.me m.0 m.1) t (λ is r.
+      subst (λ k. B (c, peer_frame k m.0 m.1)) (sym is)
+      (h c (subst (λ k. fits_peer k m.0 m.1 ≡ true) (sym a.me_is ∙ is) own.0) (r m.0 c (session_moved m.0 c s ∙ own.1)))))
 
   hands_sent : (ms : List (ℕ × Msg)) (s : Loop) → Each MayBeSent ms → Hands s (frames_sent ms s) (sent_all ms s)
   hands_sent [] s h = hands_none s
   hands_sent (m ∷ ms) s h =
-      let o : Option ℕ = goes_to m s in
-      hands_then s (sent m s) (sent_all ms (sent m s)) (frame_at o (peer_frame s.me m.0 m.1)) (frames_sent ms (sent m s))
-      (hands_at o (peer_frame s.me m.0 m.1) s (λ c e is r.
-      let t = goes_tells m s c e in
-      subst (λ k. G (c, peer_frame k m.0 m.1)) (sym is) (h.0 c (subst (λ k. fits_peer k m.0 m.1 ≡ true) is t.0) (r m.0 c t.1))))
-      (hands_sent ms (sent m s) h.1)
+      hands_then s (sent m s) (sent_all ms (sent m s)) (frames_sent_at (goes_to m s) m s) (frames_sent ms (sent m s))
+      (hands_sent_at (goes_to m s) m s refl h.0) (hands_sent ms (sent m s) h.1)
 
   -- ---- replies
 
@@ -146,13 +251,14 @@ module _ (P : Awaited → ℕ → Type 0) (R : ℕ → Type 0) (G : Frame → Ty
   module _ (read : Bool) where
     hands_reply : (r : Reply) (s : Loop) (o : Option ℕ) → map.get s.askers (read, (r.client, r.seq)) ≡ o → MayBeReplied read r
         → Hands s (frame_at o (client_frame (answered r))) (said_at o (client_frame (answered r)) (forgotten (read, (r.client, r.seq)) s))
-    hands_reply r s None e h = record { me_is = refl; downs = refl; askers = λ a key c k. a key c (got_removed s.askers (read, (r.client, r.seq)) key c k); peers = λ p. p; frames = λ is a p. tt }
+    hands_reply r s None e h = record { me_is = refl; downs = refl; askers = λ a key c k. a key c (got_removed s.askers (read, (r.client, r.seq)) key c k); peers = λ p. p; behind = λ is p w. w; frames = λ is a p w. tt }
     hands_reply r s (Some c) e h = record {
       me_is = refl;
       downs = refl;
       askers = λ a key d k. a key d (got_removed s.askers (read, (r.client, r.seq)) key d k);
       peers = peers_waits R c (client_frame (answered r)) s;
-      frames = λ is a p. (h c (a (read, (r.client, r.seq)) c e), tt);
+      behind = λ is p w. w;
+      frames = λ is a p w. (h c (a (read, (r.client, r.seq)) c e), tt);
     }
 
     hands_replied : (rs : List Reply) (s : Loop) → Each (MayBeReplied read) rs → Hands s (frames_replied read rs s) (replied_all read rs s)
@@ -180,7 +286,7 @@ module _ (P : Awaited → ℕ → Type 0) (R : ℕ → Type 0) (G : Frame → Ty
   hands_told [] s h = hands_none s
   hands_told (r ∷ rs) s h =
       hands_then s (told r.0 r.1 s) (told_all rs (told r.0 r.1 s)) ((r.0, client_frame r.1) ∷ []) (frames_told rs)
-      (record { me_is = refl; downs = refl; askers = λ a. a; peers = peers_waits R r.0 (client_frame r.1) s; frames = λ e a p. (h.0, tt) }) (hands_told rs (told r.0 r.1 s) h.1)
+      (record { me_is = refl; downs = refl; askers = λ a. a; peers = peers_waits R r.0 (client_frame r.1) s; behind = λ e p w. w; frames = λ e a p w. (h.0, tt) }) (hands_told rs (told r.0 r.1 s) h.1)
 
   told_each : (keys : List (ℕ × Key)) (what : Said) → ((a : Answer) → what ≡ said.Answer a → ⊥) → Each (λ p. MayBeTold p.0) keys → Each (λ r. G (r.0, client_frame r.1)) (said_each keys what)
   told_each [] what none h = tt
@@ -253,6 +359,10 @@ module _ (P : Awaited → ℕ → Type 0) (R : ℕ → Type 0) (G : Frame → Ty
     asked_peers [] s h = h
     asked_peers (p ∷ ps) s h = asked_peers ps (asked_by_one read p s) h
 
+    asked_behind : (ps : List (ℕ × Key)) (s : Loop) → BehindAre B s → BehindAre B (asked read ps s)
+    asked_behind [] s h = h
+    asked_behind (p ∷ ps) s h = asked_behind ps (asked_by_one read p s) h
+
   waiting_ones : (why : Option Refusal) (keys : List (ℕ × Key)) (s : Loop) → Each (λ p. MayAsk s (false, p.1) p.0) keys → Each (λ p. MayAsk s (false, p.1) p.0) (waits_unless why keys)
   waiting_ones None keys s h = h
   waiting_ones (Some why) keys s h = tt
@@ -283,7 +393,8 @@ module _ (P : Awaited → ℕ → Type 0) (R : ℕ → Type 0) (G : Frame → Ty
         downs = asked_downs (is_read w) ps s;
         askers = asked_are (is_read w) ps s (waiting_keys w o s a);
         peers = asked_peers (is_read w) ps s;
-        frames = λ e h r. tt;
+        behind = λ e r b. asked_behind (is_read w) ps s b;
+        frames = λ e h r b. tt;
       })
       (hands_told (said_at_once w o) m (told_once w o t))
 

@@ -131,6 +131,7 @@ module _ (me : ℕ) (n : Standing) (l : Luck) (line : Standing → List ℕ) (c 
         askers = h.askers;
         gathered = all;
         few = ltb-true (length t.loop.gathered) most_commands e;
+        behind = h.behind;
         peers = h.peers;
         downs = h.downs;
       }
@@ -141,7 +142,7 @@ module _ (me : ℕ) (n : Standing) (l : Luck) (line : Standing → List ℕ) (c 
           (knows_together me n all_held l (s.loop.gathered ++ (c, x) ∷ []) s h all (omega (arith, many, room)))
 
   knows_ending : (s : State) → K s → K (ending s)
-  knows_ending s h = knows_quiet me n all_held s (ending s).loop (quiet_like s.loop (ending s).loop refl refl refl refl refl (λ Q k. k)) h
+  knows_ending s h = knows_quiet me n all_held s (ending s).loop (quiet_like s.loop (ending s).loop refl refl refl refl refl refl (λ Q k. k)) h
 
   asked_behind : (s u : State) (r : Request) → Behind c s u → WasAsked s.deeds c r → WasAsked u.deeds c r
   asked_behind s u r b w = subst (λ ds. WasAsked ds c r) (sym b.adds.1) (was_asked_more s.deeds b.adds.0 c r w)
@@ -207,7 +208,7 @@ module _ (me : ℕ) (n : Standing) (l : Luck) (line : Standing → List ℕ) (c 
 
   knows_holding : (kind : Kind) (z : Stream) (s : State) (y : Session) → find c s.loop.sessions ≡ Some y → Seated me c (began c s.deeds) (life c s.deeds).heard y.queue y.kind kind z → K s → K (holding c kind z s)
   knows_holding kind z s y there k h =
-      knows_changed me n all_held all_held (of_kind kind z) c y s (holding c kind z s).loop there refl refl refl refl refl h.peers k.stays refl k.seat_is (λ d apart heard x e. e) h
+      knows_changed me n all_held all_held (of_kind kind z) c y s (holding c kind z s).loop there refl refl refl refl refl refl h.peers k.stays refl k.seat_is (λ d apart heard x e. e) h
 
   holding_kind : (kind : Kind) (z : Stream) (s : State) (y : Session) → find c s.loop.sessions ≡ Some y → kind_at c (holding c kind z s).loop ≡ Some kind
   holding_kind kind z s y there = ap (option_map (λ (x : Session). x.kind)) (found_own (of_kind kind z) c s.loop.sessions ∙ ap (option_map (of_kind kind z)) there)
@@ -215,7 +216,7 @@ module _ (me : ℕ) (n : Standing) (l : Luck) (line : Standing → List ℕ) (c 
   knows_meeting : (q : ℕ) (z : Stream) (s : State) (y : Session) → find c s.loop.sessions ≡ Some y → (y.kind ≡ Unknown) → Meets me c (began c s.deeds) (life c s.deeds).heard y.queue q z → K s
       → Knows me n (meets q) (holding c Unknown z s)
   knows_meeting q z s y there unknown m h =
-      knows_changed me n all_held (meets q) (of_kind Unknown z) c y s (holding c Unknown z s).loop there refl refl refl refl refl h.peers (λ e. absurd (let bad : Unknown ≡ Client = sym unknown ∙ e in cc)) refl
+      knows_changed me n all_held (meets q) (of_kind Unknown z) c y s (holding c Unknown z s).loop there refl refl refl refl refl refl h.peers (λ e. absurd (let bad : Unknown ≡ Client = sym unknown ∙ e in cc)) refl
       (record { form = tt; bytes = m.bytes; reads = (m.accepted, ((λ e. (m.heard_is, m.form)), (λ apart. absurd (apart refl)))) })
       (λ d apart heard x e. ((λ same. absurd (apart same)), (λ k. e))) h
 
@@ -229,6 +230,7 @@ module _ (me : ℕ) (n : Standing) (l : Luck) (line : Standing → List ℕ) (c 
     askers = h.askers;
     gathered = h.gathered;
     few = h.few;
+    behind = h.behind;
     peers = h.peers;
     downs = h.downs;
     seats = λ d y e. let k = h.seats d y e in record { form = k.form; bytes = k.bytes; reads = by_kind d y.kind y.frames (λ same. shut_is d y same e) k.reads };
@@ -253,7 +255,7 @@ module _ (me : ℕ) (n : Standing) (l : Luck) (line : Standing → List ℕ) (c 
       let own = h.seats c y.0 y.1 in
       let known = y.2.1.0 refl in
       let is = hello_is q in
-      knows_changed me n (meets q) all_held (λ (x : Session). record x { kind = Peer q 0 }) c y.0 s (linked q c s).loop y.1 refl refl refl refl refl (peers_changed q c s.loop.peers h.peers)
+      knows_changed me n (meets q) all_held (λ (x : Session). record x { kind = Peer q 0 }) c y.0 s (linked q c s).loop y.1 refl refl refl refl refl refl (peers_changed q c s.loop.peers h.peers)
       (λ e. absurd (let bad : Some Unknown ≡ Some Client = sym kind ∙ ap (option_map (λ (x : Session). x.kind)) y.1 ∙ ap (λ k. Some k) e in cc)) refl
       (record {
         form = known.1;
@@ -279,7 +281,7 @@ module _ (me : ℕ) (n : Standing) (l : Luck) (line : Standing → List ℕ) (c 
         u = at_frame (k + 1) s
 
         by_open : (b : Bool) → K (if b then more (k + 1) (rest l u) else s)
-        by_open true = goes_on (k + 1) (rest l u) (knows_rest me n all_held l u (knows_quiet me n all_held s u.loop (quiet_like s.loop u.loop refl refl refl refl refl (λ Q j. j)) h))
+        by_open true = goes_on (k + 1) (rest l u) (knows_rest me n all_held l u (knows_quiet me n all_held s u.loop (quiet_like s.loop u.loop refl refl refl refl refl refl (λ Q j. j)) h))
         by_open false = h
 
     knows_up : (k q : ℕ) (s : State) → IsPid q → (is_open c s.loop ≡ true → kind_at c s.loop ≡ Some Unknown) → Knows me n (meets q) s → K (up_if_open l line c more k q s)

@@ -23,13 +23,15 @@ use Rattle.op_serving.specs.declared.wanted.Wanted.TheVariants as wanted
 use Rattle.op_serving.specs.Cores.{Standing, gives, reopens, given_again}
 use Rattle.op_serving.specs.Fates.{Fate, done, finds, faults, damaged, lost, after_fate}
 use Rattle.op_serving.specs.Wire.{peer_head, client_head}
-use Rattle.op_serving.specs.State.{Awaited, if_its, open_of, session_of, Loop, find, with_bytes, kind_at, left_by, counted, shed}
+use Rattle.op_serving.specs.State.{Awaited, if_its, open_of, session_of, Loop, find, with_bytes, is_open, kind_at, left_by, counted, shed}
 use Rattle.op_serving.specs.Losses.{most_marks, size, marked, settled}
-use Rattle.op_serving.specs.Handing.{Frame, proposed, frames_proposed, handed_out, frames_handed, excused, frames_excused}
+use Rattle.op_serving.specs.Handing.{proposed, frames_proposed, handed_out, frames_handed, excused, frames_excused}
+use Rattle.op_serving.specs.Room.{Frame}
 use Rattle.op_serving.specs.Inputs.{Deed, enters, says, State, Luck, key_of, kept, asked_by, loop_after, frames_after, is_lost_here, fate_of, next_fate, calm, entered_with, enter, shedding, first_down, drained_in, drained, rest, give, released, given_together, flushed, leaves, over}
 use Rattle.op_serving.specs.Reading.{client_byte}
 use Rattle.op_serving.specs.Promise.{Life, life, and_then, folded}
 use Rattle.op_connections.proofs.Tables.{zipped}
+use Rattle.op_queues.proofs.Sending.{session_there}
 use Rattle.op_connections.proofs.Queueing.{bytes_for, queued, Queues, queues_none, queues_given, queues_excused}
 use Rattle.op_connections.proofs.Keeping.{formed}
 use Rattle.op_connections.proofs.Walking.{shed_holds}
@@ -37,9 +39,9 @@ use Rattle.op_cluster_laws.specs.Outputs.{given_at, answers_of}
 use Rattle.op_cluster_laws.specs.Readings.{began, Reads, IsPeers, IsOfPeer, IsClients, WasAsked}
 use Rattle.op_cluster_laws.specs.Causes.{MayAnswer, WasHeard, MayFind, IsGiven, IsCaused, AreCaused}
 use Rattle.op_cluster_laws.proofs.Lists.{Each, each_map, each_own, each_all}
-use Rattle.op_cluster_laws.proofs.Handing.{PeersAre, AskersAre, WantedBy, AwaitedBy, Hands, MayBeSent, MayBeReplied, MayBeTold, MayAsk, hands_none, hands_given, hands_excused}
+use Rattle.op_cluster_laws.proofs.Handing.{PeersAre, AskersAre, BehindAre, WantedBy, AwaitedBy, Hands, MayBeSent, MayBeReplied, MayBeTold, MayAsk, hands_none, hands_given, hands_excused}
 use Rattle.op_cluster_laws.proofs.Ending.{Quiet, kind_found, kind_before, quiet_then, quiet_like, quiet_left, quiet_marked, quiet_settle, quiet_calm}
-use Rattle.op_cluster_laws.proofs.Causing.{may_answer_more, peers_entered, began_entered, life_entered, clients_entered, was_asked_more, folded_more, folded_says, sent_now, replied_now, caused_push, caused_says}
+use Rattle.op_cluster_laws.proofs.Causing.{may_answer_more, peers_entered, began_entered, life_entered, clients_entered, was_asked_more, folded_more, folded_says, sent_now, replied_now, IsSent, sent_later, sent_peer, sent_says, caused_push, caused_says}
 use Rattle.op_cluster_laws.proofs.Tracing.{folded_push}
 
 -- ---- a session
@@ -98,6 +100,7 @@ pub record Knows (me : ℕ) (n : Standing) (u : Unread) (s : State) : Type 0 whe
   pub askers : AskersAre (λ key c. (kind_at c s.loop ≡ Some Client) × AskedFor s.deeds key c) s.loop
   pub gathered : Each (λ e. (kind_at e.0 s.loop ≡ Some Client) × WasAsked s.deeds e.0 (request.Command e.1)) s.loop.gathered
   pub few : length s.loop.gathered < most_commands
+  pub behind : Each (λ e. (is_open e.0 s.loop ≡ true) × IsSent me n s.deeds e) s.loop.behind
   pub peers : (q : ℕ) (o : Option ℕ) → find q s.loop.peers ≡ Some o → IsPid q
   pub downs : Each IsPid s.loop.downs
 
@@ -164,6 +167,10 @@ module _ (me : ℕ) (n : Standing) (u : Unread) where
         (λ e k. (ap (option_map (λ (x : Session). x.kind)) k.1 ∙ k.0.0, k.0.1)) t.gathered
         (q.gathered (λ e. (kind_at e.0 s.loop ≡ Some Client) × WasAsked s.deeds e.0 (request.Command e.1)) h.gathered);
     few = (let a = h.few in let b = q.fewer in omega (arith, a, b));
+    behind = each_map
+        (λ e. ((is_open e.0 s.loop ≡ true) × IsSent me n s.deeds e) × (find e.0 t.sessions ≡ find e.0 s.loop.sessions))
+        (λ e. (is_open e.0 t ≡ true) × IsSent me n s.deeds e) (λ e k. (ap is_some k.1 ∙ k.0.0, k.0.1)) t.behind
+        (q.behind (λ e. (is_open e.0 s.loop ≡ true) × IsSent me n s.deeds e) h.behind);
     peers = λ p o e. h.peers p o (ap (find p) (sym q.peers) ∙ e);
     downs = q.downs IsPid (servers_are s h) h.downs;
   }
@@ -189,6 +196,11 @@ module _ (me : ℕ) (n : Standing) (u : Unread) where
   waits_queued x bytes None b e w = subst (λ (z : Option Session). WaitsAt (record x { said = x.said ++ bytes }) z) (sym e) (w.0 ++ bytes, ap (λ l. l ++ bytes) w.1 ∙ append_assoc x.taken w.0 bytes)
   waits_queued x bytes (Some y) b e w = subst (λ (z : Option Session). WaitsAt (record x { said = x.said ++ bytes }) z) (sym e) (ap (λ l. l ++ bytes) w ∙ append_assoc x.taken y.queue bytes)
 
+  -- none opens or ends
+  pub open_queued : (bytes : List ℕ) (a b : Option Session) → b ≡ queued bytes a → is_some b ≡ is_some a
+  open_queued bytes None b e = ap is_some e
+  open_queued bytes (Some y) b e = ap is_some e
+
   pub kind_queued : (bytes : List ℕ) (a b : Option Session) → b ≡ queued bytes a → option_map (λ (x : Session). x.kind) b ≡ option_map (λ (x : Session). x.kind) a
   kind_queued bytes None b e = ap (option_map (λ (x : Session). x.kind)) e
   kind_queued bytes (Some y) b e = ap (option_map (λ (x : Session). x.kind)) e
@@ -203,18 +215,25 @@ module _ (me : ℕ) (n : Standing) (u : Unread) where
     abbrev may_say : Frame → Type 0
     may_say x = IsGiven me n now x.0 x.1
 
-    abbrev may_hear : ℕ → Type 0
-    may_hear c = IsOfPeer me c s.deeds
+    abbrev may_hear : Loop → ℕ → Type 0
+    may_hear m c = (is_open c m ≡ true) × IsOfPeer me c s.deeds
+
+    -- what waits behind may be said
+    abbrev may_wait : Loop → Frame → Type 0
+    may_wait m x = (is_open x.0 m ≡ true) × IsSent me n now x
+
+    wait_says : (m : Loop) (x : Frame) → may_wait m x → may_say x
+    wait_says m x w = inl w.1
 
     abbrev may_ask : Loop → Awaited → ℕ → Type 0
     may_ask m key c = (kind_at c m ≡ Some Client) × IsClients c s.deeds × AskedFor s.deeds key c
 
     -- it leaves this, and these frames are handed out
-    knows_handed : (m t : Loop) (fs : List Frame) → Quiet s.loop m → ((c : ℕ) → Queues c m fs t) → Hands (may_ask m) may_hear may_say me m fs t
+    knows_handed : (m t : Loop) (fs : List Frame) → Quiet s.loop m → ((c : ℕ) → Queues c m fs t) → Hands (may_ask m) (may_hear m) (may_wait m) may_say (wait_says m) me m fs t
         → Knows me n u (record { loop = t; node = after_fate s.node i f; deeds = s.deeds ++ enters who i f ∷ mapped says fs })
     knows_handed m t fs q qs hands = record {
       caused = subst (λ l. AreCaused me n l) (append_assoc s.deeds (enters who i f ∷ []) (mapped says fs))
-          (caused_says me n now fs (caused_push me n [] s.deeds (enters who i f) h.caused cause) (hands.frames k.me_is asks peers));
+          (caused_says me n now fs (caused_push me n [] s.deeds (enters who i f) h.caused cause) (hands.frames k.me_is asks peers waits));
       node = ap (λ z. after_fate z i f) h.node ∙ sym (folded_push n s.deeds (enters who i f)) ∙ sym (folded_says (folded n now) fs)
           ∙ sym (folded_more n now (mapped says fs)) ∙ ap (folded n) (append_assoc s.deeds (enters who i f ∷ []) (mapped says fs));
       me_is = hands.me_is ∙ k.me_is;
@@ -227,6 +246,9 @@ module _ (me : ℕ) (n : Standing) (u : Unread) where
           (each_map (λ e. (kind_at e.0 m ≡ Some Client) × WasAsked s.deeds e.0 (request.Command e.1)) (λ e. (kind_at e.0 t ≡ Some Client) × WasAsked (s.deeds ++ enters who i f ∷ mapped says fs) e.0 (request.Command e.1))
           (λ e j. (kinds e.0 ∙ j.0, was_asked_more s.deeds (enters who i f ∷ mapped says fs) e.0 (request.Command e.1) j.1)) m.gathered k.gathered);
       few = subst (λ l. length l < most_commands) (sym (qs 0).gathered) k.few;
+      behind = each_map (may_wait m) (λ e. (is_open e.0 t ≡ true) × IsSent me n (s.deeds ++ enters who i f ∷ mapped says fs) e)
+          (λ e j. (opens e.0 ∙ j.0, subst (λ l. IsSent me n l e) (append_assoc s.deeds (enters who i f ∷ []) (mapped says fs)) (sent_says me n now fs e j.1)))
+          t.behind (hands.behind k.me_is peers waits);
       peers = λ p o e. k.peers p o (ap (find p) (sym (qs 0).peers) ∙ e);
       downs = subst (λ l. Each IsPid l) (sym hands.downs) k.downs;
     }
@@ -237,23 +259,30 @@ module _ (me : ℕ) (n : Standing) (u : Unread) where
         asks : AskersAre (may_ask m) m
         asks key c e = let a = k.askers key c e in (a.0, clients_are s h c (kind_before s.loop m q c Client a.0), a.1)
 
-        peers : PeersAre may_hear m
-        peers p c e = peers_are (record s { loop = m }) k c p e
+        peers : PeersAre (may_hear m) m
+        peers p c e = (session_there p c m e, peers_are (record s { loop = m }) k c p e)
+
+        waits : BehindAre (may_wait m) m
+        waits = each_map (λ e. (is_open e.0 m ≡ true) × IsSent me n s.deeds e) (may_wait m)
+            (λ e j. (j.0, sent_later me n s.deeds (enters who i f) e (peers_entered me e.0 s.deeds who i f [] (sent_peer me n s.deeds e j.1)) j.1)) m.behind k.behind
+
+        opens : (c : ℕ) → is_open c t ≡ is_open c m
+        opens c = open_queued (bytes_for c fs) (find c m.sessions) (find c t.sessions) (qs c).found
 
         kinds : (c : ℕ) → kind_at c t ≡ kind_at c m
         kinds c = kind_queued (bytes_for c fs) (find c m.sessions) (find c t.sessions) (qs c).found
 
     -- ---- who asked for it
 
-    open_kind : (m : Loop) → Quiet s.loop m → (key : Awaited) (c : ℕ) → (kind_at c s.loop ≡ Some Client) × AskedFor s.deeds key c → MayAsk (may_ask m) may_hear may_say me m key c
+    open_kind : (m : Loop) → Quiet s.loop m → (key : Awaited) (c : ℕ) → (kind_at c s.loop ≡ Some Client) × AskedFor s.deeds key c → MayAsk (may_ask m) (may_hear m) (may_wait m) may_say (wait_says m) me m key c
     open_kind m q key c e o = by_session (find c m.sessions) refl o
       where
         by_session : (z : Option Session) → find c m.sessions ≡ z → is_some z ≡ true → may_ask m key c
         by_session None is there = absurd cc
         by_session (Some y) is there = (ap (option_map (λ (x : Session). x.kind)) (is ∙ sym (q.sessions c y is)) ∙ e.0, clients_are s h c e.0, e.1)
 
-    may_be_told : (c : ℕ) → kind_at c s.loop ≡ Some Client → (P : Awaited → ℕ → Type 0) → MayBeTold P may_hear may_say me c
-    may_be_told c e P x none = inr (x, inr none, clients_entered c s.deeds who i f [] (clients_are s h c e), refl)
+    may_be_told : (m : Loop) (c : ℕ) → kind_at c s.loop ≡ Some Client → MayBeTold (may_ask m) (may_hear m) (may_wait m) may_say (wait_says m) me c
+    may_be_told m c e x none = inr (x, inr none, clients_entered c s.deeds who i f [] (clients_are s h c e), refl)
 
     wanted_map : (P Q : ℕ → Type 0) → ((c : ℕ) → P c → Q c) → (w : Option Wanted) → WantedBy P w → WantedBy Q w
     wanted_map P Q g None a = tt
@@ -292,13 +321,13 @@ module _ (me : ℕ) (n : Standing) (u : Unread) where
       w = asked_by who i
 
       same : Quiet s.loop (counted s.loop)
-      same = quiet_like s.loop (counted s.loop) refl refl refl refl refl (λ Q k. k)
+      same = quiet_like s.loop (counted s.loop) refl refl refl refl refl refl (λ Q k. k)
 
-      asks : (m : Loop) → Quiet s.loop m → AwaitedBy (MayAsk (may_ask m) may_hear may_say me m) w
-      asks m q = awaited_map asked_client (MayAsk (may_ask m) may_hear may_say me m) (λ key c e. open_kind m q key c e) w (awaited_of who i cause.0 clients)
+      asks : (m : Loop) → Quiet s.loop m → AwaitedBy (MayAsk (may_ask m) (may_hear m) (may_wait m) may_say (wait_says m) me m) w
+      asks m q = awaited_map asked_client (MayAsk (may_ask m) (may_hear m) (may_wait m) may_say (wait_says m) me m) (λ key c e. open_kind m q key c e) w (awaited_of who i cause.0 clients)
 
-      tells : (P : Awaited → ℕ → Type 0) → WantedBy (MayBeTold P may_hear may_say me) w
-      tells P = wanted_map (λ c. kind_at c s.loop ≡ Some Client) (MayBeTold P may_hear may_say me) (λ c e. may_be_told c e P) w clients
+      tells : (m : Loop) → WantedBy (MayBeTold (may_ask m) (may_hear m) (may_wait m) may_say (wait_says m) me) w
+      tells m = wanted_map (λ c. kind_at c s.loop ≡ Some Client) (MayBeTold (may_ask m) (may_hear m) (may_wait m) may_say (wait_says m) me) (λ c e. may_be_told m c e) w clients
 
       knows_given : (g : Given) (o : Option Outcome) → given_at s.node (enters who i f) ≡ g
           → Knows me n u (record { loop = handed_out g (proposed w o (counted s.loop)); node = after_fate s.node i f; deeds = s.deeds ++ enters who i f ∷ mapped says (frames_proposed w o ++ frames_handed g (proposed w o (counted s.loop))) })
@@ -306,10 +335,13 @@ module _ (me : ℕ) (n : Standing) (u : Unread) where
           let m : Loop = counted s.loop in
           let gave : given_at (folded n s.deeds) (enters who i f) ≡ g = ap (λ z. given_at z (enters who i f)) (sym h.node) ∙ is in
           knows_handed m (handed_out g (proposed w o m)) (frames_proposed w o ++ frames_handed g (proposed w o m)) same (λ c. queues_given c w g o m)
-          (hands_given (may_ask m) may_hear may_say me w g o m (asks m same) (tells (may_ask m))
-          (each_map (λ x. Contains g.sends x) (MayBeSent (may_ask m) may_hear may_say me)
-          (λ x there c fits peer. inl (x.0, x.1, sent_now n s.deeds (enters who i f) x (subst (λ (z : Given). Contains z.sends x) (sym gave) there), fits, peers_entered me c s.deeds who i f [] peer, refl)) g.sends (each_own g.sends))
-          (λ read. each_map (λ r. Contains (answers_of read g) r) (MayBeReplied (may_ask m) may_hear may_say me read)
+          (hands_given (may_ask m) (may_hear m) (may_wait m) may_say (wait_says m) me w g o m (asks m same) (tells m)
+          (each_map (λ x. Contains g.sends x) (MayBeSent (may_ask m) (may_hear m) (may_wait m) may_say (wait_says m) me)
+          (λ x there c fits peer. (
+            peer.0,
+            (x.0, x.1, sent_now n s.deeds (enters who i f) x (subst (λ (z : Given). Contains z.sends x) (sym gave) there), fits, peers_entered me c s.deeds who i f [] peer.1, refl),
+          )) g.sends (each_own g.sends))
+          (λ read. each_map (λ r. Contains (answers_of read g) r) (MayBeReplied (may_ask m) (may_hear m) (may_wait m) may_say (wait_says m) me read)
           (λ r there c ask. inr (
             _,
             inl (
@@ -325,10 +357,10 @@ module _ (me : ℕ) (n : Standing) (u : Unread) where
 
       knows_excused : (m : Loop) (why : Option Refusal) → Quiet s.loop m
           → Knows me n u (record { loop = excused w why m; node = after_fate s.node i f; deeds = s.deeds ++ enters who i f ∷ mapped says (frames_excused w why) })
-      knows_excused m why q = knows_handed m (excused w why m) (frames_excused w why) q (λ c. queues_excused c w why m) (hands_excused (may_ask m) may_hear may_say me w why m (tells (may_ask m)))
+      knows_excused m why q = knows_handed m (excused w why m) (frames_excused w why) q (λ c. queues_excused c w why m) (hands_excused (may_ask m) (may_hear m) (may_wait m) may_say (wait_says m) me w why m (tells m))
 
       knows_silent : Knows me n u (record { loop = counted s.loop; node = after_fate s.node i f; deeds = s.deeds ++ enters who i f ∷ [] })
-      knows_silent = let m : Loop = counted s.loop in knows_handed m m [] same (λ c. queues_none c m m refl refl refl refl refl refl) (hands_none (may_ask m) may_hear may_say me m)
+      knows_silent = let m : Loop = counted s.loop in knows_handed m m [] same (λ c. queues_none c m m refl refl refl refl refl refl) (hands_none (may_ask m) (may_hear m) (may_wait m) may_say (wait_says m) me m)
 
   -- an input, before losses
   abbrev entered_by : List ℕ → Input → Fate → State → State
@@ -347,7 +379,7 @@ module _ (me : ℕ) (n : Standing) (u : Unread) where
     by_fate lost cause =
         let m : Loop = marked None s.loop in
         knows_excused s h who i lost cause clients (counted m) None
-        (quiet_then s.loop m (counted m) (quiet_marked None s.loop) (quiet_like m (counted m) refl refl refl refl refl (λ Q k. k)))
+        (quiet_then s.loop m (counted m) (quiet_marked None s.loop) (quiet_like m (counted m) refl refl refl refl refl refl (λ Q k. k)))
 
   may_fate : (m : Standing) (i : Input) (o : Option Fate) → MayFind m i (fate_of m i o)
   may_fate m i None = tt
@@ -390,12 +422,12 @@ module _ (me : ℕ) (n : Standing) (u : Unread) where
       let m : Loop = record s.loop { downs = qs } in
       let own : Each IsPid (q ∷ qs) = subst (λ l. Each IsPid l) e h.downs in
       knows_enter l [] (input.Down q) (record s { loop = m })
-      (knows_quiet s m (quiet_like s.loop m refl refl refl refl refl (λ Q k. (subst (λ l. Each Q l) e k).1)) h) own.0 tt
+      (knows_quiet s m (quiet_like s.loop m refl refl refl refl refl refl (λ Q k. (subst (λ l. Each Q l) e k).1)) h) own.0 tt
 
   knows_shed : (l : Luck) (s : State) → Knows me n u s → Knows me n u (shedding l s)
   knows_shed l s h = knows_calm l (record s { loop = shed s.loop })
       (shed_holds (λ t. Knows me n u (record s { loop = t }))
-      (λ t k. knows_quiet (record s { loop = t }) (counted t) (quiet_like t (counted t) refl refl refl refl refl (λ Q d. d)) k)
+      (λ t k. knows_quiet (record s { loop = t }) (counted t) (quiet_like t (counted t) refl refl refl refl refl refl (λ Q d. d)) k)
       (λ c t k. knows_quiet (record s { loop = t }) (left_by c t) (quiet_left c t) k) s.loop h)
 
   knows_drained_in : (k : ℕ) (l : Luck) (s : State) → Knows me n u s → Knows me n u (drained_in k l s)
@@ -440,6 +472,7 @@ module _ (me : ℕ) (n : Standing) (u : Unread) where
     askers = λ key c e. (e, refl);
     gathered = λ Q h. tt;
     fewer = omega arith;
+    behind = λ Q h. each_map Q (λ e. Q e × (find e.0 s.sessions ≡ find e.0 s.sessions)) (λ e k. (k, refl)) s.behind h;
     downs = λ Q kinds h. h;
   }
 

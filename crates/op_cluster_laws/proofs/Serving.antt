@@ -51,10 +51,10 @@ module _ (me : ℕ) (n : Standing) (o : Settings) (l : Luck) (line : Standing �
   -- ---- what the loop does
 
   knows_at : (i : ℕ) (s : State) → K s → K (at_happening i s)
-  knows_at i s h = knows_quiet me n all_held s (at_happening i s).loop (quiet_like s.loop (at_happening i s).loop refl refl refl refl refl (λ Q k. k)) h
+  knows_at i s h = knows_quiet me n all_held s (at_happening i s).loop (quiet_like s.loop (at_happening i s).loop refl refl refl refl refl refl (λ Q k. k)) h
 
   knows_turn : (s : State) → K s → K (turn_begun s)
-  knows_turn s h = knows_quiet me n all_held s (turn_begun s).loop (quiet_like s.loop (turn_begun s).loop refl refl refl refl refl (λ Q k. k)) h
+  knows_turn s h = knows_quiet me n all_held s (turn_begun s).loop (quiet_like s.loop (turn_begun s).loop refl refl refl refl refl refl (λ Q k. k)) h
 
   knows_accepted : (c : ℕ) (s : State) → K s → K (accepted l c s)
   knows_accepted c s h = by_open (is_open c s.loop) refl
@@ -208,7 +208,7 @@ module _ (me : ℕ) (n : Standing) (o : Settings) (l : Luck) (line : Standing �
 
   good_shut : (q : Pump) → Good q → Good (shut o l line q)
   good_shut q g = record {
-    knows = knows_quiet me n all_held q.driver (shut o l line q).driver.loop (quiet_like q.driver.loop (shut o l line q).driver.loop refl refl refl refl refl (λ Q k. k)) g.knows;
+    knows = knows_quiet me n all_held q.driver (shut o l line q).driver.loop (quiet_like q.driver.loop (shut o l line q).driver.loop refl refl refl refl refl refl (λ Q k. k)) g.knows;
     stage = by_marks (nat_lt (length q.driver.loop.lost) most_marks);
   }
     where
@@ -237,14 +237,15 @@ record Fresh (s t : Loop) : Type 0 where
   sessions : t.sessions ≡ s.sessions
   askers : t.askers ≡ s.askers
   gathered : t.gathered ≡ s.gathered
+  behind : t.behind ≡ s.behind
   downs : t.downs ≡ s.downs
   lost : t.lost ≡ s.lost
 
 fresh_known : (ps : List (ℕ × Addr)) (s : Loop) → Fresh s (knows ps s)
-fresh_known [] s = record { me = refl; sessions = refl; askers = refl; gathered = refl; downs = refl; lost = refl }
+fresh_known [] s = record { me = refl; sessions = refl; askers = refl; gathered = refl; behind = refl; downs = refl; lost = refl }
 fresh_known (p ∷ ps) s =
     let k = fresh_known ps (knowing p.0 s) in
-    record { me = k.me; sessions = k.sessions; askers = k.askers; gathered = k.gathered; downs = k.downs; lost = k.lost }
+    record { me = k.me; sessions = k.sessions; askers = k.askers; gathered = k.gathered; behind = k.behind; downs = k.downs; lost = k.lost }
 
 abbrev PeersAre : Loop → Type 0
 PeersAre s = (q : ℕ) (o : Option ℕ) → find q s.peers ≡ Some o → IsPid q
@@ -268,6 +269,7 @@ knows_start n ps each =
       askers = λ key c e. absurd (let bad : None ≡ Some c = sym (map.get-empty awaited_cmp key) ∙ ap (λ a. map.get a key) (sym k.askers) ∙ e in cc);
       gathered = rw k.gathered tt;
       few = rw k.gathered (omega arith);
+      behind = rw k.behind tt;
       peers = peers_known ps (fresh n.me) each (λ q o e. absurd cc);
       downs = rw k.downs tt;
     }

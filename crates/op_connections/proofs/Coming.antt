@@ -16,7 +16,8 @@ use Rattle.op_serving.specs.Cores.{Standing, gives, given_again}
 use Rattle.op_serving.specs.Fates.{Fate, done, finds, faults, damaged, lost, after_fate}
 use Rattle.op_serving.specs.State.{Loop, find, without, kind_at, left_at, left_by, counted}
 use Rattle.op_serving.specs.Losses.{most_marks, mark_at, noted, stopped_if, marked, lost_by, lost_one, is_due, settle, size}
-use Rattle.op_serving.specs.Handing.{Frame, handed_out, frames_handed, proposed, frames_proposed, excused, frames_excused}
+use Rattle.op_serving.specs.Handing.{handed_out, frames_handed, proposed, frames_proposed, excused, frames_excused}
+use Rattle.op_serving.specs.Room.{Frame}
 use Rattle.op_serving.specs.Inputs.{Deed, enters, says, State, Luck, asked_by, loop_after, frames_after, next_fate, calm, entered_with, enter}
 use Rattle.op_serving.specs.Promise.{Life, newborn, inputs_at, and_then, life, at_conn, KeepsClosed}
 use Rattle.op_connections.proofs.Tables.{find_without, find_apart, at_without, at_apart}

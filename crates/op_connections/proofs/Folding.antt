@@ -10,7 +10,7 @@ use Rattle.op_serving.specs.Fates.{Fate, after_fate}
 use Rattle.op_serving.specs.Turns.{first_bytes, joining, joined, accepted, dialled, waiting, taken_by, up_peer, up_at, wrote}
 use Rattle.op_serving.specs.State.{Loop, kind_at, is_open, left_by}
 use Rattle.op_serving.specs.Losses.{most_marks}
-use Rattle.op_serving.specs.Handing.{Frame}
+use Rattle.op_serving.specs.Room.{Frame}
 use Rattle.op_serving.specs.Inputs.{Deed, begins, hears, enters, says, takes, State, Luck, asked_by, frames_after, next_fate, calm, entered_with, enter, noting, gathering}
 use Rattle.op_serving.specs.Reading.{hello_len, tells, holding, linked, feeds}
 use Rattle.op_serving.specs.Promise.{folded}

@@ -1,5 +1,5 @@
 -- What handing out leaves: frames are queued, each for its connection, and all else is as it was.
-use Rattle.std.proofs.Common.{◌≡◌, ◌≤◌, ◌++◌, ◌∷◌, [], ℕ, Bool, true, false, List, length, Option, Some, None, option_map, ◌==◌, if◌then◌else◌, refl, sym, ◌∙◌, ap, subst, inl, inr, append_assoc}
+use Rattle.std.proofs.Common.{◌≡◌, ◌≤◌, ◌++◌, ◌∷◌, [], ℕ, zero, suc, Bool, true, false, List, length, Option, Some, None, option_map, ◌==◌, if◌then◌else◌, refl, sym, ◌∙◌, ap, subst, inl, inr, append_assoc}
 use Rattle.std.proofs.lemmas.Bool.{cases_eq, eq-eqb, ne_eqb}
 use Rattle.std.proofs.lemmas.List.{append-nil}
 use Rattle.std.specs.FinMap as map
@@ -11,9 +11,10 @@ use Rattle.op_serving.specs.declared.node.Given.{Given}
 use Rattle.op_serving.specs.declared.session.Session.{Session}
 use Rattle.op_serving.specs.declared.wanted.Wanted.{Wanted}
 use Rattle.op_serving.specs.Wire.{peer_frame, client_frame}
-use Rattle.op_serving.specs.State.{Awaited, Key, Loop, find, changed, with_bytes, waits_for}
+use Rattle.op_serving.specs.State.{Awaited, Key, Loop, find, changed, is_open, with_bytes, waits_for}
 use Rattle.op_serving.specs.Losses.{most_marks}
-use Rattle.op_serving.specs.Handing.{Frame, frame_at, said_at, goes_to, sent, sent_all, frames_sent, forgotten, answered, replied, replied_all, frames_replied, handed_out, frames_handed, Told, said_at_once, said_of_denial, told, told_all, frames_told, asked_by_one, asked, is_read, keys_that_wait, proposed, frames_proposed, excused, frames_excused}
+use Rattle.op_serving.specs.Handing.{frame_at, said_at, goes_to, sent_behind, sent_at, sent, sent_all, frames_behind, frames_sent_at, frames_sent, forgotten, answered, replied, replied_all, frames_replied, handed_out, frames_handed, Told, said_at_once, said_of_denial, told, told_all, frames_told, asked_by_one, asked, is_read, keys_that_wait, proposed, frames_proposed, excused, frames_excused}
+use Rattle.op_serving.specs.Room.{Frame, has_room, count_at, goes_ahead, kept, placed, frames_placed, frame_of, without_first, first_moved, moved_in, moved, frames_moved_in, frames_moved}
 use Rattle.std.specs.Map.{keys_of}
 use Rattle.op_connections.proofs.Tables.{found_own, found_other, keys_changed}
 
@@ -107,13 +108,91 @@ queues_at : (c : ℕ) (o : Option ℕ) (b : List ℕ) (s : Loop) → Queues c s 
 queues_at c None b s = queues_none c s s refl refl refl refl refl refl
 queues_at c (Some d) b s = queues_one c d b s
 
+-- ---- what waits behind
+
+queues_kept : (c : ℕ) (b : Bool) (f : Frame) (s : Loop) → Queues c s [] (kept b f s)
+queues_kept c true f s = queues_none c s (kept true f s) refl refl refl refl refl refl
+queues_kept c false f s = queues_none c s s refl refl refl refl refl refl
+
+-- a frame waits for its connection, or behind what does
+queues_placed : (c : ℕ) (b : Bool) (f : Frame) (s : Loop) → Queues c s (frames_placed b f) (placed b f s)
+queues_placed c true f s = queues_one c f.0 f.1 s
+queues_placed c false f s = queues_kept c (is_open f.0 s) f s
+
+-- the first of those that wait behind moves up
+queues_first : (c d : ℕ) (o : Option (List ℕ)) (s : Loop) → Queues c s (frame_of d o) (first_moved d o s)
+queues_first c d None s = queues_none c s s refl refl refl refl refl refl
+queues_first c d (Some b) s =
+    let u : Loop = record s { behind = without_first d s.behind } in
+    queues_then c s u (waits_for d b u) [] ((d, b) ∷ []) (queues_none c s u refl refl refl refl refl refl) (queues_one c d b u)
+
+queues_if : (c : ℕ) (b : Bool) (s : Loop) (fs : List Frame) (t : Loop) → Queues c s fs t → Queues c s (if b then fs else []) (if b then t else s)
+queues_if c true s fs t q = q
+queues_if c false s fs t q = queues_none c s s refl refl refl refl refl refl
+
+queues_moved_in : (k c d : ℕ) (s : Loop) → Queues c s (frames_moved_in k d s) (moved_in k d s)
+queues_moved_in zero c d s = queues_none c s s refl refl refl refl refl refl
+queues_moved_in (suc k) c d s =
+    let o : Option (List ℕ) = find d s.behind in
+    let u : Loop = first_moved d o s in
+    queues_if c (has_room (find d s.sessions)) s (frame_of d o ++ frames_moved_in k d u) (moved_in k d u)
+    (queues_then c s u (moved_in k d u) (frame_of d o) (frames_moved_in k d u) (queues_first c d o s) (queues_moved_in k c d u))
+
+queues_moved : (c d : ℕ) (s : Loop) → Queues c s (frames_moved d s) (moved d s)
+unfolding moved frames_moved
+queues_moved c d s = queues_moved_in (count_at d s.behind) c d s
+
+-- ---- whose what moves up is
+
+away_of : (c d : ℕ) (o : Option (List ℕ)) → (d ≡ c → ⊥) → bytes_for c (frame_of d o) ≡ []
+away_of c d None apart = refl
+away_of c d (Some b) apart = ap (λ k. (if k then b else []) ++ []) (ne_eqb d c apart)
+
+away_placed : (c : ℕ) (b : Bool) (f : Frame) → (f.0 ≡ c → ⊥) → bytes_for c (frames_placed b f) ≡ []
+away_placed c true f apart = away_of c f.0 (Some f.1) apart
+away_placed c false f apart = refl
+
+-- both have nothing for a connection
+away_both : (c : ℕ) (fs gs : List Frame) → bytes_for c fs ≡ [] → bytes_for c gs ≡ [] → bytes_for c (fs ++ gs) ≡ []
+away_both c fs gs a b = bytes_for_both c fs gs ∙ ap (λ r. r ++ bytes_for c gs) a ∙ b
+
+away_if : (c : ℕ) (b : Bool) (fs : List Frame) → bytes_for c fs ≡ [] → bytes_for c (if b then fs else []) ≡ []
+away_if c true fs e = e
+away_if c false fs e = refl
+
+away_moved_in : (k c d : ℕ) (s : Loop) → (d ≡ c → ⊥) → bytes_for c (frames_moved_in k d s) ≡ []
+away_moved_in zero c d s apart = refl
+away_moved_in (suc k) c d s apart =
+    let o : Option (List ℕ) = find d s.behind in
+    let u : Loop = first_moved d o s in
+    away_if c (has_room (find d s.sessions)) (frame_of d o ++ frames_moved_in k d u)
+    (away_both c (frame_of d o) (frames_moved_in k d u) (away_of c d o apart) (away_moved_in k c d u apart))
+
+away_moved : (c d : ℕ) (s : Loop) → (d ≡ c → ⊥) → bytes_for c (frames_moved d s) ≡ []
+unfolding frames_moved
+away_moved c d s apart = away_moved_in (count_at d s.behind) c d s apart
+
+-- what is said at a session is all for its connection
+pub away_sent : (c d : ℕ) (m : ℕ × Msg) (s : Loop) → (d ≡ c → ⊥) → bytes_for c (frames_sent_at (Some d) m s) ≡ []
+away_sent c d m s apart =
+    let t : Loop = moved d s in
+    away_both c (frames_moved d s) (frames_behind d m t) (away_moved c d s apart)
+    (away_placed c (goes_ahead m.1 (find d t.sessions) (count_at d t.behind)) (d, peer_frame t.me m.0 m.1) apart)
+
 -- ---- what is handed out
+
+queues_sent_at : (c : ℕ) (o : Option ℕ) (m : ℕ × Msg) (s : Loop) → Queues c s (frames_sent_at o m s) (sent_at o m s)
+queues_sent_at c None m s = queues_none c s s refl refl refl refl refl refl
+queues_sent_at c (Some d) m s =
+    let t : Loop = moved d s in
+    queues_then c s t (sent_behind d m t) (frames_moved d s) (frames_behind d m t) (queues_moved c d s)
+    (queues_placed c (goes_ahead m.1 (find d t.sessions) (count_at d t.behind)) (d, peer_frame t.me m.0 m.1) t)
 
 queues_sent : (c : ℕ) (ms : List (ℕ × Msg)) (s : Loop) → Queues c s (frames_sent ms s) (sent_all ms s)
 queues_sent c [] s = queues_none c s s refl refl refl refl refl refl
 queues_sent c (m ∷ ms) s =
-    queues_then c s (sent m s) (sent_all ms (sent m s)) (frame_at (goes_to m s) (peer_frame s.me m.0 m.1)) (frames_sent ms (sent m s))
-    (queues_at c (goes_to m s) (peer_frame s.me m.0 m.1) s) (queues_sent c ms (sent m s))
+    queues_then c s (sent m s) (sent_all ms (sent m s)) (frames_sent_at (goes_to m s) m s) (frames_sent ms (sent m s))
+    (queues_sent_at c (goes_to m s) m s) (queues_sent c ms (sent m s))
 
 queues_reply : (c : ℕ) (read : Bool) (r : Reply) (s : Loop) → Queues c s (frame_at (map.get s.askers (read, (r.client, r.seq))) (client_frame (answered r))) (replied read r s)
 queues_reply c read r s =

@@ -1,18 +1,18 @@
 -- In the writes: an Up has at most a frame for its own peer, a Down has none, and no other session changes.
 use Rattle.std.proofs.Common.{◌≡◌, ◌++◌, ◌⊎◌, [], ℕ, Bool, true, false, List, length, slice_get, Option, Some, None, if◌then◌else◌, refl, sym, ◌∙◌, ap, subst, inl, inr}
-use Rattle.std.proofs.lemmas.Bool.{ne_eqb}
+use Rattle.std.proofs.lemmas.List.{append-nil}
 use Rattle.op_types.specs.declared.events.Input.{Input}
 use Rattle.op_types.specs.declared.events.Input.TheVariants as input
 use Rattle.op_types.specs.declared.messages.Msg.{Msg}
 use Rattle.op_serving.specs.declared.node.Given.{Given}
 use Rattle.op_serving.specs.Cores.{Standing, gives, reopens}
 use Rattle.op_serving.specs.Fates.{Fate, done, finds, faults, damaged, lost}
-use Rattle.op_serving.specs.Wire.{peer_frame}
 use Rattle.op_serving.specs.State.{Loop, find, left_by, session_of, counted}
-use Rattle.op_serving.specs.Handing.{Frame, frame_at, goes_to, sent_all, frames_sent, replied_all, frames_replied, frames_handed}
+use Rattle.op_serving.specs.Handing.{goes_to, sent_all, frames_sent_at, frames_sent, replied_all, frames_replied, frames_handed}
+use Rattle.op_serving.specs.Room.{Frame}
 use Rattle.op_serving.specs.Inputs.{State, Luck, kept, is_lost_here, fate_of, next_fate, frames_after, calm, enter, give, drained, given_together, leaves, over}
 use Rattle.op_serving.proofs.Fits.{goes_tells}
-use Rattle.op_connections.proofs.Queueing.{bytes_for}
+use Rattle.op_connections.proofs.Queueing.{bytes_for, away_sent}
 use Rattle.op_connections.proofs.Walking.{Falls, drained_holds}
 use Rattle.op_connections.proofs.Fading.{Stays, stays_then, stays_left, stays_calm, stays_enter}
 use Rattle.op_connections.proofs.Uppings.{Upping, ups, ups_read, downs, downs_read}
@@ -34,9 +34,12 @@ handed_other c q g s u other reads = ap (λ fs. bytes_for c ((frames_sent g.send
   | inr one ↦ rw (one.1, u.replies) (at_other one.0 (goes_to (q, one.0) s) refl)
 ]
   where
-    at_other : (m : Msg) (o : Option ℕ) → goes_to (q, m) s ≡ o → bytes_for c (((frame_at o (peer_frame s.me q m) ++ []) ++ []) ++ []) ≡ []
+    at_other : (m : Msg) (o : Option ℕ) → goes_to (q, m) s ≡ o → bytes_for c (((frames_sent_at o (q, m) s ++ []) ++ []) ++ []) ≡ []
     at_other m None e = refl
-    at_other m (Some d) e = ap (λ b. (if b then peer_frame s.me q m else []) ++ []) (ne_eqb d c (λ k. other ((goes_tells (q, m) s d e).1 ∙ ap Some k)))
+    at_other m (Some d) e =
+        let fs : List Frame = frames_sent_at (Some d) (q, m) s in
+        ap (bytes_for c) (append-nil ((fs ++ []) ++ []) ∙ append-nil (fs ++ []) ∙ append-nil fs)
+        ∙ away_sent c d (q, m) s (λ k. other ((goes_tells (q, m) s d e).1 ∙ ap Some k))
 
 -- what is asked of what comes of an input: an opening comes only of a tick at a node that failed
 module _ (P : Fate → Type 0) (n : Standing) (i : Input) (shut : reopens n i ≡ false) (as_done : P done) (as_faults : (k : ℕ) → P (faults k)) (as_damaged : P damaged) (as_lost : P lost) where

@@ -1,5 +1,5 @@
 -- Nobody waits for a read, or the node's reads are settled: so an Up and a Down tell no client anything of reads.
-use Rattle.std.proofs.Common.{◌≡◌, ◌++◌, ◌∷◌, ◌⊎◌, [], ℕ, Bool, true, false, List, length, drop, cond, if◌then◌else◌, nat_lt, ◌+◌, not, Option, Some, None, refl, sym, ap, ◌∙◌, inl, inr}
+use Rattle.std.proofs.Common.{◌≡◌, ◌++◌, ◌∷◌, ◌⊎◌, [], ℕ, zero, suc, Bool, true, false, List, length, drop, cond, if◌then◌else◌, nat_lt, ◌+◌, not, Option, Some, None, refl, sym, ap, ◌∙◌, inl, inr}
 use Rattle.std.specs.FinMap as map
 use Rattle.std.specs.BTreeMap.{is_at}
 use Rattle.op_types.specs.declared.answers.Outcome.{Outcome}
@@ -21,10 +21,11 @@ use Rattle.op_serving.specs.declared.wanted.Wanted.{Wanted}
 use Rattle.op_serving.specs.declared.wanted.Wanted.TheVariants.{Commands, Stop, Trim, Read}
 use Rattle.op_serving.specs.Cores.{Standing, given_of, gives, after_input, faulted, refused_with, reopened}
 use Rattle.op_serving.specs.Fates.{Fate, done, finds, faults, damaged, lost, after_fate}
-use Rattle.op_serving.specs.State.{Key, Awaited, Loop, awaited_cmp, is_conn, is_open, kind_at, left_at, left_by, counted}
+use Rattle.op_serving.specs.State.{Key, Awaited, Loop, awaited_cmp, find, is_conn, is_open, kind_at, left_at, left_by, counted}
 use Rattle.op_serving.specs.Wire.{peer_frame, client_frame}
 use Rattle.op_serving.specs.Losses.{most_marks, mark_at, noted, stopped_if, marked, lost_one, is_due, settle}
-use Rattle.op_serving.specs.Handing.{said_at, goes_to, sent, sent_all, forgotten, answered, replied, replied_all, frame_at, frames_replied, handed_out, Told, said_at_once, said_of_denial, told, told_all, asked_by_one, asked, waits_if_asked, refusal_of, waits_unless, proposed, excused}
+use Rattle.op_serving.specs.Handing.{said_at, goes_to, sent_at, sent, sent_all, forgotten, answered, replied, replied_all, frame_at, frames_replied, handed_out, Told, said_at_once, said_of_denial, told, told_all, asked_by_one, asked, waits_if_asked, refusal_of, waits_unless, proposed, excused}
+use Rattle.op_serving.specs.Room.{Frame, has_room, count_at, goes_ahead, kept, placed, first_moved, moved_in, moved}
 use Rattle.op_serving.specs.Inputs.{State, Luck, asked_by, begins, calm, enter, entered_with, loop_after, next_fate, noting}
 use Rattle.op_serving.specs.Reading.{hello_len}
 use Rattle.op_serving.specs.Turns.{accepted, dialled, first_bytes, joined, joining, taken_by, up_at, up_peer}
@@ -102,9 +103,38 @@ nobody_said : (o : Option ℕ) (b : List ℕ) (s : Loop) → NobodyReads s → N
 nobody_said None b s h = h
 nobody_said (Some c) b s h = h
 
+-- what moves up, or waits behind, leaves the askers
+nobody_first : (c : ℕ) (o : Option (List ℕ)) (s : Loop) → NobodyReads s → NobodyReads (first_moved c o s)
+nobody_first c None s h = h
+nobody_first c (Some b) s h = h
+
+nobody_moved_in : (k c : ℕ) (s : Loop) → NobodyReads s → NobodyReads (moved_in k c s)
+nobody_moved_in zero c s h = h
+nobody_moved_in (suc k) c s h =
+    let u : Loop = first_moved c (find c s.behind) s in
+    nobody_due (has_room (find c s.sessions)) (moved_in k c u) s (nobody_moved_in k c u (nobody_first c (find c s.behind) s h)) h
+
+nobody_moved : (c : ℕ) (s : Loop) → NobodyReads s → NobodyReads (moved c s)
+unfolding moved
+nobody_moved c s h = nobody_moved_in (count_at c s.behind) c s h
+
+nobody_kept : (b : Bool) (f : Frame) (s : Loop) → NobodyReads s → NobodyReads (kept b f s)
+nobody_kept true f s h = h
+nobody_kept false f s h = h
+
+nobody_placed : (b : Bool) (f : Frame) (s : Loop) → NobodyReads s → NobodyReads (placed b f s)
+nobody_placed true f s h = h
+nobody_placed false f s h = nobody_kept (is_open f.0 s) f s h
+
+nobody_sent_at : (o : Option ℕ) (m : ℕ × Msg) (s : Loop) → NobodyReads s → NobodyReads (sent_at o m s)
+nobody_sent_at None m s h = h
+nobody_sent_at (Some c) m s h =
+    let t : Loop = moved c s in
+    nobody_placed (goes_ahead m.1 (find c t.sessions) (count_at c t.behind)) (c, peer_frame t.me m.0 m.1) t (nobody_moved c s h)
+
 nobody_sent : (ms : List (ℕ × Msg)) (s : Loop) → NobodyReads s → NobodyReads (sent_all ms s)
 nobody_sent [] s h = h
-nobody_sent (m ∷ ms) s h = nobody_sent ms (sent m s) (nobody_said (goes_to m s) (peer_frame s.me m.0 m.1) s h)
+nobody_sent (m ∷ ms) s h = nobody_sent ms (sent m s) (nobody_sent_at (goes_to m s) m s h)
 
 nobody_reply : (read : Bool) (r : Reply) (s : Loop) → NobodyReads s → NobodyReads (replied read r s)
 nobody_reply read r s h =

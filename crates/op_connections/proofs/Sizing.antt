@@ -11,7 +11,7 @@ use Rattle.op_serving.specs.declared.mark.Mark.{Mark}
 use Rattle.op_serving.specs.declared.session.Session.{Session}
 use Rattle.op_serving.specs.State.{Table, Loop, find, without, down_of, left_at, left_by}
 use Rattle.op_serving.specs.Losses.{most_marks, mark_at, noted, stopped_if, marked, lost_one, is_due, settle, size}
-use Rattle.op_serving.specs.Handing.{Frame}
+use Rattle.op_serving.specs.Room.{Frame}
 use Rattle.op_connections.proofs.Queueing.{Queues}
 
 -- ---- a session ends

@@ -19,7 +19,8 @@ use Rattle.op_serving.specs.Fates.{Fate, after_fate}
 use Rattle.op_serving.specs.Wire.{client_frame}
 use Rattle.op_serving.specs.State.{find, changed, is_open, kind_at, left_by, most_waiting, is_overfull}
 use Rattle.op_serving.specs.Losses.{most_marks}
-use Rattle.op_serving.specs.Handing.{Frame, no_command}
+use Rattle.op_serving.specs.Handing.{no_command}
+use Rattle.op_serving.specs.Room.{Frame}
 use Rattle.op_serving.specs.Inputs.{Deed, begins, hears, enters, says, takes, State, Luck, asked_by, loop_after, frames_after, next_fate, calm, entered_with, enter, noting, gathering}
 use Rattle.op_serving.specs.Reading.{hello_len, tells, feeding, feeds, of_kind, holding, linked}
 use Rattle.op_serving.specs.Turns.{hello, made_session, first_bytes, joining, joined, accepted, dialled, waiting, without_bytes, taken_by, up_peer, up_at}

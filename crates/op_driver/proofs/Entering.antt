@@ -12,7 +12,8 @@ use Rattle.op_serving.specs.declared.node.Given.{Given}
 use Rattle.op_serving.specs.declared.node.StepFail.TheVariants.{DiskFail, Damaged, NoMemory}
 use Rattle.op_serving.specs.declared.wanted.Wanted.{Wanted}
 use Rattle.op_serving.specs.Cores.{Standing, given_again}
-use Rattle.op_serving.specs.Handing.{Frame, handed_out, proposed, excused}
+use Rattle.op_serving.specs.Handing.{handed_out, proposed, excused}
+use Rattle.op_serving.specs.Room.{Frame}
 use Rattle.op_serving.specs.Inputs.{Deed, enters, says, State, Luck, asked_by, kept_fate, kept_of, kept, is_lost_here, fate_of, next_fate, loop_after, frames_after, entered_with, enter}
 use Rattle.op_serving.specs.Fates.{Fate, done, finds, faults, damaged, lost, after_fate, MayCome, Tells, Steps}
 use Rattle.op_driver.specs.Driver.{Served, Stores, with_deeds, Knows, Enters}

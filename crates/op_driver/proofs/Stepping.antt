@@ -4,7 +4,7 @@ use Rattle.op_types.specs.declared.events.Input.{Input}
 use Rattle.op_serving.specs.Cores.{Standing}
 use Rattle.op_serving.specs.Fates.{Fate, after_fate}
 use Rattle.op_serving.specs.Faults.{Stepped, Walks}
-use Rattle.op_serving.specs.Handing.{Frame}
+use Rattle.op_serving.specs.Room.{Frame}
 use Rattle.op_serving.specs.Inputs.{Deed, begins, hears, enters, says, takes}
 use Rattle.op_serving.specs.State.{Loop}
 use Rattle.op_driver.specs.Driver.{Served, Stores, Went}

@@ -11,8 +11,7 @@ use Rattle.op_queues.proofs.Tables.{same_or_not, find_without, find_apart}
 use Rattle.op_queues.proofs.Askers.{asked_gone, asked_apart, asked_in_vain, nobody_asks, nobody_without}
 use Rattle.op_queues.proofs.Sizes.{size_lost}
 use Rattle.op_queues.proofs.Counting.{most_same, most_lost}
-use Rattle.op_queues.proofs.Settling.{Blind, grew_still, grew_trans, stays_same, lost_place, lost_grew, lost_kinds, lost_first}
-use Rattle.op_queues.proofs.Sending.{blind_then}
+use Rattle.op_queues.proofs.Settling.{Blind, grew_still, grew_trans, stays_same, lost_place, lost_grew, lost_kinds, lost_first, blind_then}
 
 -- ---- a loss before and after
 

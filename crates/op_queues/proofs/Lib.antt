@@ -5,6 +5,7 @@ pub mod Told
 pub mod Sizes
 pub mod Counting
 pub mod Settling
+pub mod Room
 pub mod Sending
 pub mod Asking
 pub mod Hears

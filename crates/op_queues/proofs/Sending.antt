@@ -1,5 +1,5 @@
 -- Messages and the sessions that are lost for want of memory.
-use Rattle.std.proofs.Common.{◌≡◌, ◌<◌, get_or, ◌+◌, ◌∷◌, [], ◌++◌, ℕ, Bool, List, length, true, false, if◌then◌else◌, nat_lt, ◌==◌, Option, Some, None, refl, sym, ◌∙◌, ap, ◌⊎◌, inl, inr, take}
+use Rattle.std.proofs.Common.{◌≡◌, ◌<◌, get_or, ◌+◌, ◌∷◌, [], ◌++◌, ℕ, Bool, List, length, true, false, if◌then◌else◌, nat_lt, ◌==◌, Option, Some, None, is_some, refl, sym, ◌∙◌, ap, subst, ◌⊎◌, inl, inr, take}
 use Rattle.std.proofs.lemmas.Bool.{cases_Bool, eqb-true}
 use Rattle.std.proofs.lemmas.List.{take_more}
 use Rattle.std.specs.FinMap as map
@@ -8,16 +8,17 @@ use Rattle.op_serving.specs.declared.kind.Kind.{Kind}
 use Rattle.op_serving.specs.declared.kind.Kind.TheVariants.{Unknown, Peer, Client}
 use Rattle.op_serving.specs.declared.node.Given.{Given}
 use Rattle.op_serving.specs.declared.session.Session.{Session}
-use Rattle.op_serving.specs.Wire.{fits_peer, peer_frame, client_frame}
-use Rattle.op_serving.specs.State.{Awaited, Key, Loop, awaited_cmp, without, find, is_open, kind_at, if_its, open_of, left_at, left_by}
+use Rattle.op_serving.specs.Wire.{fits_peer, client_frame}
+use Rattle.op_serving.specs.State.{Awaited, Key, Loop, awaited_cmp, without, find, is_open, kind_at, if_its, open_of, session_of, left_at, left_by}
 use Rattle.op_serving.specs.Losses.{most_marks, mark_at, noted, stopped_if, lost_by}
 use Rattle.op_types.specs.declared.answers.Reply.{Reply}
 use Rattle.op_command.specs.declared.reply.ClientReply.{ClientReply}
 use Rattle.op_command.specs.declared.said.Said.{Said}
-use Rattle.op_serving.specs.Handing.{said_at, goes_to, sent, sent_all, forgotten, answered, replied, replied_all, handed_out, of_command, said_each, Told, told, told_all}
+use Rattle.op_serving.specs.Handing.{said_at, goes_to, sent_at, sent, sent_all, forgotten, answered, replied, replied_all, handed_out, of_command, said_each, Told, told, told_all}
 use Rattle.op_queues.proofs.Tables.{find_without}
 use Rattle.op_queues.proofs.Askers.{unless_at, get_without, nobody_without, nobody_asks}
-use Rattle.op_queues.proofs.Settling.{Blind, found_lost, blind_waits, closed_waits}
+use Rattle.op_queues.proofs.Settling.{Blind, blind_waits, closed_waits, lost_me, blind_then}
+use Rattle.op_queues.proofs.Room.{loss_at, blind_at, spoilt_at}
 
 -- ---- what a loss leaves
 
@@ -31,17 +32,6 @@ stopped_peers c false s = refl
 
 lost_peers : (c : ℕ) (s : Loop) → (lost_by c s).peers ≡ s.peers
 lost_peers c s = stopped_peers c (nat_lt (length s.lost + 1) most_marks) (noted (mark_at s.place (Some c)) s)
-
-left_me : (c : ℕ) (k : Option Kind) (s : Loop) → (left_at c k s).me ≡ s.me
-left_me c None s = refl
-left_me c (Some k) s = refl
-
-stopped_me : (c : ℕ) (b : Bool) (s : Loop) → (left_by c (stopped_if b s)).me ≡ s.me
-stopped_me c true s = left_me c (kind_at c s) s
-stopped_me c false s = refl
-
-pub lost_me : (c : ℕ) (s : Loop) → (lost_by c s).me ≡ s.me
-lost_me c s = stopped_me c (nat_lt (length s.lost + 1) most_marks) (noted (mark_at s.place (Some c)) s)
 
 -- ---- a message
 
@@ -58,38 +48,71 @@ its : (q c : ℕ) (o : Option Session) → (if_its q c o ≡ None) ⊎ (if_its q
 its q c None = inl refl
 its q c (Some x) = its_kind q c x.kind x refl
 
--- bytes for a connection, if this is said of its session
-module _ (to : Option Session → Option ℕ) (c : ℕ) (nobody : to None ≡ None) (either : (o : Option Session) → (to o ≡ None) ⊎ (to o ≡ Some c)) where
-  past_to : (d : ℕ) (b : List ℕ) (s : Loop) → lost_by d (said_at (to (find c s.sessions)) b s) ≡ said_at (to (find c (lost_by d s).sessions)) b (lost_by d s)
-  past_to d b s =
-      let u : Loop = lost_by d s in
-      elim (found_lost c d s) [
-        | inl same ↦ elim (either (find c s.sessions)) [
-          | inl none ↦ ap (λ o. lost_by d (said_at o b s)) none ∙ sym (ap (λ o. said_at o b u) (ap to same ∙ none))
-          | inr some ↦ ap (λ o. lost_by d (said_at o b s)) some ∙ (blind_waits c b).past d s ∙ sym (ap (λ o. said_at o b u) (ap to same ∙ some))
-        ]
-        | inr gone ↦ elim (either (find c s.sessions)) [
-          | inl none ↦ ap (λ o. lost_by d (said_at o b s)) none ∙ sym (ap (λ o. said_at o b u) (ap to gone ∙ nobody))
-          | inr some ↦ ap (λ o. lost_by d (said_at o b s)) some ∙ (blind_waits c b).past d s ∙ closed_waits c b u gone ∙ sym (ap (λ o. said_at o b u) (ap to gone ∙ nobody))
-        ]
+its_there : (q k c : ℕ) (o : Option Session) → if_its q k o ≡ Some c → (k ≡ c) × (is_some o ≡ true)
+its_there q k c None e = absurd cc
+its_there q k c (Some x) e = elim (its q k (Some x)) [
+  | inl none ↦ absurd (let bad : None ≡ Some c = sym none ∙ e in cc)
+  | inr some ↦ (let same : Some k ≡ Some c = sym some ∙ e in (cc, refl))
+]
+
+-- a peer's session is open
+pub session_there : (q c : ℕ) (s : Loop) → session_of q s ≡ Some c → is_open c s ≡ true
+session_there q c s e = by_peer (find q s.peers) e
+  where
+    by_peer : (w : Option (Option ℕ)) → open_of q w s.sessions ≡ Some c → is_open c s ≡ true
+    by_peer None h = absurd cc
+    by_peer (Some None) h = absurd cc
+    by_peer (Some (Some k)) h = let own = its_there q k c (find k s.sessions) h in subst (λ n. is_open n s ≡ true) own.0 own.1
+
+past_open : (m : ℕ × Msg) (d : ℕ) (s : Loop) (w : Option (Option ℕ)) → lost_by d (sent_at (open_of m.0 w s.sessions) m s) ≡ sent_at (open_of m.0 w (lost_by d s).sessions) m (lost_by d s)
+past_open m d s None = refl
+past_open m d s (Some None) = refl
+past_open m d s (Some (Some c)) =
+    let u : Loop = lost_by d s in
+    elim (loss_at c d s) [
+      | inl k ↦ elim (its m.0 c (find c s.sessions)) [
+        | inl none ↦ ap (λ o. lost_by d (sent_at o m s)) none ∙ sym (ap (λ o. sent_at o m u) (ap (if_its m.0 c) k.session ∙ none))
+        | inr some ↦ ap (λ o. lost_by d (sent_at o m s)) some ∙ (blind_at c m).past d s ∙ sym (ap (λ o. sent_at o m u) (ap (if_its m.0 c) k.session ∙ some))
       ]
+      | inr k ↦ elim (its m.0 c (find c s.sessions)) [
+        | inl none ↦ ap (λ o. lost_by d (sent_at o m s)) none ∙ sym (ap (λ o. sent_at (if_its m.0 c o) m u) k.session)
+        | inr some ↦ ap (λ o. lost_by d (sent_at o m s)) some ∙ (blind_at c m).past d s ∙ spoilt_at c m u k ∙ sym (ap (λ o. sent_at (if_its m.0 c o) m u) k.session)
+      ]
+    ]
 
-past_open : (q d : ℕ) (b : List ℕ) (s : Loop) (w : Option (Option ℕ)) → lost_by d (said_at (open_of q w s.sessions) b s) ≡ said_at (open_of q w (lost_by d s).sessions) b (lost_by d s)
-past_open q d b s None = refl
-past_open q d b s (Some None) = refl
-past_open q d b s (Some (Some c)) = past_to (if_its q c) c refl (its q c) d b s
-
--- where a peer takes them
-past_fit : (fits : Bool) (q d : ℕ) (b : List ℕ) (s : Loop) (w : Option (Option ℕ)) → lost_by d (said_at (if fits then open_of q w s.sessions else None) b s) ≡ said_at (if fits then open_of q w (lost_by d s).sessions else None) b (lost_by d s)
-past_fit true q d b s w = past_open q d b s w
-past_fit false q d b s w = refl
+-- where a peer takes it
+past_fit : (fits : Bool) (m : ℕ × Msg) (d : ℕ) (s : Loop) (w : Option (Option ℕ)) → lost_by d (sent_at (if fits then open_of m.0 w s.sessions else None) m s) ≡ sent_at (if fits then open_of m.0 w (lost_by d s).sessions else None) m (lost_by d s)
+past_fit true m d s w = past_open m d s w
+past_fit false m d s w = refl
 
 past_sent : (m : ℕ × Msg) (d : ℕ) (s : Loop) → lost_by d (sent m s) ≡ sent m (lost_by d s)
 past_sent m d s =
     let u : Loop = lost_by d s in
-    past_fit (fits_peer s.me m.0 m.1) m.0 d (peer_frame s.me m.0 m.1) s (find m.0 s.peers)
-    ∙ ap (λ ps. said_at (if fits_peer s.me m.0 m.1 then open_of m.0 (find m.0 ps) u.sessions else None) (peer_frame s.me m.0 m.1) u) (sym (lost_peers d s))
-    ∙ ap (λ n. said_at (if fits_peer n m.0 m.1 then open_of m.0 (find m.0 u.peers) u.sessions else None) (peer_frame n m.0 m.1) u) (sym (lost_me d s))
+    past_fit (fits_peer s.me m.0 m.1) m d s (find m.0 s.peers)
+    ∙ ap (λ ps. sent_at (if fits_peer s.me m.0 m.1 then open_of m.0 (find m.0 ps) u.sessions else None) m u) (sym (lost_peers d s))
+    ∙ ap (λ n. sent_at (if fits_peer n m.0 m.1 then open_of m.0 (find m.0 u.peers) u.sessions else None) m u) (sym (lost_me d s))
+
+sent_lost : (o : Option ℕ) (m : ℕ × Msg) (s : Loop) → (sent_at o m s).lost ≡ s.lost
+sent_lost None m s = refl
+sent_lost (Some c) m s = (blind_at c m).lost s
+
+sent_place : (o : Option ℕ) (m : ℕ × Msg) (s : Loop) → (sent_at o m s).place ≡ s.place
+sent_place None m s = refl
+sent_place (Some c) m s = (blind_at c m).place s
+
+sent_opens : (d : ℕ) (o : Option ℕ) (m : ℕ × Msg) (s : Loop) → is_open d (sent_at o m s) ≡ is_open d s
+sent_opens d None m s = refl
+sent_opens d (Some c) m s = (blind_at c m).opens d s
+
+pub blind_sent : (m : ℕ × Msg) → Blind (sent m)
+blind_sent m = record {
+  lost = λ s. sent_lost (goes_to m s) m s;
+  place = λ s. sent_place (goes_to m s) m s;
+  opens = λ d s. sent_opens d (goes_to m s) m s;
+  past = λ d s. past_sent m d s;
+}
+
+-- ---- an answer
 
 said_lost : (o : Option ℕ) (b : List ℕ) (s : Loop) → (said_at o b s).lost ≡ s.lost
 said_lost None b s = refl
@@ -102,16 +125,6 @@ said_place (Some c) b s = refl
 said_opens : (d : ℕ) (o : Option ℕ) (b : List ℕ) (s : Loop) → is_open d (said_at o b s) ≡ is_open d s
 said_opens d None b s = refl
 said_opens d (Some c) b s = (blind_waits c b).opens d s
-
-pub blind_sent : (m : ℕ × Msg) → Blind (sent m)
-blind_sent m = record {
-  lost = λ s. said_lost (goes_to m s) (peer_frame s.me m.0 m.1) s;
-  place = λ s. said_place (goes_to m s) (peer_frame s.me m.0 m.1) s;
-  opens = λ d s. said_opens d (goes_to m s) (peer_frame s.me m.0 m.1) s;
-  past = λ d s. past_sent m d s;
-}
-
--- ---- an answer
 
 blind_said : (o : Option ℕ) (b : List ℕ) (d : ℕ) (s : Loop) → lost_by d (said_at o b s) ≡ said_at o b (lost_by d s)
 blind_said None b d s = refl
@@ -190,14 +203,6 @@ pub taken_more : {X : Type 0} (xs : List X) (i : ℕ) (x : X) → i < length xs 
 taken_more xs i x h e = take_more xs i x h ∙ ap (λ y. take i xs ++ y ∷ []) (sym e)
 
 -- ---- one after the other
-
-pub blind_then : (f g : Loop → Loop) → Blind f → Blind g → Blind (λ s. g (f s))
-blind_then f g a b = record {
-  lost = λ s. b.lost (f s) ∙ a.lost s;
-  place = λ s. b.place (f s) ∙ a.place s;
-  opens = λ c s. b.opens c (f s) ∙ a.opens c s;
-  past = λ c s. b.past c (f s) ∙ ap g (a.past c s);
-}
 
 pub blind_replied_all : (read : Bool) (rs : List Reply) → Blind (replied_all read rs)
 blind_replied_all read [] = record { lost = λ s. refl; place = λ s. refl; opens = λ c s. refl; past = λ c s. refl }

@@ -74,6 +74,18 @@ found_if c d false s = inr refl
 pub found_lost : (c d : ℕ) (s : Loop) → (find c (lost_by d s).sessions ≡ find c s.sessions) ⊎ (find c (lost_by d s).sessions ≡ None)
 found_lost c d s = found_if c d (nat_lt (length s.lost + 1) most_marks) (noted (mark_at s.place (Some d)) s)
 
+-- whose loop it is
+left_me : (c : ℕ) (k : Option Kind) (s : Loop) → (left_at c k s).me ≡ s.me
+left_me c None s = refl
+left_me c (Some k) s = refl
+
+stopped_me : (c : ℕ) (b : Bool) (s : Loop) → (left_by c (stopped_if b s)).me ≡ s.me
+stopped_me c true s = left_me c (kind_at c s) s
+stopped_me c false s = refl
+
+pub lost_me : (c : ℕ) (s : Loop) → (lost_by c s).me ≡ s.me
+lost_me c s = stopped_me c (nat_lt (length s.lost + 1) most_marks) (noted (mark_at s.place (Some c)) s)
+
 -- whose a session is
 pub lost_kinds : (c : ℕ) (s : Loop) → KeepsKinds s (lost_by c s)
 lost_kinds c s = λ d. elim (found_lost d c s) [
@@ -192,6 +204,15 @@ does_then f g b {s} {m} {t} d e = record {
   is = λ marks h. sym (settled_before g b marks (f s)) ∙ ap (λ x. settled marks (g x)) (d.is marks (foretold e.grew h)) ∙ settled_before g b marks m ∙ e.is marks h;
 }
 
+-- what is blind, one after the other
+pub blind_then : (f g : Loop → Loop) → Blind f → Blind g → Blind (λ s. g (f s))
+blind_then f g a b = record {
+  lost = λ s. b.lost (f s) ∙ a.lost s;
+  place = λ s. b.place (f s) ∙ a.place s;
+  opens = λ c s. b.opens c (f s) ∙ a.opens c s;
+  past = λ c s. b.past c (f s) ∙ ap g (a.past c s);
+}
+
 -- ---- bytes for a connection
 
 pub grew_still : {s t : Loop} → t.lost ≡ s.lost → t.place ≡ s.place → Grew s t
@@ -254,13 +275,12 @@ next_mark c s marks f = ap (drop (length s.lost)) (f.split ∙ ap (λ l. l ++ f.
 pub after_mark : (c : ℕ) (s : Loop) (marks : List Mark) (f : Foretells marks (lost_by c s)) → drop (length (lost_by c s).lost) marks ≡ f.rest
 after_mark c s marks f = ap (drop (length (lost_by c s).lost)) f.split ∙ drop-append_seam (lost_by c s).lost f.rest
 
-queued_is : (c : ℕ) (bytes : List ℕ) (s : Loop) (marks : List Mark) → is_open c s ≡ true → length s.lost < most_marks → Foretells marks (lost_by c s) → settled marks (waits_for c bytes s) ≡ settled marks (lost_by c s)
-queued_is c bytes s marks h few f =
-    let b = blind_waits c bytes in
+done_is : (f : Loop → Loop) → Blind f → (c : ℕ) (s : Loop) (marks : List Mark) → f (lost_by c s) ≡ lost_by c s → is_open c s ≡ true → length s.lost < most_marks → Foretells marks (lost_by c s) → settled marks (f s) ≡ settled marks (lost_by c s)
+done_is f b c s marks none h few k =
     let m : Mark = mark_at s.place (Some c) in
-    let due : is_due m (waits_for c bytes s) ≡ true = due_blind (waits_for c bytes) b m s ∙ rw (is_few (length s.lost) few, here_own s.place (Some c), h) refl in
-    let same : lost_by c (waits_for c bytes s) ≡ lost_by c s = b.past c s ∙ closed_waits c bytes (lost_by c s) (gone c s) in
-    ap (λ r. settle r (waits_for c bytes s)) (next_mark c s marks f) ∙ rw due (ap (settle f.rest) same) ∙ sym (ap (λ r. settle r (lost_by c s)) (after_mark c s marks f))
+    let due : is_due m (f s) ≡ true = due_blind f b m s ∙ rw (is_few (length s.lost) few, here_own s.place (Some c), h) refl in
+    let same : lost_by c (f s) ≡ lost_by c s = b.past c s ∙ none in
+    ap (λ r. settle r (f s)) (ap (λ l. drop (length l) marks) (b.lost s) ∙ next_mark c s marks k) ∙ rw due (ap (settle k.rest) same) ∙ sym (ap (λ r. settle r (lost_by c s)) (after_mark c s marks k))
 
 -- a loss grows by its mark
 pub lost_grew : (c : ℕ) (s : Loop) → Grew s (lost_by c s)
@@ -286,12 +306,17 @@ does_nothing f s e = record { grew = grew_still refl refl; ends = omega arith; m
 lost_does : (f : Loop → Loop) (c : ℕ) (s : Loop) → ((marks : List Mark) → Foretells marks (lost_by c s) → settled marks (f s) ≡ settled marks (lost_by c s)) → Does (λ ms x. settled ms (f x)) s (lost_by c s)
 lost_does f c s is = record { grew = lost_grew c s; ends = size_lost c s; most = most_lost c s; kinds = lost_kinds c s; stays = stays_same (lost_place c s); is = is }
 
--- bytes that found none are as good as queued: their session is lost
-pub queued_lost : (c : ℕ) (bytes : List ℕ) (s t : Loop) → t ≡ lost_if_open c s → (is_open c s ≡ true → length s.lost < most_marks) → Does (λ ms x. settled ms (waits_for c bytes x)) s t
-queued_lost c bytes s t e room = elim (cases_Bool (is_open c s)) [
-  | inr h ↦ (let same : t ≡ s = e ∙ rw h refl in queued_found c bytes s t (same ∙ sym (closed_waits c bytes s (not_found c s.sessions h))))
-  | inl h ↦ (let is_u : t ≡ lost_by c s = e ∙ rw h refl in rw is_u (lost_does (waits_for c bytes) c s (λ marks f. queued_is c bytes s marks h (room h) f)))
+-- what found no memory is as good as done: its session is lost, and nothing comes of it then
+pub done_lost : (f : Loop → Loop) → Blind f → (c : ℕ) (s t : Loop) → (is_open c s ≡ false → f s ≡ s) → f (lost_by c s) ≡ lost_by c s → t ≡ lost_if_open c s → (is_open c s ≡ true → length s.lost < most_marks) → Does (λ ms x. settled ms (f x)) s t
+done_lost f b c s t shut none e room = elim (cases_Bool (is_open c s)) [
+  | inr h ↦ (let same : t ≡ s = e ∙ rw h refl in rw same (does_nothing f s (shut h)))
+  | inl h ↦ (let is_u : t ≡ lost_by c s = e ∙ rw h refl in rw is_u (lost_does f c s (λ marks k. done_is f b c s marks none h (room h) k)))
 ]
+
+-- so it is of bytes
+pub queued_lost : (c : ℕ) (bytes : List ℕ) (s t : Loop) → t ≡ lost_if_open c s → (is_open c s ≡ true → length s.lost < most_marks) → Does (λ ms x. settled ms (waits_for c bytes x)) s t
+queued_lost c bytes s t e room =
+    done_lost (waits_for c bytes) (blind_waits c bytes) c s t (λ h. closed_waits c bytes s (not_found c s.sessions h)) (closed_waits c bytes (lost_by c s) (gone c s)) e room
 
 -- a session is lost, and nothing is done
 pub lost_alone : (c : ℕ) (s t : Loop) → t ≡ lost_if_open c s → (is_open c s ≡ true → length s.lost < most_marks) → Does (λ ms x. settled ms x) s t

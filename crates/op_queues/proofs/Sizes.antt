@@ -1,5 +1,5 @@
 -- How many sessions may end yet, and how many Downs are to be given: a session that ends leaves one Down at most.
-use Rattle.std.proofs.Common.{◌≡◌, ◌≤◌, ◌+◌, ◌∷◌, [], ℕ, Bool, true, false, List, length, Option, Some, None, option_map, nat_lt, if◌then◌else◌, refl, ◌∙◌, ap, inl, inr, arith}
+use Rattle.std.proofs.Common.{◌≡◌, ◌≤◌, ◌+◌, ◌∷◌, [], ℕ, zero, suc, Bool, true, false, List, length, Option, Some, None, option_map, nat_lt, if◌then◌else◌, refl, ◌∙◌, ap, inl, inr, arith}
 use Rattle.std.proofs.lemmas.Bool.{cases_Bool}
 use Rattle.std.proofs.lemmas.List.{length-append}
 use Rattle.std.proofs.lemmas.Map.{length-set_value}
@@ -19,10 +19,11 @@ use Rattle.op_serving.specs.declared.node.Given.{Given}
 use Rattle.op_serving.specs.declared.session.Session.{Session}
 use Rattle.op_serving.specs.declared.wanted.Wanted.{Wanted}
 use Rattle.op_serving.specs.Cores.{Standing, gives, given_again}
-use Rattle.op_serving.specs.State.{Key, Table, Loop, find, changed_at, down_of, left_at, left_by, waits_for, counted}
+use Rattle.op_serving.specs.State.{Key, Table, Loop, find, is_open, changed_at, down_of, left_at, left_by, waits_for, counted}
 use Rattle.op_serving.specs.Wire.{peer_frame, client_frame}
 use Rattle.op_serving.specs.Losses.{most_marks, mark_at, noted, stopped_if, marked, lost_by, lost_one, is_due, settle, size}
-use Rattle.op_serving.specs.Handing.{said_at, goes_to, sent, sent_all, forgotten, answered, replied, replied_all, handed_out, said_of_denial, said_at_once, Told, told_all, asked_by_one, asked, is_read, keys_that_wait, proposed, excused}
+use Rattle.op_serving.specs.Room.{Frame, has_room, count_at, goes_ahead, kept, placed, without_first, first_moved, moved_in, moved}
+use Rattle.op_serving.specs.Handing.{said_at, goes_to, sent_at, sent, sent_all, forgotten, answered, replied, replied_all, handed_out, said_of_denial, said_at_once, Told, told_all, asked_by_one, asked, is_read, keys_that_wait, proposed, excused}
 use Rattle.op_serving.specs.Inputs.{loop_after}
 use Rattle.op_serving.specs.Fates.{Fate, done, finds, faults, damaged, lost}
 use Rattle.op_queues.proofs.Tables.{without_less}
@@ -79,8 +80,37 @@ pub size_said : (o : Option ℕ) (bytes : List ℕ) (s : Loop) → size (said_at
 size_said None bytes s = refl
 size_said (Some c) bytes s = size_waits c bytes s
 
+size_kept : (b : Bool) (f : Frame) (s : Loop) → size (kept b f s) ≡ size s
+size_kept true f s = refl
+size_kept false f s = refl
+
+pub size_placed : (b : Bool) (f : Frame) (s : Loop) → size (placed b f s) ≡ size s
+size_placed true f s = size_waits f.0 f.1 s
+size_placed false f s = size_kept (is_open f.0 s) f s
+
+size_first : (c : ℕ) (o : Option (List ℕ)) (s : Loop) → size (first_moved c o s) ≡ size s
+size_first c None s = refl
+size_first c (Some bytes) s = size_waits c bytes (record s { behind = without_first c s.behind })
+
+size_moved_in : (k c : ℕ) (s : Loop) → size (moved_in k c s) ≡ size s
+size_moved_in zero c s = refl
+size_moved_in (suc k) c s = elim (cases_Bool (has_room (find c s.sessions))) [
+  | inl h ↦ rw h (size_moved_in k c (first_moved c (find c s.behind) s) ∙ size_first c (find c s.behind) s)
+  | inr h ↦ rw h refl
+]
+
+size_moved : (c : ℕ) (s : Loop) → size (moved c s) ≡ size s
+unfolding moved
+size_moved c s = size_moved_in (count_at c s.behind) c s
+
+size_sent_at : (o : Option ℕ) (m : ℕ × Msg) (s : Loop) → size (sent_at o m s) ≡ size s
+size_sent_at None m s = refl
+size_sent_at (Some c) m s =
+    let t : Loop = moved c s in
+    size_placed (goes_ahead m.1 (find c t.sessions) (count_at c t.behind)) (c, peer_frame t.me m.0 m.1) t ∙ size_moved c s
+
 pub size_sent : (m : ℕ × Msg) (s : Loop) → size (sent m s) ≡ size s
-size_sent m s = size_said (goes_to m s) (peer_frame s.me m.0 m.1) s
+size_sent m s = size_sent_at (goes_to m s) m s
 
 size_sent_all : (ms : List (ℕ × Msg)) (s : Loop) → size (sent_all ms s) ≡ size s
 size_sent_all [] s = refl

@@ -4,6 +4,7 @@
 
 mod asked;
 mod asker_table;
+mod behind;
 mod encoding;
 mod front;
 mod hearing;

@@ -16,6 +16,7 @@ ghost use Rattle.op_queues.specs.Gathering.{Gathers, RunInRange};
 mod handing;
 
 use crate::asker_table::forget_all;
+use crate::behind::Behind;
 use crate::front::Front;
 use crate::run::Run;
 use crate::session_table::{
@@ -45,6 +46,7 @@ pub struct Sessions {
     /// Who asked last for a command or a read: the connection of a session that is there.
     askers: BTreeMap<Awaited, Conn>,
     gathered: Run,
+    behind: Behind,
     place: Place,
     /// There is room for all of them.
     lost: Vec<Mark>,
@@ -80,6 +82,7 @@ impl Model for Sessions {
       sessions = s.sessions.entries;
       askers = askers_in s.askers.entries;
       gathered = s.gathered;
+      behind = s.behind;
       place = s.place;
       lost = s.lost.items;
       closes = s.closes.items;
@@ -112,6 +115,7 @@ impl Sessions {
             overfull: false,
             askers: BTreeMap::new(alloc),
             gathered: Run::new(alloc),
+            behind: Behind::new(alloc),
             place: Place {
                 turn: 0,
                 at: 0,
@@ -289,6 +293,7 @@ impl Sessions {
         if self.lost.len() < MOST_MARKS {
             forget_all(&mut self.askers, conn);
             self.gathered.forget(conn);
+            self.behind.forget(conn);
             self.closes.push_reserved(conn);
         }
     }
@@ -402,6 +407,7 @@ impl Sessions {
             self.sessions.clear();
             self.askers.clear();
             self.gathered = Run::new(self.alloc);
+            self.behind = Behind::new(self.alloc);
             self.downs.clear();
         }
     }
@@ -415,6 +421,7 @@ impl Sessions {
         };
         forget_all(&mut self.askers, conn);
         self.gathered.forget(conn);
+        self.behind.forget(conn);
         self.closes.push_reserved(conn);
         note_down(&mut self.downs, session.kind);
     }

@@ -14,11 +14,8 @@ use Rattle.op_serving.specs.declared.wanted.Wanted.{Wanted}
 use Rattle.op_serving.specs.declared.wanted.Wanted.TheVariants.{Commands, Stop, Trim, Read}
 use Rattle.op_serving.specs.declared.node.Given.{Given}
 use Rattle.op_serving.specs.Wire.{fits_peer, peer_frame, client_frame}
-use Rattle.op_serving.specs.State.{Key, Awaited, Loop, is_open, session_of, waits_for}
-
--- a frame for a connection
-abbrev pub Frame : Type 0
-Frame = ℕ × List ℕ
+use Rattle.op_serving.specs.State.{Key, Awaited, Loop, find, is_open, session_of, waits_for}
+use Rattle.op_serving.specs.Room.{Frame, count_at, goes_ahead, placed, frames_placed, moved, frames_moved}
 
 abbrev pub frame_at : Option ℕ → List ℕ → List Frame
 frame_at None bytes = []
@@ -33,17 +30,35 @@ said_at (Some c) bytes s = waits_for c bytes s
 abbrev pub goes_to : ℕ × Msg → Loop → Option ℕ
 goes_to m s = if fits_peer s.me m.0 m.1 then session_of m.0 s else None
 
--- a message that goes nowhere is lost
+-- Before a message waits at a session, what waits behind there moves up, as far as there is room. A message
+-- that goes nowhere is lost.
+abbrev pub sent_behind : ℕ → ℕ × Msg → Loop → Loop
+sent_behind c m s =
+    placed (goes_ahead m.1 (find c s.sessions) (count_at c s.behind)) (c, peer_frame s.me m.0 m.1) s
+
+abbrev pub sent_at : Option ℕ → ℕ × Msg → Loop → Loop
+sent_at None m s = s
+sent_at (Some c) m s = sent_behind c m (moved c s)
+
 abbrev pub sent : ℕ × Msg → Loop → Loop
-sent m s = said_at (goes_to m s) (peer_frame s.me m.0 m.1) s
+sent m s = sent_at (goes_to m s) m s
 
 abbrev pub sent_all : List (ℕ × Msg) → Loop → Loop
 sent_all [] s = s
 sent_all (m ∷ ms) s = sent_all ms (sent m s)
 
+-- the frames of that
+abbrev pub frames_behind : ℕ → ℕ × Msg → Loop → List Frame
+frames_behind c m s =
+    frames_placed (goes_ahead m.1 (find c s.sessions) (count_at c s.behind)) (c, peer_frame s.me m.0 m.1)
+
+abbrev pub frames_sent_at : Option ℕ → ℕ × Msg → Loop → List Frame
+frames_sent_at None m s = []
+frames_sent_at (Some c) m s = frames_moved c s ++ frames_behind c m (moved c s)
+
 abbrev pub frames_sent : List (ℕ × Msg) → Loop → List Frame
 frames_sent [] s = []
-frames_sent (m ∷ ms) s = frame_at (goes_to m s) (peer_frame s.me m.0 m.1) ++ frames_sent ms (sent m s)
+frames_sent (m ∷ ms) s = frames_sent_at (goes_to m s) m s ++ frames_sent ms (sent m s)
 
 -- a client is told something at a connection
 abbrev pub told : ℕ → ClientReply → Loop → Loop

@@ -11,7 +11,8 @@ use Rattle.op_serving.specs.declared.wanted.Wanted.TheVariants.{Commands, Stop, 
 use Rattle.op_serving.specs.declared.mark.Mark.{Mark}
 use Rattle.op_serving.specs.Cores.{Standing, gives, reopens, given_again}
 use Rattle.op_serving.specs.Fates.{Fate, done, finds, faults, damaged, lost, after_fate}
-use Rattle.op_serving.specs.Handing.{Frame, handed_out, frames_handed, proposed, frames_proposed, excused, frames_excused}
+use Rattle.op_serving.specs.Handing.{handed_out, frames_handed, proposed, frames_proposed, excused, frames_excused}
+use Rattle.op_serving.specs.Room.{Frame}
 use Rattle.op_serving.specs.State.{Key, Loop, is_open, left_by, shed, counted}
 use Rattle.op_serving.specs.Losses.{most_marks, is_here, marked, settled, size}
 

@@ -7,6 +7,7 @@ pub mod Ranges
 pub mod Codes
 pub mod Counts
 pub mod Losses
+pub mod Room
 pub mod Handing
 pub mod Inputs
 pub mod Reading

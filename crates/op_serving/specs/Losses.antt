@@ -18,7 +18,8 @@ mark_at p conn = record { turn = p.turn; at = p.at; inputs = p.inputs; frames = 
 -- with the last mark nothing more is done: no session is left, and no command is to be given
 abbrev pub stopped_if : Bool → Loop → Loop
 stopped_if true s = s
-stopped_if false s = record s { sessions = []; askers = map.empty; gathered = []; downs = [] }
+stopped_if false s =
+    record s { sessions = []; askers = map.empty; gathered = []; behind = []; downs = [] }
 
 -- a loss is marked
 abbrev pub noted : Mark → Loop → Loop

@@ -77,6 +77,7 @@ pub record Loop : Type 0 where
   pub sessions : Table Session  -- each open connection
   pub askers : Askers
   pub gathered : Table Command  -- commands that were read and are not given yet, each with its connection
+  pub behind : Table (List ℕ)  -- frames for which there was no room, in order
   pub place : Place  -- where in the run: turn, happening, inputs, frames
   pub lost : List Mark
   pub closes : List ℕ  -- the connections that are to be closed, in order
@@ -120,14 +121,15 @@ down_of Unknown = []
 down_of (Peer q h) = if h == 0 then q ∷ [] else []
 down_of Client = []
 
--- A session is over: it waits for nothing, its commands that were not given yet go with it, its
--- connection is to be closed, and its peer goes down.
+-- A session is over: it waits for nothing, its commands that were not given yet and its frames go with it,
+-- its connection is to be closed, and its peer goes down.
 abbrev pub left_at : ℕ → Option Kind → Loop → Loop
 left_at c None s = s
 left_at c (Some kind) s = record s {
   sessions = without c s.sessions;
   askers = without_asker c s.askers;
   gathered = without c s.gathered;
+  behind = without c s.behind;
   closes = s.closes ++ c ∷ [];
   downs = s.downs ++ down_of kind;
 }

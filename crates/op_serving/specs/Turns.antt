@@ -26,6 +26,7 @@ fresh me = record {
   sessions = [];
   askers = map.empty;
   gathered = [];
+  behind = [];
   place = record { turn = 0; at = 0; inputs = 0; frames = 0 };
   lost = [];
   closes = [];
@@ -84,6 +85,7 @@ abbrev pub closed_new : ℕ → Loop → Loop
 closed_new c s = record s {
   askers = without_asker c s.askers;
   gathered = without c s.gathered;
+  behind = without c s.behind;
   closes = s.closes ++ c ∷ [];
 }
 

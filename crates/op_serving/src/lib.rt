@@ -10,6 +10,7 @@ mod node;
 mod queue;
 mod serve_end;
 mod session;
+mod urgent;
 mod wanted;
 
 pub use greeting::{Greeting, HELLO_LEN, read_greeting};
@@ -20,5 +21,6 @@ pub use mark::{Mark, Place};
 pub use node::{Core, Given, StepFail};
 pub use queue::Queue;
 pub use serve_end::ServeEnd;
-pub use session::{CLIENT_HEAD, CLIENT_LIMIT, PEER_HEAD, PEER_LIMIT, Session};
+pub use session::{CLIENT_HEAD, CLIENT_LIMIT, MOST_BEHIND, PEER_HEAD, PEER_LIMIT, Session};
+pub use urgent::is_urgent;
 pub use wanted::Wanted;

@@ -1,5 +1,6 @@
 ghost use Rattle.std.specs.Prelude.{◌≡◌, Some, IfOk};
 ghost use Rattle.op_serving.specs.State.{is_overfull};
+ghost use Rattle.op_serving.specs.Room.{has_room};
 ghost use Rattle.op_serving.specs.Turns.{queue_in, made_session};
 
 use crate::greeting::put_hello;
@@ -23,6 +24,12 @@ pub const PEER_LIMIT: u64 = MOST_PEER_BODY as u64;
 
 /// How many bytes may wait for a connection: 16 MiB. A session for which more wait is over.
 pub const MOST_WAITING: usize = 16_777_216;
+
+/// Where so many bytes wait for a connection, 2 MiB, further frames wait behind them.
+const MOST_AHEAD: usize = 2_097_152;
+
+/// Where so many frames wait behind, further ones go ahead of them.
+pub const MOST_BEHIND: usize = 65_536;
 
 /// A session, which is what a connection is used for.
 #[derive(Drop)]
@@ -60,6 +67,13 @@ impl Session {
         ensures { result ≡ is_overfull (Some self.now) }
     {
         self.queue.as_slice().len() > MOST_WAITING
+    }
+
+    /// Whether there is room for a frame more, so that it needn't wait behind.
+    pub fn has_room(&self) -> bool
+        ensures { result ≡ has_room (Some self.now) }
+    {
+        self.queue.as_slice().len() < MOST_AHEAD
     }
 
     /// What waits for it; what is left of a dialler's hello goes out first.

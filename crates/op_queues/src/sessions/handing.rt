@@ -1,16 +1,15 @@
 //! What is handed out of a step: messages, answers, and what else clients are told.
-ghost use Rattle.std.specs.Prelude.{◌≡◌, ◌<◌, All, OnOk, OnErr, IfSome, None, true, false, if◌then◌else◌};
+ghost use Rattle.std.specs.Prelude.{◌≡◌, ◌≤◌, All, length, OnOk, OnErr, IfOk, IfSome, Some, None, is_some, true, false};
 ghost use Rattle.std.specs.FinMap as map;
-ghost use Rattle.op_types.specs.Ranges.{IsPid};
-ghost use Rattle.op_msg.specs.Ranges.{MsgInRange};
 ghost use Rattle.op_command.specs.Replies.{said_of as denied};
 ghost use Rattle.op_command.specs.Ranges.{ReplyInRange, DenialInRange, OutcomeInRange, RefusalInRange, SaidInRange};
 ghost use Rattle.op_serving.specs.declared.wanted.Wanted.TheVariants.{Trim};
 ghost use Rattle.op_serving.specs.Wire.{fits_peer, peer_frame, client_frame};
-ghost use Rattle.op_serving.specs.State.{is_open, session_of, waits_for};
+ghost use Rattle.op_serving.specs.State.{find, waits_for};
+ghost use Rattle.op_serving.specs.Room.{count_at, has_room, goes_ahead, kept, placed, without_first, moved};
 ghost use Rattle.op_serving.specs.Ranges.{KeyInRange, KeyAtInRange, WantedInRange, SendInRange, ReplyInRange as AnswerInRange};
 ghost use Rattle.op_serving.specs.Losses.{settled, Does};
-ghost use Rattle.op_serving.specs.Handing.{sent, sent_all, forgotten, replied, replied_all, asked, asked_by_one, of_command, no_command, said_each, said_of_refusal, said_of_outcome, said_of_read, said_of_denial, told, told_all, waits_if_asked, waits_unless, proposed, excused};
+ghost use Rattle.op_serving.specs.Handing.{sent, sent_at, sent_all, forgotten, replied, replied_all, asked, asked_by_one, of_command, no_command, said_each, said_of_refusal, said_of_outcome, said_of_read, said_of_denial, told, told_all, waits_if_asked, waits_unless, proposed, excused};
 
 use super::Sessions;
 use crate::asked::{denied, of_command, of_no_command, refusal};
@@ -19,11 +18,13 @@ use crate::encoding::{put_message, put_reply};
 use crate::session_table::add;
 use op_command::{ClientReply, Said};
 use op_outside::Conn;
-use op_serving::{Awaited, Key, Wanted};
-use op_types::{Msg, NoMemory, Outcome, Pid, Refusal, Replies, Reply, Sends};
+use op_serving::{Awaited, Key, MOST_BEHIND, Wanted, is_urgent};
+use op_types::{Blob, Msg, NoMemory, Outcome, Pid, Refusal, Replies, Reply, Sends};
+use std::mem;
 
 impl Sessions {
-    /// A message for a peer without a session is lost, and one that is too long for its peer.
+    /// A message for a peer without a session is lost, and one that is too long for its peer. Before one waits at a
+    /// session, what waits behind there moves up.
     pub fn send(&mut self, message: &(Pid, Msg))
         requires { SendInRange message.now }
         ensures { Does (λ marks s. settled marks (sent message.now s)) self.old self.new }
@@ -31,8 +32,9 @@ impl Sessions {
         let Some(conn) = self.session_of(message.0) else {
             return;
         };
-        match self.queue_message(conn, message.0, &message.1) {
-            Ok(()) => {}
+        match self.encode(message) {
+            Ok(Some(frame)) => self.send_frame(conn, message, frame),
+            Ok(None) => {}
             Err(_) => self.lose(conn),
         }
     }
@@ -47,18 +49,123 @@ impl Sessions {
         }
     }
 
-    /// Adds a message to what waits for a connection, if its peer takes it. Without memory nothing changes.
-    fn queue_message(&mut self, conn: Conn, to: Pid, message: &Msg) -> Result<(), NoMemory>
-        requires to { IsPid to }
-        requires message { MsgInRange message.now }
-        ensures ok { OnOk result (self.new ≡ if fits_peer self.old.me to message.now
-            then waits_for conn (peer_frame self.old.me to message.now) self.old else self.old) }
+    /// A message as a frame, if its peer takes it, in the room that there is for frames. Without memory nothing changes.
+    fn encode(&mut self, message: &(Pid, Msg)) -> Result<Option<Vec<u8>>, NoMemory>
+        requires { SendInRange message.now }
+        ensures frame { IfOk result (λ found. IfSome found
+            (λ frame. frame.items ≡ peer_frame self.old.me message.now.0 message.now.1)) }
+        ensures fits { IfOk result
+            (λ found. is_some found ≡ fits_peer self.old.me message.now.0 message.now.1) }
+        ensures same { self.new ≡ self.old }
+    {
+        let mut frame = mem::replace(&mut self.frame, Vec::new(self.alloc));
+        if put_message(&mut frame, self.me, message.0, &message.1)? {
+            return Ok(Some(frame));
+        }
+        self.frame = frame;
+        Ok(None)
+    }
+
+    /// What waits behind for a connection moves up, as far as there is room, and then a message waits, too.
+    fn send_frame(&mut self, conn: Conn, message: &(Pid, Msg), frame: Vec<u8>)
+        requires { frame.items ≡ peer_frame self.old.me message.now.0 message.now.1 }
+        ensures { Does (λ marks s. settled marks (sent_at (Some conn) message.now s)) self.old self.new }
+    {
+        self.move_up(conn);
+        if self.goes_ahead(conn, &message.1) {
+            self.put_ahead(conn, frame.as_slice());
+            self.reuse(frame);
+        } else {
+            self.put_behind(conn, Blob::from_vec(frame));
+        }
+    }
+
+    /// What waits behind for a connection moves up, as far as there is room.
+    fn move_up(&mut self, conn: Conn)
+        ensures does { Does (λ marks s. settled marks (moved conn s)) self.old self.new }
+        ensures me { self.new.me ≡ self.old.me }
+    {
+        'behind: while self.has_room(conn) {
+            let Some(frame) = self.first_behind(conn) else {
+                return;
+            };
+            self.put_ahead(conn, frame.as_slice());
+        }
+    }
+
+    /// The first frame that waits behind for a connection, if there is one. It waits no more.
+    fn first_behind(&mut self, conn: Conn) -> Option<Blob>
+        ensures first { result ≡ find conn self.old.behind }
+        ensures rest { self.new ≡ record self.old { behind = without_first conn self.old.behind } }
+    {
+        self.behind.take_first(conn)
+    }
+
+    /// The next frame is written in the room of this one.
+    fn reuse(&mut self, frame: Vec<u8>)
+        ensures { self.new ≡ self.old }
+    {
+        self.frame = frame;
+    }
+
+    /// Whether there is room for a frame more at a connection.
+    fn has_room(&self, conn: Conn) -> bool
+        ensures { result ≡ has_room (find conn self.now.sessions) }
+    {
+        match self.sessions.get(&conn) {
+            Some(session) => session.has_room(),
+            None => true,
+        }
+    }
+
+    /// Whether a message goes ahead of what waits behind for a connection.
+    fn goes_ahead(&self, conn: Conn, message: &Msg) -> bool
+        ensures { result ≡
+            goes_ahead message.now (find conn self.now.sessions) (count_at conn self.now.behind) }
+    {
+        let behind = self.behind.count(conn);
+        is_urgent(&message.body) || (self.has_room(conn) && behind == 0) || behind >= MOST_BEHIND
+    }
+
+    /// A frame waits for a connection. Where that finds no memory, the session is lost.
+    fn put_ahead(&mut self, conn: Conn, frame: &[u8])
+        ensures does { Does (λ marks s. settled marks (waits_for conn frame.now s)) self.old self.new }
+        ensures fewer { length self.new.behind ≤ length self.old.behind }
+        ensures me { self.new.me ≡ self.old.me }
+    {
+        match self.queue_bytes(conn, frame) {
+            Ok(()) => {}
+            Err(_) => self.lose(conn),
+        }
+    }
+
+    /// A frame waits behind for a connection, if that is open. Where that finds no memory, the session is lost.
+    fn put_behind(&mut self, conn: Conn, frame: Blob)
+        ensures { Does (λ marks s. settled marks (placed false (conn, frame) s)) self.old self.new }
+    {
+        if !self.is_open(conn) {
+            return;
+        }
+        match self.keep_frame(conn, frame) {
+            Ok(()) => {}
+            Err(_) => self.lose(conn),
+        }
+    }
+
+    /// A frame waits behind. Without memory nothing changes.
+    fn keep_frame(&mut self, conn: Conn, frame: Blob) -> Result<(), NoMemory>
+        ensures ok { OnOk result (self.new ≡ kept true (conn, frame) self.old) }
         ensures err { OnErr result (self.new ≡ self.old) }
     {
-        if !put_message(&mut self.frame, self.me, to, message)? {
-            return Ok(());
-        }
-        let is_over = add(&mut self.sessions, conn, self.frame.as_slice())?;
+        self.behind.push(conn, frame)
+    }
+
+    /// Bytes wait for a connection. Without memory nothing changes.
+    fn queue_bytes(&mut self, conn: Conn, bytes: &[u8]) -> Result<(), NoMemory>
+        ensures ok { OnOk result (self.new ≡ waits_for conn bytes.now self.old) }
+        ensures err { OnErr result (self.new ≡ self.old) }
+    {
+        let is_over = add(&mut self.sessions, conn, bytes)?;
         self.overfull = self.overfull || is_over;
         Ok(())
     }

@@ -1,0 +1,17 @@
+ghost use Rattle.std.specs.Prelude.{◌≡◌};
+ghost use Rattle.op_serving.specs.Room.{is_urgent};
+
+use op_types::Body;
+
+/// Whether what a message says goes ahead of what waits behind: heartbeats, and what confirms a leader for a read.
+pub fn is_urgent(body: &Body) -> bool
+    ensures { result ≡ is_urgent body.now }
+{
+    matches!(
+        body,
+        Body::HeartbeatRequest(_)
+            | Body::HeartbeatReply(..)
+            | Body::Confirm(..)
+            | Body::Confirmed(..)
+    )
+}
