@@ -26,6 +26,8 @@ mod reads;
 #[cfg(test)]
 mod requests;
 #[cfg(test)]
+mod room;
+#[cfg(test)]
 mod scripts;
 #[cfg(test)]
 mod strangers;

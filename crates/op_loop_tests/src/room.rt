@@ -1,0 +1,98 @@
+//! Frames for a peer that takes none: they wait behind what waits for it, and heartbeats don't.
+use op_outside::Conn;
+use op_queues::Sessions;
+use op_serving::Kind;
+use op_types::{Ballot, Body, Msg, NoMemory, Pid};
+use std::alloc::Global;
+use std::test::Fail;
+
+/// The connection of the peer's session.
+const CONN: Conn = 5;
+
+/// The peer.
+const PEER: Pid = 2;
+
+/// So many bytes has a frame that tells how much is decided: its head, two ids, configuration and tag, a ballot
+/// and a length.
+const DECIDE: usize = 8 + 4 + 4 + 4 + 1 + 12 + 8;
+
+/// So many has a heartbeat's request: the same, and a round.
+const REQUEST: usize = 8 + 4 + 4 + 4 + 1 + 8;
+
+/// So many of the first are needed until 2 MiB wait.
+const AHEAD: usize = 51_151;
+
+/// So many wait behind them.
+const BEHIND: usize = 1000;
+
+/// A node with a session of its peer.
+fn with_peer(alloc: Global) -> Result<Sessions, NoMemory> {
+    let mut sessions = Sessions::new(alloc, 1)?;
+    sessions.know(PEER)?;
+    sessions.join(CONN, Kind::Unknown)?;
+    sessions.link(PEER, CONN);
+    Ok(sessions)
+}
+
+/// Tells the peer so often how much is decided.
+fn tell(sessions: &mut Sessions, times: usize) {
+    let ballot = Ballot { number: 1, pid: 1 };
+    let message = (
+        PEER,
+        Msg {
+            conf: 1,
+            body: Body::Decide(ballot, 1),
+        },
+    );
+    for _ in 0..times {
+        sessions.send(&message);
+    }
+}
+
+/// Asks the peer for a heartbeat.
+fn ask(sessions: &mut Sessions) {
+    let message = (
+        PEER,
+        Msg {
+            conf: 1,
+            body: Body::HeartbeatRequest(1),
+        },
+    );
+    sessions.send(&message);
+}
+
+/// How many bytes wait for the peer.
+fn waiting(sessions: &Sessions) -> usize {
+    sessions.waiting(CONN).len()
+}
+
+/// The peer takes all that waits for it.
+fn take_all(sessions: &mut Sessions) {
+    let waiting = sessions.waiting(CONN).len();
+    sessions.took(CONN, waiting);
+}
+
+#[test]
+fn a_heartbeat_goes_before_what_waits_behind(rt: HostRuntime) -> Result<(), Fail> {
+    let mut sessions = with_peer(rt.alloc())?;
+    tell(&mut sessions, AHEAD + BEHIND);
+    let full = waiting(&sessions);
+    ask(&mut sessions);
+    let asked = waiting(&sessions);
+    take_all(&mut sessions);
+    let taken = waiting(&sessions);
+    ask(&mut sessions);
+    let moved = waiting(&sessions);
+    sessions.shed();
+    assert_eq!(rt;
+        (full, asked, taken, moved),
+        (
+            AHEAD * DECIDE,
+            AHEAD * DECIDE + REQUEST,
+            0,
+            BEHIND * DECIDE + REQUEST
+        )
+    );
+    assert!(rt; sessions.is_open(CONN));
+    Ok(())
+}
