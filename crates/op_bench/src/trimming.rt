@@ -4,7 +4,7 @@ ghost use Rattle.op_types.specs.Rooms.{IsAtRest};
 
 use crate::service::put;
 use op_types::{
-    Ballot, Batch, Blob, Change, Durable, Entries, Entry, Members, Part, Reserved, StopSign,
+    Ballot, Batch, Blob, Change, Durable, Entries, Entry, Members, Part, Reserved, Shared, StopSign,
 };
 use std::alloc::Global;
 
@@ -23,7 +23,7 @@ pub fn trimmed(alloc: Global, len: u64, count: u64) -> Option<u64> {
     let trims = count / TRIMMED;
     for trim in 0..trims {
         let at = trim.wrapping_add(1).wrapping_mul(TRIMMED);
-        durable = after(alloc, durable, Change::Trim(at, base(alloc)))?;
+        durable = after(alloc, durable, Change::Trim(at, base(alloc)?))?;
     }
     Some(trims)
 }
@@ -31,8 +31,8 @@ pub fn trimmed(alloc: Global, len: u64, count: u64) -> Option<u64> {
 /// A list of so many entries, of which so many are trimmed at once, is closed: how many stay.
 pub fn closed(alloc: Global, len: u64, trimmed: u64) -> Option<u64> {
     let durable = durable(alloc, len)?;
-    let durable = after(alloc, durable, Change::Trim(trimmed, base(alloc)))?;
-    let durable = after(alloc, durable, Change::Close(false, base(alloc)))?;
+    let durable = after(alloc, durable, Change::Trim(trimmed, base(alloc)?))?;
+    let durable = after(alloc, durable, Change::Close(false, base(alloc)?))?;
     let closed = durable.closed?;
     Some(closed.tail.len() as u64)
 }
@@ -56,7 +56,7 @@ fn durable(alloc: Global, len: u64) -> Option<Durable>
         members: members()?,
         promised: Ballot::NONE,
         accepted: Ballot::NONE,
-        base: base(alloc),
+        base: base(alloc)?,
         trimmed: 0,
         tail: Reserved::from_seq(entries(alloc, len)?),
         decided: len,
@@ -78,6 +78,7 @@ fn entries(alloc: Global, len: u64) -> Option<Entries> {
         next: 2,
         members: members()?,
     };
+    let stop = Shared::new(alloc, stop).ok()?;
     entries.push(Entry::Stop(stop)).ok()?;
     Some(entries)
 }
@@ -88,6 +89,6 @@ fn members() -> Option<Members> {
 }
 
 /// A base of no bytes: what it holds doesn't matter here.
-fn base(alloc: Global) -> Blob {
-    Blob::from_vec(Vec::new(alloc))
+fn base(alloc: Global) -> Option<Blob> {
+    Blob::from_vec(Vec::new(alloc)).ok()
 }

@@ -275,7 +275,13 @@ impl Chain {
         };
         let named = is_among(stop.members.as_slice(), self.me);
         let cause = Cause::Stop(decided_after(part, plan.batch.as_slice()).saturating_sub(1));
-        push_news(&mut plan.sends, part, plan.batch.as_slice(), stop)?;
+        push_news(
+            self.alloc,
+            &mut plan.sends,
+            part,
+            plan.batch.as_slice(),
+            stop,
+        )?;
         let base = self.service.base_bytes_after(self.alloc, &served.change)?;
         plan.batch.push(Change::Close(named, base))?;
         let given_up = given_up_after(self.alloc, &plan.turn, &self.volatile.role, cause)?;

@@ -13,8 +13,8 @@ ghost use Rattle.op_protocol.specs.Configurations.{news_of};
 use crate::deciding::{decided_after, trimmed_after};
 use op_plans::{given_up, push_dropped};
 use op_types::{
-    Body, Buffered, Cause, Change, Msg, NoMemory, Part, Replies, Role, Sends, StopSign, Turn,
-    is_among,
+    Body, Buffered, Cause, Change, Msg, NoMemory, Part, Replies, Role, Sends, Shared, StopSign,
+    Turn, is_among,
 };
 use std::alloc::Global;
 
@@ -61,6 +61,7 @@ fn given_up_with(
 /// The news of the configuration after a part's, to those of its members that weren't in the part's: the batch decides this
 /// stop-sign.
 pub(crate) fn push_news(
+    alloc: Global,
     sends: &mut Sends,
     part: &Part,
     batch: &[Change],
@@ -76,7 +77,9 @@ pub(crate) fn push_news(
     let trimmed = trimmed_after(part, batch);
     'members: for pid in stop.members.as_slice() {
         if !is_among(part.members.as_slice(), *pid) {
-            let body = Body::NextConf(stop.members.copy(), part.members.copy(), len, trimmed);
+            let members = Shared::new(alloc, stop.members.copy())?;
+            let olds = Shared::new(alloc, part.members.copy())?;
+            let body = Body::NextConf(members, olds, len, trimmed);
             sends.push((*pid, Msg { conf, body }))?;
         }
     }

@@ -63,7 +63,7 @@ impl ServicePlan {
                 self.proposers.push((command.client, command.seq))?;
                 self.stop = None;
             }
-            Entry::Stop(stop) => self.stop = Some(stop.copy()),
+            Entry::Stop(stop) => self.stop = Some(stop.get().copy()),
         }
         Ok(())
     }

@@ -24,7 +24,7 @@ pub fn short_line(alloc: Global, line: &NodeLine) -> Result<Blob, NoMemory>
     if text.len() > MOST_LINE_BYTES {
         return Err(NoMemory);
     }
-    Ok(Blob::from_vec(text))
+    Blob::from_vec(text)
 }
 
 /// The part's configuration, or else that of the closed list, how much of it is decided, and how much is

@@ -61,7 +61,7 @@ pub(crate) fn front(
         let Some(entry) = entry_at(rest, part, place) else {
             return Ok(entries);
         };
-        entries.push(entry.copy(alloc)?)?;
+        entries.push(entry.copy()?)?;
     }
     Ok(entries)
 }

@@ -182,7 +182,7 @@ fn one_put(alloc: Global, client: u32, number: u64, key: u32) -> Result<Commands
 fn numbered(alloc: Global, letter: &str, number: u64) -> Result<Blob, NoMemory>
     ensures { IfOk result (λ b. b ≡ letter.now ++ decimal number) }
 {
-    Ok(Blob::from_vec(format!(in alloc; "{letter}{number}")?.into_bytes()))
+    Blob::from_vec(format!(in alloc; "{letter}{number}")?.into_bytes())
 }
 
 /// Three of five servers in a ring, rising.

@@ -15,8 +15,8 @@ use op_plans::suffix;
 use op_segments::stage_piece;
 use op_types::{
     Batch, Blob, Body, Change, Closed, ConfNo, Entry, Joining, ListLen, MOST_DONORS,
-    MOST_PART_BYTES, Members, Msg, Pid, Piece, Pieces, Plan, Sends, Turn, copy_entries, first_run,
-    is_among,
+    MOST_PART_BYTES, Members, Msg, Pid, Piece, Pieces, Plan, Sends, Shared, Turn, copy_entries,
+    first_run, is_among,
 };
 use std::alloc::{AllocError as NoMemory, Global};
 
@@ -26,9 +26,9 @@ pub(crate) struct News {
     /// The configuration.
     pub(crate) conf: ConfNo,
     /// Its members.
-    pub(crate) members: Members,
+    pub(crate) members: Shared<Members>,
     /// The members of the configuration before it.
-    pub(crate) olds: Members,
+    pub(crate) olds: Shared<Members>,
     /// The length of the closed list before it.
     pub(crate) len: u64,
     /// How much of that list is trimmed at the sender.
@@ -45,7 +45,7 @@ impl Stored<'_> {
             news.conf news.members news.olds news.len news.trimmed) }
         ensures turn { IfOk result (λ plan. IsPlain plan.turn) }
     {
-        if !is_among(news.members.as_slice(), self.me) || news.conf <= self.latest() {
+        if !is_among(news.members.get().as_slice(), self.me) || news.conf <= self.latest() {
             return Ok(self.nothing());
         }
         let batch = join_batch(self.alloc, &self.durable.joining, from, news)?;
@@ -83,7 +83,7 @@ impl Stored<'_> {
         let mut sends = Sends::new(self.alloc);
         if let Some(closed) = &self.durable.closed {
             if self.is_latest_member(to) {
-                push_next_conf(&mut sends, to, closed)?;
+                push_next_conf(self.alloc, &mut sends, to, closed)?;
             }
         }
         Ok(sends)
@@ -127,13 +127,20 @@ impl Stored<'_> {
 }
 
 /// Adds the news of the configuration after a closed list, to a node.
-fn push_next_conf(sends: &mut Sends, to: Pid, closed: &Closed) -> Result<(), NoMemory>
+fn push_next_conf(
+    alloc: Global,
+    sends: &mut Sends,
+    to: Pid,
+    closed: &Closed,
+) -> Result<(), NoMemory>
     requires { ListFits closed.now }
     ensures { OnOk result (sends.new ≡ sends.old ++ next_conf_message closed.now to ∷ []) }
 {
     let conf = closed.conf + 1;
     let len = closed_len(closed);
-    let body = Body::NextConf(closed.next.copy(), closed.olds.copy(), len, closed.trimmed);
+    let next = Shared::new(alloc, closed.next.copy())?;
+    let olds = Shared::new(alloc, closed.olds.copy())?;
+    let body = Body::NextConf(next, olds, len, closed.trimmed);
     sends.push((to, Msg { conf, body }))
 }
 
@@ -172,7 +179,7 @@ fn push_base(
     if bytes.len() > MOST_PART_BYTES {
         return push_pieces(alloc, sends, to, conf, closed);
     }
-    let body = Body::BasePart(closed.trimmed, closed.base.copy(alloc)?);
+    let body = Body::BasePart(closed.trimmed, closed.base.copy()?);
     sends.push((to, Msg { conf, body }))
 }
 

@@ -18,7 +18,7 @@ use op_leader::propose;
 use op_plans::{Member, one};
 use op_types::{
     Ballot, Commands, Entries, Entry, LAST_CONF, Members, NoMemory, Outcome, POSITIONS_END, Plan,
-    Refusal, Role, StopSign,
+    Refusal, Role, Shared, StopSign,
 };
 use std::alloc::Global;
 
@@ -118,7 +118,7 @@ impl Stored<'_> {
         match self.refusal(&volatile.role, proposed) {
             Some(cause) => Ok(refused(self.alloc, cause)),
             None => {
-                let stop = self.stop_entry(members);
+                let stop = self.stop_entry(members)?;
                 self.propose(volatile, one(self.alloc, stop)?)
             }
         }
@@ -146,15 +146,16 @@ impl Stored<'_> {
     }
 
     /// The stop-sign that ends the part's configuration, with these members in the next one.
-    fn stop_entry(&self, members: Members) -> Entry
+    fn stop_entry(&self, members: Members) -> Result<Entry, NoMemory>
         requires { IfNumberLeft self.now.durable.now.part }
-        ensures { result ≡ entry.Stop (stop_for self.now.durable.now.part members) }
+        ensures { IfOk result (λ e. e ≡ entry.Stop (stop_for self.now.durable.now.part members)) }
     {
         let next = match &self.durable.part {
             Some(part) => part.conf + 1,
             None => 1,
         };
-        Entry::Stop(StopSign { next, members })
+        let stop = Shared::new(self.alloc, StopSign { next, members })?;
+        Ok(Entry::Stop(stop))
     }
 }
 

@@ -98,7 +98,7 @@ impl KvChange {
     {
         match self.last_of(below, client) {
             Some(last) if seq < last.seq => Ok(Some(Answer::Stale)),
-            Some(last) if seq == last.seq => Ok(Some(last.answer.copy(alloc)?)),
+            Some(last) if seq == last.seq => Ok(Some(last.answer.copy()?)),
             _ => Ok(None),
         }
     }
@@ -118,7 +118,7 @@ impl KvChange {
         let answer = self.apply(alloc, below, &command.op)?;
         let last = Applied {
             seq: command.seq,
-            answer: answer.copy(alloc)?,
+            answer: answer.copy()?,
         };
         self.keep_last(below, command.client, last)?;
         Ok(answer)
@@ -159,7 +159,7 @@ impl KvChange {
         ensures clients { OnOk result (self.new.clients ≡ self.old.clients) }
     {
         let _ = &below.pairs;
-        self.pairs.insert(key.copy(alloc)?, value.copy(alloc)?)?;
+        self.pairs.insert(key.copy()?, value.copy()?)?;
         Ok(Answer::Done)
     }
 
@@ -171,7 +171,7 @@ impl KvChange {
         ensures clients { OnOk result (self.new.clients ≡ self.old.clients) }
     {
         let _ = &below.pairs;
-        self.gone.insert(key.copy(alloc)?)?;
+        self.gone.insert(key.copy()?)?;
         self.pairs.remove(key);
         Ok(Answer::Done)
     }
@@ -181,7 +181,7 @@ impl KvChange {
         ensures { IfOk result (λ a. a ≡ told_value (value_at key.now (pairs_over below.now.pairs self.now))) }
     {
         match self.value_of(below, key) {
-            Some(value) => Ok(Answer::Value(value.copy(alloc)?)),
+            Some(value) => Ok(Answer::Value(value.copy()?)),
             None => Ok(Answer::Absent),
         }
     }

@@ -181,7 +181,7 @@ fn bytes_with(alloc: Global, kept: &Tables, newer: &KvChange) -> Result<Blob, No
     let mut out = Vec::new(alloc);
     put_pairs(&mut out, &kept.pairs_with(alloc, newer)?)?;
     put_clients(&mut out, &kept.clients_with(alloc, newer)?)?;
-    Ok(Blob::from_vec(out))
+    Blob::from_vec(out)
 }
 
 /// Copies of these pairs, in their order.
@@ -190,7 +190,7 @@ fn copy_pairs(alloc: Global, pairs: &BTreeMap<&Blob, &Blob>) -> Result<Pairs, No
 {
     let mut copy = Pairs::new(alloc);
     'pairs: for (key, value) in pairs {
-        copy.push((key.copy(alloc)?, value.copy(alloc)?))?;
+        copy.push((key.copy()?, value.copy()?))?;
     }
     Ok(copy)
 }

@@ -149,7 +149,7 @@ pub fn put_body(out: &mut Vec<u8>, body: &Body) -> Result<(), NoMemory>
         Body::Progress(ballot, decided) => put_length_in(out, *ballot, *decided),
         Body::Trim(place) => put_u64(out, *place),
         Body::NextConf(members, olds, len, trimmed) => {
-            put_next_conf(out, members, olds, *len, *trimmed)
+            put_next_conf(out, members.get(), olds.get(), *len, *trimmed)
         }
         Body::AskBase => Ok(()),
         Body::BasePart(place, base) => put_base_part(out, *place, base),

@@ -22,7 +22,7 @@ impl AskedRead {
     {
         Ok(AskedRead {
             number: self.number,
-            read: self.read.copy(alloc)?,
+            read: self.read.copy()?,
         })
     }
 }

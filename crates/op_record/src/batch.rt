@@ -10,7 +10,7 @@ use crate::base::{base_at, put_base};
 use crate::part::place_at;
 use op_entry::{ballot_at, entries_at, members_at, put_ballot, put_entries, put_members};
 use op_fields::{NoMemory, TakeFail, items_at, put_u8, put_u32, put_u64, u8_in, u32_in, u64_in};
-use op_types::{Batch, Change, GREATEST_PID, LAST_CONF, ListLen, POSITIONS_END, Seq};
+use op_types::{Batch, Change, GREATEST_PID, LAST_CONF, ListLen, POSITIONS_END, Seq, Shared};
 use std::alloc::Global;
 
 /// How many changes a batch has at most: their count is one byte.
@@ -95,8 +95,8 @@ fn put_change(out: &mut Vec<u8>, c: &Change) -> Result<(), NoMemory>
         Change::JoinBegin(conf, members, olds, len) => {
             put_u8(out, JOIN_BEGIN)?;
             put_u32(out, *conf)?;
-            put_members(out, members)?;
-            put_members(out, olds)?;
+            put_members(out, members.get())?;
+            put_members(out, olds.get())?;
             put_u64(out, len.get())
         }
         Change::JoinDonor(donor, trimmed) => {
@@ -228,6 +228,7 @@ fn begin_at(alloc: Global, bytes: &[u8], at: usize) -> Result<(Change, usize), T
     let (olds, at) = members_at(alloc, bytes, at)?;
     let (len, at) = u64_in(bytes, at, 1, POSITIONS_END)?;
     let len = ListLen::new(alloc, len)?;
+    let (members, olds) = (Shared::new(alloc, members)?, Shared::new(alloc, olds)?);
     Ok((Change::JoinBegin(conf, members, olds, len), at))
 }
 

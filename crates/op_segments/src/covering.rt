@@ -50,7 +50,7 @@ fn walk(
     ensures entries { OnOk result (entries.new ≡ entries.old ++ taken next to item.now) }
 {
     if next < to && item.0 == next {
-        entries.push(item.1.copy(alloc)?)?;
+        entries.push(item.1.copy()?)?;
         return Ok(next + 1);
     }
     Ok(next)

@@ -111,7 +111,7 @@ fn whole_with(
     let bytes = piece.bytes.as_slice();
     if !are_of(piece, pieces) {
         if bytes.len() as u64 == piece.total {
-            return Ok(Some(piece.bytes.copy(alloc)?));
+            return Ok(Some(piece.bytes.copy()?));
         }
         return Ok(None);
     }

@@ -123,7 +123,7 @@ impl Server {
             ≡ read_reply (chains.planned_by self.now.chain plan.now).service asked.now) }
     {
         let answer = match self.chain.value_after(plan, &asked.read.key) {
-            Some(value) => Answer::Value(value.copy(self.alloc)?),
+            Some(value) => Answer::Value(value.copy()?),
             None => Answer::Absent,
         };
         Ok(Reply {

@@ -102,7 +102,7 @@ impl Server {
             (reads_at self.now.chain.me part.now self.now.reads) read.now self.now.reads) }
     {
         let mut reads = self.reads_of(part)?;
-        match reads.ask(self.alloc, read.copy(self.alloc)?) {
+        match reads.ask(self.alloc, read.copy()?) {
             Ok(number) => Ok(Asking {
                 reads: Some(reads),
                 sends: self.member(part).to_others(&Body::Confirm(ballot, number))?,

@@ -64,7 +64,7 @@ fn all_bytes(alloc: Global, word: &[u8]) -> Result<Option<Blob>, NoMemory>
         bytes.push(byte)?;
         rest = after;
     }
-    Ok(Some(Blob::from_vec(bytes)))
+    Ok(Some(Blob::from_vec(bytes)?))
 }
 
 /// The bytes that a key's or a value's word encodes, however many they are; `None` where the word is no encoding.
@@ -79,7 +79,7 @@ fn decode_percent(alloc: Global, word: &[u8]) -> Result<Option<Blob>, NoMemory>
     ensures { IfOk result (IsFound (IsEncoded word.now)) }
 {
     if word == b"%".as_slice() {
-        return Ok(Some(Blob::from_vec(Vec::new(alloc))));
+        return Ok(Some(Blob::from_vec(Vec::new(alloc))?));
     }
     if word.is_empty() {
         return Ok(None);

@@ -30,7 +30,7 @@ pub fn on_trim(member: &Member, role: &Role, x: u64) -> Result<Plan, NoMemory>
 fn trim_batch(alloc: Global, x: u64) -> Result<Batch, NoMemory>
     ensures { IfOk result (λ batch. batch ≡ change.Trim x [] ∷ []) }
 {
-    one(alloc, Change::Trim(x, Blob::from_vec(Vec::new(alloc))))
+    one(alloc, Change::Trim(x, Blob::from_vec(Vec::new(alloc))?))
 }
 
 /// The leader trims so much and tells the others, where that isn't trimmed yet.

@@ -1,61 +1,48 @@
-//! Copies, each equal to what it was made from.
+//! Copies, each equal to what it was made from. They share the bytes of keys, values and bases.
 ghost use Rattle.std.specs.Prelude.{◌≡◌, IfOk};
 
 use crate::{
-    Answer, Applied, Blob, Body, Command, Entries, Entry, Op, Piece, PromisedRun, Read, Reply,
-    StopSign, SyncRun,
+    Answer, Applied, Body, Command, Entries, Entry, Op, Piece, PromisedRun, Read, Reply, StopSign,
+    SyncRun,
 };
 use std::alloc::{AllocError as NoMemory, Global};
 
-impl Blob {
-    /// An equal value.
-    pub fn copy(&self, alloc: Global) -> Result<Blob, NoMemory>
-        ensures { IfOk result (λ b. b ≡ self.now) }
-    {
-        Blob::from_slice(alloc, self.as_slice())
-    }
-}
-
 impl Op {
     /// An equal value.
-    pub fn copy(&self, alloc: Global) -> Result<Op, NoMemory>
+    pub fn copy(&self) -> Result<Op, NoMemory>
         ensures { IfOk result (λ op. op ≡ self.now) }
     {
         match self {
-            Op::Put(key, value) => Ok(Op::Put(key.copy(alloc)?, value.copy(alloc)?)),
-            Op::Del(key) => Ok(Op::Del(key.copy(alloc)?)),
-            Op::Get(key) => Ok(Op::Get(key.copy(alloc)?)),
-            Op::Cas(key, old, new) => Ok(Op::Cas(
-                key.copy(alloc)?,
-                old.copy(alloc)?,
-                new.copy(alloc)?,
-            )),
+            Op::Put(key, value) => Ok(Op::Put(key.copy()?, value.copy()?)),
+            Op::Del(key) => Ok(Op::Del(key.copy()?)),
+            Op::Get(key) => Ok(Op::Get(key.copy()?)),
+            Op::Cas(key, old, new) => Ok(Op::Cas(key.copy()?, old.copy()?, new.copy()?)),
         }
     }
 }
 
 impl Command {
     /// An equal value.
-    pub fn copy(&self, alloc: Global) -> Result<Command, NoMemory>
+    pub fn copy(&self) -> Result<Command, NoMemory>
         ensures { IfOk result (λ c. c ≡ self.now) }
     {
         Ok(Command {
             client: self.client,
             seq: self.seq,
-            op: self.op.copy(alloc)?,
+            op: self.op.copy()?,
         })
     }
 }
 
 impl Read {
     /// An equal value.
-    pub fn copy(&self, alloc: Global) -> Result<Read, NoMemory>
+    pub fn copy(&self) -> Result<Read, NoMemory>
         ensures { IfOk result (λ read. read ≡ self.now) }
     {
         Ok(Read {
             client: self.client,
             seq: self.seq,
-            key: self.key.copy(alloc)?,
+            key: self.key.copy()?,
         })
     }
 }
@@ -74,24 +61,24 @@ impl StopSign {
 
 impl Entry {
     /// An equal value.
-    pub fn copy(&self, alloc: Global) -> Result<Entry, NoMemory>
+    pub fn copy(&self) -> Result<Entry, NoMemory>
         ensures { IfOk result (λ e. e ≡ self.now) }
     {
         match self {
-            Entry::Command(command) => Ok(Entry::Command(command.copy(alloc)?)),
-            Entry::Stop(stop) => Ok(Entry::Stop(stop.copy())),
+            Entry::Command(command) => Ok(Entry::Command(command.copy()?)),
+            Entry::Stop(stop) => Ok(Entry::Stop(stop.copy()?)),
         }
     }
 }
 
 impl Answer {
     /// An equal value.
-    pub fn copy(&self, alloc: Global) -> Result<Answer, NoMemory>
+    pub fn copy(&self) -> Result<Answer, NoMemory>
         ensures { IfOk result (λ a. a ≡ self.now) }
     {
         Ok(match self {
             Answer::Done => Answer::Done,
-            Answer::Value(value) => Answer::Value(value.copy(alloc)?),
+            Answer::Value(value) => Answer::Value(value.copy()?),
             Answer::Absent => Answer::Absent,
             Answer::Stale => Answer::Stale,
             Answer::Dropped(cause) => Answer::Dropped(*cause),
@@ -101,25 +88,25 @@ impl Answer {
 
 impl Reply {
     /// An equal value.
-    pub fn copy(&self, alloc: Global) -> Result<Reply, NoMemory>
+    pub fn copy(&self) -> Result<Reply, NoMemory>
         ensures { IfOk result (λ r. r ≡ self.now) }
     {
         Ok(Reply {
             client: self.client,
             seq: self.seq,
-            answer: self.answer.copy(alloc)?,
+            answer: self.answer.copy()?,
         })
     }
 }
 
 impl Applied {
     /// An equal value.
-    pub fn copy(&self, alloc: Global) -> Result<Applied, NoMemory>
+    pub fn copy(&self) -> Result<Applied, NoMemory>
         ensures { IfOk result (λ a. a ≡ self.now) }
     {
         Ok(Applied {
             seq: self.seq,
-            answer: self.answer.copy(alloc)?,
+            answer: self.answer.copy()?,
         })
     }
 }
@@ -156,14 +143,14 @@ impl SyncRun {
 
 impl Piece {
     /// An equal value.
-    pub fn copy(&self, alloc: Global) -> Result<Piece, NoMemory>
+    pub fn copy(&self) -> Result<Piece, NoMemory>
         ensures { IfOk result (λ p. p ≡ self.now) }
     {
         Ok(Piece {
             at: self.at,
             total: self.total,
             from: self.from,
-            bytes: self.bytes.copy(alloc)?,
+            bytes: self.bytes.copy()?,
         })
     }
 }
@@ -188,21 +175,21 @@ impl Body {
             Body::Decide(n, x) => Body::Decide(*n, *x),
             Body::PrepareReq => Body::PrepareReq,
             Body::Refuse(n, b) => Body::Refuse(*n, *b),
-            Body::Forward(entry) => Body::Forward(entry.copy(alloc)?),
+            Body::Forward(entry) => Body::Forward(entry.copy()?),
             Body::Forwards(es) => Body::Forwards(copy_entries(alloc, es.as_slice())?),
             Body::TrimAsk(n) => Body::TrimAsk(*n),
             Body::Progress(n, x) => Body::Progress(*n, *x),
             Body::Trim(x) => Body::Trim(*x),
             Body::NextConf(members, olds, len, trimmed) => {
-                Body::NextConf(members.copy(), olds.copy(), *len, *trimmed)
+                Body::NextConf(members.copy()?, olds.copy()?, *len, *trimmed)
             }
             Body::AskBase => Body::AskBase,
-            Body::BasePart(at, base) => Body::BasePart(*at, base.copy(alloc)?),
+            Body::BasePart(at, base) => Body::BasePart(*at, base.copy()?),
             Body::AskSegment(from, to) => Body::AskSegment(*from, *to),
             Body::Segment(at, es) => Body::Segment(*at, copy_entries(alloc, es.as_slice())?),
             Body::PromisePart(n, part) => Body::PromisePart(*n, part.copy(alloc)?),
             Body::AcceptSyncPart(n, part) => Body::AcceptSyncPart(*n, part.copy(alloc)?),
-            Body::BasePiece(piece) => Body::BasePiece(piece.copy(alloc)?),
+            Body::BasePiece(piece) => Body::BasePiece(piece.copy()?),
             Body::Confirm(n, number) => Body::Confirm(*n, *number),
             Body::Confirmed(n, number) => Body::Confirmed(*n, *number),
         })
@@ -215,7 +202,7 @@ pub fn copy_entries(alloc: Global, entries: &[Entry]) -> Result<Entries, NoMemor
 {
     let mut copies = Entries::new(alloc);
     for entry in entries {
-        copies.push(entry.copy(alloc)?)?;
+        copies.push(entry.copy()?)?;
     }
     Ok(copies)
 }

@@ -17,7 +17,7 @@ impl Part {
             members: self.members.copy(),
             promised: self.promised,
             accepted: self.accepted,
-            base: self.base.copy(alloc)?,
+            base: self.base.copy()?,
             trimmed: self.trimmed,
             tail: Reserved::from_seq(copy_entries(alloc, self.tail.as_slice())?),
             decided: self.decided,
@@ -34,7 +34,7 @@ impl Closed {
             conf: self.conf,
             olds: self.olds.copy(),
             next: self.next.copy(),
-            base: self.base.copy(alloc)?,
+            base: self.base.copy()?,
             trimmed: self.trimmed,
             tail: copy_entries(alloc, self.tail.as_slice())?,
         })
@@ -62,7 +62,7 @@ impl Joining {
             olds: self.olds.copy(),
             len: self.len,
             donors: self.donors.copy(alloc)?,
-            base: copy_base(alloc, &self.base)?,
+            base: copy_base(&self.base)?,
             held: self.held.copy(alloc)?,
         })
     }
@@ -92,17 +92,17 @@ impl Change {
             Change::CutTo(len) => Change::CutTo(*len),
             Change::Append(entries) => Change::Append(copy_entries(alloc, entries.as_slice())?),
             Change::Decided(len) => Change::Decided(*len),
-            Change::Trim(at, base) => Change::Trim(*at, base.copy(alloc)?),
-            Change::Close(named, base) => Change::Close(*named, base.copy(alloc)?),
+            Change::Trim(at, base) => Change::Trim(*at, base.copy()?),
+            Change::Close(named, base) => Change::Close(*named, base.copy()?),
             Change::JoinBegin(conf, members, olds, len) => {
-                Change::JoinBegin(*conf, members.copy(), olds.copy(), len.copy(alloc)?)
+                Change::JoinBegin(*conf, members.copy()?, olds.copy()?, len.copy(alloc)?)
             }
             Change::JoinDonor(pid, trimmed) => Change::JoinDonor(*pid, *trimmed),
-            Change::JoinBase(at, base) => Change::JoinBase(*at, base.copy(alloc)?),
+            Change::JoinBase(at, base) => Change::JoinBase(*at, base.copy()?),
             Change::JoinPart(at, entries) => {
                 Change::JoinPart(*at, copy_entries(alloc, entries.as_slice())?)
             }
-            Change::JoinDone(base) => Change::JoinDone(base.copy(alloc)?),
+            Change::JoinDone(base) => Change::JoinDone(base.copy()?),
         })
     }
 }
@@ -135,16 +135,16 @@ fn copy_placed(alloc: Global, placed: &[(u64, Entry)]) -> Result<Vec<(u64, Entry
 {
     let mut copies = Vec::new(alloc);
     for (place, entry) in placed {
-        copies.push((*place, entry.copy(alloc)?))?;
+        copies.push((*place, entry.copy()?))?;
     }
     Ok(copies)
 }
 
-fn copy_base(alloc: Global, base: &Option<(u64, Blob)>) -> Result<Option<(u64, Blob)>, NoMemory>
+fn copy_base(base: &Option<(u64, Blob)>) -> Result<Option<(u64, Blob)>, NoMemory>
     ensures { IfOk result (λ copy. copy ≡ base.now) }
 {
     match base {
-        Some((at, bytes)) => Ok(Some((*at, bytes.copy(alloc)?))),
+        Some((at, bytes)) => Ok(Some((*at, bytes.copy()?))),
         None => Ok(None),
     }
 }

@@ -48,7 +48,7 @@ impl Entry {
     {
         match self {
             Entry::Command(command) => 1 + 8 + 8 + command.op.size(),
-            Entry::Stop(stop) => 1 + 4 + 1 + 4 * stop.members.len() as u128,
+            Entry::Stop(stop) => 1 + 4 + 1 + 4 * stop.get().members.len() as u128,
         }
     }
 }

@@ -80,7 +80,7 @@ impl Pieces {
             };
             bytes.push(*byte)?;
         }
-        Ok(Some(Blob::from_vec(bytes)))
+        Ok(Some(Blob::from_vec(bytes)?))
     }
 
     /// The bytes once these come to the places from this one on, if all are there then. They are copied only then.

@@ -30,7 +30,7 @@ impl Entry {
     {
         match self {
             Entry::Command(_) => None,
-            Entry::Stop(stop) => Some(stop),
+            Entry::Stop(stop) => Some(stop.get()),
         }
     }
 }
@@ -367,6 +367,7 @@ impl Durable {
         match change {
             Change::Close(named, base) => self.close(alloc, named, base),
             Change::JoinBegin(conf, members, olds, len) => {
+                let (members, olds) = (members.get().copy(), olds.get().copy());
                 self.joining = Some(Joining::first(alloc, conf, members, olds, len));
             }
             Change::JoinDone(base) => self.join(alloc, base),

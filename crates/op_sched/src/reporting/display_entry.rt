@@ -37,7 +37,7 @@ impl fmt::Display for EntryText<'_> {
     fn fmt<W: fmt::Write>(&self, f: &mut fmt::Formatter<W>) -> fmt::Result {
         match self.0 {
             Entry::Command(command) => CommandText(command).fmt(f),
-            Entry::Stop(sign) => write!(f, "stop{}", PidsText(sign.members.as_slice())),
+            Entry::Stop(sign) => write!(f, "stop{}", PidsText(sign.get().members.as_slice())),
         }
     }
 }

@@ -18,4 +18,4 @@ returns-in_default c =
 pub returns : goal.returns
 returns c =
     let end : length c.loop-rest.rest.now ≡ 0 = grind arith in
-    rw c.from_vec.ensures (read_all _ _ _ c.loop-rest.invariant end)
+    rw c.in_ok-from_vec.ensures (read_all _ _ _ c.loop-rest.invariant end)
