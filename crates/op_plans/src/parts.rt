@@ -9,7 +9,7 @@ ghost use Rattle.op_plans.specs.Positions.{FitsPositions};
 use crate::head::Head;
 use crate::log::suffix;
 use crate::member::Member;
-use op_types::{Ballot, Body, Entries, Entry, Pid, Sends, copy_entries, first_run, fits_part};
+use op_types::{Ballot, Body, Entry, Pid, Sends, copy_entries, first_run, fits_part};
 use std::alloc::AllocError as NoMemory;
 
 impl Member<'_> {
@@ -20,18 +20,19 @@ impl Member<'_> {
         to: Pid,
         ballot: Ballot,
         start: u64,
-        entries: Entries,
+        entries: &[Entry],
     ) -> Result<(), NoMemory>
-        requires { start + length entries ≤ positions_end }
+        requires { start + length entries.now ≤ positions_end }
         ensures { OnOk result (sends.new
-            ≡ sends.old ++ messages self.now.part.now.conf to (sync_bodies ballot start entries)) }
+            ≡ sends.old ++ messages self.now.part.now.conf to (sync_bodies ballot start entries.now)) }
     {
-        if fits_part(entries.as_slice()) {
+        if fits_part(entries) {
+            let entries = copy_entries(self.alloc, entries)?;
             return self.send(sends, to, Body::AcceptSync(ballot, start, entries));
         }
         let end = start + entries.len() as u64;
         let head = Head::AcceptSync(ballot, start, end);
-        self.send_runs(sends, to, head, start, entries.as_slice())
+        self.send_runs(sends, to, head, start, entries)
     }
 
     /// Adds what brings a promise to a node, which tells the log from a position on: itself, or its parts where that is long.
