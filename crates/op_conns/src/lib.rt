@@ -6,4 +6,5 @@ mod queue;
 mod table;
 
 pub use laws::queues_apart;
+pub use queue::Queue;
 pub use table::Table;

@@ -3,7 +3,7 @@ ghost use Rattle.op_serving.specs.Turns.{hello};
 ghost use Rattle.op_serving.specs.Reading.{greeting, hello_len};
 ghost use Rattle.op_serving.specs.declared.greeting.Greeting.TheVariants.{Client, Peer};
 
-use crate::queue::Queue;
+use op_conns::Queue;
 use op_fields::{put_u8, put_u32, take_u32};
 use op_types::{NoMemory, Pid};
 use std::alloc::Global;

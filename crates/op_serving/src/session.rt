@@ -5,7 +5,7 @@ ghost use Rattle.op_serving.specs.Turns.{queue_in, made_session};
 
 use crate::greeting::put_hello;
 use crate::kind::Kind;
-use crate::queue::Queue;
+use op_conns::Queue;
 use op_frame::Frames;
 use op_types::{MOST_PEER_BODY, NoMemory, Pid};
 use std::alloc::Global;
