@@ -1,5 +1,5 @@
 -- What a frame says is done, behind what was gathered.
-use Rattle.std.proofs.Common.{map, ◌≡◌, ◌<◌, ◌≤◌, ◌+◌, ◌++◌, ◌∷◌, [], ℕ, Bool, true, false, List, length, Some, None, is_some, option_map, Result, Ok, Err, OnOk, nat_lt, if◌then◌else◌, refl, sym, ◌∙◌, ap, subst, inl, arith}
+use Rattle.std.proofs.Common.{map, ◌≡◌, ◌<◌, ◌≤◌, ◌++◌, ◌∷◌, [], ℕ, Bool, true, false, List, length, Some, None, is_some, option_map, Result, Ok, Err, OnOk, nat_lt, if◌then◌else◌, refl, sym, ◌∙◌, ap, subst, inl, arith}
 use Rattle.std.proofs.lemmas.Bool.{lt-ltb, le-ltb}
 use Rattle.std.proofs.lemmas.List.{append-nil}
 use Rattle.op_types.specs.declared.events.Input.TheVariants as input

@@ -445,7 +445,7 @@ fn hand_out(sessions: &mut Sessions, wanted: Option<Wanted>, given: Given)
         outcome,
     } = given;
     sessions.propose(wanted, outcome);
-    sessions.send_all(&sends);
+    sessions.send_all(sends);
     sessions.reply_all(false, replies);
     sessions.reply_all(true, read_replies);
 }

@@ -37,28 +37,26 @@ fn with_peer(alloc: Global) -> Result<Sessions, NoMemory> {
 /// Tells the peer so often how much is decided.
 fn tell(sessions: &mut Sessions, times: usize) {
     let ballot = Ballot { number: 1, pid: 1 };
-    let message = (
-        PEER,
-        Msg {
-            conf: 1,
-            body: Body::Decide(ballot, 1),
-        },
-    );
     for _ in 0..times {
-        sessions.send(&message);
+        sessions.send((
+            PEER,
+            Msg {
+                conf: 1,
+                body: Body::Decide(ballot, 1),
+            },
+        ));
     }
 }
 
 /// Asks the peer for a heartbeat.
 fn ask(sessions: &mut Sessions) {
-    let message = (
+    sessions.send((
         PEER,
         Msg {
             conf: 1,
             body: Body::HeartbeatRequest(1),
         },
-    );
-    sessions.send(&message);
+    ));
 }
 
 /// How many bytes wait for the peer.

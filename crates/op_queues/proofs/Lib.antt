@@ -6,6 +6,7 @@ pub mod Sizes
 pub mod Counting
 pub mod Settling
 pub mod Room
+pub mod Counted
 pub mod Sending
 pub mod Asking
 pub mod Hears

@@ -55,7 +55,7 @@ first_none c (x ∷ t) e = elim (cases_Bool (is_at (nat_cmp c) x.0)) [
   | inr g ↦ rw g (ap (λ r. x ∷ r) (first_none c t (rw g at e)))
 ]
 
-count_none : (c : ℕ) (t : Table (List ℕ)) → find c t ≡ None → count_at c t ≡ 0
+pub count_none : (c : ℕ) (t : Table (List ℕ)) → find c t ≡ None → count_at c t ≡ 0
 count_none c [] e = refl
 count_none c (x ∷ t) e = elim (cases_Bool (is_at (nat_cmp c) x.0)) [
   | inl g ↦ absurd (let bad = rw g at e in cc)
@@ -63,19 +63,11 @@ count_none c (x ∷ t) e = elim (cases_Bool (is_at (nat_cmp c) x.0)) [
 ]
 
 -- the first one less
-first_less : (c : ℕ) (bytes : List ℕ) (t : Table (List ℕ)) → find c t ≡ Some bytes → count_at c t ≡ suc (count_at c (without_first c t))
+pub first_less : (c : ℕ) (bytes : List ℕ) (t : Table (List ℕ)) → find c t ≡ Some bytes → count_at c t ≡ suc (count_at c (without_first c t))
 first_less c bytes [] e = absurd cc
 first_less c bytes (x ∷ t) e = elim (cases_Bool (is_at (nat_cmp c) x.0)) [
   | inl g ↦ rw g refl
   | inr g ↦ rw (g, g) (first_less c bytes t (rw g at e))
-]
-
--- as many as are found
-pub counted_at : (c : ℕ) (t : Table (List ℕ)) → length (filter (λ f. f.0 == c) t) ≡ count_at c t
-counted_at c [] = refl
-counted_at c (f ∷ t) = elim (cases_Bool (f.0 == c)) [
-  | inl h ↦ (let at : is_at (nat_cmp c) f.0 ≡ true = ap (is_at (nat_cmp c)) (eqb-true f.0 c h) ∙ is_at_own c in rw (h, at) (ap suc (counted_at c t)))
-  | inr h ↦ rw (h, another f.0 c h) (counted_at c t)
 ]
 
 -- where the first one stands
@@ -101,7 +93,7 @@ found_nowhere c (f ∷ t) h = elim (cases_Bool (f.0 == c)) [
   | inr e ↦ (let k : length t ≤ position_or_len (λ (g : ℕ × List ℕ). g.0 == c) t = (let k = rw e at h in omega (arith, k)) in rw (another f.0 c e) (found_nowhere c t k))
 ]
 
-count_apart : (c d : ℕ) (t : Table (List ℕ)) → (c ≡ d → ⊥) → count_at c (without d t) ≡ count_at c t
+pub count_apart : (c d : ℕ) (t : Table (List ℕ)) → (c ≡ d → ⊥) → count_at c (without d t) ≡ count_at c t
 count_apart c d [] apart = refl
 count_apart c d (x ∷ t) apart = elim (cases_Bool (is_at (nat_cmp d) x.0)) [
   | inl h ↦ (let away : is_at (nat_cmp c) x.0 ≡ false = is_at_other c x.0 (λ k. apart (k ∙ sym (is_at_one d x.0 h))) in rw (h, away) (count_apart c d t apart))
@@ -133,6 +125,16 @@ without_both : (c d : ℕ) (t : Table (List ℕ)) → without d (without_first c
 without_both c d t = elim (same_or_not c d) [
   | inl same ↦ ap (λ n. without d (without_first n t)) same ∙ without_own_first d t ∙ sym (first_none d (without d t) (find_without d t)) ∙ ap (λ n. without_first n (without d t)) (sym same)
   | inr apart ↦ without_apart_first c d t apart
+]
+
+pub count_apart_first : (c d : ℕ) (t : Table (List ℕ)) → (c ≡ d → ⊥) → count_at c (without_first d t) ≡ count_at c t
+count_apart_first c d [] apart = refl
+count_apart_first c d (x ∷ t) apart = elim (cases_Bool (is_at (nat_cmp d) x.0)) [
+  | inl h ↦ (let away : is_at (nat_cmp c) x.0 ≡ false = is_at_other c x.0 (λ k. apart (k ∙ sym (is_at_one d x.0 h))) in rw (h, away) refl)
+  | inr h ↦ elim (cases_Bool (is_at (nat_cmp c) x.0)) [
+    | inl g ↦ rw (h, g) (ap suc (count_apart_first c d t apart))
+    | inr g ↦ rw (h, g) (count_apart_first c d t apart)
+  ]
 ]
 
 -- one frame less
@@ -193,13 +195,6 @@ behind_lost c s = elim (cases_Bool (is_open c s)) [
   | inl h ↦ rw h (behind_by c (nat_lt (length s.lost + 1) most_marks) (noted (mark_at s.place (Some c)) s))
   | inr h ↦ rw h (omega arith)
 ]
-
-me_by : (c : ℕ) (s : Loop) → (lost_if_open c s).me ≡ s.me
-me_by c s = elim (cases_Bool (is_open c s)) [ inl h ↦ rw h (lost_me c s) | inr h ↦ rw h refl ]
-
--- whose loop it is stays
-pub me_lost : (c : ℕ) (s t : Loop) → t ≡ lost_if_open c s → t.me ≡ s.me
-me_lost c s t e = ap (λ (x : Loop). x.me) e ∙ me_by c s
 
 -- ---- a frame waits behind
 

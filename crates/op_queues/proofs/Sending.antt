@@ -1,7 +1,6 @@
 -- Messages and the sessions that are lost for want of memory.
-use Rattle.std.proofs.Common.{◌≡◌, ◌<◌, get_or, ◌+◌, ◌∷◌, [], ◌++◌, ℕ, Bool, List, length, true, false, if◌then◌else◌, nat_lt, ◌==◌, Option, Some, None, is_some, refl, sym, ◌∙◌, ap, subst, ◌⊎◌, inl, inr, take}
+use Rattle.std.proofs.Common.{◌≡◌, ◌+◌, ◌∷◌, [], ◌++◌, ℕ, Bool, List, length, true, false, if◌then◌else◌, nat_lt, ◌==◌, Option, Some, None, is_some, refl, sym, ◌∙◌, ap, subst, ◌⊎◌, inl, inr}
 use Rattle.std.proofs.lemmas.Bool.{cases_Bool, eqb-true}
-use Rattle.std.proofs.lemmas.List.{take_more}
 use Rattle.std.specs.FinMap as map
 use Rattle.op_types.specs.declared.messages.Msg.{Msg}
 use Rattle.op_serving.specs.declared.kind.Kind.{Kind}
@@ -197,10 +196,6 @@ replied_more read (x ∷ xs) r s = replied_more read xs r (replied read x s)
 pub sent_more : (xs : List (ℕ × Msg)) (m : ℕ × Msg) (s : Loop) → sent_all (xs ++ m ∷ []) s ≡ sent m (sent_all xs s)
 sent_more [] m s = refl
 sent_more (x ∷ xs) m s = sent_more xs m (sent x s)
-
--- one more was taken
-pub taken_more : {X : Type 0} (xs : List X) (i : ℕ) (x : X) → i < length xs → x ≡ get_or xs i x → take (i + 1) xs ≡ take i xs ++ x ∷ []
-taken_more xs i x h e = take_more xs i x h ∙ ap (λ y. take i xs ++ y ∷ []) (sym e)
 
 -- ---- one after the other
 

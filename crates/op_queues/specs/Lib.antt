@@ -1,3 +1,4 @@
 pub mod Hearing
 pub mod Gathering
 pub mod Filling
+pub mod Counted

@@ -5,12 +5,14 @@
 mod asked;
 mod asker_table;
 mod behind;
+mod count_table;
 mod encoding;
 mod front;
 mod hearing;
 mod run;
 mod session_table;
 mod sessions;
+mod unsent;
 
 pub use asked::{asked_by, of_no_command};
 pub use front::Front;

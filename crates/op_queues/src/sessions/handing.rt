@@ -1,6 +1,7 @@
 //! What is handed out of a step: messages, answers, and what else clients are told.
-ghost use Rattle.std.specs.Prelude.{◌≡◌, ◌≤◌, All, length, OnOk, OnErr, IfOk, IfSome, Some, None, is_some, true, false};
+ghost use Rattle.std.specs.Prelude.{◌≡◌, ◌≤◌, All, length, OnOk, OnErr, IfOk, IfSome, Some, None, true, false};
 ghost use Rattle.std.specs.FinMap as map;
+ghost use Rattle.op_types.specs.Ranges.{IsPid};
 ghost use Rattle.op_command.specs.Replies.{said_of as denied};
 ghost use Rattle.op_command.specs.Ranges.{ReplyInRange, DenialInRange, OutcomeInRange, RefusalInRange, SaidInRange};
 ghost use Rattle.op_serving.specs.declared.wanted.Wanted.TheVariants.{Trim};
@@ -14,98 +15,93 @@ ghost use Rattle.op_serving.specs.Handing.{sent, sent_at, sent_all, forgotten, r
 use super::Sessions;
 use crate::asked::{denied, of_command, of_no_command, refusal};
 use crate::asker_table::{forget, put_asker};
-use crate::encoding::{put_message, put_reply};
+use crate::encoding::{is_short, put_message, put_reply};
 use crate::session_table::add;
+use crate::unsent::Unsent;
 use op_command::{ClientReply, Said};
 use op_outside::Conn;
 use op_serving::{Awaited, Key, MOST_BEHIND, Wanted, is_urgent};
-use op_types::{Blob, Msg, NoMemory, Outcome, Pid, Refusal, Replies, Reply, Sends};
-use std::mem;
+use op_types::{Msg, NoMemory, Outcome, Pid, Refusal, Replies, Reply, Sends};
 
 impl Sessions {
     /// A message for a peer without a session is lost, and one that is too long for its peer. Before one waits at a
     /// session, what waits behind there moves up.
-    pub fn send(&mut self, message: &(Pid, Msg))
-        requires { SendInRange message.now }
-        ensures { Does (λ marks s. settled marks (sent message.now s)) self.old self.new }
+    pub fn send(&mut self, message: (Pid, Msg))
+        requires { SendInRange message }
+        ensures { Does (λ marks s. settled marks (sent message s)) self.old self.new }
     {
         let Some(conn) = self.session_of(message.0) else {
+            drop(message);
             return;
         };
-        match self.encode(message) {
-            Ok(Some(frame)) => self.send_frame(conn, message, frame),
-            Ok(None) => {}
-            Err(_) => self.lose(conn),
+        match self.fits(&message) {
+            Ok(true) => self.send_fitting(conn, message),
+            Ok(false) => drop(message),
+            Err(_) => {
+                drop(message);
+                self.lose(conn);
+            }
         }
     }
 
     /// Messages, in their order.
-    pub fn send_all(&mut self, sends: &Sends)
-        requires { All SendInRange sends.now }
-        ensures { Does (λ marks s. settled marks (sent_all sends.now s)) self.old self.new }
+    pub fn send_all(&mut self, sends: Sends)
+        requires { All SendInRange sends }
+        ensures { Does (λ marks s. settled marks (sent_all sends s)) self.old self.new }
     {
-        for message in sends.as_slice() {
+        for message in sends.into_vec() {
             self.send(message);
         }
     }
 
-    /// A message as a frame, if its peer takes it, in the room that there is for frames. Without memory nothing changes.
-    fn encode(&mut self, message: &(Pid, Msg)) -> Result<Option<Vec<u8>>, NoMemory>
+    /// Whether its peer takes a message. Only one that is longer than a part of a long message is encoded to see that.
+    fn fits(&mut self, message: &(Pid, Msg)) -> Result<bool, NoMemory>
         requires { SendInRange message.now }
-        ensures frame { IfOk result (λ found. IfSome found
-            (λ frame. frame.items ≡ peer_frame self.old.me message.now.0 message.now.1)) }
-        ensures fits { IfOk result
-            (λ found. is_some found ≡ fits_peer self.old.me message.now.0 message.now.1) }
+        ensures fits { IfOk result (λ fits. fits ≡ fits_peer self.old.me message.now.0 message.now.1) }
         ensures same { self.new ≡ self.old }
     {
-        let mut frame = mem::replace(&mut self.frame, Vec::new(self.alloc));
-        if put_message(&mut frame, self.me, message.0, &message.1)? {
-            return Ok(Some(frame));
+        if is_short(self.me, message.0, &message.1) {
+            return Ok(true);
         }
-        self.frame = frame;
-        Ok(None)
+        put_message(&mut self.frame, self.me, message.0, &message.1)
     }
 
     /// What waits behind for a connection moves up, as far as there is room, and then a message waits, too.
-    fn send_frame(&mut self, conn: Conn, message: &(Pid, Msg), frame: Vec<u8>)
-        requires { frame.items ≡ peer_frame self.old.me message.now.0 message.now.1 }
-        ensures { Does (λ marks s. settled marks (sent_at (Some conn) message.now s)) self.old self.new }
+    fn send_fitting(&mut self, conn: Conn, message: (Pid, Msg))
+        requires { SendInRange message }
+        ensures { Does (λ marks s. settled marks (sent_at (Some conn) message s)) self.old self.new }
     {
         self.move_up(conn);
         if self.goes_ahead(conn, &message.1) {
-            self.put_ahead(conn, frame.as_slice());
-            self.reuse(frame);
+            self.put_ahead(conn, self.me, &message);
+            // It is a frame now.
+            drop(message);
         } else {
-            self.put_behind(conn, Blob::from_vec(frame));
+            self.put_behind(conn, message);
         }
     }
 
     /// What waits behind for a connection moves up, as far as there is room.
     fn move_up(&mut self, conn: Conn)
-        ensures does { Does (λ marks s. settled marks (moved conn s)) self.old self.new }
-        ensures me { self.new.me ≡ self.old.me }
+        ensures { Does (λ marks s. settled marks (moved conn s)) self.old self.new }
     {
         'behind: while self.has_room(conn) {
-            let Some(frame) = self.first_behind(conn) else {
+            let Some(unsent) = self.first_behind(conn) else {
                 return;
             };
-            self.put_ahead(conn, frame.as_slice());
+            let (from, message) = unsent.parts();
+            self.put_ahead(conn, from, message);
+            // It is a frame now.
+            drop(unsent);
         }
     }
 
-    /// The first frame that waits behind for a connection, if there is one. It waits no more.
-    fn first_behind(&mut self, conn: Conn) -> Option<Blob>
+    /// The first message that waits behind for a connection, if there is one. It waits no more.
+    fn first_behind(&mut self, conn: Conn) -> Option<Unsent>
         ensures first { result ≡ find conn self.old.behind }
         ensures rest { self.new ≡ record self.old { behind = without_first conn self.old.behind } }
     {
         self.behind.take_first(conn)
-    }
-
-    /// The next frame is written in the room of this one.
-    fn reuse(&mut self, frame: Vec<u8>)
-        ensures { self.new ≡ self.old }
-    {
-        self.frame = frame;
     }
 
     /// Whether there is room for a frame more at a connection.
@@ -127,45 +123,56 @@ impl Sessions {
         is_urgent(&message.body) || (self.has_room(conn) && behind == 0) || behind >= MOST_BEHIND
     }
 
-    /// A frame waits for a connection. Where that finds no memory, the session is lost.
-    fn put_ahead(&mut self, conn: Conn, frame: &[u8])
-        ensures does { Does (λ marks s. settled marks (waits_for conn frame.now s)) self.old self.new }
+    /// A message waits for a connection, as a frame. Where that finds no memory, the session is lost.
+    fn put_ahead(&mut self, conn: Conn, from: Pid, message: &(Pid, Msg))
+        requires from { IsPid from }
+        requires message { SendInRange message.now }
+        ensures does { Does (λ marks s. settled marks
+            (waits_for conn (peer_frame from message.now.0 message.now.1) s)) self.old self.new }
         ensures fewer { length self.new.behind ≤ length self.old.behind }
-        ensures me { self.new.me ≡ self.old.me }
     {
-        match self.queue_bytes(conn, frame) {
+        match self.queue_message(conn, from, message) {
             Ok(()) => {}
             Err(_) => self.lose(conn),
         }
     }
 
-    /// A frame waits behind for a connection, if that is open. Where that finds no memory, the session is lost.
-    fn put_behind(&mut self, conn: Conn, frame: Blob)
-        ensures { Does (λ marks s. settled marks (placed false (conn, frame) s)) self.old self.new }
+    /// A message waits behind for a connection, if that is open. Where that finds no memory, the session is lost.
+    fn put_behind(&mut self, conn: Conn, message: (Pid, Msg))
+        requires { SendInRange message }
+        ensures { Does (λ marks s. settled marks
+            (placed false (conn, peer_frame self.old.me message.0 message.1) s)) self.old self.new }
     {
         if !self.is_open(conn) {
+            drop(message);
             return;
         }
-        match self.keep_frame(conn, frame) {
+        match self.keep_message(conn, message) {
             Ok(()) => {}
             Err(_) => self.lose(conn),
         }
     }
 
-    /// A frame waits behind. Without memory nothing changes.
-    fn keep_frame(&mut self, conn: Conn, frame: Blob) -> Result<(), NoMemory>
-        ensures ok { OnOk result (self.new ≡ kept true (conn, frame) self.old) }
+    /// A message waits behind. Without memory nothing changes.
+    fn keep_message(&mut self, conn: Conn, message: (Pid, Msg)) -> Result<(), NoMemory>
+        requires { SendInRange message }
+        ensures ok { OnOk result
+            (self.new ≡ kept true (conn, peer_frame self.old.me message.0 message.1) self.old) }
         ensures err { OnErr result (self.new ≡ self.old) }
     {
-        self.behind.push(conn, frame)
+        self.behind.push(conn, Unsent::new(self.me, message))
     }
 
-    /// Bytes wait for a connection. Without memory nothing changes.
-    fn queue_bytes(&mut self, conn: Conn, bytes: &[u8]) -> Result<(), NoMemory>
-        ensures ok { OnOk result (self.new ≡ waits_for conn bytes.now self.old) }
+    /// A message waits for a connection, as a frame. Without memory nothing changes.
+    fn queue_message(&mut self, conn: Conn, from: Pid, message: &(Pid, Msg)) -> Result<(), NoMemory>
+        requires from { IsPid from }
+        requires message { SendInRange message.now }
+        ensures ok { OnOk result
+            (self.new ≡ waits_for conn (peer_frame from message.now.0 message.now.1) self.old) }
         ensures err { OnErr result (self.new ≡ self.old) }
     {
-        let is_over = add(&mut self.sessions, conn, bytes)?;
+        put_message(&mut self.frame, from, message.0, &message.1)?;
+        let is_over = add(&mut self.sessions, conn, self.frame.as_slice())?;
         self.overfull = self.overfull || is_over;
         Ok(())
     }

@@ -1,5 +1,6 @@
 use Rattle.std.proofs.Common.{rules, ◌≡◌, ◌∙◌, ℕ, List, length, true, false, None, Some, Option, refl, sym, ap, subst, arith, inl}
 use Rattle.op_serving.specs.State.{Loop, find, waits_for}
+use Rattle.op_serving.specs.Wire.{peer_frame}
 use Rattle.op_serving.specs.Losses.{settled, Does}
 use Rattle.op_serving.specs.Room.{has_room, without_first, moved}
 use Rattle.op_queues.proofs.Counting.{most_same}
@@ -18,18 +19,18 @@ moves_on c bytes s v u t room first is one rest =
     does_after (λ x. moved c (waits_for c bytes x)) (moved c) {s = s} {u = dropped c s} refl refl (omega arith) (omega (arith, most_same s (dropped c s) refl refl refl refl)) (λ d. inl refl)
     (moved_more c bytes s room first ∙ ap (λ (o : Option (List ℕ)). moved c (Rattle.op_serving.specs.Room.first_moved c o s)) first) both
 
-pub returns-in_default-clause-does : goal.returns-in_default-clause-does
-returns-in_default-clause-does c =
+pub returns-in_default : goal.returns-in_default
+returns-in_default c =
     let s : Loop = c.behind.self in
     let none : find c.args.conn s.behind ≡ None = search rules in
     let same : c.first_behind.new.self ≡ s = c.first_behind.ensures.rest ∙ ap (λ r. record s { behind = r }) (first_none c.args.conn s.behind none) in
-    subst (Moves c.args.conn c.args.self.now) (sym same) (c.behind.invariant.0 s (does_nothing (moved c.args.conn) s (moved_empty c.args.conn s none)))
+    subst (Moves c.args.conn c.args.self.now) (sym same) (c.behind.invariant s (does_nothing (moved c.args.conn) s (moved_empty c.args.conn s none)))
 
 pub behind-smaller : goal.behind-smaller
 behind-smaller c =
     let s : Loop = c.behind.self in
-    let first : find c.args.conn s.behind ≡ Some c.in-Some.frame = search rules in
-    let less = first_shorter c.args.conn c.in-Some.frame s.behind first in
+    let first : find c.args.conn s.behind ≡ Some c.in-Some.unsent = search rules in
+    let less = first_shorter c.args.conn c.in-Some.unsent s.behind first in
     let fewer = c.put_ahead.ensures.fewer in
     let rest : length (c.first_behind.new.self).behind ≡ length (without_first c.args.conn s.behind) = ap (λ (x : Loop). length x.behind) c.first_behind.ensures.rest in
     omega (arith, less, fewer, rest)
@@ -37,16 +38,14 @@ behind-smaller c =
 pub behind-preserved : goal.behind-preserved
 behind-preserved c =
     let s : Loop = c.behind.self in
-    let first : find c.args.conn s.behind ≡ Some c.in-Some.frame = search rules in
+    let first : find c.args.conn s.behind ≡ Some c.in-Some.unsent = search rules in
     let room : has_room (find c.args.conn s.sessions) ≡ true = search rules in
-    let bytes : c.as_slice.result.now ≡ c.in-Some.frame = c.as_slice.ensures in
-    let one : Does (λ marks x. settled marks (waits_for c.args.conn c.in-Some.frame x)) c.first_behind.new.self c.put_ahead.new.self = subst (λ (l : List ℕ). Does (λ marks x. settled marks (waits_for c.args.conn l x)) c.first_behind.new.self c.put_ahead.new.self) bytes c.put_ahead.ensures.does in (
-      λ t rest. c.behind.invariant.0 t (moves_on c.args.conn c.in-Some.frame s c.first_behind.new.self c.put_ahead.new.self t room first c.first_behind.ensures.rest one rest),
-      c.put_ahead.ensures.me ∙ ap (λ (x : Loop). x.me) c.first_behind.ensures.rest ∙ c.behind.invariant.1,
-    )
+    let frame : peer_frame c.parts-from.result.0 (c.parts-from.result.1.now).0 (c.parts-from.result.1.now).1 ≡ c.in-Some.unsent = c.parts-from.ensures.frame in
+    let one : Does (λ marks x. settled marks (waits_for c.args.conn c.in-Some.unsent x)) c.first_behind.new.self c.put_ahead.new.self = subst (λ (l : List ℕ). Does (λ marks x. settled marks (waits_for c.args.conn l x)) c.first_behind.new.self c.put_ahead.new.self) frame c.put_ahead.ensures.does in
+    λ t rest. c.behind.invariant t (moves_on c.args.conn c.in-Some.unsent s c.first_behind.new.self c.put_ahead.new.self t room first c.first_behind.ensures.rest one rest)
 
-pub returns-clause-does : goal.returns-clause-does
-returns-clause-does c =
+pub returns : goal.returns
+returns c =
     let s : Loop = c.behind.self in
     let full : has_room (find c.args.conn s.sessions) ≡ false = search rules in
-    c.behind.invariant.0 s (does_nothing (moved c.args.conn) s (moved_full c.args.conn s full))
+    c.behind.invariant s (does_nothing (moved c.args.conn) s (moved_full c.args.conn s full))

@@ -12,8 +12,8 @@ use Rattle.op_queues.proofs.sessions.Sessions.send.Goals as goal
 pub returns-in-Err : goal.returns-in-Err
 returns-in-Err c =
     let s : Loop = c.args.self.now in
-    let m = c.args.message.now in
-    let same : c.encode.new.self ≡ s = search rules in
+    let m = c.args.message in
+    let same : c.fits.new.self ≡ s = search rules in
     let to : session_of m.0 s ≡ Some c.in-Some.conn = search rules in
     let gone : c.lose.new.self ≡ lost_if_open c.in-Some.conn s = c.lose.ensures.lost ∙ ap (lost_if_open c.in-Some.conn) same in
     let room : is_open c.in-Some.conn s ≡ true → length s.lost < most_marks = subst (λ (t : Loop). is_open c.in-Some.conn t ≡ true → length t.lost < most_marks) same c.lose.ensures.room in
