@@ -10,8 +10,9 @@ use Rattle.op_mirror.specs.declared.mirror.Mirror.{Mirror}
 use Rattle.op_mirror.specs.Copies.{mirrored, read_copy}
 use Rattle.op_mirror.specs.Joins.{IsMadeOf}
 use Rattle.op_mirror.specs.Mirrors.{known_mirror}
+use Rattle.op_mirror.proofs.Telling.{marks_stay}
 
-module _ (f k : ℕ) (mark : List ℕ) (a b a' b' : DiskState) (first : BeginsAnew a a') (second : BeginsAnew b b') where
+module _ (f k : ℕ) (counts : List ℕ) (a b a' b' : DiskState) (first : BeginsAnew a a') (second : BeginsAnew b b') where
   content : (gone : Gone) → (read_copy gone a' b').content ≡ (read_copy gone a b).content
   content Neither = first.content
   content First = second.content
@@ -22,17 +23,17 @@ module _ (f k : ℕ) (mark : List ℕ) (a b a' b' : DiskState) (first : BeginsAn
   pending First = second.pending
   pending Second = first.pending
 
-  left : (gone : Gone) (x : List ℕ) → MayLeave (mirrored gone f k mark a' b') x → MayLeave (mirrored gone f k mark a b) x
+  left : (gone : Gone) (x : List ℕ) → MayLeave (mirrored gone f k counts a' b') x → MayLeave (mirrored gone f k counts a b) x
   left Neither x may = ⊎_elim (λ p. inl (p.0, (first.images x).0 p.1)) (λ p. inr (p.0, (second.images x).0 p.1)) may
   left First x may = ⊎_elim (λ p. inl (p.0, (first.images x).0 p.1)) (λ p. inr (p.0, (second.images x).0 p.1)) may
   left Second x may = ⊎_elim (λ p. inl (p.0, (first.images x).0 p.1)) (λ p. inr (p.0, (second.images x).0 p.1)) may
 
-  back : (gone : Gone) (x : List ℕ) → MayLeave (mirrored gone f k mark a b) x → MayLeave (mirrored gone f k mark a' b') x
+  back : (gone : Gone) (x : List ℕ) → MayLeave (mirrored gone f k counts a b) x → MayLeave (mirrored gone f k counts a' b') x
   back Neither x may = ⊎_elim (λ p. inl (p.0, (first.images x).1 p.1)) (λ p. inr (p.0, (second.images x).1 p.1)) may
   back First x may = ⊎_elim (λ p. inl (p.0, (first.images x).1 p.1)) (λ p. inr (p.0, (second.images x).1 p.1)) may
   back Second x may = ⊎_elim (λ p. inl (p.0, (first.images x).1 p.1)) (λ p. inr (p.0, (second.images x).1 p.1)) may
 
-  pub mirrored_anew : (gone : Gone) → BeginsAnew (mirrored gone f k mark a b) (mirrored gone f k mark a' b')
+  pub mirrored_anew : (gone : Gone) → BeginsAnew (mirrored gone f k counts a b) (mirrored gone f k counts a' b')
   mirrored_anew gone = record {
     model = (λ o. (first.model.0 o.0, second.model.0 o.1), λ o. (first.model.1 o.0, second.model.1 o.1));
     content = content gone;
@@ -40,12 +41,12 @@ module _ (f k : ℕ) (mark : List ℕ) (a b a' b' : DiskState) (first : BeginsAn
     images = λ x. (left gone x, back gone x);
     faults = refl;
     calls = refl;
-    mark = refl;
+    mark = marks_stay counts a.mark b.mark a'.mark b'.mark first.mark second.mark;
     rests = λ r. record {
       obeys = (first.model.1 r.obeys.0, second.model.1 r.obeys.1);
       only = record {
         no_other = λ c may. r.only.no_other c (left gone c may) ∙ sym (content gone);
-        itself = back gone (read_copy gone a' b').content (subst (MayLeave (mirrored gone f k mark a b)) (sym (content gone)) r.only.itself);
+        itself = back gone (read_copy gone a' b').content (subst (MayLeave (mirrored gone f k counts a b)) (sym (content gone)) r.only.itself);
       };
     };
   }

@@ -104,24 +104,24 @@ read_image Second d c alike (inl two) y (inr p) = let none : Second ≡ Neither 
 read_image Second d c alike (inr (inl killed)) y (inr p) = let alive : c.second.script.is_killed ≡ false = p.0 in absurd (cc)
 read_image Second d c alike (inr (inr same)) y (inr p) = alike_image c.first c.second y same p.1
 
-closed_holds : (gone : Gone) (is_dead : Bool) (f k : ℕ) (mark : List ℕ) (c : DiskPair) → AreAlike gone (known_disk c.first) (known_disk c.second)
+closed_holds : (gone : Gone) (is_dead : Bool) (f k : ℕ) (counts : List ℕ) (c : DiskPair) → AreAlike gone (known_disk c.first) (known_disk c.second)
     → IsNoOther (living_of gone is_dead) (reads_second gone) c.first c.second
-    → HoldWhatIsLeft holds_pair (mirrored gone f k mark (known_disk c.first) (known_disk c.second)) c
-closed_holds gone is_dead f k mark c alike other x held =
-    let sound = mirror_is_sound (known_disk c.first) (known_disk c.second) (memory_is_sound c.first) (memory_is_sound c.second) tt tt gone f k mark alike in
+    → HoldWhatIsLeft holds_pair (mirrored gone f k counts (known_disk c.first) (known_disk c.second)) c
+closed_holds gone is_dead f k counts c alike other x held =
+    let sound = mirror_is_sound (known_disk c.first) (known_disk c.second) (memory_is_sound c.first) (memory_is_sound c.second) tt tt gone f k counts alike in
     (sound.images x).1 (held (read_copy gone (known_disk c.first) (known_disk c.second)).pending (read_image gone is_dead c alike other))
 
 -- the same of a mirror that is taken apart
-pub closed_mirror : (gone : Gone) (is_dead : Bool) (f k : ℕ) (mark : List ℕ) (a b a' b' : MemDisk) → a ≡ a' → b ≡ b' → AreAlike gone (known_disk a) (known_disk b)
+pub closed_mirror : (gone : Gone) (is_dead : Bool) (f k : ℕ) (counts : List ℕ) (a b a' b' : MemDisk) → a ≡ a' → b ≡ b' → AreAlike gone (known_disk a) (known_disk b)
     → IsNoOther (living_of gone is_dead) (reads_second gone) a' b'
-    → HoldWhatIsLeft holds_pair (mirrored gone f k mark (known_disk a) (known_disk b)) (record { first = a'; second = b' })
-closed_mirror gone is_dead f k mark a b a' b' first second alike other =
+    → HoldWhatIsLeft holds_pair (mirrored gone f k counts (known_disk a) (known_disk b)) (record { first = a'; second = b' })
+closed_mirror gone is_dead f k counts a b a' b' first second alike other =
     let there : IsNoOther (living_of gone is_dead) (reads_second gone) a b =
     subst (λ (d : MemDisk). IsNoOther (living_of gone is_dead) (reads_second gone) d b) (sym first)
     (subst (λ (d : MemDisk). IsNoOther (living_of gone is_dead) (reads_second gone) a' d) (sym second) other) in
-    subst (λ (d : MemDisk). HoldWhatIsLeft holds_pair (mirrored gone f k mark (known_disk a) (known_disk b)) (record { first = d; second = b' })) first
-    (subst (λ (d : MemDisk). HoldWhatIsLeft holds_pair (mirrored gone f k mark (known_disk a) (known_disk b)) (record { first = a; second = d })) second
-    (closed_holds gone is_dead f k mark (record { first = a; second = b }) alike there))
+    subst (λ (d : MemDisk). HoldWhatIsLeft holds_pair (mirrored gone f k counts (known_disk a) (known_disk b)) (record { first = d; second = b' })) first
+    (subst (λ (d : MemDisk). HoldWhatIsLeft holds_pair (mirrored gone f k counts (known_disk a) (known_disk b)) (record { first = a; second = d })) second
+    (closed_holds gone is_dead f k counts (record { first = a; second = b }) alike there))
 
 -- ---- copies that are opened
 module _ (c : DiskPair) (a b : MemDisk) (leaves : LeavesBoth (known_disk c.first) (known_disk c.second) (known_disk a) (known_disk b))
@@ -145,11 +145,11 @@ module _ (c : DiskPair) (a b : MemDisk) (leaves : LeavesBoth (known_disk c.first
   second_image alive x may = second_where c.first.script.is_killed refl alive x may
 
 -- the copy counts that isn't out
-counted : (gone : Gone) (f k : ℕ) (mark : List ℕ) (a b : DiskState) (x : List ℕ) → MayLeave (mirrored gone f k mark a b) x
+counted : (gone : Gone) (f k : ℕ) (counts : List ℕ) (a b : DiskState) (x : List ℕ) → MayLeave (mirrored gone f k counts a b) x
     → ((gone ≡ First → ⊥) × MayLeave a x) ⊎ ((gone ≡ Second → ⊥) × MayLeave b x)
-counted Neither f k mark a b x may = ⊎_elim (λ p. inl (λ (e : Neither ≡ First). absurd (cc), p.1)) (λ p. inr (λ (e : Neither ≡ Second). absurd (cc), p.1)) may
-counted First f k mark a b x may = ⊎_elim (λ p. let no : 1 ≡ 0 = p.0 in absurd (omega arith)) (λ p. inr (λ (e : First ≡ Second). absurd (cc), p.1)) may
-counted Second f k mark a b x may = ⊎_elim (λ p. inl (λ (e : Second ≡ First). absurd (cc), p.1)) (λ p. let no : 1 ≡ 0 = p.0 in absurd (omega arith)) may
+counted Neither f k counts a b x may = ⊎_elim (λ p. inl (λ (e : Neither ≡ First). absurd (cc), p.1)) (λ p. inr (λ (e : Neither ≡ Second). absurd (cc), p.1)) may
+counted First f k counts a b x may = ⊎_elim (λ p. let no : 1 ≡ 0 = p.0 in absurd (omega arith)) (λ p. inr (λ (e : First ≡ Second). absurd (cc), p.1)) may
+counted Second f k counts a b x may = ⊎_elim (λ p. inl (λ (e : Second ≡ First). absurd (cc), p.1)) (λ p. let no : 1 ≡ 0 = p.0 in absurd (omega arith)) may
 
 second_out : (gone : Gone) (is_dead : Bool) → is_dead ≡ false → has_second gone is_dead ≡ false → gone ≡ Second
 second_out Neither true lives out = absurd (cc)

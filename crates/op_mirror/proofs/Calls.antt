@@ -9,6 +9,7 @@ use Rattle.op_mirror.specs.declared.gone.Gone.{Gone}
 use Rattle.op_mirror.specs.declared.gone.Gone.TheVariants.{Neither, First, Second}
 use Rattle.op_mirror.specs.Copies.{has_first, has_second, asks_second, gone_after, gone_after_read, is_read_ok, number, FirstCounts, SecondCounts, read_copy, AreAlike, mirrored}
 use Rattle.op_mirror.specs.Tries.{Tries}
+use Rattle.op_mirror.proofs.Telling.{marks_stay}
 use Rattle.op_mirror.proofs.Images.{Went, went, first_counts, second_counts, Follows, same, loses, goes_on}
 
 -- which copy has failed first then
@@ -24,14 +25,14 @@ edits_of state edit false old new t o = absurd (let e : true ≡ false = (t.out 
 
 -- a call of the mirror, from what its copies do
 does_with : {T E : Type 0} (edit : Edit) (gone next : Gone) (a a' b b' : DiskState) → Went edit (FirstCounts gone (number gone)) a a' → Went edit (SecondCounts gone (number gone)) b b' → Follows gone next
-    → (f f' c c' : ℕ) (mark : List ℕ) (r : Result T E) → FailsOnlyOnFault f f' r → (a.obeys × b.obeys → OnOk r (Edits edit (read_copy gone a b).content (read_copy next a' b').content))
-    → Does edit (mirrored gone f c mark a b) (mirrored next f' c' mark a' b') r
-does_with edit gone next a a' b b' wa wb follows f f' c c' mark r cause done = record {
+    → (f f' c c' : ℕ) (counts : List ℕ) (r : Result T E) → FailsOnlyOnFault f f' r → (a.obeys × b.obeys → OnOk r (Edits edit (read_copy gone a b).content (read_copy next a' b').content))
+    → Does edit (mirrored gone f c counts a b) (mirrored next f' c' counts a' b') r
+does_with edit gone next a a' b b' wa wb follows f f' c c' counts r cause done = record {
   cause = cause;
   model = (λ o. ((wa.model).0 o.0, (wb.model).0 o.1), λ o. ((wa.model).1 o.0, (wb.model).1 o.1));
-  mark = refl;
+  mark = marks_stay counts a.mark b.mark a'.mark b'.mark wa.mark wb.mark;
   done = done;
-  goes_on = λ o. goes_on edit gone next f f' c c' mark a a' b b' follows wa wb o.0 o.1;
+  goes_on = λ o. goes_on edit gone next f f' c c' counts a a' b b' follows wa wb o.0 o.1;
 }
 
 if_ok : {T E : Type 0} {P Q : Type 0} (r : Result T E) → OnOk r P → (P → Q) → OnOk r Q
@@ -60,10 +61,10 @@ module _ {D : Type 0} (state : D → DiskState) (edit : Edit) (gone : Gone) (is_
   done_both Second e true q ex ey ok oa ob = edits_of state edit (has_first gone is_dead) a a' (subst (Tries state edit (has_first gone is_dead) a a') ex ta) oa
   done_both Second e false q ex ey ok oa ob = absurd (cc)
 
-  pub does_both : {T E : Type 0} (f f' c c' : ℕ) (mark : List ℕ) (next : Gone) (r : Result T E) → next ≡ gone_after gone x y → FailsOnlyOnFault f f' r → (OnOk r (is_read_ok next x y ≡ true))
-      → Does edit (mirrored gone f c mark (state a) (state b)) (mirrored next f' c' mark (state a') (state b')) r
-  does_both f f' c c' mark next r is cause ok =
-      does_with edit gone next (state a) (state a') (state b) (state b') wa wb (subst (Follows gone) (sym is) (follows_after gone x y)) f f' c c' mark r cause
+  pub does_both : {T E : Type 0} (f f' c c' : ℕ) (counts : List ℕ) (next : Gone) (r : Result T E) → next ≡ gone_after gone x y → FailsOnlyOnFault f f' r → (OnOk r (is_read_ok next x y ≡ true))
+      → Does edit (mirrored gone f c counts (state a) (state b)) (mirrored next f' c' counts (state a') (state b')) r
+  does_both f f' c c' counts next r is cause ok =
+      does_with edit gone next (state a) (state a') (state b) (state b') wa wb (subst (Follows gone) (sym is) (follows_after gone x y)) f f' c c' counts r cause
       (λ o. if_ok r ok (λ k. subst (λ (g : Gone). Edits edit (read_copy gone (state a) (state b)).content (read_copy g (state a') (state b')).content) (sym is)
       (done_both gone refl x y refl refl (subst (λ (g : Gone). is_read_ok g x y ≡ true) is k) o.0 o.1)))
 
@@ -92,10 +93,10 @@ module _ {D : Type 0} (state : D → DiskState) (gone : Gone) (is_dead : Bool) (
   follows_read First p = same First
   follows_read Second p = same Second
 
-  pub does_read : {T E : Type 0} (f f' c c' : ℕ) (mark : List ℕ) (next : Gone) (r : Result T E) → next ≡ gone_after_read gone x → FailsOnlyOnFault f f' r → (OnOk r (is_read_ok next x y ≡ true))
-      → Does Nothing (mirrored gone f c mark (state a) (state b)) (mirrored next f' c' mark (state a') (state b')) r
-  does_read f f' c c' mark next r is cause ok =
-      does_with Nothing gone next (state a) (state a') (state b) (state b') ra rb (subst (Follows gone) (sym is) (follows_read gone x)) f f' c c' mark r cause
+  pub does_read : {T E : Type 0} (f f' c c' : ℕ) (counts : List ℕ) (next : Gone) (r : Result T E) → next ≡ gone_after_read gone x → FailsOnlyOnFault f f' r → (OnOk r (is_read_ok next x y ≡ true))
+      → Does Nothing (mirrored gone f c counts (state a) (state b)) (mirrored next f' c' counts (state a') (state b')) r
+  does_read f f' c c' counts next r is cause ok =
+      does_with Nothing gone next (state a) (state a') (state b) (state b') ra rb (subst (Follows gone) (sym is) (follows_read gone x)) f f' c c' counts r cause
       (λ o. if_ok r ok (λ k. subst (λ (g : Gone). (read_copy g (state a') (state b')).content ≡ (read_copy gone (state a) (state b)).content) (sym is)
       (done_read gone refl x y refl refl (subst (λ (g : Gone). is_read_ok g x y ≡ true) is k) o.0 o.1)))
 
@@ -116,26 +117,26 @@ module _ {D : Type 0} (state : D → DiskState) (gone : Gone) (is_dead : Bool) (
 pub mirror_does : {D T E : Type 0} (state : D → DiskState) (edit : Edit) (gone : Gone) (is_dead : Bool) (a a' b b' : D) (la lb x y : Bool)
     → la ≡ has_first gone is_dead → lb ≡ has_second gone is_dead → Tries state edit la a a' x → Tries state edit lb b b' y
     → AreAlike gone (state a) (state b)
-    → (f f' c c' : ℕ) (mark : List ℕ) (next : Gone) (r : Result T E) → next ≡ gone_after gone x y → FailsOnlyOnFault f f' r → OnOk r (is_read_ok next x y ≡ true)
-    → Does edit (mirrored gone f c mark (state a) (state b)) (mirrored next f' c' mark (state a') (state b')) r
-mirror_does state edit gone is_dead a a' b b' la lb x y ea eb ta tb alike f f' c c' mark next r is cause ok =
-    does_both state edit gone is_dead a a' b b' x y (subst (λ (l : Bool). Tries state edit l a a' x) ea ta) (subst (λ (l : Bool). Tries state edit l b b' y) eb tb) alike f f' c c' mark next r is cause ok
+    → (f f' c c' : ℕ) (counts : List ℕ) (next : Gone) (r : Result T E) → next ≡ gone_after gone x y → FailsOnlyOnFault f f' r → OnOk r (is_read_ok next x y ≡ true)
+    → Does edit (mirrored gone f c counts (state a) (state b)) (mirrored next f' c' counts (state a') (state b')) r
+mirror_does state edit gone is_dead a a' b b' la lb x y ea eb ta tb alike f f' c c' counts next r is cause ok =
+    does_both state edit gone is_dead a a' b b' x y (subst (λ (l : Bool). Tries state edit l a a' x) ea ta) (subst (λ (l : Bool). Tries state edit l b b' y) eb tb) alike f f' c c' counts next r is cause ok
 
 pub mirror_reads : {D T E : Type 0} (state : D → DiskState) (gone : Gone) (is_dead : Bool) (a a' b b' : D) (la lb x y : Bool)
     → la ≡ has_first gone is_dead → lb ≡ asks_second gone is_dead x → Tries state Nothing la a a' x → Tries state Nothing lb b b' y
     → AreAlike gone (state a) (state b)
-    → (f f' c c' : ℕ) (mark : List ℕ) (next : Gone) (r : Result T E) → next ≡ gone_after_read gone x → FailsOnlyOnFault f f' r → OnOk r (is_read_ok next x y ≡ true)
-    → Does Nothing (mirrored gone f c mark (state a) (state b)) (mirrored next f' c' mark (state a') (state b')) r
-mirror_reads state gone is_dead a a' b b' la lb x y ea eb ta tb alike f f' c c' mark next r is cause ok =
-    does_read state gone is_dead a a' b b' x y (subst (λ (l : Bool). Tries state Nothing l a a' x) ea ta) (subst (λ (l : Bool). Tries state Nothing l b b' y) eb tb) alike f f' c c' mark next r is cause ok
+    → (f f' c c' : ℕ) (counts : List ℕ) (next : Gone) (r : Result T E) → next ≡ gone_after_read gone x → FailsOnlyOnFault f f' r → OnOk r (is_read_ok next x y ≡ true)
+    → Does Nothing (mirrored gone f c counts (state a) (state b)) (mirrored next f' c' counts (state a') (state b')) r
+mirror_reads state gone is_dead a a' b b' la lb x y ea eb ta tb alike f f' c c' counts next r is cause ok =
+    does_read state gone is_dead a a' b b' x y (subst (λ (l : Bool). Tries state Nothing l a a' x) ea ta) (subst (λ (l : Bool). Tries state Nothing l b b' y) eb tb) alike f f' c c' counts next r is cause ok
 
 -- the same, where one of the copies tells something
 pub mirror_tells : {D T E : Type 0} (state : D → DiskState) (gone : Gone) (is_dead : Bool) (a a' b b' : D) (la lb x y : Bool)
     → la ≡ has_first gone is_dead → lb ≡ asks_second gone is_dead x → Tries state Nothing la a a' x → Tries state Nothing lb b b' y
     → AreAlike gone (state a) (state b)
-    → (f f' c c' : ℕ) (mark : List ℕ) (next : Gone) (r : Result T E) → next ≡ gone_after_read gone x → FailsOnlyOnFault f f' r → OnOk r ((x || y) ≡ true)
-    → Does Nothing (mirrored gone f c mark (state a) (state b)) (mirrored next f' c' mark (state a') (state b')) r
-mirror_tells state gone is_dead a a' b b' la lb x y ea eb ta tb alike f f' c c' mark next r is cause ok =
+    → (f f' c c' : ℕ) (counts : List ℕ) (next : Gone) (r : Result T E) → next ≡ gone_after_read gone x → FailsOnlyOnFault f f' r → OnOk r ((x || y) ≡ true)
+    → Does Nothing (mirrored gone f c counts (state a) (state b)) (mirrored next f' c' counts (state a') (state b')) r
+mirror_tells state gone is_dead a a' b b' la lb x y ea eb ta tb alike f f' c c' counts next r is cause ok =
     let sa = subst (λ (l : Bool). Tries state Nothing l a a' x) ea ta in
     let sb = subst (λ (l : Bool). Tries state Nothing l b b' y) eb tb in
-    does_read state gone is_dead a a' b b' x y sa sb alike f f' c c' mark next r is cause (if_ok r ok (told_is_ok state gone is_dead a a' b b' x y sa sb alike next is))
+    does_read state gone is_dead a a' b b' x y sa sb alike f f' c c' counts next r is cause (if_ok r ok (told_is_ok state gone is_dead a a' b b' x y sa sb alike next is))

@@ -22,6 +22,7 @@ pub record IsSeen (d : DiskState) : Type 0 where
 -- only one that counts now is torn.
 pub record Went (edit : Edit) (counts : Type 0) (a b : DiskState) : Type 0 where
   pub model : b.obeys ↔ a.obeys
+  pub mark : b.mark ≡ a.mark
   pub later : a.obeys → Before a.moment b.moment
   pub nothing_else : a.obeys → (t : Moment) (c : List ℕ) → Before t a.moment → b.left_since t c → a.left_since t c ⊎ (counts × TornOf edit (MayLeave a) c)
   pub keeps : a.obeys → (t : Moment) (c : List ℕ) → Before t a.moment → a.left_since t c → b.left_since t c
@@ -31,6 +32,7 @@ pub record Went (edit : Edit) (counts : Type 0) (a b : DiskState) : Type 0 where
 went_called : {T E : Type 0} (edit : Edit) (counts : Type 0) (a b : DiskState) (r : Result T E) → counts → Does edit a b r → Went edit counts a b
 went_called edit counts a b r here d = record {
   model = d.model;
+  mark = d.mark;
   later = λ o. (d.goes_on o).later;
   nothing_else = λ o t c le left. ⊎_elim (λ was. inl was) (λ torn. inr (here, torn)) ((d.goes_on o).nothing_else t c le left);
   keeps = λ o. (d.goes_on o).keeps;
@@ -41,6 +43,7 @@ went_called edit counts a b r here d = record {
 went_nowhere : (edit : Edit) (counts : Type 0) (a : DiskState) → (a.obeys → IsSound a) → Went edit counts a a
 went_nowhere edit counts a sound = record {
   model = (λ o. o, λ o. o);
+  mark = refl;
   later = λ o. before-refl a.moment;
   nothing_else = λ o t c le left. inl left;
   keeps = λ o t c le left. left;
@@ -117,9 +120,9 @@ second_always Second n h = absurd (one_zero h)
 
 -- ---- both copies
 -- images of a mirror, from those of its copies
-module _ (gone : Gone) (f c : ℕ) (mark : List ℕ) (a b : DiskState) (sa : IsSeen a) (sb : IsSeen b) where
+module _ (gone : Gone) (f c : ℕ) (counts : List ℕ) (a b : DiskState) (sa : IsSeen a) (sb : IsSeen b) where
   abbrev it : DiskState
-  it = mirrored gone f c mark a b
+  it = mirrored gone f c counts a b
 
   now_too : (t : Moment) (x : List ℕ) → Before t it.moment → MayLeave it x → it.left_since t x
   now_too (At n) x le left = absurd le
@@ -128,7 +131,7 @@ module _ (gone : Gone) (f c : ℕ) (mark : List ℕ) (a b : DiskState) (sa : IsS
   now_too (Both (At n) (Both t u)) x le (inl p) = inl (first_always gone n p.0, sa.now_too t x le.1.0 p.1)
   now_too (Both (At n) (Both t u)) x le (inr p) = inr (second_always gone n p.0, sb.now_too u x le.1.1 p.1)
 
-  pub mirror_is_seen : IsSeen (mirrored gone f c mark a b)
+  pub mirror_is_seen : IsSeen (mirrored gone f c counts a b)
   mirror_is_seen = record { image = read gone; now_too = now_too }
     where
       read : (g : Gone) → EitherLeft g a b (Both (At (number g)) (Both a.moment b.moment)) (read_copy g a b).content
@@ -136,13 +139,13 @@ module _ (gone : Gone) (f c : ℕ) (mark : List ℕ) (a b : DiskState) (sa : IsS
       read First = inr (tt, sb.image)
       read Second = inl (tt, sa.image)
 
-module _ (edit : Edit) (gone next : Gone) (f f' c c' : ℕ) (mark : List ℕ) (a a' b b' : DiskState) (follows : Follows gone next)
+module _ (edit : Edit) (gone next : Gone) (f f' c c' : ℕ) (counts : List ℕ) (a a' b b' : DiskState) (follows : Follows gone next)
     (wa : Went edit (FirstCounts gone (number gone)) a a') (wb : Went edit (SecondCounts gone (number gone)) b b') (oa : a.obeys) (ob : b.obeys) where
   abbrev was : DiskState
-  was = mirrored gone f c mark a b
+  was = mirrored gone f c counts a b
 
   abbrev is : DiskState
-  is = mirrored next f' c' mark a' b'
+  is = mirrored next f' c' counts a' b'
 
   else_ : (t : Moment) (x : List ℕ) → Before t was.moment → is.left_since t x → was.left_since t x ⊎ TornOf edit (MayLeave was) x
   else_ (At n) x le left = absurd le
@@ -160,9 +163,9 @@ module _ (edit : Edit) (gone next : Gone) (f f' c c' : ℕ) (mark : List ℕ) (a
   keeps (Both (At n) (Both t u)) x le (inl p) = inl (first_after gone next n follows le.0 p.0, wa.keeps oa t x le.1.0 p.1)
   keeps (Both (At n) (Both t u)) x le (inr p) = inr (second_after gone next n follows le.0 p.0, wb.keeps ob u x le.1.1 p.1)
 
-  pub goes_on : GoesOn edit (mirrored gone f c mark a b) (mirrored next f' c' mark a' b')
+  pub goes_on : GoesOn edit (mirrored gone f c counts a b) (mirrored next f' c' counts a' b')
   goes_on =
-      let s : IsSeen (mirrored next f' c' mark a' b') = mirror_is_seen next f' c' mark a' b' (wa.seen oa) (wb.seen ob) in
+      let s : IsSeen (mirrored next f' c' counts a' b') = mirror_is_seen next f' c' counts a' b' (wa.seen oa) (wb.seen ob) in
       record {
         later = (number_later gone next follows, (wa.later oa, wb.later ob));
         nothing_else = else_;
@@ -182,10 +185,10 @@ module _ (a b : DiskState) (sa : IsSound a) (sb : IsSound b) (oa : a.obeys) (ob 
   images First alike x = (λ left. ⊎_elim (λ p. absurd (one_zero p.0)) (λ p. (sb.images x).0 p.1) left, λ im. inr (tt, (sb.images x).1 im))
   images Second alike x = (λ left. ⊎_elim (λ p. (sa.images x).0 p.1) (λ p. absurd (one_zero p.0)) left, λ im. inl (tt, (sa.images x).1 im))
 
-  pub mirror_is_sound : (gone : Gone) (f c : ℕ) (mark : List ℕ) → AreAlike gone a b → IsSound (mirrored gone f c mark a b)
-  mirror_is_sound gone f c mark alike =
-      let s : IsSeen (mirrored gone f c mark a b) =
-      mirror_is_seen gone f c mark a b (record { image = sa.image; now_too = sa.now_too }) (record { image = sb.image; now_too = sb.now_too }) in
+  pub mirror_is_sound : (gone : Gone) (f c : ℕ) (counts : List ℕ) → AreAlike gone a b → IsSound (mirrored gone f c counts a b)
+  mirror_is_sound gone f c counts alike =
+      let s : IsSeen (mirrored gone f c counts a b) =
+      mirror_is_seen gone f c counts a b (record { image = sa.image; now_too = sa.now_too }) (record { image = sb.image; now_too = sb.now_too }) in
       record { image = s.image; images = images gone alike; now_too = s.now_too }
 
   -- while none is out, an image of either copy is one of what is pending of the copy that is read
@@ -195,8 +198,8 @@ module _ (a b : DiskState) (sa : IsSound a) (sb : IsSound b) (oa : a.obeys) (ob 
   image_of_read First none alike x left = absurd (cc)
   image_of_read Second none alike x left = absurd (cc)
 
-  pub all_mixes : (gone : Gone) (f c : ℕ) (mark : List ℕ) → AreAlike gone a b → gone ≡ Neither → (x y w z : List ℕ)
-      → MayLeave a x ⊎ MayLeave b x → MayLeave a y ⊎ MayLeave b y → MayLeave a w ⊎ MayLeave b w → IsMixed x y w z → MayLeave (mirrored gone f c mark a b) z
-  all_mixes gone f c mark alike none x y w z lx ly lw mix =
+  pub all_mixes : (gone : Gone) (f c : ℕ) (counts : List ℕ) → AreAlike gone a b → gone ≡ Neither → (x y w z : List ℕ)
+      → MayLeave a x ⊎ MayLeave b x → MayLeave a y ⊎ MayLeave b y → MayLeave a w ⊎ MayLeave b w → IsMixed x y w z → MayLeave (mirrored gone f c counts a b) z
+  all_mixes gone f c counts alike none x y w z lx ly lw mix =
       let image = image_of_read gone none alike in
-      ((mirror_is_sound gone f c mark alike).images z).1 (mixed_image (read_copy gone a b).pending x y w z (image x lx) (image y ly) (image w lw) mix)
+      ((mirror_is_sound gone f c counts alike).images z).1 (mixed_image (read_copy gone a b).pending x y w z (image x lx) (image y ly) (image w lw) mix)

@@ -7,3 +7,4 @@ pub mod Takings
 pub mod Crashes
 pub mod Starts
 pub mod Marks
+pub mod Telling

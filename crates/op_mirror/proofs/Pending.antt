@@ -103,20 +103,20 @@ on_err (Ok v) h e = absurd (cc)
 on_err (Err v) h e = h refl
 
 module _ {D T E : Type 0} (state : D → DiskState) (gone next : Gone) (is_dead : Bool) (a a' b b' : D) (x y : Bool) (alike : AreAlike gone (state a) (state b))
-    (is : next ≡ gone_after gone x y) (f f' c c' : ℕ) (mark : List ℕ) (r : Result T E) (ok : is_read_ok next x y ≡ is_ok r) where
+    (is : next ≡ gone_after gone x y) (f f' c c' : ℕ) (counts : List ℕ) (r : Result T E) (ok : is_read_ok next x y ≡ is_ok r) where
   with_pends : (edit : Edit) → Ends (Is edit) (IsOrWas edit) (state a) (state a') x → Ends (Is edit) (IsOrWas edit) (state b) (state b') y
-      → Pends edit (mirrored gone f c mark (state a) (state b)) (mirrored next f' c' mark (state a') (state b')) r
+      → Pends edit (mirrored gone f c counts (state a) (state b)) (mirrored next f' c' counts (state a') (state b')) r
   with_pends edit ea eb = record {
     done = λ o. on_ok r (λ e. both_well (Is edit) (IsOrWas edit) (state a) (state a') (state b) (state b') x y ea eb gone next alike is o.0 o.1 (ok ∙ e));
     failed = λ o. on_err r (λ e. both_ill (Is edit) (IsOrWas edit) (state a) (state a') (state b) (state b') x y ea eb gone next alike is o.0 o.1 (ok ∙ e));
   }
 
   pub mirror_pends : (edit : Edit) (la lb : Bool) → Tries state edit la a a' x → Tries state edit lb b b' y → PendsIf state edit la a a' x → PendsIf state edit lb b b' y
-      → Pends edit (mirrored gone f c mark (state a) (state b)) (mirrored next f' c' mark (state a') (state b')) r
+      → Pends edit (mirrored gone f c counts (state a) (state b)) (mirrored next f' c' counts (state a') (state b')) r
   mirror_pends edit la lb ta tb pa pb = with_pends edit (pend_ends state a a' edit la x ta pa) (pend_ends state b b' edit lb y tb pb)
 
   pub mirror_settles : (la lb : Bool) → Tries state Nothing la a a' x → Tries state Nothing lb b b' y → SettlesIf state la a a' x → SettlesIf state lb b b' y
-      → Settles (mirrored gone f c mark (state a) (state b)) (mirrored next f' c' mark (state a') (state b')) r
+      → Settles (mirrored gone f c counts (state a) (state b)) (mirrored next f' c' counts (state a') (state b')) r
   mirror_settles la lb ta tb pa pb =
       let ea = settle_ends state a a' la x ta pa in
       let eb = settle_ends state b b' lb y tb pb in
@@ -145,10 +145,10 @@ module _ {D : Type 0} (state : D → DiskState) (gone next : Gone) (is_dead : Bo
       }
       by false e = pend_ends state b b' Nothing lb y tb pb
 
-  pub mirror_reads_pend : {T E : Type 0} (f f' c c' : ℕ) (mark : List ℕ) (r : Result T E) → is_read_ok next x (x || y) ≡ is_ok r
-      → Pends Nothing (mirrored gone f c mark (state a) (state b)) (mirrored next f' c' mark (state a') (state b')) r
-  mirror_reads_pend f f' c c' mark r ok =
-      with_pends state gone next is_dead a a' b b' x (x || y) alike (is ∙ read_is gone x y) f f' c c' mark r ok Nothing (pend_ends state a a' Nothing la x ta pa) second_ends
+  pub mirror_reads_pend : {T E : Type 0} (f f' c c' : ℕ) (counts : List ℕ) (r : Result T E) → is_read_ok next x (x || y) ≡ is_ok r
+      → Pends Nothing (mirrored gone f c counts (state a) (state b)) (mirrored next f' c' counts (state a') (state b')) r
+  mirror_reads_pend f f' c c' counts r ok =
+      with_pends state gone next is_dead a a' b b' x (x || y) alike (is ∙ read_is gone x y) f f' c c' counts r ok Nothing (pend_ends state a a' Nothing la x ta pa) second_ends
 
 -- whether it was done, with an unasked second copy as one on which it was
 pub read_ok_or : (g next : Gone) (dead x y : Bool) → next ≡ gone_after_read g x → (has_first g dead ≡ false → x ≡ false) → is_read_ok next x (x || y) ≡ is_read_ok next x y

@@ -14,16 +14,16 @@ use Rattle.op_mirror.specs.Opens.{LeavesBoth, Opens}
 use Rattle.op_mirror.specs.Starts.{HoldsLeft, HoldLeft, LeftWhile, LeftOfBothWhile, MixesAreLeft, AreLeft, GoesOnFrom}
 
 -- a crash of a mirror leaves it of one of the copies
-pub of_either : (gone : Gone) (f c : ℕ) (mark : List ℕ) (a b : DiskState) (x : List ℕ) → MayLeave (mirrored gone f c mark a b) x → LeftOfEither a b x
-of_either Neither f c mark a b x left = ⊎_elim (λ p. inl p.1) (λ p. inr p.1) left
-of_either First f c mark a b x left = ⊎_elim (λ p. inl p.1) (λ p. inr p.1) left
-of_either Second f c mark a b x left = ⊎_elim (λ p. inl p.1) (λ p. inr p.1) left
+pub of_either : (gone : Gone) (f c : ℕ) (counts : List ℕ) (a b : DiskState) (x : List ℕ) → MayLeave (mirrored gone f c counts a b) x → LeftOfEither a b x
+of_either Neither f c counts a b x left = ⊎_elim (λ p. inl p.1) (λ p. inr p.1) left
+of_either First f c counts a b x left = ⊎_elim (λ p. inl p.1) (λ p. inr p.1) left
+of_either Second f c counts a b x left = ⊎_elim (λ p. inl p.1) (λ p. inr p.1) left
 
 -- and while none is out, a crash of either copy leaves it of the mirror
-pub from_either : (gone : Gone) (f c : ℕ) (mark : List ℕ) (a b : DiskState) (x : List ℕ) → gone ≡ Neither → LeftOfEither a b x → MayLeave (mirrored gone f c mark a b) x
-from_either Neither f c mark a b x is left = ⊎_elim (λ p. inl (tt, p)) (λ p. inr (tt, p)) left
-from_either First f c mark a b x is left = absurd (cc)
-from_either Second f c mark a b x is left = absurd (cc)
+pub from_either : (gone : Gone) (f c : ℕ) (counts : List ℕ) (a b : DiskState) (x : List ℕ) → gone ≡ Neither → LeftOfEither a b x → MayLeave (mirrored gone f c counts a b) x
+from_either Neither f c counts a b x is left = ⊎_elim (λ p. inl (tt, p)) (λ p. inr (tt, p)) left
+from_either First f c counts a b x is left = absurd (cc)
+from_either Second f c counts a b x is left = absurd (cc)
 
 module _ (a b a' b' : DiskState) (known : List ℕ → Type 0) (a_rests : IsAtRest a) (b_rests : IsAtRest b) (a_left : known a.content) (b_left : known b.content)
     (mixed : (x y w z : List ℕ) → known x → known y → known w → IsMixed x y w z → known z) (leaves : LeavesBoth a b a' b') where
@@ -77,15 +77,15 @@ module _ {D : Type 0} {g : _} (state : D → DiskState) (m : Mirror D g) (a b : 
 -- ---- one copy alone
 
 -- a mirror of which the first copy failed first leaves what the second one does, and the other way round
-left_of_second : (gone : Gone) (f c : ℕ) (mark : List ℕ) (a b : DiskState) (x : List ℕ) → gone ≡ First → MayLeave (mirrored gone f c mark a b) x → MayLeave b x
-left_of_second Neither f c mark a b x is left = absurd (cc)
-left_of_second First f c mark a b x is left = ⊎_elim (λ p. let no : 1 ≡ 0 = p.0 in absurd (omega arith)) (λ p. p.1) left
-left_of_second Second f c mark a b x is left = absurd (cc)
+left_of_second : (gone : Gone) (f c : ℕ) (counts : List ℕ) (a b : DiskState) (x : List ℕ) → gone ≡ First → MayLeave (mirrored gone f c counts a b) x → MayLeave b x
+left_of_second Neither f c counts a b x is left = absurd (cc)
+left_of_second First f c counts a b x is left = ⊎_elim (λ p. let no : 1 ≡ 0 = p.0 in absurd (omega arith)) (λ p. p.1) left
+left_of_second Second f c counts a b x is left = absurd (cc)
 
-left_of_first : (gone : Gone) (f c : ℕ) (mark : List ℕ) (a b : DiskState) (x : List ℕ) → gone ≡ Second → MayLeave (mirrored gone f c mark a b) x → MayLeave a x
-left_of_first Neither f c mark a b x is left = absurd (cc)
-left_of_first First f c mark a b x is left = absurd (cc)
-left_of_first Second f c mark a b x is left = ⊎_elim (λ p. p.1) (λ p. let no : 1 ≡ 0 = p.0 in absurd (omega arith)) left
+left_of_first : (gone : Gone) (f c : ℕ) (counts : List ℕ) (a b : DiskState) (x : List ℕ) → gone ≡ Second → MayLeave (mirrored gone f c counts a b) x → MayLeave a x
+left_of_first Neither f c counts a b x is left = absurd (cc)
+left_of_first First f c counts a b x is left = absurd (cc)
+left_of_first Second f c counts a b x is left = ⊎_elim (λ p. p.1) (λ p. let no : 1 ≡ 0 = p.0 in absurd (omega arith)) left
 
 -- calls of a disk at rest that change nothing
 module _ (known : List ℕ → Type 0) (d e : DiskState) (rests : IsAtRest d) (left : known d.content) where

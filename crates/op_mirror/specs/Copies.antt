@@ -1,5 +1,5 @@
 -- What two copies mean as one disk.
-use Rattle.std.specs.Prelude.{◌≡◌, ◌⊎◌, ℕ, List, Bool, true, false, not, ◌&&◌}
+use Rattle.std.specs.Prelude.{◌≡◌, ◌⊎◌, ℕ, List, ◌∷◌, ◌++◌, length, Bool, true, false, not, ◌&&◌}
 use Rattle.op_outside.specs.Disks.{DiskState}
 use Rattle.op_outside.specs.Moments.{Moment}
 use Rattle.op_outside.specs.Moments.Moment.{At, Both}
@@ -103,10 +103,15 @@ read_copy Neither a b = a
 read_copy First a b = b
 read_copy Second a b = a
 
+-- A mirror's mark: the two counts that its copies had when it was opened, and then the mark of each copy, of
+-- which the first one's length tells where it ends.
+abbrev pub mark_of : List ℕ → List ℕ → List ℕ → List ℕ
+mark_of counts first second = counts ++ length first ∷ first ++ second
+
 -- Two copies as one disk. Its images are those of the copies that have not failed or, where both have,
 -- of the one that failed later; and that one is read.
 abbrev pub mirrored : Gone → ℕ → ℕ → List ℕ → DiskState → DiskState → DiskState
-mirrored gone faults calls mark a b =
+mirrored gone faults calls counts a b =
     record {
       obeys = a.obeys × b.obeys;
       content = (read_copy gone a b).content;
@@ -115,5 +120,5 @@ mirrored gone faults calls mark a b =
       left_since = EitherLeft gone a b;
       faults = faults;
       calls = calls;
-      mark = mark;
+      mark = mark_of counts a.mark b.mark;
     }

@@ -38,3 +38,10 @@ pub record IsSameButFirst {D : Type 0} {g : _} (old new : Mirror D g) : Type 0 w
   pub calls : new.calls ≡ old.calls
   pub first_mark : new.first_mark ≡ old.first_mark
   pub second_mark : new.second_mark ≡ old.second_mark
+
+-- a mirror has the copies of an earlier one: each has its mark, and had failed so often when it was opened
+pub record HasSameCopies {D : Type 0} {g : _} (state : D → DiskState) (old new : Mirror D g) : Type 0 where
+  pub first : (state new.first).mark ≡ (state old.first).mark
+  pub second : (state new.second).mark ≡ (state old.second).mark
+  pub first_count : new.first_mark ≡ old.first_mark
+  pub second_count : new.second_mark ≡ old.second_mark

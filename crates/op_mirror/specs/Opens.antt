@@ -3,6 +3,7 @@ use Rattle.std.specs.Prelude.{◌≡◌, ◌↔◌, ℕ, [], ◌∷◌, false}
 use Rattle.op_outside.specs.Causes.{Rises}
 use Rattle.op_outside.specs.Disks.{DiskState, MayLeave, LeavesOnly, IsSound, GoesOn}
 use Rattle.op_outside.specs.Disks.Edit.{Nothing}
+use Rattle.op_mirror.specs.Copies.{mark_of}
 use Rattle.op_mirror.specs.Crashes.{LeavesMixes, IsOneCall}
 use Rattle.op_mirror.specs.declared.gone.Gone.{Gone}
 use Rattle.op_mirror.specs.declared.gone.Gone.TheVariants.{Neither, First, Second}
@@ -35,7 +36,8 @@ pub record LeavesBoth (a b a' b' : DiskState) : Type 0 where
 -- It reads as the first one did, unless that failed.
 pub record Opens {D : Type 0} {g : _} (state : D → DiskState) (a b : D) (m : Mirror D g) : Type 0 where
   pub model : (known_mirror state m).obeys ↔ ((state a).obeys × (state b).obeys)
-  pub mark : (known_mirror state m).mark ≡ (state a).faults ∷ (state b).faults ∷ []
+  pub mark : (known_mirror state m).mark
+      ≡ mark_of ((state a).faults ∷ (state b).faults ∷ []) (state a).mark (state b).mark
   pub faults : (known_mirror state m).faults ≡ 0
   pub lives : m.is_dead ≡ false
   pub rose : RoseAt m.gone (state a).faults (state m.first).faults (state b).faults (state m.second).faults

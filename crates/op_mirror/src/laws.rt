@@ -1,5 +1,7 @@
 ghost use Rattle.std.specs.Prelude.{◌≡◌};
 ghost use Rattle.op_mirror.specs.Crashes.{IsOneCall};
+ghost use Rattle.op_mirror.specs.Joins.{HasSameCopies};
+ghost use Rattle.op_mirror.specs.Mirrors.{known_mirror};
 ghost use Rattle.op_mirror.specs.Opens.{LeavesBoth, Opens};
 ghost use Rattle.op_mirror.specs.Starts.{HoldsLeft, HoldLeft, LeftWhile, LeftOfBothWhile};
 ghost use Rattle.op_mirror.specs.Starts.{MixesAreLeft, AreLeft, GoesOnFrom};
@@ -34,4 +36,11 @@ pub fn openings_keep_images_of_one<D: Disk>()
         AreLeft D.state m (LeftWhile (D.state a) (D.state a')) }
     ensures first_opened { (m n : Mirror D D.Disk) (a b : D) → HoldsLeft D.state m a →
         Opens D.state a b n → (D.state b).obeys → n.gone ≡ Second → GoesOnFrom D.state m n }
+{}
+
+/// The mark of a mirror tells the mark of each copy, and how often each had failed at the opening. So where it stays, the mirror
+/// hands out each copy as itself.
+pub fn marks_tell_copies<D: Disk>()
+    ensures { (m n : Mirror D D.Disk) → (known_mirror D.state n).mark ≡ (known_mirror D.state m).mark →
+        HasSameCopies D.state m n }
 {}

@@ -1,20 +1,23 @@
 -- How a node over mirrors ends, from what its openings and its serving tell.
-use Rattle.std.proofs.Common.{◌≡◌, ◌⊎◌, ◌<◌, ◌+◌, ◌∷◌, [], ℕ, zero, suc, List, Option, Some, Err, refl, ◌∙◌, subst, inl, inr, arith}
+use Rattle.std.proofs.Common.{◌≡◌, ◌⊎◌, ◌<◌, ◌+◌, [], ℕ, zero, suc, List, Option, Some, Err, refl, ◌∙◌, subst, inl, inr, arith}
+use Rattle.std.specs.Prelude.{◌↔◌}
 use Rattle.op_outside.specs.Causes.{FaultsRose, RisesWith}
 use Rattle.op_outside.specs.Disks.{DiskState}
 use Rattle.op_outside.specs.declared.disk.Disk.{Ghosts}
 use Rattle.op_outside.specs.Seen.{NetSeen, StreamSeen}
 use Rattle.op_outside.specs.Streams.{TakesAtMost}
 use Rattle.op_store.specs.Failing.{total}
-use Rattle.op_store.specs.Stored.{KeepBoth}
+use Rattle.op_store.specs.Stored.{Disks, KeepBoth}
 use Rattle.op_store.proofs.KeptDisks.{keep_same, keep_both}
 use Rattle.op_mirror.specs.Mirrors.{known_mirror}
 use Rattle.op_mirror.specs.Opens.{Opens, RefusedFor}
 use Rattle.op_mirror.specs.declared.mirror.Mirror.{Mirror}
+use Rattle.op_mirror.proofs.Telling.{AreTold, marks_tell}
 use Rattle.op_mirror.specs.declared.opening.OpenCause.{OpenCause}
 use Rattle.op_mirror.specs.declared.opening.OpenCause.TheVariants as cause
 use Rattle.op_setup.specs.declared.config.Settings.{Settings}
 use Rattle.op_node.specs.Nodes.{NodeState}
+use Rattle.op_node.specs.Openings.{disks_with}
 use Rattle.op_serving.specs.declared.mark.Mark.{Mark}
 use Rattle.op_serving.specs.declared.serve_end.ServeEnd.{ServeEnd}
 use Rattle.op_serving.specs.declared.serve_end.ServeEnd.TheVariants as ends
@@ -22,7 +25,7 @@ use Rattle.op_input.specs.Inputs.{IsMisconfigured, input_limit}
 use Rattle.op_status.specs.declared.status.Status.{Status}
 use Rattle.op_status.specs.declared.status.Status.TheVariants as status
 use Rattle.op_serve.specs.Nodes.{Around, around, Ends, cannot_open, is_damaged, has_no_memory, is_opened, Goes, is_unheard, cannot_begin, has_served, IsHeard, IsOwn, disks_in, faults_of, status_of}
-use Rattle.op_serve.specs.Mirrored.{AreaFailed, EndsMirrored, Failed, HaveFailed, Serves, environment, is_misconfigured, first_refused, second_refused, are_open, status_of_cause}
+use Rattle.op_serve.specs.Mirrored.{AreaFailed, EndsMirrored, Failed, HaveFailed, KeepCopies, Serves, environment, is_misconfigured, first_refused, second_refused, are_open, status_of_cause}
 use Rattle.op_serve.specs.declared.node_disks.NodeDisks.{NodeDisks}
 
 -- ---- an end over two disks of any kind
@@ -77,18 +80,37 @@ rose_from m n none (inr last) = omega arith
 none_yet : (m n : ℕ) → m ≡ 0 → n ≡ 0 → total m n ≡ 0
 none_yet m n first second = omega arith
 
-two_marks : (a b x y : ℕ) → a ∷ b ∷ [] ≡ x ∷ y ∷ [] → (a ≡ x) × (b ≡ y)
-two_marks a b x y e = (cc, cc)
-
 -- ---- mirrors
 
 module _ {D : Type 0} (disk : Ghosts D) where
-  -- both copies of a mirror failed since it was opened
-  both_failed : (first copy : D) (a c : Mirror D disk) → Opens disk.state first copy a → (known_mirror disk.state c).mark ≡ (known_mirror disk.state a).mark → HaveFailed disk c
-      → Failed disk first c.first × Failed disk copy c.second
-  both_failed first copy a c opens same have =
-      let marks = two_marks c.first_mark c.second_mark (disk.state first).faults (disk.state copy).faults (same ∙ opens.mark) in
-      (subst (λ (n : ℕ). FaultsRose n (disk.state c.first).faults) marks.0 have.0, subst (λ (n : ℕ). FaultsRose n (disk.state c.second).faults) marks.1 have.1)
+  -- what is known of two copies
+  abbrev copies : D → D → Disks
+  copies first copy = disks_with disk.state first copy
+
+  -- a mirror has the mark that it had when these two were opened
+  module _ (first copy : D) (a c : Mirror D disk) (opens : Opens disk.state first copy a) (same : (known_mirror disk.state c).mark ≡ (known_mirror disk.state a).mark) where
+    told : AreTold c.first_mark c.second_mark (disk.state first).faults (disk.state copy).faults (disk.state c.first).mark (disk.state c.second).mark (disk.state first).mark (disk.state copy).mark
+    told = marks_tell c.first_mark c.second_mark (disk.state first).faults (disk.state copy).faults (disk.state c.first).mark (disk.state c.second).mark (disk.state first).mark (disk.state copy).mark (same ∙ opens.mark)
+
+    -- both copies failed since
+    both_failed : HaveFailed disk c → Failed disk first c.first × Failed disk copy c.second
+    both_failed have =
+        (subst (λ (n : ℕ). FaultsRose n (disk.state c.first).faults) told.first_count have.0, subst (λ (n : ℕ). FaultsRose n (disk.state c.second).faults) told.second_count have.1)
+
+    -- and each is itself
+    served_kept : (known_mirror disk.state c).obeys ↔ (known_mirror disk.state a).obeys → KeepCopies (copies first copy) (copies c.first c.second)
+    served_kept model = record { mark = (told.first, told.second); model = (λ x. opens.model.0 (model.0 x), λ x. model.1 (opens.model.1 x)) }
+
+  -- so it is of copies that are only opened, not called, or refused
+  opened_kept : (first copy : D) (a : Mirror D disk) → Opens disk.state first copy a → KeepCopies (copies first copy) (copies a.first a.second)
+  opened_kept first copy a opens = record { mark = (opens.first_mark, opens.second_mark); model = opens.model }
+
+  same_kept : (first copy : D) → KeepCopies (copies first copy) (copies first copy)
+  same_kept first copy = record { mark = (refl, refl); model = (λ x. x, λ x. x) }
+
+  refused_kept : (c : OpenCause) (a b x y : D) → RefusedFor disk.state a b x y c → KeepCopies (copies a b) (copies x y)
+  refused_kept cause.DiskFail a b x y r = record { mark = (r.4, r.5); model = (λ z. (r.2.0 z.0, r.3.0 z.1), λ z. (r.2.1 z.0, r.3.1 z.1)) }
+  refused_kept cause.NoMemory a b x y r = rw (r.0, r.1) (same_kept a b)
 
   refused_fault : (c : OpenCause) (a b x y : D) → RefusedFor disk.state a b x y c → status_of_cause c ≡ status.DiskFault → Failed disk a x × Failed disk b y
   refused_fault cause.DiskFail a b x y r is = (r.0.rose, r.1.rose)
@@ -100,7 +122,11 @@ module _ {D : Type 0} (disk : Ghosts D) where
         → handed ≡ record { first = a; second = disks.second; first_copy = b; second_copy = disks.second_copy } → s ≡ status_of_cause c → lost ≡ []
         → EndsMirrored disk id o (environment disks net0 clock0 out0) (environment handed net0 clock0 out0) s lost
     ends_first_refused c a b handed s lost r at_disks is no_loss =
-        rw (at_disks, is, no_loss) (record { ends = first_refused c a b r refl; fault = λ fault. inl (refused_fault c disks.first disks.first_copy a b r fault) })
+        rw (at_disks, is, no_loss) (record {
+          ends = first_refused c a b r refl;
+          kept = record { first = refused_kept c disks.first disks.first_copy a b r; second = same_kept disks.second disks.second_copy };
+          fault = λ fault. inl (refused_fault c disks.first disks.first_copy a b r fault);
+        })
 
     -- b's was
     pub ends_second_refused : (c : OpenCause) (m : Mirror D disk) (x y a b : D) (handed : NodeDisks D) (s : Status) (lost : List Mark) → Opens disk.state disks.first disks.first_copy m
@@ -109,7 +135,11 @@ module _ {D : Type 0} (disk : Ghosts D) where
         → EndsMirrored disk id o (environment disks net0 clock0 out0) (environment handed net0 clock0 out0) s lost
     ends_second_refused c m x y a b handed s lost opens r at_first at_copy at_disks is no_loss =
         rw (at_disks, at_first, at_copy, is, no_loss)
-        (record { ends = second_refused c m a b opens r refl; fault = λ fault. inr (refused_fault c disks.second disks.second_copy a b r fault) })
+        (record {
+          ends = second_refused c m a b opens r refl;
+          kept = record { first = opened_kept disks.first disks.first_copy m opens; second = refused_kept c disks.second disks.second_copy a b r };
+          fault = λ fault. inr (refused_fault c disks.second disks.second_copy a b r fault);
+        })
 
     -- both were opened
     pub ends_open : (net1 : NetSeen) (clock1 : Option (List ℕ)) (out1 : StreamSeen) (a b c d : Mirror D disk) (x y u v : D) (s : Status) (lost : List Mark)
@@ -122,18 +152,22 @@ module _ {D : Type 0} (disk : Ghosts D) where
         rw (at_x, at_y, at_u, at_v)
         (record {
           ends = are_open a b c d at_a at_b e refl failed;
+          kept = record {
+            first = served_kept disks.first disks.first_copy a c at_a both.mark.0 both.model.0;
+            second = served_kept disks.second disks.second_copy b d at_b both.mark.1 both.model.1;
+          };
           fault = λ is. failed (rose_from _ _ (none_yet a.faults b.faults at_a.faults at_b.faults) (ends_fault (known_mirror disk.state) id o _ _ s lost e is));
         })
       where
-        kept : KeepBoth (disks_in (known_mirror disk.state) (around a b net0 clock0 out0)) (disks_in (known_mirror disk.state) (around c d net1 clock1 out1))
-        kept = ends_keep (known_mirror disk.state) id o _ _ s lost e
+        both : KeepBoth (disks_in (known_mirror disk.state) (around a b net0 clock0 out0)) (disks_in (known_mirror disk.state) (around c d net1 clock1 out1))
+        both = ends_keep (known_mirror disk.state) id o _ _ s lost e
 
         handed : NodeDisks D
         handed = record { first = c.first; second = d.first; first_copy = c.second; second_copy = d.second }
 
         by : (0 < c.faults) ⊎ (0 < d.faults) → AreaFailed disk disks handed
-        by (inl lt) = inl (both_failed disks.first disks.first_copy a c at_a kept.mark.0 (first_out lt))
-        by (inr lt) = inr (both_failed disks.second disks.second_copy b d at_b kept.mark.1 (second_out lt))
+        by (inl lt) = inl (both_failed disks.first disks.first_copy a c at_a both.mark.0 (first_out lt))
+        by (inr lt) = inr (both_failed disks.second disks.second_copy b d at_b both.mark.1 (second_out lt))
 
         failed : 0 < total c.faults d.faults → AreaFailed disk disks handed
         failed lt = by (some_rose c.faults d.faults lt)

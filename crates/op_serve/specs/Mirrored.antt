@@ -1,15 +1,17 @@
 -- How a node ends whose disks may be mirrored, and what it leaves of them.
-use Rattle.std.specs.Prelude.{◌≡◌, ◌⊎◌, ◌<◌, ◌+◌, [], ℕ, Bool, true, false, List, Option, Some}
+use Rattle.std.specs.Prelude.{◌≡◌, ◌⊎◌, ◌↔◌, ◌<◌, ◌+◌, [], ℕ, Bool, true, false, List, Option, Some}
 use Rattle.op_outside.specs.Causes.{FaultsRose, RisesWith}
 use Rattle.op_outside.specs.declared.disk.Disk.{Ghosts}
 use Rattle.op_outside.specs.Seen.{NetSeen, StreamSeen}
 use Rattle.op_outside.specs.Streams.{TakesAtMost}
+use Rattle.op_store.specs.Stored.{Disks, Obey}
 use Rattle.op_mirror.specs.Mirrors.{known_mirror}
 use Rattle.op_mirror.specs.Opens.{Opens, RefusedFor}
 use Rattle.op_mirror.specs.Starts.{HoldLeft}
 use Rattle.op_mirror.specs.declared.mirror.Mirror.{Mirror}
 use Rattle.op_mirror.specs.declared.opening.OpenCause.{OpenCause}
 use Rattle.op_mirror.specs.declared.opening.OpenCause.TheVariants as cause
+use Rattle.op_node.specs.Openings.{disks_with}
 use Rattle.op_setup.specs.declared.config.Settings.{Settings}
 use Rattle.op_serving.specs.declared.mark.Mark.{Mark}
 use Rattle.op_input.specs.Inputs.{IsConfigured, IsMisconfigured, input_limit}
@@ -37,6 +39,11 @@ over e first second = around first second e.net e.clock e.output
 abbrev pub status_of_cause : OpenCause → Status
 status_of_cause cause.DiskFail = status.DiskFault
 status_of_cause cause.NoMemory = status.NoMemory
+
+-- of the two copies of an area: each is itself, by its mark, and both obey the model where both did
+pub record KeepCopies (old new : Disks) : Type 0 where
+  pub mark : (new.first.mark ≡ old.first.mark) × (new.second.mark ≡ old.second.mark)
+  pub model : Obey new ↔ Obey old
 
 -- over disks of a type of which its trait tells this
 module _ {D : Type 0} (disk : Ghosts D) where
@@ -68,6 +75,13 @@ module _ {D : Type 0} (disk : Ghosts D) where
   AreCopies a b disks =
       disks ≡ record { first = a.first; second = b.first; first_copy = a.second; second_copy = b.second }
 
+  -- each of the four disks is itself
+  pub record AreKept (old new : NodeDisks D) : Type 0 where
+    pub first : KeepCopies (disks_with disk.state old.first old.first_copy)
+        (disks_with disk.state new.first new.first_copy)
+    pub second : KeepCopies (disks_with disk.state old.second old.second_copy)
+        (disks_with disk.state new.second new.second_copy)
+
   -- each area's two disks have what a crash may have left of its mirror, of which no copy was out
   pub record HoldLeftOf (a b : Mirror D disk) (disks : NodeDisks D) : Type 0 where
     pub first : HoldLeft disk.state a disks.first disks.first_copy
@@ -95,10 +109,12 @@ module _ {D : Type 0} (disk : Ghosts D) where
         → (0 < faults_of (known_mirror disk.state) (over new c d) → AreaFailed old.disks new.disks)
         → EndsOverMirrors id o old new s lost
 
-  -- the same, and a disk fault is told only where both copies of an area failed
+  -- the same, each of the four disks is itself at the end, and a disk fault is told only where both copies of
+  -- an area failed
   pub record EndsMirrored (id : ℕ) (o : Settings) (old new : Environment D) (s : Status)
       (lost : List Mark) : Type 0 where
     pub ends : EndsOverMirrors id o old new s lost
+    pub kept : AreKept old.disks new.disks
     pub fault : s ≡ status.DiskFault → AreaFailed old.disks new.disks
 
   -- with mirrors, or without
