@@ -24,16 +24,18 @@ use Rattle.op_executions.specs.declared.world.ServerWorld.{ServerWorld}
 use Rattle.op_executions.proofs.Bounds.{world_in_range}
 use Rattle.op_executions.proofs.Deeds.{node_found}
 use Rattle.op_executions.proofs.Worlds.{run_on}
-use Rattle.op_world.specs.declared.node_state.NodeState.{NodeState}
-use Rattle.op_world.specs.declared.node_state.NodeState.TheVariants as node
-use Rattle.op_world.specs.declared.node_state.WorldNode.{WorldNode}
-use Rattle.op_world.specs.Plans.{awaited_of, lost_in, plan_at, ArePlanned, IsPlan}
-use Rattle.op_world.specs.declared.plan.Plan.{Plan}
+use Rattle.op_replay_nodes.specs.declared.node_state.NodeState.{NodeState}
+use Rattle.op_replay_nodes.specs.declared.node_state.NodeState.TheVariants as node
+use Rattle.op_replay_nodes.specs.declared.node_state.WorldNode.{WorldNode}
+use Rattle.op_replay_nodes.specs.Plans.{awaited_of, lost_in}
+use Rattle.op_world.specs.Plans.{plan_at, ArePlanned, IsPlan}
+use Rattle.op_replay_nodes.specs.declared.plan.Plan.{Plan}
 use Rattle.op_world.specs.Events.{parts_of, Happens}
 use Rattle.op_world.specs.Ledgers.{list_at, NodeShowsMore}
-use Rattle.op_world.specs.Worlds.{Parts, Shows, ShowsNode, ShowNodes, IsShown, IsKept, IsWorld, CallsAt, is_awaited_at, drops_at, area_nodes}
+use Rattle.op_replay_nodes.specs.Nodes.{IsShown, IsKept, CallsAt, is_awaited_at, drops_at, area_nodes}
+use Rattle.op_world.specs.Worlds.{Parts, Shows, ShowsNode, ShowNodes, IsWorld}
 use Rattle.op_world.proofs.Plans.{ids_of, get_any, keeping, planned_at, planned_set, planned_with, planned_still, plan_dropped, plan_stays, awaited_there, dropped_there, may_if, may_planned}
-use Rattle.op_world.proofs.Happenings.{batch_there}
+use Rattle.op_replay_nodes.proofs.Happenings.{batch_there}
 use Rattle.op_world.proofs.Ledgers.{HasNoMore, HaveNoMore, proposing_lists, shown_list, showing_list, one_shows, sound_end, sound_no_more}
 use Rattle.op_areas.specs.Media.{Medium}
 

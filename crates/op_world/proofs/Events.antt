@@ -25,15 +25,17 @@ use Rattle.op_executions.specs.Worlds as worlds
 use Rattle.op_executions.specs.declared.world.ServerWorld.{ServerWorld}
 use Rattle.op_executions.proofs.Servers.{pids-set, all_set, shown_set}
 use Rattle.op_executions.proofs.Worlds.{place_in}
-use Rattle.op_world.specs.Plans.{plan_at, disk_plan_with, told_by, ArePlanned, IsPlan}
-use Rattle.op_world.specs.declared.plan.Plan.{Plan}
+use Rattle.op_replay_nodes.specs.Plans.{told_by}
+use Rattle.op_world.specs.Plans.{plan_at, disk_plan_with, ArePlanned, IsPlan}
+use Rattle.op_replay_nodes.specs.declared.plan.Plan.{Plan}
 use Rattle.op_world.specs.Events.{parts_of, IsPlannedAt, CanCome, IsBadEvent, EventComes, Happens, HappensAt, StopsAt}
-use Rattle.op_world.specs.Worlds.{Parts, Shows, ShowsNode, ShowNodes, IsKept, IsWorld, area_nodes}
-use Rattle.op_world.specs.declared.awaited.Planned.{Planned}
-use Rattle.op_world.specs.declared.awaited.Planned.TheVariants as planned
-use Rattle.op_world.specs.declared.node_state.WorldNode.{WorldNode}
+use Rattle.op_replay_nodes.specs.Nodes.{IsKept, area_nodes}
+use Rattle.op_world.specs.Worlds.{Parts, Shows, ShowsNode, ShowNodes, IsWorld}
+use Rattle.op_replay_nodes.specs.declared.awaited.Planned.{Planned}
+use Rattle.op_replay_nodes.specs.declared.awaited.Planned.TheVariants as planned
+use Rattle.op_replay_nodes.specs.declared.node_state.WorldNode.{WorldNode}
 use Rattle.op_world.proofs.Plans.{ids_of, get_any, planned_at, planned_set, planned_with, planned_more, planned_again, PlansInRange, awaited_drops, due_awaited, may_nothing}
-use Rattle.op_world.proofs.Happenings.{stays_shown, stays_kept}
+use Rattle.op_replay_nodes.proofs.Happenings.{stays_shown, stays_kept}
 use Rattle.op_world.proofs.Deeds.{servers_show}
 use Rattle.op_areas.specs.Media.{Medium}
 

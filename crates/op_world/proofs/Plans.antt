@@ -10,15 +10,16 @@ use Rattle.op_runs.specs.World as runs
 use Rattle.op_runs.specs.Possible.{IsDisk}
 use Rattle.op_runs.specs.Schedules.{Awaited, Nothing, Stop, Failure, DiskPlan, DiskPlans, no_plan, no_plans, plans_with, awaiting, killing, is_killed, is_lost, is_awaited, drops, MayFail, MayEnd}
 use Rattle.op_executions.specs.Worlds.{place_of}
-use Rattle.op_world.specs.Plans.{awaited_of, lost_in, killed_with, nothing_planned, plan_at, plan_with, disk_plan_with, ArePlanned, IsPlan}
-use Rattle.op_world.specs.Worlds.{IsShown, is_awaited_at, drops_at}
-use Rattle.op_world.specs.declared.awaited.Planned.{Planned}
-use Rattle.op_world.specs.declared.awaited.Planned.TheVariants as planned
-use Rattle.op_world.specs.declared.node_state.NodeState.{NodeState}
-use Rattle.op_world.specs.declared.node_state.NodeState.TheVariants as node
-use Rattle.op_world.specs.declared.node_state.WorldNode.{WorldNode}
-use Rattle.op_world.specs.declared.plan.Killed.{Killed}
-use Rattle.op_world.specs.declared.plan.Plan.{Plan}
+use Rattle.op_replay_nodes.specs.Plans.{awaited_of, lost_in, killed_with, nothing_planned, plan_with}
+use Rattle.op_world.specs.Plans.{plan_at, disk_plan_with, ArePlanned, IsPlan}
+use Rattle.op_replay_nodes.specs.Nodes.{IsShown, is_awaited_at, drops_at}
+use Rattle.op_replay_nodes.specs.declared.awaited.Planned.{Planned}
+use Rattle.op_replay_nodes.specs.declared.awaited.Planned.TheVariants as planned
+use Rattle.op_replay_nodes.specs.declared.node_state.NodeState.{NodeState}
+use Rattle.op_replay_nodes.specs.declared.node_state.NodeState.TheVariants as node
+use Rattle.op_replay_nodes.specs.declared.node_state.WorldNode.{WorldNode}
+use Rattle.op_replay_nodes.specs.declared.plan.Killed.{Killed}
+use Rattle.op_replay_nodes.specs.declared.plan.Plan.{Plan}
 
 -- ---- read from the nodes
 

@@ -27,13 +27,14 @@ use Rattle.op_runs.specs.declared.summary.Listed.{Listed}
 use Rattle.op_runs.specs.declared.summary.Summary.{Summary}
 use Rattle.op_runs.specs.Summary.{greatest_conf, joining_conf, listed_from, listed_of, node_line, running_of, stands_at, summary_of}
 use Rattle.op_bounds.specs.Laws.{NodeInRange}
-use Rattle.op_world.specs.Worlds.{Parts, IsWorld, IsShown, ShowsFailed, ShowsDown, Shows, ShowsNode, ShowNodes, line_of}
-use Rattle.op_world.specs.declared.node_state.DownNode.{DownNode}
+use Rattle.op_replay_nodes.specs.Nodes.{IsShown, ShowsFailed, ShowsDown}
+use Rattle.op_world.specs.Worlds.{Parts, IsWorld, Shows, ShowsNode, ShowNodes, line_of}
+use Rattle.op_replay_nodes.specs.declared.node_state.DownNode.{DownNode}
 use Rattle.op_world.specs.Ledgers.{list_at}
 use Rattle.std.proofs.Math.Path.{fun_ext}
-use Rattle.op_world.specs.declared.node_state.NodeState.{NodeState}
-use Rattle.op_world.specs.declared.node_state.NodeState.TheVariants as node
-use Rattle.op_world.specs.declared.node_state.WorldNode.{WorldNode}
+use Rattle.op_replay_nodes.specs.declared.node_state.NodeState.{NodeState}
+use Rattle.op_replay_nodes.specs.declared.node_state.NodeState.TheVariants as node
+use Rattle.op_replay_nodes.specs.declared.node_state.WorldNode.{WorldNode}
 use Rattle.op_world.proofs.Deeds.{run_kept, in_range}
 
 -- its closed list is in range, if it has one

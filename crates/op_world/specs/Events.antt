@@ -10,11 +10,11 @@ use Rattle.op_runs.specs.Schedules.{DiskPlan, DiskPlans, Nothing, Becomes, Calls
 use Rattle.op_executions.specs.Worlds.{place_of}
 use Rattle.op_executions.specs.declared.world.ServerWorld.{ServerWorld}
 use Rattle.op_areas.specs.Media.{Medium}
-use Rattle.op_world.specs.Became.{GoesOnPlanned}
+use Rattle.op_replay_nodes.specs.Became.{GoesOnPlanned}
 use Rattle.op_world.specs.Plans.{ArePlanned}
 use Rattle.op_world.specs.Worlds.{Parts, Shows}
-use Rattle.op_world.specs.declared.awaited.Planned.{Planned}
-use Rattle.op_world.specs.declared.node_state.WorldNode.{WorldNode}
+use Rattle.op_replay_nodes.specs.declared.awaited.Planned.{Planned}
+use Rattle.op_replay_nodes.specs.declared.node_state.WorldNode.{WorldNode}
 
 -- ---- a world without its kind of area
 

@@ -4,8 +4,8 @@ use Rattle.op_types.specs.declared.durable.Durable.{Durable}
 use Rattle.op_types.specs.declared.log.Entry.{Entry}
 use Rattle.op_spec.specs.Ledger.{decided_entries}
 use Rattle.op_node.specs.Nodes.{node_of}
-use Rattle.op_world.specs.declared.node_state.NodeState.{NodeState}
-use Rattle.op_world.specs.declared.node_state.NodeState.TheVariants as node
+use Rattle.op_replay_nodes.specs.declared.node_state.NodeState.{NodeState}
+use Rattle.op_replay_nodes.specs.declared.node_state.NodeState.TheVariants as node
 
 -- the list of a configuration, which stands at its number; it is empty where none is kept
 abbrev pub list_at : List (List Entry) → ℕ → List Entry

@@ -7,8 +7,8 @@ ghost use Rattle.op_spec.specs.Ledger.{part_entries, closed_entries};
 ghost use Rattle.op_runs.specs.Summary.{listed_from};
 ghost use Rattle.op_world.specs.Ledgers.{list_at, ShowsMore, NodeShowsMore};
 
-use crate::node_state::NodeState;
 use op_outside::Disk;
+use op_replay_nodes::NodeState;
 use op_runs::{Listed, Lists};
 use op_types::{Closed, ConfNo, Durable, Entries, Entry, Members, NoMemory, Part, last_stop};
 use std::alloc::Global;
@@ -193,7 +193,7 @@ fn push_copies(alloc: Global, list: &mut Entries, entries: &[Entry]) -> Result<(
     ensures { OnOk result (list.new ≡ list.old ++ entries.now) }
 {
     for entry in entries {
-        list.push(entry.copy(alloc)?)?;
+        list.push(entry.copy()?)?;
     }
     Ok(())
 }

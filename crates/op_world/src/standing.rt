@@ -6,8 +6,8 @@ ghost use Rattle.op_runs.specs.World as runs;
 ghost use Rattle.op_runs.specs.Summary.{greatest_conf, stands_at, joining_conf, node_line};
 ghost use Rattle.op_world.specs.Worlds.{ShowsNode, ShowNodes, line_of};
 
-use crate::node_state::{NodeState, WorldNode};
 use op_areas::Area;
+use op_replay_nodes::{NodeState, WorldNode};
 use op_runs::{NodeLine, NodeLines, Running};
 use op_types::{ConfNo, Durable, NoMemory, Pid};
 use std::alloc::Global;

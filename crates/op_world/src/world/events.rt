@@ -9,13 +9,13 @@ ghost use Rattle.op_executions.specs.Failing.{IfBadEvent};
 ghost use Rattle.op_executions.specs.Worlds.{KeepsServers};
 ghost use Rattle.op_world.specs.Events.{parts_of, IsPlannedAt, CanCome, EventComes, HappensAt, IsBadEvent, IsCounted, StopsAt};
 ghost use Rattle.op_world.specs.Plans.{ArePlanned};
-ghost use Rattle.op_world.specs.Worlds.{area_nodes, IsWorld, Shows};
+ghost use Rattle.op_replay_nodes.specs.Nodes.{area_nodes};
+ghost use Rattle.op_world.specs.Worlds.{IsWorld, Shows};
 
-use crate::awaited::Planned;
 use crate::ledger::Ledger;
-use crate::node_state::WorldNode;
 use op_areas::Area;
 use op_executions::{RunFail, ServerWorld, place_of};
+use op_replay_nodes::{Planned, WorldNode};
 use op_runs::{Event, What};
 use op_types::{NoMemory, Pid};
 

@@ -3,7 +3,7 @@ use Rattle.op_runs.specs.Summary.{summary_of}
 use Rattle.op_runs.specs.World.{Node}
 use Rattle.op_world.specs.Events.{parts_of}
 use Rattle.op_world.specs.Worlds.{Parts, Shows, ShowNodes}
-use Rattle.op_world.specs.declared.node_state.WorldNode.{WorldNode}
+use Rattle.op_replay_nodes.specs.declared.node_state.WorldNode.{WorldNode}
 use Rattle.op_world.proofs.StandingNodes.{IsOpen, world_open, reported}
 use Rattle.op_world.proofs.world.World.summary.Goals as goal
 use Rattle.op_areas.specs.Media.{medium}

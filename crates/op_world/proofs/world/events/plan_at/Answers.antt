@@ -2,9 +2,9 @@ use Rattle.std.proofs.Common.{◌≡◌, List, ℕ, get_or, set, refl, sym, ap, 
 use Rattle.op_areas.specs.Media.{medium}
 use Rattle.op_executions.specs.Worlds.{place_of}
 use Rattle.op_executions.proofs.Worlds.{place_in}
-use Rattle.op_world.specs.Became.{GoesOnPlanned}
-use Rattle.op_world.specs.Worlds.{area_nodes}
-use Rattle.op_world.specs.declared.node_state.WorldNode.{WorldNode}
+use Rattle.op_replay_nodes.specs.Became.{GoesOnPlanned}
+use Rattle.op_replay_nodes.specs.Nodes.{area_nodes}
+use Rattle.op_replay_nodes.specs.declared.node_state.WorldNode.{WorldNode}
 use Rattle.op_world.proofs.Events.{ok_weaker}
 use Rattle.op_world.proofs.Plans.{get_any}
 use Rattle.op_world.proofs.world.events.plan_at.Goals as goal

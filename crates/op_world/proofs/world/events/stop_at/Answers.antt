@@ -2,7 +2,7 @@ use Rattle.std.proofs.Common.{ℕ, Option, sym, ap, subst, ◌∙◌}
 use Rattle.std.proofs.lemmas.Result.{err_from_is_err_and}
 use Rattle.op_types.specs.Ranges.{IsMember}
 use Rattle.op_world.specs.Events.{parts_of}
-use Rattle.op_world.specs.declared.node_state.WorldNode.{WorldNode}
+use Rattle.op_replay_nodes.specs.declared.node_state.WorldNode.{WorldNode}
 use Rattle.op_world.proofs.Events.{never_bad, stop_event, stop_in_range, stop_possible, stopped_at}
 use Rattle.op_world.proofs.Plans.{get_any}
 use Rattle.op_world.proofs.world.events.stop_at.Goals as goal

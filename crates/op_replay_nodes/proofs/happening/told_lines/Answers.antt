@@ -1,0 +1,17 @@
+use Rattle.std.proofs.Common.{ap}
+use Rattle.op_chain.specs.Chains.{ballots_in, pairs_in}
+use Rattle.op_node.specs.Nodes.{node_of}
+use Rattle.op_runs.specs.World.{ThePairs, TheBallots}
+use Rattle.op_executions.specs.Deeds.{told_of}
+use Rattle.op_executions.proofs.ToldLines.{lines_of_state}
+use Rattle.op_replay_nodes.proofs.happening.told_lines.Goals as goal
+
+pub returns-in-Pairs : goal.returns-in-Pairs
+returns-in-Pairs g c =
+    lines_of_state c.pair_lines.result c.args.told ThePairs c.args.me _ (λ s. pairs_in s.service s.durable.part) (node_of c.args.node.now).state
+    (ap told_of c.in-Pairs.is) c.pairs.ensures c.pair_lines.ensures
+
+pub returns-in-Ballots : goal.returns-in-Ballots
+returns-in-Ballots g c =
+    lines_of_state c.ballot_lines.result c.args.told TheBallots c.args.me c.ballots.result (λ s. ballots_in s.volatile s.durable.part) (node_of c.args.node.now).state
+    (ap told_of c.in-Ballots.is) c.ballots.ensures c.ballot_lines.ensures

@@ -1,0 +1,4 @@
+pub mod Became
+pub mod Disks
+pub mod Nodes
+pub mod Plans
