@@ -1,13 +1,15 @@
 //! When a checkpoint is made, and what a stop in one leaves.
+ghost use Rattle.std.specs.Prelude.{◌≤◌};
 
-use crate::sole::{Images, after_puts, decided, opened, puts, ticks};
+use crate::sole::{Disks, Ending, after_puts, copies, decided, opened, parked, ticks_and_puts};
 use op_memory::MemDisk;
 use std::alloc::Global;
-use std::process::Abort;
 use std::test::Fail;
 
-/// With the put of this number the first area is longer than 1,048,576 bytes.
+/// With the put of this number the first area is longer than `LONG` bytes.
 const PUT: u64 = 253;
+
+const LONG: usize = 1_048_576;
 
 /// The header of the second area.
 const HEADER: &[u8] = b"\xA5OMNIPAX\x01\0\0\0\0\0\0\0\x02";
@@ -15,116 +17,109 @@ const HEADER: &[u8] = b"\xA5OMNIPAX\x01\0\0\0\0\0\0\0\x02";
 /// What the second disk holds after the checkpoint, in bytes.
 const CHECKPOINT: usize = 1_041_966;
 
+/// How many bytes the disks hold after so many puts, whether the second begins with its header, and how much a restart finds.
+fn held_after(alloc: Global, count: u64) -> Result<(usize, usize, bool, u64), Fail>
+    requires { count ≤ PUT }
+{
+    let disks = after_puts(alloc, count)?;
+    let lengths = (disks.0.bytes().len(), disks.1.bytes().len());
+    let has_header = disks.1.bytes().starts_with(HEADER);
+    let (first, second) = copies(alloc, &disks)?;
+    Ok((
+        lengths.0,
+        lengths.1,
+        has_header,
+        decided(alloc, first, second)?,
+    ))
+}
+
 #[test]
 fn the_253rd_put_makes_a_checkpoint(rt: HostRuntime) -> Result<(), Fail> {
-    let before = after_puts(rt.alloc(), PUT - 1)?;
-    assert!(rt; before.second.is_empty());
-    let after = after_puts(rt.alloc(), PUT)?;
-    assert!(rt; 1_048_576 < after.first.len());
-    assert_eq!(rt; after.second.len(), CHECKPOINT);
-    assert!(rt; after.second.as_slice().starts_with(HEADER));
-    let (first, second) = after.disks(rt.alloc())?;
-    assert_eq!(rt; decided(rt.alloc(), first, second)?, PUT);
+    let (_, second, _, found) = held_after(rt.alloc(), PUT - 1)?;
+    assert_eq!(rt; (second, found), (0, PUT - 1));
+    let (first, second, has_header, found) = held_after(rt.alloc(), PUT)?;
+    assert!(rt; LONG < first);
+    assert_eq!(rt; (second, has_header, found), (CHECKPOINT, true, PUT));
     Ok(())
 }
 
 /// A call of the second disk, or the first, at which it stops.
 #[derive(Clone, Copy)]
-struct Stop {
-    is_second: bool,
-    call: u64,
+enum Stop {
+    First(u64),
+    Second(u64),
 }
 
-/// The disks of a node that is opened over these bytes and puts once more, of which one stops at a call of that put.
-fn stopped(alloc: Global, before: &Images, stop: Stop) -> Result<(MemDisk, MemDisk), Fail> {
-    let (mut first, mut second) = before.disks(alloc)?;
-    if stop.is_second {
-        second.stop_at(stop.call);
-    } else {
-        first.stop_at(stop.call);
+/// The disks of a node that is opened over what these hold and puts once more, of which one stops at a call of that put.
+fn stopped(alloc: Global, before: &Disks, stop: Stop) -> Result<Disks, Fail> {
+    let (mut first, mut second) = copies(alloc, before)?;
+    match stop {
+        Stop::First(call) => first.stop_at(call),
+        Stop::Second(call) => second.stop_at(call),
     }
     let mut core = opened(alloc, first, second)?;
-    ticks(&mut core)?;
-    if puts(alloc, &mut core, PUT)? {
-        return Err("it doesn't stop".into());
+    let ending = ticks_and_puts(alloc, &mut core, PUT, PUT + 1);
+    let disks = parked(core);
+    match ending {
+        Ending::PutFails => Ok(disks),
+        _ => Err("it doesn't stop in the put".into()),
     }
-    let (_, first, second) = core.node.park();
-    Ok((first, second))
 }
 
-/// This image of the stopped disks has so much decided.
-fn check_stop(
-    rt: &(impl Abort + Alloc<A = Global>),
-    before: &Images,
-    stop: Stop,
-    image: u8,
-    wanted: u64,
-) -> Result<(), Fail> {
-    let alloc = rt.alloc();
-    let (first, second) = stopped(alloc, before, stop)?;
-    let first = MemDisk::new(alloc, first.image(image)?)?;
-    let second = MemDisk::new(alloc, second.image(image)?)?;
-    assert_eq!(rt; decided(alloc, first, second)?, wanted);
+/// How much is decided in this image of the stopped disks.
+fn found(alloc: Global, before: &Disks, stop: Stop, image: u8) -> Result<u64, Fail> {
+    let disks = stopped(alloc, before, stop)?;
+    let first = MemDisk::new(alloc, disks.0.image(image)?)?;
+    let second = MemDisk::new(alloc, disks.1.image(image)?)?;
+    decided(alloc, first, second)
+}
+
+/// A stop, an image of the disks after it, and how much it has decided.
+type Row = (Stop, u8, u64);
+
+/// The first of these in which something else is decided.
+fn first_wrong(alloc: Global, rows: &[Row]) -> Result<Option<usize>, Fail> {
+    let before = after_puts(alloc, PUT - 1)?;
+    for (place, (stop, image, wanted)) in rows.iter().enumerate() {
+        if found(alloc, &before, *stop, *image)? != *wanted {
+            return Ok(Some(place));
+        }
+    }
+    Ok(None)
+}
+
+/// A checkpoint closes the gate, writes the state and opens the gate: seven calls, behind the two of the second disk's opening.
+const CHECKPOINT_STOPS: [Row; 10] = [
+    (Stop::Second(3), 0xA5, PUT),
+    (Stop::Second(4), 1, PUT),
+    (Stop::Second(5), 0xA5, PUT),
+    (Stop::Second(6), 0xA5, PUT),
+    (Stop::Second(7), 1, PUT),
+    (Stop::Second(7), 0xA5, PUT),
+    (Stop::Second(8), 0, PUT),
+    (Stop::Second(8), 0xA5, PUT),
+    (Stop::Second(9), 0, PUT),
+    (Stop::Second(9), 1, PUT),
+];
+
+#[test]
+fn a_checkpoint_that_stops_leaves_the_put(rt: HostRuntime) -> Result<(), Fail> {
+    assert_eq!(rt; first_wrong(rt.alloc(), &CHECKPOINT_STOPS)?, None);
     Ok(())
 }
 
-/// The second disk stops at each of these calls, and this image of it has the put.
-fn check_checkpoint_stops(
-    rt: &(impl Abort + Alloc<A = Global>),
-    stops: &[(u64, u8)],
-) -> Result<(), Fail> {
-    let before = after_puts(rt.alloc(), PUT - 1)?;
-    for (call, image) in stops.iter() {
-        let stop = Stop {
-            is_second: true,
-            call: *call,
-        };
-        check_stop(rt, &before, stop, *image, PUT)?;
-    }
+/// A put is written, and then its gate is opened. The first disk's opening makes three calls, and the tick and the put four each.
+const PUT_STOPS: [Row; 6] = [
+    (Stop::First(8), 1, PUT - 1),
+    (Stop::First(9), 1, PUT - 1),
+    (Stop::First(10), 0, PUT - 1),
+    (Stop::First(10), 1, PUT),
+    (Stop::First(11), 0, PUT - 1),
+    (Stop::First(11), 1, PUT),
+];
+
+#[test]
+fn a_put_that_stops_leaves_all_of_it_or_nothing(rt: HostRuntime) -> Result<(), Fail> {
+    assert_eq!(rt; first_wrong(rt.alloc(), &PUT_STOPS)?, None);
     Ok(())
-}
-
-// The second disk's opening makes two calls, and the checkpoint seven.
-
-#[test]
-fn a_checkpoint_that_closes_the_gate_stops(rt: HostRuntime) -> Result<(), Fail> {
-    check_checkpoint_stops(&rt, &[(3, 0xA5), (4, 1), (5, 0xA5)])
-}
-
-#[test]
-fn a_checkpoint_that_writes_the_state_stops(rt: HostRuntime) -> Result<(), Fail> {
-    check_checkpoint_stops(&rt, &[(6, 0xA5), (7, 1), (7, 0xA5)])
-}
-
-#[test]
-fn a_checkpoint_that_opens_the_gate_stops(rt: HostRuntime) -> Result<(), Fail> {
-    check_checkpoint_stops(&rt, &[(8, 0), (8, 0xA5), (9, 0), (9, 1)])
-}
-
-/// The first disk stops at each of these calls, and this image of it has so much decided.
-fn check_put_stops(
-    rt: &(impl Abort + Alloc<A = Global>),
-    stops: &[(u64, u8, u64)],
-) -> Result<(), Fail> {
-    let before = after_puts(rt.alloc(), PUT - 1)?;
-    for (call, image, wanted) in stops.iter() {
-        let stop = Stop {
-            is_second: false,
-            call: *call,
-        };
-        check_stop(rt, &before, stop, *image, *wanted)?;
-    }
-    Ok(())
-}
-
-// The first disk's opening makes three calls, and the tick and the put four each.
-
-#[test]
-fn a_stop_that_writes_the_put_leaves_none_of_it(rt: HostRuntime) -> Result<(), Fail> {
-    check_put_stops(&rt, &[(8, 1, PUT - 1), (9, 1, PUT - 1), (10, 0, PUT - 1)])
-}
-
-#[test]
-fn a_stop_that_opens_its_gate_leaves_the_put_or_none_of_it(rt: HostRuntime) -> Result<(), Fail> {
-    check_put_stops(&rt, &[(10, 1, PUT), (11, 0, PUT - 1), (11, 1, PUT)])
 }

@@ -3,41 +3,48 @@
 ghost use Rattle.std.specs.Prelude.{IfOk};
 ghost use Rattle.op_core.specs.NodeCores.{IsServable};
 
-use crate::sole::{decided, decided_by, opened, puts, stored_by, ticks};
+use crate::sole::{
+    Ending, copies, decided, decided_by, disk, opened, parked, ticks, ticks_and_puts,
+};
 use op_core::NodeCore;
 use op_memory::MemDisk;
 use op_serving::{Core, StepFail};
 use op_types::Input;
-use std::alloc::Global;
-use std::process::Abort;
+use std::alloc::{AllocError, Global};
 use std::test::Fail;
+
+/// An empty disk that fails at these calls.
+fn failing_disk(alloc: Global, calls: &[u64]) -> Result<MemDisk, AllocError> {
+    let mut failing = disk(alloc, &[])?;
+    for call in calls {
+        failing.fail_at(*call)?;
+    }
+    Ok(failing)
+}
 
 /// A node whose put fails, at these calls of its first disk, so that the first of them is one of the put.
 fn failed(alloc: Global, calls: &[u64]) -> Result<NodeCore<MemDisk>, Fail>
     ensures { IfOk result (λ core. IsServable core.node) }
 {
-    let mut first = MemDisk::new(alloc, Vec::new(alloc))?;
-    let second = MemDisk::new(alloc, Vec::new(alloc))?;
-    for call in calls.iter() {
-        first.fail_at(*call)?;
-    }
+    let first = failing_disk(alloc, calls)?;
+    let second = disk(alloc, &[])?;
     let mut core = opened(alloc, first, second)?;
-    ticks(&mut core)?;
-    if puts(alloc, &mut core, 1)? {
-        return Err("the put doesn't fail".into());
+    match ticks_and_puts(alloc, &mut core, 1, 2) {
+        Ending::PutFails => Ok(core),
+        _ => Err("the put doesn't fail".into()),
     }
-    Ok(core)
 }
 
 /// How much a restart of a node finds, after a tick and a put.
 fn found_after_put(alloc: Global, mut core: NodeCore<MemDisk>) -> Result<u64, Fail>
     requires { IsServable core.node }
 {
-    ticks(&mut core)?;
-    if !puts(alloc, &mut core, 1)? {
+    let ending = ticks_and_puts(alloc, &mut core, 1, 2);
+    let disks = parked(core);
+    if ending != Ending::Stored {
         return Err("the put fails".into());
     }
-    let (first, second) = stored_by(alloc, core)?.disks(alloc)?;
+    let (first, second) = copies(alloc, &disks)?;
     decided(alloc, first, second)
 }
 
@@ -77,22 +84,24 @@ const FAILED_PUTS: [FailedPut; 4] = [
     },
 ];
 
-/// At the next tick the node is opened again, and then it takes puts, which a restart finds.
-fn check_failed_put(
-    rt: &(impl Abort + Alloc<A = Global>),
-    failed_put: FailedPut,
-) -> Result<(), Fail> {
-    let mut core = failed(rt.alloc(), &[failed_put.call])?;
-    ticks(&mut core)?;
-    assert_eq!(rt; decided_by(&core), failed_put.found);
-    assert_eq!(rt; found_after_put(rt.alloc(), core)?, failed_put.after_next);
-    Ok(())
+/// How much a node whose put failed at this call has decided when it is opened again at a tick, and after the next put.
+fn found(alloc: Global, call: u64) -> Result<(u64, u64), Fail> {
+    let mut core = failed(alloc, &[call])?;
+    let is_ticked = ticks(&mut core);
+    let found = decided_by(&core);
+    let after_next = found_after_put(alloc, core)?;
+    if is_ticked {
+        Ok((found, after_next))
+    } else {
+        Err("a tick fails".into())
+    }
 }
 
 #[test]
 fn a_failed_put_is_found_whole_or_not_at_all(rt: HostRuntime) -> Result<(), Fail> {
     for failed_put in FAILED_PUTS {
-        check_failed_put(&rt, failed_put)?;
+        let found = found(rt.alloc(), failed_put.call)?;
+        assert_eq!(rt; found, (failed_put.found, failed_put.after_next));
     }
     Ok(())
 }
@@ -119,26 +128,34 @@ fn refuses(core: &mut NodeCore<MemDisk>, count: u64) -> bool
     fault_at_tick(core) == Some(count) && core.node.failed() == Some(count) && decided_by(core) == 0
 }
 
-/// The put fails, and then so many openings as there are counts. After them the node is opened.
-fn check_refusals(
-    rt: &(impl Abort + Alloc<A = Global>),
-    calls: &[u64],
-    counts: &[u64],
-) -> Result<(), Fail> {
-    let mut core = failed(rt.alloc(), calls)?;
-    assert_eq!(rt; core.node.failed(), Some(1));
-    'refusals: for count in counts.iter() {
-        assert!(rt; refuses(&mut core, *count));
+/// Whether so many openings are refused as there are counts, at a node whose put failed.
+fn refuses_all(core: &mut NodeCore<MemDisk>, counts: &[u64]) -> bool
+    requires { IsServable core.old.node }
+    ensures { IsServable core.new.node }
+{
+    if core.node.failed() != Some(1) {
+        return false;
     }
-    ticks(&mut core)?;
-    assert_eq!(rt; core.node.failed(), None);
-    Ok(())
+    'refusals: for count in counts.iter() {
+        if !refuses(core, *count) {
+            return false;
+        }
+    }
+    true
+}
+
+/// Whether the put fails, then so many openings as there are counts, and then none.
+fn is_opened_after(alloc: Global, calls: &[u64], counts: &[u64]) -> Result<bool, Fail> {
+    let mut core = failed(alloc, calls)?;
+    let is_refused = refuses_all(&mut core, counts);
+    let is_ticked = ticks(&mut core);
+    Ok(is_refused && is_ticked && core.node.failed().is_none())
 }
 
 #[test]
 fn a_refused_opening_keeps_the_new_count(rt: HostRuntime) -> Result<(), Fail> {
     for (calls, counts) in REFUSALS {
-        check_refusals(&rt, calls, counts)?;
+        assert!(rt; is_opened_after(rt.alloc(), calls, counts)?, "{counts:?}");
     }
     Ok(())
 }

@@ -1,5 +1,5 @@
 //! The only member over two disks in memory, and its puts.
-ghost use Rattle.std.specs.Prelude.{◌<◌, IfOk};
+ghost use Rattle.std.specs.Prelude.{◌<◌, ◌≤◌, IfOk};
 ghost use Rattle.op_types.specs.Ranges.{IsNumber, MembersInRange};
 ghost use Rattle.op_core.specs.NodeCores.{IsServable};
 ghost use Rattle.op_serving.specs.Ranges.{InputInRange};
@@ -21,20 +21,20 @@ const VALUE_LEN: usize = 4096;
 /// So many puts are made of a node at most.
 const MOST_PUTS: u64 = 1000;
 
-/// The bytes of two disks.
-#[derive(Drop)]
-pub struct Images {
-    pub first: Vec<u8>,
-    pub second: Vec<u8>,
+/// The disks of a node.
+pub type Disks = (MemDisk, MemDisk);
+
+/// A disk that holds these bytes.
+pub fn disk(alloc: Global, bytes: &[u8]) -> Result<MemDisk, AllocError> {
+    let bytes = Vec::from_slice(alloc, bytes)?;
+    MemDisk::new(alloc, bytes)
 }
 
-impl Images {
-    /// Disks that hold these bytes.
-    pub fn disks(&self, alloc: Global) -> Result<(MemDisk, MemDisk), AllocError> {
-        let first = MemDisk::new(alloc, self.first.to_vec(alloc)?)?;
-        let second = MemDisk::new(alloc, self.second.to_vec(alloc)?)?;
-        Ok((first, second))
-    }
+/// New disks that hold what these do.
+pub fn copies(alloc: Global, disks: &Disks) -> Result<Disks, AllocError> {
+    let first = disk(alloc, disks.0.bytes())?;
+    let second = disk(alloc, disks.1.bytes())?;
+    Ok((first, second))
 }
 
 fn put(alloc: Global, seq: u64) -> Result<Input, NoMemory>
@@ -47,7 +47,7 @@ fn put(alloc: Global, seq: u64) -> Result<Input, NoMemory>
     commands.push(Command {
         client: CLIENT,
         seq,
-        op: Op::Put(Blob::from_slice(alloc, b"a")?, Blob::from_vec(value)),
+        op: Op::Put(Blob::from_slice(alloc, b"a")?, Blob::from_vec(value)?),
     })?;
     Ok(Input::Commands(commands))
 }
@@ -71,50 +71,77 @@ pub fn opened(alloc: Global, first: MemDisk, second: MemDisk) -> Result<NodeCore
     }
 }
 
-/// Whether this put is stored.
-pub fn puts<K: Core>(alloc: Global, core: &mut K, seq: u64) -> Result<bool, Fail>
+/// What comes of a tick and of puts.
+#[derive(Clone, Copy, PartialEq, Eq)]
+pub enum Ending {
+    TickFails,
+    PutFails,
+    NoMemory,
+    /// All puts are stored.
+    Stored,
+}
+
+/// What comes of this put.
+fn puts<K: Core>(alloc: Global, core: &mut K, seq: u64) -> Ending
     requires ready { K.ready core.old }
     requires number { IsNumber seq }
     ensures { K.ready core.new }
 {
-    let input = put(alloc, seq)?;
-    Ok(core.step(input).is_ok())
+    let Ok(input) = put(alloc, seq) else {
+        return Ending::NoMemory;
+    };
+    match core.step(input) {
+        Ok(_) => Ending::Stored,
+        Err(_) => Ending::PutFails,
+    }
 }
 
-/// It leads after a tick. One that failed is opened again at it.
-pub fn ticks<K: Core>(core: &mut K) -> Result<(), Fail>
+/// Whether a tick is done: the node leads after it, and one that failed is opened again at it.
+pub fn ticks<K: Core>(core: &mut K) -> bool
     requires { K.ready core.old }
     ensures { K.ready core.new }
 {
-    match core.step(Input::Tick) {
-        Ok(_) => Ok(()),
-        Err(_) => Err("a tick fails".into()),
-    }
+    core.step(Input::Tick).is_ok()
 }
 
-/// What its disks hold after so many puts.
-pub fn after_puts(alloc: Global, count: u64) -> Result<Images, Fail>
-    requires { count < MOST_PUTS }
+/// What comes of all puts from one number up to another, after a tick.
+pub fn ticks_and_puts<K: Core>(alloc: Global, core: &mut K, first: u64, end: u64) -> Ending
+    requires ready { K.ready core.old }
+    requires numbers { 0 < first }
+    requires few { end ≤ MOST_PUTS }
+    ensures { K.ready core.new }
 {
-    let first = MemDisk::new(alloc, Vec::new(alloc))?;
-    let second = MemDisk::new(alloc, Vec::new(alloc))?;
-    let mut core = opened(alloc, first, second)?;
-    ticks(&mut core)?;
-    'puts: for seq in 1..count + 1 {
-        if !puts(alloc, &mut core, seq)? {
-            return Err("a put isn't stored".into());
+    if !ticks(core) {
+        return Ending::TickFails;
+    }
+    'puts: for seq in first..end {
+        let ending = puts(alloc, core, seq);
+        if ending != Ending::Stored {
+            return ending;
         }
     }
-    stored_by(alloc, core)
+    Ending::Stored
 }
 
-/// What the disks of a node hold.
-pub fn stored_by(alloc: Global, core: NodeCore<MemDisk>) -> Result<Images, Fail> {
+/// Its disks after so many puts.
+pub fn after_puts(alloc: Global, count: u64) -> Result<Disks, Fail>
+    requires { count < MOST_PUTS }
+{
+    let first = disk(alloc, &[])?;
+    let second = disk(alloc, &[])?;
+    let mut core = opened(alloc, first, second)?;
+    let ending = ticks_and_puts(alloc, &mut core, 1, count + 1);
+    let disks = parked(core);
+    match ending {
+        Ending::Stored => Ok(disks),
+        _ => Err("a put isn't stored".into()),
+    }
+}
+
+/// The disks of a node.
+pub fn parked(core: NodeCore<MemDisk>) -> Disks {
     let (_, first, second) = core.node.park();
-    Ok(Images {
-        first: first.bytes().to_vec(alloc)?,
-        second: second.bytes().to_vec(alloc)?,
-    })
+    (first, second)
 }
 
 /// How much a node has decided that is opened over these disks.

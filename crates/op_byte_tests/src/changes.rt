@@ -2,8 +2,9 @@
 
 use crate::pieces::{Tail, bytes_of};
 use crate::puts::are_puts;
+use crate::records::record_in;
 use crate::taking::is_bad;
-use op_record::{Rec, put, take};
+use op_record::{Rec, take};
 use op_types::{Blob, Change, Closed, Joining, NoMemory, Pid};
 use std::alloc::Global;
 use std::test::Fail;
@@ -70,8 +71,8 @@ fn says(change: &Change, wanted: Wanted) -> bool {
             Wanted::JoinBegin(next, ids, before, count),
         ) => {
             *conf == next
-                && members.as_slice() == ids
-                && olds.as_slice() == before
+                && members.get().as_slice() == ids
+                && olds.get().as_slice() == before
                 && len.get() == count
         }
         (Change::JoinDonor(pid, trimmed), Wanted::JoinDonor(donor, cut)) => {
@@ -86,28 +87,19 @@ fn says(change: &Change, wanted: Wanted) -> bool {
     }
 }
 
-/// The record of these bytes, if it is written in them too.
-fn record_in(alloc: Global, bytes: &[u8]) -> Result<Option<Rec>, NoMemory> {
-    let Ok(record) = take(alloc, bytes) else {
-        return Ok(None);
-    };
-    let mut out = Vec::new(alloc);
-    put(&mut out, &record)?;
-    if out.as_slice() == bytes {
-        Ok(Some(record))
-    } else {
-        Ok(None)
+/// Whether these bytes are a batch of one change, which says this.
+fn changes_so(alloc: Global, bytes: &[u8], wanted: Wanted) -> bool {
+    match &record_in(alloc, bytes) {
+        Some(Rec::Step(batch)) => is_one(batch.as_slice(), wanted),
+        _ => false,
     }
 }
 
-/// Whether these bytes are a batch of one change, which says this.
-fn changes_so(alloc: Global, bytes: &[u8], wanted: Wanted) -> Result<bool, NoMemory> {
-    let Some(Rec::Step(batch)) = record_in(alloc, bytes)? else {
-        return Ok(false);
-    };
-    match batch.as_slice() {
-        [change] => Ok(says(change, wanted)),
-        _ => Ok(false),
+/// Whether this is one change, which says this.
+fn is_one(batch: &[Change], wanted: Wanted) -> bool {
+    match batch {
+        [change] => says(change, wanted),
+        _ => false,
     }
 }
 
@@ -115,7 +107,7 @@ fn changes_so(alloc: Global, bytes: &[u8], wanted: Wanted) -> Result<bool, NoMem
 fn first_other(alloc: Global) -> Result<Option<u8>, NoMemory> {
     for (head, tail, wanted) in BATCHES {
         let bytes = bytes_of(alloc, head, tail)?;
-        if !changes_so(alloc, bytes.as_slice(), wanted)? {
+        if !changes_so(alloc, bytes.as_slice(), wanted) {
             return Ok(Some(head[2]));
         }
     }
@@ -187,10 +179,8 @@ fn is_stored(record: &Rec) -> bool {
 }
 
 #[test]
-fn a_joining_node_is_read_and_written(rt: HostRuntime) -> Result<(), Fail> {
-    let record = record_in(rt.alloc(), &STORED)?;
-    assert!(rt; matches!(&record, Some(record) if is_stored(record)));
-    Ok(())
+fn a_joining_node_is_read_and_written(rt: HostRuntime) {
+    assert!(rt; matches!(&record_in(rt.alloc(), &STORED), Some(record) if is_stored(record)));
 }
 
 /// Places in those bytes and bytes put there, and the place that is then named.

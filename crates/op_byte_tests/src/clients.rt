@@ -1,10 +1,9 @@
-ghost use Rattle.std.specs.Prelude.{IfOk};
 ghost use Rattle.op_command.specs.Ranges.{RequestInRange};
 
-use crate::puts::one_put;
+use crate::puts::is_put;
 use crate::taking::is_bad;
 use op_command::{Said, put_reply, put_request, take_reply, take_request};
-use op_types::{Answer, Ballot, Cause, Entry, NoMemory, Outcome, Refusal, Request};
+use op_types::{Answer, Ballot, Cause, Op, Outcome, Pid, Refusal, Request};
 use std::alloc::Global;
 use std::test::Fail;
 
@@ -13,98 +12,94 @@ const ONE_PUT: &[u8] = &[
     1, 0, 0, 0, 0, 0, 0, 0, 7, 0, 0, 0, 0, 0, 0, 0, 1, 1, 1, b'a', 0, 1, b'x',
 ];
 
-fn one_request(alloc: Global) -> Result<Request, NoMemory>
-    ensures { IfOk result RequestInRange }
-{
-    match one_put(alloc)? {
-        Entry::Command(command) => Ok(Request::Command(command)),
-        Entry::Stop(_) => Ok(Request::Status),
-    }
-}
-
-/// Whether a request is written in these bytes, and read from them.
-fn is_written(alloc: Global, request: &Request, bytes: &[u8]) -> bool
-    requires { RequestInRange request.now }
-{
-    let mut out = Vec::new(alloc);
-    put_request(&mut out, request).is_ok()
-        && out.as_slice() == bytes
-        && take_request(alloc, bytes).is_ok()
-}
-
-/// Whether the put is written in its bytes.
-fn put_is_written(alloc: Global) -> Result<bool, NoMemory> {
-    let put = one_request(alloc)?;
-    Ok(is_written(alloc, &put, ONE_PUT))
-}
-
-#[test]
-fn requests_are_written_as_their_bytes(rt: HostRuntime) -> Result<(), Fail> {
-    assert!(rt; put_is_written(rt.alloc())?);
-    assert!(rt; is_written(rt.alloc(), &Request::Trim, &[3]));
-    assert!(rt; is_written(rt.alloc(), &Request::Status, &[4]));
-    assert!(rt; is_written(rt.alloc(), &Request::End, &[5]));
-    Ok(())
-}
-
-/// Requests of client 7: to delete `a`, to get it, to replace its value `x` by an empty one, and to read `b`.
-const REQUESTS: [&[u8]; 4] = [
-    &[
-        1, 0, 0, 0, 0, 0, 0, 0, 7, 0, 0, 0, 0, 0, 0, 0, 2, 2, 1, b'a',
-    ],
-    &[
-        1, 0, 0, 0, 0, 0, 0, 0, 7, 0, 0, 0, 0, 0, 0, 0, 3, 3, 1, b'a',
-    ],
-    &[
-        1, 0, 0, 0, 0, 0, 0, 0, 7, 0, 0, 0, 0, 0, 0, 0, 4, 4, 1, b'a', 0, 1, b'x', 0, 0,
-    ],
-    READ,
+/// Client 7's command 2, which deletes `a`.
+const DEL: &[u8] = &[
+    1, 0, 0, 0, 0, 0, 0, 0, 7, 0, 0, 0, 0, 0, 0, 0, 2, 2, 1, b'a',
 ];
 
-/// Client 7's read 2 of `b`.
+/// Its command 3, which gets it.
+const GET: &[u8] = &[
+    1, 0, 0, 0, 0, 0, 0, 0, 7, 0, 0, 0, 0, 0, 0, 0, 3, 3, 1, b'a',
+];
+
+/// Its command 4, which replaces its value `x` by an empty one.
+const CAS: &[u8] = &[
+    1, 0, 0, 0, 0, 0, 0, 0, 7, 0, 0, 0, 0, 0, 0, 0, 4, 4, 1, b'a', 0, 1, b'x', 0, 0,
+];
+
+/// Its read 2 of `b`.
 const READ: &[u8] = &[6, 0, 0, 0, 0, 0, 0, 0, 7, 0, 0, 0, 0, 0, 0, 0, 2, 1, b'b'];
-
-/// Whether these bytes are a request's, which is written in them too.
-fn is_request(alloc: Global, bytes: &[u8]) -> bool {
-    let Ok(request) = take_request(alloc, bytes) else {
-        return false;
-    };
-    let mut out = Vec::new(alloc);
-    put_request(&mut out, &request).is_ok() && out.as_slice() == bytes
-}
-
-#[test]
-fn each_operation_is_asked(rt: HostRuntime) -> Result<(), Fail> {
-    for bytes in REQUESTS {
-        assert!(rt; is_request(rt.alloc(), bytes), "{bytes:?}");
-    }
-    Ok(())
-}
 
 /// To end the configuration, with the members 1, 2 and 5 in the next one.
 const STOP: &[u8] = &[2, 3, 0, 0, 0, 1, 0, 0, 0, 2, 0, 0, 0, 5];
 
-#[test]
-fn the_next_members_are_asked(rt: HostRuntime) -> Result<(), Fail> {
-    let asked = take_request(rt.alloc(), STOP);
-    assert!(rt; matches!(&asked, Ok(Request::Stop(ids)) if ids.as_slice() == [1, 2, 5].as_slice()));
-    assert!(rt; is_request(rt.alloc(), STOP));
-    Ok(())
+/// What a request asks for.
+#[derive(Clone, Copy)]
+enum Asks<'a> {
+    /// `put 7 1 a x`.
+    Put,
+    Del,
+    Get,
+    Cas,
+    /// Client 7's read 2 of this key.
+    Read(&'a [u8]),
+    /// The next members.
+    Stop(&'a [Pid]),
+    Trim,
+    Status,
+    End,
 }
 
-/// Whether this asks for client 7's read 2 of `b`.
-fn is_read(request: &Request) -> bool {
-    match request {
-        Request::Read(read) => {
-            read.client == 7 && read.seq == 2 && read.key.as_slice() == b"b".as_slice()
+/// Requests and their bytes.
+const REQUESTS: [(&[u8], Asks<'static>); 9] = [
+    (ONE_PUT, Asks::Put),
+    (DEL, Asks::Del),
+    (GET, Asks::Get),
+    (CAS, Asks::Cas),
+    (READ, Asks::Read(b"b")),
+    (STOP, Asks::Stop(&[1, 2, 5])),
+    (&[3], Asks::Trim),
+    (&[4], Asks::Status),
+    (&[5], Asks::End),
+];
+
+fn is_asked(request: &Request, asks: Asks) -> bool {
+    match (request, asks) {
+        (Request::Command(command), Asks::Put) => is_put(command),
+        (Request::Command(command), Asks::Del) => matches!(&command.op, Op::Del(_)),
+        (Request::Command(command), Asks::Get) => matches!(&command.op, Op::Get(_)),
+        (Request::Command(command), Asks::Cas) => matches!(&command.op, Op::Cas(..)),
+        (Request::Read(read), Asks::Read(key)) => {
+            read.client == 7 && read.seq == 2 && read.key.as_slice() == key
         }
+        (Request::Stop(ids), Asks::Stop(members)) => ids.as_slice() == members,
+        (Request::Trim, Asks::Trim) | (Request::Status, Asks::Status) | (Request::End, Asks::End) =>
+            true,
         _ => false,
     }
 }
 
+/// Whether a request is written in these bytes.
+fn is_written(alloc: Global, request: &Request, bytes: &[u8]) -> bool
+    requires { RequestInRange request.now }
+{
+    let mut out = Vec::new(alloc);
+    put_request(&mut out, request).is_ok() && out.as_slice() == bytes
+}
+
+/// Whether these bytes ask for this, which is written in them too.
+fn is_request(alloc: Global, bytes: &[u8], asks: Asks) -> bool {
+    match &take_request(alloc, bytes) {
+        Ok(request) => is_asked(request, asks) && is_written(alloc, request, bytes),
+        Err(_) => false,
+    }
+}
+
 #[test]
-fn a_read_is_asked(rt: HostRuntime) -> Result<(), Fail> {
-    assert!(rt; matches!(&take_request(rt.alloc(), READ), Ok(read) if is_read(read)));
+fn requests_are_read_and_written(rt: HostRuntime) -> Result<(), Fail> {
+    for (bytes, asks) in REQUESTS {
+        assert!(rt; is_request(rt.alloc(), bytes, asks), "{bytes:?}");
+    }
     Ok(())
 }
 

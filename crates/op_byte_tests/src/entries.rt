@@ -1,7 +1,9 @@
-use crate::puts::{is_one_put, one_put};
+ghost use Rattle.op_types.specs.Ranges.{EntryInRange};
+
+use crate::puts::is_one_put;
 use crate::taking::is_bad;
 use op_entry::{put, take};
-use op_types::{Entry, Op};
+use op_types::{Command, Entry, Op, Pid};
 use std::alloc::Global;
 use std::test::Fail;
 
@@ -10,117 +12,105 @@ const ONE_PUT: &[u8] = &[
     1, 0, 0, 0, 0, 0, 0, 0, 7, 0, 0, 0, 0, 0, 0, 0, 1, 1, 1, b'a', 0, 1, b'x',
 ];
 
-#[test]
-fn a_put_is_written_as_its_23_bytes(rt: HostRuntime) -> Result<(), Fail> {
-    let mut out = Vec::new(rt.alloc());
-    let entry = one_put(rt.alloc());
-    assert!(rt; entry.is_ok());
-    if let Ok(entry) = &entry {
-        assert!(rt; put(&mut out, entry).is_ok());
-    }
-    assert_eq!(rt; out.as_slice(), ONE_PUT);
-    Ok(())
-}
+/// The same, and more behind it.
+const PUT_AND_MORE: &[u8] = &[
+    1, 0, 0, 0, 0, 0, 0, 0, 7, 0, 0, 0, 0, 0, 0, 0, 1, 1, 1, b'a', 0, 1, b'x', b'm', b'o', b'r',
+    b'e',
+];
 
-#[test]
-fn an_entry_is_taken_from_the_prefix(rt: HostRuntime) -> Result<(), Fail> {
-    let mut bytes = Vec::from_slice(rt.alloc(), ONE_PUT)?;
-    bytes.extend_from_slice(b"more")?;
-    let taken = take(rt.alloc(), bytes.as_slice());
-    assert!(rt; taken.is_ok());
-    if let Ok((entry, len)) = &taken {
-        assert!(rt; is_one_put(entry));
-        assert_eq!(rt; *len, 23);
-    }
-    Ok(())
-}
-
-/// Client 7's command 1: it deletes `a`.
+/// Client 7's command 1 that deletes `a`.
 const DEL: &[u8] = &[
     1, 0, 0, 0, 0, 0, 0, 0, 7, 0, 0, 0, 0, 0, 0, 0, 1, 2, 1, b'a',
 ];
 
-/// It gets `a`.
+/// That gets it.
 const GET: &[u8] = &[
     1, 0, 0, 0, 0, 0, 0, 0, 7, 0, 0, 0, 0, 0, 0, 0, 1, 3, 1, b'a',
 ];
 
-/// It replaces the value `x` of `a` by `yz`.
+/// That replaces its value `x` by `yz`.
 const CAS: &[u8] = &[
     1, 0, 0, 0, 0, 0, 0, 0, 7, 0, 0, 0, 0, 0, 0, 0, 1, 4, 1, b'a', 0, 1, b'x', 0, 2, b'y', b'z',
 ];
 
-/// The entry in these bytes, if it is written in them too.
-fn entry_in(alloc: Global, bytes: &[u8]) -> Option<Entry> {
-    let Ok((entry, len)) = take(alloc, bytes) else {
-        return None;
-    };
-    let mut out = Vec::new(alloc);
-    let Ok(()) = put(&mut out, &entry) else {
-        return None;
-    };
-    if len == bytes.len() && out.as_slice() == bytes {
-        Some(entry)
-    } else {
-        None
-    }
-}
-
-/// The operation, where the entry is client 7's command 1.
-fn op_of(entry: &Option<Entry>) -> Option<&Op> {
-    match entry {
-        Some(Entry::Command(command)) if command.client == 7 && command.seq == 1 => {
-            Some(&command.op)
-        }
-        _ => None,
-    }
-}
-
-#[test]
-fn a_del_is_read_from_its_bytes(rt: HostRuntime) -> Result<(), Fail> {
-    let entry = entry_in(rt.alloc(), DEL);
-    assert!(rt; matches!(op_of(&entry), Some(Op::Del(key)) if key.as_slice() == b"a".as_slice()));
-    Ok(())
-}
-
-#[test]
-fn a_get_is_read_from_its_bytes(rt: HostRuntime) -> Result<(), Fail> {
-    let entry = entry_in(rt.alloc(), GET);
-    assert!(rt; matches!(op_of(&entry), Some(Op::Get(key)) if key.as_slice() == b"a".as_slice()));
-    Ok(())
-}
-
-#[test]
-fn a_cas_is_read_from_its_bytes(rt: HostRuntime) -> Result<(), Fail> {
-    let entry = entry_in(rt.alloc(), CAS);
-    let Some(Op::Cas(key, old, new)) = op_of(&entry) else {
-        assert!(rt; false);
-        return Ok(());
-    };
-    assert_eq!(rt; key.as_slice(), b"a".as_slice());
-    assert_eq!(rt; old.as_slice(), b"x".as_slice());
-    assert_eq!(rt; new.as_slice(), b"yz".as_slice());
-    Ok(())
-}
-
 /// The stop-sign of configuration 1: servers 1 and 999 are the members of the next one.
 const STOP: &[u8] = &[2, 0, 0, 0, 2, 2, 0, 0, 0, 1, 0, 0, 3, 231];
 
-/// Whether the entry is that stop-sign.
-fn is_stop(entry: &Option<Entry>) -> bool {
-    match entry {
-        Some(Entry::Stop(stop)) => {
-            stop.next == 2 && stop.members.as_slice() == [1, 999].as_slice()
+/// What an entry is.
+#[derive(Clone, Copy)]
+enum Wanted<'a> {
+    /// `put 7 1 a x`.
+    Put,
+    Del(&'a [u8]),
+    Get(&'a [u8]),
+    Cas(&'a [u8], &'a [u8], &'a [u8]),
+    /// The stop-sign of configuration 1, with the next members.
+    Stop(&'a [Pid]),
+}
+
+/// Entries and their bytes.
+const ENTRIES: [(&[u8], Wanted<'static>); 5] = [
+    (ONE_PUT, Wanted::Put),
+    (DEL, Wanted::Del(b"a")),
+    (GET, Wanted::Get(b"a")),
+    (CAS, Wanted::Cas(b"a", b"x", b"yz")),
+    (STOP, Wanted::Stop(&[1, 999])),
+];
+
+/// Whether this is client 7's command 1, which does this.
+fn does(command: &Command, wanted: Wanted) -> bool {
+    let is_wanted = match (&command.op, wanted) {
+        (Op::Del(key), Wanted::Del(name)) | (Op::Get(key), Wanted::Get(name)) => {
+            key.as_slice() == name
+        }
+        (Op::Cas(key, old, new), Wanted::Cas(name, before, after)) => {
+            key.as_slice() == name && old.as_slice() == before && new.as_slice() == after
+        }
+        _ => false,
+    };
+    is_wanted && command.client == 7 && command.seq == 1
+}
+
+fn is_wanted(entry: &Entry, wanted: Wanted) -> bool {
+    match (entry, wanted) {
+        (entry, Wanted::Put) => is_one_put(entry),
+        (Entry::Command(command), _) => does(command, wanted),
+        (Entry::Stop(stop), Wanted::Stop(ids)) => {
+            stop.get().next == 2 && stop.get().members.as_slice() == ids
         }
         _ => false,
     }
 }
 
+/// Whether an entry is written in these bytes.
+fn is_written(alloc: Global, entry: &Entry, bytes: &[u8]) -> bool
+    requires { EntryInRange entry.now }
+{
+    let mut out = Vec::new(alloc);
+    put(&mut out, entry).is_ok() && out.as_slice() == bytes
+}
+
+/// Whether this entry is read from these bytes up to their end, and is written in them.
+fn is_in(alloc: Global, bytes: &[u8], wanted: Wanted) -> bool {
+    match &take(alloc, bytes) {
+        Ok((entry, len)) => {
+            *len == bytes.len() && is_wanted(entry, wanted) && is_written(alloc, entry, bytes)
+        }
+        Err(_) => false,
+    }
+}
+
 #[test]
-fn a_stop_sign_is_read_from_its_bytes(rt: HostRuntime) -> Result<(), Fail> {
-    let entry = entry_in(rt.alloc(), STOP);
-    assert!(rt; is_stop(&entry));
+fn entries_are_read_and_written(rt: HostRuntime) -> Result<(), Fail> {
+    for (place, (bytes, wanted)) in ENTRIES.iter().enumerate() {
+        assert!(rt; is_in(rt.alloc(), bytes, *wanted), "entry {place}");
+    }
     Ok(())
+}
+
+#[test]
+fn an_entry_is_taken_from_the_prefix(rt: HostRuntime) {
+    assert!(rt; matches!(&take(rt.alloc(), PUT_AND_MORE), Ok((entry, 23)) if is_one_put(entry)));
 }
 
 /// Bytes, and the place at which they are bad.

@@ -1,11 +1,9 @@
-ghost use Rattle.std.specs.Prelude.{IfOk};
-ghost use Rattle.op_msg.specs.Ranges.{MsgInRange};
-
-use crate::puts::{is_one_put, one_put};
+use crate::news::{Wanted, says};
+use crate::pieces::{Tail, bytes_of};
 use crate::taking::is_bad;
 use op_frame::{Frames, NextFail};
-use op_msg::{put, take};
-use op_types::{Ballot, Body, Msg, NoMemory, Seq};
+use op_msg::take;
+use op_types::{Ballot, NoMemory};
 use std::alloc::Global;
 use std::test::Fail;
 
@@ -16,29 +14,9 @@ const PREPARE_REQ: [u8; 21] = [
     9, 0, 0, 0, 1, // the tag, and the configuration
 ];
 
-/// Whether the message of these bytes asks for a prepare, from 2 to 1 in configuration 1.
+/// Whether these bytes are that message.
 fn is_prepare_req(alloc: Global, bytes: &[u8]) -> bool {
-    matches!(
-        &take(alloc, bytes),
-        Ok((
-            2,
-            1,
-            Msg {
-                conf: 1,
-                body: Body::PrepareReq
-            }
-        ))
-    )
-}
-
-/// Whether the request is written as its frame's body.
-fn prepare_req_is_written(alloc: Global) -> bool {
-    let message = Msg {
-        conf: 1,
-        body: Body::PrepareReq,
-    };
-    let mut out = Vec::new(alloc);
-    put(&mut out, 2, 1, &message).is_ok() && out.as_slice() == &PREPARE_REQ[8..]
+    says(alloc, bytes, (2, 1, 1), Wanted::PrepareReq)
 }
 
 /// Whether the frame is given with its last byte and not before, and its body is the request.
@@ -49,7 +27,7 @@ fn prepare_req_is_framed(alloc: Global) -> Result<bool, NoMemory> {
         return Ok(false);
     }
     frames.feed(&PREPARE_REQ[20..])?;
-    Ok(match frames.next() {
+    Ok(match &frames.next() {
         Ok(body) => is_prepare_req(alloc, body.as_slice()),
         Err(_) => false,
     })
@@ -57,7 +35,6 @@ fn prepare_req_is_framed(alloc: Global) -> Result<bool, NoMemory> {
 
 #[test]
 fn a_request_for_a_prepare_is_13_bytes_in_its_frame(rt: HostRuntime) -> Result<(), Fail> {
-    assert!(rt; prepare_req_is_written(rt.alloc()));
     assert!(rt; prepare_req_is_framed(rt.alloc())?);
     Ok(())
 }
@@ -76,55 +53,14 @@ const PROMISE: [u8; 92] = [
     1, 0, 0, 0, 0, 0, 0, 0, 7, 0, 0, 0, 0, 0, 0, 0, 1, 1, 1, b'a', 0, 1, b'x',
 ];
 
-fn promise(alloc: Global) -> Result<Msg, NoMemory>
-    ensures { IfOk result MsgInRange }
-{
-    let promised = Ballot { number: 5, pid: 3 };
-    let accepted = Ballot { number: 4, pid: 1 };
-    let mut entries = Seq::new(alloc);
-    entries.push(one_put(alloc)?)?;
-    Ok(Msg {
-        conf: 1,
-        body: Body::Promise(promised, accepted, 1, 0, 0, entries),
-    })
-}
+const PROMISED: Ballot = Ballot { number: 5, pid: 3 };
 
-/// Whether it says what the promise above does.
-fn is_promise(message: &Msg) -> bool {
-    let Body::Promise(promised, accepted, 1, 0, 0, entries) = &message.body else {
-        return false;
-    };
-    let ballots = promised.number == 5
-        && promised.pid == 3
-        && accepted.number == 4
-        && accepted.pid == 1;
-    match entries.as_slice() {
-        [entry] => ballots && is_one_put(entry),
-        _ => false,
-    }
-}
-
-/// Whether the promise is written as its bytes.
-fn promise_is_written(alloc: Global) -> Result<bool, NoMemory> {
-    let message = promise(alloc)?;
-    let mut out = Vec::new(alloc);
-    put(&mut out, 2, 3, &message)?;
-    Ok(out.as_slice() == PROMISE.as_slice())
-}
-
-/// Whether the promise is read from its bytes.
-fn promise_is_read(alloc: Global) -> bool {
-    match &take(alloc, &PROMISE) {
-        Ok((2, 3, message)) => is_promise(message),
-        _ => false,
-    }
-}
+const ACCEPTED: Ballot = Ballot { number: 4, pid: 1 };
 
 #[test]
-fn a_promise_is_written_and_read(rt: HostRuntime) -> Result<(), Fail> {
-    assert!(rt; promise_is_written(rt.alloc())?);
-    assert!(rt; promise_is_read(rt.alloc()));
-    Ok(())
+fn a_promise_is_written_and_read(rt: HostRuntime) {
+    let wanted = Wanted::Promise(PROMISED, ACCEPTED, [1, 0, 0], 1);
+    assert!(rt; says(rt.alloc(), &PROMISE, (2, 3, 1), wanted));
 }
 
 /// Places in the promise and bytes put there, and the place that is then named.
@@ -157,17 +93,11 @@ fn first_misnamed(alloc: Global) -> Option<usize> {
     None
 }
 
-/// Whether a byte after the promise is named.
-fn end_is_named(alloc: Global) -> Result<bool, NoMemory> {
-    let mut longer = Vec::from_slice(alloc, PROMISE.as_slice())?;
-    longer.push(0)?;
-    Ok(is_bad(take(alloc, longer.as_slice()), 92))
-}
-
 #[test]
 fn the_first_bad_field_is_named(rt: HostRuntime) -> Result<(), Fail> {
     assert_eq!(rt; first_misnamed(rt.alloc()), None);
     assert!(rt; is_bad(take(rt.alloc(), &PREPARE_REQ[8..20]), 9));
-    assert!(rt; end_is_named(rt.alloc())?);
+    let longer = bytes_of(rt.alloc(), &PROMISE, Tail::Zero)?;
+    assert!(rt; is_bad(take(rt.alloc(), longer.as_slice()), 92));
     Ok(())
 }

@@ -1,16 +1,21 @@
-//! Messages of trimming, of joining, of several commands, of reads, and parts of long ones.
+//! Messages and what they say: of trimming, of joining, of several commands, of reads, and parts of long ones.
+ghost use Rattle.op_msg.specs.Ranges.{AddressedInRange};
 
 use crate::pieces::{Tail, bytes_of};
 use crate::puts::are_puts;
 use crate::taking::is_bad;
 use op_msg::{put, take};
-use op_types::{Ballot, Body, Members, Msg, NoMemory, Pid};
+use op_types::{Ballot, Body, Msg, NoMemory, Pid};
 use std::alloc::Global;
 use std::test::Fail;
 
 /// What a message says.
 #[derive(Clone, Copy)]
-enum Wanted<'a> {
+pub enum Wanted<'a> {
+    PrepareReq,
+    /// The promised ballot and the accepted one; the length, what is decided, and where the entries begin; and how many entries
+    /// `put 7 1 a x` there are.
+    Promise(Ballot, Ballot, [u64; 3], usize),
     TrimAsk(Ballot),
     Progress(Ballot, u64),
     Trim(u64),
@@ -133,9 +138,10 @@ const MESSAGES: [(&[u8], Tail, Wanted<'static>); 14] = [
     ),
 ];
 
-/// Whether a leader's message, an answer to one or a proposal says this.
+/// Whether a leader's message, a request or an answer to one, or a proposal says this.
 fn is_led(body: &Body, wanted: Wanted) -> bool {
     match (body, wanted) {
+        (Body::PrepareReq, Wanted::PrepareReq) => true,
         (Body::TrimAsk(ballot), Wanted::TrimAsk(leader)) => *ballot == leader,
         (Body::Progress(ballot, len), Wanted::Progress(leader, count)) => {
             *ballot == leader && *len == count
@@ -156,7 +162,10 @@ fn is_led(body: &Body, wanted: Wanted) -> bool {
 fn is_of_a_list(body: &Body, wanted: Wanted) -> bool {
     match (body, wanted) {
         (Body::NextConf(next, olds, len, trimmed), Wanted::NextConf(ids, before, count, cut)) => {
-            next.as_slice() == ids && olds.as_slice() == before && *len == count && *trimmed == cut
+            next.get().as_slice() == ids
+                && olds.get().as_slice() == before
+                && *len == count
+                && *trimmed == cut
         }
         (Body::AskBase, Wanted::AskBase) => true,
         (Body::BasePart(at, base), Wanted::BasePart(place, bytes)) => {
@@ -171,9 +180,18 @@ fn is_of_a_list(body: &Body, wanted: Wanted) -> bool {
     }
 }
 
-/// Whether a part of a long message says this.
+/// Whether a promise, or a part of a long message, says this.
 fn is_part(body: &Body, wanted: Wanted) -> bool {
     match (body, wanted) {
+        (
+            Body::Promise(ballot, accepted, len, decided, start, entries),
+            Wanted::Promise(leader, round, places, count),
+        ) => {
+            *ballot == leader
+                && *accepted == round
+                && [*len, *decided, *start] == places
+                && are_puts(entries.as_slice(), count)
+        }
         (Body::PromisePart(ballot, part), Wanted::PromisePart(leader, accepted, places, count)) => {
             *ballot == leader
                 && part.accepted == accepted
@@ -203,24 +221,38 @@ fn from_2_to_3(alloc: Global, body: &[u8], tail: Tail) -> Result<Vec<u8>, NoMemo
     Ok(bytes)
 }
 
-/// Whether a message is read from these bytes, is written in them, and says this.
-fn says(alloc: Global, bytes: &[u8], wanted: Wanted) -> Result<bool, NoMemory> {
-    let Ok((2, 3, message)) = take(alloc, bytes) else {
-        return Ok(false);
-    };
+fn is_said(body: &Body, wanted: Wanted) -> bool {
+    is_led(body, wanted) || is_of_a_list(body, wanted) || is_part(body, wanted)
+}
+
+/// Whether a message is written in these bytes.
+fn is_written(alloc: Global, from: Pid, to: Pid, message: &Msg, bytes: &[u8]) -> bool
+    requires { AddressedInRange (from, to, message.now) }
+{
     let mut out = Vec::new(alloc);
-    put(&mut out, 2, 3, &message)?;
-    let said = is_led(&message.body, wanted)
-        || is_of_a_list(&message.body, wanted)
-        || is_part(&message.body, wanted);
-    Ok(said && message.conf == 4 && out.as_slice() == bytes)
+    put(&mut out, from, to, message).is_ok() && out.as_slice() == bytes
+}
+
+/// The sender, the addressee, and the configuration.
+pub type Envelope = (Pid, Pid, u32);
+
+/// Whether a message is read from these bytes, is written in them, and says this.
+pub fn says(alloc: Global, bytes: &[u8], envelope: Envelope, wanted: Wanted) -> bool {
+    match &take(alloc, bytes) {
+        Ok((from, to, message)) => {
+            (*from, *to, message.conf) == envelope
+                && is_said(&message.body, wanted)
+                && is_written(alloc, *from, *to, message, bytes)
+        }
+        Err(_) => false,
+    }
 }
 
 /// The tag of the first message that is read or written otherwise.
 fn first_other(alloc: Global) -> Result<Option<u8>, NoMemory> {
     for (body, tail, wanted) in MESSAGES {
         let bytes = from_2_to_3(alloc, body, tail)?;
-        if !says(alloc, bytes.as_slice(), wanted)? {
+        if !says(alloc, bytes.as_slice(), (2, 3, 4), wanted) {
             return Ok(Some(body[0]));
         }
     }

@@ -11,6 +11,8 @@ pub enum Tail {
     Puts(usize),
     /// The empty base, after its length.
     Base,
+    /// A byte 0.
+    Zero,
 }
 
 /// The length of the empty base, and the base.
@@ -26,6 +28,7 @@ pub fn bytes_of(alloc: Global, head: &[u8], tail: Tail) -> Result<Vec<u8>, NoMem
         Tail::Puts(1) => bytes.extend_from_slice(&TWO_PUTS[..23])?,
         Tail::Puts(_) => bytes.extend_from_slice(&TWO_PUTS)?,
         Tail::Base => bytes.extend_from_slice(&EMPTY_BASE)?,
+        Tail::Zero => bytes.push(0)?,
     }
     Ok(bytes)
 }

@@ -1,27 +1,7 @@
-ghost use Rattle.std.specs.Prelude.{◌≡◌, IfOk};
-ghost use Rattle.op_types.specs.Ranges.{EntryInRange};
+use op_types::{Command, Entry, Op};
 
-use op_types::{Blob, Command, Entry, NoMemory, Op};
-use std::alloc::Global;
-
-/// The entry `put 7 1 a x`.
-pub fn one_put(alloc: Global) -> Result<Entry, NoMemory>
-    ensures { IfOk result EntryInRange }
-{
-    let key = Blob::from_slice(alloc, b"a")?;
-    let value = Blob::from_slice(alloc, b"x")?;
-    Ok(Entry::Command(Command {
-        client: 7,
-        seq: 1,
-        op: Op::Put(key, value),
-    }))
-}
-
-/// Whether it is the entry of `one_put`.
-pub fn is_one_put(entry: &Entry) -> bool {
-    let Entry::Command(command) = entry else {
-        return false;
-    };
+/// Whether it is `put 7 1 a x`.
+pub fn is_put(command: &Command) -> bool {
     let Op::Put(key, value) = &command.op else {
         return false;
     };
@@ -29,6 +9,14 @@ pub fn is_one_put(entry: &Entry) -> bool {
         && command.seq == 1
         && key.as_slice() == b"a".as_slice()
         && value.as_slice() == b"x".as_slice()
+}
+
+/// Whether it is the entry of that command.
+pub fn is_one_put(entry: &Entry) -> bool {
+    match entry {
+        Entry::Command(command) => is_put(command),
+        Entry::Stop(_) => false,
+    }
 }
 
 /// The bytes of that entry, twice.

@@ -2,9 +2,8 @@
 ghost use Rattle.std.specs.Prelude.{◌≡◌, OnOk};
 
 use op_kv::{KvChange, Map};
-use op_types::{Answer, Blob, Command, Entry, NoMemory, Op};
+use op_types::{Answer, Blob, Command, Entry, NoMemory, Op, Seq};
 use std::alloc::Global;
-use std::test::Fail;
 
 /// What a command does.
 #[derive(Clone, Copy)]
@@ -40,6 +39,12 @@ enum Step<'a> {
     Base(&'a [u8]),
     /// What was adopted last moves to its place.
     Settle,
+    /// The command is planned, the key has this value until the plan is adopted, and then it is.
+    KeepsUntilAdopted(Asked<'a>, &'a [u8], &'a [u8]),
+    /// The first command is planned, the plan goes on with the others, and it is adopted.
+    ServeAll(&'a [Asked<'a>]),
+    /// The service begins anew with this base.
+    Begin(&'a [u8]),
 }
 
 fn op_of(alloc: Global, doing: Doing) -> Result<Op, NoMemory> {
@@ -94,7 +99,7 @@ fn are_told(answers: &[Answer], asked: &[Asked]) -> bool {
     true
 }
 
-/// The planned change, where the command is answered so.
+/// The planned change, where the commands are answered so.
 fn planned(map: &mut Map, alloc: Global, asked: Asked) -> Result<Option<KvChange>, NoMemory>
     ensures { OnOk result (map.new.waiting ≡ 0) }
 {
@@ -108,103 +113,26 @@ fn planned(map: &mut Map, alloc: Global, asked: Asked) -> Result<Option<KvChange
 }
 
 /// Whether the command is answered so. It is planned and adopted.
-fn serves(map: &mut Map, alloc: Global, asked: Asked) -> Result<bool, NoMemory> {
-    let Some(change) = planned(map, alloc, asked)? else {
-        return Ok(false);
-    };
-    map.adopt(change);
-    Ok(true)
+fn serves(map: &mut Map, alloc: Global, asked: Asked) -> bool {
+    match planned(map, alloc, asked) {
+        Ok(Some(change)) => {
+            map.adopt(change);
+            true
+        }
+        _ => false,
+    }
 }
 
 /// Whether the key has this value, or none.
-fn has(map: &Map, alloc: Global, key: &[u8], value: Option<&[u8]>) -> Result<bool, NoMemory> {
-    let key = Blob::from_slice(alloc, key)?;
-    Ok(match (map.get(&key), value) {
+fn has(map: &Map, alloc: Global, key: &[u8], value: Option<&[u8]>) -> bool {
+    let Ok(key) = Blob::from_slice(alloc, key) else {
+        return false;
+    };
+    match (map.get(&key), value) {
         (Some(found), Some(value)) => found.as_slice() == value,
         (None, None) => true,
         _ => false,
-    })
-}
-
-/// Whether a step goes as it says.
-fn goes(map: &mut Map, alloc: Global, step: Step) -> Result<bool, NoMemory> {
-    match step {
-        Step::Serve(asked) => serves(map, alloc, asked),
-        Step::GiveUp(asked) => Ok(planned(map, alloc, asked)?.is_some()),
-        Step::Has(key, value) => has(map, alloc, key, value),
-        Step::Base(bytes) => Ok(map.base_bytes(alloc)?.as_slice() == bytes),
-        Step::Settle => {
-            map.settle()?;
-            Ok(true)
-        }
     }
-}
-
-/// The first step that goes otherwise.
-fn first_wrong(map: &mut Map, alloc: Global, steps: &[Step]) -> Result<Option<usize>, NoMemory> {
-    for (place, step) in steps.iter().enumerate() {
-        if !goes(map, alloc, *step)? {
-            return Ok(Some(place));
-        }
-    }
-    Ok(None)
-}
-
-/// The same, at a service that nothing was put to.
-fn first_wrong_of_new(alloc: Global, steps: &[Step]) -> Result<Option<usize>, NoMemory> {
-    first_wrong(&mut Map::new(alloc), alloc, steps)
-}
-
-#[test]
-fn a_put_is_told_by_a_get(rt: HostRuntime) -> Result<(), Fail> {
-    let steps: &[Step] = &[
-        Step::Serve((1, Doing::Get(b"k"), Told::Absent)),
-        Step::Serve((2, Doing::Put(b"k", b"v"), Told::Done)),
-        Step::Serve((3, Doing::Get(b"k"), Told::Value(b"v"))),
-    ];
-    assert_eq!(rt; first_wrong_of_new(rt.alloc(), steps)?, None);
-    Ok(())
-}
-
-#[test]
-fn a_delete_takes_the_key_out(rt: HostRuntime) -> Result<(), Fail> {
-    let steps: &[Step] = &[
-        Step::Serve((1, Doing::Put(b"k", b"v"), Told::Done)),
-        Step::Serve((2, Doing::Del(b"k"), Told::Done)),
-        Step::Has(b"k", None),
-        Step::Serve((3, Doing::Del(b"k"), Told::Done)),
-        Step::Serve((4, Doing::Put(b"k", b"w"), Told::Done)),
-        Step::Has(b"k", Some(b"w")),
-    ];
-    assert_eq!(rt; first_wrong_of_new(rt.alloc(), steps)?, None);
-    Ok(())
-}
-
-#[test]
-fn a_cas_replaces_the_value_that_it_names(rt: HostRuntime) -> Result<(), Fail> {
-    let steps: &[Step] = &[
-        Step::Serve((1, Doing::Cas(b"k", b"v", b"w"), Told::Absent)),
-        Step::Serve((2, Doing::Put(b"k", b"v"), Told::Done)),
-        Step::Serve((3, Doing::Cas(b"k", b"x", b"w"), Told::Value(b"v"))),
-        Step::Has(b"k", Some(b"v")),
-        Step::Serve((4, Doing::Cas(b"k", b"v", b"w"), Told::Done)),
-        Step::Has(b"k", Some(b"w")),
-    ];
-    assert_eq!(rt; first_wrong_of_new(rt.alloc(), steps)?, None);
-    Ok(())
-}
-
-#[test]
-fn numbers_that_are_not_above_the_last_take_no_effect(rt: HostRuntime) -> Result<(), Fail> {
-    let steps: &[Step] = &[
-        Step::Serve((5, Doing::Put(b"k", b"v"), Told::Done)),
-        Step::Serve((6, Doing::Get(b"k"), Told::Value(b"v"))),
-        Step::Serve((6, Doing::Put(b"k", b"w"), Told::Value(b"v"))),
-        Step::Serve((5, Doing::Put(b"k", b"w"), Told::Stale)),
-        Step::Has(b"k", Some(b"v")),
-    ];
-    assert_eq!(rt; first_wrong_of_new(rt.alloc(), steps)?, None);
-    Ok(())
 }
 
 /// Whether the command is answered so, and the key has this value until the plan is adopted.
@@ -214,56 +142,92 @@ fn keeps_until_adopted(
     asked: Asked,
     key: &[u8],
     value: &[u8],
-) -> Result<bool, NoMemory> {
-    let Some(change) = planned(map, alloc, asked)? else {
-        return Ok(false);
+) -> bool {
+    let Ok(Some(change)) = planned(map, alloc, asked) else {
+        return false;
     };
-    let kept = has(map, alloc, key, Some(value))?;
+    let is_kept = has(map, alloc, key, Some(value));
     map.adopt(change);
-    Ok(kept)
+    is_kept
 }
 
-#[test]
-fn a_plan_that_is_dropped_changes_nothing(rt: HostRuntime) -> Result<(), Fail> {
-    let alloc = rt.alloc();
-    let mut map = Map::new(alloc);
-    let del = (2, Doing::Del(b"k"), Told::Done);
-    let steps: &[Step] = &[
-        Step::Serve((1, Doing::Put(b"k", b"v"), Told::Done)),
-        Step::GiveUp(del),
-        Step::Has(b"k", Some(b"v")),
-    ];
-    assert_eq!(rt; first_wrong(&mut map, alloc, steps)?, None);
-    assert!(rt; keeps_until_adopted(&mut map, alloc, del, b"k", b"v")?);
-    assert!(rt; has(&map, alloc, b"k", None)?);
-    Ok(())
-}
-
-/// Whether these are answered so. The first is planned, the plan goes on with the others, and it is adopted.
-fn goes_on(map: &mut Map, alloc: Global, asked: &[Asked]) -> Result<bool, NoMemory> {
-    let Some((first, others)) = asked.split_first() else {
-        return Ok(false);
-    };
-    let commands = commands_of(alloc, &[*first])?;
+/// Plans the first command, and goes on with these others.
+fn planned_with(
+    map: &mut Map,
+    alloc: Global,
+    first: Asked,
+    others: &[Asked],
+) -> Result<(Seq<Answer>, KvChange), NoMemory>
+    ensures { OnOk result (map.new.waiting ≡ 0) }
+{
+    let commands = commands_of(alloc, &[first])?;
     let more = commands_of(alloc, others)?;
     let (mut answers, mut change) = map.plan(alloc, commands.as_slice())?;
     map.plan_more(alloc, &mut answers, &mut change, more.as_slice())?;
-    map.adopt(change);
-    Ok(are_told(answers.as_slice(), asked))
+    Ok((answers, change))
 }
 
-#[test]
-fn a_plan_goes_on(rt: HostRuntime) -> Result<(), Fail> {
-    let alloc = rt.alloc();
+/// Whether these are answered so, with a plan that goes on behind the first.
+fn serves_all(map: &mut Map, alloc: Global, asked: &[Asked]) -> bool {
+    let Some((first, others)) = asked.split_first() else {
+        return false;
+    };
+    match planned_with(map, alloc, *first, others) {
+        Ok((answers, change)) => {
+            map.adopt(change);
+            are_told(answers.as_slice(), asked)
+        }
+        Err(_) => false,
+    }
+}
+
+/// Whether a base has these bytes.
+fn is_base_of(map: &Map, alloc: Global, bytes: &[u8]) -> bool {
+    match &map.base_bytes(alloc) {
+        Ok(base) => base.as_slice() == bytes,
+        Err(_) => false,
+    }
+}
+
+/// Whether these bytes are a base. The service begins anew with it.
+fn begins(map: &mut Map, alloc: Global, bytes: &[u8]) -> bool {
+    if !Map::is_base(bytes) {
+        return false;
+    }
+    match Map::from_base(alloc, bytes) {
+        Ok(begun) => {
+            *map = begun;
+            true
+        }
+        Err(_) => false,
+    }
+}
+
+/// Whether a step goes as it says.
+fn goes(map: &mut Map, alloc: Global, step: Step) -> bool {
+    match step {
+        Step::Serve(asked) => serves(map, alloc, asked),
+        Step::GiveUp(asked) => matches!(&planned(map, alloc, asked), Ok(Some(_))),
+        Step::Has(key, value) => has(map, alloc, key, value),
+        Step::Base(bytes) => is_base_of(map, alloc, bytes),
+        Step::Settle => map.settle().is_ok(),
+        Step::KeepsUntilAdopted(asked, key, value) => {
+            keeps_until_adopted(map, alloc, asked, key, value)
+        }
+        Step::ServeAll(asked) => serves_all(map, alloc, asked),
+        Step::Begin(bytes) => begins(map, alloc, bytes),
+    }
+}
+
+/// The first step that goes otherwise at a service that nothing was put to.
+fn first_wrong(alloc: Global, steps: &[Step]) -> Option<usize> {
     let mut map = Map::new(alloc);
-    let asked: &[Asked] = &[
-        (1, Doing::Put(b"k", b"v"), Told::Done),
-        (2, Doing::Del(b"k"), Told::Done),
-        (3, Doing::Get(b"k"), Told::Absent),
-    ];
-    assert!(rt; goes_on(&mut map, alloc, asked)?);
-    assert!(rt; has(&map, alloc, b"k", None)?);
-    Ok(())
+    for (place, step) in steps.iter().enumerate() {
+        if !goes(&mut map, alloc, *step) {
+            return Some(place);
+        }
+    }
+    None
 }
 
 /// One pair, from `k` to `v`, and client 7, whose command 2 was answered that value.
@@ -272,30 +236,83 @@ const BASE: &[u8] = &[
     0, 0, 0, 0, 0, 0, 2, 2, 0, 1, b'v',
 ];
 
-#[test]
-fn a_base_has_the_state_before_and_after_it_settles(rt: HostRuntime) -> Result<(), Fail> {
-    let steps: &[Step] = &[
+/// The command 2 of client 7 deletes `k`.
+const DEL: Asked<'static> = (2, Doing::Del(b"k"), Told::Done);
+
+/// What is done with a new service.
+const RUNS: [&[Step]; 8] = [
+    // A put is told by a get.
+    &[
+        Step::Serve((1, Doing::Get(b"k"), Told::Absent)),
+        Step::Serve((2, Doing::Put(b"k", b"v"), Told::Done)),
+        Step::Serve((3, Doing::Get(b"k"), Told::Value(b"v"))),
+    ],
+    // A delete takes the key out.
+    &[
+        Step::Serve((1, Doing::Put(b"k", b"v"), Told::Done)),
+        Step::Serve((2, Doing::Del(b"k"), Told::Done)),
+        Step::Has(b"k", None),
+        Step::Serve((3, Doing::Del(b"k"), Told::Done)),
+        Step::Serve((4, Doing::Put(b"k", b"w"), Told::Done)),
+        Step::Has(b"k", Some(b"w")),
+    ],
+    // A cas replaces the value that it names.
+    &[
+        Step::Serve((1, Doing::Cas(b"k", b"v", b"w"), Told::Absent)),
+        Step::Serve((2, Doing::Put(b"k", b"v"), Told::Done)),
+        Step::Serve((3, Doing::Cas(b"k", b"x", b"w"), Told::Value(b"v"))),
+        Step::Has(b"k", Some(b"v")),
+        Step::Serve((4, Doing::Cas(b"k", b"v", b"w"), Told::Done)),
+        Step::Has(b"k", Some(b"w")),
+    ],
+    // Numbers that are not above the last take no effect.
+    &[
+        Step::Serve((5, Doing::Put(b"k", b"v"), Told::Done)),
+        Step::Serve((6, Doing::Get(b"k"), Told::Value(b"v"))),
+        Step::Serve((6, Doing::Put(b"k", b"w"), Told::Value(b"v"))),
+        Step::Serve((5, Doing::Put(b"k", b"w"), Told::Stale)),
+        Step::Has(b"k", Some(b"v")),
+    ],
+    // A plan that is dropped changes nothing.
+    &[
+        Step::Serve((1, Doing::Put(b"k", b"v"), Told::Done)),
+        Step::GiveUp(DEL),
+        Step::Has(b"k", Some(b"v")),
+        Step::KeepsUntilAdopted(DEL, b"k", b"v"),
+        Step::Has(b"k", None),
+    ],
+    // A plan goes on.
+    &[
+        Step::ServeAll(&[
+            (1, Doing::Put(b"k", b"v"), Told::Done),
+            (2, Doing::Del(b"k"), Told::Done),
+            (3, Doing::Get(b"k"), Told::Absent),
+        ]),
+        Step::Has(b"k", None),
+    ],
+    // A base has the state before and after it settles.
+    &[
         Step::Base(&[0; 16]),
         Step::Serve((1, Doing::Put(b"k", b"v"), Told::Done)),
         Step::Serve((2, Doing::Get(b"k"), Told::Value(b"v"))),
         Step::Base(BASE),
         Step::Settle,
         Step::Base(BASE),
-    ];
-    assert_eq!(rt; first_wrong_of_new(rt.alloc(), steps)?, None);
-    Ok(())
-}
-
-#[test]
-fn a_base_becomes_a_service_again(rt: HostRuntime) -> Result<(), Fail> {
-    assert!(rt; Map::is_base(BASE));
-    let mut map = Map::from_base(rt.alloc(), BASE)?;
-    let steps: &[Step] = &[
+    ],
+    // A base becomes a service again.
+    &[
+        Step::Begin(BASE),
         Step::Has(b"k", Some(b"v")),
         Step::Serve((2, Doing::Del(b"k"), Told::Value(b"v"))),
-    ];
-    assert_eq!(rt; first_wrong(&mut map, rt.alloc(), steps)?, None);
-    Ok(())
+    ],
+];
+
+#[test]
+fn services_go_as_they_are_told(rt: HostRuntime) {
+    for (place, steps) in RUNS.iter().enumerate() {
+        let wrong = first_wrong(rt.alloc(), steps);
+        assert!(rt; wrong.is_none(), "run {place}, step {wrong:?}");
+    }
 }
 
 /// Two pairs, with the keys `b` and `a`.
@@ -303,11 +320,17 @@ const FALLING: &[u8] = &[
     0, 0, 0, 0, 0, 0, 0, 2, 1, b'b', 0, 0, 1, b'a', 0, 0, 0, 0, 0, 0, 0, 0, 0, 0,
 ];
 
+/// Bytes, and whether they are a base.
+const BASES: [(&[u8], bool); 4] = [
+    (&[0; 16], true),
+    (&[0; 15], false),
+    (&[0; 17], false),
+    (FALLING, false),
+];
+
 #[test]
-fn other_bytes_are_no_base(rt: HostRuntime) -> Result<(), Fail> {
-    assert!(rt; Map::is_base(&[0; 16]));
-    assert!(rt; !Map::is_base(&[0; 15]));
-    assert!(rt; !Map::is_base(&[0; 17]));
-    assert!(rt; !Map::is_base(FALLING));
-    Ok(())
+fn other_bytes_are_no_base(rt: HostRuntime) {
+    for (bytes, is_base) in BASES {
+        assert!(rt; Map::is_base(bytes) == is_base);
+    }
 }

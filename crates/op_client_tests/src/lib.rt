@@ -2,12 +2,8 @@
 #![tactic(auto)]
 
 #[cfg(test)]
-mod faults;
+mod calls;
 #[cfg(test)]
-mod no_reply;
-#[cfg(test)]
-mod replies;
+mod commands;
 #[cfg(test)]
 mod scripts;
-#[cfg(test)]
-mod writes;

@@ -4,7 +4,6 @@ use op_memory::MemDisk;
 use op_mirror::{Mirror, OpenCause};
 use op_outside::{Disk, DiskFail};
 use std::alloc::{AllocError, Global};
-use std::process::Abort;
 use std::test::Fail;
 
 /// A disk with these bytes, which fails at this call and at each later one, unless that is 0.
@@ -24,28 +23,27 @@ fn is_left(disk: &MemDisk, lives: bool, left: Left) -> bool {
     lives == left.0 && disk.calls() == left.1 && disk.bytes() == left.2
 }
 
-/// Two copies with these bytes, of which each stops at a call, unless that is 0, are left so.
-fn check_opening(
-    rt: &(impl Abort + Alloc<A = Global>),
+/// Whether two copies with these bytes, of which each stops at a call, unless that is 0, are left so.
+fn are_left(
+    alloc: Global,
     first: (&[u8], u64),
     second: (&[u8], u64),
     left: (Left, Left),
-) -> Result<(), Fail> {
-    let first = copy(rt.alloc(), first.0, first.1)?;
-    let second = copy(rt.alloc(), second.0, second.1)?;
-    match Mirror::open(rt.alloc(), first, second) {
+) -> Result<bool, AllocError> {
+    let first = copy(alloc, first.0, first.1)?;
+    let second = copy(alloc, second.0, second.1)?;
+    Ok(match Mirror::open(alloc, first, second) {
         Ok(mirror) => {
             let (first, second, halves) = mirror.apart();
-            assert!(rt; is_left(&first, halves.has_first(), left.0));
-            assert!(rt; is_left(&second, halves.has_second(), left.1));
+            is_left(&first, halves.has_first(), left.0)
+                && is_left(&second, halves.has_second(), left.1)
         }
         Err(fail) => {
-            assert_eq!(rt; fail.cause, OpenCause::DiskFail);
-            assert!(rt; is_left(&fail.first, false, left.0));
-            assert!(rt; is_left(&fail.second, false, left.1));
+            fail.cause == OpenCause::DiskFail
+                && is_left(&fail.first, false, left.0)
+                && is_left(&fail.second, false, left.1)
         }
-    }
-    Ok(())
+    })
 }
 
 #[test]
@@ -65,12 +63,8 @@ fn an_opening_makes_the_second_copy_equal(rt: HostRuntime) -> Result<(), Fail> {
         (b"", b"abc", 2, 3),
     ];
     for (first, second, calls, second_calls) in rows {
-        check_opening(
-            &rt,
-            (first, 0),
-            (second, 0),
-            ((true, calls, first), (true, second_calls, first)),
-        )?;
+        let left = ((true, calls, first), (true, second_calls, first));
+        assert!(rt; are_left(rt.alloc(), (first, 0), (second, 0), left)?);
     }
     Ok(())
 }
@@ -94,7 +88,8 @@ fn a_copy_that_fails_in_an_opening_is_out(rt: HostRuntime) -> Result<(), Fail> {
         (3, 2, (false, 3, one), (false, 2, two)),
     ];
     for (stop, second_stop, left, second_left) in rows {
-        check_opening(&rt, (one, stop), (two, second_stop), (left, second_left))?;
+        let left = (left, second_left);
+        assert!(rt; are_left(rt.alloc(), (one, stop), (two, second_stop), left)?);
     }
     Ok(())
 }
@@ -121,31 +116,47 @@ fn mirror(alloc: Global, stop: u64, second_stop: u64) -> Result<Mirror<MemDisk>,
     }
 }
 
+/// Whether a mirror whose copies stop so is changed without a fault, and one copy lives that has the change.
+fn goes_on(alloc: Global, stop: u64, second_stop: u64) -> Result<bool, Fail> {
+    let mut mirror = mirror(alloc, stop, second_stop)?;
+    let is_changed = change(&mut mirror).is_ok() && mirror.faults() == 0;
+    let is_one = mirror.living() == 1;
+    let (first, second, halves) = mirror.apart();
+    let left = if halves.has_first() { &first } else { &second };
+    Ok(is_changed && is_one && left.bytes() == b"abcxy".as_slice())
+}
+
 #[test]
 fn one_copy_may_fail_at_any_call(rt: HostRuntime) -> Result<(), Fail> {
     // The second copy isn't asked for what the first one tells.
     for (stop, second_stop) in (1..=9).map(|n| (n, 0)).chain((1..=7).map(|n| (0, n))) {
-        let mut mirror = mirror(rt.alloc(), stop, second_stop)?;
-        assert!(rt; change(&mut mirror).is_ok());
-        assert_eq!(rt; mirror.faults(), 0);
-        assert_eq!(rt; mirror.living(), 1);
-        let (first, second, halves) = mirror.apart();
-        let left = if halves.has_first() { first } else { second };
-        assert!(rt; left.bytes() == b"abcxy".as_slice());
+        assert!(rt;
+            goes_on(rt.alloc(), stop, second_stop)?,
+            "{stop} {second_stop}"
+        );
     }
     Ok(())
+}
+
+/// Whether changes and syncs of a disk fail, each with a fault.
+fn fails<D: Disk>(disk: &mut D) -> bool {
+    change(disk).is_err() && disk.faults() == 1 && disk.sync().is_err() && disk.faults() == 2
+}
+
+/// Whether a mirror whose copies stop so fails, and none of them lives.
+fn is_out(alloc: Global, stop: u64, second_stop: u64) -> Result<bool, Fail> {
+    let mut mirror = mirror(alloc, stop, second_stop)?;
+    Ok(fails(&mut mirror) && mirror.living() == 0)
 }
 
 #[test]
 fn a_call_fails_where_no_copy_lives(rt: HostRuntime) -> Result<(), Fail> {
     for stop in 3..=9 {
         for second_stop in 3..=7 {
-            let mut mirror = mirror(rt.alloc(), stop, second_stop)?;
-            assert!(rt; change(&mut mirror).is_err());
-            assert_eq!(rt; mirror.faults(), 1);
-            assert_eq!(rt; mirror.living(), 0);
-            assert!(rt; mirror.sync().is_err());
-            assert_eq!(rt; mirror.faults(), 2);
+            assert!(rt;
+                is_out(rt.alloc(), stop, second_stop)?,
+                "{stop} {second_stop}"
+            );
         }
     }
     Ok(())
@@ -154,12 +165,12 @@ fn a_call_fails_where_no_copy_lives(rt: HostRuntime) -> Result<(), Fail> {
 #[test]
 fn copies_that_both_live_are_written_alike(rt: HostRuntime) -> Result<(), Fail> {
     let mut mirror = mirror(rt.alloc(), 0, 0)?;
-    assert!(rt; change(&mut mirror).is_ok());
-    assert_eq!(rt; mirror.living(), 2);
+    let is_changed = change(&mut mirror).is_ok();
+    let living = mirror.living();
     let (first, second, _) = mirror.apart();
-    assert!(rt; first.bytes() == b"abcxy".as_slice());
-    assert!(rt; second.bytes() == b"abcxy".as_slice());
-    assert_eq!(rt; (first.calls(), second.calls()), (9, 7));
+    assert_eq!(rt; (is_changed, living), (true, 2));
+    assert!(rt; is_left(&first, true, (true, 9, b"abcxy")));
+    assert!(rt; is_left(&second, true, (true, 7, b"abcxy")));
     Ok(())
 }
 
@@ -174,21 +185,35 @@ fn killed(mirror: Mirror<MemDisk>, is_first: bool) -> Mirror<MemDisk> {
     Mirror::together(first, second, halves)
 }
 
+/// Whether a disk has these bytes first.
+fn begins_with<D: Disk>(disk: &mut D, bytes: [u8; 5]) -> bool {
+    let mut found = [0u8; 5];
+    disk.read(0, &mut found).is_ok() && found == bytes
+}
+
+/// The copies of a mirror of which one is killed, after a change, and whether that one alone is out.
+fn after_kill(alloc: Global, is_first: bool) -> Result<(MemDisk, MemDisk, bool), Fail> {
+    let mut mirror = killed(mirror(alloc, 0, 0)?, is_first);
+    let is_changed = change(&mut mirror).is_ok();
+    let is_other = mirror.has_first() != is_first && mirror.has_second() == is_first;
+    let reads_other = mirror.reads_second() == is_first;
+    let (first, second, _) = mirror.apart();
+    Ok((first, second, is_changed && is_other && reads_other))
+}
+
+/// Whether a mirror of which one copy is killed is changed by the other one, and has that after a start.
+fn is_out_over_starts(alloc: Global, is_first: bool) -> Result<bool, Fail> {
+    let (first, second, is_out) = after_kill(alloc, is_first)?;
+    Ok(match Mirror::open(alloc, first, second) {
+        Ok(mut again) => is_out && again.living() == 1 && begins_with(&mut again, *b"abcxy"),
+        Err(_) => false,
+    })
+}
+
 #[test]
 fn a_killed_copy_is_out_over_starts(rt: HostRuntime) -> Result<(), Fail> {
     for is_first in [true, false] {
-        let mut mirror = killed(mirror(rt.alloc(), 0, 0)?, is_first);
-        assert!(rt; change(&mut mirror).is_ok());
-        assert!(rt; mirror.has_first() != is_first && mirror.has_second() == is_first);
-        assert_eq!(rt; mirror.reads_second(), is_first);
-        let (first, second, _) = mirror.apart();
-        let Ok(mut again) = Mirror::open(rt.alloc(), first, second) else {
-            return Err("it is not opened".into());
-        };
-        assert_eq!(rt; again.living(), 1);
-        let mut bytes = [0u8; 5];
-        assert!(rt; again.read(0, &mut bytes).is_ok());
-        assert!(rt; bytes == *b"abcxy");
+        assert!(rt; is_out_over_starts(rt.alloc(), is_first)?, "{is_first}");
     }
     Ok(())
 }

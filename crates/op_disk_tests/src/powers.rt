@@ -3,7 +3,6 @@
 use op_memory::{MemDisk, Power};
 use op_outside::Disk;
 use std::alloc::{AllocError, Global};
-use std::process::Abort;
 use std::test::Fail;
 
 /// A disk that holds `ab`, shares this switch, and stops in this call, unless that is 0.
@@ -34,29 +33,30 @@ fn is_left(disk: &MemDisk, left: Left) -> Result<bool, AllocError> {
     )
 }
 
-/// Two disks that stop in these calls get the same three bytes in turn, are left so, and run again once their scripts are
-/// cleared.
-fn check_stops(
-    rt: &(impl Abort + Alloc<A = Global>),
+/// Appends three bytes to each of two disks in turn.
+fn append_to_both(first: &mut MemDisk, second: &mut MemDisk) {
+    for byte in *b"cde" {
+        let _ = is_appended(first, byte);
+        let _ = is_appended(second, byte);
+    }
+}
+
+/// Whether two disks that stop in these calls, and get the same three bytes in turn, are left so, and run again.
+fn stop_so(
+    alloc: Global,
     stops: (u64, u64),
     left: (Left, Left),
     is_same: bool,
-) -> Result<(), Fail> {
-    let power = Power::new(rt.alloc())?;
-    let mut first = disk(rt.alloc(), &power, stops.0)?;
-    let mut second = disk(rt.alloc(), &power, stops.1)?;
-    for byte in *b"cde" {
-        let _ = is_appended(&mut first, byte);
-        let _ = is_appended(&mut second, byte);
-    }
-    assert!(rt; is_left(&first, left.0)?);
-    assert!(rt; is_left(&second, left.1)?);
-    assert_eq!(rt; first.pends_as(&second)?, is_same);
-    assert_eq!(rt; power.is_off(), stops != (0, 0));
+) -> Result<bool, AllocError> {
+    let power = Power::new(alloc)?;
+    let mut first = disk(alloc, &power, stops.0)?;
+    let mut second = disk(alloc, &power, stops.1)?;
+    append_to_both(&mut first, &mut second);
+    let are_left = is_left(&first, left.0)? && is_left(&second, left.1)?;
+    let is_right = first.pends_as(&second)? == is_same && power.is_off() == (stops != (0, 0));
     first.clear_script();
     second.clear_script();
-    assert!(rt; first.sync().is_ok() && second.sync().is_ok());
-    Ok(())
+    Ok(are_left && is_right && first.sync().is_ok() && second.sync().is_ok())
 }
 
 #[test]
@@ -74,7 +74,10 @@ fn a_stop_switches_the_other_disk_off(rt: HostRuntime) -> Result<(), Fail> {
         ((1, 3), (3, b"abc", b"ab"), (3, b"abc", b"ab"), true),
     ];
     for (stops, first, second, is_same) in rows {
-        check_stops(&rt, stops, (first, second), is_same)?;
+        assert!(rt;
+            stop_so(rt.alloc(), stops, (first, second), is_same)?,
+            "{stops:?}"
+        );
     }
     Ok(())
 }

@@ -1,104 +1,104 @@
 //! Stores whose area is new, whole or damaged.
 
-use crate::stored::{FIRST_STEP, WHOLE};
-use crate::stores::{check_bytes, disks, open, refused};
+use crate::stored::{FIRST_HEADER, FIRST_RECORD, FIRST_STEP};
+use crate::stores::{disks, has, opened, refused};
 use op_store::StoreFail;
 use std::alloc::Global;
-use std::process::Abort;
 use std::test::Fail;
 
-/// An area of these parts is opened: it is new, or has what the steps of these commands leave. Afterwards the disk holds
-/// what is left.
-fn check_opens(
-    rt: &(impl Abort + Alloc<A = Global>),
+/// Whether an area of these parts is opened: it is new, or has what the steps of these commands leave. Afterwards the disk
+/// holds what is left.
+fn is_opened(
+    alloc: Global,
     parts: &[&[u8]],
     is_new: bool,
     seqs: &[u64],
     left: &[&[u8]],
-) -> Result<(), Fail> {
-    let (store, found_new) = open(rt, disks(rt.alloc(), parts)?, seqs)?;
-    assert_eq!(rt; found_new, is_new);
-    let (first, _) = store.into_disks();
-    check_bytes(rt, &first, left)
+) -> Result<bool, Fail> {
+    let (first, _, found_new) = opened(alloc, disks(alloc, parts)?, seqs)?;
+    Ok(found_new == is_new && has(&first, left))
 }
 
 /// Parts of an area, whether it is new, the commands of its steps, and what is left: a whole durable state and a batch; a
 /// closed gate before; more bytes after the closed gate, which are cut.
 const OPENED: [(&[&[u8]], bool, &[u64], &[&[u8]]); 3] = [
     (
-        &[&WHOLE, &FIRST_STEP, &[0]],
+        &[&FIRST_HEADER, &FIRST_RECORD, &FIRST_STEP, &[0]],
         false,
         &[1],
-        &[&WHOLE, &FIRST_STEP, &[0]],
+        &[&FIRST_HEADER, &FIRST_RECORD, &FIRST_STEP, &[0]],
     ),
     (
-        &[&[0], &WHOLE, &FIRST_STEP, &[0]],
+        &[&[0], &FIRST_HEADER, &FIRST_RECORD, &FIRST_STEP, &[0]],
         true,
         &[],
-        &[&WHOLE, &[0]],
+        &[&FIRST_HEADER, &FIRST_RECORD, &[0]],
     ),
-    (&[&WHOLE, &[0], b"fives"], false, &[], &[&WHOLE, &[0]]),
+    (
+        &[&FIRST_HEADER, &FIRST_RECORD, &[0], b"fives"],
+        false,
+        &[],
+        &[&FIRST_HEADER, &FIRST_RECORD, &[0]],
+    ),
 ];
 
 #[test]
 fn an_area_without_damage_is_opened(rt: HostRuntime) -> Result<(), Fail> {
     for (parts, is_new, seqs, left) in OPENED.iter() {
-        check_opens(&rt, parts, *is_new, seqs, left)?;
+        assert!(rt; is_opened(rt.alloc(), parts, *is_new, seqs, left)?);
     }
     Ok(())
 }
 
 #[test]
 fn an_area_whose_first_gate_is_not_open_is_begun_anew(rt: HostRuntime) -> Result<(), Fail> {
-    let whole = &WHOLE;
+    let (header, record) = (&FIRST_HEADER, &FIRST_RECORD);
     let areas: [&[&[u8]]; 2] = [
         // Any byte but that of an open gate.
-        &[&[0x37], &whole[1..], &[0]],
+        &[&[0x37], &header[1..], record, &[0]],
         // An open gate, and nothing behind it.
-        &[&whole[..1]],
+        &[&header[..1]],
     ];
     for parts in areas {
-        check_opens(&rt, parts, true, &[], &[whole, &[0]])?;
+        assert!(rt; is_opened(rt.alloc(), parts, true, &[], &[header, record, &[0]])?);
     }
     Ok(())
 }
 
-/// An area of these parts is damaged at this place, and it is left as it is.
-fn check_damage(
-    rt: &(impl Abort + Alloc<A = Global>),
-    parts: &[&[u8]],
-    at: u64,
-) -> Result<(), Fail> {
-    let returned = refused(rt.alloc(), disks(rt.alloc(), parts)?)?;
-    assert_eq!(rt; returned.cause, StoreFail::Damaged { area: 0, at });
-    check_bytes(rt, &returned.first, parts)
+/// Whether an area of these parts is damaged at this place, and it is left as it is.
+fn is_damaged(alloc: Global, parts: &[&[u8]], at: u64) -> Result<bool, Fail> {
+    let returned = refused(alloc, disks(alloc, parts)?)?;
+    Ok(returned.cause == StoreFail::Damaged { area: 0, at } && has(&returned.first, parts))
 }
 
 #[test]
 fn damage_is_told_at_its_place(rt: HostRuntime) -> Result<(), Fail> {
-    let (whole, step) = (&WHOLE, &FIRST_STEP);
+    let (header, record, step) = (&FIRST_HEADER, &FIRST_RECORD, &FIRST_STEP);
     let areas: [(&[&[u8]], u64); 9] = [
         // The header's magic is another one.
-        (&[&whole[..1], b"X", &whole[2..], &[0]], 0),
+        (&[&header[..1], b"X", &header[2..], record, &[0]], 0),
         // The gate of the first record is closed.
-        (&[&whole[..17], &[0], &whole[18..], &[0]], 0),
+        (&[header, &[0], &record[1..], &[0]], 0),
         // The first record tells more bytes than there are.
-        (&[&whole[..18], &[1], &whole[19..], &[0]], 17),
+        (&[header, &record[..1], &[1], &record[2..], &[0]], 17),
         // The first change has no change's tag.
-        (&[whole, &step[..11], &[13], &step[12..], &[0]], 111),
+        (
+            &[header, record, &step[..11], &[13], &step[12..], &[0]],
+            111,
+        ),
         // More is decided than there are entries.
-        (&[whole, &step[..51], &[2], &[0]], 111),
+        (&[header, record, &step[..51], &[2], &[0]], 111),
         // A second whole durable state.
-        (&[whole, &whole[17..], &[0]], 111),
+        (&[header, record, record, &[0]], 111),
         // The first record is a batch.
-        (&[&whole[..17], step, &[0]], 17),
+        (&[header, step, &[0]], 17),
         // Version 9.
-        (&[&whole[..8], &[9], &whole[9..], step, &[0]], 0),
+        (&[&header[..8], &[9], &header[9..], record, step, &[0]], 0),
         // No gate stands after the record.
-        (&[whole], 111),
+        (&[header, record], 111),
     ];
     for (parts, at) in areas {
-        check_damage(&rt, parts, at)?;
+        assert!(rt; is_damaged(rt.alloc(), parts, at)?, "{at}");
     }
     Ok(())
 }
@@ -116,18 +116,19 @@ const JOIN_DONE: [u8; 12] = [0xA5, 0, 0, 0, 0, 0, 0, 0, 27, 2, 1, 12];
 
 #[test]
 fn a_step_that_does_not_apply_is_damage(rt: HostRuntime) -> Result<(), Fail> {
-    let (whole, step, base) = (&WHOLE, &FIRST_STEP, &WHOLE[61..85]);
+    let (header, record, step) = (&FIRST_HEADER, &FIRST_RECORD, &FIRST_STEP);
+    let base = &record[44..68];
     let areas: [(&[&[u8]], u64); 4] = [
         // No entry is decided.
-        (&[whole, &TRIM, base, &[0]], 111),
+        (&[header, record, &TRIM, base, &[0]], 111),
         // No stop-sign is decided, neither at first nor last.
-        (&[whole, &CLOSE, base, &[0]], 111),
-        (&[whole, step, &CLOSE, base, &[0]], 163),
+        (&[header, record, &CLOSE, base, &[0]], 111),
+        (&[header, record, step, &CLOSE, base, &[0]], 163),
         // The node isn't joining.
-        (&[whole, &JOIN_DONE, base, &[0]], 111),
+        (&[header, record, &JOIN_DONE, base, &[0]], 111),
     ];
     for (parts, at) in areas {
-        check_damage(&rt, parts, at)?;
+        assert!(rt; is_damaged(rt.alloc(), parts, at)?, "{at}");
     }
     Ok(())
 }

@@ -7,10 +7,14 @@ use op_types::{Ballot, Command, Durable, Entry, Members, NoMemory, Op, Part};
 use std::alloc::Global;
 use std::test::Fail;
 
-/// Its area at first, up to the closed gate.
-pub const WHOLE: [u8; 111] = [
+/// The header of its area at first.
+pub const FIRST_HEADER: [u8; 17] = [
     0xA5, b'O', b'M', b'N', b'I', b'P', b'A', b'X', 1, // an open gate, the magic, and version 1
     0, 0, 0, 0, 0, 0, 0, 1, // generation 1
+];
+
+/// The record behind it, up to the closed gate.
+pub const FIRST_RECORD: [u8; 94] = [
     0xA5, 0, 0, 0, 0, 0, 0, 0, 85, // an open gate, and a body of 85 bytes
     1, // a whole durable state
     1, // a part

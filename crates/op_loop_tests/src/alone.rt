@@ -1,5 +1,6 @@
 //! A node that is the only member, on disks in memory.
-use crate::scripts::{Conduct, Step, Wrote, seen_of, served_alone};
+
+use crate::scripts::{Row, Server, Step, Wrote, first_other, seen_of};
 use op_outside::Happening;
 use op_pump::ServeEnd;
 use std::test::Fail;
@@ -22,40 +23,59 @@ const ZEROS_AND_HALVES: &[Step] = &[
     Step::Comes(b"\x00\x01\x04"),
 ];
 
+/// The reply to the request.
+const LINE: &[u8] = b"\x0c\x00\x23node 1 config 1 decided 0 trimmed 0";
+
+/// A bad request, and a frame that is too long.
+const ROWS: [Row<'static>; 1] = [Row {
+    server: Server::Alone,
+    steps: ZEROS_AND_HALVES,
+    turns: 2,
+    conns: &[
+        (5, Wrote::Reply(&[14, 0, 0, 0, 0, 0, 0, 0, 0]), 1),
+        (6, Wrote::Reply(LINE), 0),
+    ],
+    end: ServeEnd::TurnsOver,
+    lost: 0,
+}];
+
 #[test]
 fn a_bad_request_and_a_frame_that_is_too_long(rt: HostRuntime) -> Result<(), Fail> {
-    let alloc = rt.alloc();
-    let line = b"\x0c\x00\x23node 1 config 1 decided 0 trimmed 0";
-    let conns: &[Conduct] = &[
-        (5, Wrote::Reply(&[14, 0, 0, 0, 0, 0, 0, 0, 0]), 1),
-        (6, Wrote::Reply(line), 0),
-    ];
-    let seen = seen_of(alloc, served_alone(alloc, ZEROS_AND_HALVES, 2)?, conns)?;
-    assert_eq!(rt;
-        (seen.end, seen.lost, seen.wrong),
-        (ServeEnd::TurnsOver, 0, None)
-    );
+    assert_eq!(rt; first_other(rt.alloc(), &ROWS)?, None);
     Ok(())
 }
 
-#[test]
-fn three_waits_without_a_happening(rt: HostRuntime) -> Result<(), Fail> {
-    let alloc = rt.alloc();
-    let seen = seen_of(alloc, served_alone(alloc, &[], 3)?, &[])?;
-    assert_eq!(rt;
-        (seen.end, seen.lost, seen.calls),
-        (ServeEnd::TurnsOver, 0, 3)
-    );
-    Ok(())
-}
+/// Runs on which nothing comes, and the calls of the net: three waits without a happening, and a second wait that fails.
+const CALLS: [(Row<'static>, usize); 2] = [
+    (
+        Row {
+            server: Server::Alone,
+            steps: &[],
+            turns: 3,
+            conns: &[],
+            end: ServeEnd::TurnsOver,
+            lost: 0,
+        },
+        3,
+    ),
+    (
+        Row {
+            server: Server::Alone,
+            steps: &[Step::Fails(2)],
+            turns: 3,
+            conns: &[],
+            end: ServeEnd::NetFault,
+            lost: 0,
+        },
+        2,
+    ),
+];
 
 #[test]
-fn a_second_wait_that_fails(rt: HostRuntime) -> Result<(), Fail> {
-    let alloc = rt.alloc();
-    let seen = seen_of(alloc, served_alone(alloc, &[Step::Fails(2)], 3)?, &[])?;
-    assert_eq!(rt;
-        (seen.end, seen.lost, seen.calls),
-        (ServeEnd::NetFault, 0, 2)
-    );
+fn each_turn_waits_once(rt: HostRuntime) -> Result<(), Fail> {
+    for (row, calls) in CALLS {
+        let seen = seen_of(rt.alloc(), &row)?;
+        assert!(rt; seen.is_ended && seen.calls == calls, "{calls} calls");
+    }
     Ok(())
 }

@@ -1,4 +1,6 @@
-use crate::scripts::{Conduct, Step, Wrote, seen_of, served};
+//! Requests that are bad, at a node that has failed.
+
+use crate::scripts::{Row, Server, Step, Wrote, first_other};
 use op_outside::Happening;
 use op_pump::ServeEnd;
 use std::test::Fail;
@@ -25,30 +27,34 @@ const ZEROS_AND_HALVES: &[Step] = &[
     Step::Comes(b"\x04"),
 ];
 
-#[test]
-fn bad_requests_and_a_frame_that_is_too_long(rt: HostRuntime) -> Result<(), Fail> {
-    let alloc = rt.alloc();
-    let conns: &[Conduct] = &[
-        (5, Wrote::Any, 1),
-        (6, Wrote::Reply(b"\x0c\x00\x13node 1 spare failed"), 0),
-    ];
-    let seen = seen_of(alloc, served(alloc, ZEROS_AND_HALVES, 3)?, conns)?;
-    assert_eq!(rt;
-        (seen.end, seen.lost, seen.wrong),
-        (ServeEnd::TurnsOver, 0, None)
-    );
-    Ok(())
-}
+const ROWS: [Row<'static>; 2] = [
+    Row {
+        server: Server::Failed,
+        steps: ZEROS_AND_HALVES,
+        turns: 3,
+        conns: &[
+            (5, Wrote::Any, 1),
+            (6, Wrote::Reply(b"\x0c\x00\x13node 1 spare failed"), 0),
+        ],
+        end: ServeEnd::TurnsOver,
+        lost: 0,
+    },
+    // It is told its place.
+    Row {
+        server: Server::Failed,
+        steps: &[
+            Step::Happens(&[Happening::Accepted(5), Happening::Readable(5)]),
+            Step::Comes(b"C\x00\x00\x00\x01\x00"),
+        ],
+        turns: 1,
+        conns: &[(5, Wrote::Reply(&[14, 0, 0, 0, 0, 0, 0, 0, 0]), 0)],
+        end: ServeEnd::TurnsOver,
+        lost: 0,
+    },
+];
 
 #[test]
-fn a_bad_request_is_told_its_place(rt: HostRuntime) -> Result<(), Fail> {
-    let alloc = rt.alloc();
-    let steps: &[Step] = &[
-        Step::Happens(&[Happening::Accepted(5), Happening::Readable(5)]),
-        Step::Comes(b"C\x00\x00\x00\x01\x00"),
-    ];
-    let conns: &[Conduct] = &[(5, Wrote::Reply(&[14, 0, 0, 0, 0, 0, 0, 0, 0]), 0)];
-    let seen = seen_of(alloc, served(alloc, steps, 1)?, conns)?;
-    assert_eq!(rt; seen.wrong, None);
+fn bad_requests_and_a_frame_that_is_too_long(rt: HostRuntime) -> Result<(), Fail> {
+    assert_eq!(rt; first_other(rt.alloc(), &ROWS)?, None);
     Ok(())
 }

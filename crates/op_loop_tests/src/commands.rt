@@ -1,5 +1,5 @@
 //! Commands that are read one after another are given as one list, each answered at its own connection.
-use crate::scripts::{Conduct, Step, Wrote, seen_of, served, served_alone, served_scarce};
+use crate::scripts::{Row, Server, Step, Wrote, first_other};
 use op_outside::Happening;
 use op_pump::ServeEnd;
 use std::test::Fail;
@@ -33,18 +33,6 @@ const MANY: &[Step] = &[
     Step::ComesPuts(ONE_MORE),
 ];
 
-#[test]
-fn sixty_four_commands_and_one_more(rt: HostRuntime) -> Result<(), Fail> {
-    let alloc = rt.alloc();
-    let conns: &[Conduct] = &[(5, Wrote::Dones(ONE_MORE), 0)];
-    let seen = seen_of(alloc, served_alone(alloc, MANY, 11)?, conns)?;
-    assert_eq!(rt;
-        (seen.end, seen.lost, seen.wrong),
-        (ServeEnd::TurnsOver, 0, None)
-    );
-    Ok(())
-}
-
 /// Two sessions put, and a third asks for the status in the same turn.
 const PUTS_AND_STATUS: &[Step] = &[
     Step::Idles(TICK),
@@ -60,26 +48,6 @@ const PUTS_AND_STATUS: &[Step] = &[
     Step::Comes(OTHER_PUT),
     Step::Comes(STATUS),
 ];
-
-#[test]
-fn a_status_tells_of_the_commands_before_it(rt: HostRuntime) -> Result<(), Fail> {
-    let alloc = rt.alloc();
-    let conns: &[Conduct] = &[
-        (5, Wrote::Bytes(DONE), 0),
-        (6, Wrote::Bytes(OTHER_DONE), 0),
-        (
-            7,
-            Wrote::Reply(b"\x0c\0\x23node 1 config 1 decided 2 trimmed 0"),
-            0,
-        ),
-    ];
-    let seen = seen_of(alloc, served_alone(alloc, PUTS_AND_STATUS, 11)?, conns)?;
-    assert_eq!(rt;
-        (seen.end, seen.lost, seen.wrong),
-        (ServeEnd::TurnsOver, 0, None)
-    );
-    Ok(())
-}
 
 /// An end request between two commands.
 const CUT_BY_END: &[Step] = &[
@@ -97,23 +65,6 @@ const CUT_BY_END: &[Step] = &[
     Step::Comes(OTHER_PUT),
 ];
 
-#[test]
-fn an_end_request_cuts_a_list(rt: HostRuntime) -> Result<(), Fail> {
-    let alloc = rt.alloc();
-    let conns: &[Conduct] = &[
-        (5, Wrote::Bytes(DONE), 0),
-        // The tag of Ended.
-        (6, Wrote::Reply(&[13]), 0),
-        (7, Wrote::Bytes(OTHER_DONE), 0),
-    ];
-    let seen = seen_of(alloc, served_alone(alloc, CUT_BY_END, 20)?, conns)?;
-    assert_eq!(rt;
-        (seen.end, seen.lost, seen.wrong),
-        (ServeEnd::Ended, 0, None)
-    );
-    Ok(())
-}
-
 /// Two sessions put in one turn.
 const TWO_PUTS: &[Step] = &[
     Step::Happens(&[
@@ -126,26 +77,70 @@ const TWO_PUTS: &[Step] = &[
     Step::Comes(OTHER_PUT),
 ];
 
+const ROWS: [Row<'static>; 4] = [
+    // Sixty-four commands, and one more.
+    Row {
+        server: Server::Alone,
+        steps: MANY,
+        turns: 11,
+        conns: &[(5, Wrote::Dones(ONE_MORE), 0)],
+        end: ServeEnd::TurnsOver,
+        lost: 0,
+    },
+    // A status tells of the commands before it.
+    Row {
+        server: Server::Alone,
+        steps: PUTS_AND_STATUS,
+        turns: 11,
+        conns: &[
+            (5, Wrote::Bytes(DONE), 0),
+            (6, Wrote::Bytes(OTHER_DONE), 0),
+            (
+                7,
+                Wrote::Reply(b"\x0c\0\x23node 1 config 1 decided 2 trimmed 0"),
+                0,
+            ),
+        ],
+        end: ServeEnd::TurnsOver,
+        lost: 0,
+    },
+    // An end request cuts a list. The reply to it is the tag of Ended.
+    Row {
+        server: Server::Alone,
+        steps: CUT_BY_END,
+        turns: 20,
+        conns: &[
+            (5, Wrote::Bytes(DONE), 0),
+            (6, Wrote::Reply(&[13]), 0),
+            (7, Wrote::Bytes(OTHER_DONE), 0),
+        ],
+        end: ServeEnd::Ended,
+        lost: 0,
+    },
+    // A list that finds no memory is refused at each connection. One input was lost, and so there is one mark.
+    Row {
+        server: Server::Scarce,
+        steps: TWO_PUTS,
+        turns: 1,
+        conns: &[
+            (
+                5,
+                Wrote::Bytes(b"\0\0\0\x12\0\0\0\0\0\0\0\x07\0\0\0\0\0\0\0\x01\x06\x05"),
+                0,
+            ),
+            (
+                6,
+                Wrote::Bytes(b"\0\0\0\x12\0\0\0\0\0\0\0\x08\0\0\0\0\0\0\0\x01\x06\x05"),
+                0,
+            ),
+        ],
+        end: ServeEnd::TurnsOver,
+        lost: 1,
+    },
+];
+
 #[test]
-fn a_list_that_finds_no_memory_is_refused_at_each_connection(rt: HostRuntime) -> Result<(), Fail> {
-    let alloc = rt.alloc();
-    // Refused for want of memory: one input was lost, and so there is one mark.
-    let conns: &[Conduct] = &[
-        (
-            5,
-            Wrote::Bytes(b"\0\0\0\x12\0\0\0\0\0\0\0\x07\0\0\0\0\0\0\0\x01\x06\x05"),
-            0,
-        ),
-        (
-            6,
-            Wrote::Bytes(b"\0\0\0\x12\0\0\0\0\0\0\0\x08\0\0\0\0\0\0\0\x01\x06\x05"),
-            0,
-        ),
-    ];
-    let seen = seen_of(alloc, served_scarce(alloc, TWO_PUTS, 1)?, conns)?;
-    assert_eq!(rt;
-        (seen.end, seen.lost, seen.wrong),
-        (ServeEnd::TurnsOver, 1, None)
-    );
+fn commands_are_given_as_lists(rt: HostRuntime) -> Result<(), Fail> {
+    assert_eq!(rt; first_other(rt.alloc(), &ROWS)?, None);
     Ok(())
 }

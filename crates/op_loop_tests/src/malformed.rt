@@ -1,5 +1,5 @@
 //! What no client and no peer sends, or not so: each closes its own session, or waits, and changes no other.
-use crate::scripts::{Conduct, Step, Wrote, seen_of, served_alone};
+use crate::scripts::{Conduct, Row, Server, Step, Wrote, first_other};
 use op_outside::{Happening, Took};
 use op_pump::ServeEnd;
 use std::test::Fail;
@@ -68,13 +68,17 @@ const EACH_ALONE: &[Conduct] = &[
     (10, Wrote::Any, 1),
 ];
 
+const ROWS: [Row<'static>; 1] = [Row {
+    server: Server::Alone,
+    steps: MALFORMED,
+    turns: 3,
+    conns: EACH_ALONE,
+    end: ServeEnd::TurnsOver,
+    lost: 0,
+}];
+
 #[test]
 fn each_malformed_session_is_closed_or_waits_alone(rt: HostRuntime) -> Result<(), Fail> {
-    let alloc = rt.alloc();
-    let seen = seen_of(alloc, served_alone(alloc, MALFORMED, 3)?, EACH_ALONE)?;
-    assert_eq!(rt;
-        (seen.end, seen.lost, seen.wrong),
-        (ServeEnd::TurnsOver, 0, None)
-    );
+    assert_eq!(rt; first_other(rt.alloc(), &ROWS)?, None);
     Ok(())
 }

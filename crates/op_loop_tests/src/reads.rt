@@ -1,7 +1,5 @@
 //! Reads, each answered without an entry of the log, behind the commands that came before it.
-use crate::scripts::{
-    Conduct, Step, Wrote, seen_of, served, served_alone, served_beside, served_failing,
-};
+use crate::scripts::{Conduct, Row, Server, Step, Wrote, first_other, seen_of};
 use op_outside::{Conn, Happening};
 use op_pump::ServeEnd;
 use std::alloc::Global;
@@ -38,58 +36,6 @@ const READS: &[Step] = &[
     Step::Comes(READ_B),
 ];
 
-#[test]
-fn a_leader_answers_reads(rt: HostRuntime) -> Result<(), Fail> {
-    let alloc = rt.alloc();
-    let conns: &[Conduct] = &[
-        // The tag of NotLeading.
-        (
-            5,
-            Wrote::Bytes(b"\0\0\0\x11\0\0\0\0\0\0\0\x07\0\0\0\0\0\0\0\x01\x0b"),
-            0,
-        ),
-        // The put is done, and then the value is `x`.
-        (
-            6,
-            Wrote::Bytes(
-                b"\0\0\0\x11\0\0\0\0\0\0\0\x07\0\0\0\0\0\0\0\x01\x01\0\0\0\x14\0\0\0\0\0\0\0\x07\0\0\0\0\0\0\0\x01\x02\0\x01x",
-            ),
-            0,
-        ),
-        // There is no value.
-        (
-            7,
-            Wrote::Bytes(b"\0\0\0\x11\0\0\0\0\0\0\0\x08\0\0\0\0\0\0\0\x03\x03"),
-            0,
-        ),
-    ];
-    let seen = seen_of(alloc, served_alone(alloc, READS, 11)?, conns)?;
-    assert_eq!(rt;
-        (seen.end, seen.lost, seen.wrong),
-        (ServeEnd::TurnsOver, 0, None)
-    );
-    Ok(())
-}
-
-#[test]
-fn a_failed_node_refuses_a_read(rt: HostRuntime) -> Result<(), Fail> {
-    let alloc = rt.alloc();
-    let steps = &[
-        Step::Happens(&[Happening::Accepted(5), Happening::Readable(5)]),
-        Step::Comes(READ),
-    ];
-    // Refused, since the disks have failed 7 times.
-    let refused = Wrote::Bytes(
-        b"\0\0\0\x1a\0\0\0\0\0\0\0\x07\0\0\0\0\0\0\0\x01\x06\x01\0\0\0\0\0\0\0\x07",
-    );
-    let seen = seen_of(alloc, served(alloc, steps, 1)?, &[(5, refused, 0)])?;
-    assert_eq!(rt;
-        (seen.end, seen.lost, seen.wrong),
-        (ServeEnd::TurnsOver, 0, None)
-    );
-    Ok(())
-}
-
 /// The first call of the first disk behind the opening and the first tick: nine are made at the opening, and four for each
 /// record.
 const CALL_AFTER_TICK: u64 = 9 + 4 + 1;
@@ -113,26 +59,78 @@ const READ_AND_PUT: &[Step] = &[
     Step::Comes(PUT),
 ];
 
-#[test]
-fn a_read_makes_no_call_of_a_disk(rt: HostRuntime) -> Result<(), Fail> {
-    let alloc = rt.alloc();
-    let conns: &[Conduct] = &[
-        (5, Wrote::Bytes(ABSENT), 0),
-        // The call that fails is the put's.
-        (
-            6,
+const ROWS: [Row<'static>; 3] = [
+    // A leader answers reads.
+    Row {
+        server: Server::Alone,
+        steps: READS,
+        turns: 11,
+        conns: &[
+            // The tag of NotLeading.
+            (
+                5,
+                Wrote::Bytes(b"\0\0\0\x11\0\0\0\0\0\0\0\x07\0\0\0\0\0\0\0\x01\x0b"),
+                0,
+            ),
+            // The put is done, and then the value is `x`.
+            (
+                6,
+                Wrote::Bytes(
+                    b"\0\0\0\x11\0\0\0\0\0\0\0\x07\0\0\0\0\0\0\0\x01\x01\0\0\0\x14\0\0\0\0\0\0\0\x07\0\0\0\0\0\0\0\x01\x02\0\x01x",
+                ),
+                0,
+            ),
+            // There is no value.
+            (
+                7,
+                Wrote::Bytes(b"\0\0\0\x11\0\0\0\0\0\0\0\x08\0\0\0\0\0\0\0\x03\x03"),
+                0,
+            ),
+        ],
+        end: ServeEnd::TurnsOver,
+        lost: 0,
+    },
+    // A failed node refuses a read, since the disks have failed 7 times.
+    Row {
+        server: Server::Failed,
+        steps: &[
+            Step::Happens(&[Happening::Accepted(5), Happening::Readable(5)]),
+            Step::Comes(READ),
+        ],
+        turns: 1,
+        conns: &[(
+            5,
             Wrote::Bytes(
-                b"\0\0\0\x1a\0\0\0\0\0\0\0\x07\0\0\0\0\0\0\0\x01\x06\x01\0\0\0\0\0\0\0\x01",
+                b"\0\0\0\x1a\0\0\0\0\0\0\0\x07\0\0\0\0\0\0\0\x01\x06\x01\0\0\0\0\0\0\0\x07",
             ),
             0,
-        ),
-    ];
-    let served = served_failing(alloc, CALL_AFTER_TICK, READ_AND_PUT, 11)?;
-    let seen = seen_of(alloc, served, conns)?;
-    assert_eq!(rt;
-        (seen.end, seen.lost, seen.wrong),
-        (ServeEnd::TurnsOver, 0, None)
-    );
+        )],
+        end: ServeEnd::TurnsOver,
+        lost: 0,
+    },
+    // A read makes no call of a disk: the call that fails is the put's.
+    Row {
+        server: Server::Failing(CALL_AFTER_TICK),
+        steps: READ_AND_PUT,
+        turns: 11,
+        conns: &[
+            (5, Wrote::Bytes(ABSENT), 0),
+            (
+                6,
+                Wrote::Bytes(
+                    b"\0\0\0\x1a\0\0\0\0\0\0\0\x07\0\0\0\0\0\0\0\x01\x06\x01\0\0\0\0\0\0\0\x01",
+                ),
+                0,
+            ),
+        ],
+        end: ServeEnd::TurnsOver,
+        lost: 0,
+    },
+];
+
+#[test]
+fn reads_are_answered_or_refused(rt: HostRuntime) -> Result<(), Fail> {
+    assert_eq!(rt; first_other(rt.alloc(), &ROWS)?, None);
     Ok(())
 }
 
@@ -224,8 +222,15 @@ fn otherwise<'a>(
         Step::Comes(second),
         Step::Comes(said),
     ];
-    let seen = seen_of(alloc, served_beside(alloc, &steps, 21)?, conns)?;
-    Ok(seen.wrong)
+    let row = Row {
+        server: Server::Beside,
+        steps: &steps,
+        turns: 21,
+        conns,
+        end: ServeEnd::TurnsOver,
+        lost: 0,
+    };
+    Ok(seen_of(alloc, &row)?.wrong)
 }
 
 #[test]

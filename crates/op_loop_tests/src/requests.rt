@@ -1,5 +1,5 @@
 //! Requests for a stop-sign and for trimming, each told at once what becomes of it.
-use crate::scripts::{Conduct, Step, Wrote, seen_of, served, served_alone};
+use crate::scripts::{Row, Server, Step, Wrote, first_other};
 use op_outside::Happening;
 use op_pump::ServeEnd;
 use std::test::Fail;
@@ -34,19 +34,6 @@ const TRIMS: &[Step] = &[
     Step::Comes(TRIM),
 ];
 
-#[test]
-fn a_trim_is_asked_of_a_leader_alone(rt: HostRuntime) -> Result<(), Fail> {
-    let alloc = rt.alloc();
-    // The tags of NotLeading and Asked.
-    let conns: &[Conduct] = &[(5, Wrote::Reply(&[11]), 0), (6, Wrote::Reply(&[10]), 0)];
-    let seen = seen_of(alloc, served_alone(alloc, TRIMS, 11)?, conns)?;
-    assert_eq!(rt;
-        (seen.end, seen.lost, seen.wrong),
-        (ServeEnd::TurnsOver, 0, None)
-    );
-    Ok(())
-}
-
 /// The only member ends the configuration, and leads the next one from the next tick on.
 const STOP_AND_PUT: &[Step] = &[
     Step::Idles(TICK),
@@ -62,32 +49,6 @@ const STOP_AND_PUT: &[Step] = &[
     Step::Comes(PUT),
     Step::Comes(STATUS),
 ];
-
-#[test]
-fn a_stop_sign_ends_the_configuration(rt: HostRuntime) -> Result<(), Fail> {
-    let alloc = rt.alloc();
-    let conns: &[Conduct] = &[
-        // Appended in configuration 1 at position 0.
-        (5, Wrote::Reply(b"\x07\0\0\0\x01\0\0\0\0\0\0\0\0"), 0),
-        // Client 7's command 1 is done.
-        (
-            6,
-            Wrote::Bytes(b"\0\0\0\x11\0\0\0\0\0\0\0\x07\0\0\0\0\0\0\0\x01\x01"),
-            0,
-        ),
-        (
-            7,
-            Wrote::Reply(b"\x0c\0\x23node 1 config 2 decided 1 trimmed 0"),
-            0,
-        ),
-    ];
-    let seen = seen_of(alloc, served_alone(alloc, STOP_AND_PUT, 21)?, conns)?;
-    assert_eq!(rt;
-        (seen.end, seen.lost, seen.wrong),
-        (ServeEnd::TurnsOver, 0, None)
-    );
-    Ok(())
-}
 
 /// The only member ends the configuration, and is not of the next one.
 const TWO_STOPS: &[Step] = &[
@@ -105,27 +66,6 @@ const TWO_STOPS: &[Step] = &[
     Step::Comes(PUT),
 ];
 
-#[test]
-fn a_second_stop_sign_is_refused(rt: HostRuntime) -> Result<(), Fail> {
-    let alloc = rt.alloc();
-    let conns: &[Conduct] = &[
-        (5, Wrote::Reply(b"\x07\0\0\0\x01\0\0\0\0\0\0\0\0"), 0),
-        // The stop-sign stands at position 0.
-        (6, Wrote::Reply(b"\x06\x02\0\0\0\0\0\0\0\0"), 0),
-        (
-            7,
-            Wrote::Bytes(b"\0\0\0\x1a\0\0\0\0\0\0\0\x07\0\0\0\0\0\0\0\x01\x06\x02\0\0\0\0\0\0\0\0"),
-            0,
-        ),
-    ];
-    let seen = seen_of(alloc, served_alone(alloc, TWO_STOPS, 11)?, conns)?;
-    assert_eq!(rt;
-        (seen.end, seen.lost, seen.wrong),
-        (ServeEnd::TurnsOver, 0, None)
-    );
-    Ok(())
-}
-
 /// A stop-sign and a trim.
 const STOP_AND_TRIM: &[Step] = &[
     Step::Happens(&[
@@ -138,16 +78,75 @@ const STOP_AND_TRIM: &[Step] = &[
     Step::Comes(TRIM),
 ];
 
+/// An answer that a disk has failed 7 times.
+const FAILED: Wrote<'static> = Wrote::Reply(b"\x06\x01\0\0\0\0\0\0\0\x07");
+
+/// A stop-sign is appended in configuration 1 at position 0.
+const APPENDED: Wrote<'static> = Wrote::Reply(b"\x07\0\0\0\x01\0\0\0\0\0\0\0\0");
+
+const ROWS: [Row<'static>; 4] = [
+    // A trim is asked of a leader alone: the tags of NotLeading and Asked.
+    Row {
+        server: Server::Alone,
+        steps: TRIMS,
+        turns: 11,
+        conns: &[(5, Wrote::Reply(&[11]), 0), (6, Wrote::Reply(&[10]), 0)],
+        end: ServeEnd::TurnsOver,
+        lost: 0,
+    },
+    // A stop-sign ends the configuration. Client 7's command 1 is done.
+    Row {
+        server: Server::Alone,
+        steps: STOP_AND_PUT,
+        turns: 21,
+        conns: &[
+            (5, APPENDED, 0),
+            (
+                6,
+                Wrote::Bytes(b"\0\0\0\x11\0\0\0\0\0\0\0\x07\0\0\0\0\0\0\0\x01\x01"),
+                0,
+            ),
+            (
+                7,
+                Wrote::Reply(b"\x0c\0\x23node 1 config 2 decided 1 trimmed 0"),
+                0,
+            ),
+        ],
+        end: ServeEnd::TurnsOver,
+        lost: 0,
+    },
+    // A second stop-sign is refused, and a command: the first one stands at position 0.
+    Row {
+        server: Server::Alone,
+        steps: TWO_STOPS,
+        turns: 11,
+        conns: &[
+            (5, APPENDED, 0),
+            (6, Wrote::Reply(b"\x06\x02\0\0\0\0\0\0\0\0"), 0),
+            (
+                7,
+                Wrote::Bytes(
+                    b"\0\0\0\x1a\0\0\0\0\0\0\0\x07\0\0\0\0\0\0\0\x01\x06\x02\0\0\0\0\0\0\0\0",
+                ),
+                0,
+            ),
+        ],
+        end: ServeEnd::TurnsOver,
+        lost: 0,
+    },
+    // A failed node refuses both.
+    Row {
+        server: Server::Failed,
+        steps: STOP_AND_TRIM,
+        turns: 1,
+        conns: &[(5, FAILED, 0), (6, FAILED, 0)],
+        end: ServeEnd::TurnsOver,
+        lost: 0,
+    },
+];
+
 #[test]
-fn a_failed_node_refuses_both(rt: HostRuntime) -> Result<(), Fail> {
-    let alloc = rt.alloc();
-    // Refused, since the disks have failed 7 times.
-    let refused = Wrote::Reply(b"\x06\x01\0\0\0\0\0\0\0\x07");
-    let conns: &[Conduct] = &[(5, refused, 0), (6, refused, 0)];
-    let seen = seen_of(alloc, served(alloc, STOP_AND_TRIM, 1)?, conns)?;
-    assert_eq!(rt;
-        (seen.end, seen.lost, seen.wrong),
-        (ServeEnd::TurnsOver, 0, None)
-    );
+fn requests_are_told_what_becomes_of_them(rt: HostRuntime) -> Result<(), Fail> {
+    assert_eq!(rt; first_other(rt.alloc(), &ROWS)?, None);
     Ok(())
 }

@@ -186,21 +186,65 @@ fn comes(script: &mut NetScript, bytes: Vec<u8>) -> Result<(), NoMemory> {
 /// How serving ended, how many marks there are, and the net.
 type Run = (ServeEnd, usize, ScriptNet);
 
-/// Serves with a node 1 that has failed and has no smaller peer to dial.
-pub fn served(alloc: Global, steps: &[Step], turns: u64) -> Result<Run, NoMemory> {
-    served_by(alloc, 1, steps, turns)
+/// The node that serves.
+#[derive(Clone, Copy)]
+pub enum Server {
+    /// Node 1, which has failed, and has no smaller peer to dial.
+    Failed,
+    /// Node 2, which has failed, and dials the peer of a smaller id at each tick.
+    FailedSecond,
+    /// Node 1, which has failed, and finds no memory for commands.
+    Scarce,
+    /// Node 1, the only member.
+    Alone,
+    /// Node 1, where 2 is the other member.
+    Beside,
+    /// Node 1, the only member, where this call of its first disk fails.
+    Failing(u64),
 }
 
-/// The same with the node of this id, which dials the peers of smaller ids at each tick.
-pub fn served_by(alloc: Global, me: Pid, steps: &[Step], turns: u64) -> Result<Run, NoMemory>
-    requires { IsPid me }
-{
-    served_as(alloc, me, false, steps, turns)
+/// What is served, and what comes of it.
+#[derive(Clone, Copy)]
+pub struct Row<'a> {
+    pub server: Server,
+    pub steps: &'a [Step<'a>],
+    pub turns: u64,
+    pub conns: &'a [Conduct<'a>],
+    pub end: ServeEnd,
+    /// How many marks there are.
+    pub lost: usize,
 }
 
-/// The same with a node 1 that finds no memory for commands.
-pub fn served_scarce(alloc: Global, steps: &[Step], turns: u64) -> Result<Run, NoMemory> {
-    served_as(alloc, 1, true, steps, turns)
+fn served(alloc: Global, server: Server, steps: &[Step], turns: u64) -> Result<Run, Fail> {
+    match server {
+        Server::Failed => served_as(alloc, 1, false, steps, turns),
+        Server::FailedSecond => served_as(alloc, 2, false, steps, turns),
+        Server::Scarce => served_as(alloc, 1, true, steps, turns),
+        Server::Alone => served_over(alloc, &sole()?, None, steps, turns),
+        Server::Beside => served_over(alloc, &pair()?, None, steps, turns),
+        Server::Failing(call) => served_over(alloc, &sole()?, Some(call), steps, turns),
+    }
+}
+
+/// How it ended, how many calls of the net there were, and the first connection with which it went otherwise.
+pub fn seen_of(alloc: Global, row: &Row) -> Result<Seen, Fail> {
+    let (end, lost, net) = served(alloc, row.server, row.steps, row.turns)?;
+    Ok(Seen {
+        is_ended: (end, lost) == (row.end, row.lost),
+        calls: net.calls().len(),
+        wrong: first_wrong(alloc, &net, row.conns)?,
+    })
+}
+
+/// The first row that goes otherwise.
+pub fn first_other(alloc: Global, rows: &[Row]) -> Result<Option<usize>, Fail> {
+    for (place, row) in rows.iter().enumerate() {
+        let seen = seen_of(alloc, row)?;
+        if !seen.is_ended || seen.wrong.is_some() {
+            return Ok(Some(place));
+        }
+    }
+    Ok(None)
 }
 
 fn served_as(
@@ -209,7 +253,7 @@ fn served_as(
     is_scarce: bool,
     steps: &[Step],
     turns: u64,
-) -> Result<Run, NoMemory>
+) -> Result<Run, Fail>
     requires { IsPid me }
 {
     let settings = settings(alloc, turns)?;
@@ -247,21 +291,6 @@ fn opened(alloc: Global, members: &Members, fails: Option<u64>) -> Result<Node<M
         Ok((node, _sends)) => Ok(node),
         Err(_) => Err("it is not opened".into()),
     }
-}
-
-/// Serves with node 1, the only member.
-pub fn served_alone(alloc: Global, steps: &[Step], turns: u64) -> Result<Run, Fail> {
-    served_over(alloc, &sole()?, None, steps, turns)
-}
-
-/// Serves with node 1, where 2 is the other member.
-pub fn served_beside(alloc: Global, steps: &[Step], turns: u64) -> Result<Run, Fail> {
-    served_over(alloc, &pair()?, None, steps, turns)
-}
-
-/// Serves with node 1, the only member, where this call of its first disk fails.
-pub fn served_failing(alloc: Global, call: u64, steps: &[Step], turns: u64) -> Result<Run, Fail> {
-    served_over(alloc, &sole()?, Some(call), steps, turns)
 }
 
 fn served_over(
@@ -303,24 +332,12 @@ pub type Conduct<'a> = (Conn, Wrote<'a>, usize);
 /// What was seen of serving.
 #[derive(Clone, Copy)]
 pub struct Seen {
-    pub end: ServeEnd,
-    /// How many marks there are.
-    pub lost: usize,
+    /// Whether it ended as it is to, with so many marks.
+    pub is_ended: bool,
     /// The calls of the net.
     pub calls: usize,
     /// The first connection with which it went otherwise.
     pub wrong: Option<Conn>,
-}
-
-/// What was seen of serving, in which it went so with these connections.
-pub fn seen_of(alloc: Global, served: Run, conns: &[Conduct]) -> Result<Seen, Fail> {
-    let (end, lost, net) = served;
-    Ok(Seen {
-        end,
-        lost,
-        calls: net.calls().len(),
-        wrong: first_wrong(alloc, &net, conns)?,
-    })
 }
 
 fn first_wrong(alloc: Global, net: &ScriptNet, conns: &[Conduct]) -> Result<Option<Conn>, Fail> {

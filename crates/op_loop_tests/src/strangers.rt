@@ -1,4 +1,6 @@
-use crate::scripts::{Conduct, Step, Wrote, seen_of, served, served_alone};
+//! Sessions of nobody that a node knows, and a second one of a peer.
+
+use crate::scripts::{Conduct, Row, Server, Step, Wrote, first_other};
 use op_outside::Happening;
 use op_pump::ServeEnd;
 use std::test::Fail;
@@ -40,32 +42,38 @@ const CLOSED_ALONE: &[Conduct] = &[
     (8, Wrote::Something, 0),
 ];
 
-#[test]
-fn malformed_sessions_are_closed_alone(rt: HostRuntime) -> Result<(), Fail> {
-    let alloc = rt.alloc();
-    let seen = seen_of(alloc, served_alone(alloc, STRANGERS, 3)?, CLOSED_ALONE)?;
-    assert_eq!(rt;
-        (seen.end, seen.lost, seen.wrong),
-        (ServeEnd::TurnsOver, 0, None)
-    );
-    Ok(())
-}
+const ROWS: [Row<'static>; 2] = [
+    // Malformed sessions are closed alone.
+    Row {
+        server: Server::Alone,
+        steps: STRANGERS,
+        turns: 3,
+        conns: CLOSED_ALONE,
+        end: ServeEnd::TurnsOver,
+        lost: 0,
+    },
+    // A second session of a peer ends the first.
+    Row {
+        server: Server::Failed,
+        steps: &[
+            Step::Happens(&[
+                Happening::Accepted(4),
+                Happening::Accepted(5),
+                Happening::Readable(4),
+                Happening::Readable(5),
+            ]),
+            Step::Comes(b"P\x00\x00\x00\x02"),
+            Step::Comes(b"P\x00\x00\x00\x02"),
+        ],
+        turns: 1,
+        conns: &[(4, Wrote::Any, 1), (5, Wrote::Any, 0)],
+        end: ServeEnd::TurnsOver,
+        lost: 0,
+    },
+];
 
 #[test]
-fn a_second_session_of_a_peer_ends_the_first(rt: HostRuntime) -> Result<(), Fail> {
-    let alloc = rt.alloc();
-    let steps: &[Step] = &[
-        Step::Happens(&[
-            Happening::Accepted(4),
-            Happening::Accepted(5),
-            Happening::Readable(4),
-            Happening::Readable(5),
-        ]),
-        Step::Comes(b"P\x00\x00\x00\x02"),
-        Step::Comes(b"P\x00\x00\x00\x02"),
-    ];
-    let conns: &[Conduct] = &[(4, Wrote::Any, 1), (5, Wrote::Any, 0)];
-    let seen = seen_of(alloc, served(alloc, steps, 1)?, conns)?;
-    assert_eq!(rt; seen.wrong, None);
+fn strange_sessions_are_closed_alone(rt: HostRuntime) -> Result<(), Fail> {
+    assert_eq!(rt; first_other(rt.alloc(), &ROWS)?, None);
     Ok(())
 }

@@ -40,6 +40,17 @@ fn past_end<D: Disk>(disk: &mut D) -> ([bool; 3], u64) {
     ([read, write, cut], disk.faults())
 }
 
+/// Whether a new disk is used without a fault, and then refuses what is past its end.
+fn is_used<D: Disk>(disk: &mut D) -> bool {
+    begun(disk) == (Ok(0), Ok((4, *b"bXY")), 0) && past_end(disk) == ([true, true, true], 3)
+}
+
+/// Whether the file at this path, which is absent, is used so as a disk.
+fn is_used_at(rt: &HostRuntime, path: &str) -> Result<bool, AllocError> {
+    let mut disk = FileDisk::new(rt, PathBuf::from_str(rt.alloc(), path)?);
+    Ok(fs::metadata(rt, path).is_err() && is_used(&mut disk))
+}
+
 /// The length of the file at this path, as a disk, and the faults then.
 fn length_at(rt: &HostRuntime, path: &str) -> Result<(Result<u64, DiskFail>, u64), AllocError> {
     let mut disk = FileDisk::new(rt, PathBuf::from_str(rt.alloc(), path)?);
@@ -49,10 +60,7 @@ fn length_at(rt: &HostRuntime, path: &str) -> Result<(Result<u64, DiskFail>, u64
 #[test]
 fn a_file_is_a_disk(rt: HostRuntime) -> Result<(), Fail> {
     let name = "edges.disk";
-    let mut disk = FileDisk::new(&rt, PathBuf::from_str(rt.alloc(), name)?);
-    assert!(rt; fs::metadata(&rt, name).is_err());
-    assert_eq!(rt; begun(&mut disk), (Ok(0), Ok((4, *b"bXY")), 0));
-    assert_eq!(rt; past_end(&mut disk), ([true, true, true], 3));
+    assert!(rt; is_used_at(&rt, name)?);
     assert_eq!(rt; length_at(&rt, name)?, (Ok(4), 0));
     fs::remove_file(&rt, name)?;
     assert_eq!(rt; length_at(&rt, "absent/edges.disk")?, (Err(DiskFail), 1));
@@ -187,18 +195,18 @@ fn first_wrong<N: Net>(server: &mut N, client: &mut N, (near, far): (Conn, Conn)
     None
 }
 
+/// The first step of the talk that goes otherwise, and the dialling net's faults; None where there is no connection.
+fn talk<N: Net>(server: &mut N, client: &mut N) -> Option<(Option<usize>, u64)> {
+    let addr = listen(server)?;
+    let conns = accepted(server, client, &addr)?;
+    Some((first_wrong(server, client, conns), client.faults()))
+}
+
 #[test]
 fn sockets_carry_bytes_both_ways(rt: HostRuntime) {
     let mut server = MioNet::new(&rt, rt.alloc(), MonotonicClock::new(&rt));
     let mut client = MioNet::new(&rt, rt.alloc(), MonotonicClock::new(&rt));
-    let Some(addr) = listen(&mut server) else {
-        panic!(rt; "no port");
-    };
-    let Some(conns) = accepted(&mut server, &mut client, &addr) else {
-        panic!(rt; "not accepted");
-    };
-    assert_eq!(rt; first_wrong(&mut server, &mut client, conns), None);
-    assert_eq!(rt; client.faults(), 0);
+    assert_eq!(rt; talk(&mut server, &mut client), Some((None, 0)));
 }
 
 /// Writes until there is no room.
@@ -245,27 +253,29 @@ fn ends_at_once<N: Net>(net: &mut N, addr: &Addr) -> bool {
     next(net) == Ok(Happening::Readable(conn)) && net.read(conn, &mut [0u8; 8]) == Ok(Got::Ended)
 }
 
-/// A connection whose bytes don't move has ended, by a clock that goes on by a second with each answer. One to a port where
-/// nobody listens ends at once.
+/// A port where nobody listens.
+const CLOSED: Addr = Addr {
+    host: LOOPBACK,
+    port: 1,
+};
+
+/// Whether a connection whose bytes don't move ends with no room, and a dial to a port where nobody listens at once, without a
+/// fault; None where there is no connection.
+fn ends_stuck<N: Net, M: Net>(server: &mut N, client: &mut M) -> Option<bool> {
+    let addr = listen(server)?;
+    let near = opened(client, &addr)?;
+    let is_stuck = fill_until_ended(client, near) == Ok(Took::NotYet);
+    client.close(near);
+    Some(is_stuck && ends_at_once(client, &CLOSED) && client.faults() == 0)
+}
+
+/// By a clock that goes on by a second with each answer.
 #[test]
 fn a_connection_that_is_stuck_ends(rt: HostRuntime) {
     let clock = FakeClock::new(rt.alloc(), VecDeque::new(rt.alloc()), 1000);
     let mut server = MioNet::new(&rt, rt.alloc(), MonotonicClock::new(&rt));
     let mut client = MioNet::new(&rt, rt.alloc(), clock);
-    let Some(addr) = listen(&mut server) else {
-        panic!(rt; "no port");
-    };
-    let Some(near) = opened(&mut client, &addr) else {
-        panic!(rt; "not open");
-    };
-    assert_eq!(rt; fill_until_ended(&mut client, near), Ok(Took::NotYet));
-    client.close(near);
-    let closed = Addr {
-        host: LOOPBACK,
-        port: 1,
-    };
-    assert!(rt; ends_at_once(&mut client, &closed));
-    assert_eq!(rt; client.faults(), 0);
+    assert_eq!(rt; ends_stuck(&mut server, &mut client), Some(true));
 }
 
 /// How long a dial goes without an answer, in milliseconds. Two clocks may differ by one.
@@ -299,22 +309,26 @@ fn addr_of(listener: &TcpListener) -> io::Result<Addr> {
 }
 
 /// Whether it took so long, where the bound is this.
-fn is_within(millis: u64, bound: u64) -> bool {
-    bound <= millis.saturating_add(1) && millis < bound.saturating_mul(2)
+fn is_within(millis: Option<u64>, bound: u64) -> bool {
+    match millis {
+        Some(millis) => bound <= millis.saturating_add(1) && millis < bound.saturating_mul(2),
+        None => false,
+    }
 }
 
-/// The first connection that has ended after three dials, and how long it took in milliseconds.
-fn unanswered<N: Net, C: Clock>(
-    net: &mut N,
-    clock: &mut C,
-    addr: &Addr,
-) -> Result<(Conn, u64), NetFail> {
+/// How many milliseconds it takes until one of three more dials has ended, where a first one waits open; None where one can't
+/// be dialled, a net fails, or the first one ends.
+fn unanswered<N: Net, C: Clock>(net: &mut N, clock: &mut C, addr: &Addr) -> Option<u64> {
+    let waiting = opened(net, addr)?;
     let begin = clock.millis();
     for _ in 0..3u32 {
-        net.dial(addr)?;
+        net.dial(addr).ok()?;
     }
-    let ended = first_end(net)?;
-    Ok((ended, clock.millis().saturating_sub(begin)))
+    let ended = first_end(net).ok()?;
+    if ended == waiting || net.faults() != 0 {
+        return None;
+    }
+    Some(clock.millis().saturating_sub(begin))
 }
 
 /// By the real clock a dial that nobody answers has ended after a second. The listener has room for one that waits, and
@@ -324,28 +338,22 @@ fn a_dial_without_an_answer_ends(rt: HostRuntime) -> Result<(), Fail> {
     let listener = TcpListener::bind(&rt, SocketAddr::from((Ipv4Addr::LOCALHOST, 0)))?;
     assert_eq!(rt; listen_for(listener.as_raw_fd(), 0), 0);
     let addr = addr_of(&listener)?;
-    let mut clock = MonotonicClock::new(&rt);
     let mut net = MioNet::new(&rt, rt.alloc(), MonotonicClock::new(&rt));
-    let Some(waiting) = opened(&mut net, &addr) else {
-        panic!(rt; "not open");
-    };
-    let (ended, millis) = unanswered(&mut net, &mut clock, &addr)?;
-    assert!(rt; ended != waiting);
-    assert!(rt; is_within(millis, UNANSWERED_MILLIS), "{millis}");
-    assert_eq!(rt; net.faults(), 0);
+    let millis = unanswered(&mut net, &mut MonotonicClock::new(&rt), &addr);
+    assert!(rt; is_within(millis, UNANSWERED_MILLIS), "{millis:?}");
     Ok(())
 }
 
-/// Whether the first connection that has ended is that of one dial, and how long it took in milliseconds.
-fn unmoved<N: Net, C: Clock>(
-    net: &mut N,
-    clock: &mut C,
-    addr: &Addr,
-) -> Result<(bool, u64), NetFail> {
+/// How many milliseconds it takes until a dialled connection has ended that is filled; None where it isn't the first to end, or a
+/// net fails.
+fn unmoved<N: Net, C: Clock>(net: &mut N, clock: &mut C, addr: &Addr) -> Option<u64> {
     let begin = clock.millis();
-    let conn = net.dial(addr)?;
-    let ended = first_end(net)?;
-    Ok((conn == Some(ended), clock.millis().saturating_sub(begin)))
+    let conn = net.dial(addr).ok()?;
+    let ended = first_end(net).ok()?;
+    if conn != Some(ended) || net.faults() != 0 {
+        return None;
+    }
+    Some(clock.millis().saturating_sub(begin))
 }
 
 /// By the real clock a connection whose bytes don't move has ended after 2 seconds. The other end isn't read.
@@ -353,12 +361,9 @@ fn unmoved<N: Net, C: Clock>(
 fn bytes_that_do_not_move_end_a_connection(rt: HostRuntime) -> Result<(), Fail> {
     let listener = TcpListener::bind(&rt, SocketAddr::from((Ipv4Addr::LOCALHOST, 0)))?;
     let addr = addr_of(&listener)?;
-    let mut clock = MonotonicClock::new(&rt);
     let mut net = MioNet::new(&rt, rt.alloc(), MonotonicClock::new(&rt));
-    let (is_dialled, millis) = unmoved(&mut net, &mut clock, &addr)?;
-    assert!(rt; is_dialled);
-    assert!(rt; is_within(millis, UNMOVED_MILLIS), "{millis}");
-    assert_eq!(rt; net.faults(), 0);
+    let millis = unmoved(&mut net, &mut MonotonicClock::new(&rt), &addr);
+    assert!(rt; is_within(millis, UNMOVED_MILLIS), "{millis:?}");
     Ok(())
 }
 

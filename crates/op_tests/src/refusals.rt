@@ -23,7 +23,7 @@ fn part(alloc: Global, trimmed: u64) -> Result<Part, AllocError>
         members: Members::from_slice(&[1])?,
         promised: OWN,
         accepted: OWN,
-        base: Blob::from_vec(Vec::new(alloc)),
+        base: Blob::from_vec(Vec::new(alloc))?,
         trimmed,
         tail: Reserved::new(alloc),
         decided: trimmed,
