@@ -1,4 +1,5 @@
 //! What the tests share.
+use crate::scripts::{happens, read_gives};
 use op_client::{CallFail, call};
 use op_command::{ClientReply, Request, Said};
 use op_memory::{Incoming, KeptCall, NetScript, ScriptNet};
@@ -85,20 +86,8 @@ fn add(script: &mut NetScript, alloc: Global, step: Step) -> Result<(), NoMemory
     }
 }
 
-fn happens(
-    script: &mut NetScript,
-    alloc: Global,
-    happenings: &[Happening],
-) -> Result<(), NoMemory> {
-    script.waits.push_back(Vec::from_slice(alloc, happenings)?)?;
-    Ok(())
-}
-
 fn reads(script: &mut NetScript, alloc: Global, bytes: &[u8]) -> Result<(), NoMemory> {
-    script
-        .reads
-        .push_back(Incoming::Bytes(Vec::from_slice(alloc, bytes)?))?;
-    Ok(())
+    read_gives(script, Vec::from_slice(alloc, bytes)?)
 }
 
 fn comes(script: &mut NetScript, alloc: Global, bytes: &[u8]) -> Result<(), NoMemory> {

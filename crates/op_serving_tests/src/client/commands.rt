@@ -2,7 +2,7 @@
 ghost use Rattle.std.specs.Prelude.{IfOk};
 ghost use Rattle.op_command.specs.Ranges.{RequestInRange};
 
-use crate::scripts::{Step, script_of, written};
+use crate::client::scripts::{Step, script_of, written};
 use op_client::{CallFail, call};
 use op_command::{ClientReply, Request, Said};
 use op_memory::ScriptNet;

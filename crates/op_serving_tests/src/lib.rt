@@ -1,4 +1,4 @@
-//! The loop over a net and a clock in memory: tests.
+//! Serving over a net and a clock in memory, the client's call over a net, and a cluster over a spawner: tests.
 #![tactic(auto)]
 
 mod failed_node;
@@ -8,7 +8,11 @@ pub use failed_node::FailedNode;
 #[cfg(test)]
 mod alone;
 #[cfg(test)]
+mod client;
+#[cfg(test)]
 mod clients;
+#[cfg(test)]
+mod clusters;
 #[cfg(test)]
 mod commands;
 #[cfg(test)]

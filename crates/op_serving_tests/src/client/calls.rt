@@ -1,5 +1,5 @@
 //! Scripts of a net, each with what is seen of a call over it.
-use crate::scripts::{CONN, ENDED, Seen, Step, asked, asked_over};
+use crate::client::scripts::{CONN, ENDED, Seen, Step, asked, asked_over};
 use op_client::CallFail;
 use op_memory::NetScript;
 use op_outside::{Happening, Took};

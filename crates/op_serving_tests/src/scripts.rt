@@ -151,18 +151,19 @@ fn add(script: &mut NetScript, alloc: Global, step: Step) -> Result<(), NoMemory
     match step {
         Step::Happens(happenings) => happens(script, alloc, happenings),
         Step::Idles(count) => idles(script, alloc, count),
-        Step::Comes(bytes) => comes(script, Vec::from_slice(alloc, bytes)?),
-        Step::ComesMostOfTheLongest => comes(script, most_of_the_longest(alloc)?),
-        Step::ComesPuts(count) => comes(script, puts(alloc, count)?),
-        Step::ComesLongPut => comes(script, long_put(alloc)?),
-        Step::ComesGets(first, last) => comes(script, gets(alloc, first, last)?),
+        Step::Comes(bytes) => read_gives(script, Vec::from_slice(alloc, bytes)?),
+        Step::ComesMostOfTheLongest => read_gives(script, most_of_the_longest(alloc)?),
+        Step::ComesPuts(count) => read_gives(script, puts(alloc, count)?),
+        Step::ComesLongPut => read_gives(script, long_put(alloc)?),
+        Step::ComesGets(first, last) => read_gives(script, gets(alloc, first, last)?),
         Step::Takes(took) => Ok(script.writes.push_back(took)?),
         Step::Dials(conn) => Ok(script.dials.push_back(Some(conn))?),
         Step::Fails(call) => Ok(script.fails.push(call)?),
     }
 }
 
-fn happens(
+/// The next wait gives these.
+pub fn happens(
     script: &mut NetScript,
     alloc: Global,
     happenings: &[Happening],
@@ -178,7 +179,8 @@ fn idles(script: &mut NetScript, alloc: Global, count: usize) -> Result<(), NoMe
     Ok(())
 }
 
-fn comes(script: &mut NetScript, bytes: Vec<u8>) -> Result<(), NoMemory> {
+/// The next read gives these bytes.
+pub fn read_gives(script: &mut NetScript, bytes: Vec<u8>) -> Result<(), NoMemory> {
     script.reads.push_back(Incoming::Bytes(bytes))?;
     Ok(())
 }
