@@ -5,6 +5,7 @@ pub mod Images
 pub mod Left
 pub mod Moments
 pub mod Pending
+pub mod Undoing
 pub mod Wholes
 pub mod Calling
 pub mod Sound

@@ -5,6 +5,7 @@ pub mod Streams
 pub mod FaultScripts
 pub mod Syncs
 pub mod Tied
+pub mod Undoing
 pub mod Histories
 pub mod Fakes
 pub mod FakeClocks

@@ -5,12 +5,13 @@ ghost use Rattle.op_memory.specs.Histories.{known_of, Adds, IsSame};
 
 use crate::call::Call;
 use crate::disk_history::DiskHistory;
+use crate::replaced::Replaced;
 use crate::replay::run;
-use std::alloc::AllocError;
+use std::alloc::{AllocError, Global};
 
 impl DiskHistory {
     /// Makes a call. One that finds no memory changes nothing.
-    pub fn add(&mut self, call: Call) -> Result<(), AllocError>
+    pub fn add(&mut self, alloc: Global, call: Call) -> Result<(), AllocError>
         requires { IsWithin call self.old.bytes.items }
         ensures added { OnOk result (Adds call self.old self.new) }
         ensures err { OnErr result (IsSame self.old self.new) }
@@ -18,8 +19,11 @@ impl DiskHistory {
             GoesOn (edit_of call) (known_of self.old f i) (known_of self.new g j) }
     {
         self.calls.reserve(1)?;
+        self.replaced.reserve(1)?;
+        let replaced = Replaced::by(&call, &self.bytes, alloc)?;
         run(&mut self.bytes, &call)?;
         self.calls.push_reserved(call);
+        self.replaced.push_reserved(replaced);
         Ok(())
     }
 }

@@ -31,12 +31,11 @@ impl MemDisk {
     pub fn new(alloc: Global, bytes: Vec<u8>) -> Result<MemDisk, AllocError>
         ensures { IfOk result (Holds bytes.items) }
     {
-        let start = bytes.to_vec(alloc)?;
         Ok(MemDisk {
             alloc,
             history: DiskHistory {
-                start,
                 calls: Vec::new(alloc),
+                replaced: Vec::new(alloc),
                 bytes,
             },
             script: FaultScript::new(Vec::new(alloc)),
@@ -320,10 +319,10 @@ impl Disk for MemDisk {
             return Err(self.faults.starve());
         };
         if fate == CallFate::Stops {
-            let done = self.history.add(Call::StoppedWrite(at, piece));
+            let done = self.history.add(self.alloc, Call::StoppedWrite(at, piece));
             return Err(self.faults.stop(done));
         }
-        let done = self.history.add(Call::Write(at, piece));
+        let done = self.history.add(self.alloc, Call::Write(at, piece));
         self.faults.settle(done)
     }
 
@@ -342,10 +341,10 @@ impl Disk for MemDisk {
             return Err(self.faults.fail());
         }
         if fate == CallFate::Stops {
-            let done = self.history.add(Call::StoppedCut(len));
+            let done = self.history.add(self.alloc, Call::StoppedCut(len));
             return Err(self.faults.stop(done));
         }
-        let done = self.history.add(Call::Cut(len));
+        let done = self.history.add(self.alloc, Call::Cut(len));
         self.faults.settle(done)
     }
 
@@ -360,7 +359,7 @@ impl Disk for MemDisk {
         if self.next_fate() != CallFate::Runs {
             return Err(self.faults.fail());
         }
-        let done = self.history.add(Call::Sync);
+        let done = self.history.add(self.alloc, Call::Sync);
         self.faults.settle(done)
     }
 }

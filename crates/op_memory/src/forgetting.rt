@@ -3,7 +3,6 @@ ghost use Rattle.op_memory.specs.Histories.{history_state};
 ghost use Rattle.op_memory.specs.Syncs.{HasNoSync};
 
 use crate::disk_history::DiskHistory;
-use crate::replay::replayed;
 use crate::syncs::last_sync;
 use std::alloc::AllocError;
 
@@ -15,16 +14,14 @@ impl DiskHistory {
         ensures state { IfOk result (λ new. history_state new ≡ history_state self) }
     {
         let DiskHistory {
-            start,
             mut calls,
+            mut replaced,
             bytes,
         } = self;
         let done = last_sync(&calls);
-        let pending = calls.split_off(done)?;
-        let start = replayed(start, &calls)?;
         Ok(DiskHistory {
-            start,
-            calls: pending,
+            calls: calls.split_off(done)?,
+            replaced: replaced.split_off(done)?,
             bytes,
         })
     }

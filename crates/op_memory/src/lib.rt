@@ -16,6 +16,7 @@ mod forgetting;
 mod laws;
 mod pends;
 mod power;
+mod replaced;
 mod replay;
 mod script_net;
 mod sink;

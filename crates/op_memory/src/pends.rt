@@ -6,7 +6,6 @@ ghost use Rattle.op_memory.specs.Syncs.{HasNoSync};
 
 use crate::call::Call;
 use crate::disk_history::DiskHistory;
-use crate::replay::replayed;
 use crate::syncs::last_sync;
 use std::alloc::{AllocError, Global};
 
@@ -49,8 +48,9 @@ impl DiskHistory {
     pub fn pends(&self, alloc: Global) -> Result<Pends, AllocError>
         ensures { IfOk result (IsPendsOf (history_state self.now).pending) }
     {
-        let (done, pending) = self.calls.as_slice().split_at(last_sync(&self.calls));
-        gather_all(alloc, replayed(self.start.to_vec(alloc)?, done)?, pending)
+        let synced = last_sync(&self.calls);
+        let (_, pending) = self.calls.as_slice().split_at(synced);
+        gather_all(alloc, self.content_at(alloc, synced)?, pending)
     }
 }
 

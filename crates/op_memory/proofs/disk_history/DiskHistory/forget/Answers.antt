@@ -1,15 +1,34 @@
-use Rattle.std.proofs.Common.{◌∙◌, refl}
-use Rattle.op_memory.proofs.Pending.{state_of-split, tied_split}
+use Rattle.std.proofs.Common.{◌≡◌, List, take, ap, ◌∙◌}
+use Rattle.op_memory.specs.declared.replaced.Replaced.{Replaced}
+use Rattle.op_memory.specs.Histories.{start_of}
+use Rattle.op_memory.specs.Images.{state_of, fresh}
+use Rattle.op_memory.specs.Undoing.{undone}
+use Rattle.op_memory.proofs.Pending.{state_of-split, state_of-first, tied_split}
+use Rattle.op_memory.proofs.Undoing.{undoes_from}
 use Rattle.op_memory.proofs.disk_history.DiskHistory.forget.Goals as goal
 
 pub returns-clause-state : goal.returns-clause-state
 returns-clause-state c =
-    state_of-split c.args.self.start.items c.args.self.start.items c.args.self.calls.items c.deref.result.now c.deref-2.result.now c.last_sync-done.result c.in_ok-start.start.items
-    c.deref.ensures.value refl c.last_sync-done.ensures.synced (c.deref-2.ensures.value ∙ c.in_ok-pending.ensures.items) c.in_ok-start.ensures c.in_ok-pending.pending.items c.in_ok-pending.ensures.tail
+    let h = c.args.self in
+    let k = c.last_sync-done.result in
+    let left = c.in_ok-split_off-2.field-0.items in
+    let base : undone left h.bytes.items ≡ (state_of (fresh (start_of h)) (take k h.calls.items)).content =
+    ap (λ (l : List Replaced). undone l h.bytes.items) c.in_ok-split_off-2.ensures.tail ∙ h.undoes.gives k in
+    state_of-split (start_of h) h.calls.items c.deref.result.now k (undone left h.bytes.items) c.deref.ensures.value c.last_sync-done.ensures.synced base
+    c.in_ok-split_off.field-0.items c.in_ok-split_off.ensures.tail
 
 pub invariant_of-result : goal.invariant_of-result
-invariant_of-result c = record {
-  tied =
-      tied_split c.args.self.start.items c.args.self.start.items c.args.self.calls.items c.deref.result.now c.deref-2.result.now c.last_sync-done.result c.in_ok-start.start.items
-      c.deref.ensures.value refl c.last_sync-done.ensures.synced (c.deref-2.ensures.value ∙ c.in_ok-pending.ensures.items) c.in_ok-start.ensures c.in_ok-pending.pending.items c.args.self.bytes.items c.in_ok-pending.ensures.tail c.args.self.tied;
-}
+invariant_of-result c =
+    let h = c.args.self in
+    let k = c.last_sync-done.result in
+    let rest = c.in_ok-split_off.field-0.items in
+    let left = c.in_ok-split_off-2.field-0.items in
+    let base : undone left h.bytes.items ≡ (state_of (fresh (start_of h)) (take k h.calls.items)).content =
+    ap (λ (l : List Replaced). undone l h.bytes.items) c.in_ok-split_off-2.ensures.tail ∙ h.undoes.gives k in
+    record {
+      undoes = undoes_from h.calls.items rest h.replaced.items left h.bytes.items k h.undoes c.in_ok-split_off.ensures.tail c.in_ok-split_off-2.ensures.tail
+          (λ n. state_of-first (start_of h) h.calls.items c.deref.result.now k (undone left h.bytes.items) c.deref.ensures.value c.last_sync-done.ensures.synced base rest n c.in_ok-split_off.ensures.tail);
+      tied =
+          tied_split (start_of h) h.calls.items c.deref.result.now k (undone left h.bytes.items) c.deref.ensures.value c.last_sync-done.ensures.synced base
+          rest h.bytes.items c.in_ok-split_off.ensures.tail h.tied;
+    }
