@@ -3,14 +3,14 @@ use Rattle.std.proofs.Common.{◌≡◌, ◌⊎◌, inl, inr, ⊎_elim, ◌<◌,
 use Rattle.std.specs.Prelude.{IfOk}
 use Rattle.op_outside.specs.Causes.{last_count}
 use Rattle.op_outside.specs.Pendings.{Pending, IsImage, synced}
-use Rattle.op_outside.specs.Disks.{DiskState, MayLeave, IsSound}
+use Rattle.op_outside.specs.Disks.{DiskState, MayLeave}
 use Rattle.op_outside.specs.Disks.Edit.{Nothing}
 use Rattle.op_outside.proofs.Runs.{now_torn}
 use Rattle.op_outside.proofs.Mixing.{mixed_image}
 use Rattle.op_memory.specs.MemDisks.{known_disk, PendAlike}
 use Rattle.op_memory.specs.declared.disk.MemDisk.{MemDisk}
 use Rattle.op_memory.proofs.Images.{sync_only}
-use Rattle.op_memory.proofs.Moments.{left_now, now_left, now_too}
+use Rattle.op_memory.proofs.Sound.{disk_is_sound}
 use Rattle.op_mirror.specs.declared.gone.Gone.{Gone}
 use Rattle.op_mirror.specs.declared.gone.Gone.TheVariants.{Neither, First, Second}
 use Rattle.op_mirror.specs.declared.mirror.Mirror.{Mirror}
@@ -31,16 +31,6 @@ use Rattle.op_areas.specs.declared.pair.DiskPair.{DiskPair}
 use Rattle.op_areas.specs.declared.seen.Seen.{Seen}
 
 -- ---- one disk
--- what holds of it at each moment
-memory_is_sound : (d : MemDisk) → IsSound (known_disk d)
-memory_is_sound d =
-    let h = d.history in
-    record {
-      image = now_left h.start.items h.calls.items h.bytes.items h.tied.image;
-      images = λ x. (left_now h.start.items h.calls.items x, now_left h.start.items h.calls.items x);
-      now_too = now_too h.start.items h.calls.items;
-    }
-
 still_alive : (b c : Bool) → (b ≡ true → c ≡ true) → c ≡ false → b ≡ false
 still_alive true c stays alive = let killed : c ≡ true = stays refl in absurd (cc)
 still_alive false c stays alive = refl
@@ -76,10 +66,10 @@ killed_pair c first second x held =
 
 -- ---- a mirror that is closed
 alike_image : (d e : MemDisk) (y : List ℕ) → PendAlike d e → MayLeave (known_disk e) y → IsImage (known_disk d).pending y
-alike_image d e y alike may = subst (λ (s : Pending). IsImage s y) (sym alike) (((memory_is_sound e).images y).0 may)
+alike_image d e y alike may = subst (λ (s : Pending). IsImage s y) (sym alike) (((disk_is_sound e).images y).0 may)
 
 alike_back : (d e : MemDisk) (y : List ℕ) → PendAlike d e → MayLeave (known_disk d) y → IsImage (known_disk e).pending y
-alike_back d e y alike may = subst (λ (s : Pending). IsImage s y) alike (((memory_is_sound d).images y).0 may)
+alike_back d e y alike may = subst (λ (s : Pending). IsImage s y) alike (((disk_is_sound d).images y).0 may)
 
 both_live : (gone : Gone) (is_dead : Bool) → living_of gone is_dead ≡ 2 → gone ≡ Neither
 both_live Neither d two = refl
@@ -92,14 +82,14 @@ read_image : (gone : Gone) (is_dead : Bool) (c : DiskPair) → AreAlike gone (kn
     → IsNoOther (living_of gone is_dead) (reads_second gone) c.first c.second
     → (y : List ℕ) → LeftOfPair c y → IsImage (read_copy gone (known_disk c.first) (known_disk c.second)).pending y
 read_image Neither d c alike other y left = ⊎_elim
-    (λ p. ((memory_is_sound c.first).images y).0 p.1)
+    (λ p. ((disk_is_sound c.first).images y).0 p.1)
     (λ p. alike_image c.first c.second y (alike refl tt tt).pending p.1)
     left
-read_image First d c alike other y (inr p) = ((memory_is_sound c.second).images y).0 p.1
+read_image First d c alike other y (inr p) = ((disk_is_sound c.second).images y).0 p.1
 read_image First d c alike (inl two) y (inl p) = let none : First ≡ Neither = both_live First d two in absurd (cc)
 read_image First d c alike (inr (inl killed)) y (inl p) = let alive : c.first.script.is_killed ≡ false = p.0 in absurd (cc)
 read_image First d c alike (inr (inr same)) y (inl p) = alike_back c.first c.second y same p.1
-read_image Second d c alike other y (inl p) = ((memory_is_sound c.first).images y).0 p.1
+read_image Second d c alike other y (inl p) = ((disk_is_sound c.first).images y).0 p.1
 read_image Second d c alike (inl two) y (inr p) = let none : Second ≡ Neither = both_live Second d two in absurd (cc)
 read_image Second d c alike (inr (inl killed)) y (inr p) = let alive : c.second.script.is_killed ≡ false = p.0 in absurd (cc)
 read_image Second d c alike (inr (inr same)) y (inr p) = alike_image c.first c.second y same p.1
@@ -108,7 +98,7 @@ closed_holds : (gone : Gone) (is_dead : Bool) (f k : ℕ) (counts : List ℕ) (c
     → IsNoOther (living_of gone is_dead) (reads_second gone) c.first c.second
     → HoldWhatIsLeft holds_pair (mirrored gone f k counts (known_disk c.first) (known_disk c.second)) c
 closed_holds gone is_dead f k counts c alike other x held =
-    let sound = mirror_is_sound (known_disk c.first) (known_disk c.second) (memory_is_sound c.first) (memory_is_sound c.second) tt tt gone f k counts alike in
+    let sound = mirror_is_sound (known_disk c.first) (known_disk c.second) (disk_is_sound c.first) (disk_is_sound c.second) tt tt gone f k counts alike in
     (sound.images x).1 (held (read_copy gone (known_disk c.first) (known_disk c.second)).pending (read_image gone is_dead c alike other))
 
 -- the same of a mirror that is taken apart
@@ -136,8 +126,8 @@ module _ (c : DiskPair) (a b : MemDisk) (leaves : LeavesBoth (known_disk c.first
   second_where false first alive x may = ⊎_elim
       (λ was. all x (inr (alive, was)))
       (λ mix. mixed_image s (known_disk c.first).content (known_disk c.second).content mix.0 x
-      (all (known_disk c.first).content (inl (first, (memory_is_sound c.first).image)))
-      (all (known_disk c.second).content (inr (alive, (memory_is_sound c.second).image)))
+      (all (known_disk c.first).content (inl (first, (disk_is_sound c.first).image)))
+      (all (known_disk c.second).content (inr (alive, (disk_is_sound c.second).image)))
       (all mix.0 (inr (alive, mix.1))) mix.2)
       ((leaves.second tt tt).now x may)
 
