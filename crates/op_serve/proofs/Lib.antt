@@ -3,3 +3,4 @@ pub mod Living
 pub mod Processes
 pub mod Endings
 pub mod Mirrors
+pub mod Between

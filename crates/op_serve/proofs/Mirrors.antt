@@ -9,6 +9,7 @@ use Rattle.op_outside.specs.Streams.{TakesAtMost}
 use Rattle.op_store.specs.Failing.{total}
 use Rattle.op_store.specs.Stored.{Disks, KeepBoth}
 use Rattle.op_store.proofs.KeptDisks.{keep_same, keep_both}
+use Rattle.op_mirror.specs.Crashes.{LeavesAllMixes}
 use Rattle.op_mirror.specs.Mirrors.{known_mirror}
 use Rattle.op_mirror.specs.Opens.{Opens, RefusedFor}
 use Rattle.op_mirror.specs.declared.mirror.Mirror.{Mirror}
@@ -142,16 +143,18 @@ module _ {D : Type 0} (disk : Ghosts D) where
         })
 
     -- both were opened
-    pub ends_open : (net1 : NetSeen) (clock1 : Option (List ℕ)) (out1 : StreamSeen) (a b c d : Mirror D disk) (x y u v : D) (s : Status) (lost : List Mark)
+    pub ends_open : (net1 : NetSeen) (clock1 : Option (List ℕ)) (out1 : StreamSeen) (a b c d : Mirror D disk) (x y u v : D) (handed : NodeDisks D) (s : Status) (lost : List Mark)
         → Opens disk.state disks.first disks.first_copy a → Opens disk.state disks.second disks.second_copy b
         → Ends (known_mirror disk.state) id o (around a b net0 clock0 out0) (around c d net1 clock1 out1) s lost
+        → handed ≡ record { first = x; second = u; first_copy = y; second_copy = v }
         → x ≡ c.first → y ≡ c.second → u ≡ d.first → v ≡ d.second
         → (0 < c.faults → HaveFailed disk c) → (0 < d.faults → HaveFailed disk d)
-        → EndsMirrored disk id o (environment disks net0 clock0 out0) (environment (record { first = x; second = u; first_copy = y; second_copy = v }) net1 clock1 out1) s lost
-    ends_open net1 clock1 out1 a b c d x y u v s lost at_a at_b e at_x at_y at_u at_v first_out second_out =
-        rw (at_x, at_y, at_u, at_v)
+        → LeavesAllMixes disk.state c → LeavesAllMixes disk.state d
+        → EndsMirrored disk id o (environment disks net0 clock0 out0) (environment handed net1 clock1 out1) s lost
+    ends_open net1 clock1 out1 a b c d x y u v handed s lost at_a at_b e at_disks at_x at_y at_u at_v first_out second_out first_mixes second_mixes =
+        rw (at_disks, at_x, at_y, at_u, at_v)
         (record {
-          ends = are_open a b c d at_a at_b e refl failed;
+          ends = are_open a b c d at_a at_b e (record { are = refl; first_mixes = first_mixes; second_mixes = second_mixes }) failed;
           kept = record {
             first = served_kept disks.first disks.first_copy a c at_a both.mark.0 both.model.0;
             second = served_kept disks.second disks.second_copy b d at_b both.mark.1 both.model.1;
@@ -162,14 +165,14 @@ module _ {D : Type 0} (disk : Ghosts D) where
         both : KeepBoth (disks_in (known_mirror disk.state) (around a b net0 clock0 out0)) (disks_in (known_mirror disk.state) (around c d net1 clock1 out1))
         both = ends_keep (known_mirror disk.state) id o _ _ s lost e
 
-        handed : NodeDisks D
-        handed = record { first = c.first; second = d.first; first_copy = c.second; second_copy = d.second }
+        copies : NodeDisks D
+        copies = record { first = c.first; second = d.first; first_copy = c.second; second_copy = d.second }
 
-        by : (0 < c.faults) ⊎ (0 < d.faults) → AreaFailed disk disks handed
+        by : (0 < c.faults) ⊎ (0 < d.faults) → AreaFailed disk disks copies
         by (inl lt) = inl (both_failed disks.first disks.first_copy a c at_a both.mark.0 (first_out lt))
         by (inr lt) = inr (both_failed disks.second disks.second_copy b d at_b both.mark.1 (second_out lt))
 
-        failed : 0 < total c.faults d.faults → AreaFailed disk disks handed
+        failed : 0 < total c.faults d.faults → AreaFailed disk disks copies
         failed lt = by (some_rose c.faults d.faults lt)
 
 -- ---- its settings

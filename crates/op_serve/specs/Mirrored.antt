@@ -5,9 +5,9 @@ use Rattle.op_outside.specs.declared.disk.Disk.{Ghosts}
 use Rattle.op_outside.specs.Seen.{NetSeen, StreamSeen}
 use Rattle.op_outside.specs.Streams.{TakesAtMost}
 use Rattle.op_store.specs.Stored.{Disks, Obey}
+use Rattle.op_mirror.specs.Crashes.{LeavesAllMixes}
 use Rattle.op_mirror.specs.Mirrors.{known_mirror}
 use Rattle.op_mirror.specs.Opens.{Opens, RefusedFor}
-use Rattle.op_mirror.specs.Starts.{HoldLeft}
 use Rattle.op_mirror.specs.declared.mirror.Mirror.{Mirror}
 use Rattle.op_mirror.specs.declared.opening.OpenCause.{OpenCause}
 use Rattle.op_mirror.specs.declared.opening.OpenCause.TheVariants as cause
@@ -70,10 +70,13 @@ module _ {D : Type 0} (disk : Ghosts D) where
       FaultsRose m.first_mark (disk.state m.first).faults
       × FaultsRose m.second_mark (disk.state m.second).faults
 
-  -- the disks are the copies of these mirrors
-  abbrev pub AreCopies : Mirror D disk → Mirror D disk → NodeDisks D → Type 0
-  AreCopies a b disks =
-      disks ≡ record { first = a.first; second = b.first; first_copy = a.second; second_copy = b.second }
+  -- The disks are the copies of these mirrors. While no copy of one is out, what mixes what a crash leaves of
+  -- its copies is what a crash may leave of it.
+  pub record AreCopies (a b : Mirror D disk) (disks : NodeDisks D) : Type 0 where
+    pub are : disks
+        ≡ record { first = a.first; second = b.first; first_copy = a.second; second_copy = b.second }
+    pub first_mixes : LeavesAllMixes disk.state a
+    pub second_mixes : LeavesAllMixes disk.state b
 
   -- each of the four disks is itself
   pub record AreKept (old new : NodeDisks D) : Type 0 where
@@ -81,11 +84,6 @@ module _ {D : Type 0} (disk : Ghosts D) where
         (disks_with disk.state new.first new.first_copy)
     pub second : KeepCopies (disks_with disk.state old.second old.second_copy)
         (disks_with disk.state new.second new.second_copy)
-
-  -- each area's two disks have what a crash may have left of its mirror, of which no copy was out
-  pub record HoldLeftOf (a b : Mirror D disk) (disks : NodeDisks D) : Type 0 where
-    pub first : HoldLeft disk.state a disks.first disks.first_copy
-    pub second : HoldLeft disk.state b disks.second disks.second_copy
 
   -- How a node over mirrors ends, and what it leaves: a's mirror was refused, and nothing else was called;
   -- b's was, and a's copies are as its opening left them; or both were opened, the node ends as any over two

@@ -1,7 +1,10 @@
 ghost use Rattle.std.specs.Prelude.{◌≡◌, ◌⊎◌, ℕ, List, true};
 ghost use Rattle.op_setup.specs.declared.config.Settings.{Settings};
+ghost use Rattle.op_outside.specs.Disks.{MayLeave};
+ghost use Rattle.op_mirror.specs.Crashes.{LeavesAllMixes};
 ghost use Rattle.op_mirror.specs.Mirrors.{known_mirror};
-ghost use Rattle.op_mirror.specs.Opens.{Opens};
+ghost use Rattle.op_mirror.specs.Opens.{LeavesBoth};
+ghost use Rattle.op_mirror.specs.declared.gone.Gone.{Gone};
 ghost use Rattle.op_mirror.specs.declared.mirror.Mirror.{Mirror};
 ghost use Rattle.op_store.specs.Stored.{HaveImages, disks_with};
 ghost use Rattle.op_serving.specs.declared.mark.Mark.{Mark};
@@ -10,11 +13,12 @@ ghost use Rattle.op_node.specs.Nodes.{NodeState};
 ghost use Rattle.op_cluster_laws.specs.Traces.{Lived, first_life, stands};
 ghost use Rattle.op_serve.specs.Lives.{IsFirst, IsNext, Leaves, MayFollow};
 ghost use Rattle.op_serve.specs.Processes.{Follow, Lasts, Process, events_of, events_then};
-ghost use Rattle.op_serve.specs.Mirrored.{HoldLeftOf};
+ghost use Rattle.op_serve.specs.Between.{AllObey, FailsAgain, HoldLeftOf, LeavesNext, OpensLeftOf};
+ghost use Rattle.op_serve.specs.Between.{PassesOn, StandAfter, StaysOut};
+ghost use Rattle.op_serve.specs.Mirrored.{EndsMirrored, Environment};
 ghost use Rattle.op_serve.specs.declared.node_disks.NodeDisks.{NodeDisks};
 ghost use Rattle.op_serve.specs.Nodes.{Around, Ends, IsOpened, KeepsStored, ObeyIn, disks_in, faults_of};
 
-use op_mirror::openings_keep_images;
 use op_outside::Disk;
 
 /// Where a life of a node left its disks, an opening of them, or of what a crash left of them, finds what the node had stored, or
@@ -47,12 +51,33 @@ pub fn processes_are_lives<D: Disk>()
         → Lasts (first_life members faulted id) (events_of D.state p (events_then D.state ps)) }
 {}
 
-/// Over four disks with what a crash left of the two mirrors of a node, of which no copy was out, the mirrors that are opened read what
-/// that crash may have left: so a process of a mirrored node that finds them follows the one before.
+/// From one process of a mirrored node to the next, where in each area one copy may have failed for good, in the process before, in
+/// an opening or between.
+///
+/// The mirrors that are opened read what a crash may have left of the mirrors before, so that the process over them follows the one
+/// before (`processes_are_lives`), and what a life left on those it left on these. What stands of two copies after an opening that was
+/// cut short, refused or done is left of the mirror before, too, and so any number of such starts may come. What stands of a mirror's
+/// copies, after a crash or not, is left of it; and a process that ends by itself leaves either.
 pub fn mirrors_follow<D: Disk>()
-    ensures { (a b c d : Mirror D D.Disk) (disks : NodeDisks D) → HoldLeftOf D.Disk a b disks
-        → Opens D.state disks.first disks.first_copy c → Opens D.state disks.second disks.second_copy d
+    ensures follow { (a b c d : Mirror D D.Disk) (first_out second_out : Gone) (disks : NodeDisks D)
+        → OpensLeftOf D.Disk first_out a disks.first disks.first_copy c
+        → OpensLeftOf D.Disk second_out b disks.second disks.second_copy d
         → MayFollow (disks_with (known_mirror D.state) a b) (disks_with (known_mirror D.state) c d) }
-{
-    openings_keep_images::<D>();
-}
+    ensures left { (l : Lived) (a b c d : Mirror D D.Disk) (first_out second_out : Gone) (disks : NodeDisks D)
+        → OpensLeftOf D.Disk first_out a disks.first disks.first_copy c
+        → OpensLeftOf D.Disk second_out b disks.second disks.second_copy d
+        → Leaves l (disks_with (known_mirror D.state) a b) → Leaves l (disks_with (known_mirror D.state) c d) }
+    ensures images { (m n : Mirror D D.Disk) (out : Gone) (first second : D) → OpensLeftOf D.Disk out m first second n
+        → MayLeave (known_mirror D.state n) (known_mirror D.state n).content }
+    ensures opened { (out next : Gone) (m : Mirror D D.Disk) (a b a' b' u v : D) → HoldLeftOf D.Disk out m a b
+        → FailsAgain out (D.state a) (D.state b) (D.state a') (D.state b')
+        → LeavesBoth (D.state a) (D.state b) (D.state a') (D.state b')
+        → StaysOut out next → StandAfter D.Disk next a b a' b' u v → HoldLeftOf D.Disk next m u v }
+    ensures uncalled { (out next : Gone) (m : Mirror D D.Disk) (a b u v : D) → HoldLeftOf D.Disk out m a b
+        → StaysOut out next → StandAfter D.Disk next a b a b u v → HoldLeftOf D.Disk next m u v }
+    ensures passes_on { (m : Mirror D D.Disk) → (known_mirror D.state m).obeys → LeavesAllMixes D.state m
+        → PassesOn D.Disk m }
+    ensures ends { (id : ℕ) (o : Settings) (old new : Environment D) (s : Status) (lost : List Mark)
+        → EndsMirrored D.Disk id o old new s lost → AllObey D.Disk old.disks
+        → LeavesNext D.Disk id o old new s lost }
+{}

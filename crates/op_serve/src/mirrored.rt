@@ -1,5 +1,6 @@
 //! A node over disks that may be mirrored.
 ghost use Rattle.std.specs.Prelude.{◌≡◌, ◌<◌};
+ghost use Rattle.op_mirror.specs.Crashes.{LeavesAllMixes};
 ghost use Rattle.op_serve.specs.Mirrored.{EndsAlone, EndsMirrored, EndsWith, HaveFailed, environment, status_of_cause};
 ghost use Rattle.op_serve.specs.Nodes.{IsNodeOf};
 
@@ -108,39 +109,21 @@ fn serve_mirrored<D: Disk, N: Net, C: Clock, K: Sink>(
     let first = match Mirror::open(alloc, first, first_copy) {
         Ok(mirror) => mirror,
         Err(refused) => {
-            let disks = NodeDisks {
-                first: refused.first,
-                second,
-                first_copy: refused.second,
-                second_copy,
-            };
+            let disks = NodeDisks::of_areas((refused.first, refused.second), (second, second_copy));
             return Ending::early(alloc, status_of_cause(refused.cause), disks);
         }
     };
     let second = match Mirror::open(alloc, second, second_copy) {
         Ok(mirror) => mirror,
         Err(refused) => {
-            let (first, first_copy) = copies_of(first);
-            let disks = NodeDisks {
-                first,
-                second: refused.first,
-                first_copy,
-                second_copy: refused.second,
-            };
+            let disks = NodeDisks::of_areas(copies_of(first), (refused.first, refused.second));
             return Ending::early(alloc, status_of_cause(refused.cause), disks);
         }
     };
     let ended = serve_on(alloc, id, settings, first, second, net, clock, out);
-    let (first, first_copy) = copies_of(ended.first);
-    let (second, second_copy) = copies_of(ended.second);
     Ending {
         status: ended.status,
-        disks: NodeDisks {
-            first,
-            second,
-            first_copy,
-            second_copy,
-        },
+        disks: NodeDisks::of_areas(copies_of(ended.first), copies_of(ended.second)),
         lost: ended.lost,
     }
 }
@@ -150,6 +133,7 @@ fn copies_of<D: Disk>(mirror: Mirror<D>) -> (D, D)
     ensures first { result.0 ≡ mirror.first }
     ensures second { result.1 ≡ mirror.second }
     ensures failed { 0 < mirror.faults → HaveFailed D.Disk mirror }
+    ensures mixes { LeavesAllMixes D.state mirror }
 {
     let _faults = mirror.faults();
     let (first, second, _) = mirror.apart();

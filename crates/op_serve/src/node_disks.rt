@@ -1,3 +1,5 @@
+ghost use Rattle.std.specs.Prelude.{◌≡◌};
+
 /// The disks of a node: one for each of its two areas, and one for the second copy of each, which only a mirrored node calls.
 #[derive(Drop)]
 pub struct NodeDisks<D> {
@@ -9,4 +11,21 @@ pub struct NodeDisks<D> {
     pub first_copy: D,
     /// The second area's second copy.
     pub second_copy: D,
+}
+
+impl<D> NodeDisks<D> {
+    /// The disks of these two areas, of each its first copy and its second.
+    pub(crate) fn of_areas(first: (D, D), second: (D, D)) -> NodeDisks<D>
+        ensures { result ≡
+            record { first = first.0; second = second.0; first_copy = first.1; second_copy = second.1 } }
+    {
+        let (first, first_copy) = first;
+        let (second, second_copy) = second;
+        NodeDisks {
+            first,
+            second,
+            first_copy,
+            second_copy,
+        }
+    }
 }
