@@ -18,9 +18,9 @@ use Rattle.op_serving.specs.declared.node.Given.{Given}
 use Rattle.op_serving.specs.declared.wanted.Wanted.{Wanted}
 use Rattle.op_serving.specs.declared.wanted.Wanted.TheVariants.{Commands, Stop, Trim, Read}
 use Rattle.op_serving.specs.Wire.{fits_peer, peer_frame, client_frame}
-use Rattle.op_serving.specs.State.{Table, find, changed, with_bytes, if_its, open_of, Key, Awaited, Loop, Askers, awaited_cmp, is_open, session_of, waits_for}
-use Rattle.op_serving.specs.Handing.{frame_at, said_at, goes_to, sent_behind, sent_at, sent, sent_all, frames_behind, frames_sent_at, frames_sent, forgotten, answered, replied, replied_all, frames_replied, handed_out, frames_handed, Told, said_each, refusal_of, said_of_refusal, said_of_outcome, said_of_read, said_at_once, said_of_denial, told, told_all, frames_told, asked_by_one, asked, waits_unless, waits_if_asked, keys_that_wait, is_read, proposed, frames_proposed, excused, frames_excused}
-use Rattle.op_serving.specs.Room.{Frame, has_room, count_at, goes_ahead, kept, placed, frames_placed, frame_of, without_first, first_moved, moved_in, moved, frames_moved_in, frames_moved}
+use Rattle.op_serving.specs.State.{Table, find, without, changed, with_bytes, if_its, open_of, Key, Awaited, Loop, Askers, awaited_cmp, is_open, session_of, waits_for}
+use Rattle.op_serving.specs.Handing.{frame_at, said_at, goes_to, made_way, sent_behind, sent_at, sent, sent_all, frames_behind, frames_sent_at, frames_sent, forgotten, answered, replied, replied_all, frames_replied, handed_out, frames_handed, Told, said_each, refusal_of, said_of_refusal, said_of_outcome, said_of_read, said_at_once, said_of_denial, told, told_all, frames_told, asked_by_one, asked, waits_unless, waits_if_asked, keys_that_wait, is_read, proposed, frames_proposed, excused, frames_excused}
+use Rattle.op_serving.specs.Room.{Frame, has_room, count_at, goes_ahead, kept, placed, frames_placed, frame_of, without_first, first_moved, moved_in, moved, frames_moved_in, frames_moved, begins_anew, cleared}
 use Rattle.op_serving.specs.declared.session.Session.{Session}
 use Rattle.std.proofs.lemmas.Bool.{cases_eq, cases_Bool}
 use Rattle.op_conns.proofs.Numbers.{is_at_one}
@@ -118,6 +118,10 @@ session_moved : (q c : ℕ) (s : Loop) → session_of q (moved c s) ≡ session_
 unfolding moved
 session_moved q c s = session_moved_in (count_at c s.behind) q c s
 
+session_cleared : (q : ℕ) (b : Bool) (c : ℕ) (s : Loop) → session_of q (cleared b c s) ≡ session_of q s
+session_cleared q true c s = refl
+session_cleared q false c s = refl
+
 -- what waits behind are such frames
 abbrev pub BehindAre : (Frame → Type 0) → Loop → Type 0
 BehindAre B s = Each B s.behind
@@ -138,6 +142,14 @@ less_behind B c [] h = tt
 less_behind B c (f ∷ fs) h = elim (cases_Bool (is_at (nat_cmp c) f.0)) [
   | inl g ↦ rw g h.1
   | inr g ↦ rw g (h.0, less_behind B c fs h.1)
+]
+
+-- and those that are left where a connection's make way
+left_behind : (B : Frame → Type 0) (c : ℕ) (t : Table (List ℕ)) → Each B t → Each B (without c t)
+left_behind B c [] h = tt
+left_behind B c (f ∷ fs) h = elim (cases_Bool (is_at (nat_cmp c) f.0)) [
+  | inl g ↦ rw g (left_behind B c fs h.1)
+  | inr g ↦ rw g (h.0, left_behind B c fs h.1)
 ]
 
 -- a frame that may wait behind may be said
@@ -218,23 +230,36 @@ module _ (P : Awaited → ℕ → Type 0) (R : ℕ → Type 0) (B G : Frame → 
   unfolding moved frames_moved
   hands_moved c s = hands_moved_in (count_at c s.behind) c s
 
+  -- what waits behind makes way
+  hands_cleared : (b : Bool) (c : ℕ) (s : Loop) → Hands s [] (cleared b c s)
+  hands_cleared true c s = record {
+    me_is = refl;
+    downs = refl;
+    askers = λ h. h;
+    peers = λ r. r;
+    behind = λ e r w. left_behind B c s.behind w;
+    frames = λ e h r w. tt;
+  }
+  hands_cleared false c s = hands_none s
+
   -- ---- messages
 
   -- they may be sent to a peer's connection, if the peer takes them
   abbrev pub MayBeSent : ℕ × Msg → Type 0
   MayBeSent m = (c : ℕ) → fits_peer me m.0 m.1 ≡ true → R c → B (c, peer_frame me m.0 m.1)
 
-  -- what waits behind moves up before it
+  -- what waits behind makes way for it, or moves up before it
   hands_sent_at : (o : Option ℕ) (m : ℕ × Msg) (s : Loop) → goes_to m s ≡ o → MayBeSent m → Hands s (frames_sent_at o m s) (sent_at o m s)
   hands_sent_at None m s e h = hands_none s
   hands_sent_at (Some c) m s e h =
-      let t : Loop = moved c s in
-      let a : Hands s (frames_moved c s) t = hands_moved c s in
+      let w : Loop = made_way c m.1 s in
+      let t : Loop = moved c w in
+      let a : Hands s (frames_moved c w) t = hands_then s w t [] (frames_moved c w) (hands_cleared (begins_anew m.1.body) c s) (hands_moved c w) in
       let own = goes_tells m s c e in
-      hands_then s t (sent_behind c m t) (frames_moved c s) (frames_behind c m t) a
+      hands_then s t (sent_behind c m t) (frames_moved c w) (frames_behind c m t) a
       (hands_placed (goes_ahead m.1 (find c t.sessions) (count_at c t.behind)) (c, peer_frame t.me m.0 m.1) t (λ is r.
       subst (λ k. B (c, peer_frame k m.0 m.1)) (sym is)
-      (h c (subst (λ k. fits_peer k m.0 m.1 ≡ true) (sym a.me_is ∙ is) own.0) (r m.0 c (session_moved m.0 c s ∙ own.1)))))
+      (h c (subst (λ k. fits_peer k m.0 m.1 ≡ true) (sym a.me_is ∙ is) own.0) (r m.0 c (session_moved m.0 c w ∙ session_cleared m.0 (begins_anew m.1.body) c s ∙ own.1)))))
 
   hands_sent : (ms : List (ℕ × Msg)) (s : Loop) → Each MayBeSent ms → Hands s (frames_sent ms s) (sent_all ms s)
   hands_sent [] s h = hands_none s

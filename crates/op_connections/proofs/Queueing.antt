@@ -13,8 +13,8 @@ use Rattle.op_serving.specs.declared.wanted.Wanted.{Wanted}
 use Rattle.op_serving.specs.Wire.{peer_frame, client_frame}
 use Rattle.op_serving.specs.State.{Awaited, Key, Loop, find, changed, is_open, with_bytes, waits_for}
 use Rattle.op_serving.specs.Losses.{most_marks}
-use Rattle.op_serving.specs.Handing.{frame_at, said_at, goes_to, sent_behind, sent_at, sent, sent_all, frames_behind, frames_sent_at, frames_sent, forgotten, answered, replied, replied_all, frames_replied, handed_out, frames_handed, Told, said_at_once, said_of_denial, told, told_all, frames_told, asked_by_one, asked, is_read, keys_that_wait, proposed, frames_proposed, excused, frames_excused}
-use Rattle.op_serving.specs.Room.{Frame, has_room, count_at, goes_ahead, kept, placed, frames_placed, frame_of, without_first, first_moved, moved_in, moved, frames_moved_in, frames_moved}
+use Rattle.op_serving.specs.Handing.{frame_at, said_at, goes_to, made_way, sent_behind, sent_at, sent, sent_all, frames_behind, frames_sent_at, frames_sent, forgotten, answered, replied, replied_all, frames_replied, handed_out, frames_handed, Told, said_at_once, said_of_denial, told, told_all, frames_told, asked_by_one, asked, is_read, keys_that_wait, proposed, frames_proposed, excused, frames_excused}
+use Rattle.op_serving.specs.Room.{Frame, has_room, count_at, goes_ahead, kept, placed, frames_placed, frame_of, without_first, first_moved, moved_in, moved, frames_moved_in, frames_moved, begins_anew, cleared}
 use Rattle.std.specs.Map.{keys_of}
 use Rattle.op_connections.proofs.Tables.{found_own, found_other, keys_changed}
 
@@ -142,6 +142,11 @@ queues_moved : (c d : ℕ) (s : Loop) → Queues c s (frames_moved d s) (moved d
 unfolding moved frames_moved
 queues_moved c d s = queues_moved_in (count_at d s.behind) c d s
 
+-- what waits behind makes way
+queues_cleared : (c : ℕ) (b : Bool) (d : ℕ) (s : Loop) → Queues c s [] (cleared b d s)
+queues_cleared c true d s = queues_none c s (cleared true d s) refl refl refl refl refl refl
+queues_cleared c false d s = queues_none c s s refl refl refl refl refl refl
+
 -- ---- whose what moves up is
 
 away_of : (c d : ℕ) (o : Option (List ℕ)) → (d ≡ c → ⊥) → bytes_for c (frame_of d o) ≡ []
@@ -175,8 +180,9 @@ away_moved c d s apart = away_moved_in (count_at d s.behind) c d s apart
 -- what is said at a session is all for its connection
 pub away_sent : (c d : ℕ) (m : ℕ × Msg) (s : Loop) → (d ≡ c → ⊥) → bytes_for c (frames_sent_at (Some d) m s) ≡ []
 away_sent c d m s apart =
-    let t : Loop = moved d s in
-    away_both c (frames_moved d s) (frames_behind d m t) (away_moved c d s apart)
+    let w : Loop = made_way d m.1 s in
+    let t : Loop = moved d w in
+    away_both c (frames_moved d w) (frames_behind d m t) (away_moved c d w apart)
     (away_placed c (goes_ahead m.1 (find d t.sessions) (count_at d t.behind)) (d, peer_frame t.me m.0 m.1) apart)
 
 -- ---- what is handed out
@@ -184,8 +190,10 @@ away_sent c d m s apart =
 queues_sent_at : (c : ℕ) (o : Option ℕ) (m : ℕ × Msg) (s : Loop) → Queues c s (frames_sent_at o m s) (sent_at o m s)
 queues_sent_at c None m s = queues_none c s s refl refl refl refl refl refl
 queues_sent_at c (Some d) m s =
-    let t : Loop = moved d s in
-    queues_then c s t (sent_behind d m t) (frames_moved d s) (frames_behind d m t) (queues_moved c d s)
+    let w : Loop = made_way d m.1 s in
+    let t : Loop = moved d w in
+    queues_then c s t (sent_behind d m t) (frames_moved d w) (frames_behind d m t)
+    (queues_then c s w t [] (frames_moved d w) (queues_cleared c (begins_anew m.1.body) d s) (queues_moved c d w))
     (queues_placed c (goes_ahead m.1 (find d t.sessions) (count_at d t.behind)) (d, peer_frame t.me m.0 m.1) t)
 
 queues_sent : (c : ℕ) (ms : List (ℕ × Msg)) (s : Loop) → Queues c s (frames_sent ms s) (sent_all ms s)

@@ -24,8 +24,8 @@ use Rattle.op_serving.specs.Fates.{Fate, done, finds, faults, damaged, lost, aft
 use Rattle.op_serving.specs.State.{Key, Awaited, Loop, awaited_cmp, find, is_conn, is_open, kind_at, left_at, left_by, counted}
 use Rattle.op_serving.specs.Wire.{peer_frame, client_frame}
 use Rattle.op_serving.specs.Losses.{most_marks, mark_at, noted, stopped_if, marked, lost_one, is_due, settle}
-use Rattle.op_serving.specs.Handing.{said_at, goes_to, sent_at, sent, sent_all, forgotten, answered, replied, replied_all, frame_at, frames_replied, handed_out, Told, said_at_once, said_of_denial, told, told_all, asked_by_one, asked, waits_if_asked, refusal_of, waits_unless, proposed, excused}
-use Rattle.op_serving.specs.Room.{Frame, has_room, count_at, goes_ahead, kept, placed, first_moved, moved_in, moved}
+use Rattle.op_serving.specs.Handing.{said_at, goes_to, made_way, sent_at, sent, sent_all, forgotten, answered, replied, replied_all, frame_at, frames_replied, handed_out, Told, said_at_once, said_of_denial, told, told_all, asked_by_one, asked, waits_if_asked, refusal_of, waits_unless, proposed, excused}
+use Rattle.op_serving.specs.Room.{Frame, has_room, count_at, goes_ahead, kept, placed, first_moved, moved_in, moved, begins_anew, cleared}
 use Rattle.op_serving.specs.Inputs.{State, Luck, asked_by, begins, calm, enter, entered_with, loop_after, next_fate, noting}
 use Rattle.op_serving.specs.Reading.{hello_len}
 use Rattle.op_serving.specs.Turns.{accepted, dialled, first_bytes, joined, joining, taken_by, up_at, up_peer}
@@ -118,6 +118,10 @@ nobody_moved : (c : ℕ) (s : Loop) → NobodyReads s → NobodyReads (moved c s
 unfolding moved
 nobody_moved c s h = nobody_moved_in (count_at c s.behind) c s h
 
+nobody_cleared : (b : Bool) (c : ℕ) (s : Loop) → NobodyReads s → NobodyReads (cleared b c s)
+nobody_cleared true c s h = h
+nobody_cleared false c s h = h
+
 nobody_kept : (b : Bool) (f : Frame) (s : Loop) → NobodyReads s → NobodyReads (kept b f s)
 nobody_kept true f s h = h
 nobody_kept false f s h = h
@@ -129,8 +133,10 @@ nobody_placed false f s h = nobody_kept (is_open f.0 s) f s h
 nobody_sent_at : (o : Option ℕ) (m : ℕ × Msg) (s : Loop) → NobodyReads s → NobodyReads (sent_at o m s)
 nobody_sent_at None m s h = h
 nobody_sent_at (Some c) m s h =
-    let t : Loop = moved c s in
-    nobody_placed (goes_ahead m.1 (find c t.sessions) (count_at c t.behind)) (c, peer_frame t.me m.0 m.1) t (nobody_moved c s h)
+    let w : Loop = made_way c m.1 s in
+    let t : Loop = moved c w in
+    nobody_placed (goes_ahead m.1 (find c t.sessions) (count_at c t.behind)) (c, peer_frame t.me m.0 m.1) t
+    (nobody_moved c w (nobody_cleared (begins_anew m.1.body) c s h))
 
 nobody_sent : (ms : List (ℕ × Msg)) (s : Loop) → NobodyReads s → NobodyReads (sent_all ms s)
 nobody_sent [] s h = h

@@ -12,12 +12,12 @@ use Rattle.op_serving.specs.State.{Table, Loop, find, without, is_open, kind_at,
 use Rattle.op_serving.specs.Losses.{most_marks, mark_at, noted, stopped_if, lost_by, lost_if_open, settled, Does}
 use Rattle.op_serving.specs.Counts.{most_inputs}
 use Rattle.op_serving.specs.Wire.{peer_frame}
-use Rattle.op_serving.specs.Room.{Frame, has_room, count_at, goes_ahead, kept, placed, without_first, first_moved, moved_in, moved}
-use Rattle.op_serving.specs.Handing.{sent_behind, sent_at}
+use Rattle.op_serving.specs.Room.{Frame, has_room, count_at, goes_ahead, kept, placed, without_first, first_moved, moved_in, moved, begins_anew, cleared}
+use Rattle.op_serving.specs.Handing.{made_way, sent_behind, sent_at}
 use Rattle.op_queues.proofs.Tables.{same_or_not, find_without, find_apart, without_short}
 use Rattle.op_queues.proofs.Sizes.{size_placed}
 use Rattle.op_queues.proofs.Counting.{most_same}
-use Rattle.op_queues.proofs.Settling.{Blind, found_lost, gone, not_found, blind_waits, closed_waits, blind_then, lost_me, queued_found, grew_still, stays_same, done_lost}
+use Rattle.op_queues.proofs.Settling.{Blind, found_lost, gone, not_found, blind_waits, closed_waits, blind_then, lost_me, queued_found, grew_still, stays_same, done_lost, does_nothing}
 
 -- ---- tables
 
@@ -443,11 +443,71 @@ pub moved_empty : (c : ℕ) (s : Loop) → find c s.behind ≡ None → moved c 
 unfolding moved
 moved_empty c s e = moved_none (count_at c s.behind) c s e
 
+-- ---- what makes way
+
+without_none : (c : ℕ) (t : Table (List ℕ)) → find c t ≡ None → without c t ≡ t
+without_none c [] e = refl
+without_none c (x ∷ t) e = elim (cases_Bool (is_at (nat_cmp c) x.0)) [
+  | inl g ↦ absurd (let bad = rw g at e in cc)
+  | inr g ↦ rw g (ap (λ r. x ∷ r) (without_none c t (rw g at e)))
+]
+
+without_either : (c d : ℕ) (t : Table (List ℕ)) → without d (without c t) ≡ without c (without d t)
+without_either c d [] = refl
+without_either c d (x ∷ t) = elim (cases_Bool (is_at (nat_cmp c) x.0)) [
+  | inl g ↦ elim (cases_Bool (is_at (nat_cmp d) x.0)) [
+    | inl h ↦ rw (g, h) (without_either c d t)
+    | inr h ↦ rw (g, h, g) (without_either c d t)
+  ]
+  | inr g ↦ elim (cases_Bool (is_at (nat_cmp d) x.0)) [
+    | inl h ↦ rw (g, h) (without_either c d t)
+    | inr h ↦ rw (g, h, g) (ap (λ r. x ∷ r) (without_either c d t))
+  ]
+]
+
+cleared_left : (c d : ℕ) (k : Option Kind) (s : Loop) → left_at d k (cleared true c s) ≡ cleared true c (left_at d k s)
+cleared_left c d None s = refl
+cleared_left c d (Some k) s = ap (λ r. record (left_at d (Some k) s) { behind = r }) (without_either c d s.behind)
+
+cleared_if : (c d : ℕ) (b : Bool) (s : Loop) → left_by d (stopped_if b (cleared true c s)) ≡ cleared true c (left_by d (stopped_if b s))
+cleared_if c d true s = cleared_left c d (kind_at d s) s
+cleared_if c d false s = refl
+
+pub blind_cleared : (b : Bool) (c : ℕ) → Blind (cleared b c)
+blind_cleared true c = record {
+  lost = λ s. refl;
+  place = λ s. refl;
+  opens = λ d s. refl;
+  past = λ d s. cleared_if c d (nat_lt (length s.lost + 1) most_marks) (noted (mark_at s.place (Some d)) s);
+}
+blind_cleared false c = record { lost = λ s. refl; place = λ s. refl; opens = λ d s. refl; past = λ d s. refl }
+
+-- it is done
+pub cleared_done : (b : Bool) (c : ℕ) (s t : Loop) → t ≡ cleared b c s → Does (λ ms x. settled ms (cleared b c x)) s t
+cleared_done true c s t e = rw e (record {
+  grew = grew_still refl refl;
+  ends = omega arith;
+  most = omega (arith, most_same s (cleared true c s) refl refl refl refl);
+  kinds = λ d. inl refl;
+  stays = stays_same refl;
+  is = λ marks h. refl;
+})
+cleared_done false c s t e = rw e (does_nothing (λ x. x) s refl)
+
+-- where none wait behind nothing is dropped
+cleared_none : (b : Bool) (c : ℕ) (s : Loop) → find c s.behind ≡ None → cleared b c s ≡ s
+cleared_none true c s e = ap (λ r. record s { behind = r }) (without_none c s.behind e)
+cleared_none false c s e = refl
+
 -- ---- a message that goes to a connection
 
+-- what is left moves up, and then the message
+pub blind_rest : (c : ℕ) (m : ℕ × Msg) → Blind (λ s. sent_behind c m (moved c s))
+blind_rest c m = blind_then (moved c) (sent_behind c m) (blind_moved c) (blind_behind c m)
+
 pub blind_at : (c : ℕ) (m : ℕ × Msg) → Blind (sent_at (Some c) m)
-blind_at c m = blind_then (moved c) (sent_behind c m) (blind_moved c) (blind_behind c m)
+blind_at c m = blind_then (made_way c m.1) (λ s. sent_behind c m (moved c s)) (blind_cleared (begins_anew m.1.body) c) (blind_rest c m)
 
 -- nothing comes of one that goes to a connection which was lost
 pub spoilt_at : (c : ℕ) (m : ℕ × Msg) (s : Loop) → Spoils c s → sent_at (Some c) m s ≡ s
-spoilt_at c m s k = ap (sent_behind c m) (moved_empty c s k.first) ∙ shut_placed (goes_ahead m.1 (find c s.sessions) (count_at c s.behind)) (c, peer_frame s.me m.0 m.1) s k.session
+spoilt_at c m s k = ap (λ x. sent_behind c m (moved c x)) (cleared_none (begins_anew m.1.body) c s k.first) ∙ ap (sent_behind c m) (moved_empty c s k.first) ∙ shut_placed (goes_ahead m.1 (find c s.sessions) (count_at c s.behind)) (c, peer_frame s.me m.0 m.1) s k.session

@@ -22,8 +22,8 @@ use Rattle.op_serving.specs.Cores.{Standing, gives, given_again}
 use Rattle.op_serving.specs.State.{Key, Table, Loop, find, is_open, changed_at, down_of, left_at, left_by, waits_for, counted}
 use Rattle.op_serving.specs.Wire.{peer_frame, client_frame}
 use Rattle.op_serving.specs.Losses.{most_marks, mark_at, noted, stopped_if, marked, lost_by, lost_one, is_due, settle, size}
-use Rattle.op_serving.specs.Room.{Frame, has_room, count_at, goes_ahead, kept, placed, without_first, first_moved, moved_in, moved}
-use Rattle.op_serving.specs.Handing.{said_at, goes_to, sent_at, sent, sent_all, forgotten, answered, replied, replied_all, handed_out, said_of_denial, said_at_once, Told, told_all, asked_by_one, asked, is_read, keys_that_wait, proposed, excused}
+use Rattle.op_serving.specs.Room.{Frame, has_room, count_at, goes_ahead, kept, placed, without_first, first_moved, moved_in, moved, begins_anew, cleared}
+use Rattle.op_serving.specs.Handing.{made_way, said_at, goes_to, sent_at, sent, sent_all, forgotten, answered, replied, replied_all, handed_out, said_of_denial, said_at_once, Told, told_all, asked_by_one, asked, is_read, keys_that_wait, proposed, excused}
 use Rattle.op_serving.specs.Inputs.{loop_after}
 use Rattle.op_serving.specs.Fates.{Fate, done, finds, faults, damaged, lost}
 use Rattle.op_queues.proofs.Tables.{without_less}
@@ -103,11 +103,16 @@ size_moved : (c : ℕ) (s : Loop) → size (moved c s) ≡ size s
 unfolding moved
 size_moved c s = size_moved_in (count_at c s.behind) c s
 
+pub size_cleared : (b : Bool) (c : ℕ) (s : Loop) → size (cleared b c s) ≡ size s
+size_cleared true c s = refl
+size_cleared false c s = refl
+
 size_sent_at : (o : Option ℕ) (m : ℕ × Msg) (s : Loop) → size (sent_at o m s) ≡ size s
 size_sent_at None m s = refl
 size_sent_at (Some c) m s =
-    let t : Loop = moved c s in
-    size_placed (goes_ahead m.1 (find c t.sessions) (count_at c t.behind)) (c, peer_frame t.me m.0 m.1) t ∙ size_moved c s
+    let w : Loop = made_way c m.1 s in
+    let t : Loop = moved c w in
+    size_placed (goes_ahead m.1 (find c t.sessions) (count_at c t.behind)) (c, peer_frame t.me m.0 m.1) t ∙ size_moved c w ∙ size_cleared (begins_anew m.1.body) c s
 
 pub size_sent : (m : ℕ × Msg) (s : Loop) → size (sent m s) ≡ size s
 size_sent m s = size_sent_at (goes_to m s) m s

@@ -15,7 +15,7 @@ use Rattle.op_serving.specs.declared.wanted.Wanted.TheVariants.{Commands, Stop, 
 use Rattle.op_serving.specs.declared.node.Given.{Given}
 use Rattle.op_serving.specs.Wire.{fits_peer, peer_frame, client_frame}
 use Rattle.op_serving.specs.State.{Key, Awaited, Loop, find, is_open, session_of, waits_for}
-use Rattle.op_serving.specs.Room.{Frame, count_at, goes_ahead, placed, frames_placed, moved, frames_moved}
+use Rattle.op_serving.specs.Room.{Frame, count_at, goes_ahead, placed, frames_placed, begins_anew, cleared, moved, frames_moved}
 
 abbrev pub frame_at : Option ℕ → List ℕ → List Frame
 frame_at None bytes = []
@@ -30,6 +30,10 @@ said_at (Some c) bytes s = waits_for c bytes s
 abbrev pub goes_to : ℕ × Msg → Loop → Option ℕ
 goes_to m s = if fits_peer s.me m.0 m.1 then session_of m.0 s else None
 
+-- what begins anew takes the place of all that waits behind at its session
+abbrev pub made_way : ℕ → Msg → Loop → Loop
+made_way c m s = cleared (begins_anew m.body) c s
+
 -- Before a message waits at a session, what waits behind there moves up, as far as there is room. A message
 -- that goes nowhere is lost.
 abbrev pub sent_behind : ℕ → ℕ × Msg → Loop → Loop
@@ -38,7 +42,7 @@ sent_behind c m s =
 
 abbrev pub sent_at : Option ℕ → ℕ × Msg → Loop → Loop
 sent_at None m s = s
-sent_at (Some c) m s = sent_behind c m (moved c s)
+sent_at (Some c) m s = sent_behind c m (moved c (made_way c m.1 s))
 
 abbrev pub sent : ℕ × Msg → Loop → Loop
 sent m s = sent_at (goes_to m s) m s
@@ -54,7 +58,8 @@ frames_behind c m s =
 
 abbrev pub frames_sent_at : Option ℕ → ℕ × Msg → Loop → List Frame
 frames_sent_at None m s = []
-frames_sent_at (Some c) m s = frames_moved c s ++ frames_behind c m (moved c s)
+frames_sent_at (Some c) m s =
+    frames_moved c (made_way c m.1 s) ++ frames_behind c m (moved c (made_way c m.1 s))
 
 abbrev pub frames_sent : List (ℕ × Msg) → Loop → List Frame
 frames_sent [] s = []

@@ -1,13 +1,14 @@
 -- Frames for which there is no room wait behind what waits for a connection, so that no more bytes wait there
--- than are soon taken. What is urgent goes ahead of them.
-use Rattle.std.specs.Prelude.{◌++◌, ◌∷◌, [], ℕ, zero, suc, Bool, true, false, List, length, ◌==◌, ◌&&◌, ◌||◌, nat_lt, nat_le, if◌then◌else◌, Option, Some, None}
+-- than are soon taken. What is urgent goes ahead of them, and what begins a new ballot takes their place.
+use Rattle.std.specs.Prelude.{◌++◌, ◌∷◌, [], ℕ, zero, suc, Bool, true, false, not, List, length, ◌==◌, ◌&&◌, ◌||◌, nat_lt, nat_le, if◌then◌else◌, Option, Some, None}
 use Rattle.std.specs.BTreeMap.{is_at}
 use Rattle.std.specs.Ordering.{nat_cmp}
+use Rattle.op_types.specs.Ballots.{is_same_ballot}
 use Rattle.op_types.specs.declared.messages.Body.{Body}
 use Rattle.op_types.specs.declared.messages.Body.TheVariants as body
 use Rattle.op_types.specs.declared.messages.Msg.{Msg}
 use Rattle.op_serving.specs.declared.session.Session.{Session}
-use Rattle.op_serving.specs.State.{Table, Loop, find, is_open, waits_for}
+use Rattle.op_serving.specs.State.{Table, Loop, find, without, is_open, waits_for}
 
 -- a frame for a connection
 abbrev pub Frame : Type 0
@@ -33,12 +34,15 @@ abbrev pub count_at : ℕ → Table (List ℕ) → ℕ
 count_at c [] = 0
 count_at c (f ∷ fs) = if is_at (nat_cmp c) f.0 then suc (count_at c fs) else count_at c fs
 
--- heartbeats tell who is there, and confirmations that a leader still leads: they are of no use late
+-- Heartbeats tell who is there, and confirmations that a leader still leads: they are of no use late. A wish
+-- to be prepared and news of a configuration may not be dropped, since nobody would ask for them again.
 abbrev pub is_urgent : Body → Bool
 is_urgent (body.HeartbeatRequest round) = true
 is_urgent (body.HeartbeatReply round b flag) = true
 is_urgent (body.Confirm n round) = true
 is_urgent (body.Confirmed n round) = true
+is_urgent body.PrepareReq = true
+is_urgent (body.NextConf members olds len trimmed) = true
 is_urgent _ = false
 
 -- A message goes ahead, where so many frames wait behind at a session: it is urgent, or there is room and it
@@ -62,6 +66,19 @@ placed false f s = kept (is_open f.0 s) f s
 abbrev pub frames_placed : Bool → Frame → List Frame
 frames_placed true f = f ∷ []
 frames_placed false f = []
+
+-- ---- what begins anew
+
+-- A ballot is prepared in which its leader has adopted no log yet: what was sent in ballots before is of no
+-- use any more, and all else that may wait behind is asked for again.
+abbrev pub begins_anew : Body → Bool
+begins_anew (body.Prepare n accepted len decided) = not (is_same_ballot accepted n)
+begins_anew _ = false
+
+-- what waits behind for a connection is dropped, if it is to be
+abbrev pub cleared : Bool → ℕ → Loop → Loop
+cleared true c s = record s { behind = without c s.behind }
+cleared false c s = s
 
 -- ---- what moves up
 

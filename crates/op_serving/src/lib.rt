@@ -1,6 +1,7 @@
 //! What serving a node is, in definitions, and the plain types that they speak of.
 #![tactic(auto)]
 
+mod anew;
 mod greeting;
 mod hearing;
 mod keys;
@@ -12,6 +13,7 @@ mod session;
 mod urgent;
 mod wanted;
 
+pub use anew::begins_anew;
 pub use greeting::{Greeting, HELLO_LEN, read_greeting};
 pub use hearing::Heard;
 pub use keys::{Awaited, Key, Keys};

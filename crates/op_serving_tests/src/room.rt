@@ -1,4 +1,5 @@
-//! Frames for a peer that takes none: they wait behind what waits for it, and heartbeats don't.
+//! Frames for a peer that takes none: they wait behind what waits for it, and heartbeats don't. A new ballot
+//! takes their place.
 use op_outside::Conn;
 use op_queues::Sessions;
 use op_serving::Kind;
@@ -19,6 +20,12 @@ const DECIDE: usize = 8 + 4 + 4 + 4 + 1 + 12 + 8;
 /// So many has a heartbeat's request: the same, and a round.
 const REQUEST: usize = 8 + 4 + 4 + 4 + 1 + 8;
 
+/// So many has a wish to be prepared: the same, and nothing more.
+const WISH: usize = 8 + 4 + 4 + 4 + 1;
+
+/// So many has a Prepare: the same, two ballots and two lengths.
+const PREPARE: usize = 8 + 4 + 4 + 4 + 1 + 12 + 12 + 8 + 8;
+
 /// So many of the first are needed until 2 MiB wait.
 const AHEAD: usize = 51_151;
 
@@ -34,29 +41,26 @@ fn with_peer(alloc: Global) -> Result<Sessions, NoMemory> {
     Ok(sessions)
 }
 
+/// The node's own ballot of this number.
+fn ballot(number: u64) -> Ballot {
+    Ballot { number, pid: 1 }
+}
+
+/// Sends the peer this.
+fn send(sessions: &mut Sessions, body: Body) {
+    sessions.send((PEER, Msg { conf: 1, body }));
+}
+
 /// Tells the peer so often how much is decided.
 fn tell(sessions: &mut Sessions, times: usize) {
-    let ballot = Ballot { number: 1, pid: 1 };
     for _ in 0..times {
-        sessions.send((
-            PEER,
-            Msg {
-                conf: 1,
-                body: Body::Decide(ballot, 1),
-            },
-        ));
+        send(sessions, Body::Decide(ballot(1), 1));
     }
 }
 
 /// Asks the peer for a heartbeat.
 fn ask(sessions: &mut Sessions) {
-    sessions.send((
-        PEER,
-        Msg {
-            conf: 1,
-            body: Body::HeartbeatRequest(1),
-        },
-    ));
+    send(sessions, Body::HeartbeatRequest(1));
 }
 
 /// How many bytes wait for the peer.
@@ -92,5 +96,40 @@ fn a_heartbeat_goes_before_what_waits_behind(rt: HostRuntime) -> Result<(), Fail
         )
     );
     assert!(rt; sessions.is_open(CONN));
+    Ok(())
+}
+
+/// Frames wait behind for the peer when this is sent. Gives how many bytes wait for it then, and how many move up
+/// with a heartbeat, once it took these.
+fn sent_then_moved(alloc: Global, body: Body) -> Result<(usize, usize), NoMemory> {
+    let mut sessions = with_peer(alloc)?;
+    tell(&mut sessions, AHEAD + BEHIND);
+    send(&mut sessions, body);
+    let sent = waiting(&sessions);
+    take_all(&mut sessions);
+    ask(&mut sessions);
+    Ok((sent, waiting(&sessions) - REQUEST))
+}
+
+#[test]
+fn a_new_ballot_takes_the_place_of_what_waits_behind(rt: HostRuntime) -> Result<(), Fail> {
+    let prepare = Body::Prepare(ballot(2), ballot(1), 1, 1);
+    let (sent, moved) = sent_then_moved(rt.alloc(), prepare)?;
+    assert_eq!(rt; (sent, moved), (AHEAD * DECIDE, PREPARE));
+    Ok(())
+}
+
+#[test]
+fn a_ballot_that_is_led_waits_its_turn(rt: HostRuntime) -> Result<(), Fail> {
+    let prepare = Body::Prepare(ballot(2), ballot(2), 1, 1);
+    let (sent, moved) = sent_then_moved(rt.alloc(), prepare)?;
+    assert_eq!(rt; (sent, moved), (AHEAD * DECIDE, BEHIND * DECIDE + PREPARE));
+    Ok(())
+}
+
+#[test]
+fn a_wish_to_be_prepared_goes_before_what_waits_behind(rt: HostRuntime) -> Result<(), Fail> {
+    let (sent, moved) = sent_then_moved(rt.alloc(), Body::PrepareReq)?;
+    assert_eq!(rt; (sent, moved), (AHEAD * DECIDE + WISH, BEHIND * DECIDE));
     Ok(())
 }

@@ -10,7 +10,7 @@ ghost use Rattle.op_serving.specs.State.{find, waits_for};
 ghost use Rattle.op_serving.specs.Room.{count_at, has_room, goes_ahead, kept, placed, without_first, moved};
 ghost use Rattle.op_serving.specs.Ranges.{KeyInRange, KeyAtInRange, WantedInRange, SendInRange, ReplyInRange as AnswerInRange};
 ghost use Rattle.op_serving.specs.Losses.{settled, Does};
-ghost use Rattle.op_serving.specs.Handing.{sent, sent_at, sent_all, forgotten, replied, replied_all, asked, asked_by_one, of_command, no_command, said_each, said_of_refusal, said_of_outcome, said_of_read, said_of_denial, told, told_all, waits_if_asked, waits_unless, proposed, excused};
+ghost use Rattle.op_serving.specs.Handing.{made_way, sent, sent_at, sent_all, forgotten, replied, replied_all, asked, asked_by_one, of_command, no_command, said_each, said_of_refusal, said_of_outcome, said_of_read, said_of_denial, told, told_all, waits_if_asked, waits_unless, proposed, excused};
 
 use super::Sessions;
 use crate::asked::{denied, of_command, of_no_command, refusal};
@@ -20,7 +20,7 @@ use crate::session_table::add;
 use crate::unsent::Unsent;
 use op_command::{ClientReply, Said};
 use op_outside::Conn;
-use op_serving::{Awaited, Key, MOST_BEHIND, Wanted, is_urgent};
+use op_serving::{Awaited, Key, MOST_BEHIND, Wanted, begins_anew, is_urgent};
 use op_types::{Msg, NoMemory, Outcome, Pid, Refusal, Replies, Reply, Sends};
 
 impl Sessions {
@@ -66,11 +66,13 @@ impl Sessions {
         put_message(&mut self.frame, self.me, message.0, &message.1)
     }
 
-    /// What waits behind for a connection moves up, as far as there is room, and then a message waits, too.
+    /// What waits behind for a connection makes way for a message that begins anew, or else moves up, as far as
+    /// there is room; then the message waits, too.
     fn send_fitting(&mut self, conn: Conn, message: (Pid, Msg))
         requires { SendInRange message }
         ensures { Does (λ marks s. settled marks (sent_at (Some conn) message s)) self.old self.new }
     {
+        self.make_way(conn, &message.1);
         self.move_up(conn);
         if self.goes_ahead(conn, &message.1) {
             self.put_ahead(conn, self.me, &message);
@@ -78,6 +80,15 @@ impl Sessions {
             drop(message);
         } else {
             self.put_behind(conn, message);
+        }
+    }
+
+    /// What waits behind for a connection is dropped for a message that begins anew.
+    fn make_way(&mut self, conn: Conn, message: &Msg)
+        ensures { self.new ≡ made_way conn message.now self.old }
+    {
+        if begins_anew(&message.body) {
+            self.behind.forget(conn);
         }
     }
 
