@@ -5,7 +5,7 @@
 
 use either::{Left, Right};
 use op_edge::{FileDisk, Input, MioNet, MonotonicClock, Output, Programs, words};
-use op_top::{NodeDisks, Status, session};
+use op_top::{Host, NodeDisks, Status, session};
 use std::env;
 use std::path::PathBuf;
 use std::process::ExitCode;
@@ -23,7 +23,6 @@ const SECOND_COPY: &str = "omni.d";
 fn main(rt: HostRuntime) -> ExitCode {
     let alloc = rt.alloc();
     let words = words(alloc, env::args(&rt));
-    let mut out = Output::new(Left(rt.stdout()));
     let mut err = Output::new(Right(rt.stderr()));
     let (Ok(first), Ok(second), Ok(first_copy), Ok(second_copy)) = (
         PathBuf::from_str(alloc, FIRST_DISK),
@@ -40,16 +39,14 @@ fn main(rt: HostRuntime) -> ExitCode {
         first_copy: FileDisk::new(&rt, first_copy),
         second_copy: FileDisk::new(&rt, second_copy),
     };
-    let ending = session(
-        alloc,
-        words,
-        disks,
-        &mut MioNet::new(&rt, alloc, MonotonicClock::new(&rt)),
-        &mut MonotonicClock::new(&rt),
-        &mut Input::new(rt.stdin()),
-        &mut out,
-        &mut err,
-        &mut Programs::new(&rt, env::current_exe(&rt)),
-    );
+    let mut host = Host {
+        net: MioNet::new(&rt, alloc, MonotonicClock::new(&rt)),
+        clock: MonotonicClock::new(&rt),
+        input: Input::new(rt.stdin()),
+        out: Output::new(Left(rt.stdout())),
+        err,
+        children: Programs::new(&rt, env::current_exe(&rt)),
+    };
+    let ending = session(alloc, words, disks, &mut host);
     ExitCode::from(ending.status.code())
 }

@@ -2,9 +2,11 @@
 #![tactic(auto)]
 
 mod clusters;
+mod host;
 mod sessions;
 mod top;
 
+pub use host::Host;
 pub use op_serve::{Ending, NodeDisks};
 pub use op_status::Status;
 pub use sessions::session;
