@@ -41,26 +41,65 @@ fn with_peer(alloc: Global) -> Result<Sessions, NoMemory> {
     Ok(sessions)
 }
 
-/// The node's own ballot of this number.
-fn ballot(number: u64) -> Ballot {
-    Ballot { number, pid: 1 }
-}
-
-/// Sends the peer this.
-fn send(sessions: &mut Sessions, body: Body) {
-    sessions.send((PEER, Msg { conf: 1, body }));
-}
-
 /// Tells the peer so often how much is decided.
 fn tell(sessions: &mut Sessions, times: usize) {
+    let ballot = Ballot { number: 1, pid: 1 };
     for _ in 0..times {
-        send(sessions, Body::Decide(ballot(1), 1));
+        sessions.send((
+            PEER,
+            Msg {
+                conf: 1,
+                body: Body::Decide(ballot, 1),
+            },
+        ));
     }
 }
 
 /// Asks the peer for a heartbeat.
 fn ask(sessions: &mut Sessions) {
-    send(sessions, Body::HeartbeatRequest(1));
+    sessions.send((
+        PEER,
+        Msg {
+            conf: 1,
+            body: Body::HeartbeatRequest(1),
+        },
+    ));
+}
+
+/// Asks the peer for a promise of a new ballot: the log was accepted in another.
+fn prepare_anew(sessions: &mut Sessions) {
+    let ballot = Ballot { number: 2, pid: 1 };
+    let accepted = Ballot { number: 1, pid: 1 };
+    sessions.send((
+        PEER,
+        Msg {
+            conf: 1,
+            body: Body::Prepare(ballot, accepted, 1, 1),
+        },
+    ));
+}
+
+/// Asks the peer for a promise of a ballot that is led: the log was accepted in it.
+fn prepare_again(sessions: &mut Sessions) {
+    let ballot = Ballot { number: 2, pid: 1 };
+    sessions.send((
+        PEER,
+        Msg {
+            conf: 1,
+            body: Body::Prepare(ballot, ballot, 1, 1),
+        },
+    ));
+}
+
+/// Asks the peer to be prepared.
+fn wish(sessions: &mut Sessions) {
+    sessions.send((
+        PEER,
+        Msg {
+            conf: 1,
+            body: Body::PrepareReq,
+        },
+    ));
 }
 
 /// How many bytes wait for the peer.
@@ -99,37 +138,53 @@ fn a_heartbeat_goes_before_what_waits_behind(rt: HostRuntime) -> Result<(), Fail
     Ok(())
 }
 
-/// Frames wait behind for the peer when this is sent. Gives how many bytes wait for it then, and how many move up
-/// with a heartbeat, once it took these.
-fn sent_then_moved(alloc: Global, body: Body) -> Result<(usize, usize), NoMemory> {
+/// A node with a session of its peer, for which frames wait behind.
+fn with_frames_behind(alloc: Global) -> Result<Sessions, NoMemory> {
     let mut sessions = with_peer(alloc)?;
     tell(&mut sessions, AHEAD + BEHIND);
-    send(&mut sessions, body);
-    let sent = waiting(&sessions);
-    take_all(&mut sessions);
-    ask(&mut sessions);
-    Ok((sent, waiting(&sessions) - REQUEST))
+    Ok(sessions)
+}
+
+/// The peer takes all that waits for it, and is asked for a heartbeat: what moves up goes before that. Gives how many
+/// bytes wait then.
+fn move_up(sessions: &mut Sessions) -> usize {
+    take_all(sessions);
+    ask(sessions);
+    waiting(sessions)
 }
 
 #[test]
 fn a_new_ballot_takes_the_place_of_what_waits_behind(rt: HostRuntime) -> Result<(), Fail> {
-    let prepare = Body::Prepare(ballot(2), ballot(1), 1, 1);
-    let (sent, moved) = sent_then_moved(rt.alloc(), prepare)?;
-    assert_eq!(rt; (sent, moved), (AHEAD * DECIDE, PREPARE));
+    let mut sessions = with_frames_behind(rt.alloc())?;
+    prepare_anew(&mut sessions);
+    let sent = waiting(&sessions);
+    let moved = move_up(&mut sessions);
+    assert_eq!(rt; (sent, moved), (AHEAD * DECIDE, PREPARE + REQUEST));
     Ok(())
 }
 
 #[test]
 fn a_ballot_that_is_led_waits_its_turn(rt: HostRuntime) -> Result<(), Fail> {
-    let prepare = Body::Prepare(ballot(2), ballot(2), 1, 1);
-    let (sent, moved) = sent_then_moved(rt.alloc(), prepare)?;
-    assert_eq!(rt; (sent, moved), (AHEAD * DECIDE, BEHIND * DECIDE + PREPARE));
+    let mut sessions = with_frames_behind(rt.alloc())?;
+    prepare_again(&mut sessions);
+    let sent = waiting(&sessions);
+    let moved = move_up(&mut sessions);
+    assert_eq!(rt;
+        (sent, moved),
+        (AHEAD * DECIDE, BEHIND * DECIDE + PREPARE + REQUEST)
+    );
     Ok(())
 }
 
 #[test]
 fn a_wish_to_be_prepared_goes_before_what_waits_behind(rt: HostRuntime) -> Result<(), Fail> {
-    let (sent, moved) = sent_then_moved(rt.alloc(), Body::PrepareReq)?;
-    assert_eq!(rt; (sent, moved), (AHEAD * DECIDE + WISH, BEHIND * DECIDE));
+    let mut sessions = with_frames_behind(rt.alloc())?;
+    wish(&mut sessions);
+    let sent = waiting(&sessions);
+    let moved = move_up(&mut sessions);
+    assert_eq!(rt;
+        (sent, moved),
+        (AHEAD * DECIDE + WISH, BEHIND * DECIDE + REQUEST)
+    );
     Ok(())
 }
