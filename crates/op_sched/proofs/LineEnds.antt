@@ -1,9 +1,10 @@
 -- A text begins with the line that ends at its first LF.
-use Rattle.std.proofs.Common.{◌≡◌, ℕ, ◌+◌, ◌<◌, ◌≤◌, Bool, cond, eqb, ltb, Option, Some, None, List, [], ◌∷◌, length, take, drop, refl, ap, ◌∙◌, arith}
+use Rattle.std.proofs.Common.{◌≡◌, ℕ, ◌+◌, ◌<◌, ◌≤◌, Bool, true, false, cond, eqb, ltb, Option, Some, None, List, [], ◌∷◌, length, take, drop, refl, ap, ◌∙◌, arith}
 use Rattle.std.proofs.lemmas.Bool.Decides.{nat_tests}
 use Rattle.std.proofs.lemmas.List.Splits.{slice_split_none, slice_split_first, length-slice_split}
-use Rattle.std.proofs.lemmas.List.Sums.{fails_before_first}
+use Rattle.std.proofs.lemmas.List.Sums.{fails_before_first, position_or_len_is}
 use Rattle.std.specs.List.{slice_split, position_or_len}
+use Rattle.memchr.specs.Find.{IsFirstByte, is_byte}
 use Rattle.op_sched.specs.Grammar.{line_feed, lines_of, without_empty_end}
 
 abbrev is_end : ℕ → Bool
@@ -18,6 +19,23 @@ none_from at len e = grind (arith, nat_tests)
 
 some_from : (at len end : ℕ) → cond (ltb at len) (Some at) None ≡ Some end → (at ≡ end) × (end < len)
 some_from at len end e = grind (arith, nat_tests)
+
+not_true : (b : Bool) → (b ≡ true → ⊥) → b ≡ false
+not_true true never = absurd (never refl)
+not_true false never = refl
+
+none_at : (at len : ℕ) → at ≡ len → None ≡ cond (ltb at len) (Some at) None
+none_at at len e = grind (arith, nat_tests)
+
+some_at : (at len end : ℕ) → at ≡ end → end < len → Some end ≡ cond (ltb at len) (Some at) None
+some_at at len end e small = grind (arith, nat_tests)
+
+-- where the first LF is found
+pub line_end_found : (text : List ℕ) (found : Option ℕ) → IsFirstByte (is_byte line_feed) text found → found ≡ line_end text
+line_end_found text None none =
+    none_at _ _ (position_or_len_is is_end text (length text) 0 (omega arith) (λ k lt. not_true _ (none k (omega arith) lt)) (λ lt. absurd (omega (arith, lt))))
+line_end_found text (Some end) found =
+    some_at _ _ end (position_or_len_is is_end text end 0 (omega (arith, found.0.high)) (λ k lt. not_true _ (found.0.before k (omega arith) lt)) (λ lt. found.1)) found.0.high
 
 without_empty_end-cons : (part : List ℕ) (parts : List (List ℕ)) → 0 < length parts → without_empty_end (part ∷ parts) ≡ part ∷ without_empty_end parts
 without_empty_end-cons part [] some = absurd (omega arith)

@@ -292,9 +292,9 @@ fn command(alloc: Global, form: OpForm, words: &[&[u8]]) -> Result<Option<What>,
     let Some(op) = operation(alloc, form, words)? else {
         return Ok(None);
     };
-    let mut commands = Commands::new(alloc);
+    let mut commands = Vec::with_capacity(alloc, 1)?;
     commands.push(Command { client, seq, op })?;
-    Ok(Some(What::Commands(id, commands)))
+    Ok(Some(What::Commands(id, Commands::from_vec(commands))))
 }
 
 /// The forms of an event's line, each with a name of its own.

@@ -2,6 +2,8 @@
 ghost use Rattle.std.specs.Prelude.{◌≡◌, ◌+◌, ◌≤◌, ◌<◌, ◌^◌, [], ◌∷◌, length, IfOk, IfErr, IfSome, IfNone};
 ghost use Rattle.op_sched.specs.Grammar.{is_skipped, lines_of, numbered_lines};
 
+use memchr::memchr;
+
 /// The first line of a text, and the text after it.
 fn next_line(text: &[u8]) -> Option<(&[u8], &[u8])>
     ensures found { IfSome result (λ x. lines_of text.now ≡ x.0.now ∷ lines_of x.1.now) }
@@ -11,7 +13,7 @@ fn next_line(text: &[u8]) -> Option<(&[u8], &[u8])>
     if text.is_empty() {
         return None;
     }
-    let Some(end) = text.iter().position(|b| *b == b'\n') else {
+    let Some(end) = memchr(b'\n', text) else {
         return Some((text, &[]));
     };
     Some((&text[..end], &text[end + 1..]))
