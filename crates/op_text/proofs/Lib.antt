@@ -4,3 +4,4 @@ pub mod DecodedBytes
 pub mod FoundAlike
 pub mod Operations
 pub mod Rests
+pub mod Digits

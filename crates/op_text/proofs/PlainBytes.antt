@@ -1,21 +1,21 @@
--- Bytes that stand for themselves are ASCII, and their own encoding.
+-- Bytes that stand for themselves are their own encoding.
 use Rattle.std.proofs.Common.{◌≡◌, ℕ, ◌<◌, true, false, eqb, List, [], ◌∷◌, ◌++◌, refl, ap, ◌∙◌, arith, length}
 use Rattle.std.proofs.lemmas.Bool.{and_parts}
 use Rattle.std.proofs.lemmas.Bool.Decides.{nat_tests}
-use Rattle.std.proofs.lemmas.Str.Ascii.{IsAscii-nil, IsAscii-cons}
+use Rattle.std.proofs.lemmas.List.Elements.{All-nil, All-cons}
 use Rattle.std.specs.List.{flat_map, list_all}
-use Rattle.std.specs.Str.{IsAscii}
-use Rattle.op_text.specs.Percent.{is_plain, encoded, encoded_byte}
+use Rattle.op_text.specs.Percent.{AreBytes, AreEncoded, is_plain, encoded, encoded_byte}
+use Rattle.op_text.proofs.UnambiguousEncoding.{IsByte}
 
 plain_below : (b : ℕ) → is_plain b ≡ true → b < 128
 plain_below b h = grind (arith, nat_tests)
 
--- plain bytes are ASCII
-pub ascii_plain : (bytes : List ℕ) → list_all is_plain bytes ≡ true → IsAscii bytes
-ascii_plain [] h = IsAscii-nil
-ascii_plain (b ∷ bytes) h =
+-- plain bytes are bytes
+plain_small : (bytes : List ℕ) → list_all is_plain bytes ≡ true → AreBytes bytes
+plain_small [] h = All-nil IsByte
+plain_small (b ∷ bytes) h =
     let parts = and_parts (is_plain b) (list_all is_plain bytes) h in
-    IsAscii-cons b bytes (plain_below b parts.0) (ascii_plain bytes parts.1)
+    All-cons IsByte b bytes (omega (arith, plain_below b parts.0)) (plain_small bytes parts.1)
 
 encoded_byte-plain : (b : ℕ) → is_plain b ≡ true → encoded_byte b ≡ b ∷ []
 encoded_byte-plain b h = rw h refl
@@ -31,3 +31,7 @@ flat_map-plain (b ∷ bytes) h =
 pub encoded_plain : (bytes : List ℕ) → eqb (length bytes) 0 ≡ false → list_all is_plain bytes ≡ true → encoded bytes ≡ bytes
 encoded_plain [] some h = cc
 encoded_plain (b ∷ bytes) some h = flat_map-plain (b ∷ bytes) h
+
+-- a word of plain bytes is their encodings, one after the other
+pub plain_encoded : (word : List ℕ) → list_all is_plain word ≡ true → AreEncoded word word
+plain_encoded word h = (plain_small word h, flat_map-plain word h)

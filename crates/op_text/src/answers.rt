@@ -1,78 +1,74 @@
 //! What proposals and commands were answered, as text.
-ghost use Rattle.std.specs.Prelude.{Some};
+ghost use Rattle.std.specs.Prelude.{◌≡◌, ◌++◌, OnOk};
 ghost use Rattle.op_text.specs.Answers.{answer_text, cause_text, outcome_text, refusal_text};
 
-use crate::ballot::BallotText;
-use crate::percent::Encoded;
-use op_types::{Answer, Cause, Outcome, Refusal};
-use std::fmt;
+use crate::ballot::put_ballot;
+use crate::percent::put_encoded;
+use crate::put::{put_named, put_number, put_spaced};
+use op_types::{Answer, Cause, NoMemory, Outcome, Refusal};
 
-/// What a proposal was answered.
-#[derive(Clone, Copy)]
-pub struct OutcomeText(pub Outcome);
-
-impl fmt::Display for OutcomeText {
-    ghost output = { λ o. Some (outcome_text o.0) };
-
-    fn fmt<W: fmt::Write>(&self, f: &mut fmt::Formatter<W>) -> fmt::Result {
-        match self.0 {
-            Outcome::Appended(conf, pos) => write!(f, "appended {conf} {pos}"),
-            Outcome::Buffered => f.write_str("buffered"),
-            Outcome::Forwarded(pid) => write!(f, "forwarded {pid}"),
-            Outcome::Asked => f.write_str("asked"),
-            Outcome::NotLeading => f.write_str("notleading"),
-            Outcome::Refused(cause) => write!(f, "refused {}", RefusalText(cause)),
+/// Appends what a proposal was answered.
+pub fn put_outcome(text: &mut Vec<u8>, outcome: &Outcome) -> Result<(), NoMemory>
+    ensures { OnOk result (text.new.items ≡ text.old.items ++ outcome_text outcome.now) }
+{
+    match outcome {
+        Outcome::Appended(conf, pos) => {
+            text.extend_from_slice(b"appended ")?;
+            put_spaced(text, u64::from(*conf))?;
+            put_number(text, *pos)
+        }
+        Outcome::Buffered => text.extend_from_slice(b"buffered"),
+        Outcome::Forwarded(pid) => put_named(text, b"forwarded ", u64::from(*pid)),
+        Outcome::Asked => text.extend_from_slice(b"asked"),
+        Outcome::NotLeading => text.extend_from_slice(b"notleading"),
+        Outcome::Refused(cause) => {
+            text.extend_from_slice(b"refused ")?;
+            put_refusal(text, cause)
         }
     }
 }
 
-/// Why a proposal was refused.
-#[derive(Clone, Copy)]
-struct RefusalText(Refusal);
+/// Appends why a proposal was refused.
+fn put_refusal(text: &mut Vec<u8>, refusal: &Refusal) -> Result<(), NoMemory>
+    ensures { OnOk result (text.new.items ≡ text.old.items ++ refusal_text refusal.now) }
+{
+    match refusal {
+        Refusal::StorageFailed { count } => put_named(text, b"storage ", *count),
+        Refusal::PendingStop { pos } => put_named(text, b"pending ", *pos),
+        Refusal::NoLeader => text.extend_from_slice(b"noleader"),
+        Refusal::PositionsEnd => text.extend_from_slice(b"end"),
+    }
+}
 
-impl fmt::Display for RefusalText {
-    ghost output = { λ r. Some (refusal_text r.0) };
-
-    fn fmt<W: fmt::Write>(&self, f: &mut fmt::Formatter<W>) -> fmt::Result {
-        match self.0 {
-            Refusal::StorageFailed { count } => write!(f, "storage {count}"),
-            Refusal::PendingStop { pos } => write!(f, "pending {pos}"),
-            Refusal::NoLeader => f.write_str("noleader"),
-            Refusal::PositionsEnd => f.write_str("end"),
+/// Appends what a command was answered.
+pub fn put_answer(text: &mut Vec<u8>, answer: &Answer) -> Result<(), NoMemory>
+    ensures { OnOk result (text.new.items ≡ text.old.items ++ answer_text answer.now) }
+{
+    match answer {
+        Answer::Done => text.extend_from_slice(b"done"),
+        Answer::Value(value) => {
+            text.extend_from_slice(b"value ")?;
+            put_encoded(text, value.as_slice())
+        }
+        Answer::Absent => text.extend_from_slice(b"absent"),
+        Answer::Stale => text.extend_from_slice(b"stale"),
+        Answer::Dropped(cause) => {
+            text.extend_from_slice(b"dropped ")?;
+            put_cause(text, cause)
         }
     }
 }
 
-/// What a command was answered.
-#[derive(Clone, Copy)]
-pub struct AnswerText<'a>(pub &'a Answer);
-
-impl fmt::Display for AnswerText<'_> {
-    ghost output = { λ a. Some (answer_text a.0.now) };
-
-    fn fmt<W: fmt::Write>(&self, f: &mut fmt::Formatter<W>) -> fmt::Result {
-        match self.0 {
-            Answer::Done => f.write_str("done"),
-            Answer::Value(value) => write!(f, "value {}", Encoded(value.as_slice())),
-            Answer::Absent => f.write_str("absent"),
-            Answer::Stale => f.write_str("stale"),
-            Answer::Dropped(cause) => write!(f, "dropped {}", CauseText(*cause)),
+/// Appends why a buffered proposal was given up.
+pub fn put_cause(text: &mut Vec<u8>, cause: &Cause) -> Result<(), NoMemory>
+    ensures { OnOk result (text.new.items ≡ text.old.items ++ cause_text cause.now) }
+{
+    match cause {
+        Cause::Ballot(ballot) => {
+            text.extend_from_slice(b"ballot ")?;
+            put_ballot(text, ballot)
         }
-    }
-}
-
-/// Why a buffered proposal was given up.
-#[derive(Clone, Copy)]
-pub struct CauseText(pub Cause);
-
-impl fmt::Display for CauseText {
-    ghost output = { λ c. Some (cause_text c.0) };
-
-    fn fmt<W: fmt::Write>(&self, f: &mut fmt::Formatter<W>) -> fmt::Result {
-        match self.0 {
-            Cause::Ballot(ballot) => write!(f, "ballot {}", BallotText(ballot)),
-            Cause::Stop(pos) => write!(f, "stop {pos}"),
-            Cause::End => f.write_str("end"),
-        }
+        Cause::Stop(pos) => put_named(text, b"stop ", *pos),
+        Cause::End => text.extend_from_slice(b"end"),
     }
 }

@@ -1,18 +1,14 @@
 //! Ballots, as text.
-ghost use Rattle.std.specs.Prelude.{Some};
+ghost use Rattle.std.specs.Prelude.{◌≡◌, ◌++◌, OnOk};
 ghost use Rattle.op_text.specs.Answers.{ballot_text};
 
-use op_types::Ballot;
-use std::fmt;
+use crate::put::{put_number, put_spaced};
+use op_types::{Ballot, NoMemory};
 
-/// A ballot: its number, and its owner.
-#[derive(Clone, Copy)]
-pub struct BallotText(pub Ballot);
-
-impl fmt::Display for BallotText {
-    ghost output = { λ b. Some (ballot_text b.0) };
-
-    fn fmt<W: fmt::Write>(&self, f: &mut fmt::Formatter<W>) -> fmt::Result {
-        write!(f, "{} {}", self.0.number, self.0.pid)
-    }
+/// Appends a ballot: its number, and its owner.
+pub fn put_ballot(text: &mut Vec<u8>, ballot: &Ballot) -> Result<(), NoMemory>
+    ensures { OnOk result (text.new.items ≡ text.old.items ++ ballot_text ballot.now) }
+{
+    put_spaced(text, ballot.number)?;
+    put_number(text, u64::from(ballot.pid))
 }

@@ -5,7 +5,7 @@ ghost use Rattle.op_types.specs.Ranges.{IsKey, IsValue};
 ghost use Rattle.op_text.specs.Found.{IsFound};
 ghost use Rattle.op_text.specs.Percent.{AreEncoded, BeginsEncoded, BeginsEscaped, CountsEncoded, EncodesCount, IsEncoded, IsEncodedWithin};
 
-use crate::percent::is_plain;
+use crate::percent::{all_plain, is_plain};
 use op_types::{Blob, MOST_KEY_BYTES, MOST_VALUE_BYTES, NoMemory};
 use std::alloc::Global;
 
@@ -55,6 +55,9 @@ fn first_byte(word: &[u8]) -> Option<(u8, &[u8])>
 fn all_bytes(alloc: Global, word: &[u8]) -> Result<Option<Blob>, NoMemory>
     ensures { IfOk result (IsFound (AreEncoded word.now)) }
 {
+    if all_plain(word) {
+        return Ok(Some(Blob::from_slice(alloc, word)?));
+    }
     let mut bytes = Vec::with_capacity(alloc, word.len())?;
     let mut rest = word;
     while !rest.is_empty() {
@@ -78,13 +81,11 @@ pub fn bytes_of(alloc: Global, word: &str) -> Result<Option<Blob>, NoMemory>
 fn decode_percent(alloc: Global, word: &[u8]) -> Result<Option<Blob>, NoMemory>
     ensures { IfOk result (IsFound (IsEncoded word.now)) }
 {
-    if word == b"%".as_slice() {
-        return Ok(Some(Blob::from_vec(Vec::new(alloc))?));
+    match word {
+        [] => Ok(None),
+        [b'%'] => Ok(Some(Blob::from_vec(Vec::new(alloc))?)),
+        _ => all_bytes(alloc, word),
     }
-    if word.is_empty() {
-        return Ok(None);
-    }
-    all_bytes(alloc, word)
 }
 
 /// The bytes that a word encodes, if there are from `least` to `most`. A word that is too long for them takes no

@@ -9,12 +9,13 @@ mod nodes;
 mod numbers;
 mod percent;
 mod pieces;
+mod put;
 
-pub use answers::{AnswerText, CauseText, OutcomeText};
-pub use ballot::BallotText;
+pub use answers::{put_answer, put_cause, put_outcome};
+pub use ballot::put_ballot;
 pub use decoding::{bytes_of, is_key, is_value, key, value};
 pub use laws::encoding_is_unambiguous;
-pub use nodes::NodeText;
 pub use numbers::{client_number, number, pid};
-pub use percent::Encoded;
+pub use percent::put_encoded;
 pub use pieces::{answer_text, node_line, outcome_text};
+pub use put::{put_named, put_number, put_spaced};

@@ -2,27 +2,38 @@
 ghost use Rattle.std.specs.Prelude.{◌≡◌, ◌^◌, ◌<◌, decimal};
 ghost use Rattle.op_types.specs.Ranges.{IsPid, IsNumber};
 ghost use Rattle.op_text.specs.Found.{IsFound};
+ghost use Rattle.op_text.specs.Digits.{IsValueOf};
 
-use itoa::Buffer;
 use op_types::{GREATEST_NUMBER, GREATEST_PID, Pid};
-use std::str;
+
+/// How many digits there are: each counts so many times what the one after it does.
+pub const BASE: u64 = 10;
+
+/// The value of the digits that a word is.
+fn value_of(word: &[u8]) -> Option<u64>
+    ensures { IsFound (IsValueOf word.now) result }
+{
+    let mut value: u64 = 0;
+    for byte in word {
+        if !byte.is_ascii_digit() {
+            return None;
+        }
+        value = value
+            .checked_mul(BASE)?
+            .checked_add(u64::from(*byte - b'0'))?;
+    }
+    Some(value)
+}
 
 /// The number that a word writes with no sign and no leading zero.
 pub fn number(word: &[u8]) -> Option<u64>
     ensures { IsFound (λ n. (n < 2 ^ 64) × (word.now ≡ decimal n)) result }
 {
-    let Ok(text) = str::from_utf8(word) else {
+    let (first, more) = word.split_first()?;
+    if *first == b'0' && !more.is_empty() {
         return None;
-    };
-    let Ok(n) = text.parse::<u64>() else {
-        return None;
-    };
-    // A sign or a leading zero isn't printed again.
-    if Buffer::new().format(n).as_bytes() == word {
-        Some(n)
-    } else {
-        None
     }
+    value_of(word)
 }
 
 /// The server's id that a word writes.

@@ -1,9 +1,10 @@
 //! The percent encoding of keys and values.
-ghost use Rattle.std.specs.Prelude.{◌≡◌, Some, IfSome, IfNone};
-ghost use Rattle.std.specs.List.{list_all};
-ghost use Rattle.op_text.specs.Percent.{AllPlain, is_plain, encoded, encoded_byte};
+ghost use Rattle.std.specs.Prelude.{◌≡◌, ◌<◌, ◌++◌, true, OnOk};
+ghost use Rattle.std.specs.Fmt.{digit_glyph};
+ghost use Rattle.std.specs.List.{flat_map, list_all};
+ghost use Rattle.op_text.specs.Percent.{is_plain, encoded, encoded_byte};
 
-use std::{fmt, str};
+use op_types::NoMemory;
 
 /// Whether a byte stands for itself in keys and values.
 pub fn is_plain(byte: u8) -> bool
@@ -13,62 +14,54 @@ pub fn is_plain(byte: u8) -> bool
 }
 
 /// Whether each byte stands for itself.
-fn all_plain(bytes: &[u8]) -> bool
+pub fn all_plain(bytes: &[u8]) -> bool
     ensures { result ≡ list_all is_plain bytes.now }
 {
     bytes.iter().all(|b| is_plain(*b))
 }
 
-/// The bytes as text, if each stands for itself.
-fn plain_text(bytes: &[u8]) -> Option<&str>
-    ensures found { IfSome result (λ text. (text.now ≡ bytes.now) × AllPlain bytes.now) }
-    ensures none { IfNone result (AllPlain bytes.now → ⊥) }
+/// Appends a key or a value, encoded.
+#[tactic(auto, using(crate::proofs::PlainBytes::encoded_plain))]
+pub fn put_encoded(text: &mut Vec<u8>, bytes: &[u8]) -> Result<(), NoMemory>
+    ensures { OnOk result (text.new.items ≡ text.old.items ++ encoded bytes.now) }
 {
-    if !all_plain(bytes) {
-        return None;
+    if bytes.is_empty() {
+        return text.extend_from_slice(b"%");
     }
-    let Ok(text) = str::from_utf8(bytes) else {
-        return None;
-    };
-    Some(text)
+    if all_plain(bytes) {
+        return text.extend_from_slice(bytes);
+    }
+    put_each(text, bytes)
 }
 
-/// A key or a value, which prints as its encoding.
-#[derive(Clone, Copy)]
-pub struct Encoded<'a>(pub &'a [u8]);
-
-impl fmt::Display for Encoded<'_> {
-    ghost output = { λ s. Some (encoded s.0.now) };
-
-    #[tactic(auto, using(crate::proofs::PlainBytes::encoded_plain))]
-    fn fmt<W: fmt::Write>(&self, f: &mut fmt::Formatter<W>) -> fmt::Result {
-        if self.0.is_empty() {
-            return f.write_str("%");
-        }
-        if let Some(text) = plain_text(self.0) {
-            return f.write_str(text);
-        }
-        for byte in self.0 {
-            write!(f, "{}", EncodedByte(*byte))?;
-        }
-        Ok(())
+/// Appends the encodings of bytes, one after the other.
+fn put_each(text: &mut Vec<u8>, bytes: &[u8]) -> Result<(), NoMemory>
+    ensures { OnOk result (text.new.items ≡ text.old.items ++ flat_map encoded_byte bytes.now) }
+{
+    for byte in bytes {
+        put_byte(text, *byte)?;
     }
+    Ok(())
 }
 
-/// A byte of a key or a value, which prints as itself or as its escape.
-#[derive(Clone, Copy)]
-struct EncodedByte(u8);
+/// Appends a byte of a key or a value: itself, or its escape.
+fn put_byte(text: &mut Vec<u8>, byte: u8) -> Result<(), NoMemory>
+    ensures { OnOk result (text.new.items ≡ text.old.items ++ encoded_byte byte) }
+{
+    if is_plain(byte) {
+        return text.extend_from_slice(&[byte]);
+    }
+    text.extend_from_slice(&[b'%', glyph(byte / 16), glyph(byte % 16)])
+}
 
-impl fmt::Display for EncodedByte {
-    ghost output = { λ b. Some (encoded_byte b.0) };
-
-    #[tactic(auto, using(std::proofs::lemmas::Fmt::hex_byte))]
-    fn fmt<W: fmt::Write>(&self, f: &mut fmt::Formatter<W>) -> fmt::Result {
-        let byte = self.0;
-        if is_plain(byte) {
-            f.write_char(char::from(byte))
-        } else {
-            write!(f, "%{byte:02X}")
-        }
+/// The upper-case hexadecimal digit of a value.
+fn glyph(value: u8) -> u8
+    requires { value < 16 }
+    ensures { result ≡ digit_glyph true value }
+{
+    if value < 10 {
+        b'0' + value
+    } else {
+        b'A' + (value - 10)
     }
 }

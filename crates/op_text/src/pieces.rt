@@ -3,7 +3,7 @@ ghost use Rattle.std.specs.Prelude.{◌≡◌, IfOk};
 ghost use Rattle.op_text.specs.Answers.{answer_text, outcome_text};
 ghost use Rattle.op_text.specs.Nodes.{node_text};
 
-use crate::answers::{AnswerText, OutcomeText};
+use crate::answers::{put_answer, put_outcome};
 use crate::nodes::NodeText;
 use op_runs::NodeLine;
 use op_types::{Answer, NoMemory, Outcome};
@@ -21,7 +21,9 @@ pub fn node_line(alloc: Global, line: &NodeLine) -> Result<Vec<u8>, NoMemory>
 pub fn answer_text(alloc: Global, answer: &Answer) -> Result<Vec<u8>, NoMemory>
     ensures { IfOk result (λ text. text.items ≡ answer_text answer.now) }
 {
-    Ok(format!(in alloc; "{}", AnswerText(answer))?.into_bytes())
+    let mut text = Vec::new(alloc);
+    put_answer(&mut text, answer)?;
+    Ok(text)
 }
 
 /// What a proposal is answered at once, as the report's `answer` lines have it. `NoMemory` comes only where the
@@ -29,5 +31,7 @@ pub fn answer_text(alloc: Global, answer: &Answer) -> Result<Vec<u8>, NoMemory>
 pub fn outcome_text(alloc: Global, outcome: &Outcome) -> Result<Vec<u8>, NoMemory>
     ensures { IfOk result (λ text. text.items ≡ outcome_text outcome.now) }
 {
-    Ok(format!(in alloc; "{}", OutcomeText(*outcome))?.into_bytes())
+    let mut text = Vec::new(alloc);
+    put_outcome(&mut text, outcome)?;
+    Ok(text)
 }

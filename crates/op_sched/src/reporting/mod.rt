@@ -1,79 +1,87 @@
 //! The report of a run, as text.
-ghost use Rattle.std.specs.Prelude.{◌≡◌, ◌++◌, IfOk, OnOk, string_bytes};
+ghost use Rattle.std.specs.Prelude.{◌≡◌, ◌++◌, IfOk, OnOk};
 ghost use Rattle.std.specs.List.{flat_map};
 ghost use Rattle.op_text.specs.Nodes.{node_text};
-ghost use Rattle.op_sched.specs.Text.{line_text, entries_text, listed_text, report_of};
+ghost use Rattle.op_sched.specs.Text.{config_line, line_text, entries_text, listed_text, report_of};
 
-mod display_entry;
-mod display_line;
+mod entries;
+mod lines;
 mod summary;
 
-use display_entry::{EntryLine, PidsText};
-use display_line::LineText;
+use entries::{put_entry, put_pids};
+use lines::put_line;
 use op_runs::{Line, Listed, NodeLine, Summary};
-use op_text::NodeText;
-use op_types::{ConfNo, Entry, NoMemory};
+use op_text::{node_line, put_named};
+use op_types::{ConfNo, Entry, NoMemory, Pid};
 use std::alloc::Global;
-use std::fmt::Write;
 pub use summary::summary_text;
 
 /// The report of a run. `NoMemory` comes only where the allocator has none.
 pub fn report(alloc: Global, summary: &Summary) -> Result<Vec<u8>, NoMemory>
     ensures { IfOk result (λ text. text.items ≡ report_of summary.now) }
 {
-    let mut text = String::new(alloc);
-    write_lines(&mut text, summary.lines.as_slice())?;
-    write_lists(&mut text, summary.lists.as_slice())?;
-    write_nodes(&mut text, summary.nodes.as_slice())?;
-    Ok(text.into_bytes())
+    let mut text = Vec::new(alloc);
+    put_lines(&mut text, summary.lines.as_slice())?;
+    put_lists(&mut text, summary.lists.as_slice())?;
+    put_nodes(alloc, &mut text, summary.nodes.as_slice())?;
+    Ok(text)
 }
 
 /// Appends the lines that events gave.
-fn write_lines(text: &mut String, lines: &[Line]) -> Result<(), NoMemory>
-    ensures { OnOk result (string_bytes text.new ≡ string_bytes text.old ++ flat_map line_text lines.now) }
+fn put_lines(text: &mut Vec<u8>, lines: &[Line]) -> Result<(), NoMemory>
+    ensures { OnOk result (text.new.items ≡ text.old.items ++ flat_map line_text lines.now) }
 {
     for line in lines {
-        write!(text, "{}", LineText(line))?;
+        put_line(text, line)?;
     }
     Ok(())
 }
 
 /// Appends the list of each configuration.
-fn write_lists(text: &mut String, lists: &[Listed]) -> Result<(), NoMemory>
-    ensures { OnOk result (string_bytes text.new ≡ string_bytes text.old ++ flat_map listed_text lists.now) }
+fn put_lists(text: &mut Vec<u8>, lists: &[Listed]) -> Result<(), NoMemory>
+    ensures { OnOk result (text.new.items ≡ text.old.items ++ flat_map listed_text lists.now) }
 {
     for listed in lists {
-        write_listed(text, listed)?;
+        put_listed(text, listed)?;
     }
     Ok(())
 }
 
 /// Appends a configuration's list.
-fn write_listed(text: &mut String, listed: &Listed) -> Result<(), NoMemory>
-    ensures { OnOk result (string_bytes text.new ≡ string_bytes text.old ++ listed_text listed.now) }
+fn put_listed(text: &mut Vec<u8>, listed: &Listed) -> Result<(), NoMemory>
+    ensures { OnOk result (text.new.items ≡ text.old.items ++ listed_text listed.now) }
 {
-    let members = PidsText(listed.members.as_slice());
-    writeln!(text, "config {} members{members}", listed.conf)?;
-    write_entries(text, listed.conf, listed.entries.as_slice())
+    put_config(text, listed.conf, listed.members.as_slice())?;
+    put_entries(text, listed.conf, listed.entries.as_slice())
+}
+
+/// Appends the line that begins a configuration's list.
+fn put_config(text: &mut Vec<u8>, conf: ConfNo, members: &[Pid]) -> Result<(), NoMemory>
+    ensures { OnOk result (text.new.items ≡ text.old.items ++ config_line conf members.now) }
+{
+    put_named(text, b"config ", u64::from(conf))?;
+    text.extend_from_slice(b" members")?;
+    put_pids(text, members)?;
+    text.push(b'\n')?;
+    Ok(())
 }
 
 /// Appends the entries of a configuration, from position 0 on.
-fn write_entries(text: &mut String, conf: ConfNo, entries: &[Entry]) -> Result<(), NoMemory>
-    ensures { OnOk result (string_bytes text.new ≡ string_bytes text.old ++ entries_text conf 0 entries.now) }
+fn put_entries(text: &mut Vec<u8>, conf: ConfNo, entries: &[Entry]) -> Result<(), NoMemory>
+    ensures { OnOk result (text.new.items ≡ text.old.items ++ entries_text conf 0 entries.now) }
 {
     for (pos, entry) in entries.iter().enumerate() {
-        let pos = pos as u64;
-        write!(text, "{}", EntryLine { conf, pos, entry })?;
+        put_entry(text, conf, pos as u64, entry)?;
     }
     Ok(())
 }
 
 /// Appends the line of each node.
-fn write_nodes(text: &mut String, nodes: &[NodeLine]) -> Result<(), NoMemory>
-    ensures { OnOk result (string_bytes text.new ≡ string_bytes text.old ++ flat_map node_text nodes.now) }
+fn put_nodes(alloc: Global, text: &mut Vec<u8>, nodes: &[NodeLine]) -> Result<(), NoMemory>
+    ensures { OnOk result (text.new.items ≡ text.old.items ++ flat_map node_text nodes.now) }
 {
     for node in nodes {
-        write!(text, "{}", NodeText(*node))?;
+        text.extend_from_slice(&node_line(alloc, node)?)?;
     }
     Ok(())
 }

@@ -1,22 +1,30 @@
-use Rattle.std.proofs.Common.{◌≡◌, sym, ap, ◌∙◌}
-use Rattle.std.specs.Fmt.{decimal}
-use Rattle.std.proofs.lemmas.Bool.{false≢true}
-use Rattle.std.proofs.lemmas.Fmt.{parse-decimal, IsAscii-decimal}
-use Rattle.std.proofs.lemmas.Slice.Eq.{bytes_eq-Decides}
-use Rattle.std.proofs.lemmas.Str.{IsUtf8-from_ascii}
+use Rattle.std.proofs.Common.{◌≡◌, ◌<◌, ◌^◌, ◌∷◌, length, decimal, sym, subst, arith}
+use Rattle.std.proofs.lemmas.Fmt.{decimal_is_IsNumeral}
+use Rattle.op_text.specs.Found.{IsFound}
+use Rattle.op_text.specs.Digits.{IsValueOf}
+use Rattle.op_text.proofs.Digits.{LeadsAlone, decimal_of_value, one_zero, value_of_decimal}
+use Rattle.op_text.proofs.FoundAlike.{found_as}
 use Rattle.op_text.proofs.numbers.number.Goals as goal
+use Rattle.op_text.proofs.numbers.number.Goals.{else-first-eq48-via-then-first-eq48+else-not-is_empty, else-first-eq48-via-else-first-eq48}
 
-pub returns-in_default : goal.returns-in_default
-returns-in_default c = λ n (fits, e). c.in_default.ensures.cases.0 (IsUtf8-from_ascii _ (rw e (IsAscii-decimal n fits)))
+pub returns-in_err-first : goal.returns-in_err-first
+returns-in_err-first c = rw c.from_residual.ensures (λ n h.
+    let some : 0 < length c.args.word.now = subst (λ w. 0 < length w) (sym h.1) (decimal_is_IsNumeral n h.0).0.0 in
+    omega (arith, some, c.in_err-first.ensures.cases))
 
-pub returns-in_default-parse : goal.returns-in_default-parse
-returns-in_default-parse c = λ n (fits, e).
-    c.in_default-parse.not-Ok n (parse-decimal 64 n c.in-Ok.text.now c.parse.result fits fits (c.in-Ok.ensures.cases.0 ∙ e) c.parse.ensures.value.0)
+pub returns-then-not-is_empty : goal.returns-then-not-is_empty
+returns-then-not-is_empty c = λ n h.
+    let lead : LeadsAlone (c.in_ok-first.first.now ∷ c.in_ok-first.more.now) = subst LeadsAlone (c.in_ok-first.ensures.cases.0) (subst LeadsAlone (sym h.1) (one_zero n h.0)) in
+    let alone = lead c.if-first-eq48.true in
+    grind arith
 
-pub returns-else-eq : goal.returns-else-eq
-returns-else-eq c = λ n (fits, e).
-    let parsed = parse-decimal 64 n c.in-Ok.text.now c.parse.result fits fits (c.in-Ok.ensures.cases.0 ∙ e) c.parse.ensures.value.0 in
-    let same : c.in-Ok-parse.n ≡ n = cc (parsed, c.in-Ok-parse.is) in
-    let text : c.as_bytes.result.now ≡ c.args.word.now = c.as_bytes.ensures.value ∙ c.format.ensures.text ∙ ap decimal same ∙ sym e in
-    let equal = (bytes_eq-Decides c.as_bytes.result.now c.args.word.now).1 text in
-    false≢true (sym c.if-eq.false ∙ c.eq.ensures ∙ equal)
+pub returns : goal.returns
+returns c =
+    let word = c.in_ok-first.first.now ∷ c.in_ok-first.more.now in
+    let some : 0 < length word = omega arith in
+    let lead : LeadsAlone word = elim c.else-first-eq48.branch [
+      | else-first-eq48-via-then-first-eq48+else-not-is_empty w ↦ (λ zero. grind arith)
+      | else-first-eq48-via-else-first-eq48 w ↦ (λ zero. absurd (grind arith))
+    ] in
+    subst (λ w. IsFound (λ n. (n < 2 ^ 64) × (w ≡ decimal n)) c.value_of.result) (sym c.in_ok-first.ensures.cases.0)
+    (found_as (IsValueOf word) (λ n. (n < 2 ^ 64) × (word ≡ decimal n)) (λ n h. decimal_of_value word n some lead h) (λ n h. value_of_decimal word n h.0 h.1) c.value_of.result (subst (λ w. IsFound (IsValueOf w) c.value_of.result) c.in_ok-first.ensures.cases.0 c.value_of.ensures))

@@ -1,7 +1,0 @@
-use Rattle.std.proofs.Common.{◌≡◌, ◌++◌, take, string_bytes}
-use Rattle.std.specs.List.{flat_map}
-use Rattle.op_sched.specs.Text.{listed_text}
-use Rattle.op_sched.proofs.reporting.write_lists.Given as goal
-
-abbrev pub invariant-loop-listed : goal.invariant-loop-listed
-invariant-loop-listed l = string_bytes l.text ≡ string_bytes l.fn.text ++ flat_map listed_text (take l.listed-index l.lists)
