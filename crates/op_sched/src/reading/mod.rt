@@ -19,7 +19,7 @@ use lines::next_numbered;
 use op_runs::{Event, Events, What};
 use op_types::{Members, NoMemory};
 use std::alloc::Global;
-use words::{is_name, words};
+use words::{is_name, split_words, words};
 
 /// The schedule that a text says. `BadLine` names the first line that isn't in the grammar, and `NoMemory` comes
 /// only where the allocator has none.
@@ -132,10 +132,11 @@ fn events(alloc: Global, is_mirrored: bool, number: u64, text: &[u8]) -> Result<
     ensures bad { IfBadLine result (IsFirstBadEvent is_mirrored (numbered_lines number text.now)) }
 {
     let mut events = Events::new(alloc);
+    let mut words = Vec::new(alloc);
     let mut at = number;
     let mut rest = text;
     while let Ok(next) = next_numbered(at, rest) {
-        let Some(what) = event(alloc, is_mirrored, next.line)? else {
+        let Some(what) = event(alloc, is_mirrored, &mut words, next.line)? else {
             return Err(SchedFail::BadLine { line: next.number });
         };
         events.push(Event {
@@ -148,20 +149,29 @@ fn events(alloc: Global, is_mirrored: bool, number: u64, text: &[u8]) -> Result<
     Ok(events)
 }
 
-/// What an event's line says, at nodes whose disks are mirrored or not.
-fn event(alloc: Global, is_mirrored: bool, line: &[u8]) -> Result<Option<What>, NoMemory>
+/// What an event's line says, at nodes whose disks are mirrored or not. Its words take the place of those that stand here.
+fn event<'a>(
+    alloc: Global,
+    is_mirrored: bool,
+    words: &mut Vec<&'a [u8]>,
+    line: &'a [u8],
+) -> Result<Option<What>, NoMemory>
     ensures { IfOk result (IsFound (IsEventLine is_mirrored line.now)) }
 {
-    match said(alloc, line)? {
+    match said(alloc, words, line)? {
         Some(what) if suits_disks(is_mirrored, &what) => Ok(Some(what)),
         _ => Ok(None),
     }
 }
 
 /// What an event's line says, whichever disks it suits.
-fn said(alloc: Global, line: &[u8]) -> Result<Option<What>, NoMemory>
+fn said<'a>(
+    alloc: Global,
+    words: &mut Vec<&'a [u8]>,
+    line: &'a [u8],
+) -> Result<Option<What>, NoMemory>
     ensures { IfOk result (IsFound (AreWordsOf (words_of line.now))) }
 {
-    let words = words(alloc, line)?;
-    forms::event(alloc, &words)
+    split_words(words, line)?;
+    forms::event(alloc, words)
 }
