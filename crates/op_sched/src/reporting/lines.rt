@@ -82,7 +82,8 @@ fn put_cause_line(
     seq: u64,
     cause: &Cause,
 ) -> Result<(), NoMemory>
-    ensures { OnOk result (text.new.items ≡ text.old.items ++ line_text (line.Dropped pid client seq cause.now)) }
+    ensures { OnOk result (text.new.items
+        ≡ text.old.items ++ line_text (line.Dropped pid client seq cause.now)) }
 {
     put_asked(text, b"dropped ", pid, client, seq)?;
     put_cause(text, cause)?;
