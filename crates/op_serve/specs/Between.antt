@@ -64,21 +64,22 @@ module _ {D : Type 0} (disk : Ghosts D) where
     pub both : out ≡ Neither → HasBoth m
 
   -- such disks are opened as the mirror n
-  pub record OpensLeftOf (out : Gone) (m : Mirror D disk) (first second : D) (n : Mirror D disk) : Type 0 where
+  pub record OpensLeftOf (out : Gone) (m : Mirror D disk) (first second : D)
+      (n : Mirror D disk) : Type 0 where
     pub held : HoldLeftOf out m first second
     pub opened : Opens disk.state first second n
     pub fails_again : FailsAgain out (disk.state first) (disk.state second)
         (disk.state n.first) (disk.state n.second)
 
-  -- These stand of two copies after calls that made them the second pair, or after a crash in these calls: each
-  -- that has not failed for good gives what a crash in them may have left of it.
+  -- These stand of two copies after calls that made them the second pair, or after a crash in these calls:
+  -- each that has not failed for good gives what a crash in them may have left of it.
   abbrev pub StandAfter : Gone → (a b a' b' now_first now_second : D) → Type 0
   StandAfter out a b a' b' now_first now_second =
       LivingGive out (LeftWhile (disk.state a) (disk.state a')) (LeftWhile (disk.state b) (disk.state b'))
       (disk.state now_first) (disk.state now_second)
 
-  -- What stands of this mirror's copies, as they are or after a crash, is left of the mirror, whichever copy has
-  -- failed for good: one that was out has.
+  -- What stands of this mirror's copies, as they are or after a crash, is left of the mirror, whichever copy
+  -- has failed for good: one that was out has.
   abbrev pub PassesOn : Mirror D disk → Type 0
   PassesOn m = (out : Gone) (first second : D) → StaysOut m.gone out
       → LivingGive out (MayLeave (disk.state m.first)) (MayLeave (disk.state m.second))

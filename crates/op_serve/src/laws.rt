@@ -67,7 +67,8 @@ pub fn mirrors_follow<D: Disk>()
         → OpensLeftOf D.Disk first_out a disks.first disks.first_copy c
         → OpensLeftOf D.Disk second_out b disks.second disks.second_copy d
         → Leaves l (disks_with (known_mirror D.state) a b) → Leaves l (disks_with (known_mirror D.state) c d) }
-    ensures images { (m n : Mirror D D.Disk) (out : Gone) (first second : D) → OpensLeftOf D.Disk out m first second n
+    ensures images { (m n : Mirror D D.Disk) (out : Gone) (first second : D)
+        → OpensLeftOf D.Disk out m first second n
         → MayLeave (known_mirror D.state n) (known_mirror D.state n).content }
     ensures opened { (out next : Gone) (m : Mirror D D.Disk) (a b a' b' u v : D) → HoldLeftOf D.Disk out m a b
         → FailsAgain out (D.state a) (D.state b) (D.state a') (D.state b')
