@@ -1,4 +1,5 @@
 /// What the program is given of its host, beside the disks.
+#[derive(Drop)]
 pub struct Host<N, C, S, K, P> {
     /// Sockets, for a node and for a call.
     pub net: N,
