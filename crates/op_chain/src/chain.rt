@@ -31,6 +31,7 @@ use crate::closing::{given_up_after, push_news};
 use crate::deciding::{decided_after, serve_decided};
 use crate::given::Given;
 use crate::joining::{bringing, turn_holding};
+use crate::ready_plan::ReadyPlan;
 use crate::renewal::{Anew, Renewal, begin, push_requests};
 use crate::room::Room;
 use crate::served::Served;
@@ -104,7 +105,7 @@ impl Chain {
     }
 
     /// What a step is to do, with all the memory that it takes. Nothing changes but room, and a plan may be dropped.
-    pub fn plan(&mut self, input: Input) -> Result<ChainPlan, NoMemory>
+    pub fn plan(&mut self, input: Input) -> Result<ReadyPlan, NoMemory>
         requires { Admits self.old input }
         ensures same { IsSame self.old self.new }
         ensures plans { IfOk result (λ plan. Plans self.new input plan) }
@@ -116,7 +117,7 @@ impl Chain {
     }
 
     /// The same, but for room in what is stored, of which there is none.
-    fn prepare(&mut self, input: Input) -> Result<ChainPlan, NoMemory>
+    fn prepare(&mut self, input: Input) -> Result<ReadyPlan, NoMemory>
         requires admits { Admits self.old input }
         requires rested { with_room no_needs self.old.durable ≡ self.old.durable }
         ensures same { IsSame self.old self.new }
@@ -132,7 +133,7 @@ impl Chain {
     }
 
     /// The same, of a node that joins: an input may bring something of the closed list.
-    fn plan_brought(&mut self, input: Input) -> Result<ChainPlan, NoMemory>
+    fn plan_brought(&mut self, input: Input) -> Result<ReadyPlan, NoMemory>
         requires admits { Admits self.old input }
         requires rested { with_room no_needs self.old.durable ≡ self.old.durable }
         ensures same { IsSame self.old self.new }
@@ -167,7 +168,7 @@ impl Chain {
     }
 
     /// The plan of an input that brings nothing of a closed list: the part that decides its stop-sign is closed.
-    fn plan_step(&mut self, input: Input) -> Result<ChainPlan, NoMemory>
+    fn plan_step(&mut self, input: Input) -> Result<ReadyPlan, NoMemory>
         requires admits { Admits self.old input }
         requires rested { with_room no_needs self.old.durable ≡ self.old.durable }
         requires none { brought_by self.old.durable (volatile_of self.old.volatile) input ≡ None }
@@ -179,7 +180,7 @@ impl Chain {
         let waiters = waiters_of(self.alloc, &input)?;
         let mut plan = self.step(input)?;
         let serving = self.serve(&mut plan, waiters.as_slice())?;
-        Ok(serving.into_plan(plan))
+        serving.into_plan(self.alloc, plan)
     }
 
     /// What the plan decides is served, and its part closed where it decides a stop-sign. There is room then for those that
@@ -207,7 +208,7 @@ impl Chain {
 
     /// The plan of changes by which a node that joins holds more: it goes on in the new configuration with this service, if
     /// it has all then.
-    fn plan_joining(&mut self, batch: Batch, service: Option<Map>) -> Result<ChainPlan, NoMemory>
+    fn plan_joining(&mut self, batch: Batch, service: Option<Map>) -> Result<ReadyPlan, NoMemory>
         requires sound { IsSoundChain self.old }
         requires rested { with_room no_needs self.old.durable ≡ self.old.durable }
         requires brought { (o : Option Pieces) × (c : ℕ) × (b : body.Body)
@@ -228,7 +229,7 @@ impl Chain {
         self.waiting.make_room(&[])?;
         let replies = Replies::new(self.alloc);
         let serving = Serving::new(self.alloc, &plan, change, replies, renewal)?;
-        Ok(serving.into_plan(plan))
+        serving.into_plan(self.alloc, plan)
     }
 
     /// What the input does in the configurations, with the base of what it trims. Nothing changes yet, but the room that the
@@ -336,7 +337,7 @@ impl Chain {
     }
 
     /// The plan takes effect. It can't fail, and takes no memory.
-    pub fn adopt(&mut self, plan: ChainPlan) -> Given
+    pub fn adopt(&mut self, plan: ReadyPlan) -> Given
         requires { (x : input.Input) × Plans self.old x plan }
         ensures { (x : input.Input) → Plans self.old x plan →
             Adopts self.old (table_plan self.old.me (state_of self.old) x) self.new result }
@@ -347,7 +348,7 @@ impl Chain {
             replies,
             renewal,
             room,
-        } = plan;
+        } = plan.into_plan();
         let Plan {
             batch,
             turn,

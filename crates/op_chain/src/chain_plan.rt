@@ -1,13 +1,11 @@
-ghost use Rattle.std.specs.Prelude.{◌≡◌};
-
 use crate::renewal::Anew;
 use crate::room::Room;
 use op_kv::KvChange;
-use op_types::{Batch, Plan, Replies, Sends};
+use op_types::{Plan, Replies};
 
-/// What a step is to do, with all its room made: it can be adopted, or dropped.
+/// What a step is to do, with all its room made.
 #[derive(Drop)]
-pub struct ChainPlan {
+pub(crate) struct ChainPlan {
     /// Its batch has the base of what it trims, and closes the part that decides its stop-sign.
     pub(crate) plan: Plan,
     /// What the entries that it decides do to the service.
@@ -17,28 +15,4 @@ pub struct ChainPlan {
     /// What begins anew, where the node goes on in another configuration or in none.
     pub(crate) renewal: Anew,
     pub(crate) room: Room,
-}
-
-impl ChainPlan {
-    /// What is to be stored before the plan is adopted.
-    pub fn batch(&self) -> &Batch
-        ensures { result.now ≡ self.now.plan.batch }
-    {
-        &self.plan.batch
-    }
-
-    /// The messages that go out once it is adopted.
-    pub fn sends(&self) -> &Sends
-        ensures { result.now ≡ self.now.plan.sends }
-    {
-        &self.plan.sends
-    }
-
-    /// What was to be stored by a plan that is dropped.
-    pub fn into_batch(self) -> Batch
-        ensures { result ≡ self.plan.batch }
-    {
-        let plan = self.plan;
-        plan.batch
-    }
 }

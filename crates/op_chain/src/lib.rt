@@ -11,6 +11,7 @@ mod deciding;
 mod given;
 mod joining;
 mod lead;
+mod ready_plan;
 mod renewal;
 mod room;
 mod served;
@@ -21,8 +22,8 @@ mod trimming;
 mod waiting_set;
 
 pub use chain::Chain;
-pub use chain_plan::ChainPlan;
 pub use given::Given;
 pub use lead::Lead;
 pub use op_kv::{Map, Pairs};
+pub use ready_plan::ReadyPlan;
 pub use starting::{empty_durable, first_durable, sends_after_restart};

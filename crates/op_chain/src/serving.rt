@@ -3,6 +3,7 @@ ghost use Rattle.op_chain.specs.Answering.{HasRoomFor};
 ghost use Rattle.op_chain.specs.Plans.{told_anew};
 
 use crate::chain_plan::ChainPlan;
+use crate::ready_plan::ReadyPlan;
 use crate::renewal::Anew;
 use crate::room::Room;
 use op_kv::KvChange;
@@ -48,14 +49,14 @@ impl Serving {
     }
 
     /// The whole plan.
-    pub(crate) fn into_plan(self, plan: Plan) -> ChainPlan
-        ensures { result ≡ record {
+    pub(crate) fn into_plan(self, alloc: Global, plan: Plan) -> Result<ReadyPlan, NoMemory>
+        ensures { IfOk result (λ p. p ≡ record {
           plan = plan;
           service = self.service;
           replies = self.replies;
           renewal = self.renewal;
           room = self.room;
-        } }
+        }) }
     {
         let Serving {
             service,
@@ -63,12 +64,15 @@ impl Serving {
             renewal,
             room,
         } = self;
-        ChainPlan {
-            plan,
-            service,
-            replies,
-            renewal,
-            room,
-        }
+        ReadyPlan::new(
+            alloc,
+            ChainPlan {
+                plan,
+                service,
+                replies,
+                renewal,
+                room,
+            },
+        )
     }
 }

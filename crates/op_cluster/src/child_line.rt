@@ -5,8 +5,7 @@ ghost use Rattle.op_outside.specs.Streams.{AppendsPrefix};
 ghost use Rattle.op_cluster.specs.Clusters.{child_line};
 
 use itoa::Buffer;
-use op_outside::{Sink, WriteFail};
-use op_parts::write_parts;
+use op_outside::{Sink, WriteFail, write_parts};
 use op_types::Pid;
 
 /// Writes the line of a child that has ended with this status, with no memory taken.

@@ -4,7 +4,8 @@ use Rattle.op_serving.specs.declared.mark.Mark.{Mark}
 use Rattle.op_serving.specs.declared.kind.Kind.{Kind}
 use Rattle.op_serving.specs.Counts.{hello_in}
 use Rattle.op_serving.specs.Cores.{Standing}
-use Rattle.op_serving.specs.State.{Loop, find, is_open, is_overfull, kind_at}
+use Rattle.op_serving.specs.State.{Loop, find, is_open, is_overfull, kind_at, down_of}
+use Rattle.op_serving.specs.Ranges.{KindInRange}
 use Rattle.op_serving.specs.Losses.{most_marks, lost_by, IsCalm, Foretells, Grew, KeepsKinds, Stays}
 use Rattle.op_types.specs.declared.events.Input.{Input}
 use Rattle.op_serving.specs.Inputs.{State, Deed, Luck, kept, calm, rest}
@@ -25,6 +26,10 @@ module _ {K : Type 0} where
   -- its connections that were to be closed are closed
   abbrev pub emptied : Served K → Served K
   emptied d = record d { loop = record d.loop { closes = [] } }
+
+-- a session of this kind may begin: no Down of its peer is to come
+abbrev pub MayBegin : Kind → Type 0
+MayBegin kind = (down_of kind ≡ []) × KindInRange kind
 
 -- for no session more bytes wait than may
 abbrev pub IsShed : Loop → Type 0

@@ -10,7 +10,7 @@ ghost use Rattle.op_serving.specs.Inputs.{enter, give, flushed, leaves, over};
 ghost use Rattle.op_serving.specs.Turns.{happens_at, joined, joining, queue_in, taken_of, ticked, turn_begins, waiting_from, wrote};
 ghost use Rattle.op_queues.specs.Hearing.{FoundInRange, least_taken};
 ghost use Rattle.op_queues.specs.Gathering.{RunInRange};
-ghost use Rattle.op_driver.specs.Driver.{Acts, Does, FromCalm, Drained, Enters, Gives, IsIdle, Loses, Rests, IsDrained, IsShed, hello_left};
+ghost use Rattle.op_driver.specs.Driver.{Acts, Does, FromCalm, Drained, Enters, Gives, IsIdle, Loses, MayBegin, Rests, IsDrained, IsShed, hello_left};
 ghost use Rattle.op_driver.specs.Dealing.{TakesOn};
 
 mod dealing;
@@ -160,8 +160,7 @@ impl<K: Core> Driver<K> {
     pub fn join(&mut self, conn: Conn, kind: Kind)
         requires new { is_open conn self.old.loop ≡ false }
         requires idle { IsIdle self.old.loop }
-        requires kind { down_of kind ≡ [] }
-        requires range { KindInRange kind }
+        requires kind { MayBegin kind }
         ensures acts { Acts K.stores (λ l s. joined l conn kind s) self.old self.new }
         ensures calm { self.old.loop.place.at ≡ 0 → FromCalm self.old self.new }
         ensures rests { Rests self.old.loop self.new.loop }

@@ -52,6 +52,12 @@ pub record IsRun {S F : Type 0} (K : Kind S F) (w : ServerWorld S) : Type 0 wher
   pub happenings : List Happening
   pub run : HasRun K w spares happenings
 
+-- a world became another one, of the same members and ids, and its servers are kept
+pub record GoesOn {S F : Type 0} (K : Kind S F) (old new : ServerWorld S) : Type 0 where
+  pub servers : KeepsServers K new
+  pub members : new.members ≡ old.members
+  pub ids : new.ids ≡ old.ids
+
 -- ---- an event
 
 -- only the server at this place becomes another one: it shows this node, and then that one

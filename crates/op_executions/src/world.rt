@@ -3,7 +3,7 @@ ghost use Rattle.op_types.specs.Ranges.{MembersInRange};
 ghost use Rattle.op_runs.specs.Possible.{is_possible, proposals_of, SparesInRange, WhatInRange};
 ghost use Rattle.op_runs.specs.World as runs;
 ghost use Rattle.op_executions.specs.Failing.{IfBadEvent};
-ghost use Rattle.op_executions.specs.Worlds.{place_of, HappenedAt, HasRun, IsRun, KeepsServers, Shows, ShowNodes};
+ghost use Rattle.op_executions.specs.Worlds.{place_of, GoesOn, HappenedAt, HasRun, IsRun, Shows, ShowNodes};
 
 use crate::deed::{Deed, deed_of};
 use crate::fail::RunFail;
@@ -70,8 +70,7 @@ impl<S: Server> ServerWorld<S> {
         ensures happened { IfOk result (λ at. (x : runs.World) → Shows S.kind self.old x →
             HappenedAt S.kind x event fate at self.old self.new) }
         ensures place { IfOk result (λ at. IfSome at (λ place. place < length self.new.servers.items)) }
-        ensures servers { OnOk result (KeepsServers S.kind self.new) }
-        ensures same { OnOk result ((self.new.members ≡ self.old.members) × (self.new.ids ≡ self.old.ids)) }
+        ensures goes_on { OnOk result (GoesOn S.kind self.old self.new) }
         ensures proposed { OnOk result ((self.new.proposed ≡ self.old.proposed + proposals_of event.what)
             × (self.new.proposed < 2 ^ 64)) }
         ensures possible { OnOk result

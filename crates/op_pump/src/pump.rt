@@ -1,8 +1,6 @@
-ghost use Rattle.std.specs.Prelude.{◌≡◌, ◌≤◌, ◌+◌, [], OnOk};
+ghost use Rattle.std.specs.Prelude.{◌≡◌, ◌≤◌, ◌+◌, OnOk};
 ghost use Rattle.op_serving.specs.Counts.{hello_in, most_inputs};
-ghost use Rattle.op_serving.specs.State.{down_of};
-ghost use Rattle.op_serving.specs.Ranges.{KindInRange};
-ghost use Rattle.op_driver.specs.Driver.{Acts, FromCalm, Rests, IsIdle, IsDrained};
+ghost use Rattle.op_driver.specs.Driver.{Acts, FromCalm, Rests, IsIdle, IsDrained, MayBegin};
 ghost use Rattle.op_pump.specs.Moments.{StaysIdle, IsIdleAt, Closes, Settles, admitted};
 
 use crate::room::Room;
@@ -56,8 +54,7 @@ impl<K: Core> Pump<K> {
     /// A new connection has a session, unless one of its number has.
     pub fn admit(&mut self, conn: Conn, kind: Kind)
         requires idle { IsIdle self.old.driver.loop }
-        requires kind { down_of kind ≡ [] }
-        requires range { KindInRange kind }
+        requires kind { MayBegin kind }
         ensures acts { Acts K.stores (λ l s. admitted l conn kind s) self.old.driver self.new.driver }
         ensures calm { self.old.driver.loop.place.at ≡ 0 → FromCalm self.old.driver self.new.driver }
         ensures rests { Rests self.old.driver.loop self.new.driver.loop }

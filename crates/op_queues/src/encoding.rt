@@ -1,4 +1,5 @@
-ghost use Rattle.std.specs.Prelude.{◌≡◌, ◌≤◌, ◌+◌, drop, length, nat_le, IsTrue, IfOk, OnOk};
+ghost use Rattle.std.specs.Prelude.{◌≡◌, ◌≤◌, ◌+◌, ◌++◌, take, drop, length, nat_le, IsTrue, IfOk, OnOk, OnErr};
+ghost use Rattle.op_fields.specs.Prefixes.{KeepsPrefix};
 ghost use Rattle.op_types.specs.Limits.{most_part_bytes};
 ghost use Rattle.op_types.specs.Ranges.{IsPid};
 ghost use Rattle.op_frame.specs.Framing.{frame_of};
@@ -11,23 +12,37 @@ use op_command::ClientReply;
 use op_fields::{NoMemory, put_u32, put_u64};
 use op_serving::{CLIENT_HEAD, PEER_HEAD};
 use op_types::{Body, MOST_PART_BYTES, MOST_PEER_BODY, Msg, Pid, fits_part};
+use std::alloc::Global;
 
-/// Writes a message as a frame, over what was there, and tells whether a peer takes it.
-#[tactic(auto, unfolding(op_serving::specs::Wire::peer_frame))]
-pub fn put_message(out: &mut Vec<u8>, from: Pid, to: Pid, m: &Msg) -> Result<bool, NoMemory>
+/// Appends a message as a frame. Without memory nothing is appended.
+pub fn put_message(out: &mut Vec<u8>, from: Pid, to: Pid, m: &Msg) -> Result<(), NoMemory>
     requires from { IsPid from }
     requires to { IsPid to }
     requires message { MsgInRange m.now }
-    ensures frame { OnOk result (out.new.items ≡ peer_frame from to m.now) }
-    ensures fits { IfOk result (λ fits. fits ≡ fits_peer from to m.now) }
+    ensures ok { OnOk result (out.new.items ≡ out.old.items ++ peer_frame from to m.now) }
+    ensures err { OnErr result (out.new.items ≡ out.old.items) }
 {
-    out.clear();
+    let start = out.len();
     put_u64(out, 0)?;
-    op_msg::put(out, from, to, m)?;
+    let Ok(()) = op_msg::put(out, from, to, m) else {
+        out.truncate(start);
+        return Err(NoMemory);
+    };
+    lay_long(out.as_mut_slice(), start);
+    Ok(())
+}
+
+/// Whether its peer takes a message. It is encoded to see that.
+pub fn fits_peer(alloc: Global, from: Pid, to: Pid, m: &Msg) -> Result<bool, NoMemory>
+    requires from { IsPid from }
+    requires to { IsPid to }
+    requires message { MsgInRange m.now }
+    ensures { IfOk result (λ fits. fits ≡ fits_peer from to m.now) }
+{
+    let mut body = Vec::new(alloc);
+    op_msg::put(&mut body, from, to, m)?;
     read_counts(&m.body);
-    let len = out.len() - PEER_HEAD as usize;
-    lay_long(out.as_mut_slice());
-    Ok(len <= MOST_PEER_BODY)
+    Ok(body.len() <= MOST_PEER_BODY)
 }
 
 /// Whether the entries of a message, or its bytes of a base, take no more bytes than a part of a long message: then its
@@ -79,35 +94,51 @@ fn read_count(count: u64)
     let _ = count;
 }
 
-/// Writes a reply as a frame, over what was there.
-#[tactic(auto, unfolding(op_serving::specs::Wire::client_frame))]
+/// Appends a reply as a frame. Without memory nothing is appended.
 pub fn put_reply(out: &mut Vec<u8>, reply: &ClientReply) -> Result<(), NoMemory>
     requires { ReplyInRange reply.now }
-    ensures { OnOk result (out.new.items ≡ client_frame reply.now) }
+    ensures ok { OnOk result (out.new.items ≡ out.old.items ++ client_frame reply.now) }
+    ensures err { OnErr result (out.new.items ≡ out.old.items) }
 {
-    out.clear();
-    put_u32(out, 0)?;
-    op_command::put_reply(out, reply)?;
-    let Ok(len) = u32::try_from(out.len() - CLIENT_HEAD as usize) else {
+    let start = out.len();
+    let Ok(()) = put_short(out, reply) else {
+        out.truncate(start);
         return Err(NoMemory);
     };
-    lay_short(out.as_mut_slice(), len);
     Ok(())
 }
 
-/// Lays the length of a peer's body into the head before it.
-fn lay_long(frame: &mut [u8])
-    requires { peer_head ≤ length frame.old }
-    ensures { frame.new ≡ frame_of peer_head (drop peer_head frame.old) }
+/// Appends a reply as a frame. Without memory some of it is appended.
+fn put_short(out: &mut Vec<u8>, reply: &ClientReply) -> Result<(), NoMemory>
+    requires { ReplyInRange reply.now }
+    ensures ok { OnOk result (out.new.items ≡ out.old.items ++ client_frame reply.now) }
+    ensures err { OnErr result (KeepsPrefix out.old.items out.new.items) }
 {
-    let len = (frame.len() - PEER_HEAD as usize) as u64;
-    frame[..PEER_HEAD as usize].copy_from_slice(&len.to_be_bytes());
+    let start = out.len();
+    put_u32(out, 0)?;
+    op_command::put_reply(out, reply)?;
+    let Ok(len) = u32::try_from(out.len() - start - CLIENT_HEAD as usize) else {
+        return Err(NoMemory);
+    };
+    lay_short(out.as_mut_slice(), start, len);
+    Ok(())
 }
 
-/// Lays the length of a client's body into the head before it.
-fn lay_short(frame: &mut [u8], len: u32)
-    requires { length frame.old ≡ client_head + len }
-    ensures { frame.new ≡ frame_of client_head (drop client_head frame.old) }
+/// Lays the length of a peer's body, behind the room at this place, into that room.
+fn lay_long(bytes: &mut [u8], start: usize)
+    requires { start + peer_head ≤ length bytes.old }
+    ensures { bytes.new ≡ take start bytes.old ++ frame_of peer_head (drop (start + peer_head) bytes.old) }
 {
-    frame[..CLIENT_HEAD as usize].copy_from_slice(&len.to_be_bytes());
+    let body = start + PEER_HEAD as usize;
+    let len = (bytes.len() - body) as u64;
+    bytes[start..body].copy_from_slice(&len.to_be_bytes());
+}
+
+/// Lays the length of a client's body, behind the room at this place, into that room.
+fn lay_short(bytes: &mut [u8], start: usize, len: u32)
+    requires { length bytes.old ≡ start + client_head + len }
+    ensures { bytes.new ≡
+        take start bytes.old ++ frame_of client_head (drop (start + client_head) bytes.old) }
+{
+    bytes[start..start + CLIENT_HEAD as usize].copy_from_slice(&len.to_be_bytes());
 }

@@ -13,6 +13,7 @@ mod run;
 mod session_table;
 mod sessions;
 mod unsent;
+mod untold;
 
 pub use asked::{asked_by, of_no_command};
 pub use front::Front;

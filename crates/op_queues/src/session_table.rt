@@ -11,22 +11,23 @@ ghost use Rattle.op_queues.specs.Hearing.{TakesOut, FoundInRange, least_taken};
 ghost use Rattle.op_queues.specs.Filling.{IsThin};
 
 use crate::front::{Front, take_front};
+use op_conns::Encode;
 use op_outside::Conn;
 use op_serving::{Kind, Session};
 use op_types::{NoMemory, Pid};
 use std::alloc::Global;
 use std::collections::BTreeMap;
 
-/// Adds bytes to what waits for a connection. Gives whether more wait then than may. Without memory nothing
+/// Adds a frame to what waits for a connection. Gives whether more bytes wait then than may. Without memory nothing
 /// changes.
 #[tactic(auto, using(std::proofs::lemmas::Map::Steps::set_value_same, crate::proofs::InRange::set_session, crate::proofs::InRange::found_in_range, crate::proofs::Filling::set_thin, crate::proofs::Filling::not_overfull))]
-pub fn add(
+pub fn add<E: Encode>(
     sessions: &mut BTreeMap<Conn, Session>,
     conn: Conn,
-    bytes: &[u8],
+    frame: &E,
 ) -> Result<bool, NoMemory>
     ensures ok { OnOk result
-        (sessions.new.entries ≡ changed (with_bytes bytes.now) conn sessions.old.entries) }
+        (sessions.new.entries ≡ changed (with_bytes (E.bytes frame.now)) conn sessions.old.entries) }
     ensures err { OnErr result (sessions.new.entries ≡ sessions.old.entries) }
     ensures len { length sessions.new.entries ≡ length sessions.old.entries }
     ensures range { All SessionInRange (values_of sessions.old.entries) →
@@ -37,7 +38,7 @@ pub fn add(
 {
     match sessions.get_mut(&conn) {
         Some(session) => {
-            session.queue.add(bytes)?;
+            session.queue.encode(frame)?;
             Ok(session.is_overfull())
         }
         None => Ok(false),

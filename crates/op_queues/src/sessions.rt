@@ -55,8 +55,6 @@ pub struct Sessions {
     /// There is room for the peer of each open connection.
     downs: Vec<Pid>,
     ending: bool,
-    /// Room in which frames are written.
-    frame: Vec<u8>,
     alloc: Global,
 }
 
@@ -126,7 +124,6 @@ impl Sessions {
             closes: Vec::with_capacity(alloc, 1)?,
             downs: Vec::new(alloc),
             ending: false,
-            frame: Vec::new(alloc),
             alloc,
         })
     }

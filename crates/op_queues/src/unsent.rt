@@ -3,11 +3,12 @@ ghost use Rattle.op_types.specs.Ranges.{IsPid};
 ghost use Rattle.op_serving.specs.Ranges.{SendInRange};
 ghost use Rattle.op_serving.specs.Wire.{peer_frame};
 
-use op_types::{Msg, Pid};
+use crate::encoding::put_message;
+use op_conns::Encode;
+use op_types::{Msg, NoMemory, Pid};
 use std::marker::Model;
 
-/// A message that waits for room, with its sender. It is encoded once there is room, and contracts see it as the frame
-/// that it becomes.
+/// A message with its sender, before it is encoded. Contracts see it as the frame that it becomes.
 #[derive(Drop)]
 pub struct Unsent {
     from: Pid,
@@ -37,13 +38,12 @@ impl Unsent {
     {
         Unsent { from, message }
     }
+}
 
-    /// The sender, and the message with its addressee.
-    pub fn parts(&self) -> (Pid, &(Pid, Msg))
-        ensures frame { peer_frame result.0 result.1.now.0 result.1.now.1 ≡ self.now }
-        ensures from { IsPid result.0 }
-        ensures message { SendInRange result.1.now }
-    {
-        (self.from, &self.message)
+impl Encode for Unsent {
+    ghost bytes = { λ u. u };
+
+    fn encode(&self, out: &mut Vec<u8>) -> Result<(), NoMemory> {
+        put_message(out, self.from, self.message.0, &self.message.1)
     }
 }

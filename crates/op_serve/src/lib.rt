@@ -7,9 +7,11 @@ mod ending;
 mod laws;
 mod mirrored;
 mod node_disks;
+mod seat;
 mod serving;
 
 pub use command::serve_as;
 pub use ending::Ending;
 pub use laws::{mirrors_follow, openings_begin_lives, processes_are_lives};
 pub use node_disks::NodeDisks;
+pub use seat::Seat;

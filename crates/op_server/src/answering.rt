@@ -12,14 +12,14 @@ ghost use Rattle.op_server.specs.Servers.{state_of, IsSoundServer};
 use crate::asking::Asking;
 use crate::reading::{Besides, Reading, with_room};
 use crate::server::Server;
-use op_chain::ChainPlan;
+use op_chain::ReadyPlan;
 use op_reads::{AskedRead, Reads};
 use op_types::{Answer, Cause, NoMemory, Replies, Reply};
 use std::alloc::Global;
 
 impl Server {
     /// What comes of the reads, where an input asks this, and this is the plan without them.
-    pub(crate) fn reading(&self, asking: Asking, plan: &ChainPlan) -> Result<Besides, NoMemory>
+    pub(crate) fn reading(&self, asking: Asking, plan: &ReadyPlan) -> Result<Besides, NoMemory>
         requires sound { IsSoundServer self.now }
         requires plans { (x : input.Input) × chains.Plans self.now.chain x plan.now }
         ensures reading { IfOk result (λ b. (x : input.Input) →
@@ -48,7 +48,7 @@ impl Server {
     }
 
     /// What is told of reads: those that can be answered are, or all are given up where the node doesn't lead on.
-    fn tell(&self, reads: &mut Option<Reads>, plan: &ChainPlan) -> Result<Replies, NoMemory>
+    fn tell(&self, reads: &mut Option<Reads>, plan: &ReadyPlan) -> Result<Replies, NoMemory>
         requires sound { IsSoundServer self.now }
         requires plans { (x : input.Input) × chains.Plans self.now.chain x plan.now }
         ensures reads { OnOk result (reads.new
@@ -66,7 +66,7 @@ impl Server {
     }
 
     /// How long the log was that the leader adopted, where the node leads the same ballot before and after.
-    fn leads_on(&self, plan: &ChainPlan) -> Option<u64>
+    fn leads_on(&self, plan: &ReadyPlan) -> Option<u64>
         requires { (x : input.Input) × chains.Plans self.now.chain x plan.now }
         ensures { let role = (chains.planned_by self.now.chain plan.now).volatile.role in
             result ≡ (if leads_on (state_of self.now).volatile.role role then Some (adopted_of role) else None) }
@@ -84,7 +84,7 @@ impl Server {
     fn answer(
         &self,
         reads: &mut Option<Reads>,
-        plan: &ChainPlan,
+        plan: &ReadyPlan,
         adopted_len: u64,
     ) -> Result<Replies, NoMemory>
         requires { (x : input.Input) × chains.Plans self.now.chain x plan.now }
@@ -104,7 +104,7 @@ impl Server {
     }
 
     /// What these reads are answered: the values of their keys.
-    fn values(&self, plan: &ChainPlan, asked: &[AskedRead]) -> Result<Replies, NoMemory>
+    fn values(&self, plan: &ReadyPlan, asked: &[AskedRead]) -> Result<Replies, NoMemory>
         requires { (x : input.Input) × chains.Plans self.now.chain x plan.now }
         ensures { IfOk result (λ replies. replies
             ≡ map (read_reply (chains.planned_by self.now.chain plan.now).service) asked.now) }
@@ -117,7 +117,7 @@ impl Server {
     }
 
     /// What a read is answered: the value of its key.
-    fn value(&self, plan: &ChainPlan, asked: &AskedRead) -> Result<Reply, NoMemory>
+    fn value(&self, plan: &ReadyPlan, asked: &AskedRead) -> Result<Reply, NoMemory>
         requires { (x : input.Input) × chains.Plans self.now.chain x plan.now }
         ensures { IfOk result (λ reply. reply
             ≡ read_reply (chains.planned_by self.now.chain plan.now).service asked.now) }
@@ -134,7 +134,7 @@ impl Server {
     }
 
     /// Tells all reads that wait that they are given up.
-    fn give_up(&self, plan: &ChainPlan) -> Result<Replies, NoMemory>
+    fn give_up(&self, plan: &ReadyPlan) -> Result<Replies, NoMemory>
         requires sound { IsSoundServer self.now }
         requires plans { (x : input.Input) × chains.Plans self.now.chain x plan.now }
         ensures { let p = chains.planned_by self.now.chain plan.now in

@@ -1,14 +1,14 @@
 ghost use Rattle.std.specs.Prelude.{◌≡◌};
 
 use crate::reading::Besides;
-use op_chain::ChainPlan;
+use op_chain::ReadyPlan;
 use op_types::Batch;
 
 /// What a step is to do, with all its room made: it can be adopted, or dropped.
 #[derive(Drop)]
 pub struct ServerPlan {
     /// The step without its reads.
-    pub(crate) chain: ChainPlan,
+    pub(crate) chain: ReadyPlan,
     /// What comes of the reads.
     pub(crate) reading: Besides,
 }

@@ -188,3 +188,39 @@ fn a_wish_to_be_prepared_goes_before_what_waits_behind(rt: HostRuntime) -> Resul
     );
     Ok(())
 }
+
+/// The peer takes so many bytes of what waits for it.
+fn take(sessions: &mut Sessions, count: usize) {
+    let waiting = sessions.waiting(CONN).len();
+    sessions.took(CONN, count.min(waiting));
+}
+
+/// Of two frames the peer takes so many bytes of the first: whether the same waits then where it took them before the
+/// second came.
+fn goes_behind(alloc: Global, count: usize) -> Result<bool, NoMemory> {
+    let mut after = with_peer(alloc)?;
+    tell(&mut after, 2);
+    take(&mut after, count);
+    let mut before = with_peer(alloc)?;
+    tell(&mut before, 1);
+    take(&mut before, count);
+    tell(&mut before, 1);
+    Ok(before.waiting(CONN) == after.waiting(CONN))
+}
+
+/// The first of these counts with which it doesn't.
+fn first_astray(alloc: Global, counts: &[usize]) -> Result<Option<usize>, NoMemory> {
+    for count in counts {
+        if !goes_behind(alloc, *count)? {
+            return Ok(Some(*count));
+        }
+    }
+    Ok(None)
+}
+
+#[test]
+fn a_frame_goes_behind_what_is_left_of_another(rt: HostRuntime) -> Result<(), Fail> {
+    let counts = [0, 5, DECIDE / 2 + 1, DECIDE - 1, DECIDE];
+    assert_eq!(rt; first_astray(rt.alloc(), &counts)?, None);
+    Ok(())
+}

@@ -4,8 +4,7 @@ ghost use Rattle.op_outside.specs.Seen.{Tells};
 ghost use Rattle.op_status.specs.Statuses.{area_name, cause_name, exit_code, status_line};
 
 use itoa::Buffer;
-use op_outside::{Sink, write_all};
-use op_parts::write_parts;
+use op_outside::{Sink, write_all, write_parts};
 use op_setup::ConfigCause;
 
 /// How the program ends.

@@ -8,7 +8,7 @@ use op_call::call_node;
 use op_drill::{drill, drill_links};
 use op_outside::{Clock, Disk, Net, Sink, Source, Spawner};
 use op_replay::replay;
-use op_serve::{Ending, NodeDisks, serve_as};
+use op_serve::{Ending, NodeDisks, Seat, serve_as};
 use op_setup::{Task, TaskFail, task};
 use op_status::Status;
 use std::alloc::Global;
@@ -64,7 +64,10 @@ fn done<D: Disk, N: Net, C: Clock, S: Source, K: Sink, P: Spawner>(
 {
     match task(alloc, words) {
         Ok(Task::Replay) => Ending::early(alloc, replay(alloc, input, out), disks),
-        Ok(Task::Node(id)) => serve_as(alloc, id, disks, net, clock, input, out),
+        Ok(Task::Node(id)) => {
+            let seat = Seat { id, disks };
+            serve_as(alloc, seat, net, clock, input, out)
+        }
         Ok(Task::Call(addr, request)) => {
             let status = call_node(alloc, &addr, &request, net, out);
             Ending::early(alloc, status, disks)

@@ -11,9 +11,9 @@ ghost use Rattle.op_chain.specs.Leads.{lead_of, why_closed, why_joined, why_anew
 ghost use Rattle.op_chain.specs.Plans.{planned_by, Plans, service_in};
 
 use super::Chain;
-use crate::chain_plan::ChainPlan;
 use crate::deciding::{decided_after, promised_after};
 use crate::lead::{Lead, lead_after, lead_of};
+use crate::ready_plan::ReadyPlan;
 use op_types::{Ballot, Blob, Cause, Change};
 
 impl Chain {
@@ -25,68 +25,68 @@ impl Chain {
     }
 
     /// What it leads once the plan is adopted.
-    pub fn lead_after(&self, plan: &ChainPlan) -> Option<Lead>
+    pub fn lead_after(&self, plan: &ReadyPlan) -> Option<Lead>
         requires { (x : input.Input) × Plans self.now x plan.now }
         ensures { result ≡ lead_of (planned_by self.now plan.now).volatile.role }
     {
-        if plan.renewal.is_some() {
+        if plan.get().renewal.is_some() {
             return None;
         }
-        lead_after(&plan.plan.turn, &self.volatile.role)
+        lead_after(&plan.get().plan.turn, &self.volatile.role)
     }
 
     /// How much is decided of its part then; nothing without a part.
-    pub fn decided_after(&self, plan: &ChainPlan) -> u64
+    pub fn decided_after(&self, plan: &ReadyPlan) -> u64
         requires { (x : input.Input) × Plans self.now x plan.now }
         ensures { result
             ≡ decided_of (durable_after (state_of self.now).durable plan.now.plan.batch).part }
     {
-        if plan.renewal.is_some() {
+        if plan.get().renewal.is_some() {
             return 0;
         }
         match &self.durable.part {
-            Some(part) => decided_after(part, plan.plan.batch.as_slice()),
+            Some(part) => decided_after(part, plan.batch().as_slice()),
             None => 0,
         }
     }
 
     /// A key's value then.
-    pub fn value_after<'a>(&'a self, plan: &'a ChainPlan, key: &Blob) -> Option<&'a Blob>
+    pub fn value_after<'a>(&'a self, plan: &'a ReadyPlan, key: &Blob) -> Option<&'a Blob>
         requires { (x : input.Input) × Plans self.now x plan.now }
         ensures { option_copied result ≡ value_at key.now (planned_by self.now plan.now).service.pairs }
     {
-        match plan.renewal.service() {
+        match plan.get().renewal.service() {
             Some(service) => service.get(key),
-            None => self.service.value_after(&plan.service, key),
+            None => self.service.value_after(&plan.get().service, key),
         }
     }
 
     /// Why a node with a part that leads no more then does so no more: a greater ballot is promised, or the configuration
     /// ended at its stop-sign.
-    pub fn why_given_up(&self, plan: &ChainPlan) -> Cause
+    pub fn why_given_up(&self, plan: &ReadyPlan) -> Cause
         requires plans { (x : input.Input) × Plans self.now x plan.now }
         requires part { IsSome self.now.durable.part }
         ensures { let d = durable_after (state_of self.now).durable plan.now.plan.batch in
             result ≡ why_given_up (latest_of (state_of self.now).durable) d.part d.closed }
     {
-        if plan.renewal.is_some() {
+        if plan.get().renewal.is_some() {
             return self.why_anew(plan);
         }
         match &self.durable.part {
-            Some(part) => Cause::Ballot(promised_after(part, plan.plan.batch.as_slice())),
+            Some(part) => Cause::Ballot(promised_after(part, plan.batch().as_slice())),
             None => unreachable!(),
         }
     }
 
     /// The same, where something begins anew.
-    fn why_anew(&self, plan: &ChainPlan) -> Cause
+    fn why_anew(&self, plan: &ReadyPlan) -> Cause
         requires { (x : input.Input) × Plans self.now x plan.now }
         ensures { result ≡ why_anew (state_of self.now).durable plan.now.plan.batch
             (service_in plan.now.renewal) }
     {
-        match plan.renewal.service() {
+        match plan.get().renewal.service() {
             Some(_) => self.why_joined(),
-            None => self.why_closed(plan.plan.batch.as_slice()),
+            None => self.why_closed(plan.batch().as_slice()),
         }
     }
 

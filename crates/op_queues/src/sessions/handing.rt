@@ -15,10 +15,12 @@ ghost use Rattle.op_serving.specs.Handing.{made_way, sent, sent_at, sent_all, fo
 use super::Sessions;
 use crate::asked::{denied, of_command, of_no_command, refusal};
 use crate::asker_table::{forget, put_asker};
-use crate::encoding::{is_short, put_message, put_reply};
+use crate::encoding::{fits_peer, is_short};
 use crate::session_table::add;
 use crate::unsent::Unsent;
+use crate::untold::Untold;
 use op_command::{ClientReply, Said};
+use op_conns::Encode;
 use op_outside::Conn;
 use op_serving::{Awaited, Key, MOST_BEHIND, Wanted, begins_anew, is_urgent};
 use op_types::{Msg, NoMemory, Outcome, Pid, Refusal, Replies, Reply, Sends};
@@ -55,15 +57,14 @@ impl Sessions {
     }
 
     /// Whether its peer takes a message. Only one that is longer than a part of a long message is encoded to see that.
-    fn fits(&mut self, message: &(Pid, Msg)) -> Result<bool, NoMemory>
+    fn fits(&self, message: &(Pid, Msg)) -> Result<bool, NoMemory>
         requires { SendInRange message.now }
-        ensures fits { IfOk result (λ fits. fits ≡ fits_peer self.old.me message.now.0 message.now.1) }
-        ensures same { self.new ≡ self.old }
+        ensures { IfOk result (λ fits. fits ≡ fits_peer self.now.me message.now.0 message.now.1) }
     {
         if is_short(self.me, message.0, &message.1) {
             return Ok(true);
         }
-        put_message(&mut self.frame, self.me, message.0, &message.1)
+        fits_peer(self.alloc, self.me, message.0, &message.1)
     }
 
     /// What waits behind for a connection makes way for a message that begins anew, or else moves up, as far as
@@ -74,12 +75,14 @@ impl Sessions {
     {
         self.make_way(conn, &message.1);
         self.move_up(conn);
-        if self.goes_ahead(conn, &message.1) {
-            self.put_ahead(conn, self.me, &message);
+        let is_ahead = self.goes_ahead(conn, &message.1);
+        let unsent = Unsent::new(self.me, message);
+        if is_ahead {
+            self.put_ahead(conn, &unsent);
             // It is a frame now.
-            drop(message);
+            drop(unsent);
         } else {
-            self.put_behind(conn, message);
+            self.put_behind(conn, unsent);
         }
     }
 
@@ -100,8 +103,7 @@ impl Sessions {
             let Some(unsent) = self.first_behind(conn) else {
                 return;
             };
-            let (from, message) = unsent.parts();
-            self.put_ahead(conn, from, message);
+            self.put_ahead(conn, &unsent);
             // It is a frame now.
             drop(unsent);
         }
@@ -135,55 +137,44 @@ impl Sessions {
     }
 
     /// A message waits for a connection, as a frame. Where that finds no memory, the session is lost.
-    fn put_ahead(&mut self, conn: Conn, from: Pid, message: &(Pid, Msg))
-        requires from { IsPid from }
-        requires message { SendInRange message.now }
-        ensures does { Does (λ marks s. settled marks
-            (waits_for conn (peer_frame from message.now.0 message.now.1) s)) self.old self.new }
+    fn put_ahead(&mut self, conn: Conn, unsent: &Unsent)
+        ensures does { Does (λ marks s. settled marks (waits_for conn unsent.now s)) self.old self.new }
         ensures fewer { length self.new.behind ≤ length self.old.behind }
     {
-        match self.queue_message(conn, from, message) {
+        match self.queue_frame(conn, unsent) {
             Ok(()) => {}
             Err(_) => self.lose(conn),
         }
     }
 
     /// A message waits behind for a connection, if that is open. Where that finds no memory, the session is lost.
-    fn put_behind(&mut self, conn: Conn, message: (Pid, Msg))
-        requires { SendInRange message }
-        ensures { Does (λ marks s. settled marks
-            (placed false (conn, peer_frame self.old.me message.0 message.1) s)) self.old self.new }
+    fn put_behind(&mut self, conn: Conn, unsent: Unsent)
+        ensures { Does (λ marks s. settled marks (placed false (conn, unsent) s)) self.old self.new }
     {
         if !self.is_open(conn) {
-            drop(message);
+            drop(unsent);
             return;
         }
-        match self.keep_message(conn, message) {
+        match self.keep(conn, unsent) {
             Ok(()) => {}
             Err(_) => self.lose(conn),
         }
     }
 
     /// A message waits behind. Without memory nothing changes.
-    fn keep_message(&mut self, conn: Conn, message: (Pid, Msg)) -> Result<(), NoMemory>
-        requires { SendInRange message }
-        ensures ok { OnOk result
-            (self.new ≡ kept true (conn, peer_frame self.old.me message.0 message.1) self.old) }
+    fn keep(&mut self, conn: Conn, unsent: Unsent) -> Result<(), NoMemory>
+        ensures ok { OnOk result (self.new ≡ kept true (conn, unsent) self.old) }
         ensures err { OnErr result (self.new ≡ self.old) }
     {
-        self.behind.push(conn, Unsent::new(self.me, message))
+        self.behind.push(conn, unsent)
     }
 
-    /// A message waits for a connection, as a frame. Without memory nothing changes.
-    fn queue_message(&mut self, conn: Conn, from: Pid, message: &(Pid, Msg)) -> Result<(), NoMemory>
-        requires from { IsPid from }
-        requires message { SendInRange message.now }
-        ensures ok { OnOk result
-            (self.new ≡ waits_for conn (peer_frame from message.now.0 message.now.1) self.old) }
+    /// A frame waits for a connection: it is encoded into what does. Without memory nothing changes.
+    fn queue_frame<E: Encode>(&mut self, conn: Conn, frame: &E) -> Result<(), NoMemory>
+        ensures ok { OnOk result (self.new ≡ waits_for conn (E.bytes frame.now) self.old) }
         ensures err { OnErr result (self.new ≡ self.old) }
     {
-        put_message(&mut self.frame, from, message.0, &message.1)?;
-        let is_over = add(&mut self.sessions, conn, self.frame.as_slice())?;
+        let is_over = add(&mut self.sessions, conn, frame)?;
         self.overfull = self.overfull || is_over;
         Ok(())
     }
@@ -402,9 +393,6 @@ impl Sessions {
         ensures ok { OnOk result (self.new ≡ waits_for conn (client_frame told.now) self.old) }
         ensures err { OnErr result (self.new ≡ self.old) }
     {
-        put_reply(&mut self.frame, told)?;
-        let is_over = add(&mut self.sessions, conn, self.frame.as_slice())?;
-        self.overfull = self.overfull || is_over;
-        Ok(())
+        self.queue_frame(conn, &Untold::new(told))
     }
 }

@@ -1,7 +1,9 @@
 use Rattle.std.proofs.Common.{List, sym, ap, refl, ◌∙◌}
+use Rattle.std.specs.Prelude.{is_some}
 use Rattle.op_types.specs.declared.changes.Change.{Change}
 use Rattle.op_protocol.specs.Parts.{part_after}
 use Rattle.op_chain.specs.Chains.{state_of}
+use Rattle.op_chain.specs.declared.chain_plan.ChainPlan.{ChainPlan}
 use Rattle.op_chain.proofs.Leads.{left_decided}
 use Rattle.op_chain.proofs.chain.Chain.decided_after.Goals as goal
 
@@ -10,5 +12,5 @@ returns-in-Some c =
     let me = c.args.self.now in
     let plan = c.args.plan.now in
     let p = c.in-Some.part in
-    c.decided_after.ensures ∙ ap (λ (b : List Change). (part_after p b).decided) c.as_slice.ensures
-    ∙ left_decided me.me (state_of me).durable plan.plan plan.renewal me.volatile (sym c.is_some.ensures ∙ c.if-is_some.false) c.requires.1.after.node p me.durable.part c.in-Some.is refl
+    c.decided_after.ensures ∙ ap (λ (b : List Change). (part_after p b).decided) (c.as_slice.ensures ∙ c.batch.ensures)
+    ∙ left_decided me.me (state_of me).durable plan.plan plan.renewal me.volatile (sym (c.is_some.ensures ∙ ap (λ (q : ChainPlan). is_some q.renewal) c.get.ensures) ∙ c.if-is_some.false) c.requires.1.after.node p me.durable.part c.in-Some.is refl

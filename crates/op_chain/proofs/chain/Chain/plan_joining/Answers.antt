@@ -1,4 +1,5 @@
 use Rattle.std.proofs.Common.{◌≡◌, List, [], sym, ap, subst, ◌∙◌}
+use Rattle.std.proofs.lemmas.Result.{IfOk-weaker}
 use Rattle.op_types.specs.Roles.{role_of}
 use Rattle.op_types.specs.declared.answers.Reply.{Reply}
 use Rattle.op_types.specs.declared.changes.Change.{Change}
@@ -39,6 +40,8 @@ returns-clause-prepares c =
     let here : (room : Room) → HasRoomToTell (chain_plan new kv replies r room) → Prepares last t (chain_plan new kv replies r room) =
     subst (λ (rs : List Reply). (room : Room) → HasRoomToTell (chain_plan new kv rs r room) → Prepares last t (chain_plan new kv rs r room)) (sym c.new-replies.ensures) made in
     let x = c.in_ok-serving.serving in
-    let whole : c.into_plan.result ≡ chain_plan new kv replies r x.room =
-    c.into_plan.ensures ∙ ap (λ (s : Serving). chain_plan new s.service s.replies s.renewal s.room) c.in_ok-serving.ensures.is in
-    subst (λ (p : ChainPlan). Prepares last t p) (sym whole) (here x.room c.in_ok-serving.ensures.room)
+    let whole : chain_plan new x.service x.replies x.renewal x.room ≡ chain_plan new kv replies r x.room =
+    ap (λ (s : Serving). chain_plan new s.service s.replies s.renewal s.room) c.in_ok-serving.ensures.is in
+    IfOk-weaker c.into_plan.result _ (λ (p : ChainPlan). Prepares last t p)
+    (λ (p : ChainPlan) is. subst (λ (q : ChainPlan). Prepares last t q) (sym (is ∙ whole)) (here x.room c.in_ok-serving.ensures.room))
+    c.into_plan.ensures

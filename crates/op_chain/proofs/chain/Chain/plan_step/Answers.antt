@@ -1,4 +1,5 @@
 use Rattle.std.proofs.Common.{◌≡◌, ℕ, List, sym, ap, subst, ◌∙◌}
+use Rattle.std.proofs.lemmas.Result.{IfOk-weaker}
 use Rattle.op_types.specs.declared.durable.Durable.{Durable}
 use Rattle.op_protocol.specs.State.{Waiting}
 use Rattle.op_protocol.specs.Rows.{newly_decided, table_plan}
@@ -45,5 +46,7 @@ returns-clause-prepares c =
     ∙ ap (λ (ws : Waiting). waiting_by new.outcome ws c.as_slice.result.now) first.waiting
     ∙ ap (λ (more : List (ℕ × ℕ)). waiting_by new.outcome a.waiting.waiting more) (c.as_slice.ensures.value ∙ c.in_ok-waiters.ensures) in
     let turn : HasRoomIn plan.turn last.volatile = subst (λ (n : Chain). HasRoomIn plan.turn n.volatile) (sym c.serve.ensures.rest) c.in_ok-plan.ensures.room in
-    subst (λ (p : ChainPlan). Prepares last (table_plan a.me (state_of a) x) p) (sym c.into_plan.ensures)
-    (step_prepared a x c.requires.admits c.requires.rested c.requires.none plan c.in_ok-plan.ensures.step last new made s.renewal s.room like serves closes waits turn told.settled told.room)
+    IfOk-weaker c.into_plan.result _ (λ (p : ChainPlan). Prepares last (table_plan a.me (state_of a) x) p)
+    (λ (p : ChainPlan) is. subst (λ (q : ChainPlan). Prepares last (table_plan a.me (state_of a) x) q) (sym is)
+    (step_prepared a x c.requires.admits c.requires.rested c.requires.none plan c.in_ok-plan.ensures.step last new made s.renewal s.room like serves closes waits turn told.settled told.room))
+    c.into_plan.ensures

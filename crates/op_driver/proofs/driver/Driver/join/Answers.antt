@@ -22,7 +22,7 @@ pub returns-in-Ok-clause-rests : goal.returns-in-Ok-clause-rests
 returns-in-Ok-clause-rests g c = joins_rests c.args.conn c.args.kind c.args.self.now c.admit.new.self c.requires.idle.none c.in-Ok.ensures.ok
 
 pub returns-in-Err-clause-rests : goal.returns-in-Err-clause-rests
-returns-in-Err-clause-rests g c = joins_lost_rests c.args.conn c.args.kind c.args.self.now c.admit.new.self c.requires.new c.requires.kind c.requires.idle.none c.in-Err.ensures.err
+returns-in-Err-clause-rests g c = joins_lost_rests c.args.conn c.args.kind c.args.self.now c.admit.new.self c.requires.new c.requires.kind.0 c.requires.idle.none c.in-Err.ensures.err
 
 pub returns-in-Ok-clause-most : goal.returns-in-Ok-clause-most
 returns-in-Ok-clause-most g c = omega (arith, ap (λ (x : Served _). most_inputs x.loop) c.in-Ok.ensures.ok, most_joining c.args.conn c.args.kind c.args.self.now.loop)

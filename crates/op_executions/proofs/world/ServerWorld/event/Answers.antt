@@ -52,8 +52,8 @@ returns-clause-place g c =
     let placed = has_place g.S.Server.kind w c.requires.run e can c.requires.range _ c.deref-2.ensures.value _ c.in_ok-pid.ensures d c.in-Some-2.is _ c.deref-3.ensures.value c.place_of-place.result c.place_of-place.ensures.place in
     subst (λ (n : ℕ). c.place_of-place.result < n) (sym (length-set w.servers.items c.place_of-place.result c.happens.new.self)) placed.there
 
-pub returns-clause-servers : goal.returns-clause-servers
-returns-clause-servers g c =
+pub returns-clause-goes_on : goal.returns-clause-goes_on
+returns-clause-goes_on g c =
     let w = c.args.self.now in
     let e = c.args.event in
     let d = c.in-Some-2.field-0 in
@@ -61,13 +61,17 @@ returns-clause-servers g c =
     let placed = has_place g.S.Server.kind w c.requires.run e can c.requires.range _ c.deref-2.ensures.value _ c.in_ok-pid.ensures d c.in-Some-2.is _ c.deref-3.ensures.value c.place_of-place.result c.place_of-place.ensures.place in
     let s = c.index_mut-server.result.now in
     let m = c.happens.new.self in
-    deed_keeps g.S.Server.kind w c.requires.run.run.servers d c.args.fate e.line s m c.in_ok-sends.field-0.sends c.in_ok-sends.field-0.told _
-    (record {
-      member = placed.deed.pid;
-      at = placed.at s c.index_mut-server.ensures.value;
-      done = c.in_ok-sends.ensures;
-      servers_are = ap (λ (k : ℕ). set w.servers.items k m) placed.place;
-      messages_are = c.in_ok-send_all.ensures;
-      lines_are = c.in_ok-tell_all.ensures;
-      ids_are = refl;
-    })
+    record {
+      servers = deed_keeps g.S.Server.kind w c.requires.run.run.servers d c.args.fate e.line s m c.in_ok-sends.field-0.sends c.in_ok-sends.field-0.told _
+          (record {
+            member = placed.deed.pid;
+            at = placed.at s c.index_mut-server.ensures.value;
+            done = c.in_ok-sends.ensures;
+            servers_are = ap (λ (k : ℕ). set w.servers.items k m) placed.place;
+            messages_are = c.in_ok-send_all.ensures;
+            lines_are = c.in_ok-tell_all.ensures;
+            ids_are = refl;
+          });
+      members = refl;
+      ids = refl;
+    }

@@ -48,9 +48,9 @@ loop-happening-preserved c =
       shows_after old.0 h.event f c.in-Ok.field-0 w new old.1 (did.happened old.0 old.1),
       continues_next c.args.members c.args.spares old.0 _ _ c.args.happenings h c.loop-happening.index w.proposed new.proposed old.2 c.in-Some.ensures.steps.0
           (possible_seen (runs.node_ids c.args.members c.args.spares) w old.0 h.event true old.1 old.3 did.possible) did.proposed.0 did.proposed.1,
-      ap (λ v. v.items) did.same.1 ∙ old.3,
+      ap (λ v. v.items) did.goes_on.ids ∙ old.3,
       old.4,
-      runs_on pure_nodes w new h.event f c.in-Ok.field-0 old.5 fit did.possible did.happened did.servers did.same.0 did.same.1 did.proposed.0 did.proposed.1,
+      runs_on pure_nodes w new h.event f c.in-Ok.field-0 old.5 fit did.possible did.happened did.goes_on.servers did.goes_on.members did.goes_on.ids did.proposed.0 did.proposed.1,
     )
 
 pub returns-clause-world : goal.returns-clause-world

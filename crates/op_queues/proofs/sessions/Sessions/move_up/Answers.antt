@@ -1,6 +1,5 @@
 use Rattle.std.proofs.Common.{rules, ◌≡◌, ◌∙◌, ℕ, List, length, true, false, None, Some, Option, refl, sym, ap, subst, arith, inl}
 use Rattle.op_serving.specs.State.{Loop, find, waits_for}
-use Rattle.op_serving.specs.Wire.{peer_frame}
 use Rattle.op_serving.specs.Losses.{settled, Does}
 use Rattle.op_serving.specs.Room.{has_room, without_first, moved}
 use Rattle.op_queues.proofs.Counting.{most_same}
@@ -40,9 +39,7 @@ behind-preserved c =
     let s : Loop = c.behind.self in
     let first : find c.args.conn s.behind ≡ Some c.in-Some.unsent = search rules in
     let room : has_room (find c.args.conn s.sessions) ≡ true = search rules in
-    let frame : peer_frame c.parts-from.result.0 (c.parts-from.result.1.now).0 (c.parts-from.result.1.now).1 ≡ c.in-Some.unsent = c.parts-from.ensures.frame in
-    let one : Does (λ marks x. settled marks (waits_for c.args.conn c.in-Some.unsent x)) c.first_behind.new.self c.put_ahead.new.self = subst (λ (l : List ℕ). Does (λ marks x. settled marks (waits_for c.args.conn l x)) c.first_behind.new.self c.put_ahead.new.self) frame c.put_ahead.ensures.does in
-    λ t rest. c.behind.invariant t (moves_on c.args.conn c.in-Some.unsent s c.first_behind.new.self c.put_ahead.new.self t room first c.first_behind.ensures.rest one rest)
+    λ t rest. c.behind.invariant t (moves_on c.args.conn c.in-Some.unsent s c.first_behind.new.self c.put_ahead.new.self t room first c.first_behind.ensures.rest c.put_ahead.ensures.does rest)
 
 pub returns : goal.returns
 returns c =

@@ -1,4 +1,4 @@
-use Rattle.std.proofs.Common.{rules, sym, ◌∙◌, ap, subst, ◌<◌, ◌≡◌, length, Bool, true, false, if◌then◌else◌, inl, inr, Some, None}
+use Rattle.std.proofs.Common.{rules, sym, ◌∙◌, ap, ◌<◌, ◌≡◌, length, Bool, true, false, if◌then◌else◌, inl, inr, Some, None}
 use Rattle.std.proofs.lemmas.Bool.{cases_Bool}
 use Rattle.op_serving.specs.State.{Loop, is_open, session_of}
 use Rattle.op_serving.specs.Losses.{lost_if_open, most_marks}
@@ -13,10 +13,9 @@ pub returns-in-Err : goal.returns-in-Err
 returns-in-Err c =
     let s : Loop = c.args.self.now in
     let m = c.args.message in
-    let same : c.fits.new.self ≡ s = search rules in
     let to : session_of m.0 s ≡ Some c.in-Some.conn = search rules in
-    let gone : c.lose.new.self ≡ lost_if_open c.in-Some.conn s = c.lose.ensures.lost ∙ ap (lost_if_open c.in-Some.conn) same in
-    let room : is_open c.in-Some.conn s ≡ true → length s.lost < most_marks = subst (λ (t : Loop). is_open c.in-Some.conn t ≡ true → length t.lost < most_marks) same c.lose.ensures.room in
+    let gone : c.lose.new.self ≡ lost_if_open c.in-Some.conn s = c.lose.ensures.lost in
+    let room : is_open c.in-Some.conn s ≡ true → length s.lost < most_marks = c.lose.ensures.room in
     let there : is_open c.in-Some.conn s ≡ true = session_there m.0 c.in-Some.conn s to in
     elim (cases_Bool (fits_peer s.me m.0 m.1)) [
       | inl fits ↦ does_as (sent_at (Some c.in-Some.conn) m) (sent m) (sym (ap (λ (f : Bool). sent_at (if f then session_of m.0 s else None) m s) fits ∙ ap (λ o. sent_at o m s) to))

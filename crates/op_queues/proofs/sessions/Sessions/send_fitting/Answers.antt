@@ -1,4 +1,4 @@
-use Rattle.std.proofs.Common.{rules, ◌≡◌, ◌∙◌, ℕ, Bool, true, false, refl, ap, Some}
+use Rattle.std.proofs.Common.{rules, ◌≡◌, ◌∙◌, ℕ, List, Bool, true, false, ap, Some}
 use Rattle.op_serving.specs.State.{Loop, find}
 use Rattle.op_serving.specs.Wire.{peer_frame}
 use Rattle.op_serving.specs.Losses.{settled, Does}
@@ -10,22 +10,24 @@ use Rattle.op_queues.proofs.Room.{blind_behind, blind_rest, cleared_done}
 use Rattle.op_queues.proofs.sessions.Sessions.send_fitting.Goals as goal
 
 -- what makes way, then what moves up, and then the message
-sends : (c : ℕ) (m : ℕ × Msg) (b : Bool) (me : ℕ) (s w u t : Loop) → me ≡ u.me → b ≡ goes_ahead m.1 (find c u.sessions) (count_at c u.behind)
-    → w ≡ made_way c m.1 s → Does (λ ms x. settled ms (moved c x)) w u → Does (λ ms x. settled ms (placed b (c, peer_frame me m.0 m.1) x)) u t → Does (λ ms x. settled ms (sent_at (Some c) m x)) s t
-sends c m b me s w u t mine ahead way first second =
-    let same : placed b (c, peer_frame me m.0 m.1) u ≡ sent_behind c m u =
-    ap (λ (a : Bool). placed a (c, peer_frame me m.0 m.1) u) ahead ∙ ap (λ n. placed (goes_ahead m.1 (find c u.sessions) (count_at c u.behind)) (c, peer_frame n m.0 m.1) u) mine in
+sends : (c : ℕ) (m : ℕ × Msg) (b : Bool) (frame : List ℕ) (s w u t : Loop) → frame ≡ peer_frame u.me m.0 m.1 → b ≡ goes_ahead m.1 (find c u.sessions) (count_at c u.behind)
+    → w ≡ made_way c m.1 s → Does (λ ms x. settled ms (moved c x)) w u → Does (λ ms x. settled ms (placed b (c, frame) x)) u t → Does (λ ms x. settled ms (sent_at (Some c) m x)) s t
+sends c m b frame s w u t is ahead way first second =
+    let same : placed b (c, frame) u ≡ sent_behind c m u =
+    ap (λ (a : Bool). placed a (c, frame) u) ahead ∙ ap (λ (f : List ℕ). placed (goes_ahead m.1 (find c u.sessions) (count_at c u.behind)) (c, f) u) is in
     does_then (made_way c m.1) (λ x. sent_behind c m (moved c x)) (blind_rest c m) (cleared_done (begins_anew m.1.body) c s w way)
-    (does_then (moved c) (sent_behind c m) (blind_behind c m) first (does_as (placed b (c, peer_frame me m.0 m.1)) (sent_behind c m) same second))
+    (does_then (moved c) (sent_behind c m) (blind_behind c m) first (does_as (placed b (c, frame)) (sent_behind c m) same second))
 
-pub returns-then-goes_ahead : goal.returns-then-goes_ahead
-returns-then-goes_ahead c =
+pub returns-then-is_ahead : goal.returns-then-is_ahead
+returns-then-is_ahead c =
     let u : Loop = c.move_up.new.self in
     let ahead : true ≡ goes_ahead c.args.message.1 (find c.args.conn u.sessions) (count_at c.args.conn u.behind) = search rules in
-    sends c.args.conn c.args.message true (c.put_ahead.inside).me c.args.self.now c.make_way.new.self u c.put_ahead-then-goes_ahead.new.self (ap (λ (x : Loop). x.me) c.put_ahead.view_is) ahead c.make_way.ensures c.move_up.ensures c.put_ahead-then-goes_ahead.ensures.does
+    let is : c.new-unsent.result ≡ peer_frame u.me c.args.message.0 c.args.message.1 = search rules in
+    sends c.args.conn c.args.message true c.new-unsent.result c.args.self.now c.make_way.new.self u c.put_ahead.new.self is ahead c.make_way.ensures c.move_up.ensures c.put_ahead.ensures.does
 
-pub returns-else-goes_ahead : goal.returns-else-goes_ahead
-returns-else-goes_ahead c =
+pub returns-else-is_ahead : goal.returns-else-is_ahead
+returns-else-is_ahead c =
     let u : Loop = c.move_up.new.self in
     let ahead : false ≡ goes_ahead c.args.message.1 (find c.args.conn u.sessions) (count_at c.args.conn u.behind) = search rules in
-    sends c.args.conn c.args.message false u.me c.args.self.now c.make_way.new.self u c.put_behind.new.self refl ahead c.make_way.ensures c.move_up.ensures c.put_behind.ensures
+    let is : c.new-unsent.result ≡ peer_frame u.me c.args.message.0 c.args.message.1 = search rules in
+    sends c.args.conn c.args.message false c.new-unsent.result c.args.self.now c.make_way.new.self u c.put_behind.new.self is ahead c.make_way.ensures c.move_up.ensures c.put_behind.ensures

@@ -1,5 +1,4 @@
 use Rattle.std.proofs.Common.{◌≡◌, ◌^◌, ◌<◌, length}
-use Rattle.std.specs.Vec.Iter.{into_iter_items}
 use Rattle.op_runs.specs.Run.{Execution}
 use Rattle.op_runs.specs.World.{node_ids}
 use Rattle.op_runs.specs.Schedules.{DiskPlans}
@@ -9,9 +8,12 @@ use Rattle.op_world.proofs.Runs.{Continues}
 use Rattle.op_world.proofs.world.World.run_over.Given as goal
 use Rattle.op_areas.specs.Media.{medium}
 
-abbrev pub invariant-loop-event : goal.invariant-loop-event
-invariant-loop-event g l =
+abbrev pub invariant-events : goal.invariant-events
+invariant-events g l =
     let M = medium g.A.Disk.state g.A.Area.holds g.A.Area.IS_MIRRORED in
     (t : Execution) × Shows M l.world t
-    × ((plans : DiskPlans) × ArePlanned l.world.nodes plans × Continues l.fn.members l.fn.spares M.is_mirrored t plans (into_iter_items l.event-iterator) l.fn.events l.index l.world.proposed)
+    × ((plans : DiskPlans) × ArePlanned l.world.nodes plans × Continues l.fn.members l.fn.spares M.is_mirrored t plans l.coming l.fn.events l.index l.world.proposed)
     × (l.world.members ≡ l.fn.members) × (l.world.ids ≡ node_ids l.fn.members l.fn.spares) × (length l.fn.events < 2 ^ 63)
+
+abbrev pub decreases-events : goal.decreases-events
+decreases-events g l = length l.coming

@@ -20,8 +20,8 @@ returns-in_ok-show_node-in-Some-clause-happens g c t plans show planned =
       place = rw c.in-Some.is at did.place;
       at = c.index.ensures;
       lists_are = c.in_ok-show_node-in-Some.ensures;
-      servers = did.servers;
-      same = did.same;
+      servers = did.goes_on.servers;
+      same = (did.goes_on.members, did.goes_on.ids);
       proposed = did.proposed;
       possible = did.possible;
     })
@@ -38,8 +38,8 @@ returns-in_ok-show_node-in-Some-clause-kept g c =
       place = rw c.in-Some.is at did.place;
       at = c.index.ensures;
       lists_are = c.in_ok-show_node-in-Some.ensures;
-      servers = did.servers;
-      same = did.same;
+      servers = did.goes_on.servers;
+      same = (did.goes_on.members, did.goes_on.ids);
       proposed = did.proposed;
       possible = did.possible;
     })

@@ -3,7 +3,7 @@ use Rattle.std.proofs.lemmas.List.{take_more, map-append, append-nil, take-appen
 use Rattle.std.proofs.lemmas.List.Folds.{concat-append}
 use Rattle.std.specs.List.{concat}
 use Rattle.op_outside.proofs.Pieces.{Appends-more, prefix_after, prefix_of_more}
-use Rattle.op_parts.proofs.parts.write_parts.Goals as goal
+use Rattle.op_outside.proofs.parts.write_parts.Goals as goal
 
 -- the bytes of one part more
 module _ {A : Type 0} (f : A → List ℕ) (xs : List A) (i : ℕ) (d : A) (within : i < length xs) where

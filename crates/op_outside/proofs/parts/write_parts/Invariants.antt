@@ -1,7 +1,7 @@
 use Rattle.std.proofs.Common.{◌≡◌, map, take}
 use Rattle.std.specs.List.{concat}
 use Rattle.std.specs.Io.KnownBytes.{Appends}
-use Rattle.op_parts.proofs.parts.write_parts.Given as goal
+use Rattle.op_outside.proofs.parts.write_parts.Given as goal
 
 -- the parts so far stand, and no write has failed
 abbrev pub invariant-loop-part : goal.invariant-loop-part

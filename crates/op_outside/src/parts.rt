@@ -4,7 +4,7 @@ ghost use Rattle.std.specs.Io.KnownBytes.{Appends};
 ghost use Rattle.op_outside.specs.Causes.{FailsOnlyOnFault};
 ghost use Rattle.op_outside.specs.Streams.{AppendsPrefix};
 
-use op_outside::{Sink, WriteFail, write_all};
+use crate::sink::{Sink, WriteFail, write_all};
 
 /// Appends all bytes of these parts, one part after the other. Where a write fails, so does this, and a prefix of them was
 /// appended.
