@@ -66,7 +66,7 @@ pub fn opened(alloc: Global, first: MemDisk, second: MemDisk) -> Result<NodeCore
     opened_nodes_can_be_served::<MemDisk>();
     let members = sole()?;
     match Node::open(alloc, 1, &members, first, second) {
-        Ok((node, _)) => Ok(NodeCore { node }),
+        Ok((node, _)) => Ok(NodeCore::new(node)),
         Err(returned) => Err(returned.cause.into()),
     }
 }

@@ -72,7 +72,7 @@ fn answered_by<D: Disk>(alloc: Global, node: Node<D>, puts: u64, in_read: u64) -
     let settings = settings(alloc, reads.saturating_add(TURNS_BEFORE))?;
     let mut net = ScriptNet::new(alloc, script(alloc, reads, in_read)?);
     let mut clock = FakeClock::new(alloc, VecDeque::new(alloc), 1);
-    let served = serve(alloc, NodeCore { node }, &mut net, &mut clock, &settings);
+    let served = serve(alloc, NodeCore::new(node), &mut net, &mut clock, &settings);
     served.end.ok()?;
     answers(alloc, &net)
 }

@@ -1,11 +1,12 @@
 -- Deeds that are added to others: what they leave of what was read and given out, and that each comes from those before it.
-use Rattle.std.proofs.Common.{◌≡◌, ◌++◌, ◌∷◌, [], ℕ, Bool, true, false, List, map, Option, Some, None, refl, sym, ◌∙◌, ap, subst, inl, inr, append_assoc, append-nil, arith}
-use Rattle.std.specs.Prelude.{fold}
+use Rattle.std.proofs.Common.{◌≡◌, ◌++◌, ◌∷◌, [], ℕ, Bool, true, false, List, map, Option, Some, None, refl, sym, ◌∙◌, ap, subst, inl, inr, append_assoc, append-nil, get_or, arith}
+use Rattle.std.specs.Prelude.{fold, zip}
 use Rattle.std.specs.List.{Contains}
 use Rattle.std.proofs.lemmas.List.Sums.{fold-append}
 use Rattle.std.proofs.lemmas.List.Elements.{Contains-append_left, Contains-append_right}
 use Rattle.op_types.specs.declared.answers.Reply.{Reply}
 use Rattle.op_types.specs.declared.events.Input.{Input}
+use Rattle.op_types.specs.declared.events.Input.TheVariants as input
 use Rattle.op_types.specs.declared.events.Request.{Request}
 use Rattle.op_types.specs.declared.events.Request.TheVariants as request
 use Rattle.op_types.specs.declared.messages.Msg.{Msg}
@@ -13,7 +14,7 @@ use Rattle.op_serving.specs.Cores.{Standing}
 use Rattle.op_serving.specs.Fates.{Fate}
 use Rattle.op_serving.specs.Room.{Frame}
 use Rattle.op_serving.specs.State.{Key}
-use Rattle.op_serving.specs.Wire.{fits_peer, peer_frame}
+use Rattle.op_serving.specs.Wire.{peer_head, client_head, fits_peer, peer_frame}
 use Rattle.op_serving.specs.Inputs.{Deed, enters, says}
 use Rattle.op_fields.specs.Form.{encoded}
 use Rattle.op_serving.specs.Reading.{client_byte, peer_byte}
@@ -22,10 +23,11 @@ use Rattle.op_serving.specs.Promise.{Life, life, and_then, folded}
 use Rattle.op_connections.proofs.Queueing.{bytes_for}
 use Rattle.op_connections.proofs.Coming.{life_more, lived_says}
 use Rattle.op_cluster_laws.specs.Outputs.{after_deed, given_at, sent_in, answers_of, answered_in}
-use Rattle.op_cluster_laws.specs.Readings.{began_then, began, IsPeers, IsOfPeer, IsClients, WasRead, WasAsked}
-use Rattle.op_cluster_laws.specs.Causes.{MayAnswer, IsTold, IsGiven, IsCaused, CausedBehind, AreCaused}
+use Rattle.op_cluster_laws.specs.Readings.{began_then, began, HasFrame, IsPeers, IsOfPeer, IsClients, WasRead, WasAsked}
+use Rattle.op_cluster_laws.specs.Causes.{WasHeard, MayAnswer, IsTold, IsGiven, IsCaused, CausedBehind, AreCaused}
+use Rattle.op_cluster_laws.specs.Clusters.{Coming}
 use Rattle.op_cluster_laws.proofs.Lists.{Each, each_map}
-use Rattle.op_cluster_laws.proofs.Tracing.{folded_one, sent_push}
+use Rattle.op_cluster_laws.proofs.Tracing.{folded_one, sent_push, cut_last}
 
 no_hello : (me : ℕ) → hello me ≡ [] → ⊥
 unfolding hello encoded
@@ -82,6 +84,51 @@ was_asked_more early more c r w = record {
   says = w.says;
 }
 
+-- an input that would come next brings nothing that was read
+asked_back : (ds : List Deed) (d : Deed) → ((c : ℕ) → began c (ds ++ d ∷ []) ≡ began c ds) → ((c : ℕ) → (life c (ds ++ d ∷ [])).heard ≡ (life c ds).heard) → (c : ℕ) (r : Request) → WasAsked (ds ++ d ∷ []) c r → WasAsked ds c r
+asked_back ds d same heard c r w = elim (cut_last ds d w.before w.since w.split) [
+  | inl k ↦ record {
+    before = ds;
+    since = [];
+    split = sym (append-nil ds);
+    body = w.body;
+    accepted = sym (same c) ∙ ap (began c) (sym k.1) ∙ w.accepted;
+    has = subst (λ l. HasFrame client_head l (client_byte ∷ []) w.body) (ap (λ l. (life c l).heard) k.1 ∙ heard c) w.has;
+    says = w.says;
+  }
+  | inr k ↦ record { before = w.before; since = k.0; split = k.1; body = w.body; accepted = w.accepted; has = w.has; says = w.says }
+]
+
+read_back : (me : ℕ) (ds : List Deed) (d : Deed) → ((c : ℕ) → began c (ds ++ d ∷ []) ≡ began c ds) → ((c : ℕ) → (life c (ds ++ d ∷ [])).heard ≡ (life c ds).heard) → (q : ℕ) (m : Msg) → WasRead me (ds ++ d ∷ []) q m → WasRead me ds q m
+read_back me ds d same heard q m w = elim (cut_last ds d w.before w.since w.split) [
+  | inl k ↦ record {
+    before = ds;
+    since = [];
+    split = sym (append-nil ds);
+    conn = w.conn;
+    body = w.body;
+    first = w.first;
+    peers = subst (λ o. IsPeers me o w.first) (ap (began w.conn) k.1 ∙ same w.conn) w.peers;
+    has = subst (λ l. HasFrame peer_head l w.first w.body) (ap (λ l. (life w.conn l).heard) k.1 ∙ heard w.conn) w.has;
+    says = w.says;
+  }
+  | inr k ↦ record { before = w.before; since = k.0; split = k.1; conn = w.conn; body = w.body; first = w.first; peers = w.peers; has = w.has; says = w.says }
+]
+
+module _ (me : ℕ) (ds : List Deed) (whose : List ℕ) (x : Input) (f : Fate) where
+  asked_before : (c : ℕ) (r : Request) → WasAsked (ds ++ enters whose x f ∷ []) c r → WasAsked ds c r
+  asked_before = asked_back ds (enters whose x f) (λ c. began_push c ds (enters whose x f)) (λ c. ap (λ (y : Life). y.heard) (life_push c ds (enters whose x f)))
+
+  pub heard_before : (who : List ℕ) (i : Input) → WasHeard me (ds ++ enters whose x f ∷ []) who i → WasHeard me ds who i
+  heard_before who (input.Deliver q m) h = read_back me ds (enters whose x f) (λ c. began_push c ds (enters whose x f)) (λ c. ap (λ (y : Life). y.heard) (life_push c ds (enters whose x f))) q m h
+  heard_before who (input.Commands xs) h = (h.0, h.1, h.2, λ k y lt. let z = get_or (zip who xs) k y in asked_before z.0 (request.Command z.1) (h.3 k y lt))
+  heard_before who (input.Stop members) h = (h.0, h.1, asked_before h.0 (request.Stop members) h.2)
+  heard_before who input.TrimNow h = (h.0, h.1, asked_before h.0 request.Trim h.2)
+  heard_before who (input.Read r) h = (h.0, h.1, asked_before h.0 (request.Read r) h.2)
+  heard_before who (input.Up q) h = h
+  heard_before who (input.Down q) h = h
+  heard_before who input.Tick h = h
+
 pub clients_entered : (c : ℕ) (ds : List Deed) (who : List ℕ) (i : Input) (fate : Fate) (fs : List Frame) → IsClients c ds → IsClients c (ds ++ entered who i fate fs)
 clients_entered c ds who i fate fs k = record {
   accepted = began_entered c ds who i fate fs ∙ k.accepted;
@@ -107,6 +154,16 @@ peers_later me c ds d more same heard k =
 
 pub peers_says : (me c : ℕ) (ds : List Deed) (g : Frame) → IsOfPeer me c ds → IsOfPeer me c (ds ++ says g ∷ [])
 peers_says me c ds g k = peers_later me c ds (says g) [] (began_push c ds (says g)) (ap (λ (x : Life). x.heard) (life_push c ds (says g)) ∙ sym (append-nil (life c ds).heard)) k
+
+-- frames change nothing of it
+pub began_said : (c : ℕ) (ds : List Deed) (fs : List Frame) → began c (ds ++ map says fs) ≡ began c ds
+began_said c ds fs = fold-append (began_then c) None ds (map says fs) ∙ began_says c fs (began c ds)
+
+pub life_said : (c : ℕ) (ds : List Deed) (fs : List Frame) → life c (ds ++ map says fs) ≡ said_more (bytes_for c fs) (life c ds)
+life_said c ds fs = life_more c ds (map says fs) ∙ lived_says c fs (life c ds)
+
+pub clients_said : (c : ℕ) (ds : List Deed) (fs : List Frame) → IsClients c ds → IsClients c (ds ++ map says fs)
+clients_said c ds fs k = record { accepted = began_said c ds fs ∙ k.accepted; rest = k.rest; is = ap (λ (x : Life). x.heard) (life_said c ds fs) ∙ k.is }
 
 -- it is not a client's then
 pub peer_or_client : (me c : ℕ) (ds : List Deed) → IsOfPeer me c ds → IsClients c ds → ⊥
@@ -158,7 +215,27 @@ module _ (n : Standing) (ds : List Deed) (d : Deed) where
   replied_now read x c = subst (λ (l : List Reply). Contains l x) (sym (replied_push read n ds d))
       (Contains-append_right (answered_in read n ds) (answers_of read (given_at (folded n ds) d) ++ []) x (Contains-append_left (answers_of read (given_at (folded n ds) d)) [] x c))
 
+module _ (n : Standing) where
+  pub sent_more : (ds more : List Deed) (x : ℕ × Msg) → Contains (sent_in n ds) x → Contains (sent_in n (ds ++ more)) x
+  sent_more ds [] x c = subst (λ l. Contains (sent_in n l) x) (sym (append-nil ds)) c
+  sent_more ds (d ∷ more) x c = subst (λ l. Contains (sent_in n l) x) (append_assoc ds (d ∷ []) more) (sent_more (ds ++ d ∷ []) more x (sent_kept n ds d x c))
+
+  pub replied_more : (read : Bool) (ds more : List Deed) (x : Reply) → Contains (answered_in read n ds) x → Contains (answered_in read n (ds ++ more)) x
+  replied_more read ds [] x c = subst (λ l. Contains (answered_in read n l) x) (sym (append-nil ds)) c
+  replied_more read ds (d ∷ more) x c = subst (λ l. Contains (answered_in read n l) x) (append_assoc ds (d ∷ []) more) (replied_more read (ds ++ d ∷ []) more x (replied_kept n ds d read x c))
+
 -- ---- causes
+
+-- what was heard was heard by then, too
+pub heard_more : (me : ℕ) (ds more : List Deed) (who : List ℕ) (i : Input) → WasHeard me ds who i → WasHeard me (ds ++ more) who i
+heard_more me ds more who (input.Deliver q m) h = was_read_more me ds more q m h
+heard_more me ds more who (input.Commands xs) h = (h.0, h.1, h.2, λ k y lt. let z = get_or (zip who xs) k y in was_asked_more ds more z.0 (request.Command z.1) (h.3 k y lt))
+heard_more me ds more who (input.Stop members) h = (h.0, h.1, was_asked_more ds more h.0 (request.Stop members) h.2)
+heard_more me ds more who input.TrimNow h = (h.0, h.1, was_asked_more ds more h.0 request.Trim h.2)
+heard_more me ds more who (input.Read r) h = (h.0, h.1, was_asked_more ds more h.0 (request.Read r) h.2)
+heard_more me ds more who (input.Up q) h = h
+heard_more me ds more who (input.Down q) h = h
+heard_more me ds more who input.Tick h = h
 
 pub caused_push : (me : ℕ) (n : Standing) (early ds : List Deed) (d : Deed) → CausedBehind me n early ds → IsCaused me n (early ++ ds) d → CausedBehind me n early (ds ++ d ∷ [])
 caused_push me n early [] d h k = (subst (λ l. IsCaused me n l d) (append-nil early) k, tt)
@@ -171,6 +248,22 @@ caused_at me n before (e ∷ early) d later h = subst (λ l. IsCaused me n l d) 
 pub caused_front : (me : ℕ) (n : Standing) (before early later : List Deed) → CausedBehind me n before (early ++ later) → CausedBehind me n before early
 caused_front me n before [] later h = tt
 caused_front me n before (e ∷ early) later h = (h.0, caused_front me n (before ++ e ∷ []) early later h.1)
+
+pub caused_rest : (me : ℕ) (n : Standing) (before early later : List Deed) → CausedBehind me n before (early ++ later) → CausedBehind me n (before ++ early) later
+caused_rest me n before [] later h = subst (λ l. CausedBehind me n l later) (sym (append-nil before)) h
+caused_rest me n before (e ∷ early) later h = subst (λ l. CausedBehind me n l later) (append_assoc before (e ∷ []) early) (caused_rest me n (before ++ e ∷ []) early later h.1)
+
+-- inputs that would come next were heard by now
+heard_from : (me : ℕ) (n : Standing) (ds early : List Deed) (xs : List Coming) → ((who : List ℕ) (i : Input) → WasHeard me early who i → WasHeard me ds who i)
+    → CausedBehind me n early (map (λ x. enters x.0.0 x.0.1 x.1) xs) → Each (λ b. WasHeard me ds b.0 b.1) (map (λ x. x.0) xs)
+heard_from me n ds early [] back h = tt
+heard_from me n ds early (x ∷ xs) back h = (
+  back x.0.0 x.0.1 h.0.0,
+  heard_from me n ds (early ++ enters x.0.0 x.0.1 x.1 ∷ []) xs (λ who i k. back who i (heard_before me early x.0.0 x.0.1 x.1 who i k)) h.1,
+)
+
+pub heard_coming : (me : ℕ) (n : Standing) (ds : List Deed) (xs : List Coming) → AreCaused me n (ds ++ map (λ x. enters x.0.0 x.0.1 x.1) xs) → Each (λ b. WasHeard me ds b.0 b.1) (map (λ x. x.0) xs)
+heard_coming me n ds xs h = heard_from me n ds ds xs (λ who i k. k) (caused_rest me n [] ds (map (λ x. enters x.0.0 x.0.1 x.1) xs) h)
 
 pub may_answer_more : (read : Bool) (ds more : List Deed) (c : ℕ) (key : Key) → MayAnswer read ds c key → MayAnswer read (ds ++ more) c key
 may_answer_more false ds more c key a = tt

@@ -28,10 +28,10 @@ use Rattle.op_connections.proofs.Tables.{find_insert, find_insert_apart, found_o
 use Rattle.op_connections.proofs.Queueing.{bytes_for, Queues, queues_one}
 use Rattle.op_connections.proofs.Coming.{life_more, lived_says}
 use Rattle.op_connections.proofs.Keeping.{formed}
-use Rattle.op_cluster_laws.specs.Readings.{began, Reads, IsOfPeer, WasAsked}
+use Rattle.op_cluster_laws.specs.Readings.{began, Reads, IsOfPeer, WasRead, WasAsked}
 use Rattle.op_cluster_laws.specs.Causes.{TakesSaid, IsCaused}
 use Rattle.op_cluster_laws.proofs.Lists.{Each, each_map}
-use Rattle.op_cluster_laws.proofs.Causing.{may_answer_more, life_push, began_push, was_asked_more, peers_later, peers_says, IsSent, sent_later, sent_peer, caused_push}
+use Rattle.op_cluster_laws.proofs.Causing.{may_answer_more, life_push, began_push, was_asked_more, was_read_more, peers_later, peers_says, IsSent, sent_later, sent_peer, caused_push}
 use Rattle.op_cluster_laws.proofs.Fronting.{reads_none}
 use Rattle.op_cluster_laws.proofs.Knowing.{Unread, all_held, ReadsAs, Seat, WaitsAt, Knows, clients_are, seat_queued, waits_queued, open_queued, kind_queued, knows_calm}
 use Rattle.op_cluster_laws.proofs.Tracing.{folded_one, folded_push}
@@ -75,10 +75,10 @@ module _ (me : ℕ) (n : Standing) (u v : Unread) (f : Session → Session) (c :
       by_kind (Peer q h) r = r
       by_kind Client r = r
 
-  pub knows_changed : t.me ≡ s.loop.me → t.askers ≡ s.loop.askers → t.gathered ≡ s.loop.gathered → t.behind ≡ s.loop.behind → t.downs ≡ s.loop.downs → ((q : ℕ) (o : Option ℕ) → find q t.peers ≡ Some o → IsPid q)
+  pub knows_changed : t.me ≡ s.loop.me → t.askers ≡ s.loop.askers → t.gathered ≡ s.loop.gathered → t.brought ≡ s.loop.brought → t.behind ≡ s.loop.behind → t.downs ≡ s.loop.downs → ((q : ℕ) (o : Option ℕ) → find q t.peers ≡ Some o → IsPid q)
       → (y.kind ≡ Client → (f y).kind ≡ Client) → (f y).queue ≡ y.queue → Seat me v c (began c s.deeds) (life c s.deeds).heard (f y)
       → ((d : ℕ) → (c ≡ d → ⊥) → (heard : List ℕ) (z : Stream) → u d heard z → v d heard z) → Knows me n u s → Knows me n v (record s { loop = t })
-  knows_changed own askers gathered behind downs peers stays queue seat conv h = record {
+  knows_changed own askers gathered brought behind downs peers stays queue seat conv h = record {
     caused = h.caused;
     node = h.node;
     me_is = own ∙ h.me_is;
@@ -98,6 +98,7 @@ module _ (me : ℕ) (n : Standing) (u v : Unread) (f : Session → Session) (c :
         (each_map (λ e. (kind_at e.0 s.loop ≡ Some Client) × WasAsked s.deeds e.0 (request.Command e.1)) (λ e. (kind_at e.0 t ≡ Some Client) × WasAsked s.deeds e.0 (request.Command e.1))
         (λ e k. (clients_stay stays e.0 k.0, k.1)) s.loop.gathered h.gathered);
     few = subst (λ l. length l < most_commands) (sym gathered) h.few;
+    brought = subst (λ l. Each (λ e. WasRead me s.deeds e.1.0 e.1.1) l) (sym brought) h.brought;
     behind = subst (λ l. Each (λ e. (is_open e.0 t ≡ true) × IsSent me n s.deeds e) l) (sym behind)
         (each_map (λ e. (is_open e.0 s.loop ≡ true) × IsSent me n s.deeds e) (λ e. (is_open e.0 t ≡ true) × IsSent me n s.deeds e)
         (λ e k. (opens_stay e.0 k.0, k.1)) s.loop.behind h.behind);
@@ -112,12 +113,12 @@ module _ (me : ℕ) (n : Standing) (s : State) (h : Knows me n all_held s) (t : 
   abbrev told_of : State
   told_of = noting d (record s { loop = t })
 
-  pub knows_deed : t.me ≡ s.loop.me → ((c : ℕ) → kind_at c s.loop ≡ Some Client → kind_at c t ≡ Some Client) → t.askers ≡ s.loop.askers → t.gathered ≡ s.loop.gathered → t.behind ≡ s.loop.behind → t.downs ≡ s.loop.downs
+  pub knows_deed : t.me ≡ s.loop.me → ((c : ℕ) → kind_at c s.loop ≡ Some Client → kind_at c t ≡ Some Client) → t.askers ≡ s.loop.askers → t.gathered ≡ s.loop.gathered → t.brought ≡ s.loop.brought → t.behind ≡ s.loop.behind → t.downs ≡ s.loop.downs
       → ((c : ℕ) → is_open c s.loop ≡ true → IsOfPeer me c s.deeds → (is_open c t ≡ true) × IsOfPeer me c (s.deeds ++ d ∷ []))
       → ((q : ℕ) (o : Option ℕ) → find q t.peers ≡ Some o → IsPid q)
       → ((c : ℕ) (y : Session) → find c t.sessions ≡ Some y → Seat me all_held c (began c (s.deeds ++ d ∷ [])) (life c (s.deeds ++ d ∷ [])).heard y)
       → ((c : ℕ) → WaitsAt (life c (s.deeds ++ d ∷ [])) (find c t.sessions)) → Knows me n all_held told_of
-  knows_deed own stays askers gathered behind downs links peers seats waits = record {
+  knows_deed own stays askers gathered brought behind downs links peers seats waits = record {
     caused = caused_push me n [] s.deeds d h.caused cause;
     node = h.node ∙ sym (folded_push n s.deeds d ∙ same);
     me_is = own ∙ h.me_is;
@@ -128,6 +129,8 @@ module _ (me : ℕ) (n : Standing) (s : State) (h : Knows me n all_held s) (t : 
         (each_map (λ e. (kind_at e.0 s.loop ≡ Some Client) × WasAsked s.deeds e.0 (request.Command e.1)) (λ e. (kind_at e.0 t ≡ Some Client) × WasAsked (s.deeds ++ d ∷ []) e.0 (request.Command e.1))
         (λ e k. (stays e.0 k.0, was_asked_more s.deeds (d ∷ []) e.0 (request.Command e.1) k.1)) s.loop.gathered h.gathered);
     few = subst (λ l. length l < most_commands) (sym gathered) h.few;
+    brought = subst (λ l. Each (λ e. WasRead me (s.deeds ++ d ∷ []) e.1.0 e.1.1) l) (sym brought)
+        (each_map (λ e. WasRead me s.deeds e.1.0 e.1.1) (λ e. WasRead me (s.deeds ++ d ∷ []) e.1.0 e.1.1) (λ e k. was_read_more me s.deeds (d ∷ []) e.1.0 e.1.1 k) s.loop.brought h.brought);
     behind = subst (λ l. Each (λ e. (is_open e.0 t ≡ true) × IsSent me n (s.deeds ++ d ∷ []) e) l) (sym behind)
         (each_map (λ e. (is_open e.0 s.loop ≡ true) × IsSent me n s.deeds e) (λ e. (is_open e.0 t ≡ true) × IsSent me n (s.deeds ++ d ∷ []) e)
         (λ e k. let j = links e.0 k.0 (sent_peer me n s.deeds e k.1) in (j.0, sent_later me n s.deeds d e j.1 k.1)) s.loop.behind h.behind);
@@ -149,7 +152,7 @@ module _ (me : ℕ) (n : Standing) where
       λ d. life_more d s.deeds (says (c, b) ∷ []) ∙ lived_says d ((c, b) ∷ []) (life d s.deeds) in
       let q : (d : ℕ) → Queues d s.loop ((c, b) ∷ []) t = λ d. queues_one d c b s.loop in
       knows_deed me n s h t (says (c, b)) (inr (no_command what, inr none, clients_are me n all_held s h c client, refl)) (λ m. refl)
-      refl (λ d e. kind_queued me n all_held (bytes_for d ((c, b) ∷ [])) (find d s.loop.sessions) (find d t.sessions) (q d).found ∙ e) refl refl refl refl
+      refl (λ d e. kind_queued me n all_held (bytes_for d ((c, b) ∷ [])) (find d s.loop.sessions) (find d t.sessions) (q d).found ∙ e) refl refl refl refl refl
       (λ d o k. (open_queued me n all_held (bytes_for d ((c, b) ∷ [])) (find d s.loop.sessions) (find d t.sessions) (q d).found ∙ o, peers_says me d s.deeds (c, b) k)) h.peers
       (λ d. seat_queued me n all_held d (began d s.deeds) (began d (s.deeds ++ says (c, b) ∷ [])) (life d s.deeds).heard (life d (s.deeds ++ says (c, b) ∷ [])).heard (bytes_for d ((c, b) ∷ []))
       (find d s.loop.sessions) (find d t.sessions) (began_push d s.deeds (says (c, b))) (ap (λ (x : Life). x.heard) (grown d)) (q d).found (h.seats d))
@@ -215,7 +218,7 @@ module _ (me : ℕ) (n : Standing) (c : ℕ) (bytes : List ℕ) (each : IsBytes 
       (λ d e. elim (cases_eq c d) [
         | inl same ↦ ap (λ k. kind_at k t) (sym same) ∙ ap kind_in own ∙ fed_kind (find c s.loop.sessions) ∙ ap (λ k. kind_at k s.loop) same ∙ e
         | inr apart ↦ ap kind_in (other d apart) ∙ e
-      ]) refl refl refl refl
+      ]) refl refl refl refl refl
       (λ d o k. (
         elim (cases_eq c d) [
           | inl same ↦ ap (λ j. is_open j t) (sym same) ∙ ap is_some own ∙ fed_open (find c s.loop.sessions) ∙ ap (λ j. is_open j s.loop) same ∙ o
@@ -318,7 +321,7 @@ module _ (me : ℕ) (n : Standing) (k c : ℕ) (s : State) (le : k ≤ length (w
       (λ d e. elim (cases_eq c d) [
         | inl same ↦ ap (λ j. kind_at j t) (sym same) ∙ ap kind_in own ∙ less_kind (find c s.loop.sessions) (ap (λ j. kind_at j s.loop) same ∙ e)
         | inr apart ↦ ap kind_in (other d apart) ∙ e
-      ]) refl refl refl refl
+      ]) refl refl refl refl refl
       (λ d o j. (
         elim (cases_eq c d) [
           | inl same ↦ ap (λ i. is_open i t) (sym same) ∙ ap is_some own ∙ less_open (find c s.loop.sessions) ∙ ap (λ i. is_open i s.loop) same ∙ o
@@ -399,7 +402,7 @@ module _ (me : ℕ) (n : Standing) (l : Luck) (c : ℕ) (kind : Kind) (s : State
       (λ d e. elim (cases_eq c d) [
         | inl same ↦ absurd (let bad : None ≡ Some Client = sym (ap kind_in none) ∙ ap (λ j. kind_at j s.loop) same ∙ e in cc)
         | inr apart ↦ ap kind_in (other d apart) ∙ e
-      ]) refl refl refl refl
+      ]) refl refl refl refl refl
       (λ d o k. elim (cases_eq c d) [
         | inl same ↦ absurd (let bad : false ≡ true = sym shut ∙ ap (λ j. is_open j s.loop) same ∙ o in cc)
         | inr apart ↦ (

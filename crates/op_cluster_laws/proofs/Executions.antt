@@ -1,11 +1,11 @@
--- One deed more of a node that stands in a world: what it makes of the world.
-use Rattle.std.proofs.Common.{◌≡◌, ◌≤◌, ◌+◌, ℕ, zero, suc, Bool, true, false, is_some, if◌then◌else◌, List, [], ◌∷◌, ◌++◌, map, length, Option, Some, None, refl, sym, ◌∙◌, ap, subst, append-nil, slice_get, ◌⊎◌, inl, inr, arith}
+-- What becomes of a world in which something happens at one node: a step, a crash and a start, or several steps and these.
+use Rattle.std.proofs.Common.{◌≡◌, ◌≤◌, ◌+◌, ℕ, zero, suc, Bool, true, false, is_some, List, [], ◌∷◌, ◌++◌, map, length, Option, Some, None, refl, sym, ◌∙◌, ap, subst, append_assoc, append-nil, slice_get, ◌⊎◌, inl, inr, arith}
+use Rattle.std.specs.Prelude.{All}
 use Rattle.std.proofs.lemmas.List.{length-append}
 use Rattle.std.proofs.lemmas.Option.{slice_get-get_or, slice_get-map}
 use Rattle.std.specs.Option.{option_map}
 use Rattle.std.specs.List.{Contains}
-use Rattle.std.proofs.lemmas.List.Elements.{Contains-append_left, Contains-append_right, Contains-append_cases, Contains-push}
-use Rattle.op_types.specs.Changes.{durable_after}
+use Rattle.std.proofs.lemmas.List.Elements.{Contains-append_left, Contains-append_right, Contains-append_cases, Contains-push, All-nil, All-cons, All-append}
 use Rattle.op_runs.specs.declared.events.What.{What}
 use Rattle.op_runs.specs.declared.events.What.TheVariants as what
 use Rattle.op_types.specs.declared.durable.Durable.{Durable}
@@ -15,22 +15,24 @@ use Rattle.op_types.specs.declared.answers.Reply.{Reply}
 use Rattle.op_types.specs.declared.messages.Msg.{Msg}
 use Rattle.op_runs.specs.declared.summary.Line.{Line}
 use Rattle.op_runs.specs.declared.summary.Line.TheVariants as line
-use Rattle.op_protocol.specs.State.{Planned, state_after}
+use Rattle.op_protocol.specs.State.{State, Planned, state_after}
 use Rattle.op_protocol.specs.Rows.{step_plan}
 use Rattle.op_protocol.specs.Starting.{state_after_restart, sends_after_restart}
-use Rattle.op_runs.specs.World.{World, Node, Up, Down, Failed, Sent, Happening, Done, Stopped, Faulted, run_of, world_after, world_by_fate, world_opening, world_reopening, world_with_node, node_at, with_node, sent_by, outcome_lines, answer_line, lines_of, failed_outcome, state_after_reopening}
+use Rattle.op_runs.specs.Possible.{proposals_of, proposals_in}
+use Rattle.op_runs.specs.World.{World, Node, NodeStatus, Up, Down, Sent, Happening, Done, run_of, world_after, world_by_fate, world_opening, world_with_node, node_at, with_node, sent_by, outcome_lines, answer_line, lines_of}
+use Rattle.op_laws.proofs.Reached.{run_append}
 use Rattle.op_refinement.proofs.NodeLists.{node_at-other, node_at-here}
 use Rattle.op_serving.specs.declared.node.Given.{Given}
-use Rattle.op_serving.specs.Cores.{Standing, saying, gives, after_input, faulted, reopens, reopened, refused_with, given_again}
+use Rattle.op_serving.specs.Cores.{Failure, Standing, given_of, saying, gives, after_input, faulted, reopens, reopened, refused_with, given_again}
 use Rattle.op_serving.specs.Fates as fates
 use Rattle.op_serving.specs.Inputs.{Deed, begins, hears, enters, says, takes}
-use Rattle.op_serving.specs.Reopenings.{unstored_after, FindsOneOf}
+use Rattle.op_serving.specs.Reopenings.{Unstored, unstored_after, FindsOneOf}
 use Rattle.op_cluster_laws.specs.Outputs.{after_deed, given_at, answers_of}
 use Rattle.op_cluster_laws.specs.Causes.{MayFind}
-use Rattle.op_cluster_laws.specs.Worlds.{StandsAt, RunsAs}
-use Rattle.op_cluster_laws.proofs.Tracing.{unstored_deed, FindsAt}
-use Rattle.op_cluster_laws.proofs.Happenings.{sent, Says, ticks, delivers, proposes, stops, trims, looks_up, goes_up, goes_down, happens, step_world, open_world, stop_up, stop_failed, start_world}
-use Rattle.op_cluster_laws.specs.Traces.{again}
+use Rattle.op_cluster_laws.specs.Traces.{stepped, held_with, sent_stepping, proposed_by, proposed_by_all}
+use Rattle.op_cluster_laws.proofs.Tracing.{unstored_deed}
+use Rattle.op_cluster_laws.proofs.Lists.{Each, each_map}
+use Rattle.op_cluster_laws.proofs.Happenings.{sent, Says, ticks, delivers, proposes, stops, trims, looks_up, goes_up, goes_down, happens, step_world, stop_up, start_world}
 
 -- ---- messages
 
@@ -59,6 +61,29 @@ sent_length : (p : ℕ) (sends : List (ℕ × Msg)) → length (sent_by p sends)
 sent_length p [] = refl
 sent_length p (x ∷ sends) = let k = sent_length p sends in omega (arith, k)
 
+-- a list goes on behind what it was
+abbrev pub Longer : List Sent → List Sent → Type 0
+Longer xs ys = (more : List Sent) × (ys ≡ xs ++ more)
+
+same_long : (xs : List Sent) → Longer xs xs
+same_long xs = ([], sym (append-nil xs))
+
+longer_both : (xs ys zs : List Sent) → Longer xs ys → Longer ys zs → Longer xs zs
+longer_both xs ys zs a b = (a.0 ++ b.0, b.1 ∙ ap (λ l. l ++ b.0) a.1 ∙ append_assoc xs a.0 b.0)
+
+pub numbered_longer : (xs ys : List Sent) (x : Sent) → Longer xs ys → Numbered xs x → Numbered ys x
+numbered_longer xs ys x l h = subst (λ z. Numbered z x) (sym l.1) (numbered_left xs l.0 x h)
+
+says_longer : (xs ys : List Sent) (p : ℕ) (i : Input) (w : What) → Longer xs ys → Says xs p i w → Says ys p i w
+says_longer xs ys p i w l ticks = ticks
+says_longer xs ys p i w l (delivers {q} {m} k e) = delivers k (subst (λ z. slice_get z k ≡ Some (sent q p m)) (sym l.1) (kept_message xs l.0 k (sent q p m) e))
+says_longer xs ys p i w l proposes = proposes
+says_longer xs ys p i w l stops = stops
+says_longer xs ys p i w l trims = trims
+says_longer xs ys p i w l looks_up = looks_up
+says_longer xs ys p i w l goes_up = goes_up
+says_longer xs ys p i w l goes_down = goes_down
+
 none_given : (ms : List Sent) (p d : ℕ) (m : Msg) → Contains {X = ℕ × Msg} [] (d, m) → Numbered ms (sent p d m)
 none_given ms p d m c = absurd (omega (arith, c.1))
 
@@ -73,13 +98,6 @@ says_of ms p (input.Read r) h = (_, looks_up)
 says_of ms p (input.Up q) h = (_, goes_up)
 says_of ms p (input.Down q) h = (_, goes_down)
 
--- ---- one deed more
-
--- it is a happening of this event: a step for the input, or an opening
-abbrev pub EventOf : List Sent → ℕ → Deed → What → Type 0
-EventOf ms p (enters who i fate) w = Says ms p i w ⊎ (w ≡ what.Start p)
-EventOf ms p d w = ⊥
-
 -- the line of an answer, to a read or to a command
 abbrev pub told_line : Bool → ℕ → Reply → Line
 told_line true p r = line.Read p r.client r.seq r.answer
@@ -88,27 +106,6 @@ told_line false p r = answer_line p r.client r.seq r.answer
 -- nobody is answered
 abbrev pub nobody : Bool → List Reply
 nobody read = []
-
--- What becomes of a world in which something happens at the node of this id: an event that is so, or none; the node
--- sends and replies this, and stands so.
-pub record Moves (w : World) (p : ℕ) (Of : What → Type 0) (sends : List (ℕ × Msg)) (answers : Bool → List Reply) (n : Standing) (left : Option Durable) (u : Durable) : Type 0 where
-  pub happenings : List Happening
-  pub is : (happenings ≡ []) ⊎ ((h : Happening) × (happenings ≡ h ∷ []) × Of h.event.what)
-  pub self : StandsAt (run_of w happenings) p n left u
-  pub others : (q : ℕ) → (q ≡ p → ⊥) → node_at (run_of w happenings).nodes q ≡ node_at w.nodes q
-  pub messages : (x : Sent) → Numbered w.messages x → Numbered (run_of w happenings).messages x
-  pub given : (t : ℕ) (m : Msg) → Contains sends (t, m) → Numbered (run_of w happenings).messages (sent p t m)
-  pub count : length (run_of w happenings).messages ≤ length w.messages + length sends
-  pub lines : (x : Line) → Contains w.lines x → Contains (run_of w happenings).lines x
-  pub replied : (read : Bool) (r : Reply) → Contains (answers read) r → Contains (run_of w happenings).lines (told_line read p r)
-
--- the same of a deed of a node that serves
-abbrev pub DeedMoves : World → ℕ → Standing → Durable → Deed → Type 0
-DeedMoves w p n u d = Moves w p (EventOf w.messages p d) (given_at n d).sends (λ read. answers_of read (given_at n d)) (after_deed n d) None (unstored_deed n d u)
-
--- it stands as before, where its node does
-pub others_stand : (w v : World) (q : ℕ) (n : Standing) (left : Option Durable) (u : Durable) → node_at v.nodes q ≡ node_at w.nodes q → StandsAt w q n left u → StandsAt v q n left u
-others_stand w v q n left u same s = record { me = s.me; found = s.found; there = same ∙ s.there; pid = s.pid; state = s.state; runs = s.runs }
 
 nothing : {A : Type 0} (x : A) → Contains [] x → ⊥
 nothing x c = omega (arith, c.1)
@@ -131,266 +128,372 @@ line_among f (x ∷ rs) r c = elim (Contains-append_cases (x ∷ []) rs r c) [
     one_is x y (zero, lt, e) = e
     one_is x y (suc k, lt, e) = absurd (omega (arith, lt))
 
--- nothing happens in the world
-rests : (w : World) (p : ℕ) (n : Standing) (u : Durable) (d : Deed) → (given_at n d).sends ≡ [] → ((read : Bool) (r : Reply) → Contains (answers_of read (given_at n d)) r → ⊥) → StandsAt w p (after_deed n d) None (unstored_deed n d u) → DeedMoves w p n u d
-rests w p n u d none still s = record {
-  happenings = [];
-  is = inl refl;
-  self = s;
-  others = λ q differ. refl;
-  messages = λ x t. t;
-  given = λ t m x. none_given w.messages p t m (subst (λ l. Contains {X = ℕ × Msg} l (t, m)) none x);
-  count = omega arith;
-  lines = λ x c. c;
-  replied = λ read r c. absurd (still read r c);
-}
+-- a delivery is that of a message that was sent
+pub said_numbered : (ms : List Sent) (p : ℕ) (i : Input) (w : What) → Says ms p i w → (q : ℕ) (m : Msg) → i ≡ input.Deliver q m → Numbered ms (sent q p m)
+said_numbered ms p i w ticks q m same = absurd cc
+said_numbered ms p i w (delivers {q = r} {m = x} k e) q m same =
+    let from : r ≡ q = cc in let is : x ≡ m = cc in (k, e ∙ ap (λ z. Some (sent z p x)) from ∙ ap (λ z. Some (sent q p z)) is)
+said_numbered ms p i w proposes q m same = absurd cc
+said_numbered ms p i w stops q m same = absurd cc
+said_numbered ms p i w trims q m same = absurd cc
+said_numbered ms p i w looks_up q m same = absurd cc
+said_numbered ms p i w goes_up q m same = absurd cc
+said_numbered ms p i w goes_down q m same = absurd cc
 
--- one node is replaced, and sends this
-module _ (w : World) (p : ℕ) (k0 : Node) (there : node_at w.nodes p ≡ Some k0) (pid : k0.pid ≡ p) (Of : What → Type 0) (sends : List (ℕ × Msg)) (answers : Bool → List Reply) (n : Standing) (left : Option Durable) (u : Durable) where
-  moved_to : (h : Happening) (k : Node) (out : List (ℕ × Msg)) → Of h.event.what
-      → (world_after w h).nodes ≡ with_node w.nodes k → (world_after w h).messages ≡ w.messages ++ sent_by k0.pid out
-      → sends ≡ out → k.pid ≡ k0.pid → n.me ≡ p → k.state ≡ n.state
-      → RunsAs left n.failed u k.status → (told : List Line) → (world_after w h).lines ≡ w.lines ++ told
-      → ((read : Bool) (r : Reply) → Contains (answers read) r → Contains told (told_line read p r)) → Moves w p Of sends answers n left u
-  moved_to h k out event nodes messages same_out same me state runs told all_lines said =
-      let is : k.pid ≡ p = same ∙ pid in
-      record {
-        happenings = h ∷ [];
-        is = inr (h, refl, event);
-        self = record {
-          me = me;
-          found = k;
-          there = ap (λ l. node_at l p) nodes ∙ subst (λ z. node_at (with_node w.nodes k) z ≡ Some k) is (node_at-here w.nodes k k0 (subst (λ z. node_at w.nodes z ≡ Some k0) (sym is) there));
-          pid = is;
-          state = state;
-          runs = runs;
-        };
-        others = λ q differ. ap (λ l. node_at l q) nodes ∙ node_at-other w.nodes k q (λ e. differ (e ∙ is));
-        messages = λ x t. subst (λ l. Numbered l x) (sym messages) (numbered_left w.messages (sent_by k0.pid out) x t);
-        given = λ t m c. subst (λ l. Numbered l (sent p t m)) (sym messages)
-            (numbered_right w.messages (sent_by k0.pid out) (sent p t m) (subst (λ z. Numbered (sent_by z out) (sent p t m)) (sym pid)
-            (numbered_sent p out t m (subst (λ l. Contains {X = ℕ × Msg} l (t, m)) same_out c))));
-        count =
-            let all : length (world_after w h).messages ≡ length w.messages + length (sent_by k0.pid out) = ap length messages ∙ length-append w.messages (sent_by k0.pid out) in
-            let each : length (sent_by k0.pid out) ≡ length out = sent_length k0.pid out in
-            let own : length sends ≡ length out = ap length same_out in
-            omega (arith, all, each, own);
-        lines = λ x c. subst (λ (l : List Line). Contains l x) (sym all_lines) (Contains-append_left w.lines told x c);
-        replied = λ read r c. subst (λ (l : List Line). Contains l (told_line read p r)) (sym all_lines) (Contains-append_right w.lines told (told_line read p r) (said read r c));
-      }
+-- ---- what becomes of a world
 
--- ---- each fate
+pub proposals_more : (hs gs : List Happening) → proposals_in (hs ++ gs) ≡ proposals_in hs + proposals_in gs
+proposals_more [] gs = omega arith
+proposals_more (h ∷ hs) gs = let k = proposals_more hs gs in omega (arith, k)
 
-module _ (w : World) (p : ℕ) (n : Standing) (u : Durable) (who : List ℕ) (i : Input) (s : StandsAt w p n None u) where
-  plan_same : step_plan s.found.pid s.found.state i ≡ step_plan n.me n.state i
-  plan_same = ap (λ z. step_plan z s.found.state i) (s.pid ∙ sym s.me) ∙ ap (λ z. step_plan n.me z i) s.state
+-- the node of this id in a world runs so, in this state
+pub record NodeIs (w : World) (p : ℕ) (status : NodeStatus) (s : State) : Type 0 where
+  pub found : Node
+  pub there : node_at w.nodes p ≡ Some found
+  pub pid : found.pid ≡ p
+  pub state : found.state ≡ s
+  pub runs : found.status ≡ status
 
-  -- the lines of its answers
-  step_lines : n.failed ≡ None → (read : Bool) (r : Reply) → Contains (answers_of read (gives n i)) r → Contains (lines_of 0 s.found.pid (step_plan s.found.pid s.found.state i)) (told_line read p r)
-  unfolding gives
-  step_lines up read r c = by_kind read c
-    where
-      plan : Planned
-      plan = step_plan s.found.pid s.found.state i
+-- What becomes of a world in which something happens at the node of this id: events that are so, which propose so much and send so
+-- many messages at most; the node gives out and replies this, and runs so.
+pub record Moves (w : World) (p : ℕ) (Of : What → Type 0) (proposals most : ℕ) (sends : List (ℕ × Msg)) (answers : Bool → List Reply) (status : NodeStatus) (s : State) : Type 0 where
+  pub happenings : List Happening
+  pub are : All (λ h. Of h.event.what) happenings
+  pub proposed : proposals_in happenings ≤ proposals
+  pub self : NodeIs (run_of w happenings) p status s
+  pub others : (q : ℕ) → (q ≡ p → ⊥) → node_at (run_of w happenings).nodes q ≡ node_at w.nodes q
+  pub messages : Longer w.messages (run_of w happenings).messages
+  pub given : (t : ℕ) (m : Msg) → Contains sends (t, m) → Numbered (run_of w happenings).messages (sent p t m)
+  pub count : length (run_of w happenings).messages ≤ length w.messages + most
+  pub lines : (x : Line) → Contains w.lines x → Contains (run_of w happenings).lines x
+  pub replied : (read : Bool) (r : Reply) → Contains (answers read) r → Contains (run_of w happenings).lines (told_line read p r)
 
-      commands : List Line
-      commands = map (λ (x : Reply). answer_line s.found.pid x.client x.seq x.answer) plan.replies
+module _ (p : ℕ) (Of : What → Type 0) where
+  -- nothing happens, and nothing is given out
+  pub rests : (w : World) (a b : ℕ) (g : Given) (s t : State) → g.sends ≡ [] → ((read : Bool) (r : Reply) → Contains (answers_of read g) r → ⊥) → s ≡ t → NodeIs w p Up s
+      → Moves w p Of a b g.sends (λ read. answers_of read g) Up t
+  rests w a b g s t none still same n = record {
+    happenings = [];
+    are = All-nil (λ h. Of h.event.what);
+    proposed = omega arith;
+    self = subst (NodeIs w p Up) same n;
+    others = λ q differ. refl;
+    messages = same_long w.messages;
+    given = λ t m x. none_given w.messages p t m (subst (λ l. Contains {X = ℕ × Msg} l (t, m)) none x);
+    count = omega arith;
+    lines = λ x c. c;
+    replied = λ read r c. absurd (still read r c);
+  }
 
-      reads : List Line
-      reads = map (λ (x : Reply). line.Read s.found.pid x.client x.seq x.answer) plan.read_replies
-
-      by_kind : (read : Bool) → Contains (answers_of read (gives n i)) r → Contains ((outcome_lines 0 plan.outcome ++ commands) ++ reads) (told_line read p r)
-      by_kind false k =
-          Contains-append_left (outcome_lines 0 plan.outcome ++ commands) reads (told_line false p r)
-          (Contains-append_right (outcome_lines 0 plan.outcome) commands (told_line false p r)
-          (subst (λ z. Contains commands (told_line false z r)) s.pid
-          (line_among (λ (x : Reply). answer_line s.found.pid x.client x.seq x.answer) plan.replies r (subst (λ (l : List Reply). Contains l r) (rw up (ap (λ x. x.replies) (sym plan_same))) k))))
-      by_kind true k =
-          Contains-append_right (outcome_lines 0 plan.outcome ++ commands) reads (told_line true p r)
-          (subst (λ z. Contains reads (told_line true z r)) s.pid
-          (line_among (λ (x : Reply). line.Read s.found.pid x.client x.seq x.answer) plan.read_replies r (subst (λ (l : List Reply). Contains l r) (rw up (ap (λ x. x.read_replies) (sym plan_same))) k)))
-
-  does_step : (what : What) → Says w.messages p i what → n.failed ≡ None → DeedMoves w p n u (enters who i fates.done)
-  unfolding gives after_input
-  does_step what said up =
-      let plan : Planned = step_plan s.found.pid s.found.state i in
-      let k : Node = record s.found { state = state_after s.found.state plan } in
-      let h : Happening = happens what Done false in
-      let runs : s.found.status ≡ Up = subst (λ o. RunsAs None o u s.found.status) up s.runs in
-      let is : world_after w h ≡ world_by_fate Done 0 w s.found i = step_world w s.found p i what Done s.there runs said in
-      moved_to w p s.found s.there s.pid (EventOf w.messages p (enters who i fates.done)) (given_at n (enters who i fates.done)).sends (λ read. answers_of read (given_at n (enters who i fates.done))) (after_deed n (enters who i fates.done)) None (unstored_deed n (enters who i fates.done) u) h k plan.sends (inl said) (ap (λ v. v.nodes) is) (ap (λ v. v.messages) is)
-      (rw up (ap (λ x. x.sends) (sym plan_same))) refl (rw up s.me)
-      (rw up (ap (λ z. state_after s.found.state z) plan_same ∙ ap (λ z. state_after z (step_plan n.me n.state i)) s.state)) (rw up runs)
-      (lines_of 0 s.found.pid plan) (ap (λ v. v.lines) is)
-      (step_lines up)
-
-  breaks_step : (c : ℕ) (what : What) → Says w.messages p i what → n.failed ≡ None → DeedMoves w p n u (enters who i (fates.faults c))
-  unfolding faulted
-  breaks_step c what said up =
-      let plan : Planned = step_plan s.found.pid s.found.state i in
-      let after : Durable = durable_after s.found.state.durable plan.batch in
-      let k : Node = record s.found { status = Failed c after } in
-      let h : Happening = happens what (Faulted c) false in
-      let runs : s.found.status ≡ Up = subst (λ o. RunsAs None o u s.found.status) up s.runs in
-      let is : world_after w h ≡ world_by_fate (Faulted c) 0 w s.found i = step_world w s.found p i what (Faulted c) s.there runs said in
-      let stored : after ≡ unstored_after n i (fates.faults c) u = rw up (ap (λ z. durable_after s.found.state.durable z.batch) plan_same ∙ ap (λ z. durable_after z.durable (step_plan n.me n.state i).batch) s.state) in
-      moved_to w p s.found s.there s.pid (EventOf w.messages p (enters who i (fates.faults c))) (given_at n (enters who i (fates.faults c))).sends (λ read. answers_of read (given_at n (enters who i (fates.faults c)))) (after_deed n (enters who i (fates.faults c))) None (unstored_deed n (enters who i (fates.faults c)) u) h k [] (inl said) (ap (λ v. v.nodes) is) (ap (λ v. v.messages) is ∙ sym (append-nil w.messages))
-      refl refl s.me s.state (ap (Failed c) stored) (outcome_lines 0 (failed_outcome c i)) (ap (λ v. v.lines) is) (λ read r none. absurd (silent (saying None) refl refl read r none))
-
-  does_failed : (c : ℕ) → n.failed ≡ Some c → DeedMoves w p n u (enters who i fates.done)
-  unfolding gives after_input
-  does_failed c down = rests w p n u (enters who i fates.done) (rw down refl) (rw down (silent (refused_with c i) refl refl)) (subst (λ m. StandsAt w p m None u) (sym same) s)
-    where
-      same : after_input n i ≡ n
-      same = rw down refl
-
-  breaks_failed : (c d : ℕ) → n.failed ≡ Some c → DeedMoves w p n u (enters who i (fates.faults d))
-  unfolding faulted
-  breaks_failed c d down =
-      let k : Node = record s.found { status = Failed d u } in
-      let h : Happening = happens (what.Start p) (Faulted d) false in
-      let runs : s.found.status ≡ Failed c u = subst (λ o. RunsAs None o u s.found.status) down s.runs in
-      let is : world_after w h ≡ world_reopening (Faulted d) u w s.found s.found.state.durable = open_world w s.found p c u (Faulted d) false s.there runs in
-      let stored : u ≡ unstored_after n i (fates.faults d) u = rw down refl in
-      moved_to w p s.found s.there s.pid (EventOf w.messages p (enters who i (fates.faults d))) (given_at n (enters who i (fates.faults d))).sends (λ read. answers_of read (given_at n (enters who i (fates.faults d)))) (after_deed n (enters who i (fates.faults d))) None (unstored_deed n (enters who i (fates.faults d)) u) h k [] (inr refl) (ap (λ v. v.nodes) is) (ap (λ v. v.messages) is ∙ sym (append-nil w.messages))
-      refl refl s.me s.state (ap (Failed d) stored) [] (ap (λ v. v.lines) is ∙ sym (append-nil w.lines)) (λ read r none. absurd (silent (saying None) refl refl read r none))
-
-  opens_with : (c : ℕ) (d : Durable) (finds : Bool) → n.failed ≡ Some c → (if_finds : (if finds then u else s.found.state.durable) ≡ d) → DeedMoves w p n u (enters who i (fates.finds d))
-  unfolding reopened given_again
-  opens_with c d finds down found =
-      let k : Node = record s.found { state = state_after_reopening s.found.pid s.found.state d; status = Up } in
-      let h : Happening = happens (what.Start p) Done finds in
-      let runs : s.found.status ≡ Failed c u = subst (λ o. RunsAs None o u s.found.status) down s.runs in
-      let is : world_after w h ≡ world_reopening Done u w s.found d = open_world w s.found p c u Done finds s.there runs ∙ ap (world_reopening Done u w s.found) found in
-      moved_to w p s.found s.there s.pid (EventOf w.messages p (enters who i (fates.finds d))) (given_at n (enters who i (fates.finds d))).sends (λ read. answers_of read (given_at n (enters who i (fates.finds d)))) (after_deed n (enters who i (fates.finds d))) None (unstored_deed n (enters who i (fates.finds d)) u) h k (sends_after_restart s.found.pid d) (inr refl) (ap (λ v. v.nodes) is) (ap (λ v. v.messages) is)
-      (ap (λ z. sends_after_restart z d) (s.me ∙ sym s.pid)) refl s.me
-      (ap (λ z. state_after_reopening z s.found.state d) (s.pid ∙ sym s.me) ∙ ap (λ z. state_after_reopening n.me z d) s.state) refl
-      [] (ap (λ v. v.lines) is ∙ sym (append-nil w.lines)) (λ read r none. absurd (silent (given_again n d) refl refl read r none))
-
-  opens : (d : Durable) → is_some n.failed ≡ true → (d ≡ n.state.durable) ⊎ (d ≡ u) → DeedMoves w p n u (enters who i (fates.finds d))
-  opens d failed one = by_failed n.failed refl failed one
-    where
-      by_failed : (o : Option ℕ) → n.failed ≡ o → is_some o ≡ true → (d ≡ n.state.durable) ⊎ (d ≡ u) → DeedMoves w p n u (enters who i (fates.finds d))
-      by_failed None e some either = absurd cc
-      by_failed (Some c) e some (inl before) = opens_with c d false e (ap (λ z. z.durable) s.state ∙ sym before)
-      by_failed (Some c) e some (inr after) = opens_with c d true e (sym after)
-
-  reopens_failed : reopens n i ≡ true → is_some n.failed ≡ true
-  reopens_failed e = by_input i e
-    where
-      by_input : (x : Input) → reopens n x ≡ true → is_some n.failed ≡ true
-      by_input input.Tick h = h
-      by_input (input.Deliver q m) h = absurd cc
-      by_input (input.Commands cs) h = absurd cc
-      by_input (input.Stop members) h = absurd cc
-      by_input input.TrimNow h = absurd cc
-      by_input (input.Read r) h = absurd cc
-      by_input (input.Up q) h = absurd cc
-      by_input (input.Down q) h = absurd cc
-
-  by_fate : (fate : fates.Fate) (what : What) → Says w.messages p i what → MayFind n i fate → FindsOneOf n.state.durable u fate → DeedMoves w p n u (enters who i fate)
-  by_fate fates.done what said may one = by_failed n.failed refl
-    where
-      by_failed : (o : Option ℕ) → n.failed ≡ o → DeedMoves w p n u (enters who i fates.done)
-      by_failed None e = does_step what said e
-      by_failed (Some c) e = does_failed c e
-  by_fate (fates.finds d) what said may one = opens d (reopens_failed may) one
-  by_fate (fates.faults k) what said may one = by_failed n.failed refl
-    where
-      by_failed : (o : Option ℕ) → n.failed ≡ o → DeedMoves w p n u (enters who i (fates.faults k))
-      by_failed None e = breaks_step k what said e
-      by_failed (Some c) e = breaks_failed c k e
-  by_fate fates.damaged what said may one = rests w p n u (enters who i fates.damaged) refl (silent (saying None) refl refl) s
-  by_fate fates.lost what said may one = rests w p n u (enters who i fates.lost) refl (silent (saying None) refl refl) s
-
--- an input that may come then
-abbrev pub MayCome : List Sent → ℕ → Standing → Deed → Type 0
-MayCome ms p n (enters who i fate) = ((q : ℕ) (m : Msg) → i ≡ input.Deliver q m → Numbered ms (sent q p m)) × MayFind n i fate
-MayCome ms p n d = Unit {0}
-
--- each deed
-pub moves : (w : World) (p : ℕ) (n : Standing) (u : Durable) (d : Deed) → StandsAt w p n None u → MayCome w.messages p n d → FindsAt n u d → DeedMoves w p n u d
-moves w p n u (begins c bytes) s h f = rests w p n u (begins c bytes) refl (silent (saying None) refl refl) s
-moves w p n u (hears c bytes) s h f = rests w p n u (hears c bytes) refl (silent (saying None) refl refl) s
-moves w p n u (enters who i fate) s h f = let k = says_of w.messages p i h.0 in by_fate w p n u who i s fate k.0 k.1 h.1 f
-moves w p n u (says frame) s h f = rests w p n u (says frame) refl (silent (saying None) refl refl) s
-moves w p n u (takes c bytes) s h f = rests w p n u (takes c bytes) refl (silent (saying None) refl refl) s
-
--- ---- ends of lives, and openings
-
-module _ (w : World) (p : ℕ) (n : Standing) (u : Durable) (s : StandsAt w p n None u) where
-  -- it stops between two steps
-  pub crashes : (left : Durable) → (n.failed ≡ None → left ≡ n.state.durable) → ((c : ℕ) → n.failed ≡ Some c → left ≡ u) → (v : Durable) → Moves w p (λ x. x ≡ what.Crash p) [] nobody n (Some left) v
-  crashes left up down v = by_failed n.failed refl
-    where
-      k : Node
-      k = record s.found { status = Down left }
-
-      h : Happening
-      h = happens (what.Crash p) Done false
-
-      goes : world_after w h ≡ world_with_node w k → Moves w p (λ x. x ≡ what.Crash p) [] nobody n (Some left) v
-      goes is = moved_to w p s.found s.there s.pid (λ x. x ≡ what.Crash p) [] nobody n (Some left) v h k [] refl (ap (λ x. x.nodes) is) (ap (λ x. x.messages) is ∙ sym (append-nil w.messages))
-          refl refl s.me s.state refl [] (ap (λ x. x.lines) is ∙ sym (append-nil w.lines)) (λ read r none. absurd (nothing r none))
-
-      by_failed : (o : Option ℕ) → n.failed ≡ o → Moves w p (λ x. x ≡ what.Crash p) [] nobody n (Some left) v
-      by_failed None e =
-          let runs : s.found.status ≡ Up = subst (λ o. RunsAs None o u s.found.status) e s.runs in
-          goes (stop_up w s.found p s.there runs ∙ ap (λ z. world_with_node w (record s.found { status = Down z })) (ap (λ z. z.durable) s.state ∙ sym (up e)))
-      by_failed (Some c) e =
-          let runs : s.found.status ≡ Failed c u = subst (λ o. RunsAs None o u s.found.status) e s.runs in
-          goes (stop_failed w s.found p c u s.there runs ∙ ap (λ z. world_with_node w (record s.found { status = Down z })) (sym (down c e)))
-
-  -- it stops inside its step for an input
-  stops_in : (i : Input) (x : What) → Says w.messages p i x → n.failed ≡ None → (v : Durable) → Moves w p (λ y. Says w.messages p i y ⊎ (y ≡ what.Crash p)) [] nobody n (Some (unstored_after n i (fates.faults 0) u)) v
-  stops_in i x said up v =
-      let plan : Planned = step_plan s.found.pid s.found.state i in
-      let same : plan ≡ step_plan n.me n.state i = ap (λ z. step_plan z s.found.state i) (s.pid ∙ sym s.me) ∙ ap (λ z. step_plan n.me z i) s.state in
-      let after : Durable = durable_after s.found.state.durable plan.batch in
-      let k : Node = record s.found { status = Down after } in
-      let h : Happening = happens x Stopped false in
-      let runs : s.found.status ≡ Up = subst (λ o. RunsAs None o u s.found.status) up s.runs in
-      let is : world_after w h ≡ world_by_fate Stopped 0 w s.found i = step_world w s.found p i x Stopped s.there runs said in
-      let stored : after ≡ unstored_after n i (fates.faults 0) u = rw up (ap (λ z. durable_after s.found.state.durable z.batch) same ∙ ap (λ z. durable_after z.durable (step_plan n.me n.state i).batch) s.state) in
-      moved_to w p s.found s.there s.pid (λ y. Says w.messages p i y ⊎ (y ≡ what.Crash p)) [] nobody n (Some (unstored_after n i (fates.faults 0) u)) v h k [] (inl said) (ap (λ v. v.nodes) is) (ap (λ v. v.messages) is ∙ sym (append-nil w.messages))
-      refl refl s.me s.state (ap Down stored) [] (ap (λ v. v.lines) is ∙ sym (append-nil w.lines)) (λ read r none. absurd (nothing r none))
-
-  widened : (i : Input) (left : Durable) (v : Durable) → Moves w p (λ x. x ≡ what.Crash p) [] nobody n (Some left) v → Moves w p (λ y. Says w.messages p i y ⊎ (y ≡ what.Crash p)) [] nobody n (Some left) v
-  widened i left v m = record {
+  -- what is given out of it is not told
+  pub forgets : (w : World) (a b : ℕ) (sends : List (ℕ × Msg)) (answers : Bool → List Reply) (status : NodeStatus) (s : State) → Moves w p Of a b sends answers status s → Moves w p Of a b [] nobody status s
+  forgets w a b sends answers status s m = record {
     happenings = m.happenings;
-    is = elim m.is [ inl none ↦ inl none | inr one ↦ inr (one.0, one.1, inr one.2) ];
+    are = m.are;
+    proposed = m.proposed;
+    self = m.self;
+    others = m.others;
+    messages = m.messages;
+    given = λ t x c. none_given (run_of w m.happenings).messages p t x c;
+    count = m.count;
+    lines = m.lines;
+    replied = λ read r none. absurd (nothing r none);
+  }
+
+  -- nobody is answered, by these neither
+  silenced : (w : World) (a b : ℕ) (sends : List (ℕ × Msg)) (answers : Bool → List Reply) (status : NodeStatus) (s : State) → ((read : Bool) (r : Reply) → Contains (answers read) r → ⊥) → Moves w p Of a b sends nobody status s → Moves w p Of a b sends answers status s
+  silenced w a b sends answers status s none m = record {
+    happenings = m.happenings;
+    are = m.are;
+    proposed = m.proposed;
     self = m.self;
     others = m.others;
     messages = m.messages;
     given = m.given;
     count = m.count;
     lines = m.lines;
+    replied = λ read r c. absurd (none read r c);
+  }
+
+  -- one after the other
+  both : (w : World) (a b c d : ℕ) (sends : List (ℕ × Msg)) (answers : Bool → List Reply) (before status : NodeStatus) (s t : State)
+      → (m : Moves w p Of a b [] nobody before s) → Moves (run_of w m.happenings) p Of c d sends answers status t → Moves w p Of (a + c) (b + d) sends answers status t
+  both w a b c d sends answers before status s t m k = record {
+    happenings = hs ++ gs;
+    are = All-append (λ h. Of h.event.what) hs gs m.are k.are;
+    proposed = (let e = proposals_more hs gs in let x = m.proposed in let y = k.proposed in omega (arith, e, x, y));
+    self = subst (λ v. NodeIs v p status t) whole k.self;
+    others = λ q differ. subst (λ v. node_at v.nodes q ≡ node_at w.nodes q) whole (k.others q differ ∙ m.others q differ);
+    messages = subst (λ v. Longer w.messages v.messages) whole (longer_both w.messages (run_of w hs).messages (run_of (run_of w hs) gs).messages m.messages k.messages);
+    given = λ t x c. subst (λ v. Numbered v.messages (sent p t x)) whole (k.given t x c);
+    count = (let e = ap (λ v. length v.messages) whole in let x = m.count in let y = k.count in omega (arith, e, x, y));
+    lines = λ x c. subst (λ v. Contains v.lines x) whole (k.lines x (m.lines x c));
+    replied = λ read r c. subst (λ v. Contains v.lines (told_line read p r)) whole (k.replied read r c);
+  }
+    where
+      hs : List Happening
+      hs = m.happenings
+
+      gs : List Happening
+      gs = k.happenings
+
+      whole : run_of (run_of w hs) gs ≡ run_of w (hs ++ gs)
+      whole = sym (run_append w hs gs)
+
+  -- one node is replaced, and sends this
+  module _ (w : World) (k0 : Node) (there : node_at w.nodes p ≡ Some k0) (pid : k0.pid ≡ p) where
+    moved_to : (h : Happening) (k : Node) (sends : List (ℕ × Msg)) (answers : Bool → List Reply) (told : List Line) → Of h.event.what → (a : ℕ) → proposals_of h.event.what ≤ a
+        → (world_after w h).nodes ≡ with_node w.nodes k → (world_after w h).messages ≡ w.messages ++ sent_by k0.pid sends → (world_after w h).lines ≡ w.lines ++ told → k.pid ≡ k0.pid
+        → ((read : Bool) (r : Reply) → Contains (answers read) r → Contains told (told_line read p r)) → Moves w p Of a (length sends) sends answers k.status k.state
+    moved_to h k sends answers told event a few nodes messages all_lines same said =
+        let is : k.pid ≡ p = same ∙ pid in
+        record {
+          happenings = h ∷ [];
+          are = All-cons (λ x. Of x.event.what) h [] event (All-nil (λ x. Of x.event.what));
+          proposed = omega (arith, few);
+          self = record {
+            found = k;
+            there = ap (λ l. node_at l p) nodes ∙ subst (λ z. node_at (with_node w.nodes k) z ≡ Some k) is (node_at-here w.nodes k k0 (subst (λ z. node_at w.nodes z ≡ Some k0) (sym is) there));
+            pid = is;
+            state = refl;
+            runs = refl;
+          };
+          others = λ q differ. ap (λ l. node_at l q) nodes ∙ node_at-other w.nodes k q (λ e. differ (e ∙ is));
+          messages = (sent_by k0.pid sends, messages);
+          given = λ t m c. subst (λ l. Numbered l (sent p t m)) (sym messages)
+              (numbered_right w.messages (sent_by k0.pid sends) (sent p t m) (subst (λ z. Numbered (sent_by z sends) (sent p t m)) (sym pid) (numbered_sent p sends t m c)));
+          count =
+              let all : length (world_after w h).messages ≡ length w.messages + length (sent_by k0.pid sends) = ap length messages ∙ length-append w.messages (sent_by k0.pid sends) in
+              let each : length (sent_by k0.pid sends) ≡ length sends = sent_length k0.pid sends in
+              omega (arith, all, each);
+          lines = λ x c. subst (λ (l : List Line). Contains l x) (sym all_lines) (Contains-append_left w.lines told x c);
+          replied = λ read r c. subst (λ (l : List Line). Contains l (told_line read p r)) (sym all_lines) (Contains-append_right w.lines told (told_line read p r) (said read r c));
+        }
+
+  -- ---- a step
+
+  -- the lines of its answers
+  step_lines : (plan : Planned) (read : Bool) (r : Reply) → Contains (answers_of read (given_of plan)) r → Contains (lines_of 0 p plan) (told_line read p r)
+  step_lines plan read r c = by_kind read c
+    where
+      commands : List Line
+      commands = map (λ (x : Reply). answer_line p x.client x.seq x.answer) plan.replies
+
+      reads : List Line
+      reads = map (λ (x : Reply). line.Read p x.client x.seq x.answer) plan.read_replies
+
+      by_kind : (read : Bool) → Contains (answers_of read (given_of plan)) r → Contains ((outcome_lines 0 plan.outcome ++ commands) ++ reads) (told_line read p r)
+      by_kind false k =
+          Contains-append_left (outcome_lines 0 plan.outcome ++ commands) reads (told_line false p r)
+          (Contains-append_right (outcome_lines 0 plan.outcome) commands (told_line false p r) (line_among (λ (x : Reply). answer_line p x.client x.seq x.answer) plan.replies r k))
+      by_kind true k =
+          Contains-append_right (outcome_lines 0 plan.outcome ++ commands) reads (told_line true p r) (line_among (λ (x : Reply). line.Read p x.client x.seq x.answer) plan.read_replies r k)
+
+  -- an input may be told of in a world in which these messages were sent: it is an event that is so, and proposes no more than it does
+  pub record Tells (ms : List Sent) (i : Input) : Type 0 where
+    pub what : What
+    pub says : Says ms p i what
+    pub so : Of what
+    pub few : proposals_of what ≤ proposed_by i
+
+  pub tells_longer : (xs ys : List Sent) (i : Input) → Longer xs ys → Tells xs i → Tells ys i
+  tells_longer xs ys i l t = record { what = t.what; says = says_longer xs ys p i t.what l t.says; so = t.so; few = t.few }
+
+  pub all_longer : (xs ys : List Sent) (is : List Input) → Longer xs ys → Each (Tells xs) is → Each (Tells ys) is
+  all_longer xs ys is l h = each_map (Tells xs) (Tells ys) (λ i t. tells_longer xs ys i l t) is h
+
+  pub steps : (w : World) (s : State) (i : Input) → NodeIs w p Up s → Tells w.messages i → let plan : Planned = step_plan p s i in
+      Moves w p Of (proposed_by i) (length plan.sends) plan.sends (λ read. answers_of read (given_of plan)) Up (state_after s plan)
+  steps w s i n t =
+      let k : Node = record n.found { state = state_after n.found.state (step_plan n.found.pid n.found.state i) } in
+      let is : world_after w (happens t.what Done false) ≡ world_by_fate Done 0 w n.found i = step_world w n.found p i t.what Done n.there n.runs t.says in
+      rw n.state at rw n.pid at rw n.runs at (moved_to w n.found n.there n.pid (happens t.what Done false) k (step_plan n.found.pid n.found.state i).sends (λ read. answers_of read (given_of (step_plan n.found.pid n.found.state i)))
+      (lines_of 0 n.found.pid (step_plan n.found.pid n.found.state i)) t.so (proposed_by i) t.few (ap (λ v. v.nodes) is) (ap (λ v. v.messages) is) (ap (λ v. v.lines) is) refl
+      (λ read r c. subst (λ z. Contains (lines_of 0 z (step_plan z n.found.state i)) (told_line read p r)) (sym n.pid) (step_lines (step_plan p n.found.state i) read r (subst (λ z. Contains (answers_of read (given_of (step_plan z n.found.state i))) r) n.pid c))))
+
+  -- the same bounds, or higher ones
+  raised : (w : World) (a b c d : ℕ) (sends : List (ℕ × Msg)) (answers : Bool → List Reply) (status : NodeStatus) (s : State) → a ≤ c → b ≤ d → Moves w p Of a b sends answers status s → Moves w p Of c d sends answers status s
+  raised w a b c d sends answers status s le few m = record {
+    happenings = m.happenings;
+    are = m.are;
+    proposed = (let k = m.proposed in omega (arith, k, le));
+    self = m.self;
+    others = m.others;
+    messages = m.messages;
+    given = m.given;
+    count = (let k = m.count in omega (arith, k, few));
+    lines = m.lines;
     replied = m.replied;
   }
 
-  -- whether it was up or had failed
-  pub dies_in : (i : Input) (x : What) → Says w.messages p i x → (v : Durable) → Moves w p (λ y. Says w.messages p i y ⊎ (y ≡ what.Crash p)) [] nobody n (Some (unstored_after n i (fates.faults 0) u)) v
-  dies_in i x said v = by_failed n.failed refl
-    where
-      by_failed : (o : Option ℕ) → n.failed ≡ o → Moves w p (λ y. Says w.messages p i y ⊎ (y ≡ what.Crash p)) [] nobody n (Some (unstored_after n i (fates.faults 0) u)) v
-      by_failed None e = stops_in i x said e v
-      by_failed (Some c) e =
-          let same : unstored_after n i (fates.faults 0) u ≡ u = rw e refl in
-          widened i (unstored_after n i (fates.faults 0) u) v
-          (crashes (unstored_after n i (fates.faults 0) u) (λ up. absurd (let bad : Some c ≡ None = sym e ∙ up in cc)) (λ d f. same) v)
+  -- steps for these inputs, one after the other
+  steps_all : (is : List Input) (w : World) (s : State) → NodeIs w p Up s → Each (Tells w.messages) is
+      → Moves w p Of (proposed_by_all is) (length (sent_stepping p s is)) [] nobody Up (stepped p s is)
+  steps_all [] w s n h = record {
+    happenings = [];
+    are = All-nil (λ h. Of h.event.what);
+    proposed = omega arith;
+    self = n;
+    others = λ q differ. refl;
+    messages = same_long w.messages;
+    given = λ t m c. none_given w.messages p t m c;
+    count = omega arith;
+    lines = λ x c. c;
+    replied = λ read r none. absurd (nothing r none);
+  }
+  steps_all (i ∷ is) w s n h =
+      let plan : Planned = step_plan p s i in
+      let m = forgets w (proposed_by i) (length plan.sends) plan.sends (λ read. answers_of read (given_of plan)) Up (state_after s plan) (steps w s i n h.0) in
+      let more : List (ℕ × Msg) = sent_stepping p (state_after s plan) is in
+      let k = steps_all is (run_of w m.happenings) (state_after s plan) m.self (all_longer w.messages (run_of w m.happenings).messages is m.messages h.1) in
+      let long = length-append plan.sends more in
+      raised w (proposed_by i + proposed_by_all is) (length plan.sends + length more) (proposed_by i + proposed_by_all is) (length (plan.sends ++ more)) [] nobody Up (stepped p (state_after s plan) is)
+      (omega arith) (omega (arith, long)) (both w (proposed_by i) (length plan.sends) (proposed_by_all is) (length more) [] nobody Up Up (state_after s plan) (stepped p (state_after s plan) is) m k)
 
--- a node that is down is opened again
-pub opened : (w : World) (p : ℕ) (n : Standing) (left u d : Durable) (count : ℕ) → StandsAt w p n (Some left) u → (d ≡ n.state.durable) ⊎ (d ≡ left) → Moves w p (λ x. x ≡ what.Start p) (sends_after_restart n.me d) nobody (again n d count) None d
-opened w p n left u d count s one = elim one [
-  | inl before ↦ with_found false (ap (λ z. z.durable) s.state ∙ sym before)
-  | inr after ↦ with_found true (sym after)
-]
-  where
-    with_found : (finds : Bool) → (if finds then left else s.found.state.durable) ≡ d → Moves w p (λ x. x ≡ what.Start p) (sends_after_restart n.me d) nobody (again n d count) None d
-    with_found finds found =
-        let k : Node = record s.found { state = state_after_restart s.found.pid d; status = Up } in
-        let h : Happening = happens (what.Start p) Done finds in
-        let is : world_after w h ≡ world_opening Done w s.found d = start_world w s.found p left finds s.there s.runs ∙ ap (world_opening Done w s.found) found in
-        moved_to w p s.found s.there s.pid (λ x. x ≡ what.Start p) (sends_after_restart n.me d) nobody (again n d count) None d h k (sends_after_restart s.found.pid d) refl (ap (λ v. v.nodes) is) (ap (λ v. v.messages) is)
-        (ap (λ z. sends_after_restart z d) (s.me ∙ sym s.pid)) refl s.me (ap (λ z. state_after_restart z d) (s.pid ∙ sym s.me)) refl
-        [] (ap (λ v. v.lines) is ∙ sym (append-nil w.lines)) (λ read r none. absurd (nothing r none))
+  -- ---- a crash and a start
+
+  module _ (crash : Of (what.Crash p)) (start : Of (what.Start p)) where
+    crashes : (w : World) (s : State) → NodeIs w p Up s → Moves w p Of 0 0 [] nobody (Down s.durable) s
+    crashes w s n =
+        let k : Node = record n.found { status = Down n.found.state.durable } in
+        let is : world_after w (happens (what.Crash p) Done false) ≡ world_with_node w k = stop_up w n.found p n.there n.runs in
+        rw n.state at (moved_to w n.found n.there n.pid (happens (what.Crash p) Done false) k [] nobody [] crash 0 (omega arith) (ap (λ v. v.nodes) is)
+        (ap (λ v. v.messages) is ∙ sym (append-nil w.messages)) (ap (λ v. v.lines) is ∙ sym (append-nil w.lines)) refl (λ read r none. absurd (nothing r none)))
+
+    starts : (w : World) (s : State) → NodeIs w p (Down s.durable) s
+        → Moves w p Of 0 (length (sends_after_restart p s.durable)) (sends_after_restart p s.durable) nobody Up (state_after_restart p s.durable)
+    starts w s n =
+        let d : Durable = n.found.state.durable in
+        let k : Node = record n.found { state = state_after_restart n.found.pid d; status = Up } in
+        let is : world_after w (happens (what.Start p) Done false) ≡ world_opening Done w n.found d = start_world w n.found p s.durable false n.there n.runs in
+        rw n.state at rw n.pid at (moved_to w n.found n.there n.pid (happens (what.Start p) Done false) k (sends_after_restart n.found.pid d) nobody [] start 0 (omega arith) (ap (λ v. v.nodes) is)
+        (ap (λ v. v.messages) is) (ap (λ v. v.lines) is ∙ sym (append-nil w.lines)) refl (λ read r none. absurd (nothing r none)))
+
+    begins_anew : (w : World) (s : State) → NodeIs w p Up s
+        → Moves w p Of 0 (length (sends_after_restart p s.durable)) (sends_after_restart p s.durable) nobody Up (state_after_restart p s.durable)
+    begins_anew w s n =
+        let m = crashes w s n in
+        raised w (0 + 0) (0 + length (sends_after_restart p s.durable)) 0 (length (sends_after_restart p s.durable)) (sends_after_restart p s.durable) nobody Up (state_after_restart p s.durable) (omega arith) (omega arith)
+        (both w 0 0 0 (length (sends_after_restart p s.durable)) (sends_after_restart p s.durable) nobody (Down s.durable) Up s (state_after_restart p s.durable) m (starts (run_of w m.happenings) s m.self))
+
+    abbrev OpensWith : World → State → List Input → Durable → Type 0
+    OpensWith w s is d =
+        Moves w p Of (proposed_by_all is) (length (sent_stepping p s is) + length (sends_after_restart p d)) (sends_after_restart p d) nobody Up (state_after_restart p d)
+
+    -- It is opened again, and takes this: what stood before, or what is behind the steps for these inputs.
+    pub opened : (w : World) (s : State) (is : List Input) (d : Durable) → NodeIs w p Up s → Each (Tells w.messages) is → (d ≡ s.durable) ⊎ (d ≡ (stepped p s is).durable)
+        → OpensWith w s is d
+    opened w s is d n h one = elim one [
+      | inl before ↦ subst (λ z. OpensWith w s is z) (sym before) (raised w 0 (length (sends_after_restart p s.durable)) (proposed_by_all is) (length (sent_stepping p s is) + length (sends_after_restart p s.durable))
+          (sends_after_restart p s.durable) nobody Up (state_after_restart p s.durable) (omega arith) (omega arith) (begins_anew w s n))
+      | inr after ↦ subst (λ z. OpensWith w s is z) (sym after) (
+          let m = steps_all is w s n h in
+          let t : State = stepped p s is in
+          let again = begins_anew (run_of w m.happenings) t m.self in
+          raised w (proposed_by_all is + 0) (length (sent_stepping p s is) + length (sends_after_restart p t.durable)) (proposed_by_all is) (length (sent_stepping p s is) + length (sends_after_restart p t.durable))
+          (sends_after_restart p t.durable) nobody Up (state_after_restart p t.durable) (omega arith) (omega arith)
+          (both w (proposed_by_all is) (length (sent_stepping p s is)) 0 (length (sends_after_restart p t.durable)) (sends_after_restart p t.durable) nobody Up Up t (state_after_restart p t.durable) m again))
+    ]
+
+-- ---- each deed
+
+-- what a node has stored, of which disks may hold this since one failed
+abbrev pub stored_of : Standing → Unstored → State
+stored_of n u = (held_with [] n u).before
+
+-- the inputs that it may find stored, where these were to be stored together
+abbrev pub found_at : List Input → fates.Fate → List Input
+found_at is (fates.finds d) = is
+found_at is _ = []
+
+-- and those of steps that are done then
+abbrev pub steps_at : List Input → Input → fates.Fate → List Input
+steps_at is i fates.done = i ∷ []
+steps_at is i fate = found_at is fate
+
+module _ (w : World) (p : ℕ) (Of : What → Type 0) (crash : Of (what.Crash p)) (start : Of (what.Start p)) (n : Standing) (u : Unstored) (me : n.me ≡ p) (s : NodeIs w p Up (stored_of n u)) where
+  -- what becomes of the world at a deed of it
+  abbrev pub DeedMoves : ℕ → ℕ → Deed → Type 0
+  DeedMoves a b d = Moves w p Of a b (given_at n d).sends (λ read. answers_of read (given_at n d)) Up (stored_of (after_deed n d) (unstored_deed n d u))
+
+  -- nothing happens at one that is no input
+  pub quiet : (d : Deed) → ((who : List ℕ) (i : Input) (fate : fates.Fate) → d ≡ enters who i fate → ⊥) → (a b : ℕ) → DeedMoves a b d
+  quiet (begins c bytes) other a b = rests p Of w a b (saying None) (stored_of n u) (stored_of n u) refl (silent (saying None) refl refl) refl s
+  quiet (hears c bytes) other a b = rests p Of w a b (saying None) (stored_of n u) (stored_of n u) refl (silent (saying None) refl refl) refl s
+  quiet (enters who i fate) other a b = absurd (other who i fate refl)
+  quiet (says f) other a b = rests p Of w a b (saying None) (stored_of n u) (stored_of n u) refl (silent (saying None) refl refl) refl s
+  quiet (takes c bytes) other a b = rests p Of w a b (saying None) (stored_of n u) (stored_of n u) refl (silent (saying None) refl refl) refl s
+
+  module _ (is : List Input) (who : List ℕ) (i : Input) where
+    abbrev pub InputMoves : fates.Fate → Type 0
+    InputMoves fate = DeedMoves (proposed_by_all (steps_at is i fate)) (length (sent_stepping n.me (stored_of n u) (found_at is fate)) + length (given_at n (enters who i fate)).sends) (enters who i fate)
+
+    -- nothing is given out, and as much is stored as before
+    still : (fate : fates.Fate) → given_at n (enters who i fate) ≡ saying None → stored_of n u ≡ stored_of (after_deed n (enters who i fate)) (unstored_deed n (enters who i fate) u) → InputMoves fate
+    still fate none same = rw none (rests p Of w (proposed_by_all (steps_at is i fate)) (length (sent_stepping n.me (stored_of n u) (found_at is fate)) + 0) (saying None)
+        (stored_of n u) (stored_of (after_deed n (enters who i fate)) (unstored_deed n (enters who i fate) u)) refl (silent (saying None) refl refl) same s)
+
+    does_step : Tells p Of w.messages i → n.failed ≡ None → InputMoves fates.done
+    unfolding gives after_input
+    does_step t up = rw up (raised p Of w (proposed_by i) (length plan.sends) (proposed_by i + 0) (0 + length plan.sends) plan.sends (λ read. answers_of read (given_of plan)) Up (state_after n.state plan)
+        (omega arith) (omega arith) (subst (λ z. Moves w p Of (proposed_by i) (length (step_plan z n.state i).sends) (step_plan z n.state i).sends (λ read. answers_of read (given_of (step_plan z n.state i))) Up (state_after n.state (step_plan z n.state i)))
+        (sym me) (steps p Of w n.state i (rw up at s) t)))
+      where
+        plan : Planned
+        plan = step_plan n.me n.state i
+
+    refuses : (f : Failure) → n.failed ≡ Some f → InputMoves fates.done
+    unfolding gives after_input
+    refuses f down = rw down (rests p Of w (proposed_by i + 0) 0 (refused_with f.count i) u.before u.before refl (silent (refused_with f.count i) refl refl) refl (rw down at s))
+
+    opens_with : (f : Failure) (d : Durable) → n.failed ≡ Some f → Each (Tells p Of w.messages) is → u.ahead ≡ stepped n.me u.before is → (d ≡ u.before.durable) ⊎ (d ≡ u.ahead.durable) → InputMoves (fates.finds d)
+    unfolding reopened given_again
+    opens_with f d down h link one =
+        let either : (d ≡ u.before.durable) ⊎ (d ≡ (stepped p u.before is).durable) = elim one [
+          | inl before ↦ inl before
+          | inr after ↦ inr (after ∙ ap (λ z. z.durable) (link ∙ ap (λ z. stepped z u.before is) me))
+        ] in
+        let sends : List (ℕ × Msg) = sends_after_restart p d in
+        rw (down, me) (silenced p Of w (proposed_by_all is) (length (sent_stepping p u.before is) + length sends) sends (λ read. answers_of read (record (saying None) { sends = sends })) Up (state_after_restart p d)
+        (silent (record (saying None) { sends = sends }) refl refl) (opened p Of crash start w u.before is d (rw down at s) h either))
+
+    -- of one that has failed
+    reopens_failed : reopens n i ≡ true → (f : Failure) × (n.failed ≡ Some f)
+    reopens_failed e = by_failed n.failed refl (by_input i e)
+      where
+        by_input : (x : Input) → reopens n x ≡ true → is_some n.failed ≡ true
+        by_input input.Tick h = h
+        by_input (input.Deliver q m) h = absurd cc
+        by_input (input.Commands cs) h = absurd cc
+        by_input (input.Stop members) h = absurd cc
+        by_input input.TrimNow h = absurd cc
+        by_input (input.Read r) h = absurd cc
+        by_input (input.Up q) h = absurd cc
+        by_input (input.Down q) h = absurd cc
+
+        by_failed : (o : Option Failure) → n.failed ≡ o → is_some o ≡ true → (f : Failure) × (n.failed ≡ Some f)
+        by_failed None k some = absurd cc
+        by_failed (Some f) k some = (f, k)
+
+    -- each fate
+    pub by_fate : (fate : fates.Fate) → Tells p Of w.messages i → MayFind n i fate → FindsOneOf u fate → Each (Tells p Of w.messages) is
+        → ((f : Failure) → n.failed ≡ Some f → u.ahead ≡ stepped n.me u.before is) → InputMoves fate
+    unfolding faulted
+    by_fate fates.done t may one h link = by_failed n.failed refl
+      where
+        by_failed : (o : Option Failure) → n.failed ≡ o → InputMoves fates.done
+        by_failed None e = does_step t e
+        by_failed (Some f) e = refuses f e
+    by_fate (fates.finds d) t may one h link = let k = reopens_failed may in opens_with k.0 d k.1 h (link k.0 k.1) one
+    by_fate (fates.faults c) t may one h link = still (fates.faults c) refl (by_failed n.failed refl)
+      where
+        by_failed : (o : Option Failure) → n.failed ≡ o → stored_of n u ≡ (unstored_after n i (fates.faults c) u).before
+        by_failed None e = rw e refl
+        by_failed (Some f) e = rw e refl
+    by_fate (fates.shares c) t may one h link = still (fates.shares c) refl (by_failed n.failed refl)
+      where
+        by_failed : (o : Option Failure) → n.failed ≡ o → stored_of n u ≡ stored_of n (unstored_after n i (fates.shares c) u)
+        by_failed None e = rw e refl
+        by_failed (Some f) e = rw e refl
+    by_fate fates.damaged t may one h link = still fates.damaged refl refl
+    by_fate fates.lost t may one h link = still fates.lost refl refl

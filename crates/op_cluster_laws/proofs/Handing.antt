@@ -1,13 +1,18 @@
 -- What is handed out: each frame for a connection is of a message, or of what a client is told.
-use Rattle.std.proofs.Common.{◌≡◌, ◌++◌, ◌∷◌, [], ℕ, zero, suc, Bool, true, false, cond, List, Option, Some, None, if◌then◌else◌, refl, sym, ◌∙◌, ap, subst, ◌⊎◌, inl, inr}
+use Rattle.std.proofs.Common.{◌≡◌, ◌++◌, ◌∷◌, [], ℕ, zero, suc, Bool, T, true, false, cond, ◌&&◌, List, map as each, Option, Some, None, if◌then◌else◌, refl, sym, ◌∙◌, ap, subst, ◌⊎◌, inl, inr}
 use Rattle.std.specs.FinMap as map
+use Rattle.std.specs.FinMap.Entries.{below_all}
 use Rattle.std.specs.BTreeMap.{is_at}
-use Rattle.std.specs.Ordering.{nat_cmp}
+use Rattle.std.specs.Ordering.{nat_cmp, is_lt, is_eq}
+use Rattle.std.specs.declared.cmp.Ordering.{Ordering}
+use Rattle.std.specs.declared.cmp.Ordering.TheVariants.{Less, Equal, Greater}
 use Rattle.op_types.specs.declared.answers.Answer.{Answer}
 use Rattle.op_types.specs.declared.answers.Outcome.{Outcome}
 use Rattle.op_types.specs.declared.answers.Outcome.TheVariants as outcome
 use Rattle.op_types.specs.declared.answers.Outcome.TheVariants.{Refused, Asked}
 use Rattle.op_types.specs.declared.answers.Refusal.{Refusal}
+use Rattle.op_types.specs.declared.answers.Refusal.TheVariants.{StorageFailed}
+use Rattle.op_types.specs.declared.events.Input.{Input}
 use Rattle.op_types.specs.declared.answers.Reply.{Reply}
 use Rattle.op_types.specs.declared.messages.Msg.{Msg}
 use Rattle.op_command.specs.declared.reply.ClientReply.{ClientReply}
@@ -19,18 +24,21 @@ use Rattle.op_serving.specs.declared.wanted.Wanted.{Wanted}
 use Rattle.op_serving.specs.declared.wanted.Wanted.TheVariants.{Commands, Stop, Trim, Read}
 use Rattle.op_serving.specs.Wire.{fits_peer, peer_frame, client_frame}
 use Rattle.op_serving.specs.State.{Table, find, without, changed, with_bytes, if_its, open_of, Key, Awaited, Loop, Askers, awaited_cmp, is_open, session_of, waits_for}
-use Rattle.op_serving.specs.Handing.{frame_at, said_at, goes_to, made_way, sent_behind, sent_at, sent, sent_all, frames_behind, frames_sent_at, frames_sent, forgotten, answered, replied, replied_all, frames_replied, handed_out, frames_handed, Told, said_each, refusal_of, said_of_refusal, said_of_outcome, said_of_read, said_at_once, said_of_denial, told, told_all, frames_told, asked_by_one, asked, waits_unless, waits_if_asked, keys_that_wait, is_read, proposed, frames_proposed, excused, frames_excused}
+use Rattle.op_serving.specs.Handing.{frame_at, said_at, goes_to, made_way, sent_behind, sent_at, sent, sent_all, frames_behind, frames_sent_at, frames_sent, forgotten, answered, replied, replied_all, frames_replied, handed_out, frames_handed, Told, said_each, refusal_of, said_of_refusal, said_of_outcome, said_of_read, said_at_once, said_of_denial, told, told_all, frames_told, asked_by_one, asked, waits_unless, waits_if_asked, keys_that_wait, is_read, proposed, frames_proposed, excused, frames_excused, of_command, said_of_failure, given_up, frames_given_up}
 use Rattle.op_serving.specs.Room.{Frame, has_room, count_at, goes_ahead, kept, placed, frames_placed, frame_of, without_first, first_moved, moved_in, moved, frames_moved_in, frames_moved, begins_anew, cleared}
 use Rattle.op_serving.specs.declared.session.Session.{Session}
 use Rattle.std.proofs.lemmas.Bool.{cases_eq, cases_Bool}
 use Rattle.op_conns.proofs.Numbers.{is_at_one}
 use Rattle.op_connections.proofs.Tables.{found_own, found_other}
-use Rattle.op_cluster_laws.specs.Outputs.{answers_of}
+use Rattle.op_serving.specs.Cores.{Standing, gives, given_again}
+use Rattle.op_serving.specs.Fates.{Fate, done, finds, faults, shares, damaged, lost}
+use Rattle.op_serving.specs.Inputs.{enters, loop_after, frames_after}
+use Rattle.op_cluster_laws.specs.Outputs.{given_at, answers_of}
 use Rattle.op_connections.proofs.Queueing.{queued}
 use Rattle.op_serving.proofs.KeyOrder.{key_total}
 use Rattle.op_serving.proofs.Fits.{goes_tells}
-use Rattle.op_queues.proofs.Askers.{key_is}
-use Rattle.op_cluster_laws.proofs.Lists.{Each, each_both}
+use Rattle.op_queues.proofs.Askers.{key_is, key_own}
+use Rattle.op_cluster_laws.proofs.Lists.{Each, each_map, each_both}
 
 -- whoever asked for a command or a read is such a connection
 abbrev pub AskersAre : (Awaited → ℕ → Type 0) → Loop → Type 0
@@ -51,6 +59,39 @@ got_inserted t key other d c e = by_place (is_at (awaited_cmp other) key) refl (
     by_place : (b : Bool) → is_at (awaited_cmp other) key ≡ b → cond b (Some d) (map.get t other) ≡ Some c → ((d ≡ c) × (key ≡ other)) ⊎ (map.get t other ≡ Some c)
     by_place true is k = inl (cc, sym (key_is other key is))
     by_place false is k = inr k
+
+-- nobody asks
+none_got : (key : Awaited) (c : ℕ) → map.get (map.empty {R = awaited_cmp}) key ≡ Some c → ⊥
+none_got key c e = let bad : None ≡ Some c = sym (map.get-empty awaited_cmp key) ∙ e in cc
+
+both : (a b : Bool) → T (a && b) → T a × T b
+both true b h = (tt, h)
+both false b h = absurd h
+
+-- each that asks is found in the table
+found_behind : (e : Awaited × ℕ) (all es : List (Awaited × ℕ)) → T (below_all awaited_cmp e.0 es) → Each (λ x. map.find awaited_cmp x.0 all ≡ Some x.1) es → Each (λ x. map.find awaited_cmp x.0 (e ∷ all) ≡ Some x.1) es
+found_behind e all [] low h = tt
+found_behind e all (x ∷ es) low h =
+    let parts = both (is_lt (awaited_cmp e.0 x.0)) (below_all awaited_cmp e.0 es) low in
+    (ap (λ b. cond b (Some e.1) (map.find awaited_cmp x.0 all)) (apart (is_at (awaited_cmp x.0) e.0) refl parts.0) ∙ h.0, found_behind e all es parts.1 h.1)
+  where
+    is_less : (o : Ordering) → T (is_lt o) → is_eq o ≡ true → ⊥
+    is_less Less h k = cc
+    is_less Equal h k = h
+    is_less Greater h k = h
+
+    apart : (b : Bool) → is_at (awaited_cmp x.0) e.0 ≡ b → T (is_lt (awaited_cmp e.0 x.0)) → b ≡ false
+    apart true is less = absurd (is_less (awaited_cmp e.0 x.0) less (subst (λ z. is_eq (awaited_cmp e.0 z) ≡ true) (sym (key_is x.0 e.0 is)) (key_own e.0)))
+    apart false is less = refl
+
+found_each : (es : List (Awaited × ℕ)) → T (map.is_sorted awaited_cmp es) → Each (λ e. map.find awaited_cmp e.0 es ≡ Some e.1) es
+found_each [] h = tt
+found_each (e ∷ es) h =
+    let parts = both (below_all awaited_cmp e.0 es) (map.is_sorted awaited_cmp es) h in
+    (ap (λ b. cond b (Some e.1) (map.find awaited_cmp e.0 es)) (key_own e.0), found_behind e es es parts.0 (found_each es parts.1))
+
+all_got : (t : Askers) → Each (λ e. map.get t e.0 ≡ Some e.1) (map.entries t)
+all_got t = each_map (λ e. map.find awaited_cmp e.0 (map.entries t) ≡ Some e.1) (λ e. map.get t e.0 ≡ Some e.1) (λ e k. map.get-entries t e.0 ∙ k) (map.entries t) (found_each (map.entries t) (map.entries_sorted t))
 
 -- what holds of the connections at which an input was asked for
 abbrev pub WantedBy : (ℕ → Type 0) → Option Wanted → Type 0
@@ -423,12 +464,42 @@ module _ (P : Awaited → ℕ → Type 0) (R : ℕ → Type 0) (B G : Frame → 
       })
       (hands_told (said_at_once w o) m (told_once w o t))
 
-  pub hands_excused : (w : Option Wanted) (why : Option Refusal) (s : Loop) → WantedBy MayBeTold w → Hands s (frames_excused w why) (excused w why s)
+  hands_excused : (w : Option Wanted) (why : Option Refusal) (s : Loop) → WantedBy MayBeTold w → Hands s (frames_excused w why) (excused w why s)
   hands_excused None why s t = hands_none s
   hands_excused (Some w) why s t = hands_told (said_of_denial w why) s (told_denial w why t)
 
-  pub hands_given : (w : Option Wanted) (g : Given) (o : Option Outcome) (s : Loop) → AwaitedBy (MayAsk s) w → WantedBy MayBeTold w → Each MayBeSent g.sends
+  hands_given : (w : Option Wanted) (g : Given) (o : Option Outcome) (s : Loop) → AwaitedBy (MayAsk s) w → WantedBy MayBeTold w → Each MayBeSent g.sends
       → ((read : Bool) → Each (MayBeReplied read) (answers_of read g)) → Hands s (frames_proposed w o ++ frames_handed g (proposed w o s)) (handed_out g (proposed w o s))
   hands_given w g o s a t sends answers =
       let m : Loop = proposed w o s in
       hands_then s m (handed_out g m) (frames_proposed w o) (frames_handed g m) (hands_proposed w o s a t) (hands_handed g m sends answers)
+
+  -- ---- a disk failed
+
+  told_failure : (k : ℕ) (es : List (Awaited × ℕ)) → Each (λ (e : Awaited × ℕ). MayBeTold e.1) es
+      → Each (λ (r : Told). G (r.0, client_frame r.1)) (each (λ (e : Awaited × ℕ). (e.1, of_command e.0.1 (said.Outcome (Refused (StorageFailed k))))) es)
+  told_failure k [] h = tt
+  told_failure k (e ∷ es) h = (h.0 _ (no_outcome (Refused (StorageFailed k))), told_failure k es h.1)
+
+  -- all that wait are told
+  hands_given_up : (k : ℕ) (s : Loop) → AskersAre P s → ((key : Awaited) (c : ℕ) → P key c → MayBeTold c) → Hands s (frames_given_up k s) (given_up k s)
+  hands_given_up k s asks tells =
+      let m : Loop = record s { askers = map.empty } in
+      hands_then s m (given_up k s) [] (frames_given_up k s)
+      (record { me_is = refl; downs = refl; askers = λ h key c e. absurd (none_got key c e); peers = λ p. p; behind = λ e r w. w; frames = λ e h r w. tt })
+      (hands_told (said_of_failure k s.askers) m (told_failure k (map.entries s.askers)
+      (each_map (λ e. map.get s.askers e.0 ≡ Some e.1) (λ e. MayBeTold e.1) (λ e there. tells e.0 e.1 (asks e.0 e.1 there)) (map.entries s.askers) (all_got s.askers))))
+
+  -- ---- an input that was taken
+
+  pub hands_after : (w : Option Wanted) (i : Input) (f : Fate) (n : Standing) (s : Loop) → AskersAre P s → ((key : Awaited) (c : ℕ) → P key c → MayBeTold c) → AwaitedBy (MayAsk s) w → WantedBy MayBeTold w
+      → Each MayBeSent (given_at n (enters [] i f)).sends → ((read : Bool) → Each (MayBeReplied read) (answers_of read (given_at n (enters [] i f)))) → Hands s (frames_after w i f n s) (loop_after w i f n s)
+  hands_after w i done n s asks tells a t sends answers = hands_given w (gives n i) (gives n i).outcome s a t sends answers
+  hands_after w i (finds d) n s asks tells a t sends answers = hands_given w (given_again n d) None s a t sends answers
+  hands_after w i (faults k) n s asks tells a t sends answers =
+      let m : Loop = given_up k s in
+      hands_then s m (excused w (Some (StorageFailed k)) m) (frames_given_up k s) (frames_excused w (Some (StorageFailed k)))
+      (hands_given_up k s asks tells) (hands_excused w (Some (StorageFailed k)) m t)
+  hands_after w i (shares k) n s asks tells a t sends answers = hands_excused w (Some (StorageFailed k)) s t
+  hands_after w i damaged n s asks tells a t sends answers = hands_none s
+  hands_after w i lost n s asks tells a t sends answers = hands_excused w None s t

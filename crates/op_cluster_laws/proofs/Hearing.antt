@@ -1,10 +1,9 @@
 -- A read keeps what is known: each message and each request that it gives was read whole.
-use Rattle.std.proofs.Common.{◌≡◌, ◌≤◌, ◌+◌, ◌++◌, ◌∷◌, [], ℕ, zero, suc, Bool, true, false, not, ◌&&◌, List, length, map, Option, Some, None, is_some, option_map, Result, Ok, Err, ◌==◌, nat_lt, if◌then◌else◌, refl, sym, ◌∙◌, ap, subst, arith, inl, inr, append_assoc, append-nil}
+use Rattle.std.proofs.Common.{◌≡◌, ◌+◌, ◌++◌, ◌∷◌, [], ℕ, zero, suc, Bool, true, false, not, ◌&&◌, List, length, Option, Some, None, is_some, option_map, Result, Ok, Err, ◌==◌, nat_lt, if◌then◌else◌, refl, sym, ◌∙◌, ap, subst, arith, inl, inr, append_assoc, append-nil}
 use Rattle.std.proofs.lemmas.Bool.{eqb-true, ltb-true}
 use Rattle.std.proofs.lemmas.List.{length-append}
 use Rattle.op_types.specs.Limits.{most_commands}
 use Rattle.op_types.specs.Ranges.{IsPid}
-use Rattle.op_types.specs.declared.events.Input.{Input}
 use Rattle.op_types.specs.declared.events.Input.TheVariants as input
 use Rattle.op_types.specs.declared.events.Request.{Request}
 use Rattle.op_types.specs.declared.events.Request.TheVariants as request
@@ -19,22 +18,22 @@ use Rattle.op_serving.specs.declared.kind.Kind.{Kind}
 use Rattle.op_serving.specs.declared.kind.Kind.TheVariants.{Unknown, Peer, Client}
 use Rattle.op_serving.specs.declared.session.Session.{Session}
 use Rattle.op_serving.specs.Cores.{Standing}
-use Rattle.op_serving.specs.Losses.{most_marks}
 use Rattle.op_serving.specs.Wire.{peer_head, message_in, request_in}
 use Rattle.op_serving.specs.State.{Loop, find, kind_at, is_open, session_of}
-use Rattle.op_serving.specs.Inputs.{Deed, hears, State, Luck, next_fate, entered_with, enter, give, gathering, released, given_together, flushed, proposes, behind, over, rest, noting}
+use Rattle.op_serving.specs.Inputs.{Deed, hears, enters, State, Luck, give, most_brought, gathering, bringing, flushed, proposes, behind, over, rest, noting}
 use Rattle.op_serving.specs.Reading.{peer_limit, peer_byte, hello_len, Front, partial, refused, hello, frame, front_of, heard_from, asked_in, heard_in, tells, ending, on_heard, of_kind, holding, linked, replaced, is_peer, at_frame, counted_if, up_if_open, met, dealt_front, dealt_at, dealt, feeds, held_in, read}
 use Rattle.op_serving.specs.Turns.{hello as hello_bytes}
 use Rattle.op_serving.specs.Promise.{life}
 use Rattle.op_connections.proofs.Tables.{found_own}
 use Rattle.op_connections.proofs.Keeping.{HasForm}
 use Rattle.op_connections.proofs.Fading.{Fades, fades_same, fades_kind, fading, over_none}
-use Rattle.op_connections.proofs.Walking.{Steps, flushed_holds, over_holds}
+use Rattle.op_connections.proofs.Walking.{Hands, Steps, steps, enter_holds, flushed_holds, over_holds}
 use Rattle.op_cluster_laws.specs.Readings.{began, WasAsked, WasRead}
 use Rattle.op_cluster_laws.proofs.Lists.{Each, each_both}
 use Rattle.op_cluster_laws.proofs.Ending.{quiet_like}
-use Rattle.op_cluster_laws.proofs.Causing.{was_asked_more, was_read_more}
-use Rattle.op_cluster_laws.proofs.Knowing.{Unread, all_held, ReadsAs, Knows, seat_of, knows_quiet, knows_rest, knows_give, knows_together, knows_flushed, knows_over}
+use Rattle.op_cluster_laws.proofs.Causing.{was_asked_more}
+use Rattle.op_cluster_laws.proofs.Knowing.{Unread, all_held, ReadsAs, Knows, seat_of, knows_quiet}
+use Rattle.op_cluster_laws.proofs.Taking.{knows_rest, knows_give, Gathered, Read, knows_released, knows_flushed, knows_over}
 use Rattle.op_cluster_laws.proofs.Fronting.{FrameOf, Seated, Meets, TakenOff, taken_off, reads_none}
 use Rattle.op_cluster_laws.proofs.Changing.{knows_changed, knows_tells, knows_fed, peers_changed}
 
@@ -46,23 +45,21 @@ Adds ds es = (more : List Deed) × (es ≡ ds ++ more)
 adds_more : (ds es more : List Deed) → Adds ds es → Adds ds (es ++ more)
 adds_more ds es more a = (a.0 ++ more, ap (λ l. l ++ more) a.1 ∙ append_assoc ds a.0 more)
 
-adds_enter : (l : Luck) (ds : List Deed) (who : List ℕ) (i : Input) (s : State) → Adds ds s.deeds → Adds ds (enter l who i s).deeds
-adds_enter l ds who i s a = by_marks (nat_lt (length s.loop.lost) most_marks)
-  where
-    by_marks : (b : Bool) → Adds ds (if b then entered_with l who i (next_fate l i s) s else s).deeds
-    by_marks true = adds_more ds s.deeds _ a
-    by_marks false = a
+-- while inputs are taken, too, and where they are handed out
+hands_adding : (l : Luck) (ds : List Deed) → Hands l (λ s. Adds ds s.deeds) (λ ts s. Adds ds s.deeds)
+hands_adding l ds = record {
+  begins = λ s a. a;
+  takes_one = λ ts who i f s a. adds_more ds s.deeds (enters who i f ∷ []) a;
+  hands = λ ts s a. adds_more ds s.deeds _ a;
+}
 
 adding : (l : Luck) (ds : List Deed) → Steps l (λ s. Adds ds s.deeds)
-adding l ds = record {
-  falls = record {
-    moves = λ s t u a. a;
-    calms = λ s a. a;
-    downs = λ q s a. adds_enter l ds [] (input.Down q) s a;
-    leaves_one = λ c s a. a;
-  };
-  enters_one = λ who i s a. adds_enter l ds who i s a;
-}
+adding l ds = steps l (λ s. Adds ds s.deeds) (λ ts s. Adds ds s.deeds) (hands_adding l ds) (record {
+  moves = λ s t u a. a;
+  calms = λ s a. a;
+  downs = λ q s a. enter_holds l (λ s. Adds ds s.deeds) (λ ts s. Adds ds s.deeds) (hands_adding l ds) [] (input.Down q) s a;
+  leaves_one = λ c s a. a;
+})
 
 -- what was there is there behind what was gathered, where the session is
 pub record Behind (c : ℕ) (s u : State) : Type 0 where
@@ -108,18 +105,14 @@ module _ (me : ℕ) (n : Standing) (l : Luck) (line : Standing → List ℕ) (c 
       by_open u k b false e = k
 
   -- a client's request, whose frame was read
-  together_same : (ps : List (ℕ × Command)) (s t : State) → 1 ≤ length ps → released t ≡ released s → given_together l ps t ≡ given_together l ps s
-  together_same [] s t some e = absurd (omega (arith, some))
-  together_same (p ∷ ps) s t some e = ap (λ z. give l (map (λ (x : ℕ × Command). x.0) (p ∷ ps)) (input.Commands (map (λ (x : ℕ × Command). x.1) (p ∷ ps))) z) e
-
   knows_command : (x : Command) (s : State) → K s → kind_at c s.loop ≡ Some Client → WasAsked s.deeds c (request.Command x) → K (proposes l c x s)
   knows_command x s h client asked = by_length (nat_lt (length t.loop.gathered) most_commands) refl
     where
       t : State
       t = gathering c x s
 
-      all : Each (λ e. (kind_at e.0 s.loop ≡ Some Client) × WasAsked s.deeds e.0 (request.Command e.1)) (s.loop.gathered ++ (c, x) ∷ [])
-      all = each_both (λ e. (kind_at e.0 s.loop ≡ Some Client) × WasAsked s.deeds e.0 (request.Command e.1)) s.loop.gathered ((c, x) ∷ []) h.gathered ((client, asked), tt)
+      all : Each (Gathered me n all_held s) (s.loop.gathered ++ (c, x) ∷ [])
+      all = each_both (Gathered me n all_held s) s.loop.gathered ((c, x) ∷ []) h.gathered ((client, asked), tt)
 
       by_length : (b : Bool) → nat_lt (length t.loop.gathered) most_commands ≡ b → K (if b then t else flushed l t)
       by_length true e = record {
@@ -131,6 +124,7 @@ module _ (me : ℕ) (n : Standing) (l : Luck) (line : Standing → List ℕ) (c 
         askers = h.askers;
         gathered = all;
         few = ltb-true (length t.loop.gathered) most_commands e;
+        brought = h.brought;
         behind = h.behind;
         peers = h.peers;
         downs = h.downs;
@@ -138,11 +132,10 @@ module _ (me : ℕ) (n : Standing) (l : Luck) (line : Standing → List ℕ) (c 
       by_length false e =
           let many : length (s.loop.gathered ++ (c, x) ∷ []) ≡ length s.loop.gathered + 1 = length-append s.loop.gathered ((c, x) ∷ []) in
           let room = h.few in
-          subst K (sym (together_same (s.loop.gathered ++ (c, x) ∷ []) s t (omega (arith, many)) refl))
-          (knows_together me n all_held l (s.loop.gathered ++ (c, x) ∷ []) s h all (omega (arith, many, room)))
+          knows_released me n all_held s h l s.loop.brought (s.loop.gathered ++ (c, x) ∷ []) h.brought all (omega (arith, many, room))
 
   knows_ending : (s : State) → K s → K (ending s)
-  knows_ending s h = knows_quiet me n all_held s (ending s).loop (quiet_like s.loop (ending s).loop refl refl refl refl refl refl (λ Q k. k)) h
+  knows_ending s h = knows_quiet me n all_held s (ending s).loop (quiet_like s.loop (ending s).loop refl refl refl refl refl refl refl (λ Q k. k)) h
 
   asked_behind : (s u : State) (r : Request) → Behind c s u → WasAsked s.deeds c r → WasAsked u.deeds c r
   asked_behind s u r b w = subst (λ ds. WasAsked ds c r) (sym b.adds.1) (was_asked_more s.deeds b.adds.0 c r w)
@@ -168,9 +161,31 @@ module _ (me : ℕ) (n : Standing) (l : Luck) (line : Standing → List ℕ) (c 
       (record { before = s.deeds; since = []; split = sym (append-nil s.deeds); body = body; accepted = f.0; has = f.1; says = e })
 
   -- a peer's message
-  knows_message : (q j : ℕ) (m : Msg) (s : State) → K s → WasRead me s.deeds q m → K (on_heard l line c (Message q m) s)
-  knows_message q j m s h was = knows_behind (give l (c ∷ []) (input.Deliver q m)) s h
-      (λ u k b e. knows_give me n all_held l (c ∷ []) (input.Deliver q m) u k (subst (λ ds. WasRead me ds q m) (sym b.adds.1) (was_read_more me s.deeds b.adds.0 q m was)) tt)
+  knows_message : (q : ℕ) (m : Msg) (s : State) → K s → WasRead me s.deeds q m → K (on_heard l line c (Message q m) s)
+  knows_message q m s h was = by_length (nat_lt (length t.loop.brought) most_brought)
+    where
+      t : State
+      t = bringing c (q, m) s
+
+      all : Each (Read me n all_held s) (s.loop.brought ++ (c, (q, m)) ∷ [])
+      all = each_both (Read me n all_held s) s.loop.brought ((c, (q, m)) ∷ []) h.brought (was, tt)
+
+      by_length : (b : Bool) → K (if b then t else flushed l t)
+      by_length true = record {
+        caused = h.caused;
+        node = h.node;
+        me_is = h.me_is;
+        seats = h.seats;
+        waits = h.waits;
+        askers = h.askers;
+        gathered = h.gathered;
+        few = h.few;
+        brought = all;
+        behind = h.behind;
+        peers = h.peers;
+        downs = h.downs;
+      }
+      by_length false = let room = h.few in knows_released me n all_held s h l (s.loop.brought ++ (c, (q, m)) ∷ []) s.loop.gathered all h.gathered (omega (arith, room))
 
   knows_noise : (s : State) → K s → K (on_heard l line c Noise s)
   knows_noise s h = knows_behind (over l c) s h (λ u k b e. knows_over me n all_held l c u k)
@@ -181,7 +196,7 @@ module _ (me : ℕ) (n : Standing) (l : Luck) (line : Standing → List ℕ) (c 
   knows_from q j body (Ok m) s e h f = by_names (m.0 == q) (m.1 == me) refl
     where
       by_names : (a b : Bool) → (m.1 == me) ≡ b → K (on_heard l line c (if a && b then Message m.0 m.2 else Foreign) s)
-      by_names true true is = knows_message m.0 j m.2 s h (record {
+      by_names true true is = knows_message m.0 m.2 s h (record {
         before = s.deeds;
         since = [];
         split = sym (append-nil s.deeds);
@@ -208,7 +223,7 @@ module _ (me : ℕ) (n : Standing) (l : Luck) (line : Standing → List ℕ) (c 
 
   knows_holding : (kind : Kind) (z : Stream) (s : State) (y : Session) → find c s.loop.sessions ≡ Some y → Seated me c (began c s.deeds) (life c s.deeds).heard y.queue y.kind kind z → K s → K (holding c kind z s)
   knows_holding kind z s y there k h =
-      knows_changed me n all_held all_held (of_kind kind z) c y s (holding c kind z s).loop there refl refl refl refl refl refl h.peers k.stays refl k.seat_is (λ d apart heard x e. e) h
+      knows_changed me n all_held all_held (of_kind kind z) c y s (holding c kind z s).loop there refl refl refl refl refl refl refl h.peers k.stays refl k.seat_is (λ d apart heard x e. e) h
 
   holding_kind : (kind : Kind) (z : Stream) (s : State) (y : Session) → find c s.loop.sessions ≡ Some y → kind_at c (holding c kind z s).loop ≡ Some kind
   holding_kind kind z s y there = ap (option_map (λ (x : Session). x.kind)) (found_own (of_kind kind z) c s.loop.sessions ∙ ap (option_map (of_kind kind z)) there)
@@ -216,7 +231,7 @@ module _ (me : ℕ) (n : Standing) (l : Luck) (line : Standing → List ℕ) (c 
   knows_meeting : (q : ℕ) (z : Stream) (s : State) (y : Session) → find c s.loop.sessions ≡ Some y → (y.kind ≡ Unknown) → Meets me c (began c s.deeds) (life c s.deeds).heard y.queue q z → K s
       → Knows me n (meets q) (holding c Unknown z s)
   knows_meeting q z s y there unknown m h =
-      knows_changed me n all_held (meets q) (of_kind Unknown z) c y s (holding c Unknown z s).loop there refl refl refl refl refl refl h.peers (λ e. absurd (let bad : Unknown ≡ Client = sym unknown ∙ e in cc)) refl
+      knows_changed me n all_held (meets q) (of_kind Unknown z) c y s (holding c Unknown z s).loop there refl refl refl refl refl refl refl h.peers (λ e. absurd (let bad : Unknown ≡ Client = sym unknown ∙ e in cc)) refl
       (record { form = tt; bytes = m.bytes; reads = (m.accepted, ((λ e. (m.heard_is, m.form)), (λ apart. absurd (apart refl)))) })
       (λ d apart heard x e. ((λ same. absurd (apart same)), (λ k. e))) h
 
@@ -230,6 +245,7 @@ module _ (me : ℕ) (n : Standing) (l : Luck) (line : Standing → List ℕ) (c 
     askers = h.askers;
     gathered = h.gathered;
     few = h.few;
+    brought = h.brought;
     behind = h.behind;
     peers = h.peers;
     downs = h.downs;
@@ -255,7 +271,7 @@ module _ (me : ℕ) (n : Standing) (l : Luck) (line : Standing → List ℕ) (c 
       let own = h.seats c y.0 y.1 in
       let known = y.2.1.0 refl in
       let is = hello_is q in
-      knows_changed me n (meets q) all_held (λ (x : Session). record x { kind = Peer q 0 }) c y.0 s (linked q c s).loop y.1 refl refl refl refl refl refl (peers_changed q c s.loop.peers h.peers)
+      knows_changed me n (meets q) all_held (λ (x : Session). record x { kind = Peer q 0 }) c y.0 s (linked q c s).loop y.1 refl refl refl refl refl refl refl (peers_changed q c s.loop.peers h.peers)
       (λ e. absurd (let bad : Some Unknown ≡ Some Client = sym kind ∙ ap (option_map (λ (x : Session). x.kind)) y.1 ∙ ap (λ k. Some k) e in cc)) refl
       (record {
         form = known.1;
@@ -281,7 +297,7 @@ module _ (me : ℕ) (n : Standing) (l : Luck) (line : Standing → List ℕ) (c 
         u = at_frame (k + 1) s
 
         by_open : (b : Bool) → K (if b then more (k + 1) (rest l u) else s)
-        by_open true = goes_on (k + 1) (rest l u) (knows_rest me n all_held l u (knows_quiet me n all_held s u.loop (quiet_like s.loop u.loop refl refl refl refl refl refl (λ Q j. j)) h))
+        by_open true = goes_on (k + 1) (rest l u) (knows_rest me n all_held l u (knows_quiet me n all_held s u.loop (quiet_like s.loop u.loop refl refl refl refl refl refl refl (λ Q j. j)) h))
         by_open false = h
 
     knows_up : (k q : ℕ) (s : State) → IsPid q → (is_open c s.loop ≡ true → kind_at c s.loop ≡ Some Unknown) → Knows me n (meets q) s → K (up_if_open l line c more k q s)

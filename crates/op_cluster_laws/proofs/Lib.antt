@@ -4,8 +4,10 @@ pub mod Ending
 pub mod Tracing
 pub mod Happenings
 pub mod Executions
+pub mod Pending
 pub mod Causing
 pub mod Knowing
+pub mod Taking
 pub mod Fronting
 pub mod Changing
 pub mod Hearing

@@ -32,29 +32,34 @@ use Rattle.op_runs.specs.declared.events.What.{What}
 use Rattle.op_runs.specs.declared.events.What.TheVariants as what
 use Rattle.op_runs.specs.Possible.{SparesInRange, WhatInRange, HappeningsInRange, proposals_of, proposals_in}
 use Rattle.op_runs.specs.Run.{Execution, first_execution, execution_of, execution_with, IsSound, MeetsFrom, ServesDecided}
-use Rattle.op_runs.specs.World.{World, Sent, Happening, first_node, first_world, node_ids, run_of, node_at, answer_line}
+use Rattle.op_runs.specs.World.{World, Sent, Happening, first_node, first_world, node_ids, run_of, node_at, answer_line, Up}
 use Rattle.op_bounds.specs.Laws.{SentInRange, WorldInRange}
 use Rattle.op_bounds.specs.Messages as known
 use Rattle.op_bounds.proofs.Known.{nodes_are_ids, all_runs_stay}
 use Rattle.op_refinement.proofs.EveryRun.{every_run_meets}
 use Rattle.op_laws.proofs.Greatest.{greatest_stays}
 use Rattle.op_laws.proofs.Reached.{world_of_run, run_append, execution_append, front_in_range}
-use Rattle.op_serving.specs.Cores.{saying, gives}
-use Rattle.op_serving.specs.Fates.{done, finds, faults, damaged, lost}
-use Rattle.op_serving.specs.Inputs.{Deed, begins, hears, enters, says, takes}
-use Rattle.op_cluster_laws.specs.Outputs.{given_at, sent_in, answers_of, answered_in}
+use Rattle.op_protocol.specs.State.{State}
+use Rattle.op_protocol.specs.Starting.{state_after_restart, sends_after_restart}
+use Rattle.op_serving.specs.Cores.{Standing, saying, gives}
+use Rattle.op_serving.specs.Fates.{Fate, done, finds, faults, shares, damaged, lost}
+use Rattle.op_serving.specs.Reopenings.{Unstored, FindsOneOf}
+use Rattle.op_serving.specs.Inputs.{Brought, Deed, begins, hears, enters, says, takes}
+use Rattle.op_cluster_laws.specs.Outputs.{after_deed, given_at, sent_in, answers_of, answered_in}
 use Rattle.op_cluster_laws.specs.Readings.{WasRead, WasAsked}
-use Rattle.op_cluster_laws.specs.Causes.{WasHeard, IsCaused, AreCaused}
-use Rattle.op_cluster_laws.specs.Traces.{Event, does, ends, killed, opens, Happened, Lived, stands, unstored_in, left_between, lived_by, lived_at, sent_then, messages_behind, input_of, proposed_by, proposed_in}
+use Rattle.op_cluster_laws.specs.Causes.{WasHeard, MayFind, IsCaused, AreCaused}
+use Rattle.op_cluster_laws.specs.Traces.{Event, does, ends, killed, opens, Happened, Lived, stands, unstored_in, stepped, held_in, stored_in, pending_in, inputs_of, ended_with, lived_by, lived_at, sent_stepping, sent_then, messages_then, messages_behind, steps_then, proposed_by, proposed_by_all, proposed_behind}
 use Rattle.op_cluster_laws.specs.Lives.{Serves}
 use Rattle.op_cluster_laws.proofs.Serving.{deeds_are_caused}
 use Rattle.op_cluster_laws.specs.Clusters.{IsLife, MayOpen, IsCluster}
 use Rattle.op_cluster_laws.specs.Currency.{WasAskedOf}
 use Rattle.op_cluster_laws.specs.Worlds.{StandsAt, StandTogether, history_after, IsFrom, IsMoment, IsRun, DeliveriesWereGiven, AreFirst, NodesAgree, OfClusters, ClustersAreRuns}
-use Rattle.op_cluster_laws.proofs.Causing.{replied_push, caused_at}
-use Rattle.op_cluster_laws.proofs.Tracing.{cut_last, lived_own, lived_other, first_me, folded_push, sent_push, unstored_push, FindsAt, finds_at}
+use Rattle.op_cluster_laws.proofs.Causing.{replied_push, caused_at, heard_coming}
+use Rattle.op_cluster_laws.proofs.Tracing.{cut_last, lived_own, lived_other, folded_me, first_me, sent_push, unstored_deed, finds_at, Begun, begun_at, IsLinked, linked_alive, linked_ended}
 use Rattle.op_cluster_laws.proofs.Happenings.{sent, Says, ticks, delivers, proposes, stops, trims, looks_up, goes_up, goes_down}
-use Rattle.op_cluster_laws.proofs.Executions.{told_line, nobody, silent, Numbered, says_of, EventOf, Moves, others_stand, MayCome, moves, crashes, dies_in, opened}
+use Rattle.op_cluster_laws.proofs.Executions.{told_line, nobody, silent, Numbered, says_of, said_numbered, numbered_longer, Longer, NodeIs, Moves, rests, forgets, Tells, tells_longer, opened, proposals_more, stored_of, quiet, InputMoves, by_fate}
+use Rattle.op_cluster_laws.proofs.Lists.{Each, each_map}
+use Rattle.op_cluster_laws.proofs.Pending.{InputsSo, pending_event, stored_push, stored_ended, stored_up, link_failed}
 use Rattle.op_cluster_laws.proofs.Answering.{all_found, input_fits, again_none, answers_fit}
 use Rattle.op_cluster_laws.proofs.Ranges.{numbered_all, numbered_within, can_be_read, request_fits, commands_fit}
 use Rattle.op_cluster_laws.specs.Orders.{ClientsTakeReplies, IsAnswer, IsServedBefore, AnswersComeFirst}
@@ -94,31 +99,16 @@ none_left (x ∷ xs) ys e = absurd cc
 
 -- ---- how much it is
 
-proposed_more : (xs ys : List Happened) → proposed_in (xs ++ ys) ≡ proposed_in xs + proposed_in ys
-proposed_more [] ys = omega arith
-proposed_more (x ∷ xs) ys = let k = proposed_more xs ys in omega (arith, k)
-
-proposals_more : (hs gs : List Happening) → proposals_in (hs ++ gs) ≡ proposals_in hs + proposals_in gs
-proposals_more [] gs = omega arith
-proposals_more (h ∷ hs) gs = let k = proposals_more hs gs in omega (arith, k)
-
 -- ---- events
 
 -- what the input of a step comes from, at a node that has done these deeds
 abbrev HeardSo : ℕ → List Deed → Event → Type 0
 HeardSo p ds (does (enters who i fate)) = WasHeard p ds who i
-HeardSo p ds (killed who i) = WasHeard p ds who i
+HeardSo p ds (killed bs) = Each (λ b. WasHeard p ds b.0 b.1) bs
 HeardSo p ds e = Unit {0}
 
--- which event something is in a world
-abbrev OfEvent : List Sent → ℕ → Event → What → Type 0
-OfEvent ms p (does d) w = EventOf ms p d w
-OfEvent ms p ends w = w ≡ what.Crash p
-OfEvent ms p (killed who i) w = Says ms p i w ⊎ (w ≡ what.Crash p)
-OfEvent ms p (opens d count) w = w ≡ what.Start p
-
 says_fits : (ms : List Sent) (p : ℕ) (ds : List Deed) (who : List ℕ) (i : Input) (w : What) → Says ms p i w → WasHeard p ds who i → IsPid p → length ms < 2 ^ 64
-    → WhatInRange w × (proposals_of w ≤ proposed_by (Some i))
+    → WhatInRange w × (proposals_of w ≤ proposed_by i)
 says_fits ms p ds who i w ticks h pid few = (pid, omega arith)
 says_fits ms p ds who i w (delivers {q} {m} k e) h pid few = (let lt = numbered_within ms k (sent q p m) e in omega (arith, lt, few), omega arith)
 says_fits ms p ds who i w (proposes {cs}) h pid few = ((pid, commands_fit ds who cs h.0 h.1 h.2 h.3), omega arith)
@@ -128,19 +118,7 @@ says_fits ms p ds who i w (looks_up {r}) h pid few = ((pid, request_fits ds h.0 
 says_fits ms p ds who i w (goes_up {q}) h pid few = ((pid, h), omega arith)
 says_fits ms p ds who i w (goes_down {q}) h pid few = ((pid, h), omega arith)
 
-event_fits : (ms : List Sent) (p : ℕ) (ds : List Deed) (e : Event) (w : What) → OfEvent ms p e w → HeardSo p ds e → IsPid p → length ms < 2 ^ 64 → WhatInRange w × (proposals_of w ≤ proposed_by (input_of e))
-event_fits ms p ds (does (enters who i fate)) w (inl said) h pid few = says_fits ms p ds who i w said h pid few
-event_fits ms p ds (does (enters who i fate)) w (inr start) h pid few = rw start (pid, omega arith)
-event_fits ms p ds (does (begins c bytes)) w e h pid few = absurd e
-event_fits ms p ds (does (hears c bytes)) w e h pid few = absurd e
-event_fits ms p ds (does (says f)) w e h pid few = absurd e
-event_fits ms p ds (does (takes c bytes)) w e h pid few = absurd e
-event_fits ms p ds ends w crash h pid few = rw crash (pid, omega arith)
-event_fits ms p ds (killed who i) w (inl said) h pid few = says_fits ms p ds who i w said h pid few
-event_fits ms p ds (killed who i) w (inr crash) h pid few = rw crash (pid, omega arith)
-event_fits ms p ds (opens d count) w start h pid few = rw start (pid, omega arith)
-
--- a command of an event was asked for
+-- a command of an input was asked for
 asked_among : (ds : List Deed) (who : List ℕ) (xs : List Command) (c : Command) → length who ≡ length xs → All (λ p. WasAsked ds p.0 (request.Command p.1)) (zip who xs) → IsAmong xs c → (conn : ℕ) × WasAsked ds conn (request.Command c)
 asked_among ds [] [] c l h k = absurd k
 asked_among ds [] (x ∷ xs) c l h k = absurd (omega (arith, l))
@@ -158,22 +136,7 @@ says_asked ms p ds who i w c looks_up h k = absurd k
 says_asked ms p ds who i w c goes_up h k = absurd k
 says_asked ms p ds who i w c goes_down h k = absurd k
 
-none_asked : (v w : What) (c : Command) → w ≡ v → (IsAmong (commands_of v) c → ⊥) → IsAmong (commands_of w) c → ⊥
-none_asked v w c e none k = none (subst (λ z. IsAmong (commands_of z) c) e k)
-
-event_asked : (ms : List Sent) (p : ℕ) (ds : List Deed) (e : Event) (w : What) (c : Command) → OfEvent ms p e w → HeardSo p ds e → IsAmong (commands_of w) c → (conn : ℕ) × WasAsked ds conn (request.Command c)
-event_asked ms p ds (does (enters who i fate)) w c (inl said) h k = says_asked ms p ds who i w c said h k
-event_asked ms p ds (does (enters who i fate)) w c (inr start) h k = absurd (none_asked (what.Start p) w c start (λ z. z) k)
-event_asked ms p ds (does (begins d bytes)) w c e h k = absurd e
-event_asked ms p ds (does (hears d bytes)) w c e h k = absurd e
-event_asked ms p ds (does (says f)) w c e h k = absurd e
-event_asked ms p ds (does (takes d bytes)) w c e h k = absurd e
-event_asked ms p ds ends w c crash h k = absurd (none_asked (what.Crash p) w c crash (λ z. z) k)
-event_asked ms p ds (killed who i) w c (inl said) h k = says_asked ms p ds who i w c said h k
-event_asked ms p ds (killed who i) w c (inr crash) h k = absurd (none_asked (what.Crash p) w c crash (λ z. z) k)
-event_asked ms p ds (opens d count) w c start h k = absurd (none_asked (what.Start p) w c start (λ z. z) k)
-
--- so was a read of an event
+-- so was a read of it
 says_read : (ms : List Sent) (p : ℕ) (ds : List Deed) (who : List ℕ) (i : Input) (w : What) (r : Read) → Says ms p i w → WasHeard p ds who i → IsAmong (reads_of w) r → (conn : ℕ) × WasAsked ds conn (request.Read r)
 says_read ms p ds who i w r ticks h k = absurd k
 says_read ms p ds who i w r (delivers n e) h k = absurd k
@@ -184,24 +147,6 @@ says_read ms p ds who i w r looks_up h (inl same) = (h.0, subst (λ z. WasAsked 
 says_read ms p ds who i w r looks_up h (inr none) = absurd none
 says_read ms p ds who i w r goes_up h k = absurd k
 says_read ms p ds who i w r goes_down h k = absurd k
-
-none_read : (v w : What) (r : Read) → w ≡ v → (IsAmong (reads_of v) r → ⊥) → IsAmong (reads_of w) r → ⊥
-none_read v w r e none k = none (subst (λ z. IsAmong (reads_of z) r) e k)
-
-event_read : (ms : List Sent) (p : ℕ) (ds : List Deed) (e : Event) (w : What) (r : Read) → OfEvent ms p e w → HeardSo p ds e → IsAmong (reads_of w) r → (conn : ℕ) × WasAsked ds conn (request.Read r)
-event_read ms p ds (does (enters who i fate)) w r (inl said) h k = says_read ms p ds who i w r said h k
-event_read ms p ds (does (enters who i fate)) w r (inr start) h k = absurd (none_read (what.Start p) w r start (λ z. z) k)
-event_read ms p ds (does (begins d bytes)) w r e h k = absurd e
-event_read ms p ds (does (hears d bytes)) w r e h k = absurd e
-event_read ms p ds (does (says f)) w r e h k = absurd e
-event_read ms p ds (does (takes d bytes)) w r e h k = absurd e
-event_read ms p ds ends w r crash h k = absurd (none_read (what.Crash p) w r crash (λ z. z) k)
-event_read ms p ds (killed who i) w r (inl said) h k = says_read ms p ds who i w r said h k
-event_read ms p ds (killed who i) w r (inr crash) h k = absurd (none_read (what.Crash p) w r crash (λ z. z) k)
-event_read ms p ds (opens d count) w r start h k = absurd (none_read (what.Start p) w r start (λ z. z) k)
-
-only_one : (c : Command) (cs : List Command) → IsAmong (cs ++ []) c → IsAmong cs c
-only_one c cs k = subst (λ l. IsAmong l c) (append-nil cs) k
 
 first_found : (all ids : List ℕ) (p : ℕ) → is_member nat_eq ids p ≡ true → node_at (map (first_node all) ids) p ≡ Some (first_node all p)
 first_found all [] p h = absurd cc
@@ -230,24 +175,93 @@ module _ (members spares : List ℕ) (counts : ℕ → ℕ) (ms : MembersInRange
   asked_later : (now xs : List Happened) (r : Request) → AskedBy now r → AskedBy (now ++ xs) r
   asked_later now xs r a = (a.0, a.1 ++ xs, ap (λ l. l ++ xs) a.2 ∙ append_assoc a.0 a.1 xs, a.3, a.4, a.5, a.6)
 
+  -- an event that may be told of by then: it is in range, and each command and read of it was asked for
+  record Fits (now : List Happened) (w : What) : Type 0 where
+    range : WhatInRange w
+    asked : (c : Command) → IsAmong (commands_of w) c → AskedBy now (request.Command c)
+    read : (r : Read) → IsAmong (reads_of w) r → AskedBy now (request.Read r)
+
+  fits_later : (now xs : List Happened) (w : What) → Fits now w → Fits (now ++ xs) w
+  fits_later now xs w f = record {
+    range = f.range;
+    asked = λ c k. asked_later now xs (request.Command c) (f.asked c k);
+    read = λ r k. asked_later now xs (request.Read r) (f.read r k);
+  }
+
+  -- so are inputs, in a world in which these messages were sent
+  abbrev AreTold : List Happened → List Sent → ℕ → List Input → Type 0
+  AreTold now ms p is = Each (Tells p (Fits now) ms) is
+
+  told_later : (now xs : List Happened) (old new : List Sent) (p : ℕ) (is : List Input) → Longer old new → AreTold now old p is → AreTold (now ++ xs) new p is
+  told_later now xs old new p is l h = each_map (Tells p (Fits now) old) (Tells p (Fits (now ++ xs)) new) (λ i t.
+      let k = tells_longer p (Fits now) old new i l t in record { what = k.what; says = k.says; so = fits_later now xs k.what k.so; few = k.few }) is h
+
+  -- what was read by now
+  tells_heard : (now : List Happened) (out : List Sent) (p : ℕ) (who : List ℕ) (i : Input) → IsNode p → WasHeard p (L p now).deeds who i → ((q : ℕ) (m : Msg) → i ≡ input.Deliver q m → Numbered out (sent q p m)) → length out < 2 ^ 64
+      → Tells p (Fits now) out i
+  tells_heard now out p who i node heard numbered few =
+      let ds : List Deed = (L p now).deeds in
+      let k = says_of out p i numbered in
+      let f = says_fits out p ds who i k.0 k.1 heard (nodes_are_ids members spares ms ss p node) few in
+      record {
+        what = k.0;
+        says = k.1;
+        so = record {
+          range = f.0;
+          asked = λ c a. (let q = says_asked out p ds who i k.0 c k.1 heard a in (now, [], sym (append-nil now), p, q.0, node, q.1));
+          read = λ r a. (let q = says_read out p ds who i k.0 r k.1 heard a in (now, [], sym (append-nil now), p, q.0, node, q.1));
+        };
+        few = f.1;
+      }
+
+  -- what happenings that fit name was asked for
+  all_asked : (now : List Happened) (hs : List Happening) (c : Command) → All (λ h. Fits now h.event.what) hs → IsAmong (commands_in hs) c → AskedBy now (request.Command c)
+  all_asked now [] c f k = absurd k
+  all_asked now (h ∷ hs) c f k = elim (from_both c (commands_of h.event.what) (commands_in hs) k) [
+    | inl here ↦ (All-head (λ (h : Happening). Fits now h.event.what) h hs f).asked c here
+    | inr later ↦ all_asked now hs c (All-tail (λ (h : Happening). Fits now h.event.what) h hs f) later
+  ]
+
+  all_read : (now : List Happened) (hs : List Happening) (r : Read) → All (λ h. Fits now h.event.what) hs → IsAmong (reads_in hs) r → AskedBy now (request.Read r)
+  all_read now [] r f k = absurd k
+  all_read now (h ∷ hs) r f k = elim (from_both r (reads_of h.event.what) (reads_in hs) k) [
+    | inl here ↦ (All-head (λ (h : Happening). Fits now h.event.what) h hs f).read r here
+    | inr later ↦ all_read now hs r (All-tail (λ (h : Happening). Fits now h.event.what) h hs f) later
+  ]
+
+  all_range : (now : List Happened) (hs : List Happening) → All (λ h. Fits now h.event.what) hs → All (λ h. WhatInRange h.event.what) hs
+  all_range now [] f = All-nil (λ (h : Happening). WhatInRange h.event.what)
+  all_range now (h ∷ hs) f = All-cons (λ (h : Happening). WhatInRange h.event.what) h hs (All-head (λ (h : Happening). Fits now h.event.what) h hs f).range (all_range now hs (All-tail (λ (h : Happening). Fits now h.event.what) h hs f))
+
+  -- a crash and a start may always be told of
+  crash_fits : (now : List Happened) (p : ℕ) → IsNode p → Fits now (what.Crash p)
+  crash_fits now p node = record { range = nodes_are_ids members spares ms ss p node; asked = λ c k. absurd k; read = λ r k. absurd k }
+
+  start_fits : (now : List Happened) (p : ℕ) → IsNode p → Fits now (what.Start p)
+  start_fits now p node = record { range = nodes_are_ids members spares ms ss p node; asked = λ c k. absurd k; read = λ r k. absurd k }
+
   record Beside (now : List Happened) (hs : List Happening) : Type 0 where
     nodes : StandTogether members spares counts now hs
     messages : (before since : List Happened) → now ≡ before ++ since → (p : ℕ) → IsNode p → (d : ℕ) (m : Msg) → Contains (sent_in (L p before).first (L p before).deeds) (d, m) → Numbered (world hs).messages (sent p d m)
     replies : (read : Bool) (p : ℕ) → IsNode p → (r : Reply) → Contains (answered_in read (L p now).first (L p now).deeds) r → Contains (world hs).lines (told_line read p r)
     answers : (read : Bool) (p : ℕ) → IsNode p → (r : Reply) → Contains (answered_in read (L p now).first (L p now).deeds) r → known.ReplyInRange IsPid r
+    pending : (p : ℕ) → IsNode p → AreTold now (world hs).messages p (pending_in (L p now))
+    linked : (p : ℕ) → IsNode p → IsLinked (L p now)
     asked : (c : Command) → IsAmong (commands_in hs) c → AskedBy now (request.Command c)
     read : (r : Read) → IsAmong (reads_in hs) r → AskedBy now (request.Read r)
     count : length (world hs).messages ≤ messages_behind members counts [] now
     range : All (λ h. WhatInRange h.event.what) hs
-    proposals : proposals_in hs ≤ proposed_in now
+    proposals : proposals_in hs ≤ proposed_behind members counts [] now
 
   begins_beside : Beside [] []
   begins_beside = record {
-    nodes = λ p is. record { me = refl; found = first_node members p; there = first_found members (node_ids members spares) p is; pid = refl; state = refl; runs = refl };
+    nodes = λ p is. record { me = refl; found = first_node members p; there = first_found members (node_ids members spares) p is; pid = refl; state = refl; up = refl };
     messages = λ before since e p is d m c. absurd (let none : before ≡ [] = none_left before since e in
         omega (arith, (subst (λ l. Contains (sent_in (L p l).first (L p l).deeds) (d, m)) none c).1));
     replies = λ read p is r c. absurd (omega (arith, c.1));
     answers = λ read p is r c. absurd (omega (arith, c.1));
+    pending = λ p is. tt;
+    linked = λ p is. refl;
     asked = λ c k. absurd k;
     read = λ r k. absurd k;
     count = omega arith;
@@ -256,12 +270,21 @@ module _ (members spares : List ℕ) (counts : ℕ → ℕ) (ms : MembersInRange
   }
 
   messages_more : (before xs : List Happened) (x : Happened)
-      → messages_behind members counts before (xs ++ x ∷ []) ≡ messages_behind members counts before xs + length (sent_then (L x.pid (before ++ xs)) x.event)
+      → messages_behind members counts before (xs ++ x ∷ []) ≡ messages_behind members counts before xs + messages_then (L x.pid (before ++ xs)) x.event
   messages_more before [] x = rw (append-nil before) (omega arith)
   messages_more before (y ∷ xs) x =
       let k = messages_more (before ++ y ∷ []) xs x in
       let seam : (before ++ y ∷ []) ++ xs ≡ before ++ y ∷ xs = append_assoc before (y ∷ []) xs in
-      let same = ap (λ l. length (sent_then (L x.pid l) x.event)) seam in
+      let same = ap (λ l. messages_then (L x.pid l) x.event) seam in
+      omega (arith, k, same)
+
+  proposals_behind : (before xs : List Happened) (x : Happened)
+      → proposed_behind members counts before (xs ++ x ∷ []) ≡ proposed_behind members counts before xs + proposed_by_all (steps_then (L x.pid (before ++ xs)) x.event)
+  proposals_behind before [] x = rw (append-nil before) (omega arith)
+  proposals_behind before (y ∷ xs) x =
+      let k = proposals_behind (before ++ y ∷ []) xs x in
+      let seam : (before ++ y ∷ []) ++ xs ≡ before ++ y ∷ xs = append_assoc before (y ∷ []) xs in
+      let same = ap (λ l. proposed_by_all (steps_then (L x.pid l) x.event)) seam in
       omega (arith, k, same)
 
   -- what a node answers then
@@ -270,48 +293,155 @@ module _ (members spares : List ℕ) (counts : ℕ → ℕ) (ms : MembersInRange
   answered_then l e = nobody
 
   -- what becomes of the world then
-  abbrev Goes : World → ℕ → Lived → Event → Type 0
-  Goes w p l e = Moves w p (OfEvent w.messages p e) (sent_then l e) (answered_then l e) (stands (lived_by l e)) (lived_by l e).left (unstored_in (lived_by l e))
+  abbrev Goes : List Happened → World → ℕ → Lived → Event → Type 0
+  Goes now w p l e = Moves w p (Fits now) (proposed_by_all (steps_then l e)) (messages_then l e) (sent_then l e) (answered_then l e) Up (stored_in (lived_by l e))
 
-  -- what may come
-  abbrev MayBe : List Sent → ℕ → Lived → Event → Type 0
-  MayBe out p l (does d) = (l.left ≡ None) × MayCome out p (stands l) d × FindsAt (stands l) (unstored_in l) d
-  MayBe out p l ends = l.left ≡ None
-  MayBe out p l (killed who i) = (l.left ≡ None) × ((q : ℕ) (m : Msg) → i ≡ input.Deliver q m → Numbered out (sent q p m))
-  MayBe out p l (opens d count) = MayOpen l l.left d
+  -- what may come at a life
+  abbrev MayCome : Lived → Event → Type 0
+  MayCome l (does (enters who i fate)) = (l.left ≡ None) × MayFind (stands l) i fate × FindsOneOf (unstored_in l) fate
+  MayCome l (opens d count) = MayOpen l.left d
+  MayCome l e = l.left ≡ None
 
-  goes : (w : World) (p : ℕ) (l : Lived) (e : Event) → StandsAt w p (stands l) l.left (unstored_in l) → MayBe w.messages p l e → Goes w p l e
-  goes w p l (does d) s may =
-      let up : StandsAt w p (stands l) None (unstored_in l) = subst (λ o. StandsAt w p (stands l) o (unstored_in l)) may.0 s in
-      rw (folded_push l.first l.deeds d, unstored_push l.first l.unstored l.deeds d, may.0) (moves w p (stands l) (unstored_in l) d up may.1 may.2)
-  goes w p l ends s may =
-      let up : StandsAt w p (stands l) None (unstored_in l) = subst (λ o. StandsAt w p (stands l) o (unstored_in l)) may s in
-      crashes w p (stands l) (unstored_in l) up (left_between (stands l).failed l) (λ e. ap (λ o. left_between o l) e) (λ c e. ap (λ o. left_between o l) e) (unstored_in l)
-  goes w p l (killed who i) s may =
-      let up : StandsAt w p (stands l) None (unstored_in l) = subst (λ o. StandsAt w p (stands l) o (unstored_in l)) may.0 s in
-      let k = says_of w.messages p i may.1 in
-      dies_in w p (stands l) (unstored_in l) up i k.0 k.1 (unstored_in l)
-  goes w p l (opens d count) s may = by_left l.left refl may
-    where
-      by_left : (o : Option Durable) → l.left ≡ o → MayOpen l o d → Goes w p l (opens d count)
-      by_left None e one = absurd one
-      by_left (Some left) e one = opened w p (stands l) left (unstored_in l) d count (subst (λ o. StandsAt w p (stands l) o (unstored_in l)) e s) one
+  module _ (now : List Happened) (w : World) (p : ℕ) (node : IsNode p) (l : Lived) (me : (stands l).me ≡ p) (s : NodeIs w p Up (stored_in l)) (linked : IsLinked l)
+      (pending : AreTold now w.messages p (pending_in l)) where
+    abbrev F : What → Type 0
+    F = Fits now
+
+    module _ (alive : l.left ≡ None) where
+      stored_is : stored_of (stands l) (unstored_in l) ≡ stored_in l
+      stored_is = rw alive refl
+
+      stored : NodeIs w p Up (stored_of (stands l) (unstored_in l))
+      stored = subst (NodeIs w p Up) (sym stored_is) s
+
+      abbrev Stored : Event → State → Type 0
+      Stored e t = Moves w p F (proposed_by_all (steps_then l e)) (messages_then l e) (sent_then l e) (answered_then l e) Up t
+
+      goes_quiet : (d : Deed) → ((who : List ℕ) (i : Input) (fate : Fate) → d ≡ enters who i fate → ⊥) → Goes now w p l (does d)
+      goes_quiet d other = subst (Stored (does d)) (stored_push l d alive)
+          (quiet w p F (crash_fits now p node) (start_fits now p node) (stands l) (unstored_in l) me stored d other (proposed_by_all (steps_then l (does d))) (messages_then l (does d)))
+
+      abbrev By : List ℕ → Input → Fate → Type 0
+      By who i fate = InputMoves w p F (crash_fits now p node) (start_fits now p node) (stands l) (unstored_in l) me stored (pending_in l) who i fate
+
+      goes_input : (who : List ℕ) (i : Input) (fate : Fate) → By who i fate → Goes now w p l (does (enters who i fate))
+      goes_input who i done m = subst (Stored (does (enters who i done))) (stored_push l (enters who i done) alive) m
+      goes_input who i (finds d) m =
+          let n : Standing = stands l in
+          let sends : List (ℕ × Msg) = (given_at n (enters who i (finds d))).sends in
+          let t : State = stored_of (after_deed n (enters who i (finds d))) (unstored_deed n (enters who i (finds d)) (unstored_in l)) in
+          subst (Stored (does (enters who i (finds d)))) (stored_push l (enters who i (finds d)) alive)
+          (subst (λ (z : State). Moves w p F (proposed_by_all (pending_in l)) (length (sent_stepping n.me z (pending_in l)) + length sends) sends (λ read. answers_of read (given_at n (enters who i (finds d)))) Up t) stored_is m)
+      goes_input who i (faults k) m = subst (Stored (does (enters who i (faults k)))) (stored_push l (enters who i (faults k)) alive) m
+      goes_input who i (shares k) m = subst (Stored (does (enters who i (shares k)))) (stored_push l (enters who i (shares k)) alive) m
+      goes_input who i damaged m = subst (Stored (does (enters who i damaged))) (stored_push l (enters who i damaged) alive) m
+      goes_input who i lost m = subst (Stored (does (enters who i lost))) (stored_push l (enters who i lost) alive) m
+
+      goes_enters : (who : List ℕ) (i : Input) (fate : Fate) → Tells p F w.messages i → MayFind (stands l) i fate → FindsOneOf (unstored_in l) fate → Goes now w p l (does (enters who i fate))
+      goes_enters who i fate t may one = goes_input who i fate (by_fate w p F (crash_fits now p node) (start_fits now p node) (stands l) (unstored_in l) me stored (pending_in l) who i fate t may one pending (link_failed l alive linked))
+
+      goes_ended : (is : List Input) → Moves w p F 0 0 [] nobody Up (stored_in (ended_with is l))
+      goes_ended is = forgets p F w 0 0 [] (λ read. answers_of read (saying None)) Up (stored_in (ended_with is l))
+          (rests p F w 0 0 (saying None) (stored_in l) (stored_in (ended_with is l)) refl (silent (saying None) refl refl) (stored_ended l is alive) s)
+
+    -- it finds one of the two
+    one_of : (d : Durable) (o : Option Unstored) → l.left ≡ o → MayOpen o d → (d ≡ (held_in l).before.durable) ⊎ (d ≡ (held_in l).ahead.durable)
+    one_of d None e one = absurd one
+    one_of d (Some u) e one = rw e one
+
+    goes_anew : (d : Durable) → MayOpen l.left d
+        → Moves w p F (proposed_by_all (pending_in l)) (length (sent_stepping (stands l).me (stored_in l) (pending_in l)) + length (sends_after_restart (stands l).me d)) (sends_after_restart (stands l).me d) nobody Up
+        (state_after_restart (stands l).me d)
+    goes_anew d may =
+        let either : (d ≡ (stored_in l).durable) ⊎ (d ≡ (stepped p (stored_in l) (pending_in l)).durable) = elim (one_of d l.left refl may) [
+          | inl before ↦ inl before
+          | inr after ↦ inr (after ∙ ap (λ z. z.durable) (linked ∙ ap (λ z. stepped z (stored_in l) (pending_in l)) me))
+        ] in
+        subst (λ z. Moves w p F (proposed_by_all (pending_in l)) (length (sent_stepping z (stored_in l) (pending_in l)) + length (sends_after_restart z d)) (sends_after_restart z d) nobody Up (state_after_restart z d)) (sym me)
+        (opened p F (crash_fits now p node) (start_fits now p node) w (stored_in l) (pending_in l) d s pending either)
+
+    goes : (e : Event) → InputsSo (Tells p F w.messages) e → MayCome l e → Goes now w p l e
+    goes (does (begins c bytes)) t may = goes_quiet may (begins c bytes) (λ who i fate e. absurd cc)
+    goes (does (hears c bytes)) t may = goes_quiet may (hears c bytes) (λ who i fate e. absurd cc)
+    goes (does (enters who i fate)) t may = goes_enters may.0 who i fate t may.1 may.2
+    goes (does (says f)) t may = goes_quiet may (says f) (λ who i fate e. absurd cc)
+    goes (does (takes c bytes)) t may = goes_quiet may (takes c bytes) (λ who i fate e. absurd cc)
+    goes ends t may = goes_ended may []
+    goes (killed bs) t may = goes_ended may (inputs_of bs)
+    goes (opens d count) t may = goes_anew d may
 
   module _ (now : List Happened) (hs : List Happening) (b : Beside now hs) (x : Happened) (node : IsNode x.pid)
-      (may : MayBe (world hs).messages x.pid (L x.pid now) x.event) (heard : HeardSo x.pid (L x.pid now).deeds x.event) (few : length (world hs).messages < 2 ^ 64) where
-    m : Goes (world hs) x.pid (L x.pid now) x.event
-    m = goes (world hs) x.pid (L x.pid now) x.event (b.nodes x.pid node) may
+      (may : MayCome (L x.pid now) x.event) (heard : HeardSo x.pid (L x.pid now).deeds x.event) (told : InputsSo (Tells x.pid (Fits now) (world hs).messages) x.event) where
+    m : Goes now (world hs) x.pid (L x.pid now) x.event
+    m =
+        let s = b.nodes x.pid node in
+        goes now (world hs) x.pid node (L x.pid now) s.me (record { found = s.found; there = s.there; pid = s.pid; state = s.state; runs = s.up }) (b.linked x.pid node) (b.pending x.pid node) x.event told may
+
+    still : (y : Sent) → Numbered (world hs).messages y → Numbered (run_of (world hs) m.happenings).messages y
+    still y k = numbered_longer (world hs).messages (run_of (world hs) m.happenings).messages y m.messages k
 
     all : world (hs ++ m.happenings) ≡ run_of (world hs) m.happenings
     all = run_append (first_world members spares) hs m.happenings
 
     next_nodes : StandTogether members spares counts (now ++ x ∷ []) (hs ++ m.happenings)
-    next_nodes p is = subst (λ v. StandsAt v p (stands (L p (now ++ x ∷ []))) (L p (now ++ x ∷ [])).left (unstored_in (L p (now ++ x ∷ [])))) (sym all) (elim (cases_eq x.pid p) [
-      | inl e ↦ subst (λ (l : Lived). StandsAt (run_of (world hs) m.happenings) p (stands l) l.left (unstored_in l)) (sym (lived_own members counts p now x e))
-          (subst (λ z. StandsAt (run_of (world hs) m.happenings) z (stands (lived_by (L z now) x.event)) (lived_by (L z now) x.event).left (unstored_in (lived_by (L z now) x.event))) e m.self)
-      | inr n ↦ subst (λ (l : Lived). StandsAt (run_of (world hs) m.happenings) p (stands l) l.left (unstored_in l)) (sym (lived_other members counts p now x n))
-          (others_stand (world hs) (run_of (world hs) m.happenings) p (stands (L p now)) (L p now).left (unstored_in (L p now)) (m.others p (λ e. n (sym e))) (b.nodes p is))
+    next_nodes p is = subst (λ v. StandsAt v p (stands (L p (now ++ x ∷ []))) (stored_in (L p (now ++ x ∷ [])))) (sym all) (elim (cases_eq x.pid p) [
+      | inl e ↦ (let s = m.self in
+          let own : L p (now ++ x ∷ []) ≡ lived_by (L p now) x.event = lived_own members counts p now x e in record {
+            me = folded_me (L p (now ++ x ∷ [])).first (L p (now ++ x ∷ [])).deeds ∙ first_me members counts p (now ++ x ∷ []);
+            found = s.found;
+            there = subst (λ z. node_at (run_of (world hs) m.happenings).nodes z ≡ Some s.found) e s.there;
+            pid = s.pid ∙ e;
+            state = s.state ∙ ap (λ z. stored_in (lived_by (L z now) x.event)) e ∙ ap stored_in (sym own);
+            up = s.runs;
+          })
+      | inr n ↦ (let s = b.nodes p is in
+          let other : L p (now ++ x ∷ []) ≡ L p now = lived_other members counts p now x n in record {
+            me = ap (λ z. (stands z).me) other ∙ s.me;
+            found = s.found;
+            there = m.others p (λ e. n (sym e)) ∙ s.there;
+            pid = s.pid;
+            state = s.state ∙ ap stored_in (sym other);
+            up = s.up;
+          })
     ])
+
+    -- what is told at the next opening of a node
+    next_pending : (p : ℕ) → IsNode p → AreTold (now ++ x ∷ []) (world (hs ++ m.happenings)).messages p (pending_in (L p (now ++ x ∷ [])))
+    next_pending p is = subst (λ v. AreTold (now ++ x ∷ []) v.messages p (pending_in (L p (now ++ x ∷ [])))) (sym all)
+        (told_later now (x ∷ []) (world hs).messages (run_of (world hs) m.happenings).messages p (pending_in (L p (now ++ x ∷ []))) m.messages (elim (cases_eq x.pid p) [
+          | inl e ↦ subst (λ (z : Lived). AreTold now (world hs).messages p (pending_in z)) (sym (lived_own members counts p now x e))
+              (subst (λ z. AreTold now (world hs).messages z (pending_in (lived_by (L z now) x.event))) e
+              (pending_event (Tells x.pid (Fits now) (world hs).messages) (L x.pid now) x.event (begun_at members counts x.pid now) (λ d is. alive_does d (subst (λ z. MayCome (L x.pid now) z) is may)) told (b.pending x.pid node)))
+          | inr n ↦ subst (λ (z : Lived). AreTold now (world hs).messages p (pending_in z)) (sym (lived_other members counts p now x n)) (b.pending p is)
+        ]))
+      where
+        alive_does : (d : Deed) → MayCome (L x.pid now) (does d) → (L x.pid now).left ≡ None
+        alive_does (begins c bytes) k = k
+        alive_does (hears c bytes) k = k
+        alive_does (enters who i fate) k = k.0
+        alive_does (says f) k = k
+        alive_does (takes c bytes) k = k
+
+    -- whether its life goes on, ends or begins
+    linked_event : (l : Lived) (e : Event) → Begun l → Begun (lived_by l e) → MayCome l e → IsLinked (lived_by l e)
+    linked_event l (does d) b c may = linked_alive (lived_by l (does d)) c (alive d may)
+      where
+        alive : (d : Deed) → MayCome l (does d) → l.left ≡ None
+        alive (begins c bytes) k = k
+        alive (hears c bytes) k = k
+        alive (enters who i fate) k = k.0
+        alive (says f) k = k
+        alive (takes c bytes) k = k
+    linked_event l ends b c may = linked_ended l b []
+    linked_event l (killed bs) b c may = linked_ended l b (inputs_of bs)
+    linked_event l (opens d count) b c may = refl
+
+    next_linked : (p : ℕ) → IsNode p → IsLinked (L p (now ++ x ∷ []))
+    next_linked p is = elim (cases_eq x.pid p) [
+      | inl e ↦ subst IsLinked (sym (lived_own members counts p now x e)) (subst (λ z. IsLinked (lived_by (L z now) x.event)) e
+          (linked_event (L x.pid now) x.event (begun_at members counts x.pid now) (subst Begun (lived_own members counts x.pid now x refl) (begun_at members counts x.pid (now ++ x ∷ []))) may))
+      | inr n ↦ subst IsLinked (sym (lived_other members counts p now x n)) (b.linked p is)
+    ]
 
     -- what a life gave out at its last event
     sent_event : (l : Lived) (e : Event) (y : ℕ × Msg) → Contains (sent_in (lived_by l e).first (lived_by l e).deeds) y → Contains (sent_in l.first l.deeds) y ⊎ Contains (sent_then l e) y
@@ -320,7 +450,7 @@ module _ (members spares : List ℕ) (counts : ℕ → ℕ) (ms : MembersInRange
       | inr new ↦ inr (subst (λ (z : List (ℕ × Msg)). Contains z y) (append-nil (given_at (stands l) d).sends) new)
     ]
     sent_event l ends y c = inl c
-    sent_event l (killed who i) y c = inl c
+    sent_event l (killed bs) y c = inl c
     sent_event l (opens d count) y c = absurd (omega (arith, c.1))
 
     replied_event : (read : Bool) (l : Lived) (e : Event) (y : Reply) → Contains (answered_in read (lived_by l e).first (lived_by l e).deeds) y → Contains (answered_in read l.first l.deeds) y ⊎ Contains (answered_then l e read) y
@@ -329,22 +459,22 @@ module _ (members spares : List ℕ) (counts : ℕ → ℕ) (ms : MembersInRange
       | inr new ↦ inr (subst (λ (z : List Reply). Contains z y) (append-nil (answers_of read (given_at (stands l) d))) new)
     ]
     replied_event read l ends y c = inl c
-    replied_event read l (killed who i) y c = inl c
+    replied_event read l (killed bs) y c = inl c
     replied_event read l (opens d count) y c = absurd (omega (arith, c.1))
 
     now_messages : (p : ℕ) → IsNode p → (d : ℕ) (msg : Msg) → Contains (sent_in (L p (now ++ x ∷ [])).first (L p (now ++ x ∷ [])).deeds) (d, msg) → Numbered (run_of (world hs) m.happenings).messages (sent p d msg)
     now_messages p is d msg c = elim (cases_eq x.pid p) [
       | inl e ↦ elim (sent_event (L p now) x.event (d, msg) (subst (λ (l : Lived). Contains (sent_in l.first l.deeds) (d, msg)) (lived_own members counts p now x e) c)) [
-        | inl old ↦ m.messages (sent p d msg) (b.messages now [] (sym (append-nil now)) p is d msg old)
+        | inl old ↦ still (sent p d msg) (b.messages now [] (sym (append-nil now)) p is d msg old)
         | inr new ↦ subst (λ z. Contains {X = ℕ × Msg} (sent_then (L z now) x.event) (d, msg) → Numbered (run_of (world hs) m.happenings).messages (sent z d msg)) e (m.given d msg) new
       ]
-      | inr n ↦ m.messages (sent p d msg) (b.messages now [] (sym (append-nil now)) p is d msg (subst (λ (l : Lived). Contains (sent_in l.first l.deeds) (d, msg)) (lived_other members counts p now x n) c))
+      | inr n ↦ still (sent p d msg) (b.messages now [] (sym (append-nil now)) p is d msg (subst (λ (l : Lived). Contains (sent_in l.first l.deeds) (d, msg)) (lived_other members counts p now x n) c))
     ]
 
     next_messages : (before since : List Happened) → now ++ x ∷ [] ≡ before ++ since → (p : ℕ) → IsNode p → (d : ℕ) (msg : Msg) → Contains (sent_in (L p before).first (L p before).deeds) (d, msg) → Numbered (world (hs ++ m.happenings)).messages (sent p d msg)
     next_messages before since e p is d msg c = subst (λ v. Numbered v.messages (sent p d msg)) (sym all) (elim (cut_last now x before since e) [
       | inl whole ↦ now_messages p is d msg (subst (λ l. Contains (sent_in (L p l).first (L p l).deeds) (d, msg)) whole.1 c)
-      | inr part ↦ m.messages (sent p d msg) (b.messages before part.0 part.1 p is d msg c)
+      | inr part ↦ still (sent p d msg) (b.messages before part.0 part.1 p is d msg c)
     ])
 
     next_replies : (read : Bool) (p : ℕ) → IsNode p → (r : Reply) → Contains (answered_in read (L p (now ++ x ∷ [])).first (L p (now ++ x ∷ [])).deeds) r → Contains (world (hs ++ m.happenings)).lines (told_line read p r)
@@ -357,66 +487,47 @@ module _ (members spares : List ℕ) (counts : ℕ → ℕ) (ms : MembersInRange
     ])
 
     -- what is answered then is in range
-    event_answers : (e : Event) → MayBe (world hs).messages x.pid (L x.pid now) e → HeardSo x.pid (L x.pid now).deeds e → (read : Bool) (r : Reply) → Contains (answered_then (L x.pid now) e read) r → known.ReplyInRange IsPid r
-    event_answers (does (enters who i done)) come heard read r c =
+    event_answers : (e : Event) → MayCome (L x.pid now) e → HeardSo x.pid (L x.pid now).deeds e → InputsSo (Tells x.pid (Fits now) (world hs).messages) e → (read : Bool) (r : Reply) → Contains (answered_then (L x.pid now) e read) r
+        → known.ReplyInRange IsPid r
+    event_answers (does (enters who i done)) come heard t read r c =
         let l : Lived = L x.pid now in
         let w : WorldInRange IsPid (world hs) = all_runs_stay members spares ms ss hs b.range in
-        let fit : known.InputInRange IsPid i = input_fits x.pid l.deeds who i (world hs).messages w.messages heard come.1.0 in
-        all_contains (known.ReplyInRange IsPid) (answers_of read (gives (stands l) i)) r (answers_fit read (world hs) x.pid (stands l) l.left (unstored_in l) i w (b.nodes x.pid node) fit) c
-    event_answers (does (enters who i (finds d))) come heard read r c =
+        let fit : known.InputInRange IsPid i = input_fits x.pid l.deeds who i (world hs).messages w.messages heard (said_numbered (world hs).messages x.pid i t.what t.says) in
+        all_contains (known.ReplyInRange IsPid) (answers_of read (gives (stands l) i)) r (answers_fit read (world hs) x.pid (stands l) (stored_in l) i w (b.nodes x.pid node) (stored_up l come.0) fit) c
+    event_answers (does (enters who i (finds d))) come heard t read r c =
         absurd (let none = subst (λ (l : List Reply). Contains l r) (again_none read (stands (L x.pid now)) d) c in omega (arith, none.1))
-    event_answers (does (enters who i (faults k))) come heard read r c = absurd (silent (saying None) refl refl read r c)
-    event_answers (does (enters who i damaged)) come heard read r c = absurd (silent (saying None) refl refl read r c)
-    event_answers (does (enters who i lost)) come heard read r c = absurd (silent (saying None) refl refl read r c)
-    event_answers (does (begins d bytes)) come heard read r c = absurd (silent (saying None) refl refl read r c)
-    event_answers (does (hears d bytes)) come heard read r c = absurd (silent (saying None) refl refl read r c)
-    event_answers (does (says f)) come heard read r c = absurd (silent (saying None) refl refl read r c)
-    event_answers (does (takes d bytes)) come heard read r c = absurd (silent (saying None) refl refl read r c)
-    event_answers ends come heard read r c = absurd (omega (arith, c.1))
-    event_answers (killed who i) come heard read r c = absurd (omega (arith, c.1))
-    event_answers (opens d count) come heard read r c = absurd (omega (arith, c.1))
+    event_answers (does (enters who i (faults k))) come heard t read r c = absurd (silent (saying None) refl refl read r c)
+    event_answers (does (enters who i (shares k))) come heard t read r c = absurd (silent (saying None) refl refl read r c)
+    event_answers (does (enters who i damaged)) come heard t read r c = absurd (silent (saying None) refl refl read r c)
+    event_answers (does (enters who i lost)) come heard t read r c = absurd (silent (saying None) refl refl read r c)
+    event_answers (does (begins d bytes)) come heard t read r c = absurd (silent (saying None) refl refl read r c)
+    event_answers (does (hears d bytes)) come heard t read r c = absurd (silent (saying None) refl refl read r c)
+    event_answers (does (says f)) come heard t read r c = absurd (silent (saying None) refl refl read r c)
+    event_answers (does (takes d bytes)) come heard t read r c = absurd (silent (saying None) refl refl read r c)
+    event_answers ends come heard t read r c = absurd (omega (arith, c.1))
+    event_answers (killed bs) come heard t read r c = absurd (omega (arith, c.1))
+    event_answers (opens d count) come heard t read r c = absurd (omega (arith, c.1))
 
     next_answers : (read : Bool) (p : ℕ) → IsNode p → (r : Reply) → Contains (answered_in read (L p (now ++ x ∷ [])).first (L p (now ++ x ∷ [])).deeds) r → known.ReplyInRange IsPid r
     next_answers read p is r c = elim (cases_eq x.pid p) [
       | inl e ↦ elim (replied_event read (L p now) x.event r (subst (λ (l : Lived). Contains (answered_in read l.first l.deeds) r) (lived_own members counts p now x e) c)) [
         | inl old ↦ b.answers read p is r old
-        | inr new ↦ event_answers x.event may heard read r (subst (λ z. Contains (answered_then (L z now) x.event read) r) (sym e) new)
+        | inr new ↦ event_answers x.event may heard told read r (subst (λ z. Contains (answered_then (L z now) x.event read) r) (sym e) new)
       ]
       | inr n ↦ b.answers read p is r (subst (λ (l : Lived). Contains (answered_in read l.first l.deeds) r) (lived_other members counts p now x n) c)
     ]
 
     next_asked : (c : Command) → IsAmong (commands_in (hs ++ m.happenings)) c → AskedBy (now ++ x ∷ []) (request.Command c)
-    next_asked c k = elim (from_both c (commands_in hs) (commands_in m.happenings) (subst (λ l. IsAmong l c) (commands_more hs m.happenings) k)) [
-      | inl old ↦ asked_later now (x ∷ []) (request.Command c) (b.asked c old)
-      | inr new ↦ elim m.is [
-        | inl none ↦ absurd (rw none at new)
-        | inr one ↦ (
-            let named : IsAmong (commands_of (one.0).event.what) c = only_one c (commands_of (one.0).event.what) (rw one.1 at new) in
-            let a = event_asked (world hs).messages x.pid (L x.pid now).deeds x.event (one.0).event.what c one.2 heard named in
-            (now, x ∷ [], refl, x.pid, a.0, node, a.1))
-      ]
-    ]
+    next_asked c k = asked_later now (x ∷ []) (request.Command c) (elim (from_both c (commands_in hs) (commands_in m.happenings) (subst (λ l. IsAmong l c) (commands_more hs m.happenings) k)) [
+      | inl old ↦ b.asked c old
+      | inr new ↦ all_asked now m.happenings c m.are new
+    ])
 
     next_read : (r : Read) → IsAmong (reads_in (hs ++ m.happenings)) r → AskedBy (now ++ x ∷ []) (request.Read r)
-    next_read r k = elim (from_both r (reads_in hs) (reads_in m.happenings) (subst (λ l. IsAmong l r) (reads_more hs m.happenings) k)) [
-      | inl old ↦ asked_later now (x ∷ []) (request.Read r) (b.read r old)
-      | inr new ↦ elim m.is [
-        | inl none ↦ absurd (rw none at new)
-        | inr one ↦ (
-            let named : IsAmong (reads_of (one.0).event.what) r = subst (λ l. IsAmong l r) (append-nil (reads_of (one.0).event.what)) (rw one.1 at new) in
-            let a = event_read (world hs).messages x.pid (L x.pid now).deeds x.event (one.0).event.what r one.2 heard named in
-            (now, x ∷ [], refl, x.pid, a.0, node, a.1))
-      ]
-    ]
-
-    next_range : All (λ h. WhatInRange h.event.what) m.happenings × (proposals_in m.happenings ≤ proposed_by (input_of x.event))
-    next_range = elim m.is [
-      | inl none ↦ rw none (All-nil (λ h. WhatInRange h.event.what), omega arith)
-      | inr one ↦ (
-          let f = event_fits (world hs).messages x.pid (L x.pid now).deeds x.event (one.0).event.what one.2 heard (nodes_are_ids members spares ms ss x.pid node) few in
-          let le = f.1 in
-          rw one.1 (All-cons (λ h. WhatInRange h.event.what) one.0 [] f.0 (All-nil (λ h. WhatInRange h.event.what)), omega (arith, le)))
-    ]
+    next_read r k = asked_later now (x ∷ []) (request.Read r) (elim (from_both r (reads_in hs) (reads_in m.happenings) (subst (λ l. IsAmong l r) (reads_more hs m.happenings) k)) [
+      | inl old ↦ b.read r old
+      | inr new ↦ all_read now m.happenings r m.are new
+    ])
 
     one_more : (gs : List Happening) × Beside (now ++ x ∷ []) (hs ++ gs)
     one_more = (
@@ -426,11 +537,13 @@ module _ (members spares : List ℕ) (counts : ℕ → ℕ) (ms : MembersInRange
         messages = next_messages;
         replies = next_replies;
         answers = next_answers;
+        pending = next_pending;
+        linked = next_linked;
         asked = next_asked;
         read = next_read;
         count = (let e = ap (λ v. length v.messages) all in let k = messages_more [] now x in let c = m.count in let o = b.count in omega (arith, e, k, c, o));
-        range = All-append (λ h. WhatInRange h.event.what) hs m.happenings b.range next_range.0;
-        proposals = (let e = proposals_more hs m.happenings in let k = proposed_more now (x ∷ []) in let n = next_range.1 in let o = b.proposals in omega (arith, e, k, n, o));
+        range = All-append (λ h. WhatInRange h.event.what) hs m.happenings b.range (all_range now m.happenings m.are);
+        proposals = (let e = proposals_more hs m.happenings in let k = proposals_behind [] now x in let n = m.proposed in let o = b.proposals in omega (arith, e, k, n, o));
       },
     )
 
@@ -485,32 +598,45 @@ module _ (members spares : List ℕ) (counts : ℕ → ℕ) (ms : MembersInRange
     heard_next now later p (does (says f)) split is = tt
     heard_next now later p (does (takes d bytes)) split is = tt
     heard_next now later p ends split is = tt
-    heard_next now later p (killed who i) split is =
-        let k = c.may now later (record { pid = p; event = killed who i }) split in
-        (cause_last p (L p now) (enters who i k.1.0) (first_me members counts p now) k.1.1).0
+    heard_next now later p (killed bs) split is =
+        let k = (c.may now later (record { pid = p; event = killed bs }) split).1 in
+        subst (Each (λ b. WasHeard p (L p now).deeds b.0 b.1)) k.1 (heard_coming p (L p now).first (L p now).deeds k.0
+        (subst (λ z. AreCaused z (L p now).first ((L p now).deeds ++ map (λ x. enters x.0.0 x.0.1 x.1) k.0)) (first_me members counts p now) (deeds_are_caused (L p now).first ((L p now).deeds ++ map (λ x. enters x.0.0 x.0.1 x.1) k.0) k.2)))
     heard_next now later p (opens d count) split is = tt
 
-    may_come : (now later : List Happened) (hs : List Happening) (p : ℕ) (d : Deed) → trace ≡ now ++ record { pid = p; event = does d } ∷ later → Beside now hs → IsNode p → MayCome (world hs).messages p (stands (L p now)) d
-    may_come now later hs p (begins e bytes) split b is = tt
-    may_come now later hs p (hears e bytes) split b is = tt
-    may_come now later hs p (enters who i fate) split b is =
-        let k = cause_next now later p (enters who i fate) split is in
-        (numbered_then now (record { pid = p; event = does (enters who i fate) } ∷ later) hs split b p is who i k.0, k.1)
-    may_come now later hs p (says f) split b is = tt
-    may_come now later hs p (takes e bytes) split b is = tt
+    -- an input that was heard may be told of
+    told_input : (now later : List Happened) (hs : List Happening) (p : ℕ) → trace ≡ now ++ later → Beside now hs → IsNode p → (who : List ℕ) (i : Input) → WasHeard p (L p now).deeds who i → Tells p (Fits now) (world hs).messages i
+    told_input now later hs p split b is who i heard =
+        tells_heard now (world hs).messages p who i is heard (numbered_then now later hs split b p is who i heard) (few_then now later hs split b)
 
-    may_next : (now later : List Happened) (hs : List Happening) (p : ℕ) (e : Event) → trace ≡ now ++ record { pid = p; event = e } ∷ later → Beside now hs → IsNode p → MayBe (world hs).messages p (L p now) e
-    may_next now later hs p (does d) split b is = (
-      c.may now later (record { pid = p; event = does d }) split,
-      may_come now later hs p d split b is,
-      finds_at (L p now).first (L p now).unstored (L p now).deeds d [] (next_life now later p (does d) split is).stored,
+    told_next : (now later : List Happened) (hs : List Happening) (p : ℕ) (e : Event) → trace ≡ now ++ later → Beside now hs → IsNode p → HeardSo p (L p now).deeds e → InputsSo (Tells p (Fits now) (world hs).messages) e
+    told_next now later hs p (does (begins c bytes)) split b is heard = tt
+    told_next now later hs p (does (hears c bytes)) split b is heard = tt
+    told_next now later hs p (does (enters who i fate)) split b is heard = told_input now later hs p split b is who i heard
+    told_next now later hs p (does (says f)) split b is heard = tt
+    told_next now later hs p (does (takes c bytes)) split b is heard = tt
+    told_next now later hs p ends split b is heard = tt
+    told_next now later hs p (killed bs) split b is heard =
+        each_inputs bs (each_map (λ x. WasHeard p (L p now).deeds x.0 x.1) (λ x. Tells p (Fits now) (world hs).messages x.1) (λ x h. told_input now later hs p split b is x.0 x.1 h) bs heard)
+      where
+        each_inputs : (xs : List Brought) → Each (λ x. Tells p (Fits now) (world hs).messages x.1) xs → Each (Tells p (Fits now) (world hs).messages) (inputs_of xs)
+        each_inputs [] h = tt
+        each_inputs (x ∷ xs) h = (h.0, each_inputs xs h.1)
+    told_next now later hs p (opens d count) split b is heard = tt
+
+    may_next : (now later : List Happened) (p : ℕ) (e : Event) → trace ≡ now ++ record { pid = p; event = e } ∷ later → IsNode p → MayCome (L p now) e
+    may_next now later p (does (begins d bytes)) split is = c.may now later (record { pid = p; event = does (begins d bytes) }) split
+    may_next now later p (does (hears d bytes)) split is = c.may now later (record { pid = p; event = does (hears d bytes) }) split
+    may_next now later p (does (enters who i fate)) split is = (
+      c.may now later (record { pid = p; event = does (enters who i fate) }) split,
+      (cause_next now later p (enters who i fate) split is).1,
+      finds_at (L p now).first (L p now).unstored (L p now).deeds (enters who i fate) [] (next_life now later p (does (enters who i fate)) split is).stored,
     )
-    may_next now later hs p ends split b is = c.may now later (record { pid = p; event = ends }) split
-    may_next now later hs p (killed who i) split b is = (
-      (c.may now later (record { pid = p; event = killed who i }) split).0,
-      numbered_then now (record { pid = p; event = killed who i } ∷ later) hs split b p is who i (heard_next now later p (killed who i) split is),
-    )
-    may_next now later hs p (opens d count) split b is = c.may now later (record { pid = p; event = opens d count }) split
+    may_next now later p (does (says f)) split is = c.may now later (record { pid = p; event = does (says f) }) split
+    may_next now later p (does (takes d bytes)) split is = c.may now later (record { pid = p; event = does (takes d bytes) }) split
+    may_next now later p ends split is = c.may now later (record { pid = p; event = ends }) split
+    may_next now later p (killed bs) split is = (c.may now later (record { pid = p; event = killed bs }) split).0
+    may_next now later p (opens d count) split is = c.may now later (record { pid = p; event = opens d count }) split
 
     -- at each moment of these
     abbrev Moments : List Happened → List Happening → List Happened → List Happening → Type 0
@@ -535,6 +661,14 @@ module _ (members spares : List ℕ) (counts : ℕ → ℕ) (ms : MembersInRange
               (subst (λ l. Beside l (hs ++ (one ++ j.0))) (append_assoc before (x ∷ []) now) (subst (λ l. Beside ((before ++ x ∷ []) ++ now) l) (append_assoc hs one j.0) j.3)),
         )
 
+    run_behind : (before mid : List Happened) (hs : List Happening) (x : Happened) → Beside before hs → (one : List Happening) → Run (before ++ x ∷ []) (hs ++ one) mid → Run before hs (x ∷ mid)
+    run_behind before mid hs x b one rest = record {
+      more = one ++ rest.more;
+      moments = later_moments before mid hs x b one rest.more rest.moments;
+      end = subst (λ l. Beside l (hs ++ (one ++ rest.more))) (append_assoc before (x ∷ []) mid)
+          (subst (λ l. Beside ((before ++ x ∷ []) ++ mid) l) (append_assoc hs one rest.more) rest.end);
+    }
+
     run_from : (before mid : List Happened) (hs : List Happening) → trace ≡ before ++ mid → Beside before hs → Run before hs mid
     run_from before [] hs split b = record {
       more = [];
@@ -543,14 +677,9 @@ module _ (members spares : List ℕ) (counts : ℕ → ℕ) (ms : MembersInRange
     }
     run_from before (x ∷ mid) hs split b =
         let is : IsNode x.pid = all_at (λ y. IsNode y.pid) before x mid (subst (λ l. All (λ y. IsNode y.pid) l) split c.nodes) in
-        let one = one_more before hs b x is (may_next before mid hs x.pid x.event split b is) (heard_next before mid x.pid x.event split is) (few_then before (x ∷ mid) hs split b) in
-        let seam : (before ++ x ∷ []) ++ mid ≡ before ++ x ∷ mid = append_assoc before (x ∷ []) mid in
-        let rest = run_from (before ++ x ∷ []) mid (hs ++ one.0) (split ∙ sym seam) one.1 in
-        record {
-          more = one.0 ++ rest.more;
-          moments = later_moments before mid hs x b one.0 rest.more rest.moments;
-          end = subst (λ l. Beside l (hs ++ (one.0 ++ rest.more))) seam (subst (λ l. Beside ((before ++ x ∷ []) ++ mid) l) (append_assoc hs one.0 rest.more) rest.end);
-        }
+        let heard = heard_next before mid x.pid x.event split is in
+        let one = one_more before hs b x is (may_next before mid x.pid x.event split is) heard (told_next before (x ∷ mid) hs x.pid x.event split b is heard) in
+        run_behind before mid hs x b one.0 (run_from (before ++ x ∷ []) mid (hs ++ one.0) (split ∙ sym (append_assoc before (x ∷ []) mid)) one.1)
 
     whole : Run [] [] trace
     whole = run_from [] trace [] refl begins_beside

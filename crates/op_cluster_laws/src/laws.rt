@@ -15,9 +15,10 @@ pub fn deeds_have_causes()
 
 /// Nodes that serve together, over all their lives, and over a net that carries what was taken, are a run of the world: each
 /// message that a node takes was given out before, by the node that it names and to this node; at each moment the nodes stand
-/// together in the world of the happenings so far, and each reply is served by its history; the happenings are in range, and their
-/// run meets the list machine. So there is one list for each configuration: at each moment each node's decided log is a prefix
-/// of it, and its service is that of what it has decided.
+/// together in the world of the happenings so far, each with just what it has stored, and each reply is served by its history; the
+/// happenings are in range, and their run meets the list machine. Inputs that are stored together are steps one after the other;
+/// where a node fails or ends while they are stored, its next opening tells whether all of them came, or none. So there is one list
+/// for each configuration: at each moment each node's decided log is a prefix of it, and its service is that of what it has decided.
 pub fn clusters_are_executions()
     ensures given { OfClusters DeliveriesWereGiven }
     ensures runs { ClustersAreRuns }

@@ -3,7 +3,7 @@ use Rattle.std.proofs.Common.{◌≡◌, ◌≤◌, ◌<◌, ◌+◌, ◌-◌, �
 use Rattle.std.proofs.lemmas.Bool.{ltb-false, lt-ltb}
 use Rattle.std.proofs.lemmas.List.{length-drop}
 use Rattle.std.specs.Int.{from_be_bytes}
-use Rattle.op_types.specs.declared.log.Command.{Command}
+use Rattle.op_types.specs.declared.events.Input.{Input}
 use Rattle.op_frame.specs.Framing.{Stream, width_of, left}
 use Rattle.op_serving.specs.declared.greeting.Greeting.{Greeting}
 use Rattle.op_serving.specs.declared.greeting.Greeting.TheVariants as greets
@@ -77,10 +77,10 @@ greeted_shorter x greets.Client = shorter_less (length (drop 1 x.held)) (length 
 greeted_shorter x (greets.Peer q) = omega (arith, length-drop hello_len x.held)
 greeted_shorter x greets.Strange = tt
 
-pub shorter : (k : Kind) (x : Stream) (cs : List Command) → formed k x cs → Shorter (length x.held) (front_of k x)
-shorter Unknown x cs f = greeted_shorter x (greeting x.held)
-shorter (Peer q h) x cs f = first_shorter (Peer q h) x (omega (arith, f.head_is))
-shorter Client x cs f = first_shorter Client x (omega (arith, f.head_is))
+pub shorter : (k : Kind) (x : Stream) (ws : List Input) → formed k x ws → Shorter (length x.held) (front_of k x)
+shorter Unknown x ws f = greeted_shorter x (greeting x.held)
+shorter (Peer q h) x ws f = first_shorter (Peer q h) x (omega (arith, f.head_is))
+shorter Client x ws f = first_shorter Client x (omega (arith, f.head_is))
 
 -- where nothing is held, nothing stands there
 first_none : (k : Kind) (x : Stream) → length x.held < x.head → first_frame k x ≡ partial k x
@@ -92,7 +92,7 @@ unfolding greeting
 greeting_none [] le = refl
 greeting_none (b ∷ held) le = absurd (omega (arith, le))
 
-pub nothing_held : (k : Kind) (x : Stream) (cs : List Command) → formed k x cs → length x.held ≤ 0 → front_of k x ≡ partial k x
-nothing_held Unknown x cs f le = ap (λ g. greeted g x) (greeting_none x.held le)
-nothing_held (Peer q h) x cs f le = first_none (Peer q h) x (omega (arith, f.head_is, le))
-nothing_held Client x cs f le = first_none Client x (omega (arith, f.head_is, le))
+pub nothing_held : (k : Kind) (x : Stream) (ws : List Input) → formed k x ws → length x.held ≤ 0 → front_of k x ≡ partial k x
+nothing_held Unknown x ws f le = ap (λ g. greeted g x) (greeting_none x.held le)
+nothing_held (Peer q h) x ws f le = first_none (Peer q h) x (omega (arith, f.head_is, le))
+nothing_held Client x ws f le = first_none Client x (omega (arith, f.head_is, le))

@@ -1,29 +1,24 @@
 -- What losses, ends and inputs leave of whose the sessions are: as before, or gone.
-use Rattle.std.proofs.Common.{◌≡◌, ◌+◌, ◌++◌, ◌⊎◌, [], ◌∷◌, ℕ, Bool, true, false, List, length, drop, Option, Some, None, option_map, ◌==◌, nat_lt, if◌then◌else◌, refl, sym, ◌∙◌, ap, subst, inl, inr}
+use Rattle.std.proofs.Common.{◌≡◌, ◌+◌, ◌⊎◌, [], ◌∷◌, ℕ, Bool, true, false, List, length, drop, Option, Some, None, option_map, ◌==◌, nat_lt, if◌then◌else◌, refl, sym, ◌∙◌, ap, subst, inl, inr}
 use Rattle.std.proofs.lemmas.Bool.{cases_eq}
+use Rattle.std.proofs.lemmas.List.{append-nil}
 use Rattle.std.specs.Map.{keys_of}
-use Rattle.op_types.specs.declared.answers.Outcome.{Outcome}
-use Rattle.op_types.specs.declared.answers.Refusal.TheVariants.{StorageFailed}
 use Rattle.op_types.specs.declared.events.Input.{Input}
 use Rattle.op_types.specs.declared.events.Input.TheVariants as input
 use Rattle.op_frame.specs.Framing.{Stream}
 use Rattle.op_serving.specs.declared.kind.Kind.{Kind}
 use Rattle.op_serving.specs.declared.kind.Kind.TheVariants.{Unknown, Peer, Client}
 use Rattle.op_serving.specs.declared.mark.Mark.{Mark}
-use Rattle.op_serving.specs.declared.node.Given.{Given}
 use Rattle.op_serving.specs.declared.session.Session.{Session}
-use Rattle.op_serving.specs.declared.wanted.Wanted.{Wanted}
-use Rattle.op_serving.specs.Cores.{Standing, gives, given_again}
-use Rattle.op_serving.specs.Fates.{Fate, done, finds, faults, damaged, lost}
+use Rattle.op_serving.specs.Fates.{Fate}
 use Rattle.op_serving.specs.State.{Loop, find, without, kind_at, left_at, left_by, counted, if_its, open_of, session_of}
 use Rattle.op_serving.specs.Losses.{most_marks, mark_at, noted, stopped_if, marked, lost_by, lost_one, is_due, settle}
-use Rattle.op_serving.specs.Handing.{handed_out, frames_handed, proposed, frames_proposed, excused, frames_excused}
 use Rattle.op_serving.specs.Room.{Frame}
-use Rattle.op_serving.specs.Inputs.{State, Luck, asked_by, loop_after, frames_after, next_fate, calm, entered_with, enter, over, flushed}
+use Rattle.op_serving.specs.Inputs.{State, Luck, Taken, Brought, asked_by, loop_taking, frames_after, loop_after_all, frames_after_all, next_fate, calm, takes_in, taken_as, handing, entered_with, enter, together, over, flushed}
 use Rattle.op_serving.specs.Reading.{replaced}
 use Rattle.op_connections.proofs.Tables.{find_without, find_apart, Rising, rising_without}
-use Rattle.op_connections.proofs.Queueing.{bytes_for, queued, queued_none, Queues, queues_given, queues_excused}
-use Rattle.op_connections.proofs.Walking.{Steps, drained_holds, over_holds, Replaces}
+use Rattle.op_connections.proofs.Queueing.{bytes_for, queued, queued_none, Queues, queues_after_all}
+use Rattle.op_connections.proofs.Walking.{taking_holds, AllGiven, Hands, enter_holds, Steps, steps, drained_holds, over_holds, Replaces}
 
 -- whose a session is, and what it reads
 abbrev pub front_in : Option Session → Option (Kind × Stream)
@@ -37,14 +32,14 @@ pub record Fades (c : ℕ) (s t : Loop) : Type 0 where
   pub front : (front_at c t ≡ None) ⊎ (front_at c t ≡ front_at c s)
   pub peers : t.peers ≡ s.peers
   pub rising : Rising (keys_of s.sessions) → Rising (keys_of t.sessions)
-  pub gathered : s.gathered ≡ [] → t.gathered ≡ []
+  pub given : AllGiven s → AllGiven t
 
-pub fades_same : (c : ℕ) (s t : Loop) → t.sessions ≡ s.sessions → t.peers ≡ s.peers → (s.gathered ≡ [] → t.gathered ≡ []) → Fades c s t
-fades_same c s t sessions peers gathered = record {
+pub fades_same : (c : ℕ) (s t : Loop) → t.sessions ≡ s.sessions → t.peers ≡ s.peers → (AllGiven s → AllGiven t) → Fades c s t
+fades_same c s t sessions peers given = record {
   front = inr (ap (λ u. front_in (find c u)) sessions);
   peers = peers;
   rising = λ h. subst (λ u. Rising (keys_of u)) (sym sessions) h;
-  gathered = gathered;
+  given = given;
 }
 
 pub front_then : (a b d : Option (Kind × Stream)) → (b ≡ None) ⊎ (b ≡ a) → (d ≡ None) ⊎ (d ≡ b) → (d ≡ None) ⊎ (d ≡ a)
@@ -70,7 +65,7 @@ fades_then c s m t a b = record {
   front = front_then (front_at c s) (front_at c m) (front_at c t) a.front b.front;
   peers = b.peers ∙ a.peers;
   rising = λ h. b.rising (a.rising h);
-  gathered = λ h. b.gathered (a.gathered h);
+  given = λ h. b.given (a.given h);
 }
 
 -- ---- inputs
@@ -84,35 +79,26 @@ fades_queues c s fs t q = record {
   front = inr (ap front_in q.found ∙ front_queued (bytes_for c fs) (find c s.sessions));
   peers = q.peers;
   rising = λ h. subst Rising (sym q.keys) h;
-  gathered = λ h. q.gathered ∙ h;
+  given = λ h. (q.brought ∙ h.0, q.gathered ∙ h.1);
 }
 
 fades_stopped : (c : ℕ) (b : Bool) (s : Loop) → Fades c s (stopped_if b s)
 fades_stopped c true s = fades_same c s s refl refl (λ h. h)
-fades_stopped c false s = record { front = inl refl; peers = refl; rising = λ h. tt; gathered = λ h. refl }
+fades_stopped c false s = record { front = inl refl; peers = refl; rising = λ h. tt; given = λ h. (refl, refl) }
 
 fades_marked : (c : ℕ) (conn : Option ℕ) (s : Loop) → Fades c s (marked conn s)
 fades_marked c conn s =
     let u : Loop = noted (mark_at s.place conn) s in
     fades_then c s u (marked conn s) (fades_same c s u refl refl (λ h. h)) (fades_stopped c (nat_lt (length s.lost + 1) most_marks) u)
 
-fades_given : (c : ℕ) (w : Option Wanted) (g : Given) (o : Option Outcome) (s : Loop) → Fades c s (handed_out g (proposed w o (counted s)))
-fades_given c w g o s =
-    let t : Loop = handed_out g (proposed w o (counted s)) in
-    fades_then c s (counted s) t (fades_same c s (counted s) refl refl (λ h. h))
-    (fades_queues c (counted s) (frames_proposed w o ++ frames_handed g (proposed w o (counted s))) t (queues_given c w g o (counted s)))
-
-fades_after : (c : ℕ) (w : Option Wanted) (i : Input) (f : Fate) (n : Standing) (s : Loop) → Fades c s (loop_after w i f n s)
-fades_after c w i done n s = fades_given c w (gives n i) (gives n i).outcome s
-fades_after c w i (finds d) n s = fades_given c w (given_again n d) None s
-fades_after c w i (faults k) n s =
-    fades_then c s (counted s) (excused w (Some (StorageFailed k)) (counted s)) (fades_same c s (counted s) refl refl (λ h. h))
-    (fades_queues c (counted s) (frames_excused w (Some (StorageFailed k))) (excused w (Some (StorageFailed k)) (counted s)) (queues_excused c w (Some (StorageFailed k)) (counted s)))
-fades_after c w i damaged n s = fades_same c s (counted s) refl refl (λ h. h)
-fades_after c w i lost n s =
+fades_taking : (c : ℕ) (f : Fate) (s : Loop) → Fades c s (loop_taking f s)
+fades_taking c f s =
     let m : Loop = counted (marked None s) in
-    fades_then c s m (excused w None m) (fades_then c s (marked None s) m (fades_marked c None s) (fades_same c (marked None s) m refl refl (λ h. h)))
-    (fades_queues c m (frames_excused w None) (excused w None m) (queues_excused c w None m))
+    taking_holds (λ t. Fades c s t) f s (fades_same c s (counted s) refl refl (λ h. h))
+    (fades_then c s (marked None s) m (fades_marked c None s) (fades_same c (marked None s) m refl refl (λ h. h)))
+
+fades_after : (c : ℕ) (ts : List Taken) (s : Loop) → Fades c s (loop_after_all ts s)
+fades_after c ts s = fades_queues c s (frames_after_all ts s) (loop_after_all ts s) (queues_after_all c ts s)
 
 -- ---- losses and ends
 
@@ -125,7 +111,7 @@ fades_over c d (Some k) s = record {
   ];
   peers = refl;
   rising = λ h. rising_without d s.sessions h;
-  gathered = λ h. ap (without d) h;
+  given = λ h. (ap (without d) h.0, ap (without d) h.1);
 }
 
 fades_one : (c : ℕ) (o : Option ℕ) (s : Loop) → Fades c s (lost_one o s)
@@ -143,17 +129,34 @@ fades_settle c (m ∷ ms) s = fades_due c (is_due m s) ms m.conn s (fades_then c
 pub fades_calm : (c : ℕ) (l : Luck) (s : State) → Fades c s.loop (calm l s).loop
 fades_calm c l s = fades_settle c (drop (length s.loop.lost) l.marks) s.loop
 
-pub fades_enter : (c : ℕ) (l : Luck) (who : List ℕ) (i : Input) (s : State) → Fades c s.loop (enter l who i s).loop
-fades_enter c l who i s = by_marks (nat_lt (length s.loop.lost) most_marks)
-  where
-    f : Fate
-    f = next_fate l i s
+fades_handing : (c : ℕ) (l : Luck) (ts : List Taken) (s : State) → Fades c s.loop (handing l ts s).loop
+fades_handing c l ts s =
+    let t : Loop = loop_after_all ts s.loop in
+    fades_then c s.loop t (handing l ts s).loop (fades_after c ts s.loop) (fades_settle c (drop (length t.lost) l.marks) t)
 
-    by_marks : (b : Bool) → Fades c s.loop (if b then entered_with l who i f s else s).loop
-    by_marks true =
-        let t : Loop = loop_after (asked_by who i) i f s.node s.loop in
-        fades_then c s.loop t (entered_with l who i f s).loop (fades_after c (asked_by who i) i f s.node s.loop) (fades_settle c (drop (length t.lost) l.marks) t)
-    by_marks false = fades_same c s.loop s.loop refl refl (λ h. h)
+-- ---- all that is done
+
+module _ (c : ℕ) (l : Luck) (start : Loop) where
+  fades_hands : Hands l (λ s. Fades c start s.loop) (λ ts s. Fades c start s.loop)
+  fades_hands = record {
+    begins = λ s h. h;
+    takes_one = λ ts who i f s h. fades_then c start s.loop (takes_in who i f s).loop h (fades_taking c f s.loop);
+    hands = λ ts s h. fades_then c start s.loop (handing l ts s).loop h (fades_handing c l ts s);
+  }
+
+  pub fading : Steps l (λ s. Fades c start s.loop)
+  fading = steps l (λ s. Fades c start s.loop) (λ ts s. Fades c start s.loop) fades_hands (record {
+    moves = λ s t u h. fades_then c start s.loop t h (fades_same c s.loop t u.sessions u.peers u.given);
+    calms = λ s h. fades_then c start s.loop (calm l s).loop h (fades_calm c l s);
+    downs = λ q s h. enter_holds l (λ s. Fades c start s.loop) (λ ts s. Fades c start s.loop) fades_hands [] (input.Down q) s h;
+    leaves_one = λ d s h. fades_then c start s.loop (left_by d s.loop) h (fades_over c d (kind_at d s.loop) s.loop);
+  })
+
+pub fades_enter : (c : ℕ) (l : Luck) (who : List ℕ) (i : Input) (s : State) → Fades c s.loop (enter l who i s).loop
+fades_enter c l who i s = (fading c l s.loop).enters_one who i s (fades_same c s.loop s.loop refl refl (λ h. h))
+
+pub fades_together : (c : ℕ) (l : Luck) (bs : List Brought) (s : State) → Fades c s.loop (together l [] bs s).loop
+fades_together c l bs s = (fading c l s.loop).enters_all bs s (fades_same c s.loop s.loop refl refl (λ h. h))
 
 -- ---- sessions as they were, or gone
 
@@ -201,40 +204,29 @@ stays_calm c l s = stays_settle c (drop (length s.loop.lost) l.marks) s.loop
 stays_queues : (c : ℕ) (s : Loop) (fs : List Frame) (t : Loop) → Queues c s fs t → bytes_for c fs ≡ [] → Stays c s t
 stays_queues c s fs t q none = inr (q.found ∙ ap (λ b. queued b (find c s.sessions)) none ∙ queued_none (find c s.sessions))
 
--- where an input has nothing for this connection
-pub stays_after : (c : ℕ) (w : Option Wanted) (i : Input) (f : Fate) (n : Standing) (s : Loop) → bytes_for c (frames_after w i f n s) ≡ [] → Stays c s (loop_after w i f n s)
-stays_after c w i done n s none = stays_queues c (counted s) _ _ (queues_given c w (gives n i) (gives n i).outcome (counted s)) none
-stays_after c w i (finds d) n s none = stays_queues c (counted s) _ _ (queues_given c w (given_again n d) None (counted s)) none
-stays_after c w i (faults k) n s none = stays_queues c (counted s) _ _ (queues_excused c w (Some (StorageFailed k)) (counted s)) none
-stays_after c w i damaged n s none = inr refl
-stays_after c w i lost n s none =
-    let m : Loop = counted (marked None s) in
-    stays_then c s m (excused w None m) (stays_marked c None s) (stays_queues c m _ _ (queues_excused c w None m) none)
+pub stays_taking : (c : ℕ) (f : Fate) (s : Loop) → Stays c s (loop_taking f s)
+stays_taking c f s = taking_holds (λ t. Stays c s t) f s (inr refl) (stays_marked c None s)
 
-pub stays_enter : (c : ℕ) (l : Luck) (who : List ℕ) (i : Input) (s : State) → bytes_for c (frames_after (asked_by who i) i (next_fate l i s) s.node s.loop) ≡ [] → Stays c s.loop (enter l who i s).loop
+-- where what is handed out has nothing for this connection
+stays_handing : (c : ℕ) (l : Luck) (ts : List Taken) (s : State) → bytes_for c (frames_after_all ts s.loop) ≡ [] → Stays c s.loop (handing l ts s).loop
+stays_handing c l ts s none =
+    let t : Loop = loop_after_all ts s.loop in
+    stays_then c s.loop t (handing l ts s).loop (stays_queues c s.loop (frames_after_all ts s.loop) t (queues_after_all c ts s.loop) none) (stays_settle c (drop (length t.lost) l.marks) t)
+
+pub stays_enter : (c : ℕ) (l : Luck) (who : List ℕ) (i : Input) (s : State)
+    → bytes_for c (frames_after (asked_by who i) i (next_fate l [] i s) s.node (loop_taking (next_fate l [] i s) s.loop)) ≡ [] → Stays c s.loop (enter l who i s).loop
 stays_enter c l who i s none = by_marks (nat_lt (length s.loop.lost) most_marks)
   where
     f : Fate
-    f = next_fate l i s
+    f = next_fate l [] i s
+
+    t : State
+    t = takes_in who i f s
 
     by_marks : (b : Bool) → Stays c s.loop (if b then entered_with l who i f s else s).loop
-    by_marks true =
-        let t : Loop = loop_after (asked_by who i) i f s.node s.loop in
-        stays_then c s.loop t (entered_with l who i f s).loop (stays_after c (asked_by who i) i f s.node s.loop none) (stays_settle c (drop (length t.lost) l.marks) t)
+    by_marks true = stays_then c s.loop t.loop (entered_with l who i f s).loop (stays_taking c f s.loop)
+        (stays_handing c l (taken_as who i f s ∷ []) t (ap (bytes_for c) (append-nil (frames_after (asked_by who i) i f s.node t.loop)) ∙ none))
     by_marks false = inr refl
-
--- ---- all that is done
-
-pub fading : (c : ℕ) (l : Luck) (start : Loop) → Steps l (λ s. Fades c start s.loop)
-fading c l start = record {
-  falls = record {
-    moves = λ s t u h. fades_then c start s.loop t h (fades_same c s.loop t u.sessions u.peers u.gathered);
-    calms = λ s h. fades_then c start s.loop (calm l s).loop h (fades_calm c l s);
-    downs = λ q s h. fades_then c start s.loop (enter l [] (input.Down q) s).loop h (fades_enter c l [] (input.Down q) s);
-    leaves_one = λ d s h. fades_then c start s.loop (left_by d s.loop) h (fades_over c d (kind_at d s.loop) s.loop);
-  };
-  enters_one = λ who i s h. fades_then c start s.loop (enter l who i s).loop h (fades_enter c l who i s);
-}
 
 -- ---- a session that is over
 

@@ -1,5 +1,5 @@
 -- The node is the fold of its step over the inputs that the deeds tell.
-use Rattle.std.proofs.Common.{◌≡◌, ◌++◌, ◌∷◌, [], ℕ, Bool, true, false, List, length, take, map, nat_lt, Option, Some, None, if◌then◌else◌, refl, sym, ◌∙◌, ap, append_assoc}
+use Rattle.std.proofs.Common.{◌≡◌, ◌++◌, ◌∷◌, [], ℕ, Bool, true, false, List, take, map, Option, Some, None, if◌then◌else◌, refl, sym, ◌∙◌, ap, append_assoc}
 use Rattle.std.proofs.lemmas.List.{append-nil}
 use Rattle.op_types.specs.declared.events.Input.{Input}
 use Rattle.op_types.specs.declared.events.Input.TheVariants as input
@@ -9,13 +9,12 @@ use Rattle.op_serving.specs.Cores.{Standing}
 use Rattle.op_serving.specs.Fates.{Fate, after_fate}
 use Rattle.op_serving.specs.Turns.{first_bytes, joining, joined, accepted, dialled, waiting, taken_by, up_peer, up_at, wrote}
 use Rattle.op_serving.specs.State.{Loop, kind_at, is_open, left_by}
-use Rattle.op_serving.specs.Losses.{most_marks}
 use Rattle.op_serving.specs.Room.{Frame}
-use Rattle.op_serving.specs.Inputs.{Deed, begins, hears, enters, says, takes, State, Luck, asked_by, frames_after, next_fate, calm, entered_with, enter, noting, gathering}
+use Rattle.op_serving.specs.Inputs.{Deed, begins, hears, enters, says, takes, State, Luck, Taken, frames_after_all, calm, takes_in, handing, noting, gathering, bringing}
 use Rattle.op_serving.specs.Reading.{hello_len, tells, holding, linked, feeds}
 use Rattle.op_serving.specs.Promise.{folded}
 use Rattle.op_connections.proofs.Pumping.{Closed}
-use Rattle.op_connections.proofs.Walking.{Steps, Hearing, give_holds, flushed_holds, over_holds, read_holds}
+use Rattle.op_connections.proofs.Walking.{Hands, enter_holds, Steps, steps, Hearing, give_holds, flushed_holds, over_holds, read_holds}
 use Rattle.op_connections.proofs.Fading.{replaced_none}
 
 folded_both : (n : Standing) (xs ys : List Deed) → folded n (xs ++ ys) ≡ folded (folded n xs) ys
@@ -48,16 +47,6 @@ pub folds_none : (s t : State) → t.deeds ≡ s.deeds → t.node ≡ s.node →
 folds_none s t deeds node = record { added = []; deeds = deeds ∙ sym (append-nil s.deeds); node = node }
 
 module _ (l : Luck) (start : State) where
-  folds_enter : (who : List ℕ) (i : Input) (s : State) → Folds s (enter l who i s)
-  folds_enter who i s = by_marks (nat_lt (length s.loop.lost) most_marks)
-    where
-      f : Fate
-      f = next_fate l i s
-
-      by_marks : (b : Bool) → Folds s (if b then entered_with l who i f s else s)
-      by_marks true = record { added = enters who i f ∷ map says (frames_after (asked_by who i) i f s.node s.loop); deeds = refl; node = sym (folded_says (after_fate s.node i f) (frames_after (asked_by who i) i f s.node s.loop)) }
-      by_marks false = folds_none s s refl refl
-
   -- only the loop changed
   folds_loop : (s : State) (t : Loop) → Folds start s → Folds start (record s { loop = t })
   folds_loop s t h = folds_then start s (record s { loop = t }) h (folds_none s (record s { loop = t }) refl refl)
@@ -66,20 +55,35 @@ module _ (l : Luck) (start : State) where
   folds_noted : (d : Deed) (s t : State) → t.deeds ≡ s.deeds ++ d ∷ [] → t.node ≡ s.node → folded s.node (d ∷ []) ≡ s.node → Folds start s → Folds start t
   folds_noted d s t deeds node same h = folds_then start s t h (record { added = d ∷ []; deeds = deeds; node = node ∙ sym same })
 
+  -- an input was taken
+  folds_taken : (who : List ℕ) (i : Input) (f : Fate) (s : State) → Folds start s → Folds start (takes_in who i f s)
+  folds_taken who i f s h = folds_then start s (takes_in who i f s) h (record { added = enters who i f ∷ []; deeds = refl; node = refl })
+
+  -- and handed out
+  folds_handed : (ts : List Taken) (s : State) → Folds start s → Folds start (handing l ts s)
+  folds_handed ts s h =
+      let fs : List Frame = frames_after_all ts s.loop in
+      folds_then start s (handing l ts s) h (record { added = map says fs; deeds = refl; node = sym (folded_says s.node fs) })
+
+  folds_hands : Hands l (Folds start) (λ ts s. Folds start s)
+  folds_hands = record { begins = λ s h. h; takes_one = λ ts who i f s h. folds_taken who i f s h; hands = λ ts s h. folds_handed ts s h }
+
   pub folding : Steps l (Folds start)
-  folding = record {
-    falls = record {
-      moves = λ s t u h. folds_loop s t h;
-      calms = λ s h. folds_loop s (calm l s).loop h;
-      downs = λ q s h. folds_then start s (enter l [] (input.Down q) s) h (folds_enter [] (input.Down q) s);
-      leaves_one = λ c s h. folds_loop s (left_by c s.loop) h;
-    };
-    enters_one = λ who i s h. folds_then start s (enter l who i s) h (folds_enter who i s);
-  }
+  folding = steps l (Folds start) (λ ts s. Folds start s) folds_hands (record {
+    moves = λ s t u h. folds_loop s t h;
+    calms = λ s h. folds_loop s (calm l s).loop h;
+    downs = λ q s h. enter_holds l (Folds start) (λ ts s. Folds start s) folds_hands [] (input.Down q) s h;
+    leaves_one = λ c s h. folds_loop s (left_by c s.loop) h;
+  })
 
   folds_hearing : (c : ℕ) → Hearing l c (Folds start)
   folds_hearing c = record {
-    led = record { steps = folding; gathers_one = λ x s h. folds_loop s (gathering c x s).loop h; says_one = λ what s h. folds_noted (says _) s (tells c what s) refl refl refl h };
+    led = record {
+      steps = folding;
+      gathers_one = λ x s h. folds_loop s (gathering c x s).loop h;
+      brings_one = λ m s h. folds_loop s (bringing c m s).loop h;
+      says_one = λ what s h. folds_noted (says _) s (tells c what s) refl refl refl h;
+    };
     feeds_one = λ bytes s h. folds_noted (hears c bytes) s (noting (hears c bytes) (record s { loop = feeds c bytes s.loop })) refl refl refl h;
     holds_one = λ kind x s y there e h. folds_loop s (holding c kind x s).loop h;
     links_one = λ q s none h. folds_loop s (linked q c s).loop h;

@@ -3,7 +3,7 @@ use Rattle.std.proofs.Common.{◌≡◌, ◌<◌, ◌≤◌, ◌+◌, ◌++◌, 
 use Rattle.std.proofs.lemmas.Bool.{eqb-true, ltb-false}
 use Rattle.std.proofs.lemmas.List.{length-take-le, take-append-drop}
 use Rattle.std.specs.Int.{from_be_bytes, w32}
-use Rattle.op_types.specs.declared.log.Command.{Command}
+use Rattle.op_types.specs.declared.events.Input.{Input}
 use Rattle.op_fields.specs.Form.{encoded}
 use Rattle.op_fields.specs.Reads.{IsBytes, limit_of}
 use Rattle.op_fields.proofs.Formats.{wide32, IsBytes-take, IsBytes-drop}
@@ -137,10 +137,10 @@ is_frame (Peer q n) k x z body known f h = (ap (λ m. frame_of m body) f.head_is
 is_frame Client k x z body known f h = (ap (λ m. frame_of m body) f.head_is, subst (λ m. IsBody m client_limit body) f.head_is (subst (λ m. IsBody x.head m body) f.limit_is h.begins.allowed))
 
 -- what is left has the same form
-pub form_left : (kind : Kind) (x z : Stream) (cs : List Command) → formed kind x cs → z ≡ left x z.held → formed kind z cs
-form_left Unknown x z cs f e = tt
-form_left (Peer q n) x z cs f e = record { head_is = ap (λ (y : Stream). y.head) e ∙ f.head_is; limit_is = ap (λ (y : Stream). y.limit) e ∙ f.limit_is }
-form_left Client x z cs f e = record { head_is = ap (λ (y : Stream). y.head) e ∙ f.head_is; limit_is = ap (λ (y : Stream). y.limit) e ∙ f.limit_is }
+pub form_left : (kind : Kind) (x z : Stream) (ws : List Input) → formed kind x ws → z ≡ left x z.held → formed kind z ws
+form_left Unknown x z ws f e = tt
+form_left (Peer q n) x z ws f e = record { head_is = ap (λ (y : Stream). y.head) e ∙ f.head_is; limit_is = ap (λ (y : Stream). y.limit) e ∙ f.limit_is }
+form_left Client x z ws f e = record { head_is = ap (λ (y : Stream). y.head) e ∙ f.head_is; limit_is = ap (λ (y : Stream). y.limit) e ∙ f.limit_is }
 
 -- ---- the first bytes
 

@@ -2,8 +2,8 @@
 use Rattle.std.proofs.Common.{◌≡◌, ◌≤◌, ◌+◌, ◌-◌, ◌⊎◌, [], ℕ, zero, suc, Bool, true, false, List, length, take, drop, nat_lt, Option, Some, None, is_some, option_map, if◌then◌else◌, refl, sym, ◌∙◌, ap, subst, inl, inr, arith}
 use Rattle.std.proofs.lemmas.Bool.{cases_eq}
 use Rattle.op_fields.specs.Reads.{IsBytes}
+use Rattle.op_types.specs.declared.events.Input.{Input}
 use Rattle.op_types.specs.declared.events.Input.TheVariants as input
-use Rattle.op_types.specs.declared.log.Command.{Command}
 use Rattle.op_frame.specs.Framing.{Stream, width_of, left}
 use Rattle.op_serving.specs.declared.kind.Kind.{Kind}
 use Rattle.op_serving.specs.declared.kind.Kind.TheVariants.{Unknown, Peer, Client}
@@ -11,13 +11,13 @@ use Rattle.op_serving.specs.declared.session.Session.{Session}
 use Rattle.op_serving.specs.Cores.{Standing}
 use Rattle.op_serving.specs.Wire.{peer_head}
 use Rattle.op_serving.specs.State.{Loop, find, changed, with_bytes, is_open, kind_at, left_by, session_of}
-use Rattle.op_serving.specs.Inputs.{begins, flushed, State, Luck, hears, noting, calm, enter, give, gathering, over, rest}
+use Rattle.op_serving.specs.Inputs.{begins, flushed, State, Luck, hears, noting, calm, enter, give, together, gathering, bringing, over, rest}
 use Rattle.op_serving.specs.Reading.{hello_len, framed, first_frame, Front, partial, refused, hello, frame, front_of, heard_in, tells, on_heard, of_kind, holding, linked, replaced, peer_limit, is_peer, at_frame, held_in, feeding, feeds, counted_if, met, dealt_front, dealt_at, dealt, read}
 use Rattle.std.specs.Int.{from_be_bytes}
 use Rattle.op_serving.specs.Turns.{hello as hello_bytes, stream_for, made_session, first_bytes, joining, joined, accepted, dialled, ticked, hello_less, without_bytes, taken_by, up_peer, up_at}
 use Rattle.op_connections.proofs.Pumping.{Closed}
 use Rattle.op_connections.proofs.Promises.{promises_closed}
-use Rattle.op_serving.specs.Promise.{life, at_conn}
+use Rattle.op_serving.specs.Promise.{life, pending_at}
 use Rattle.op_connections.proofs.Tables.{found_own, found_other, find_insert, find_insert_apart}
 use Rattle.op_connections.proofs.Keeping.{formed, is_just, is_idle, HasForm, Open}
 use Rattle.op_connections.proofs.Coming.{keeping_unseen}
@@ -26,7 +26,7 @@ use Rattle.op_connections.proofs.Turning.{kept_fed}
 use Rattle.op_serving.specs.declared.hearing.Heard.{Heard}
 use Rattle.op_connections.proofs.Dealing.{AllKept, held_all, Held, held_keeping, held_rest, held_upped, replacing, held_replacing, held_framed, held_holding, off_front, opened}
 use Rattle.op_connections.proofs.Walking.{Steps, Led, Hearing, rest_holds, give_holds, flushed_holds, over_holds, behind_holds, heard_holds, read_holds}
-use Rattle.op_connections.proofs.Fading.{front_in, front_at, front_then, fades_calm, fades_enter, fades_over, over_none, none_of, replaced_none}
+use Rattle.op_connections.proofs.Fading.{front_in, front_at, front_then, fades_calm, fades_enter, fades_together, fades_over, over_none, none_of, replaced_none}
 use Rattle.op_connections.proofs.Awaiting.{Again, again, shorter, Shorter, shorter_less, nothing_held}
 
 -- ---- what a connection holds stays, or its session is over
@@ -57,12 +57,14 @@ holds_steps d l start = record {
     leaves_one = λ c s h. holds_then d start s.loop (left_by c s.loop) h (fades_over d c (kind_at c s.loop) s.loop).front;
   };
   enters_one = λ who i s h. holds_then d start s.loop (enter l who i s).loop h (fades_enter d l who i s).front;
+  enters_all = λ bs s h. holds_then d start s.loop (together l [] bs s).loop h (fades_together d l bs s).front;
 }
 
 holds_led : (d : ℕ) (l : Luck) (c : ℕ) (start : Loop) → Led l c (λ s. Holds d start s.loop)
 holds_led d l c start = record {
   steps = holds_steps d l start;
   gathers_one = λ x s h. holds_then d start s.loop (gathering c x s).loop h (inr refl);
+  brings_one = λ m s h. holds_then d start s.loop (bringing c m s).loop h (inr refl);
   says_one = λ what s h. holds_then d start s.loop (tells c what s).loop h (inr (front_changed (with_bytes _) (λ x. refl) c d s.loop));
 }
 
@@ -145,7 +147,7 @@ module _ (me c : ℕ) (l : Luck) (line : Standing → List ℕ) where
         rested = rest_holds l (λ t. Holds c s.loop t.loop) (holds_steps c l s.loop).falls v h
 
         by_open : (b : Bool) → is_open c u.loop ≡ b → Awaits c (if b then more (n + 1) (rest l v) else u).loop
-        by_open true e = goes_on (n + 1) (rest l v) (held_rest me c l line v (held_keeping me c formed [] u v (keeping_unseen u v refl refl refl refl refl) k)) (few_holds m kind z s (rest l v) is le rested)
+        by_open true e = goes_on (n + 1) (rest l v) (held_rest me c l line v (held_keeping me c formed [] u v (keeping_unseen u v refl refl refl refl refl refl) k)) (few_holds m kind z s (rest l v) is le rested)
         by_open false e = shut_awaits u e
 
     replacing_holds : (q : ℕ) (s : State) → Holds c s.loop (replacing me c l line q s).loop
@@ -185,8 +187,8 @@ module _ (me c : ℕ) (l : Luck) (line : Standing → List ℕ) where
         t : State
         t = holding c Unknown z s
 
-        off : Fronted me (life c s.deeds) (at_conn c s.loop.gathered) y.queue (hello q z)
-        off = subst (λ (w : Front). Fronted me (life c s.deeds) (at_conn c s.loop.gathered) y.queue w) e (off_front me c l line s y there k)
+        off : Fronted me (life c s.deeds) (pending_at c s.loop) y.queue (hello q z)
+        off = subst (λ (w : Front). Fronted me (life c s.deeds) (pending_at c s.loop) y.queue w) e (off_front me c l line s y there k)
 
         by_peer : (b : Bool) → Awaits c (if b then met l line c more n q t else over l c t).loop
         by_peer true = met_awaits n q z t off.1 (held_front Unknown z s y there) (omega (arith, less)) (held_holding me c l line q z s y there off.0 k)
@@ -194,8 +196,8 @@ module _ (me c : ℕ) (l : Luck) (line : Standing → List ℕ) where
     front_awaits_more n (frame kind body z) s y there e less k =
         let t : State = holding c kind z s in
         let w : Heard = heard_in s.loop.me kind body in
-        let off : Fronted me (life c s.deeds) (at_conn c s.loop.gathered) y.queue (frame kind body z) =
-        subst (λ (w : Front). Fronted me (life c s.deeds) (at_conn c s.loop.gathered) y.queue w) e (off_front me c l line s y there k) in
+        let off : Fronted me (life c s.deeds) (pending_at c s.loop) y.queue (frame kind body z) =
+        subst (λ (w : Front). Fronted me (life c s.deeds) (pending_at c s.loop) y.queue w) e (off_front me c l line s y there k) in
         counted_awaits n kind z t (on_heard l line c w t) (held_front kind z s y there) (omega (arith, less))
         (heard_holds l line c (λ v. Holds c t.loop v.loop) (holds_led c l c t.loop) w t (inr refl))
         (held_framed me c l line kind body z s y there off k)
@@ -203,16 +205,16 @@ module _ (me c : ℕ) (l : Luck) (line : Standing → List ℕ) where
     at_awaits : (n : ℕ) (o : Option Session) (s : State) → find c s.loop.sessions ≡ o → held_in o ≤ suc m → Held me c formed [] s → Awaits c (dealt_at l line c more n o s).loop
     at_awaits n None s e le k = none_awaits c s.loop e
     at_awaits n (Some y) s e le k =
-        let o : Open me formed [] (life c s.deeds) (at_conn c s.loop.gathered) y = opened me c formed [] (life c s.deeds) (at_conn c s.loop.gathered) (find c s.loop.sessions) y e k.own.at in
+        let o : Open me formed [] (life c s.deeds) (pending_at c s.loop) y = opened me c formed [] (life c s.deeds) (pending_at c s.loop) (find c s.loop.sessions) y e k.own.at in
         front_awaits_more n (front_of y.kind y.frames) s y e refl
-        (shorter_less (length y.frames.held) (suc m) (front_of y.kind y.frames) le (shorter y.kind y.frames (at_conn c s.loop.gathered) o.form)) k
+        (shorter_less (length y.frames.held) (suc m) (front_of y.kind y.frames) le (shorter y.kind y.frames (pending_at c s.loop) o.form)) k
 
   -- nothing is held
   empty_awaits : (s : State) (o : Option Session) → find c s.loop.sessions ≡ o → held_in o ≤ 0 → Held me c formed [] s → Awaits c s.loop
   empty_awaits s None e le k = none_awaits c s.loop e
   empty_awaits s (Some y) e le k =
-      let o : Open me formed [] (life c s.deeds) (at_conn c s.loop.gathered) y = opened me c formed [] (life c s.deeds) (at_conn c s.loop.gathered) (find c s.loop.sessions) y e k.own.at in
-      front_awaits c s.loop y.kind y.frames (ap front_in e) (nothing_held y.kind y.frames (at_conn c s.loop.gathered) o.form le)
+      let o : Open me formed [] (life c s.deeds) (pending_at c s.loop) y = opened me c formed [] (life c s.deeds) (pending_at c s.loop) (find c s.loop.sessions) y e k.own.at in
+      front_awaits c s.loop y.kind y.frames (ap front_in e) (nothing_held y.kind y.frames (pending_at c s.loop) o.form le)
 
   dealt_awaits : (m n : ℕ) (s : State) → Held me c formed [] s → Few m s → Awaits c (dealt l line c m n s).loop
   dealt_awaits zero n s k le = empty_awaits s (find c s.loop.sessions) refl le k
@@ -285,7 +287,7 @@ module _ (l : Luck) where
   awaits_up None s a = a
   awaits_up (Some q) s a = stays_awaiting s (give l [] (input.Up q) s) (λ d. give_holds l (λ t. Holds d s.loop t.loop) (holds_steps d l s.loop) [] (input.Up q) s (inr refl)) a
 
-  awaits_joined : (c : ℕ) (kind : Kind) (s : State) → ((cs : List Command) → formed kind (stream_for kind) cs) → length (stream_for kind).held ≤ 0 → AllAwait s → AllAwait (joined l c kind s)
+  awaits_joined : (c : ℕ) (kind : Kind) (s : State) → ((ws : List Input) → formed kind (stream_for kind) ws) → length (stream_for kind).held ≤ 0 → AllAwait s → AllAwait (joined l c kind s)
   awaits_joined c kind s form le a = stays_awaiting t (joined l c kind s) (λ d. (fades_calm d l t).front) begun
     where
       y : Session
@@ -305,14 +307,14 @@ module _ (l : Luck) where
     where
       by_open : (b : Bool) → AllAwait (if b then s else joined l c Unknown s)
       by_open true = a
-      by_open false = awaits_joined c Unknown s (λ cs. tt) (omega arith) a
+      by_open false = awaits_joined c Unknown s (λ ws. tt) (omega arith) a
 
   awaits_dialled : (q c : ℕ) (s : State) → AllAwait s → AllAwait (dialled l q c s)
   awaits_dialled q c s a = by_open (is_open c s.loop)
     where
       by_open : (b : Bool) → AllAwait (if b then s else joined l c (Peer q hello_len) s)
       by_open true = a
-      by_open false = awaits_joined c (Peer q hello_len) s (λ cs. record { head_is = refl; limit_is = refl }) (omega arith) a
+      by_open false = awaits_joined c (Peer q hello_len) s (λ ws. record { head_is = refl; limit_is = refl }) (omega arith) a
 
 -- with what it is promised
 pub record Heeds (me : ℕ) (s : State) : Type 0 where

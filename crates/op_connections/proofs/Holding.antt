@@ -2,7 +2,7 @@
 use Rattle.std.proofs.Common.{◌≡◌, ◌<◌, ◌+◌, ◌∷◌, [], ℕ, Bool, true, false, List, length, take, drop, nat_lt, ◌==◌, if◌then◌else◌, refl, arith}
 use Rattle.std.proofs.lemmas.Bool.{ltb-true, ltb-false}
 use Rattle.std.specs.Int.{w32, from_be_bytes}
-use Rattle.op_types.specs.declared.log.Command.{Command}
+use Rattle.op_types.specs.declared.events.Input.{Input}
 use Rattle.op_frame.specs.Framing.{Stream, width_of, left}
 use Rattle.op_serving.specs.declared.greeting.Greeting.{Greeting}
 use Rattle.op_serving.specs.declared.greeting.Greeting.TheVariants as greets
@@ -63,7 +63,7 @@ greeted_short x greets.Client is e = absurd (let other : Unknown ≡ Client = (w
 greeted_short x (greets.Peer q) is e = absurd cc
 greeted_short x greets.Strange is e = absurd cc
 
-pub held_short : (k : Kind) (x : Stream) (cs : List Command) → formed k x cs → front_of k x ≡ partial k x → length x.held < longest k
-held_short Unknown x cs f e = greeted_short x (greeting x.held) refl e
-held_short (Peer q h) x cs f e = let short = part_short (Peer q h) (Peer q h) x x e in omega (arith, f.head_is, f.limit_is, short)
-held_short Client x cs f e = let short = part_short Client Client x x e in omega (arith, f.head_is, f.limit_is, short)
+pub held_short : (k : Kind) (x : Stream) (ws : List Input) → formed k x ws → front_of k x ≡ partial k x → length x.held < longest k
+held_short Unknown x ws f e = greeted_short x (greeting x.held) refl e
+held_short (Peer q h) x ws f e = let short = part_short (Peer q h) (Peer q h) x x e in omega (arith, f.head_is, f.limit_is, short)
+held_short Client x ws f e = let short = part_short Client Client x x e in omega (arith, f.head_is, f.limit_is, short)

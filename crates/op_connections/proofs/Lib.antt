@@ -5,6 +5,7 @@ pub mod Keeping
 pub mod Hearing
 pub mod Coming
 pub mod Giving
+pub mod Joining
 pub mod Fronting
 pub mod Fronts
 pub mod Dealing

@@ -13,7 +13,7 @@ use Rattle.op_connections.proofs.Pumping.{Closed}
 
 pub promises_closed : (me : ℕ) (l : Luck) (line : Standing → List ℕ) → Closed l line (AllKept me)
 promises_closed me l line = record {
-  moves = λ s t m h. keeping_all me s (record s { loop = t }) (keeping_unseen s (record s { loop = t }) refl m.sessions m.gathered m.me m.lost) h;
+  moves = λ s t m h. keeping_all me s (record s { loop = t }) (keeping_unseen s (record s { loop = t }) refl m.sessions m.gathered m.brought m.me m.lost) h;
   accepts = λ c s few h. kept_accepted me l c s few h;
   dials_one = λ q c s few alone h. kept_dialled me l c s few h q;
   ticks = λ s h. kept_ticked me l s h;

@@ -22,6 +22,7 @@ pub record Moved (s t : Loop) : Type 0 where
   pub peers : t.peers ≡ s.peers
   pub sessions : t.sessions ≡ s.sessions
   pub gathered : t.gathered ≡ s.gathered
+  pub brought : t.brought ≡ s.brought
   pub lost : t.lost ≡ s.lost
   pub askers : t.askers ≡ s.askers
 
@@ -36,15 +37,15 @@ pub record Closed (l : Luck) (line : Standing → List ℕ) (Holds : State → T
   pub has_bytes : (c : ℕ) (bytes : List ℕ) (s : State) → IsBytes bytes → Holds s → Holds (read l line c bytes s)
   pub took_some : (c n : ℕ) (s : State) → n ≤ length (waiting c s) → Holds s → Holds (wrote l c n s)
 
-moved : (s t : Loop) → t.me ≡ s.me → t.peers ≡ s.peers → t.sessions ≡ s.sessions → t.gathered ≡ s.gathered → t.lost ≡ s.lost → t.askers ≡ s.askers → Moved s t
-moved s t me peers sessions gathered marks askers = record { me = me; peers = peers; sessions = sessions; gathered = gathered; lost = marks; askers = askers }
+moved : (s t : Loop) → t.me ≡ s.me → t.peers ≡ s.peers → t.sessions ≡ s.sessions → t.gathered ≡ s.gathered → t.brought ≡ s.brought → t.lost ≡ s.lost → t.askers ≡ s.askers → Moved s t
+moved s t me peers sessions gathered brought marks askers = record { me = me; peers = peers; sessions = sessions; gathered = gathered; brought = brought; lost = marks; askers = askers }
 
 module _ (o : Settings) (l : Luck) (line : Standing → List ℕ) (Holds : State → Type 0) (k : Closed l line Holds) where
   after_turn : (s : State) → Holds s → Holds (turn_begun s)
-  after_turn s h = k.moves s (turn_begun s).loop (moved s.loop (turn_begun s).loop refl refl refl refl refl refl) h
+  after_turn s h = k.moves s (turn_begun s).loop (moved s.loop (turn_begun s).loop refl refl refl refl refl refl refl) h
 
   after_at : (i : ℕ) (s : State) → Holds s → Holds (at_happening i s)
-  after_at i s h = k.moves s (at_happening i s).loop (moved s.loop (at_happening i s).loop refl refl refl refl refl refl) h
+  after_at i s h = k.moves s (at_happening i s).loop (moved s.loop (at_happening i s).loop refl refl refl refl refl refl refl) h
 
   -- ---- one answer
 
@@ -166,7 +167,7 @@ module _ (o : Settings) (l : Luck) (line : Standing → List ℕ) (Holds : State
 
   pub answer_kept : (p : Pump) (a : Answer) → IsAnswer (ask o l line p) a → Goes p → Goes (shut o l line (answered o l line a p))
   answer_kept p a is g = record {
-    holds = k.moves q.driver (shut o l line q).driver.loop (moved q.driver.loop (shut o l line q).driver.loop refl refl refl refl refl refl) (stage_kept p p.at a g.holds g.runs is);
+    holds = k.moves q.driver (shut o l line q).driver.loop (moved q.driver.loop (shut o l line q).driver.loop refl refl refl refl refl refl refl) (stage_kept p p.at a g.holds g.runs is);
     runs = by_marks (nat_lt (length q.driver.loop.lost) most_marks) refl;
   }
     where

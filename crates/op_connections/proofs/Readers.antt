@@ -1,5 +1,5 @@
 -- Nobody waits for a read, or the node's reads are settled: so an Up and a Down tell no client anything of reads.
-use Rattle.std.proofs.Common.{◌≡◌, ◌++◌, ◌∷◌, ◌⊎◌, [], ℕ, zero, suc, Bool, true, false, List, length, drop, cond, if◌then◌else◌, nat_lt, ◌+◌, not, Option, Some, None, refl, sym, ap, ◌∙◌, inl, inr}
+use Rattle.std.proofs.Common.{◌≡◌, ◌++◌, ◌∷◌, ◌⊎◌, [], ℕ, zero, suc, Bool, true, false, List, length, drop, cond, if◌then◌else◌, nat_lt, ◌+◌, not, Option, Some, None, refl, sym, ap, ◌∙◌, subst, inl, inr}
 use Rattle.std.specs.FinMap as map
 use Rattle.std.specs.BTreeMap.{is_at}
 use Rattle.op_types.specs.declared.answers.Outcome.{Outcome}
@@ -19,19 +19,19 @@ use Rattle.op_serving.specs.declared.mark.Mark.{Mark}
 use Rattle.op_serving.specs.declared.node.Given.{Given}
 use Rattle.op_serving.specs.declared.wanted.Wanted.{Wanted}
 use Rattle.op_serving.specs.declared.wanted.Wanted.TheVariants.{Commands, Stop, Trim, Read}
-use Rattle.op_serving.specs.Cores.{Standing, given_of, gives, after_input, faulted, refused_with, reopened}
-use Rattle.op_serving.specs.Fates.{Fate, done, finds, faults, damaged, lost, after_fate}
-use Rattle.op_serving.specs.State.{Key, Awaited, Loop, awaited_cmp, find, is_conn, is_open, kind_at, left_at, left_by, counted}
+use Rattle.op_serving.specs.Cores.{Failure, Standing, given_of, gives, after_input, faulted, refused_with, reopened}
+use Rattle.op_serving.specs.Fates.{Fate, done, finds, faults, shares, damaged, lost, after_fate}
+use Rattle.op_serving.specs.State.{Key, Awaited, Loop, awaited_cmp, find, is_conn, is_open, kind_at, left_at, left_by}
 use Rattle.op_serving.specs.Wire.{peer_frame, client_frame}
 use Rattle.op_serving.specs.Losses.{most_marks, mark_at, noted, stopped_if, marked, lost_one, is_due, settle}
 use Rattle.op_serving.specs.Handing.{said_at, goes_to, made_way, sent_at, sent, sent_all, forgotten, answered, replied, replied_all, frame_at, frames_replied, handed_out, Told, said_at_once, said_of_denial, told, told_all, asked_by_one, asked, waits_if_asked, refusal_of, waits_unless, proposed, excused}
 use Rattle.op_serving.specs.Room.{Frame, has_room, count_at, goes_ahead, kept, placed, first_moved, moved_in, moved, begins_anew, cleared}
-use Rattle.op_serving.specs.Inputs.{State, Luck, asked_by, begins, calm, enter, entered_with, loop_after, next_fate, noting}
+use Rattle.op_serving.specs.Inputs.{State, Luck, Taken, asked_by, begins, loop_after, loop_after_all, calm, takes_in, taken_as, handing, enter, noting}
 use Rattle.op_serving.specs.Reading.{hello_len}
 use Rattle.op_serving.specs.Turns.{accepted, dialled, first_bytes, joined, joining, taken_by, up_at, up_peer}
 use Rattle.op_serving.proofs.KeyOrder.{key_exact, key_total}
 use Rattle.op_connections.proofs.Settled.{ReadsAreSettled, settled_after, settled_without}
-use Rattle.op_connections.proofs.Walking.{Falls, Hearing, Steps, flushed_holds, give_holds, over_holds, read_holds}
+use Rattle.op_connections.proofs.Walking.{taking_holds, Falls, Hands, Hearing, Steps, enter_holds, steps, flushed_holds, give_holds, over_holds, read_holds}
 use Rattle.op_connections.proofs.Fading.{replaced_none}
 use Rattle.op_connections.proofs.Pumping.{Closed}
 
@@ -197,36 +197,93 @@ none_asked count (input.Read r) e = absurd cc
 none_asked count (input.Up q) e = absurd cc
 none_asked count (input.Down q) e = absurd cc
 
-done_done : (w : Option Wanted) (i : Input) (n : Standing) (s : Loop) → NobodyReads s ⊎ ReadsAreSettled n.state → NobodyReads (handed_out (gives n i) (proposed w (gives n i).outcome s)) ⊎ ReadsAreSettled (after_input n i).state
+-- what is handed out of an input leaves nobody who waits for a read, or reads are settled by it
+abbrev Leaves : (Loop → Loop) → Standing → Type 0
+Leaves g n = ((s : Loop) → NobodyReads s → NobodyReads (g s)) ⊎ ReadsAreSettled n.state
+
+leaves_done : (w : Option Wanted) (i : Input) (n : Standing) → Leaves (λ s. handed_out (gives n i) (proposed w (gives n i).outcome s)) (after_input n i)
 unfolding gives after_input
-done_done w i n s h = by_failed n.failed
+leaves_done w i n = by_failed n.failed
   where
-    by_failed : (f : Option ℕ)
-        → let g : Given = elim f [ None ↦ given_of (step_plan n.me n.state i) | Some count ↦ refused_with count i ] in
-        let m : Standing = elim f [ None ↦ record n { state = state_after n.state (step_plan n.me n.state i) } | Some count ↦ n ] in
-        NobodyReads (handed_out g (proposed w g.outcome s)) ⊎ ReadsAreSettled m.state
+    by_failed : (f : Option Failure)
+        → let g : Given = elim f [ None ↦ given_of (step_plan n.me n.state i) | Some x ↦ refused_with x.count i ] in
+        let m : Standing = elim f [ None ↦ record n { state = state_after n.state (step_plan n.me n.state i) } | Some x ↦ n ] in
+        Leaves (λ s. handed_out g (proposed w g.outcome s)) m
     by_failed None = inr (settled_after n.me n.state i)
-    by_failed (Some count) = elim h [
-      | inl none ↦ inl (nobody_handed (refused_with count i) (proposed w (refused_with count i).outcome s) (nobody_proposed w (refused_with count i).outcome s (none_asked count i) none))
-      | inr settled ↦ inr settled
-    ]
+    by_failed (Some x) =
+        let g : Given = refused_with x.count i in
+        inl (λ s h. nobody_handed g (proposed w g.outcome s) (nobody_proposed w g.outcome s (none_asked x.count i) h))
 
-done_reopened : (d : Durable) (n : Standing) → ReadsAreSettled (reopened d n).state
+settled_input : (i : Input) (n : Standing) → ReadsAreSettled n.state → ReadsAreSettled (after_input n i).state
+unfolding after_input
+settled_input i n h = by_failed n.failed
+  where
+    by_failed : (f : Option Failure)
+        → let m : Standing = elim f [ None ↦ record n { state = state_after n.state (step_plan n.me n.state i) } | Some x ↦ n ] in
+        ReadsAreSettled m.state
+    by_failed None = settled_after n.me n.state i
+    by_failed (Some x) = h
+
+-- a node that is opened again has none, nor one of which a disk failed
+settled_reopened : (d : Durable) (n : Standing) → ReadsAreSettled (reopened d n).state
 unfolding reopened
-done_reopened d n = settled_without _ refl
+settled_reopened d n = settled_without _ refl
 
-done_faulted : (k : ℕ) (n : Standing) → ReadsAreSettled n.state → ReadsAreSettled (faulted k n).state
+settled_faulted : (k : ℕ) (n : Standing) → ReadsAreSettled (faulted k n).state
 unfolding faulted
-done_faulted k n h = h
+settled_faulted k n = settled_without _ refl
 
-done_after : (w : Option Wanted) (i : Input) (f : Fate) (n : Standing) (s : Loop) → NobodyReads s ⊎ ReadsAreSettled n.state → NobodyReads (loop_after w i f n s) ⊎ ReadsAreSettled (after_fate n i f).state
-done_after w i done n s h = done_done w i n (counted s) h
-done_after w i (finds d) n s h = inr (done_reopened d n)
-done_after w i (faults k) n s (inl h) = inl (nobody_excused w (Some (StorageFailed k)) (counted s) h)
-done_after w i (faults k) n s (inr h) = inr (done_faulted k n h)
-done_after w i damaged n s h = h
-done_after w i lost n s (inl h) = inl (nobody_excused w None (counted (marked None s)) (nobody_marked None s h))
-done_after w i lost n s (inr h) = inr h
+leaves_after : (w : Option Wanted) (i : Input) (f : Fate) (n : Standing) → Leaves (loop_after w i f n) (after_fate n i f)
+leaves_after w i done n = leaves_done w i n
+leaves_after w i (finds d) n = inr (settled_reopened d n)
+leaves_after w i (faults k) n = inr (settled_faulted k n)
+leaves_after w i (shares k) n = inl (λ s h. nobody_excused w (Some (StorageFailed k)) s h)
+leaves_after w i damaged n = inl (λ s h. h)
+leaves_after w i lost n = inl (λ s h. nobody_excused w None s h)
+
+-- settled they stay
+settled_fate : (i : Input) (f : Fate) (n : Standing) → ReadsAreSettled n.state → ReadsAreSettled (after_fate n i f).state
+settled_fate i done n h = settled_input i n h
+settled_fate i (finds d) n h = settled_reopened d n
+settled_fate i (faults k) n h = settled_faulted k n
+settled_fate i (shares k) n h = h
+settled_fate i damaged n h = h
+settled_fate i lost n h = h
+
+-- ---- inputs that are stored together
+
+-- while these are taken: nobody waits for a read, and what is handed out of them leaves it so
+abbrev ReadsAreTaken : List Taken → State → Type 0
+ReadsAreTaken ts s = (NobodyReads s.loop × ((t : Loop) → NobodyReads t → NobodyReads (loop_after_all ts t)))
+    ⊎ ReadsAreSettled s.node.state
+
+after_more : (ts : List Taken) (t : Taken) (s : Loop) → loop_after_all (ts ++ t ∷ []) s ≡ loop_after t.wanted t.input t.fate t.before (loop_after_all ts s)
+after_more [] t s = refl
+after_more (u ∷ ts) t s = after_more ts t (loop_after u.wanted u.input u.fate u.before s)
+
+taken_one : (ts : List Taken) (who : List ℕ) (i : Input) (f : Fate) (s : State) → ReadsAreTaken ts s → ReadsAreTaken (ts ++ taken_as who i f s ∷ []) (takes_in who i f s)
+taken_one ts who i f s (inr settled) = inr (settled_fate i f s.node settled)
+taken_one ts who i f s (inl h) = elim (leaves_after (asked_by who i) i f s.node) [
+  | inl leaves ↦ inl (
+    taking_holds NobodyReads f s.loop h.0 (nobody_marked None s.loop h.0),
+    λ t none. subst NobodyReads (sym (after_more ts (taken_as who i f s) t)) (leaves (loop_after_all ts t) (h.1 t none)),
+  )
+  | inr settled ↦ inr settled
+]
+
+done_handed : (l : Luck) (ts : List Taken) (s : State) → ReadsAreTaken ts s → ReadsAreDone (handing l ts s)
+done_handed l ts s (inr settled) = inr settled
+done_handed l ts s (inl h) = let t : Loop = loop_after_all ts s.loop in inl (nobody_settled (drop (length t.lost) l.marks) t (h.1 s.loop h.0))
+
+done_begins : (s : State) → ReadsAreDone s → ReadsAreTaken [] s
+done_begins s (inl h) = inl (h, λ t none. none)
+done_begins s (inr h) = inr h
+
+done_hands : (l : Luck) → Hands l ReadsAreDone ReadsAreTaken
+done_hands l = record { begins = done_begins; takes_one = taken_one; hands = done_handed l }
+
+pub done_enter : (l : Luck) (who : List ℕ) (i : Input) (s : State) → ReadsAreDone s → ReadsAreDone (enter l who i s)
+done_enter l who i s h = enter_holds l ReadsAreDone ReadsAreTaken (done_hands l) who i s h
 
 -- where nobody waits more than before
 pub done_by : (s t : Loop) (n : Standing) → (NobodyReads s → NobodyReads t) → NobodyReads s ⊎ ReadsAreSettled n.state → NobodyReads t ⊎ ReadsAreSettled n.state
@@ -235,18 +292,6 @@ done_by s t n less (inr h) = inr h
 
 pub done_calm : (l : Luck) (s : State) → ReadsAreDone s → ReadsAreDone (calm l s)
 done_calm l s h = done_by s.loop (calm l s).loop s.node (nobody_settled (drop (length s.loop.lost) l.marks) s.loop) h
-
-pub done_enter : (l : Luck) (who : List ℕ) (i : Input) (s : State) → ReadsAreDone s → ReadsAreDone (enter l who i s)
-done_enter l who i s h = by_marks (nat_lt (length s.loop.lost) most_marks)
-  where
-    f : Fate
-    f = next_fate l i s
-
-    by_marks : (b : Bool) → ReadsAreDone (if b then entered_with l who i f s else s)
-    by_marks true =
-        let t : Loop = loop_after (asked_by who i) i f s.node s.loop in
-        done_by t (settle (drop (length t.lost) l.marks) t) (after_fate s.node i f) (nobody_settled (drop (length t.lost) l.marks) t) (done_after (asked_by who i) i f s.node s.loop h)
-    by_marks false = h
 
 -- ---- all that the loop does
 
@@ -262,11 +307,11 @@ done_falls l = record {
 }
 
 pub done_steps : (l : Luck) → Steps l ReadsAreDone
-done_steps l = record { falls = done_falls l; enters_one = λ who i s h. done_enter l who i s h }
+done_steps l = steps l ReadsAreDone ReadsAreTaken (done_hands l) (done_falls l)
 
 done_hearing : (l : Luck) (c : ℕ) → Hearing l c ReadsAreDone
 done_hearing l c = record {
-  led = record { steps = done_steps l; gathers_one = λ x s h. h; says_one = λ what s h. h };
+  led = record { steps = done_steps l; gathers_one = λ x s h. h; brings_one = λ m s h. h; says_one = λ what s h. h };
   feeds_one = λ bytes s h. h;
   holds_one = λ kind x s y there is h. h;
   links_one = λ q s none h. h;

@@ -8,12 +8,12 @@ use Rattle.op_serving.specs.declared.kind.Kind.TheVariants.{Unknown, Peer, Clien
 use Rattle.op_serving.specs.declared.session.Session.{Session}
 use Rattle.op_serving.specs.Cores.{Standing}
 use Rattle.op_serving.specs.State.{Table, Loop, find, changed, with_bytes, is_open, kind_at, left_by, if_its, open_of, session_of}
-use Rattle.op_serving.specs.Inputs.{State, Luck, begins, noting, calm, enter, gathering}
+use Rattle.op_serving.specs.Inputs.{State, Luck, begins, noting, calm, enter, together, gathering, bringing}
 use Rattle.op_serving.specs.Reading.{hello_len, tells, feeding, feeds, of_kind, holding, links}
 use Rattle.op_serving.specs.Turns.{made_session, first_bytes, joining, joined, accepted, dialled, hello_less, without_bytes, taken_by, up_peer, up_at}
 use Rattle.op_connections.proofs.Tables.{found_own, found_other, find_insert, find_insert_apart, Rising, rising_changed, rising_insert}
 use Rattle.op_connections.proofs.Walking.{NoPeer, Steps, Hearing, give_holds, flushed_holds, over_holds, read_holds}
-use Rattle.op_connections.proofs.Fading.{fades_kind, Fades, fades_calm, fades_enter, fades_over, replaced_none}
+use Rattle.op_connections.proofs.Fading.{fades_kind, Fades, fades_calm, fades_enter, fades_together, fades_over, replaced_none}
 use Rattle.op_connections.proofs.Pumping.{Closed}
 
 -- a peer's session is the one that the table of peers names, if the peer is known
@@ -46,6 +46,7 @@ registering l = record {
     leaves_one = λ d s r. registered_faded s.loop (left_by d s.loop) (λ c. fades_over c d (kind_at d s.loop) s.loop) r;
   };
   enters_one = λ who i s r. registered_faded s.loop (enter l who i s).loop (λ c. fades_enter c l who i s) r;
+  enters_all = λ bs s r. registered_faded s.loop (together l [] bs s).loop (λ c. fades_together c l bs s) r;
 }
 
 -- ---- one session changes
@@ -160,7 +161,12 @@ same_kind kind y z e (inr k) = inr k
 
 registered_hearing : (l : Luck) (c : ℕ) → Hearing l c (λ s. Registered s.loop)
 registered_hearing l c = record {
-  led = record { steps = registering l; gathers_one = λ x s r. registered_less s.loop (gathering c x s).loop (λ d. inr refl) refl (λ h. h) r; says_one = λ what s r. registered_changed (with_bytes _) c s.loop (tells c what s).loop refl refl (λ y q h there e. (h, e)) r };
+  led = record {
+    steps = registering l;
+    gathers_one = λ x s r. registered_less s.loop (gathering c x s).loop (λ d. inr refl) refl (λ h. h) r;
+    brings_one = λ m s r. registered_less s.loop (bringing c m s).loop (λ d. inr refl) refl (λ h. h) r;
+    says_one = λ what s r. registered_changed (with_bytes _) c s.loop (tells c what s).loop refl refl (λ y q h there e. (h, e)) r;
+  };
   feeds_one = λ bytes s r. registered_changed (feeding bytes) c s.loop (feeds c bytes s.loop) refl refl (λ y q h there e. (h, e)) r;
   holds_one = λ kind x s y there is r. registered_changed (of_kind kind x) c s.loop (holding c kind x s).loop refl refl
       (λ z q h found e. holds_kind kind z.kind q h (same_kind kind y z (sym there ∙ found) is) e) r;

@@ -1,6 +1,6 @@
 -- A run keeps what each connection is promised, and the node is the fold of its step.
 use Rattle.std.proofs.Common.{Bool, true, false, is_some, option_map, ◌⊎◌, ◌≡◌, ◌<◌, ◌++◌, [], ℕ, List, length, Option, Some, None, refl, sym, ◌∙◌, ap, subst, inl, inr, arith}
-use Rattle.op_types.specs.declared.log.Command.{Command}
+use Rattle.op_types.specs.declared.events.Input.{Input}
 use Rattle.op_serving.specs.Cores.{Standing}
 use Rattle.std.specs.FinMap as map
 use Rattle.op_serving.specs.State.{awaited_cmp, find}
@@ -16,9 +16,9 @@ use Rattle.op_serving.specs.Inputs.{kept}
 use Rattle.op_serving.specs.declared.serve_end.ServeEnd.TheVariants as ends
 use Rattle.op_serving.specs.Pump.{Settings, Stage, turn, time, dials, asks, reads, writes, stop, Pump, Answer, after, calls}
 use Rattle.op_serving.specs.Answers.{Answers}
-use Rattle.op_serving.specs.Promise.{newborn, life, at_conn, KeepsClosed, KeepsOpen, KeepsAt, Keeps, folded}
+use Rattle.op_serving.specs.Promise.{newborn, life, pending_at, KeepsOpen, KeepsAt, Keeps, folded}
 use Rattle.op_connections.specs.Runs.{Begins, inputs, luck_of, IsRun, calls_of}
-use Rattle.op_connections.proofs.Keeping.{formed, Open, OpenAt, kept_promise}
+use Rattle.op_connections.proofs.Keeping.{formed, Open, OpenAt, ShutBefore, kept_promise}
 use Rattle.op_connections.proofs.Dealing.{AllKept}
 use Rattle.op_connections.proofs.Folding.{Folds, folds_none, folds_closed}
 use Rattle.op_connections.proofs.Pumping.{Goes, run_kept}
@@ -32,18 +32,21 @@ use Rattle.op_connections.specs.Waiting.{QueuesAreShort, FramesAreShort}
 use Rattle.op_connections.proofs.Shedding.{fit_short}
 use Rattle.op_connections.proofs.Waiting.{Waits, frames_short, waits_closed, waits_none}
 use Rattle.op_connections.proofs.Turns.{Known, between, known_run}
+use Rattle.op_connections.proofs.Walking.{AllGiven}
 use Rattle.op_connections.proofs.Writing.{AllTaken}
 use Rattle.op_connections.specs.Taking.{is_full, IsBetween, IsDone}
 
 -- ---- from the start
 
-closed_before : (me : ℕ) → KeepsClosed me (newborn []) []
-closed_before me = record {
+shut_before : (me : ℕ) → ShutBefore [] me (newborn []) []
+shut_before me = record {
   kind = Unknown;
   dealt = [];
+  pending = [];
   rest = [];
   split = refl;
   hears = (refl, refl);
+  gathered = (refl, refl);
   none = refl;
   waits = [];
   said = refl;
@@ -51,7 +54,7 @@ closed_before me = record {
 
 kept_before : (s : State) → Begins s → AllKept s.loop.me s
 kept_before s b c = record {
-  at = rw (b.sessions, b.gathered, b.deeds) (closed_before s.loop.me);
+  at = rw (b.sessions, b.brought, b.gathered, b.deeds) (shut_before s.loop.me);
   spent = λ full. b.sessions;
   me_is = refl;
 }
@@ -78,8 +81,8 @@ module _ (o : Settings) (l : Luck) (line : Standing → List ℕ) (given : List 
   keeps c =
       let t : State = (after o l line given p).driver in
       let k = all_kept c in
-      subst (λ (me : ℕ). KeepsAt me (life c t.deeds) (at_conn c t.loop.gathered) (find c t.loop.sessions)) (sym k.me_is)
-      (kept_promise p.driver.loop.me (life c t.deeds) (at_conn c t.loop.gathered) (find c t.loop.sessions) k.at)
+      subst (λ (me : ℕ). KeepsAt me (life c t.deeds) (pending_at c t.loop) (find c t.loop.sessions)) (sym k.me_is)
+      (kept_promise p.driver.loop.me (life c t.deeds) (pending_at c t.loop) (find c t.loop.sessions) k.at)
 
   pub folds : (after o l line given p).driver.node ≡ folded p.driver.node (after o l line given p).driver.deeds
   folds =
@@ -105,21 +108,24 @@ known_before full st s b = by_stage st
     none : (d : ℕ) (y : Session) → find d s.loop.sessions ≡ Some y → ⊥
     none d y there = let bad : Some y ≡ None = sym there ∙ ap (find d) b.sessions in cc
 
+    given : AllGiven s.loop
+    given = (b.brought, b.gathered)
+
     by_stage : (e : Stage) → Known full e s.loop
-    by_stage turn = (b.gathered, λ d y there. absurd (none d y there))
+    by_stage turn = (given, λ d y there. absurd (none d y there))
     by_stage (time n) = tt
     by_stage (dials ps n) = tt
     by_stage (asks i n) = tt
     by_stage (reads c i n) = tt
-    by_stage (writes low) = (b.gathered, λ d y lt there. absurd (none d y there))
-    by_stage (stop ends.Ended) = (b.gathered, λ d y there. absurd (none d y there))
-    by_stage (stop ends.TurnsOver) = (b.gathered, λ d y there. absurd (none d y there))
+    by_stage (writes low) = (given, λ d y lt there. absurd (none d y there))
+    by_stage (stop ends.Ended) = (given, λ d y there. absurd (none d y there))
+    by_stage (stop ends.TurnsOver) = (given, λ d y there. absurd (none d y there))
     by_stage (stop ends.NetFault) = tt
-    by_stage (stop ends.Starved) = (b.gathered, λ d y there. absurd (none d y there))
+    by_stage (stop ends.Starved) = (given, λ d y there. absurd (none d y there))
 
 module _ (o : Settings) (l : Luck) (line : Standing → List ℕ) (given : List Answer) (p : Pump) (b : Begins p.driver) (is : Answers o l line given p) where
   pub done : IsBetween (after o l line given p).at → IsDone (calls o l line given p) (after o l line given p).driver
-  done here = record { given = k.0; taken = λ c is_there. taken c (find c t.loop.sessions) refl is_there }
+  done here = record { given = k.0.1; brought = k.0.0; taken = λ c is_there. taken c (find c t.loop.sessions) refl is_there }
     where
       t : State
       t = (after o l line given p).driver
@@ -127,7 +133,7 @@ module _ (o : Settings) (l : Luck) (line : Standing → List ℕ) (given : List 
       full : ℕ → Bool
       full = λ c. is_full c (calls o l line given p)
 
-      k : (t.loop.gathered ≡ []) × AllTaken full t.loop
+      k : AllGiven t.loop × AllTaken full t.loop
       k = between full (after o l line given p).at t.loop here (known_run o l line p.driver.loop.me given p (λ c. false) is
           (record { holds = kept_before p.driver b; runs = inr (few_before p.driver b) })
           (record { holds = (registered_before p.driver b, inl (nobody_before p.driver b)); runs = inr (few_before p.driver b) })
@@ -136,7 +142,7 @@ module _ (o : Settings) (l : Luck) (line : Standing → List ℕ) (given : List 
       taken : (c : ℕ) (s : Option Session) → find c t.loop.sessions ≡ s → is_some s ≡ true → ((life c t.deeds).said ≡ (life c t.deeds).taken) ⊎ (full c ≡ true)
       taken c None e open_there = absurd cc
       taken c (Some y) e open_there =
-          let own : KeepsOpen t.loop.me (life c t.deeds) (at_conn c t.loop.gathered) y = subst (λ (s : Option Session). KeepsAt t.loop.me (life c t.deeds) (at_conn c t.loop.gathered) s) e (keeps o l line given p b is c) in
+          let own : KeepsOpen t.loop.me (life c t.deeds) (pending_at c t.loop) y = subst (λ (s : Option Session). KeepsAt t.loop.me (life c t.deeds) (pending_at c t.loop) s) e (keeps o l line given p b is c) in
           elim (k.1 c y e) [
             | inl empty ↦ inl (own.said ∙ ap (λ q. (life c t.deeds).taken ++ q) empty ∙ append-nil (life c t.deeds).taken)
             | inr last ↦ inr last
@@ -159,9 +165,9 @@ module _ (o : Settings) (l : Luck) (line : Standing → List ℕ) (given : List 
   holds c y there =
       let me : ℕ = p.driver.loop.me in
       let t : State = (after o l line given p).driver in
-      let cs : List Command = at_conn c t.loop.gathered in
-      let own : Open me formed [] (life c t.deeds) cs y = subst (OpenAt me formed [] (life c t.deeds) cs) there (all_kept o l line given p b is c).at in
-      held_short y.kind y.frames cs own.form (heeds c y there)
+      let ws : List Input = pending_at c t.loop in
+      let own : Open me formed [] (life c t.deeds) ws y = subst (OpenAt me formed [] (life c t.deeds) ws) there (all_kept o l line given p b is c).at in
+      held_short y.kind y.frames ws own.form (heeds c y there)
 
 -- ---- what waits
 

@@ -1,5 +1,5 @@
 -- Once the loop comes to rest no more bytes wait for a session than may: those for which more wait are over.
-use Rattle.std.proofs.Common.{◌≡◌, ◌≤◌, ◌+◌, ◌++◌, ◌∷◌, ◌⊎◌, [], ℕ, zero, suc, Bool, true, false, List, length, map, flat_map, drop, Option, Some, None, is_some, option_map, nat_lt, ◌&&◌, if◌then◌else◌, refl, sym, ◌∙◌, ap, subst, inl, inr, arith}
+use Rattle.std.proofs.Common.{◌≡◌, ◌≤◌, ◌+◌, ◌++◌, ◌∷◌, ◌⊎◌, [], ℕ, zero, suc, Bool, true, false, List, length, flat_map, drop, Option, Some, None, is_some, option_map, nat_lt, ◌&&◌, if◌then◌else◌, refl, sym, ◌∙◌, ap, subst, inl, inr, arith}
 use Rattle.std.proofs.lemmas.Bool.{and_parts, cases_Bool, le-ltb, ltb-false}
 use Rattle.std.proofs.lemmas.List.{length-append}
 use Rattle.std.specs.BTreeMap.{is_at}
@@ -11,6 +11,7 @@ use Rattle.op_types.specs.declared.events.Input.TheVariants as input
 use Rattle.op_types.specs.declared.events.Request.{Request}
 use Rattle.op_types.specs.declared.events.Request.TheVariants as request
 use Rattle.op_types.specs.declared.log.Command.{Command}
+use Rattle.op_types.specs.declared.messages.Msg.{Msg}
 use Rattle.op_command.specs.declared.said.Said.{Said}
 use Rattle.op_command.specs.declared.said.Said.TheVariants as said
 use Rattle.op_frame.specs.Framing.{Stream}
@@ -20,18 +21,19 @@ use Rattle.op_serving.specs.declared.kind.Kind.{Kind}
 use Rattle.op_serving.specs.declared.kind.Kind.TheVariants.{Unknown}
 use Rattle.op_serving.specs.declared.session.Session.{Session}
 use Rattle.op_serving.specs.Cores.{Standing}
+use Rattle.op_serving.specs.Fates.{Fate}
 use Rattle.op_serving.specs.State.{Table, Loop, find, changed, with_bytes, is_open, kind_at, left_at, left_by, session_of, counted, most_waiting, is_overfull, shed_at, shed_each, conn_of, shed}
 use Rattle.op_serving.specs.Wire.{client_frame}
 use Rattle.op_serving.specs.Handing.{no_command}
 use Rattle.op_serving.specs.declared.mark.Mark.{Mark}
 use Rattle.op_serving.specs.Losses.{most_marks, mark_at, noted, stopped_if, marked, is_here, is_open_one, is_due, lost_one, settle, settled, size}
-use Rattle.op_serving.specs.Inputs.{State, Luck, asked_by, loop_after, next_fate, frames_after, calm, entered_with, enter, first_down, shedding, drained_in, drained, rest, give, gathering, released, given_together, flushed, proposes, behind, over, noting, hears}
+use Rattle.op_serving.specs.Inputs.{State, Luck, Taken, Brought, loop_after_all, frames_after_all, next_fate, calm, takes_in, taken_as, handing, entered_with, enter, first_down, shedding, drained_in, drained, rest, give, together, given_together, most_brought, gathering, bringing, released, all_gathered, flushed, proposes, delivers, behind, over, noting, hears}
 use Rattle.op_serving.specs.Reading.{Front, partial, refused, hello, frame, front_of, heard_in, tells, ending, on_heard, of_kind, holding, linked, replaced, is_peer, at_frame, counted_if, up_if_open, met, dealt_front, dealt_at, dealt, feeds, held_in, read}
 use Rattle.op_conns.proofs.Numbers.{is_at_own, is_at_one}
 use Rattle.op_connections.specs.Waiting.{QueuesAreShort}
 use Rattle.op_connections.proofs.Tables.{find_without, found_own, found_other}
-use Rattle.op_connections.proofs.Coming.{After, after_input}
-use Rattle.op_connections.proofs.Sizing.{size_left, size_settle}
+use Rattle.op_connections.proofs.Queueing.{queues_after_all}
+use Rattle.op_connections.proofs.Sizing.{size_left, size_settle, size_taking, size_queues}
 use Rattle.op_connections.proofs.Walking.{shed_each_holds, shed_holds}
 use Rattle.op_connections.proofs.Fading.{Stays, stays_left, stays_calm}
 
@@ -181,17 +183,21 @@ calm_twice l s = ap (λ t. record s { loop = t }) (settle_twice l.marks (drop (l
 size_shed : (s : Loop) → size (shed s) ≤ size s
 size_shed s = shed_holds (λ t. size t ≤ size s) (λ t h. h) (λ c t h. let k = size_left c t in omega (arith, k, h)) s (omega arith)
 
+size_handing : (l : Luck) (ts : List Taken) (s : State) → size (handing l ts s).loop ≤ size s.loop
+size_handing l ts s =
+    let t : Loop = loop_after_all ts s.loop in
+    let lost = size_settle (drop (length t.lost) l.marks) t in
+    let same = size_queues 0 s.loop (frames_after_all ts s.loop) t (queues_after_all 0 ts s.loop) in
+    omega (arith, lost, same)
+
 size_enter : (l : Luck) (who : List ℕ) (i : Input) (s : State) → size (enter l who i s).loop ≤ size s.loop
 size_enter l who i s = by_marks (nat_lt (length s.loop.lost) most_marks)
   where
-    t : Loop
-    t = loop_after (asked_by who i) i (next_fate l i s) s.node s.loop
+    f : Fate
+    f = next_fate l [] i s
 
-    after : After 0 s.loop (frames_after (asked_by who i) i (next_fate l i s) s.node s.loop) t
-    after = after_input 0 (asked_by who i) i (next_fate l i s) s.node s.loop
-
-    by_marks : (b : Bool) → size (if b then entered_with l who i (next_fate l i s) s else s).loop ≤ size s.loop
-    by_marks true = let k = size_settle (drop (length t.lost) l.marks) t in let j = after.ends in omega (arith, k, j)
+    by_marks : (b : Bool) → size (if b then entered_with l who i f s else s).loop ≤ size s.loop
+    by_marks true = let taken = size_taking f s.loop in let given = size_handing l (taken_as who i f s ∷ []) (takes_in who i f s) in omega (arith, taken, given)
     by_marks false = omega arith
 
 -- the next Down is given, where what comes behind it comes to rest
@@ -230,12 +236,12 @@ give_fits l who i s = drained_fits l (enter l who i s)
 pub over_fits : (l : Luck) (c : ℕ) (s : State) → AllFit (over l c s).loop
 over_fits l c s = let u : State = flushed l s in drained_fits l (record u { loop = left_by c u.loop })
 
+given_fits : (l : Luck) (bs : List Brought) (s : State) → AllFit s.loop → AllFit (given_together l bs s).loop
+given_fits l [] s h = h
+given_fits l (b ∷ bs) s h = drained_fits l (together l [] (b ∷ bs) s)
+
 pub flushed_fits : (l : Luck) (s : State) → AllFit s.loop → AllFit (flushed l s).loop
-flushed_fits l s h = by_gathered s.loop.gathered
-  where
-    by_gathered : (ps : List (ℕ × Command)) → AllFit (given_together l ps s).loop
-    by_gathered [] = h
-    by_gathered (p ∷ ps) = give_fits l (map (λ (e : ℕ × Command). e.0) (p ∷ ps)) (input.Commands (map (λ (e : ℕ × Command). e.1) (p ∷ ps))) (released s)
+flushed_fits l s h = given_fits l (all_gathered s.loop) (released s) h
 
 -- ---- a read
 
@@ -271,6 +277,16 @@ module _ (l : Luck) (line : Standing → List ℕ) (c : ℕ) where
       by_length true = inl h
       by_length false = inl (flushed_fits l t h)
 
+  message_fits : (m : ℕ × Msg) (s : State) → AllFit s.loop → FitsOrOpen (delivers l c m s)
+  message_fits m s h = by_length (nat_lt (length t.loop.brought) most_brought)
+    where
+      t : State
+      t = bringing c m s
+
+      by_length : (b : Bool) → FitsOrOpen (if b then t else flushed l t)
+      by_length true = inl h
+      by_length false = inl (flushed_fits l t h)
+
   asked_fits : (r : Request) (s : State) → AllFit s.loop → FitsOrOpen (on_heard l line c (Asks r) s)
   asked_fits (request.Command x) s h = command_fits x s h
   asked_fits (request.Stop members) s h = behind_fits (give l (c ∷ []) (input.Stop members)) s h (λ u k e. inl (give_fits l (c ∷ []) (input.Stop members) u))
@@ -280,7 +296,7 @@ module _ (l : Luck) (line : Standing → List ℕ) (c : ℕ) where
   asked_fits request.End s h = behind_fits (λ u. ending (tells c said.Ended u)) s h (λ u k e. inr (told_open said.Ended u e))
 
   heard_fits : (w : Heard) (s : State) → AllFit s.loop → FitsOrOpen (on_heard l line c w s)
-  heard_fits (Message q m) s h = behind_fits (give l (c ∷ []) (input.Deliver q m)) s h (λ u k e. inl (give_fits l (c ∷ []) (input.Deliver q m) u))
+  heard_fits (Message q m) s h = message_fits (q, m) s h
   heard_fits Foreign s h = inl h
   heard_fits Noise s h = behind_fits (over l c) s h (λ u k e. inl (over_fits l c u))
   heard_fits (Asks r) s h = asked_fits r s h

@@ -11,8 +11,11 @@ use Rattle.op_serving.specs.declared.mark.Mark.{Mark}
 use Rattle.op_serving.specs.declared.session.Session.{Session}
 use Rattle.op_serving.specs.State.{Table, Loop, find, without, down_of, left_at, left_by}
 use Rattle.op_serving.specs.Losses.{most_marks, mark_at, noted, stopped_if, marked, lost_one, is_due, settle, size}
+use Rattle.op_serving.specs.Fates.{Fate}
+use Rattle.op_serving.specs.Inputs.{loop_taking}
 use Rattle.op_serving.specs.Room.{Frame}
 use Rattle.op_connections.proofs.Queueing.{Queues}
+use Rattle.op_connections.proofs.Walking.{taking_holds}
 
 -- ---- a session ends
 
@@ -53,7 +56,7 @@ size_stopped : (b : Bool) (s : Loop) → size (stopped_if b s) ≤ size s
 size_stopped true s = omega arith
 size_stopped false s = omega arith
 
-pub size_marked : (conn : Option ℕ) (s : Loop) → size (marked conn s) ≤ size s
+size_marked : (conn : Option ℕ) (s : Loop) → size (marked conn s) ≤ size s
 size_marked conn s = size_stopped (nat_lt (length s.lost + 1) most_marks) (noted (mark_at s.place conn) s)
 
 size_one : (o : Option ℕ) (s : Loop) → size (lost_one o s) ≤ size s
@@ -66,6 +69,10 @@ size_settle (m ∷ ms) s = elim (cases_Bool (is_due m s)) [
   | inl h ↦ rw h (let a = size_settle ms (lost_one m.conn s) in let b = size_one m.conn s in omega (arith, a, b))
   | inr h ↦ rw h (omega arith)
 ]
+
+-- an input is taken
+pub size_taking : (f : Fate) (s : Loop) → size (loop_taking f s) ≤ size s
+size_taking f s = taking_holds (λ t. size t ≤ size s) f s (omega arith) (size_marked None s)
 
 -- ---- what is queued ends none
 

@@ -2,8 +2,8 @@
 use Rattle.std.proofs.Common.{◌≡◌, ◌≤◌, ◌<◌, ◌++◌, ◌∷◌, [], ℕ, zero, suc, Bool, true, false, List, length, take, drop, Option, Some, None, is_some, option_map, ◌==◌, if◌then◌else◌, refl, sym, ◌∙◌, ap, subst, inl, inr, arith, append_assoc}
 use Rattle.std.proofs.lemmas.Bool.{cases_eq, eq-eqb, ne_eqb}
 use Rattle.std.proofs.lemmas.List.{append-nil, take-append-drop, take-take, length-take}
+use Rattle.op_types.specs.declared.events.Input.{Input}
 use Rattle.op_types.specs.declared.events.Input.TheVariants as input
-use Rattle.op_types.specs.declared.log.Command.{Command}
 use Rattle.op_fields.specs.Reads.{IsBytes}
 use Rattle.op_frame.specs.Framing.{Stream, fed}
 use Rattle.op_serving.specs.declared.kind.Kind.{Kind}
@@ -15,11 +15,11 @@ use Rattle.op_serving.specs.Losses.{most_marks}
 use Rattle.op_serving.specs.Inputs.{begins, hears, takes, State, Luck, noting, give, rest}
 use Rattle.op_serving.specs.Reading.{hello_len, held_in, feeding, feeds, dealt, read}
 use Rattle.op_serving.specs.Turns.{stream_for, first_bytes, made_session, joining, joined, accepted, dialled, ticked, queue_in, waiting, hello_less, without_bytes, up_peer, up_at, taken_by, wrote}
-use Rattle.op_serving.specs.Promise.{Life, and_then, life, newborn, at_conn, Hears, CommandFrames, KeepsClosed}
+use Rattle.op_serving.specs.Promise.{Life, and_then, life, newborn, pending_at, Hears, Gathers}
 use Rattle.op_connections.proofs.Tables.{find_insert, find_insert_apart, found_own, found_other}
 use Rattle.op_connections.proofs.Queueing.{Spent}
-use Rattle.op_connections.proofs.Keeping.{formed, Open, OpenAt, Kept, Keeping}
-use Rattle.op_connections.proofs.Hearing.{none_gathered, heard_nothing}
+use Rattle.op_connections.proofs.Keeping.{formed, Open, OpenAt, ShutBefore, Kept, Keeping}
+use Rattle.op_connections.proofs.Hearing.{no_more, heard_nothing}
 use Rattle.op_connections.proofs.Coming.{life_more, kept_same, keeping_calm}
 use Rattle.op_connections.proofs.Giving.{keeping_rest, keeping_give}
 use Rattle.op_connections.proofs.Dealing.{AllKept, held_all, all_held, held_dealt}
@@ -31,34 +31,35 @@ bytes_both [] b f g i = g i
 bytes_both (x ∷ a) b f g zero = f 0
 bytes_both (x ∷ a) b f g (suc i) = bytes_both a b (λ k. f (suc k)) g i
 
-formed_fed : (kind : Kind) (x : Stream) (bytes : List ℕ) (cs : List Command) → formed kind x cs → formed kind (fed x bytes) cs
-formed_fed Unknown x bytes cs f = f
-formed_fed (Peer q n) x bytes cs f = record { head_is = f.head_is; limit_is = f.limit_is }
-formed_fed Client x bytes cs f = record { head_is = f.head_is; limit_is = f.limit_is }
+formed_fed : (kind : Kind) (x : Stream) (bytes : List ℕ) (ws : List Input) → formed kind x ws → formed kind (fed x bytes) ws
+formed_fed Unknown x bytes ws f = f
+formed_fed (Peer q n) x bytes ws f = record { head_is = f.head_is; limit_is = f.limit_is }
+formed_fed Client x bytes ws f = record { head_is = f.head_is; limit_is = f.limit_is }
 
 abbrev with_heard : List ℕ → Life → Life
 with_heard bytes x = record x { heard = x.heard ++ bytes }
 
 module _ (me : ℕ) (bytes : List ℕ) (each : IsBytes bytes) where
-  fed_at : (x : Life) (cs : List Command) (o : Option Session) → OpenAt me formed [] x cs o → OpenAt me formed [] (with_heard bytes x) cs (option_map (feeding bytes) o)
-  fed_at x cs None k = record {
+  fed_at : (x : Life) (ws : List Input) (o : Option Session) → OpenAt me formed [] x ws o → OpenAt me formed [] (with_heard bytes x) ws (option_map (feeding bytes) o)
+  fed_at x ws None k = record {
     kind = k.kind;
     dealt = k.dealt;
+    pending = k.pending;
     rest = k.rest ++ bytes;
-    split = ap (λ l. l ++ bytes) k.split ∙ append_assoc k.dealt k.rest bytes;
+    split = ap (λ l. l ++ bytes) k.split ∙ append_assoc k.dealt (k.pending ++ k.rest) bytes ∙ ap (λ l. k.dealt ++ l) (append_assoc k.pending k.rest bytes);
     hears = k.hears;
+    gathered = k.gathered;
     none = k.none;
     waits = k.waits;
     said = k.said;
   }
-  fed_at x cs (Some y) k = record {
+  fed_at x ws (Some y) k = record {
     dealt = k.dealt;
     pending = k.pending;
     split = ap (λ l. l ++ bytes) k.split ∙ append_assoc k.dealt (k.pending ++ y.frames.held) bytes ∙ ap (λ l. k.dealt ++ l) (append_assoc k.pending y.frames.held bytes);
     hears = k.hears;
     gathered = k.gathered;
-    only = k.only;
-    form = formed_fed y.kind y.frames bytes cs k.form;
+    form = formed_fed y.kind y.frames bytes ws k.form;
     bytes = bytes_both y.frames.held bytes k.bytes each;
     said = k.said;
   }
@@ -67,7 +68,7 @@ module _ (me : ℕ) (bytes : List ℕ) (each : IsBytes bytes) where
   pub kept_fed : (c : ℕ) (s : State) → AllKept me s → AllKept me (noting (hears c bytes) (record s { loop = feeds c bytes s.loop }))
   kept_fed c s k d = elim (cases_eq c d) [
     | inl same ↦ subst (λ (n : ℕ). Kept me formed [] n t) same own
-    | inr apart ↦ kept_same me formed [] d s t (life_more d s.deeds (hears c bytes ∷ []) ∙ other d apart) (found_other (feeding bytes) d c s.loop.sessions apart) refl spent refl (k d)
+    | inr apart ↦ kept_same [] me formed [] d s t (life_more d s.deeds (hears c bytes ∷ []) ∙ other d apart) (found_other (feeding bytes) d c s.loop.sessions apart) refl spent refl (k d)
   ]
     where
       t : State
@@ -84,13 +85,13 @@ module _ (me : ℕ) (bytes : List ℕ) (each : IsBytes bytes) where
 
       own : Kept me formed [] c t
       own = record {
-        at = rw (lives, found_own (feeding bytes) c s.loop.sessions) (fed_at (life c s.deeds) (at_conn c s.loop.gathered) (find c s.loop.sessions) (k c).at);
+        at = rw (lives, found_own (feeding bytes) c s.loop.sessions) (fed_at (life c s.deeds) (pending_at c s.loop) (find c s.loop.sessions) (k c).at);
         spent = spent (k c).spent;
         me_is = (k c).me_is;
       }
 
 pub keeping_all : (me : ℕ) (s t : State) → Keeping s t → AllKept me s → AllKept me t
-keeping_all me s t h k c = h me formed [] c (k c)
+keeping_all me s t h k c = h [] me formed [] c (k c)
 
 pub kept_read : (me : ℕ) (l : Luck) (line : Standing → List ℕ) (c : ℕ) (bytes : List ℕ) (s : State) → IsBytes bytes → AllKept me s → AllKept me (read l line c bytes s)
 kept_read me l line c bytes s each k =
@@ -103,11 +104,11 @@ module _ (me : ℕ) (l : Luck) (c : ℕ) (kind : Kind) (s : State) (k : AllKept 
   begun : State
   begun = noting (begins c (first_bytes kind s.loop.me)) (record s { loop = joining c kind s.loop })
 
-  kept_begun : Hears me kind [] [] → ((cs : List Command) → formed kind (stream_for kind) cs) → (stream_for kind).held ≡ [] → AllKept me begun
+  kept_begun : Hears me kind [] [] → ((ws : List Input) → formed kind (stream_for kind) ws) → (stream_for kind).held ≡ [] → AllKept me begun
   unfolding begun
   kept_begun heard form empty d = elim (cases_eq c d) [
     | inl same ↦ subst (λ (n : ℕ). Kept me formed [] n begun) same own
-    | inr apart ↦ kept_same me formed [] d s begun (life_more d s.deeds (begins c greeting ∷ []) ∙ other d apart) (find_insert_apart c d (made_session kind s.loop.me) s.loop.sessions apart) refl (λ h. spent) refl (k d)
+    | inr apart ↦ kept_same [] me formed [] d s begun (life_more d s.deeds (begins c greeting ∷ []) ∙ other d apart) (find_insert_apart c d (made_session kind s.loop.me) s.loop.sessions apart) refl (λ h. spent) refl (k d)
   ]
     where
       greeting : List ℕ
@@ -122,18 +123,17 @@ module _ (me : ℕ) (l : Luck) (c : ℕ) (kind : Kind) (s : State) (k : AllKept 
       lives : life c begun.deeds ≡ newborn greeting
       lives = life_more c s.deeds (begins c greeting ∷ []) ∙ ap (λ b. if b then newborn greeting else life c s.deeds) (eq-eqb c c refl)
 
-      closed : KeepsClosed me (life c s.deeds) (at_conn c s.loop.gathered)
-      closed = subst (λ (o : Option Session). OpenAt me formed [] (life c s.deeds) (at_conn c s.loop.gathered) o) shut (k c).at
+      closed : ShutBefore [] me (life c s.deeds) (pending_at c s.loop)
+      closed = subst (λ (o : Option Session). OpenAt me formed [] (life c s.deeds) (pending_at c s.loop) o) shut (k c).at
 
-      opens : Open me formed [] (newborn greeting) (at_conn c s.loop.gathered) (made_session kind s.loop.me)
+      opens : Open me formed [] (newborn greeting) (pending_at c s.loop) (made_session kind s.loop.me)
       opens = record {
         dealt = [];
         pending = [];
         split = sym empty;
         hears = heard;
-        gathered = subst (λ (cs : List Command). CommandFrames [] cs) (sym closed.none) none_gathered;
-        only = inr closed.none;
-        form = form (at_conn c s.loop.gathered);
+        gathered = subst (λ (ws : List Input). Gathers me kind [] ws) (sym closed.none) (no_more me kind);
+        form = form (pending_at c s.loop);
         bytes = λ i. rw empty (omega arith);
         said = refl;
       }
@@ -145,7 +145,7 @@ module _ (me : ℕ) (l : Luck) (c : ℕ) (kind : Kind) (s : State) (k : AllKept 
         me_is = (k c).me_is;
       }
 
-  kept_joined : Hears me kind [] [] → ((cs : List Command) → formed kind (stream_for kind) cs) → (stream_for kind).held ≡ [] → AllKept me (joined l c kind s)
+  kept_joined : Hears me kind [] [] → ((ws : List Input) → formed kind (stream_for kind) ws) → (stream_for kind).held ≡ [] → AllKept me (joined l c kind s)
   unfolding begun
   kept_joined heard form empty = keeping_all me begun (joined l c kind s) (keeping_calm l begun) (kept_begun heard form empty)
 
@@ -159,14 +159,14 @@ module _ (me : ℕ) (l : Luck) (c : ℕ) (s : State) (few : length s.loop.lost <
     where
       by_open : (b : Bool) → is_open c s.loop ≡ b → AllKept me (if b then s else joined l c Unknown s)
       by_open true e = k
-      by_open false e = kept_joined me l c Unknown s k (none_open (find c s.loop.sessions) e) few (refl, refl) (λ cs. tt) refl
+      by_open false e = kept_joined me l c Unknown s k (none_open (find c s.loop.sessions) e) few (refl, refl) (λ ws. tt) refl
 
   pub kept_dialled : (q : ℕ) → AllKept me (dialled l q c s)
   kept_dialled q = by_open (is_open c s.loop) refl
     where
       by_open : (b : Bool) → is_open c s.loop ≡ b → AllKept me (if b then s else joined l c (Peer q hello_len) s)
       by_open true e = k
-      by_open false e = kept_joined me l c (Peer q hello_len) s k (none_open (find c s.loop.sessions) e) few (heard_nothing me q hello_len) (λ cs. record { head_is = refl; limit_is = refl }) refl
+      by_open false e = kept_joined me l c (Peer q hello_len) s k (none_open (find c s.loop.sessions) e) few (heard_nothing me q hello_len) (λ ws. record { head_is = refl; limit_is = refl }) refl
 
 -- ---- bytes that are taken
 
@@ -178,10 +178,15 @@ hears_less me n Unknown dealt x h = h
 hears_less me n (Peer q m) dealt x h = h
 hears_less me n Client dealt x h = h
 
-form_less : (n : ℕ) (kind : Kind) (x : Stream) (cs : List Command) → formed kind x cs → formed (hello_less n kind) x cs
-form_less n Unknown x cs h = h
-form_less n (Peer q m) x cs h = h
-form_less n Client x cs h = h
+gathers_less : (me n : ℕ) (kind : Kind) (bytes : List ℕ) (ws : List Input) → Gathers me kind bytes ws → Gathers me (hello_less n kind) bytes ws
+gathers_less me n Unknown bytes ws h = h
+gathers_less me n (Peer q m) bytes ws h = h
+gathers_less me n Client bytes ws h = h
+
+form_less : (n : ℕ) (kind : Kind) (x : Stream) (ws : List Input) → formed kind x ws → formed (hello_less n kind) x ws
+form_less n Unknown x ws h = h
+form_less n (Peer q m) x ws h = h
+form_less n Client x ws h = h
 
 -- they are the first of the queue
 first_of_queue : (n : ℕ) (y : Session) → n ≤ length (queue_in (Some y)) → take n (queue_in (Some y)) ≡ take n y.queue
@@ -201,25 +206,26 @@ taken_none zero = refl
 taken_none (suc n) = refl
 
 module _ (me n : ℕ) where
-  less_at : (x : Life) (cs : List Command) (o : Option Session) → n ≤ length (queue_in o) → OpenAt me formed [] x cs o → OpenAt me formed [] (with_taken (take n (queue_in o)) x) cs (option_map (without_bytes n) o)
-  less_at x cs None le k = record {
+  less_at : (x : Life) (ws : List Input) (o : Option Session) → n ≤ length (queue_in o) → OpenAt me formed [] x ws o → OpenAt me formed [] (with_taken (take n (queue_in o)) x) ws (option_map (without_bytes n) o)
+  less_at x ws None le k = record {
     kind = k.kind;
     dealt = k.dealt;
+    pending = k.pending;
     rest = k.rest;
     split = k.split;
     hears = k.hears;
+    gathered = k.gathered;
     none = k.none;
     waits = k.waits;
     said = k.said ∙ ap (λ l. l ++ k.waits) (sym (append-nil x.taken) ∙ ap (λ l. x.taken ++ l) (sym (taken_none n)));
   }
-  less_at x cs (Some y) le k = record {
+  less_at x ws (Some y) le k = record {
     dealt = k.dealt;
     pending = k.pending;
     split = k.split;
     hears = hears_less me n y.kind k.dealt x k.hears;
-    gathered = k.gathered;
-    only = elim k.only [ inl client ↦ inl (ap (hello_less n) client) | inr none ↦ inr none ];
-    form = form_less n y.kind y.frames cs k.form;
+    gathered = gathers_less me n y.kind k.pending ws k.gathered;
+    form = form_less n y.kind y.frames ws k.form;
     bytes = k.bytes;
     said = k.said ∙ ap (λ l. x.taken ++ l) (sym (take-append-drop n y.queue)) ∙ sym (append_assoc x.taken (take n y.queue) (drop n y.queue)) ∙ ap (λ l. (x.taken ++ l) ++ drop n y.queue) (sym (first_of_queue n y le));
   }
@@ -227,7 +233,7 @@ module _ (me n : ℕ) where
   kept_taken : (c : ℕ) (s : State) → n ≤ length (waiting c s) → AllKept me s → AllKept me (taken_by c n s)
   kept_taken c s le k d = elim (cases_eq c d) [
     | inl same ↦ subst (λ (m : ℕ). Kept me formed [] m t) same own
-    | inr apart ↦ kept_same me formed [] d s t (life_more d s.deeds (takes c piece ∷ []) ∙ other d apart) (found_other (without_bytes n) d c s.loop.sessions apart) refl spent refl (k d)
+    | inr apart ↦ kept_same [] me formed [] d s t (life_more d s.deeds (takes c piece ∷ []) ∙ other d apart) (found_other (without_bytes n) d c s.loop.sessions apart) refl spent refl (k d)
   ]
     where
       t : State
@@ -247,7 +253,7 @@ module _ (me n : ℕ) where
 
       own : Kept me formed [] c t
       own = record {
-        at = rw (lives, found_own (without_bytes n) c s.loop.sessions) (less_at (life c s.deeds) (at_conn c s.loop.gathered) (find c s.loop.sessions) le (k c).at);
+        at = rw (lives, found_own (without_bytes n) c s.loop.sessions) (less_at (life c s.deeds) (pending_at c s.loop) (find c s.loop.sessions) le (k c).at);
         spent = spent (k c).spent;
         me_is = (k c).me_is;
       }

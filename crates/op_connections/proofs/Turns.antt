@@ -3,7 +3,9 @@ use Rattle.std.proofs.Common.{◌≡◌, ◌≤◌, ◌<◌, ◌+◌, ◌++◌, 
 use Rattle.std.specs.Prelude.{fold}
 use Rattle.std.proofs.lemmas.Bool.{eq-eqb, ne_eqb, ltb-false}
 use Rattle.std.proofs.lemmas.List.Sums.{fold-append}
+use Rattle.op_types.specs.declared.events.Input.TheVariants as input
 use Rattle.op_types.specs.declared.log.Command.{Command}
+use Rattle.op_types.specs.declared.messages.Msg.{Msg}
 use Rattle.op_outside.specs.Nets.{Call, Wrote, Closed, SawBytes, SawNotYet, SawEnd, SawFault}
 use Rattle.op_outside.specs.declared.net.Addr.{Addr}
 use Rattle.op_outside.specs.declared.net.Happening.TheVariants.{Accepted, Readable, Writable, Ended}
@@ -19,13 +21,14 @@ use Rattle.op_serving.specs.declared.serve_end.ServeEnd.{ServeEnd}
 use Rattle.op_serving.specs.declared.serve_end.ServeEnd.TheVariants as ends
 use Rattle.op_serving.specs.Pump.{writes_place, Settings, Stage, turn, time, dials, asks, reads, writes, stop, Pump, wait, nothing, next_due, to, Answer, was_waited, was_told, was_dialled, was_readied, was_seen, was_written, no_answer, write_next, ask, call_of, writes_at, answered, shut, after, calls}
 use Rattle.op_serving.specs.Answers.{IsAnswer, Answers}
-use Rattle.op_serving.specs.Promise.{life, at_conn, KeepsClosed}
+use Rattle.op_serving.specs.Promise.{alone, life, at_conn, pending_at}
 use Rattle.op_connections.specs.Taking.{is_full_after, IsBetween}
-use Rattle.op_connections.proofs.Keeping.{formed, OpenAt}
+use Rattle.op_connections.proofs.Keeping.{formed, OpenAt, ShutBefore}
 use Rattle.op_connections.proofs.Dealing.{AllKept}
 use Rattle.std.proofs.Math.Path.{fun_ext}
 use Rattle.op_connections.proofs.Pumping as pumping
 use Rattle.op_connections.proofs.Pumping.{Goes, closed_both, stage_kept, answer_kept}
+use Rattle.op_connections.proofs.Walking.{AllGiven}
 use Rattle.op_connections.proofs.Registering.{Registered, registered_closed}
 use Rattle.op_connections.proofs.Readers.{ReadsAreDone, done_closed}
 use Rattle.op_connections.proofs.Promises.{promises_closed}
@@ -33,13 +36,13 @@ use Rattle.op_connections.proofs.Writing.{Written, AllTaken, all_written, writte
 
 -- what is known at a stage, where these connections' last writes took nothing
 abbrev pub Known : (ℕ → Bool) → Stage → Loop → Type 0
-Known full (writes low) s = (s.gathered ≡ []) × Written full low s
-Known full turn s = (s.gathered ≡ []) × AllTaken full s
+Known full (writes low) s = AllGiven s × Written full low s
+Known full turn s = AllGiven s × AllTaken full s
 Known full (stop ends.NetFault) s = Unit {0}
-Known full (stop e) s = (s.gathered ≡ []) × AllTaken full s
+Known full (stop e) s = AllGiven s × AllTaken full s
 Known full _ s = Unit {0}
 
-pub between : (full : ℕ → Bool) (st : Stage) (s : Loop) → IsBetween st → Known full st s → (s.gathered ≡ []) × AllTaken full s
+pub between : (full : ℕ → Bool) (st : Stage) (s : Loop) → IsBetween st → Known full st s → AllGiven s × AllTaken full s
 between full turn s is k = k
 between full (time n) s is k = absurd is
 between full (dials ps n) s is k = absurd is
@@ -65,7 +68,7 @@ module _ (o : Settings) (l : Luck) (line : Standing → List ℕ) where
   abbrev full_then : (ℕ → Bool) → Pump → Answer → ℕ → Bool
   full_then full p a c = fold (is_full_after c) (full c) (call_of (ask o l line p) a)
 
-  module _ (full : ℕ → Bool) (p : Pump) (r : Seated p.driver) (none : p.driver.loop.gathered ≡ []) where
+  module _ (full : ℕ → Bool) (p : Pump) (r : Seated p.driver) (none : AllGiven p.driver.loop) where
     -- of those below the connection that was written nothing else is known
     apart_below : (c : ℕ) (b : Bool) (d : ℕ) → d < c → (if c == d then b else full d) ≡ full d
     apart_below c b d lt = ap (λ (k : Bool). if k then b else full d) (ne_eqb c d (λ e. omega (arith, e, lt)))
@@ -80,11 +83,11 @@ module _ (o : Settings) (l : Luck) (line : Standing → List ℕ) where
   -- ---- one answer
 
   module _ (full : ℕ → Bool) where
-    stopped_known : (b : Bool) (s : Loop) → (s.gathered ≡ []) × AllTaken full s → Known full (stop (if b then ends.Ended else ends.TurnsOver)) s
+    stopped_known : (b : Bool) (s : Loop) → AllGiven s × AllTaken full s → Known full (stop (if b then ends.Ended else ends.TurnsOver)) s
     stopped_known true s k = k
     stopped_known false s k = k
 
-    turn_known : (p : Pump) (a : Answer) → IsAnswer (ask o l line (record p { at = turn })) a → (p.driver.loop.gathered ≡ []) × AllTaken full p.driver.loop
+    turn_known : (p : Pump) (a : Answer) → IsAnswer (ask o l line (record p { at = turn })) a → AllGiven p.driver.loop × AllTaken full p.driver.loop
         → Known (full_then full (record p { at = turn }) a) (answered o l line a (record p { at = turn })).at (answered o l line a (record p { at = turn })).driver.loop
     turn_known p (was_waited None) is k = tt
     turn_known p (was_waited (Some n)) is k = tt
@@ -179,7 +182,7 @@ module _ (o : Settings) (l : Luck) (line : Standing → List ℕ) where
     reads_known p c i n (was_written x) new = tt
     reads_known p c i n no_answer new = tt
 
-    writes_known : (p : Pump) (low : ℕ) (c : Option ℕ) (a : Answer) → waiting_from low p.driver.loop.sessions ≡ c → Seated p.driver → (p.driver.loop.gathered ≡ []) × Written full low p.driver.loop → IsAnswer (write_next o l line c p.driver) a
+    writes_known : (p : Pump) (low : ℕ) (c : Option ℕ) (a : Answer) → waiting_from low p.driver.loop.sessions ≡ c → Seated p.driver → AllGiven p.driver.loop × Written full low p.driver.loop → IsAnswer (write_next o l line c p.driver) a
         → Known (λ d. fold (is_full_after d) (full d) (call_of (write_next o l line c p.driver) a)) (writes_at o l line c a p).at (writes_at o l line c a p).driver.loop
     writes_known p low None no_answer e r k is = (k.0, all_written full low p.driver.loop e k.1)
     writes_known p low None (was_waited x) e r k is = absurd is
@@ -217,34 +220,40 @@ module _ (o : Settings) (l : Luck) (line : Standing → List ℕ) where
 
 -- ---- behind an answer the closes, and with the last mark the end
 
-known_same : (full : ℕ → Bool) (st : Stage) (s t : Loop) → t.gathered ≡ s.gathered → t.sessions ≡ s.sessions → Known full st s → Known full st t
-known_same full turn s t gathered sessions k = (gathered ∙ k.0, λ d y there. k.1 d y (sym (ap (find d) sessions) ∙ there))
-known_same full (time n) s t gathered sessions k = k
-known_same full (dials ps n) s t gathered sessions k = k
-known_same full (asks i n) s t gathered sessions k = k
-known_same full (reads c i n) s t gathered sessions k = k
-known_same full (writes low) s t gathered sessions k = (gathered ∙ k.0, λ d y lt there. k.1 d y lt (sym (ap (find d) sessions) ∙ there))
-known_same full (stop ends.Ended) s t gathered sessions k = (gathered ∙ k.0, λ d y there. k.1 d y (sym (ap (find d) sessions) ∙ there))
-known_same full (stop ends.TurnsOver) s t gathered sessions k = (gathered ∙ k.0, λ d y there. k.1 d y (sym (ap (find d) sessions) ∙ there))
-known_same full (stop ends.NetFault) s t gathered sessions k = k
-known_same full (stop ends.Starved) s t gathered sessions k = (gathered ∙ k.0, λ d y there. k.1 d y (sym (ap (find d) sessions) ∙ there))
+known_same : (full : ℕ → Bool) (st : Stage) (s t : Loop) → (AllGiven s → AllGiven t) → t.sessions ≡ s.sessions → Known full st s → Known full st t
+known_same full turn s t given sessions k = (given k.0, λ d y there. k.1 d y (sym (ap (find d) sessions) ∙ there))
+known_same full (time n) s t given sessions k = k
+known_same full (dials ps n) s t given sessions k = k
+known_same full (asks i n) s t given sessions k = k
+known_same full (reads c i n) s t given sessions k = k
+known_same full (writes low) s t given sessions k = (given k.0, λ d y lt there. k.1 d y lt (sym (ap (find d) sessions) ∙ there))
+known_same full (stop ends.Ended) s t given sessions k = (given k.0, λ d y there. k.1 d y (sym (ap (find d) sessions) ∙ there))
+known_same full (stop ends.TurnsOver) s t given sessions k = (given k.0, λ d y there. k.1 d y (sym (ap (find d) sessions) ∙ there))
+known_same full (stop ends.NetFault) s t given sessions k = k
+known_same full (stop ends.Starved) s t given sessions k = (given k.0, λ d y there. k.1 d y (sym (ap (find d) sessions) ∙ there))
 
--- where no command of any connection is gathered, none is
-none_of_any : (t : Table Command) → ((c : ℕ) → at_conn c t ≡ []) → t ≡ []
+-- where nothing of any connection stands in a table, nothing does
+none_of_any : {X : Type 0} (t : Table X) → ((c : ℕ) → at_conn c t ≡ []) → t ≡ []
 none_of_any [] h = refl
 none_of_any (e ∷ t) h = absurd (let own : e.1 ∷ at_conn e.0 t ≡ [] = ap (λ (b : Bool). (if b then e.1 ∷ [] else []) ++ at_conn e.0 t) (sym (eq-eqb e.0 e.0 refl)) ∙ h e.0 in cc)
 
+-- no input waits where no message and no command does
+none_waits : (ms : List (ℕ × Msg)) (xs : List Command) → map (λ (m : ℕ × Msg). input.Deliver m.0 m.1) ms ++ map alone xs ≡ [] → (ms ≡ []) × (xs ≡ [])
+none_waits [] [] e = (refl, refl)
+none_waits [] (x ∷ xs) e = absurd cc
+none_waits (m ∷ ms) xs e = absurd cc
+
 -- with the last mark no session is left
-known_spent : (me : ℕ) (full : ℕ → Bool) (s : State) → AllKept me s → most_marks ≤ length s.loop.lost → (s.loop.gathered ≡ []) × AllTaken full s.loop
+known_spent : (me : ℕ) (full : ℕ → Bool) (s : State) → AllKept me s → most_marks ≤ length s.loop.lost → AllGiven s.loop × AllTaken full s.loop
 known_spent me full s k many = (
-  none_of_any s.loop.gathered (λ c. none c),
+  (none_of_any s.loop.brought (λ c. (none c).0), none_of_any s.loop.gathered (λ c. (none c).1)),
   λ d y there. absurd (let bad : Some y ≡ None = sym there ∙ ap (find d) ((k d).spent many) in cc),
 )
   where
-    none : (c : ℕ) → at_conn c s.loop.gathered ≡ []
+    none : (c : ℕ) → (at_conn c s.loop.brought ≡ []) × (at_conn c s.loop.gathered ≡ [])
     none c =
-        let shut : KeepsClosed me (life c s.deeds) (at_conn c s.loop.gathered) = subst (λ (o : Option Session). OpenAt me formed [] (life c s.deeds) (at_conn c s.loop.gathered) o) (ap (find c) ((k c).spent many)) (k c).at in
-        shut.none
+        let shut : ShutBefore [] me (life c s.deeds) (pending_at c s.loop) = subst (λ (o : Option Session). OpenAt me formed [] (life c s.deeds) (pending_at c s.loop) o) (ap (find c) ((k c).spent many)) (k c).at in
+        none_waits (at_conn c s.loop.brought) (at_conn c s.loop.gathered) shut.none
 
 -- a close is no write
 fold_closed : (c : ℕ) (full : Bool) (cs : List ℕ) → fold (is_full_after c) full (map Closed cs) ≡ full
@@ -256,7 +265,7 @@ module _ (o : Settings) (l : Luck) (line : Standing → List ℕ) (me : ℕ) whe
   known_shut full p k known = by_marks (nat_lt (length p.driver.loop.lost) most_marks) refl
     where
       by_marks : (b : Bool) → nat_lt (length p.driver.loop.lost) most_marks ≡ b → Known full (if b then p.at else stop ends.Starved) (shut o l line p).driver.loop
-      by_marks true e = known_same full p.at p.driver.loop (shut o l line p).driver.loop refl refl known
+      by_marks true e = known_same full p.at p.driver.loop (shut o l line p).driver.loop (λ g. g) refl known
       by_marks false e = known_spent me full p.driver k (ltb-false (length p.driver.loop.lost) most_marks e)
 
   -- the loop keeps these

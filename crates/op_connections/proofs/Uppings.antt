@@ -1,6 +1,5 @@
 -- What an Up and a Down give out: an Up at most messages to its peer, a Down nothing.
-use Rattle.std.proofs.Common.{nat_eq, ◌≡◌, ◌-◌, ◌++◌, ◌∷◌, ◌⊎◌, inl, inr, [], ℕ, Bool, true, false, List, take, Option, Some, None, refl, sym, ap, ◌∙◌, arith, if◌then◌else◌}
-use Rattle.std.proofs.lemmas.List.{length-take, drop_all}
+use Rattle.std.proofs.Common.{nat_eq, ◌≡◌, ◌∷◌, ◌⊎◌, inl, inr, [], ℕ, Bool, true, false, List, Option, Some, None, refl, sym, ap, ◌∙◌, if◌then◌else◌}
 use Rattle.op_types.specs.declared.durable.Part.{Part}
 use Rattle.op_types.specs.declared.durable.Joining.{Joining}
 use Rattle.op_types.specs.declared.events.Input.{Input}
@@ -9,62 +8,33 @@ use Rattle.op_types.specs.declared.messages.Msg.{Msg}
 use Rattle.op_types.specs.Roles.{Role, Idle, Preparing, Leading}
 use Rattle.op_types.specs.RoleStates.{without_synced}
 use Rattle.std.specs.Set.{is_member}
-use Rattle.op_types.specs.declared.log.Entry.{Entry}
 use Rattle.op_types.specs.declared.messages.Body.TheVariants as body
-use Rattle.op_protocol.specs.State.{State, Volatile, PartStep, Planned, with_effects}
-use Rattle.op_protocol.specs.Parts.{decided_since, others, message, nothing, saying}
+use Rattle.op_protocol.specs.State.{State, Volatile, with_effects}
+use Rattle.op_protocol.specs.Parts.{others, message, nothing, saying}
 use Rattle.op_protocol.specs.Leader.{session_down}
-use Rattle.op_protocol.specs.Serving.{Served, serving}
-use Rattle.op_protocol.specs.Configurations.{closing}
 use Rattle.op_protocol.specs.Reading.{adopted_of, asking_by, leads_on, reading}
-use Rattle.op_protocol.specs.Rows.{based_batch, newly_decided, plan_of, step_plan, up_at}
+use Rattle.op_protocol.specs.Rows.{plan_of, step_plan, up_at}
+use Rattle.op_serving.proofs.Sessions.{nothing_decided, quietly, plan_with, stored_with}
 use Rattle.op_serving.specs.declared.node.Given.{Given}
-use Rattle.op_serving.specs.Cores.{Standing, gives, given_of, refused_with}
+use Rattle.op_serving.specs.Cores.{Failure, Standing, gives, given_of, refused_with}
 use Rattle.op_connections.proofs.Settled.{ReadsAreSettled, answers_none}
 
 -- ---- a plan that changes nothing that is stored, and answers nobody
 
-nothing_decided : (p : Part) → decided_since p p ≡ []
-nothing_decided p = drop_all (p.decided - p.trimmed) (take (p.decided - p.trimmed) p.tail.items) (omega (arith, length-take (p.decided - p.trimmed) p.tail.items))
-
 module _ (me : ℕ) (s : State) (v : Volatile) (sends : List (ℕ × Msg)) where
-  abbrev quietly : PartStep
-  quietly = record { batch = []; volatile = v; sends = sends; replies = []; outcome = None }
-
-  abbrev served : List Entry → Served
-  served entries = serving s.service s.waiting entries
-
-  -- with this part
-  abbrev plan_with : Option Part → Planned
-  plan_with o = closing me o (record {
-    batch = based_batch o [];
-    volatile = v;
-    service = (served (newly_decided o [])).service;
-    waiting = (served (newly_decided o [])).waiting;
-    reads = None;
-    sends = sends;
-    replies = (served (newly_decided o [])).replies ++ [];
-    read_replies = [];
-    outcome = None;
-  })
-
-  quiet_with : (o : Option Part) → ((plan_with o).sends ≡ sends) × ((plan_with o).replies ≡ [])
+  quiet_with : (o : Option Part) → ((plan_with me s v sends o).sends ≡ sends) × ((plan_with me s v sends o).replies ≡ [])
   quiet_with None = (refl, refl)
   quiet_with (Some p) = rw (nothing_decided p) (refl, refl)
 
-  quiet_plan : ((plan_of me s s.waiting quietly).sends ≡ sends) × ((plan_of me s s.waiting quietly).replies ≡ [])
+  quiet_plan : ((plan_of me s s.waiting (quietly me s v sends)).sends ≡ sends) × ((plan_of me s s.waiting (quietly me s v sends)).replies ≡ [])
   quiet_plan = quiet_with s.durable.part
-
-  stored_with : (o : Option Part) → ((plan_with o).batch ≡ []) × ((plan_with o).volatile ≡ v)
-  stored_with None = (refl, refl)
-  stored_with (Some p) = rw (nothing_decided p) (refl, refl)
 
   -- and where the node leads on as it did, no read is answered
   quiet_reads : (x : Input) → (asking_by me s x).reads ≡ s.reads → leads_on s.volatile.role v.role ≡ leads_on s.volatile.role s.volatile.role → adopted_of v.role ≡ adopted_of s.volatile.role → ReadsAreSettled s
-      → (reading me s x (plan_of me s s.waiting quietly)).read_replies ≡ []
+      → (reading me s x (plan_of me s s.waiting (quietly me s v sends))).read_replies ≡ []
   quiet_reads x asks leads adopted settled =
-      let stored = stored_with s.durable.part in
-      answers_none me s x (plan_of me s s.waiting quietly) asks stored.0 (ap (λ (w : Volatile). leads_on s.volatile.role w.role) stored.1 ∙ leads) (ap (λ (w : Volatile). adopted_of w.role) stored.1 ∙ adopted) settled
+      let stored = stored_with me s v sends s.durable.part in
+      answers_none me s x (plan_of me s s.waiting (quietly me s v sends)) asks stored.0 (ap (λ (w : Volatile). leads_on s.volatile.role w.role) stored.1 ∙ leads) (ap (λ (w : Volatile). adopted_of w.role) stored.1 ∙ adopted) settled
 
 -- ---- Ups and Downs
 
@@ -147,31 +117,31 @@ pub ups : (n : Standing) (q : ℕ) → Upping q (gives n (input.Up q))
 unfolding gives
 ups n q = by_failed n.failed
   where
-    by_failed : (f : Option ℕ) → Upping q (elim f [ None ↦ given_of (step_plan n.me n.state (input.Up q)) | Some count ↦ refused_with count (input.Up q) ])
+    by_failed : (f : Option Failure) → Upping q (elim f [ None ↦ given_of (step_plan n.me n.state (input.Up q)) | Some x ↦ refused_with x.count (input.Up q) ])
     by_failed None = up_plan n.me q n.state
-    by_failed (Some count) = record { sends = inl refl; replies = refl }
+    by_failed (Some x) = record { sends = inl refl; replies = refl }
 
 pub downs : (n : Standing) (q : ℕ) → Silent (gives n (input.Down q))
 unfolding gives
 downs n q = by_failed n.failed
   where
-    by_failed : (f : Option ℕ) → Silent (elim f [ None ↦ given_of (step_plan n.me n.state (input.Down q)) | Some count ↦ refused_with count (input.Down q) ])
+    by_failed : (f : Option Failure) → Silent (elim f [ None ↦ given_of (step_plan n.me n.state (input.Down q)) | Some x ↦ refused_with x.count (input.Down q) ])
     by_failed None = down_plan n.me q n.state
-    by_failed (Some count) = record { sends = refl; replies = refl }
+    by_failed (Some x) = record { sends = refl; replies = refl }
 
 -- where reads are settled, none is answered by either
 pub ups_read : (n : Standing) (q : ℕ) → ReadsAreSettled n.state → (gives n (input.Up q)).read_replies ≡ []
 unfolding gives
 ups_read n q settled = by_failed n.failed
   where
-    by_failed : (f : Option ℕ) → let g : Given = elim f [ None ↦ given_of (step_plan n.me n.state (input.Up q)) | Some count ↦ refused_with count (input.Up q) ] in g.read_replies ≡ []
+    by_failed : (f : Option Failure) → let g : Given = elim f [ None ↦ given_of (step_plan n.me n.state (input.Up q)) | Some x ↦ refused_with x.count (input.Up q) ] in g.read_replies ≡ []
     by_failed None = up_reads n.me q n.state settled
-    by_failed (Some count) = refl
+    by_failed (Some x) = refl
 
 pub downs_read : (n : Standing) (q : ℕ) → ReadsAreSettled n.state → (gives n (input.Down q)).read_replies ≡ []
 unfolding gives
 downs_read n q settled = by_failed n.failed
   where
-    by_failed : (f : Option ℕ) → let g : Given = elim f [ None ↦ given_of (step_plan n.me n.state (input.Down q)) | Some count ↦ refused_with count (input.Down q) ] in g.read_replies ≡ []
+    by_failed : (f : Option Failure) → let g : Given = elim f [ None ↦ given_of (step_plan n.me n.state (input.Down q)) | Some x ↦ refused_with x.count (input.Down q) ] in g.read_replies ≡ []
     by_failed None = down_reads n.me q n.state settled
-    by_failed (Some count) = refl
+    by_failed (Some x) = refl

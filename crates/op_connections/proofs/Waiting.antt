@@ -1,6 +1,6 @@
 -- The frames that were said for an open connection: those of which bytes were taken are short, and the others wait in its queue,
 -- which is short where the loop rests.
-use Rattle.std.proofs.Common.{◌≡◌, ◌≤◌, ◌++◌, ◌∷◌, ◌⊎◌, [], ℕ, Bool, true, false, List, length, take, drop, map, flat_map, Option, Some, None, is_some, option_map, ◌==◌, nat_lt, if◌then◌else◌, refl, sym, ◌∙◌, ap, subst, inl, inr, arith, append_assoc}
+use Rattle.std.proofs.Common.{◌≡◌, ◌≤◌, ◌++◌, ◌∷◌, ◌⊎◌, [], ℕ, Bool, true, false, List, length, take, drop, map, flat_map, Option, Some, None, is_some, option_map, ◌==◌, if◌then◌else◌, refl, sym, ◌∙◌, ap, subst, inl, inr, arith, append_assoc}
 use Rattle.std.specs.Prelude.{fold, All}
 use Rattle.std.proofs.lemmas.Bool.{cases_eq, eq-eqb, ne_eqb, le-ltb}
 use Rattle.std.proofs.lemmas.List.{append-nil, length-append, length-drop}
@@ -15,21 +15,19 @@ use Rattle.op_serving.specs.declared.kind.Kind.{Kind}
 use Rattle.op_serving.specs.declared.kind.Kind.TheVariants.{Unknown, Peer, Client}
 use Rattle.op_serving.specs.declared.session.Session.{Session}
 use Rattle.op_serving.specs.Cores.{Standing}
-use Rattle.op_serving.specs.Fates.{Fate, after_fate}
+use Rattle.op_serving.specs.Fates.{Fate}
 use Rattle.op_serving.specs.Wire.{client_frame}
 use Rattle.op_serving.specs.State.{find, changed, is_open, kind_at, left_by, most_waiting, is_overfull}
-use Rattle.op_serving.specs.Losses.{most_marks}
 use Rattle.op_serving.specs.Handing.{no_command}
 use Rattle.op_serving.specs.Room.{Frame}
-use Rattle.op_serving.specs.Inputs.{Deed, begins, hears, enters, says, takes, State, Luck, asked_by, loop_after, frames_after, next_fate, calm, entered_with, enter, noting, gathering}
+use Rattle.op_serving.specs.Inputs.{Deed, begins, hears, enters, says, takes, State, Luck, Taken, loop_after_all, frames_after_all, calm, takes_in, handing, noting, gathering, bringing}
 use Rattle.op_serving.specs.Reading.{hello_len, tells, feeding, feeds, of_kind, holding, linked}
 use Rattle.op_serving.specs.Turns.{hello, made_session, first_bytes, joining, joined, accepted, dialled, waiting, without_bytes, taken_by, up_peer, up_at}
 use Rattle.op_connections.specs.Waiting.{framed_then, frames_for, MayWait, FramesAreShort, QueuesAreShort}
 use Rattle.op_connections.proofs.Tables.{found_own, found_other, find_insert, find_insert_apart}
-use Rattle.op_connections.proofs.Queueing.{bytes_for, queued, queues_one}
-use Rattle.op_connections.proofs.Coming.{After, after_input}
-use Rattle.op_connections.proofs.Walking.{Steps, Hearing, give_holds, flushed_holds, over_holds, read_holds}
-use Rattle.op_connections.proofs.Fading.{Stays, stays_left, stays_calm, stays_settle, replaced_none}
+use Rattle.op_connections.proofs.Queueing.{bytes_for, queued, queues_one, queues_after_all}
+use Rattle.op_connections.proofs.Walking.{Hands, enter_holds, Steps, steps, Hearing, give_holds, flushed_holds, over_holds, read_holds}
+use Rattle.op_connections.proofs.Fading.{Stays, stays_left, stays_calm, stays_settle, stays_taking, replaced_none}
 use Rattle.op_connections.proofs.Pumping.{Closed}
 use Rattle.op_connections.proofs.Shedding.{AllFit, fit_short, fit_same, fit_calm, fit_changed, give_fits, over_fits, flushed_fits, read_fits}
 
@@ -149,29 +147,18 @@ await_said s t fs deeds queues h c z e = elim (queues c) [
         subst (λ q. Awaits (frames_for c s.deeds ++ only_for c fs) q) (ap (λ l. y.queue ++ l) (sym (bytes_are c fs)) ∙ own)
         (more_await (frames_for c s.deeds) (only_for c fs) y.queue (h c y there))
 
-await_enter : (l : Luck) (who : List ℕ) (i : Input) (s : State) → AllAwait s → AllAwait (enter l who i s)
-await_enter l who i s h = by_marks (nat_lt (length s.loop.lost) most_marks)
-  where
-    f : Fate
-    f = next_fate l i s
+await_taken : (who : List ℕ) (i : Input) (f : Fate) (s : State) → AllAwait s → AllAwait (takes_in who i f s)
+await_taken who i f s h = await_less s (takes_in who i f s) (λ c. frames_more c s.deeds (enters who i f ∷ [])) (λ c. stays_taking c f s.loop) h
 
-    fs : List Frame
-    fs = frames_after (asked_by who i) i f s.node s.loop
+await_handed : (l : Luck) (ts : List Taken) (s : State) → AllAwait s → AllAwait (handing l ts s)
+await_handed l ts s h =
+    let fs : List Frame = frames_after_all ts s.loop in
+    let t : State = record s { loop = loop_after_all ts s.loop; deeds = s.deeds ++ map says fs } in
+    let said : AllAwait t = await_said s t fs (λ c. frames_more c s.deeds (map says fs) ∙ said_more c fs (frames_for c s.deeds)) (λ c. inr (queues_after_all c ts s.loop).found) h in
+    await_less t (handing l ts s) (λ c. refl) (λ c. stays_settle c (drop (length t.loop.lost) l.marks) t.loop) said
 
-    t : State
-    t = record { loop = loop_after (asked_by who i) i f s.node s.loop; node = after_fate s.node i f; deeds = s.deeds ++ enters who i f ∷ map says fs }
-
-    queues : (c : ℕ) → Queued c (find c s.loop.sessions) fs (find c t.loop.sessions)
-    queues c =
-        let a : After c s.loop fs t.loop = after_input c (asked_by who i) i f s.node s.loop in
-        elim a.left [ inl gone ↦ inl gone.0 | inr is ↦ inr is.0 ]
-
-    entered : AllAwait t
-    entered = await_said s t fs (λ c. frames_more c s.deeds (enters who i f ∷ map says fs) ∙ said_more c fs (frames_for c s.deeds)) queues h
-
-    by_marks : (b : Bool) → AllAwait (if b then entered_with l who i f s else s)
-    by_marks true = await_less t (entered_with l who i f s) (λ c. refl) (λ c. stays_settle c (drop (length t.loop.lost) l.marks) t.loop) entered
-    by_marks false = h
+await_hands : (l : Luck) → Hands l AllAwait (λ ts s. AllAwait s)
+await_hands l = record { begins = λ s h. h; takes_one = λ ts who i f s h. await_taken who i f s h; hands = await_handed l }
 
 await_tells : (c : ℕ) (what : Said) (s : State) → AllAwait s → AllAwait (tells c what s)
 await_tells c what s h =
@@ -183,21 +170,19 @@ await_tells c what s h =
 -- ---- what inputs, ends and a read keep
 
 awaiting : (l : Luck) → Steps l AllAwait
-awaiting l = record {
-  falls = record {
-    moves = λ s t u h. await_same s (record s { loop = t }) refl u.sessions h;
-    calms = λ s h. await_less s (calm l s) (λ c. refl) (λ c. stays_calm c l s) h;
-    downs = λ q s h. await_enter l [] (input.Down q) s h;
-    leaves_one = λ d s h. await_less s (record s { loop = left_by d s.loop }) (λ c. refl) (λ c. stays_left c d s.loop) h;
-  };
-  enters_one = λ who i s h. await_enter l who i s h;
-}
+awaiting l = steps l AllAwait (λ ts s. AllAwait s) (await_hands l) (record {
+  moves = λ s t u h. await_same s (record s { loop = t }) refl u.sessions h;
+  calms = λ s h. await_less s (calm l s) (λ c. refl) (λ c. stays_calm c l s) h;
+  downs = λ q s h. enter_holds l AllAwait (λ ts s. AllAwait s) (await_hands l) [] (input.Down q) s h;
+  leaves_one = λ d s h. await_less s (record s { loop = left_by d s.loop }) (λ c. refl) (λ c. stays_left c d s.loop) h;
+})
 
 await_hearing : (l : Luck) (c : ℕ) → Hearing l c AllAwait
 await_hearing l c = record {
   led = record {
     steps = awaiting l;
     gathers_one = λ x s h. await_same s (gathering c x s) refl refl h;
+    brings_one = λ m s h. await_same s (bringing c m s) refl refl h;
     says_one = λ what s h. await_tells c what s h;
   };
   feeds_one = λ bytes s h. await_changed (feeding bytes) c s (noting (hears c bytes) (record s { loop = feeds c bytes s.loop })) (λ d. frames_more d s.deeds (hears c bytes ∷ [])) (λ y. refl) refl h;

@@ -1,11 +1,12 @@
 -- What every input, every end of a session and every read keeps, by what each of their parts keeps.
-use Rattle.std.proofs.Common.{◌≡◌, ◌⊎◌, inl, inr, subst, drop, ◌+◌, ◌++◌, ◌∷◌, [], ℕ, zero, suc, Bool, true, false, List, length, take, map, flat_map, nat_lt, Option, Some, None, if◌then◌else◌, refl, sym}
+use Rattle.std.proofs.Common.{◌≡◌, ◌⊎◌, inl, inr, subst, drop, ◌+◌, ◌++◌, ◌∷◌, [], ℕ, zero, suc, Bool, true, false, List, length, take, flat_map, nat_lt, Option, Some, None, if◌then◌else◌, refl, sym}
 use Rattle.std.specs.Map.{keys_of}
 use Rattle.op_types.specs.declared.events.Input.{Input}
 use Rattle.op_types.specs.declared.events.Input.TheVariants as input
 use Rattle.op_types.specs.declared.events.Request.{Request}
 use Rattle.op_types.specs.declared.events.Request.TheVariants as request
 use Rattle.op_types.specs.declared.log.Command.{Command}
+use Rattle.op_types.specs.declared.messages.Msg.{Msg}
 use Rattle.op_types.specs.Limits.{most_commands}
 use Rattle.op_command.specs.declared.said.Said.{Said}
 use Rattle.op_frame.specs.Framing.{Stream, left, width_of}
@@ -19,10 +20,16 @@ use Rattle.op_serving.specs.declared.kind.Kind.TheVariants.{Unknown, Peer, Clien
 use Rattle.op_serving.specs.declared.session.Session.{Session}
 use Rattle.op_serving.specs.Cores.{Standing}
 use Rattle.op_serving.specs.State.{Loop, find, is_open, left_by, session_of, counted, is_overfull, shed_at, shed_each, conn_of, shed}
-use Rattle.op_serving.specs.Losses.{size}
-use Rattle.op_serving.specs.Inputs.{hears, State, Luck, calm, enter, shedding, first_down, drained_in, drained, rest, give, noting, gathering, released, given_together, flushed, proposes, behind, leaves, over}
+use Rattle.op_serving.specs.Fates.{Fate, lost, is_lost}
+use Rattle.op_serving.specs.Losses.{most_marks, marked, size}
+use Rattle.op_serving.specs.Inputs.{hears, State, Luck, Taken, Brought, loop_taking, next_fate, calm, takes_in, taken_as, handing, entered_with, enter, shedding, first_down, drained_in, drained, rest, give, noting, together, given_together, most_brought, gathering, bringing, released, all_gathered, flushed, proposes, delivers, behind, leaves, over}
 use Rattle.op_command.specs.declared.said.Said.TheVariants as said
 use Rattle.op_serving.specs.Reading.{Front, partial, refused, hello, frame, framed, first_frame, greeted, greeting, client_stream, front_of, heard_in, tells, ending, on_heard, holding, linked, replaced, is_peer, at_frame, counted_if, up_if_open, met, dealt_front, dealt_at, dealt, feeds, held_in, read}
+
+-- an input that was taken is counted, and a lost one is marked before
+pub taking_holds : (Holds : Loop → Type 0) (f : Fate) (s : Loop) → Holds (counted s) → Holds (counted (marked None s)) → Holds (loop_taking f s)
+taking_holds Holds lost s taken marks = marks
+taking_holds Holds f s taken marks = taken
 
 -- what each end of a session keeps is kept where those end for which too many bytes wait
 module _ (Holds : Loop → Type 0) (counts : (s : Loop) → Holds s → Holds (counted s)) (leaves : (c : ℕ) (s : Loop) → Holds s → Holds (left_by c s)) where
@@ -41,6 +48,10 @@ module _ (Holds : Loop → Type 0) (counts : (s : Loop) → Holds s → Holds (c
   unfolding shed
   shed_holds s h = shed_each_holds (flat_map conn_of s.peers ++ keys_of s.sessions) s h
 
+-- all that was gathered is given
+abbrev pub AllGiven : Loop → Type 0
+AllGiven s = (s.brought ≡ []) × (s.gathered ≡ [])
+
 -- nothing happened, and of the sessions and whose they are nothing changed
 pub record Unseen (s t : Loop) : Type 0 where
   pub me : t.me ≡ s.me
@@ -48,10 +59,10 @@ pub record Unseen (s t : Loop) : Type 0 where
   pub sessions : t.sessions ≡ s.sessions
   pub lost : t.lost ≡ s.lost
   pub askers : t.askers ≡ s.askers
-  pub gathered : s.gathered ≡ [] → t.gathered ≡ []
+  pub given : AllGiven s → AllGiven t
 
-unseen : (s t : Loop) → t.me ≡ s.me → t.peers ≡ s.peers → t.sessions ≡ s.sessions → t.lost ≡ s.lost → t.askers ≡ s.askers → (s.gathered ≡ [] → t.gathered ≡ []) → Unseen s t
-unseen s t me peers sessions marks askers gathered = record { me = me; peers = peers; sessions = sessions; lost = marks; askers = askers; gathered = gathered }
+unseen : (s t : Loop) → t.me ≡ s.me → t.peers ≡ s.peers → t.sessions ≡ s.sessions → t.lost ≡ s.lost → t.askers ≡ s.askers → (AllGiven s → AllGiven t) → Unseen s t
+unseen s t me peers sessions marks askers given = record { me = me; peers = peers; sessions = sessions; lost = marks; askers = askers; given = given }
 
 -- what losses and Downs keep
 pub record Falls (l : Luck) (Holds : State → Type 0) : Type 0 where
@@ -85,23 +96,80 @@ module _ (l : Luck) (Holds : State → Type 0) (k : Falls l Holds) where
   unfolding rest
   rest_holds s h = drained_holds (calm l s) (k.calms s h)
 
--- and what inputs and ends keep
+-- ---- inputs that are stored together
+
+-- what is kept while inputs are taken, and where they are handed out
+pub record Hands (l : Luck) (Holds : State → Type 0) (Taking : List Taken → State → Type 0) : Type 0 where
+  pub begins : (s : State) → Holds s → Taking [] s
+  pub takes_one : (ts : List Taken) (who : List ℕ) (i : Input) (f : Fate) (s : State) → Taking ts s →
+      Taking (ts ++ taken_as who i f s ∷ []) (takes_in who i f s)
+  pub hands : (ts : List Taken) (s : State) → Taking ts s → Holds (handing l ts s)
+
+module _ (l : Luck) (Holds : State → Type 0) (Taking : List Taken → State → Type 0) (k : Hands l Holds Taking) where
+  -- an input alone
+  pub enter_holds : (who : List ℕ) (i : Input) (s : State) → Holds s → Holds (enter l who i s)
+  enter_holds who i s h = by_marks (nat_lt (length s.loop.lost) most_marks)
+    where
+      f : Fate
+      f = next_fate l [] i s
+
+      by_marks : (b : Bool) → Holds (if b then entered_with l who i f s else s)
+      by_marks true = k.hands (taken_as who i f s ∷ []) (takes_in who i f s) (k.takes_one [] who i f s (k.begins s h))
+      by_marks false = h
+
+  -- several
+  pub together_holds : Falls l Holds → (bs : List Brought) (ts : List Taken) (s : State) → Taking ts s → Holds (together l ts bs s)
+  together_holds falls [] ts s h = k.hands ts s h
+  together_holds falls (b ∷ bs) ts s h =
+      by_marks (nat_lt (length s.loop.lost) most_marks) (is_lost f) (together_holds falls bs [] v begun) (together_holds falls bs us t taken)
+    where
+      f : Fate
+      f = next_fate l ts b.1 s
+
+      us : List Taken
+      us = ts ++ taken_as b.0 b.1 f s ∷ []
+
+      t : State
+      t = takes_in b.0 b.1 f s
+
+      v : State
+      v = drained l (handing l us t)
+
+      taken : Taking us t
+      taken = k.takes_one ts b.0 b.1 f s h
+
+      begun : Taking [] v
+      begun = k.begins v (drained_holds l Holds falls (handing l us t) (k.hands us t taken))
+
+      by_marks : (some gone : Bool) → Holds (together l [] bs v) → Holds (together l us bs t) → Holds (if some then (if gone then together l [] bs v else together l us bs t) else handing l ts s)
+      by_marks true true behind with = behind
+      by_marks true false behind with = with
+      by_marks false gone behind with = k.hands ts s h
+
+-- what inputs and ends keep
 pub record Steps (l : Luck) (Holds : State → Type 0) : Type 0 where
   pub falls : Falls l Holds
   pub enters_one : (who : List ℕ) (i : Input) (s : State) → Holds s → Holds (enter l who i s)
+  pub enters_all : (bs : List Brought) (s : State) → Holds s → Holds (together l [] bs s)
+
+pub steps : (l : Luck) (Holds : State → Type 0) (Taking : List Taken → State → Type 0) → Hands l Holds Taking → Falls l Holds → Steps l Holds
+steps l Holds Taking k falls = record {
+  falls = falls;
+  enters_one = λ who i s h. enter_holds l Holds Taking k who i s h;
+  enters_all = λ bs s h. together_holds l Holds Taking k falls bs [] s (k.begins s h);
+}
 
 module _ (l : Luck) (Holds : State → Type 0) (k : Steps l Holds) where
   pub give_holds : (who : List ℕ) (i : Input) (s : State) → Holds s → Holds (give l who i s)
   give_holds who i s h = drained_holds l Holds k.falls (enter l who i s) (k.enters_one who i s h)
 
-  together_holds : (ps : List (ℕ × Command)) (s : State) → Holds s → Holds (given_together l ps s)
-  together_holds [] s h = h
-  together_holds (p ∷ ps) s h =
-      give_holds (map (λ (e : ℕ × Command). e.0) (p ∷ ps)) (input.Commands (map (λ (e : ℕ × Command). e.1) (p ∷ ps))) (released s)
-      (k.falls.moves s (released s).loop (unseen s.loop (released s).loop refl refl refl refl refl (λ e. refl)) h)
+  pub given_holds : (bs : List Brought) (s : State) → Holds s → Holds (given_together l bs s)
+  given_holds [] s h = h
+  given_holds (b ∷ bs) s h = drained_holds l Holds k.falls (together l [] (b ∷ bs) s) (k.enters_all (b ∷ bs) s h)
 
   pub flushed_holds : (s : State) → Holds s → Holds (flushed l s)
-  flushed_holds s h = together_holds s.loop.gathered s h
+  flushed_holds s h = given_holds (all_gathered s.loop) (released s)
+      (k.falls.moves s (released s).loop (unseen s.loop (released s).loop refl refl refl refl refl (λ e. (refl, refl))) h)
 
   pub leaves_holds : (c : ℕ) (s : State) → Holds s → Holds (leaves l c s)
   leaves_holds c s h = drained_holds l Holds k.falls (record s { loop = left_by c s.loop }) (k.falls.leaves_one c s h)
@@ -175,6 +243,7 @@ kind_after Client x = kind_first Client x
 pub record Led (l : Luck) (c : ℕ) (Holds : State → Type 0) : Type 0 where
   pub steps : Steps l Holds
   pub gathers_one : (x : Command) (s : State) → Holds s → Holds (gathering c x s)
+  pub brings_one : (m : ℕ × Msg) (s : State) → Holds s → Holds (bringing c m s)
   pub says_one : (what : Said) (s : State) → Holds s → Holds (tells c what s)
 
 -- and what a read keeps
@@ -202,6 +271,19 @@ module _ (l : Luck) (line : Standing → List ℕ) (c : ℕ) (Holds : State → 
       by_length true = joined
       by_length false = flushed_holds l Holds k.steps t joined
 
+  message_holds : (m : ℕ × Msg) (s : State) → Holds s → Holds (delivers l c m s)
+  message_holds m s h = by_length (nat_lt (length t.loop.brought) most_brought)
+    where
+      t : State
+      t = bringing c m s
+
+      joined : Holds t
+      joined = k.brings_one m s h
+
+      by_length : (b : Bool) → Holds (if b then t else flushed l t)
+      by_length true = joined
+      by_length false = flushed_holds l Holds k.steps t joined
+
   ended_holds : (s : State) → Holds s → Holds (ending (tells c said.Ended s))
   ended_holds s h =
       let t : State = tells c said.Ended s in
@@ -216,7 +298,7 @@ module _ (l : Luck) (line : Standing → List ℕ) (c : ℕ) (Holds : State → 
   asked_holds request.End s h = behind_holds l Holds k.steps c (λ u. ending (tells c said.Ended u)) s h (λ u m. ended_holds u m)
 
   pub heard_holds : (w : Heard) (s : State) → Holds s → Holds (on_heard l line c w s)
-  heard_holds (Message q m) s h = behind_holds l Holds k.steps c (give l (c ∷ []) (input.Deliver q m)) s h (λ u n. give_holds l Holds k.steps (c ∷ []) (input.Deliver q m) u n)
+  heard_holds (Message q m) s h = message_holds (q, m) s h
   heard_holds Foreign s h = h
   heard_holds Noise s h = behind_holds l Holds k.steps c (over l c) s h (λ u n. over_holds l Holds k.steps c u n)
   heard_holds (Asks r) s h = asked_holds r s h

@@ -1,17 +1,16 @@
 -- The writes of a turn leave a queue only where its last write took nothing.
-use Rattle.std.proofs.Common.{◌≡◌, ◌≤◌, ◌<◌, ◌+◌, ◌-◌, ◌∷◌, ◌⊎◌, [], ℕ, zero, suc, Bool, true, false, List, length, take, map, nat_le, nat_lt, ◌&&◌, ◌==◌, if◌then◌else◌, Option, Some, None, option_map, refl, sym, ◌∙◌, ap, inl, inr, arith}
+use Rattle.std.proofs.Common.{◌≡◌, ◌≤◌, ◌<◌, ◌+◌, ◌-◌, ◌∷◌, ◌⊎◌, [], ℕ, zero, suc, Bool, true, false, List, length, take, nat_le, nat_lt, ◌&&◌, ◌==◌, if◌then◌else◌, Option, Some, None, option_map, refl, sym, ◌∙◌, ap, inl, inr, arith}
 use Rattle.std.proofs.lemmas.Bool.{cases_eq, cases_lt, ltb-false, le-leb, eqb-false}
 use Rattle.std.specs.Map.{keys_of}
 use Rattle.op_types.specs.declared.events.Input.TheVariants as input
-use Rattle.op_types.specs.declared.log.Command.{Command}
 use Rattle.op_serving.specs.declared.kind.Kind.{Kind}
 use Rattle.op_serving.specs.declared.kind.Kind.TheVariants.{Unknown, Peer, Client}
 use Rattle.op_serving.specs.declared.session.Session.{Session}
 use Rattle.op_serving.specs.State.{Table, Loop, find, kind_at, session_of}
-use Rattle.op_serving.specs.Inputs.{State, Luck, flushed, given_together, released, over}
+use Rattle.op_serving.specs.Inputs.{State, Luck, all_gathered, released, flushed, over}
 use Rattle.op_serving.specs.Turns.{queue_in, waiting_from, hello_less, without_bytes, taken_by, up_peer, up_at, wrote}
 use Rattle.op_connections.proofs.Tables.{found_own, found_other, Rising, first_below, first_none}
-use Rattle.op_connections.proofs.Walking.{give_holds, over_holds}
+use Rattle.op_connections.proofs.Walking.{AllGiven, give_holds, given_holds, over_holds}
 use Rattle.op_connections.proofs.Fading.{Fades, fades_same, fading, Stays, stays_then, session_found, none_of, over_none}
 use Rattle.op_connections.proofs.Registering.{Registered, registered_taken}
 use Rattle.op_connections.proofs.Quieting.{stays_up, stays_gone}
@@ -97,7 +96,7 @@ written_full full new c s same is w d y lt there = elim (cases_eq c d) [
     below c d apart lt = omega arith
 
 -- or it has ended
-pub written_gone : (full new : ℕ → Bool) (c : ℕ) (l : Luck) (s : State) → ReadsAreDone s → s.loop.gathered ≡ [] → ((d : ℕ) → d < c → new d ≡ full d) → Written full c s.loop → Written new (c + 1) (over l c s).loop
+pub written_gone : (full new : ℕ → Bool) (c : ℕ) (l : Luck) (s : State) → ReadsAreDone s → AllGiven s.loop → ((d : ℕ) → d < c → new d ≡ full d) → Written full c s.loop → Written new (c + 1) (over l c s).loop
 written_gone full new c l s reads none same w d y lt there = elim (cases_eq c d) [
   | inl own ↦ absurd (let bad : Some y ≡ None = sym there ∙ ap (λ n. find n (over l c s).loop.sessions) (sym own) ∙ none_of (find c (over l c s).loop.sessions) (over_none c l s) in cc)
   | inr apart ↦ written_stays full new c s.loop (over l c s).loop (λ e less. stays_gone e c l s reads none) same w d y (below c d apart lt) there
@@ -153,21 +152,17 @@ written_some full new c n l s r reads same w = written_stays full new c s.loop (
 
 -- ---- what is gathered
 
-pub none_over : (c : ℕ) (l : Luck) (s : State) → s.loop.gathered ≡ [] → (over l c s).loop.gathered ≡ []
-none_over c l s none = (over_holds l (λ v. Fades 0 s.loop v.loop) (fading 0 l s.loop) c s (fades_same 0 s.loop s.loop refl refl (λ h. h))).gathered none
+pub none_over : (c : ℕ) (l : Luck) (s : State) → AllGiven s.loop → AllGiven (over l c s).loop
+none_over c l s none = (over_holds l (λ v. Fades 0 s.loop v.loop) (fading 0 l s.loop) c s (fades_same 0 s.loop s.loop refl refl (λ h. h))).given none
 
-none_up : (l : Luck) (o : Option ℕ) (s : State) → s.loop.gathered ≡ [] → (up_at l o s).loop.gathered ≡ []
+none_up : (l : Luck) (o : Option ℕ) (s : State) → AllGiven s.loop → AllGiven (up_at l o s).loop
 none_up l None s none = none
-none_up l (Some q) s none = (give_holds l (λ v. Fades 0 s.loop v.loop) (fading 0 l s.loop) [] (input.Up q) s (fades_same 0 s.loop s.loop refl refl (λ h. h))).gathered none
+none_up l (Some q) s none = (give_holds l (λ v. Fades 0 s.loop v.loop) (fading 0 l s.loop) [] (input.Up q) s (fades_same 0 s.loop s.loop refl refl (λ h. h))).given none
 
-pub none_wrote : (c n : ℕ) (l : Luck) (s : State) → s.loop.gathered ≡ [] → (wrote l c n s).loop.gathered ≡ []
+pub none_wrote : (c n : ℕ) (l : Luck) (s : State) → AllGiven s.loop → AllGiven (wrote l c n s).loop
 none_wrote c n l s none = none_up l (up_peer (kind_at c s.loop) (kind_at c (taken_by c n s).loop)) (taken_by c n s) none
 
-none_together : (l : Luck) (ps : List (ℕ × Command)) (s : State) → s.loop.gathered ≡ ps → (given_together l ps s).loop.gathered ≡ []
-none_together l [] s e = e
-none_together l (p ∷ ps) s e =
+pub none_flushed : (l : Luck) (s : State) → AllGiven (flushed l s).loop
+none_flushed l s =
     let u : State = released s in
-    (give_holds l (λ v. Fades 0 u.loop v.loop) (fading 0 l u.loop) (map (λ (e : ℕ × Command). e.0) (p ∷ ps)) (input.Commands (map (λ (e : ℕ × Command). e.1) (p ∷ ps))) u (fades_same 0 u.loop u.loop refl refl (λ h. h))).gathered refl
-
-pub none_flushed : (l : Luck) (s : State) → (flushed l s).loop.gathered ≡ []
-none_flushed l s = none_together l s.loop.gathered s refl
+    (given_holds l (λ v. Fades 0 u.loop v.loop) (fading 0 l u.loop) (all_gathered s.loop) u (fades_same 0 u.loop u.loop refl refl (λ h. h))).given (refl, refl)

@@ -8,12 +8,13 @@ use Rattle.op_serving.specs.Fates.{Fate}
 use Rattle.op_serving.specs.Inputs.{State, Luck, Deed, enters, kept}
 use Rattle.op_serving.specs.Pump.{Settings, Pump, Answer, after, calls}
 
--- before the first turn no connection is open, nobody waits, no command is to be given, and nothing has
--- happened
+-- before the first turn no connection is open, nobody waits, no command and no message is to be given, and
+-- nothing has happened
 pub record Begins (s : State) : Type 0 where
   pub sessions : s.loop.sessions ≡ []
   pub askers : s.loop.askers ≡ map.empty
   pub gathered : s.loop.gathered ≡ []
+  pub brought : s.loop.brought ≡ []
   pub lost : s.loop.lost ≡ []
   pub deeds : s.deeds ≡ []
 

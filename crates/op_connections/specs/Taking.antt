@@ -31,9 +31,10 @@ IsBetween (stop ends.NetFault) = ⊥
 IsBetween (stop e) = Unit {0}
 IsBetween _ = ⊥
 
--- No command waits to be given, and each open connection took all that was said for it, unless its last write
--- took nothing.
+-- No command and no message waits to be given, and each open connection took all that was said for it, unless
+-- its last write took nothing.
 pub record IsDone (calls : List Call) (s : State) : Type 0 where
   pub given : s.loop.gathered ≡ []
+  pub brought : s.loop.brought ≡ []
   pub taken : (c : ℕ) → is_open c s.loop ≡ true →
       ((life c s.deeds).said ≡ (life c s.deeds).taken) ⊎ (is_full c calls ≡ true)

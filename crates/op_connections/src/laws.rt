@@ -27,8 +27,8 @@ pub fn connections_keep()
         → Begins p.driver → Answers o l line answers p → FramesAreShort (after o l line answers p).driver }
 {}
 
-/// Between two turns, and at each end for which no fault of the net is the cause, no command waits to be given, and what an open
-/// connection took is all that was said for it, unless its last write took nothing.
+/// Between two turns, and at each end for which no fault of the net is the cause, no command and no message waits to be given,
+/// and what an open connection took is all that was said for it, unless its last write took nothing.
 pub fn turns_take_all()
     ensures { (o : Settings) (l : Luck) (line : Standing → List ℕ) (answers : List Answer) (p : Pump)
         → Begins p.driver → Answers o l line answers p → IsBetween (after o l line answers p).at

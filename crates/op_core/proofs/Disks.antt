@@ -1,7 +1,7 @@
 -- What a step of a node, and an opening of one that failed, are to its disks.
 use Rattle.std.specs.Set.{is_member}
-use Rattle.std.proofs.Common.{◌≡◌, ◌≢◌, ◌⊎◌, ◌≤◌, ◌∷◌, [], ℕ, nat_eq, if◌then◌else◌, Bool, true, false, is_some, List, Option, Some, None, Result, Ok, Err, IfSome, IfOk, IfErr, refl, sym, ap, ap₂, subst, ◌∙◌, inl, inr, ⊎_elim}
-use Rattle.std.proofs.lemmas.Bool.{cond-true}
+use Rattle.std.proofs.Common.{◌≡◌, ◌≢◌, ◌⊎◌, ◌≤◌, ◌∷◌, [], ℕ, nat_eq, if◌then◌else◌, Bool, true, false, List, Option, Some, None, Result, Ok, Err, IfSome, IfOk, IfErr, refl, sym, ap, ap₂, subst, ◌∙◌, inl, inr, ⊎_elim}
+use Rattle.std.proofs.lemmas.Bool.{cases_Bool, cond-true}
 use Rattle.op_types.specs.Changes.{durable_after}
 use Rattle.op_types.specs.Ranges.{IsPid, IsMember}
 use Rattle.op_types.specs.declared.changes.Change.{Change}
@@ -14,6 +14,7 @@ use Rattle.op_types.specs.declared.messages.Msg.{Msg}
 use Rattle.op_outside.specs.Causes.{Rises, FaultsRose}
 use Rattle.op_outside.specs.Disks.{DiskState}
 use Rattle.op_protocol.specs.Rows.{step_plan}
+use Rattle.op_protocol.specs.Starting.{state_after_restart, sends_after_restart}
 use Rattle.op_protocol.specs.State.{State}
 use Rattle.op_store.specs.Failing.{faults, IsFaultOf}
 use Rattle.op_store.specs.Openings.{refused_by}
@@ -22,32 +23,33 @@ use Rattle.op_store.specs.Stores.{Represents, disks_of}
 use Rattle.op_store.specs.declared.fail.StoreFail.{StoreFail}
 use Rattle.op_store.specs.declared.fail.StoreFail.TheVariants as store_fails
 use Rattle.op_store.specs.declared.store.Store.{Store}
-use Rattle.op_store.proofs.KeptDisks.{keep_same, keep_both}
+use Rattle.op_store.proofs.KeptDisks.{keep_same}
 use Rattle.op_bounds.specs.States.{IsNamed, StateInRange}
 use Rattle.op_bounds.proofs.Known.{servers}
 use Rattle.op_bounds.proofs.Steps.{steps_name}
 use Rattle.op_server.specs.declared.given.Given.{Given as NodeGiven}
 use Rattle.op_node.specs.Nodes.{NodeState, node_of, stores, after_input, Stepped, IsRepresented}
 use Rattle.op_node.specs.Openings.{Opens, disks_with, durable_for, part_for, joining_for, opening_state}
-use Rattle.op_node.specs.Reopenings.{StoreOneOf, Reopens, RefusesAgain, count_kept}
+use Rattle.op_node.specs.Reopenings.{StoreOneOf, Restarts, RefusesAgain, count_kept}
 use Rattle.op_node.specs.Steps.{Steps as DiskSteps}
 use Rattle.op_node.specs.declared.node.Node.{Node}
 use Rattle.op_node.specs.declared.fail.StepFail.{StepFail as NodeFail}
 use Rattle.op_node.specs.declared.fail.StepFail.TheVariants as fails
 use Rattle.op_node.proofs.Refusals.{moved, refusal_tells}
-use Rattle.op_node.proofs.Represented.{stepped_represented, reopened_represented}
+use Rattle.op_node.proofs.Represented.{stepped_represented}
 use Rattle.op_node.proofs.Reopenings.{found_one, failed_step, refused_leaves, finds_none}
 use Rattle.op_serving.specs.Cores as cores
 use Rattle.op_serving.specs.Cores.{Standing, reopens}
 use Rattle.op_serving.specs.Fates as fates
-use Rattle.op_serving.specs.Fates.{Fate, Steps, after_fate}
-use Rattle.op_serving.specs.Faults.{Walks}
-use Rattle.op_serving.specs.Inputs.{Deed, begins, hears, enters, says, takes}
+use Rattle.op_serving.specs.Fates.{Came, Steps, MayCome, Tells, is_session, after_fate, after_all}
+use Rattle.op_serving.proofs.Sessions.{session_stores}
 use Rattle.op_serving.specs.Ranges.{InputInRange}
-use Rattle.op_serving.specs.Reopenings.{FindStored, unstored_after, unstored_behind}
-use Rattle.op_core.specs.Disks.{Stores, StepStores, CoreStores}
-use Rattle.op_core.specs.NodeCores.{IsServable, handed, handed_of, handed_again, standing_at, standing_of}
+use Rattle.op_serving.specs.Reopenings.{Unstored, all_stored, unstored_after}
+use Rattle.op_core.specs.Disks.{FindEach, unstored_after_all, Stores, StepStores}
+use Rattle.op_core.specs.Groups.{Told}
+use Rattle.op_core.specs.NodeCores.{IsServable, handed, handed_of, handed_again, place_at, standing_by, standing_at, standing_of}
 use Rattle.op_core.specs.declared.node_core.NodeCore.{NodeCore}
+use Rattle.op_core.specs.declared.place.Place.{Place}
 use Rattle.op_core.proofs.NodeCores.{input_of, gives_at, after_so, same_me, same_failed}
 
 -- ---- whom a durable state names
@@ -91,7 +93,7 @@ takes_one me d before after one first second =
     taken me d (⊎_elim (λ is. subst (λ (e : Durable). IsNamed me e) (sym is) first) (λ is. subst (λ (e : Durable). IsNamed me e) (sym is) second) one)
 
 -- what a step stores names its node still
-named_at : (me : ℕ) (s : State) (o : Option ℕ) (x : Input) → IsPid me → StateInRange IsPid s → InputInRange x → IsNamed me s.durable → IsNamed me (after_input (record { me = me; state = s; failed = o }) x).state.durable
+pub named_at : (me : ℕ) (s : State) (o : Option ℕ) (x : Input) → IsPid me → StateInRange IsPid s → InputInRange x → IsNamed me s.durable → IsNamed me (after_input (record { me = me; state = s; failed = o }) x).state.durable
 named_at me s None x one range r named = steps_name IsPid servers me one s range x (input_of x r) named
 named_at me s (Some count) x one range r named = named
 
@@ -103,231 +105,334 @@ stores_nothing n x count e = ap (λ (o : Option ℕ). stores (record n { failed 
 stays_itself : (n : NodeState) (x : Input) (count : ℕ) → n.failed ≡ Some count → after_input n x ≡ n
 stays_itself n x count e = ap (λ (o : Option ℕ). after_input (record n { failed = o }) x) e ∙ ap (λ (o : Option ℕ). let m : NodeState = record n { failed = o } in m) (sym e)
 
-pub not_none : (o : Option ℕ) → is_some o ≡ true → o ≢ None
-not_none None e = absurd cc
-not_none (Some count) e = λ is. absurd cc
+-- ---- what serving knows of it
+
+-- the count of faults
+faults_by : (o : Option ℕ) (me : ℕ) (s : State) (p : Place) (k : ℕ) → (standing_by o me s p k).faults ≡ k
+faults_by None me s p k = refl
+faults_by (Some c) me s p k = refl
+
+-- a disk failed: where it stood before it shows still
+fault_by : (o : Option ℕ) (me : ℕ) (s t : State) (p : Place) (k f : ℕ) → (o ≡ None → p ≡ place_at s) → standing_by (Some k) me t p k ≡ cores.faulted k (standing_by o me s p f)
+unfolding cores.faulted
+fault_by None me s t p k f stood = ap (λ (q : Place). standing_by (Some k) me t q k) (stood refl)
+fault_by (Some c) me s t p k f stood = refl
+
+-- it is opened again
+open_by : (o : Option ℕ) (me : ℕ) (s : State) (p : Place) (k : ℕ) (d : Durable) → standing_by None me (state_after_restart me d) p k ≡ cores.reopened d (standing_by o me s p k)
+unfolding cores.reopened
+open_by None me s p k d = refl
+open_by (Some c) me s p k d = refl
+
+given_by : (o : Option ℕ) (me : ℕ) (s : State) (p : Place) (k : ℕ) (d : Durable) (ss : List (ℕ × Msg)) → ss ≡ sends_after_restart me d → handed_of (record { sends = ss; replies = []; read_replies = []; outcome = None }) ≡ cores.given_again (standing_by o me s p k) d
+unfolding cores.given_again
+given_by None me s p k d ss is = ap (λ (zs : List (ℕ × Msg)). handed_of (record { sends = zs; replies = []; read_replies = []; outcome = None })) is
+given_by (Some c) me s p k d ss is = ap (λ (zs : List (ℕ × Msg)). handed_of (record { sends = zs; replies = []; read_replies = []; outcome = None })) is
 
 module _ {D : Type 0} (state : D → DiskState) where
-  -- ---- a step
+  -- ---- the same node
 
-  -- neither the node nor its store changed
-  stores_same : (u : Durable) (n m : Node D) → node_of m ≡ node_of n → m.store ≡ n.store → Stores state u n → Stores state u m
+  -- its disks store what they stored, if neither it nor its store changed
+  pub stores_same : (u : Unstored) (n m : NodeCore D) → node_of m.node ≡ node_of n.node → m.node.store ≡ n.node.store → Stores state u n → Stores state u m
   stores_same u n m same store s = record {
-    up = λ up. subst (λ (t : Store D). Represents state (node_of m).state.durable t) (sym store) (subst (λ (k : NodeState). Represents state k.state.durable n.store) (sym same) (s.up (sym (ap (λ (k : NodeState). k.failed) same) ∙ up)));
-    failed = λ down. subst (λ (t : Store D). StoreOneOf (node_of m).state.durable u (disks_of state t)) (sym store)
-        (subst (λ (k : NodeState). StoreOneOf k.state.durable u (disks_of state n.store)) (sym same) (s.failed (λ e. down (ap (λ (k : NodeState). k.failed) same ∙ e))));
-    named = subst (λ (k : NodeState). IsNamed k.me k.state.durable) (sym same) s.named;
-    unstored_named = subst (λ (k : NodeState). IsNamed k.me u) (sym same) s.unstored_named;
+    up = λ up. subst (λ (t : Store D). Represents state (node_of m.node).state.durable t) (sym store) (subst (λ (k : NodeState). Represents state k.state.durable n.node.store) (sym same) (s.up (sym (ap (λ (k : NodeState). k.failed) same) ∙ up)));
+    failed = λ down. subst (λ (t : Store D). StoreOneOf u.before.durable u.ahead.durable (disks_of state t)) (sym store) (s.failed (λ e. down (ap (λ (k : NodeState). k.failed) same ∙ e)));
+    named = λ up. subst (λ (k : NodeState). IsNamed k.me k.state.durable) (sym same) (s.named (sym (ap (λ (k : NodeState). k.failed) same) ∙ up));
+    before_named = subst (λ (k : NodeState). IsNamed k.me u.before.durable) (sym same) s.before_named;
+    ahead_named = subst (λ (k : NodeState). IsNamed k.me u.ahead.durable) (sym same) s.ahead_named;
   }
 
-  module _ (n m : Node D) (x : Input) (ready : IsServable n) (range : InputInRange x) where
+  -- what comes of a node for which only its place was noted comes of it
+  module _ (old n : NodeCore D) (same : n.node ≡ old.node) (is : standing_of state n ≡ standing_of state old) where
+    noted_over : (u : Unstored) → Stores state u old → Stores state u n
+    noted_over u s = stores_same u old n (ap (λ (k : Node D). node_of k) same) (ap (λ (k : Node D). k.store) same) s
+
+    pub noted_stores : (m : NodeCore D) (cs : List Came) → StepStores state n cs m → StepStores state old cs m
+    noted_stores m cs s = record {
+      kept = subst (λ (k : Node D). KeepBoth (disks_of state k.store) (disks_of state m.node.store)) same s.kept;
+      node = s.node ∙ ap (λ (k : Standing). after_all k cs) is;
+      found = λ u o. subst (λ (k : Standing). FindEach k u cs) is (s.found u (noted_over u o));
+      stored = λ u o. subst (λ (k : Standing). Stores state (unstored_after_all k u cs) m) is (s.stored u (noted_over u o));
+    }
+
+    pub noted_steps : (m : NodeCore D) (x : Input) (r : Told) → Steps (standing_of state) (StepStores state) n x r m → Steps (standing_of state) (StepStores state) old x r m
+    noted_steps m x r s = record {
+      fate = s.fate;
+      alone = s.alone;
+      fails = s.fails;
+      may = subst (λ (k : Standing). MayCome k x s.fate) is s.may;
+      tells = subst (λ (k : Standing). Tells r k x s.fate) is s.tells;
+      node = s.node ∙ ap (λ (k : Standing). after_fate k x s.fate) is;
+      stored = noted_stores m ((x, s.fate) ∷ []) s.stored;
+    }
+
+  -- ---- a step
+
+  module _ (n m : NodeCore D) (x : Input) (ready : IsServable n.node) (range : InputInRange x) (stood : n.node.failed ≡ None → n.stood ≡ place_at (node_of n.node).state) (kept_place : m.stood ≡ n.stood) where
     abbrev me : ℕ
-    me = (node_of n).me
+    me = (node_of n.node).me
 
     abbrev before : Durable
-    before = (node_of n).state.durable
+    before = (node_of n.node).state.durable
 
     abbrev batch : List Change
-    batch = stores (node_of n) x
+    batch = stores (node_of n.node) x
 
-    named_after : IsNamed me before → IsNamed (after_input (node_of n) x).me (after_input (node_of n) x).state.durable
-    named_after named = subst (λ (p : ℕ). IsNamed p (after_input (node_of n) x).state.durable) (sym (same_me (node_of n) x))
-        (named_at me (node_of n).state n.failed x ready.me ready.range range named)
+    abbrev count_now : ℕ
+    count_now = faults (disks_of state m.node.store)
+
+    named_after : IsNamed me before → IsNamed (after_input (node_of n.node) x).me (after_input (node_of n.node) x).state.durable
+    named_after named = subst (λ (p : ℕ). IsNamed p (after_input (node_of n.node) x).state.durable) (sym (same_me (node_of n.node) x))
+        (named_at me (node_of n.node).state n.node.failed x ready.me ready.range range named)
 
     -- it ends
-    done_stores : (given : NodeGiven) → Stepped (node_of n) x (Ok given) (node_of m) → DiskSteps state before batch n.store m.store (Ok given) → (u : Durable) → Stores state u n → Stores state u m
-    done_stores given d t u s = by_failed n.failed refl
+    done_stores : (given : NodeGiven) → Stepped (node_of n.node) x (Ok given) (node_of m.node) → DiskSteps state before batch n.node.store m.node.store (Ok given) → (u : Unstored) → Stores state u n → Stores state u m
+    done_stores given d t u s = by_failed n.node.failed refl
       where
-        by_failed : (o : Option ℕ) → n.failed ≡ o → Stores state u m
+        by_failed : (o : Option ℕ) → n.node.failed ≡ o → Stores state u m
         by_failed None e =
-            let up : (node_of m).failed ≡ None = ap (λ (k : NodeState). k.failed) d.1 ∙ same_failed (node_of n) x ∙ e in
+            let up : (node_of m.node).failed ≡ None = ap (λ (k : NodeState). k.failed) d.1 ∙ same_failed (node_of n.node) x ∙ e in
+            let mine : (node_of m.node).me ≡ me = ap (λ (k : NodeState). k.me) d.1 ∙ same_me (node_of n.node) x in
             record {
-              up = λ _. stepped_represented state n m x given d t (s.up e);
+              up = λ _. stepped_represented state n.node m.node x given d t (s.up e);
               failed = λ down. absurd (down up);
-              named = subst (λ (k : NodeState). IsNamed k.me k.state.durable) (sym d.1) (named_after s.named);
-              unstored_named = subst (λ (p : ℕ). IsNamed p u) (sym (ap (λ (k : NodeState). k.me) d.1 ∙ same_me (node_of n) x)) s.unstored_named;
+              named = λ _. subst (λ (k : NodeState). IsNamed k.me k.state.durable) (sym d.1) (named_after (s.named e));
+              before_named = subst (λ (p : ℕ). IsNamed p u.before.durable) (sym mine) s.before_named;
+              ahead_named = subst (λ (p : ℕ). IsNamed p u.ahead.durable) (sym mine) s.ahead_named;
             }
-        by_failed (Some count) e = stores_same u n m (d.1 ∙ stays_itself (node_of n) x count e) (t.idle (stores_nothing (node_of n) x count e)) s
+        by_failed (Some count) e = stores_same u n m (d.1 ∙ stays_itself (node_of n.node) x count e) (t.idle (stores_nothing (node_of n.node) x count e)) s
 
     -- a disk fails
-    fault_stores : (count : ℕ) → Stepped (node_of n) x (Err (fails.DiskFail count)) (node_of m) → DiskSteps {T = NodeGiven} state before batch n.store m.store (Err (fails.DiskFail count)) → (u : Durable) → Stores state u n
-        → (o : Option ℕ) → n.failed ≡ o → Stores state (elim o [ None ↦ durable_after before (step_plan me (node_of n).state x).batch | Some c ↦ u ]) m
-    fault_stores count d t u s (Some c) e = absurd (t.unfailing (stores_nothing (node_of n) x c e) count refl)
+    fault_stores : (count : ℕ) → Stepped (node_of n.node) x (Err (fails.DiskFail count)) (node_of m.node) → DiskSteps {T = NodeGiven} state before batch n.node.store m.node.store (Err (fails.DiskFail count)) → (u : Unstored) → Stores state u n
+        → (o : Option ℕ) → n.node.failed ≡ o → Stores state (unstored_after (standing_by o me (node_of n.node).state n.stood (faults (disks_of state n.node.store))) x (fates.faults count) u) m
+    fault_stores count d t u s (Some c) e = absurd (t.unfailing (stores_nothing (node_of n.node) x c e) count refl)
     fault_stores count d t u s None e =
-        let made : batch ≡ (step_plan me (node_of n).state x).batch = ap (λ (o : Option ℕ). stores (record (node_of n) { failed = o }) x) e in
-        let after : Durable = durable_after before (step_plan me (node_of n).state x).batch in
-        let one : StoreOneOf before after (disks_of state m.store) = subst (λ (b : List Change). StoreOneOf before (durable_after before b) (disks_of state m.store)) made (failed_step state before batch n.store m.store count t (s.up e)) in
-        let goes : IsNamed me after = steps_name IsPid servers me ready.me (node_of n).state ready.range x (input_of x range) s.named in
+        let made : batch ≡ (step_plan me (node_of n.node).state x).batch = ap (λ (o : Option ℕ). stores (record (node_of n.node) { failed = o }) x) e in
+        let after : Durable = durable_after before (step_plan me (node_of n.node).state x).batch in
+        let one : StoreOneOf before after (disks_of state m.node.store) = subst (λ (b : List Change). StoreOneOf before (durable_after before b) (disks_of state m.node.store)) made (failed_step state before batch n.node.store m.node.store count t (s.up e)) in
+        let goes : IsNamed me after = steps_name IsPid servers me ready.me (node_of n.node).state ready.range x (input_of x range) (s.named e) in
         record {
           up = λ up. let bad : Some count ≡ None = sym (ap (λ (k : NodeState). k.failed) d) ∙ up in absurd cc;
-          failed = λ _. subst (λ (k : NodeState). StoreOneOf k.state.durable after (disks_of state m.store)) (sym d) one;
-          named = subst (λ (k : NodeState). IsNamed k.me k.state.durable) (sym d) s.named;
-          unstored_named = subst (λ (k : NodeState). IsNamed k.me after) (sym d) goes;
+          failed = λ _. one;
+          named = λ up. let bad : Some count ≡ None = sym (ap (λ (k : NodeState). k.failed) d) ∙ up in absurd cc;
+          before_named = subst (λ (k : NodeState). IsNamed k.me before) (sym d) (s.named e);
+          ahead_named = subst (λ (k : NodeState). IsNamed k.me after) (sym d) goes;
         }
 
+    -- of an Up and of a Down nothing is stored, so no disk fails for one
+    no_session : (count : ℕ) → DiskSteps {T = NodeGiven} state before batch n.node.store m.node.store (Err (fails.DiskFail count)) → (is_session x ≡ true) ⊎ (is_session x ≡ false) → is_session x ≡ false
+    no_session count t (inl tells) = absurd (t.unfailing (stores_of n.node.failed refl) count refl)
+      where
+        stores_of : (o : Option ℕ) → n.node.failed ≡ o → batch ≡ []
+        stores_of None e = ap (λ (o : Option ℕ). stores (record (node_of n.node) { failed = o }) x) e ∙ session_stores me x (node_of n.node).state tells
+        stores_of (Some c) e = stores_nothing (node_of n.node) x c e
+    no_session count t (inr other) = other
+
     -- it is the step that serving knows
-    pub did : (result : Result NodeGiven NodeFail) → reopens (standing_of state n) x ≡ false → Stepped (node_of n) x result (node_of m) → DiskSteps state before batch n.store m.store result
+    pub did : (result : Result NodeGiven NodeFail) → reopens (standing_of state n) x ≡ false → Stepped (node_of n.node) x result (node_of m.node) → DiskSteps state before batch n.node.store m.node.store result
         → Steps (standing_of state) (StepStores state) n x (handed result) m
-    unfolding cores.faulted
     did (Ok given) shut d t =
-        let f : ℕ = faults (disks_of state n.store) in
-        let is : standing_of state m ≡ cores.after_input (standing_of state n) x = ap₂ standing_at d.1 t.cause.1 ∙ after_so me (node_of n).state n.failed f x in
+        let f : ℕ = faults (disks_of state n.node.store) in
+        let is : standing_of state m ≡ cores.after_input (standing_of state n) x =
+        ap (λ (p : Place). standing_at (node_of m.node) p count_now) kept_place ∙ ap₂ (λ (k : NodeState) (j : ℕ). standing_at k n.stood j) d.1 t.cause.1 ∙ after_so me (node_of n.node).state n.node.failed n.stood f x in
         record {
           fate = fates.done;
+          alone = tt;
+          fails = tt;
           may = shut;
-          tells = ap handed_of d.0 ∙ gives_at me (node_of n).state n.failed f x;
+          tells = ap handed_of d.0 ∙ gives_at me (node_of n.node).state n.node.failed n.stood f x;
           node = is;
-          stored = record { kept = t.kept; node = is; found = λ u s. tt; stored = done_stores given d t };
+          stored = record { kept = t.kept; node = is; found = λ u s. (tt, tt); stored = done_stores given d t };
         }
     did (Err (fails.DiskFail count)) shut d t =
-        let f : ℕ = faults (disks_of state n.store) in
+        let f : ℕ = faults (disks_of state n.node.store) in
         let told = t.cause.1.0 in
-        let is : standing_of state m ≡ cores.faulted count (standing_of state n) = ap₂ standing_at d (sym told) in
+        let is : standing_of state m ≡ cores.faulted count (standing_of state n) =
+        ap (λ (p : Place). standing_at (node_of m.node) p count_now) kept_place
+        ∙ ap₂ (λ (k : NodeState) (j : ℕ). standing_at k n.stood j) d (sym told)
+        ∙ fault_by n.node.failed me (node_of n.node).state (node_of n.node).state n.stood count f stood in
         record {
           fate = fates.faults count;
-          may = record { later = subst (λ k. f ≤ k) (sym told) t.cause.0; rose = subst (FaultsRose f) (sym told) t.cause.1.1 };
+          alone = tt;
+          fails = no_session count t (cases_Bool (is_session x));
+          may =
+              let rises : Rises f count = record { later = subst (λ k. f ≤ k) (sym told) t.cause.0; rose = subst (FaultsRose f) (sym told) t.cause.1.1 } in
+              subst (λ (j : ℕ). Rises j count) (sym (faults_by n.node.failed me (node_of n.node).state n.stood f)) rises;
           tells = refl;
           node = is;
-          stored = record { kept = t.kept; node = is; found = λ u s. tt; stored = λ u s. fault_stores count d t u s n.failed refl };
+          stored = record { kept = t.kept; node = is; found = λ u s. (tt, tt); stored = λ u s. fault_stores count d t u s n.node.failed refl };
         }
     did (Err fails.NoMemory) shut d t =
-        let is : standing_of state m ≡ standing_of state n = ap₂ standing_at d t.cause.1 in
+        let is : standing_of state m ≡ standing_of state n =
+        ap (λ (p : Place). standing_at (node_of m.node) p count_now) kept_place ∙ ap₂ (λ (k : NodeState) (j : ℕ). standing_at k n.stood j) d t.cause.1 in
         record {
           fate = fates.lost;
+          alone = tt;
+          fails = tt;
           may = tt;
           tells = tt;
           node = is;
-          stored = record { kept = t.kept; node = is; found = λ u s. tt; stored = λ u s. stores_same u n m d (t.untouched refl) s };
+          stored = record { kept = t.kept; node = is; found = λ u s. (tt, tt); stored = λ u s. stores_same u n m d (t.untouched refl) s };
         }
 
   -- ---- an opening of a node that failed
 
-  module _ (n m : Node D) (down : reopens (standing_of state n) input.Tick ≡ true) where
+  down_by : (o : Option ℕ) (me : ℕ) (s : State) (p : Place) (k : ℕ) → reopens (standing_by o me s p k) input.Tick ≡ true → o ≢ None
+  down_by None me s p k down = absurd cc
+  down_by (Some c) me s p k down = λ is. absurd cc
+
+  pub has_failed : (n : NodeCore D) → reopens (standing_of state n) input.Tick ≡ true → (node_of n.node).failed ≢ None
+  has_failed n down = down_by n.node.failed (node_of n.node).me (node_of n.node).state n.stood (faults (disks_of state n.node.store)) down
+
+  module _ (n m : NodeCore D) (down : reopens (standing_of state n) input.Tick ≡ true) (kept_place : m.stood ≡ n.stood) where
     abbrev pid : ℕ
-    pid = (node_of n).me
+    pid = (node_of n.node).me
 
     abbrev stored : Durable
-    stored = (node_of n).state.durable
+    stored = (node_of n.node).state.durable
 
-    has_failed : (node_of n).failed ≢ None
-    has_failed = not_none n.failed down
+    abbrev faults_before : ℕ
+    faults_before = faults (disks_of state n.node.store)
+
+    abbrev faults_now : ℕ
+    faults_now = faults (disks_of state m.node.store)
+
+    failed_before : (node_of n.node).failed ≢ None
+    failed_before = has_failed n down
+
+    placed : standing_of state m ≡ standing_at (node_of m.node) n.stood faults_now
+    placed = ap (λ (p : Place). standing_at (node_of m.node) p faults_now) kept_place
 
     -- it is opened, and finds one of two
-    module _ (d : Durable) (is_new : Bool) (sends : List (ℕ × Msg)) (r : Reopens state d is_new n m sends) where
-      finds : (u : Durable) → Stores state u n → (d ≡ stored) ⊎ (d ≡ u)
+    module _ (d : Durable) (is_new : Bool) (sends : List (ℕ × Msg)) (r : Restarts state d is_new n.node m.node sends) where
+      finds : (u : Unstored) → Stores state u n → (d ≡ u.before.durable) ⊎ (d ≡ u.ahead.durable)
       finds u s =
-          let one = s.failed has_failed in
-          let disks = disks_of state n.store in
-          (found_one stored u disks.first.content disks.second.content one.read stored d is_new (r.opened.found one.obey)).1
+          let one = s.failed failed_before in
+          let disks = disks_of state n.node.store in
+          (found_one u.before.durable u.ahead.durable disks.first.content disks.second.content one.read stored d is_new (r.opened.found one.obey)).1
 
-      whole : (u : Durable) → Stores state u n → durable_for pid d ≡ d
-      whole u s = takes_one pid d stored u (finds u s) s.named s.unstored_named
+      whole : (u : Unstored) → Stores state u n → durable_for pid d ≡ d
+      whole u s = takes_one pid d u.before.durable u.ahead.durable (finds u s) s.before_named s.ahead_named
 
-      opened_stores : (u : Durable) → Stores state u n → Stores state u m
-      opened_stores u s = record {
-        up = λ _. reopened_represented state d is_new n m sends r (s.failed has_failed).obey (whole u s);
-        failed = λ not. absurd (not (ap (λ (k : NodeState). k.failed) r.node));
-        named = subst (λ (k : NodeState). IsNamed k.me k.state.durable) (sym r.node) (named_for pid d);
-        unstored_named = subst (λ (k : NodeState). IsNamed k.me u) (sym r.node) s.unstored_named;
-      }
+      opened_stores : (u : Unstored) → Stores state u n → Stores state u m
+      opened_stores u s =
+          let is : (node_of m.node).state.durable ≡ d = ap (λ (k : NodeState). k.state.durable) r.node ∙ whole u s in
+          record {
+            up = λ _. subst (λ (e : Durable). Represents state e m.node.store) (sym is) (r.opened.stored (s.failed failed_before).obey);
+            failed = λ not. absurd (not (ap (λ (k : NodeState). k.failed) r.node));
+            named = λ _. subst (λ (k : NodeState). IsNamed k.me k.state.durable) (sym r.node) (named_for pid d);
+            before_named = subst (λ (k : NodeState). IsNamed k.me u.before.durable) (sym r.node) s.before_named;
+            ahead_named = subst (λ (k : NodeState). IsNamed k.me u.ahead.durable) (sym r.node) s.ahead_named;
+          }
 
       pub did_open : Steps (standing_of state) (StepStores state) n input.Tick (handed_again (Ok sends)) m
-      unfolding cores.reopened cores.given_again
       did_open =
-          let is : standing_of state m ≡ cores.reopened (durable_for pid d) (standing_of state n) = ap₂ standing_at r.node r.opened.no_fault in
+          let is : standing_of state m ≡ cores.reopened (durable_for pid d) (standing_of state n) =
+          placed ∙ ap₂ (λ (k : NodeState) (j : ℕ). standing_at k n.stood j) r.node r.opened.no_fault
+          ∙ open_by n.node.failed pid (node_of n.node).state n.stood faults_before (durable_for pid d) in
           record {
             fate = fates.finds (durable_for pid d);
+            alone = tt;
+            fails = tt;
             may = down;
-            tells = ap (λ (ss : List (ℕ × Msg)). handed_of (record { sends = ss; replies = []; read_replies = []; outcome = None })) r.sends_are;
+            tells = given_by n.node.failed pid (node_of n.node).state n.stood faults_before (durable_for pid d) sends r.sends_are;
             node = is;
             stored = record {
               kept = r.opened.kept;
               node = is;
-              found = λ u s. ⊎_elim (λ e. inl (whole u s ∙ e)) (λ e. inr (whole u s ∙ e)) (finds u s);
+              found = λ u s. (⊎_elim (λ e. inl (whole u s ∙ e)) (λ e. inr (whole u s ∙ e)) (finds u s), tt);
               stored = opened_stores;
             };
           }
 
     -- it is refused, and has failed still
-    module _ (cause : StoreFail) (r : RefusesAgain state n m cause) where
-      refused_kept : KeepBoth (disks_of state n.store) (disks_of state m.store)
+    module _ (cause : StoreFail) (r : RefusesAgain state n.node m.node cause) where
+      refused_kept : KeepBoth (disks_of state n.node.store) (disks_of state m.node.store)
       refused_kept = ⊎_elim (λ q. q.kept)
           (λ q. ⊎_elim
-          (λ same. moved state (KeepBoth (disks_of state n.store)) n.store.first n.store.second m.store.first m.store.second same.0 same.1 (keep_same (disks_of state n.store)))
-          (λ h. moved state (KeepBoth (disks_of state n.store)) h.store.first h.store.second m.store.first m.store.second h.same.0 h.same.1 h.opened.kept)
+          (λ same. moved state (KeepBoth (disks_of state n.node.store)) n.node.store.first n.node.store.second m.node.store.first m.node.store.second same.0 same.1 (keep_same (disks_of state n.node.store)))
+          (λ h. moved state (KeepBoth (disks_of state n.node.store)) h.store.first h.store.second m.node.store.first m.node.store.second h.same.0 h.same.1 h.opened.kept)
           q.left) r.disks
 
-      refused_tells : IsFaultOf (faults (disks_of state n.store)) (faults (disks_of state m.store)) cause
-      refused_tells = refusal_tells state stored n.store.first n.store.second (refused_by m.store cause) r.disks
+      refused_tells : IsFaultOf faults_before faults_now cause
+      refused_tells = refusal_tells state stored n.node.store.first n.node.store.second (refused_by m.node.store cause) r.disks
 
-      still_failed : (c : StoreFail) → count_kept (node_of n).failed c ≢ None
+      still_failed : (c : StoreFail) → count_kept (node_of n.node).failed c ≢ None
       still_failed (store_fails.DiskFault count) = λ e. absurd cc
-      still_failed (store_fails.Damaged area at) = has_failed
-      still_failed store_fails.NoMemory = has_failed
+      still_failed (store_fails.Damaged area at) = failed_before
+      still_failed store_fails.NoMemory = failed_before
 
-      refused_stores : (u : Durable) → Stores state u n → Stores state u m
+      refused_stores : (u : Unstored) → Stores state u n → Stores state u m
       refused_stores u s = record {
         up = λ up. absurd (still_failed cause (sym (ap (λ (k : NodeState). k.failed) r.node) ∙ up));
-        failed = λ _. subst (λ (k : NodeState). StoreOneOf k.state.durable u (disks_of state m.store)) (sym r.node) (refused_leaves state stored stored u n.store m.store cause r.disks (s.failed has_failed));
-        named = subst (λ (k : NodeState). IsNamed k.me k.state.durable) (sym r.node) s.named;
-        unstored_named = subst (λ (k : NodeState). IsNamed k.me u) (sym r.node) s.unstored_named;
+        failed = λ _. refused_leaves state stored u.before.durable u.ahead.durable n.node.store m.node.store cause r.disks (s.failed failed_before);
+        named = λ up. absurd (still_failed cause (sym (ap (λ (k : NodeState). k.failed) r.node) ∙ up));
+        before_named = subst (λ (k : NodeState). IsNamed k.me u.before.durable) (sym r.node) s.before_named;
+        ahead_named = subst (λ (k : NodeState). IsNamed k.me u.ahead.durable) (sym r.node) s.ahead_named;
       }
 
     -- for a fault the count rose
-    rises : (count : ℕ) (r : RefusesAgain state n m (store_fails.DiskFault count)) → Rises (faults (disks_of state n.store)) count
+    rises : (count : ℕ) (r : RefusesAgain state n.node m.node (store_fails.DiskFault count)) → Rises faults_before count
     rises count r =
         let told = refused_tells (store_fails.DiskFault count) r in
-        let later : faults (disks_of state n.store) ≤ faults (disks_of state m.store) = ⊎_elim (λ q. q.later) (λ q. let no = q.cause in absurd cc) r.disks in
-        record { later = subst (λ k. faults (disks_of state n.store) ≤ k) (sym told.0) later; rose = subst (FaultsRose (faults (disks_of state n.store))) (sym told.0) told.1 }
+        let later : faults_before ≤ faults_now = ⊎_elim (λ q. q.later) (λ q. let no = q.cause in absurd cc) r.disks in
+        record { later = subst (λ k. faults_before ≤ k) (sym told.0) later; rose = subst (FaultsRose faults_before) (sym told.0) told.1 }
 
-    -- what the step was to store that had failed it was to store still
-    still_unstored : (after u : Durable) (o : Option ℕ) → n.failed ≡ o → Stores state u m → Stores state (elim o [ None ↦ after | Some c ↦ u ]) m
-    still_unstored after u None e s = absurd (has_failed e)
-    still_unstored after u (Some c) e s = s
+    -- what was to be stored for which they had failed was to be stored still
+    still_unstored : (count : ℕ) (u : Unstored) (o : Option ℕ) → n.node.failed ≡ o → Stores state u m → Stores state (unstored_after (standing_by o pid (node_of n.node).state n.stood faults_before) input.Tick (fates.faults count) u) m
+    still_unstored count u None e s = absurd (failed_before e)
+    still_unstored count u (Some c) e s = s
 
-    pub did_not : (cause : StoreFail) → RefusesAgain state n m cause → Steps (standing_of state) (StepStores state) n input.Tick (handed_again (Err cause)) m
-    unfolding cores.faulted
+    pub did_not : (cause : StoreFail) → RefusesAgain state n.node m.node cause → Steps (standing_of state) (StepStores state) n input.Tick (handed_again (Err cause)) m
     did_not (store_fails.DiskFault count) r =
         let told = refused_tells (store_fails.DiskFault count) r in
-        let is : standing_of state m ≡ cores.faulted count (standing_of state n) = ap₂ standing_at r.node (sym told.0) in
+        let is : standing_of state m ≡ cores.faulted count (standing_of state n) =
+        placed ∙ ap₂ (λ (k : NodeState) (j : ℕ). standing_at k n.stood j) r.node (sym told.0)
+        ∙ fault_by n.node.failed pid (node_of n.node).state (node_of n.node).state n.stood count faults_before (λ e. absurd (failed_before e)) in
         record {
           fate = fates.faults count;
-          may = rises count r;
+          alone = tt;
+          fails = refl;
+          may = subst (λ (j : ℕ). Rises j count) (sym (faults_by n.node.failed pid (node_of n.node).state n.stood faults_before)) (rises count r);
           tells = refl;
           node = is;
           stored = record {
             kept = refused_kept (store_fails.DiskFault count) r;
             node = is;
-            found = λ u s. tt;
-            stored = λ u s. still_unstored (durable_after stored (step_plan pid (node_of n).state input.Tick).batch) u n.failed refl (refused_stores (store_fails.DiskFault count) r u s);
+            found = λ u s. (tt, tt);
+            stored = λ u s. still_unstored count u n.node.failed refl (refused_stores (store_fails.DiskFault count) r u s);
           };
         }
     did_not (store_fails.Damaged area at) r =
-        let is : standing_of state m ≡ standing_of state n = ap₂ standing_at r.node (refused_tells (store_fails.Damaged area at) r) in
+        let is : standing_of state m ≡ standing_of state n = placed ∙ ap₂ (λ (k : NodeState) (j : ℕ). standing_at k n.stood j) r.node (refused_tells (store_fails.Damaged area at) r) in
         record {
           fate = fates.damaged;
+          alone = tt;
+          fails = tt;
           may = down;
           tells = tt;
           node = is;
           stored = record {
             kept = refused_kept (store_fails.Damaged area at) r;
             node = is;
-            found = λ u s. (finds_none state stored u n m (store_fails.Damaged area at) r (s.failed has_failed)).undamaged area at refl;
+            found = λ u s. absurd ((finds_none state u.before.durable u.ahead.durable n.node m.node (store_fails.Damaged area at) r (s.failed failed_before)).undamaged area at refl);
             stored = refused_stores (store_fails.Damaged area at) r;
           };
         }
     did_not store_fails.NoMemory r =
-        let is : standing_of state m ≡ standing_of state n = ap₂ standing_at r.node (refused_tells store_fails.NoMemory r) in
+        let is : standing_of state m ≡ standing_of state n = placed ∙ ap₂ (λ (k : NodeState) (j : ℕ). standing_at k n.stood j) r.node (refused_tells store_fails.NoMemory r) in
         record {
           fate = fates.lost;
+          alone = tt;
+          fails = tt;
           may = tt;
           tells = tt;
           node = is;
-          stored = record { kept = refused_kept store_fails.NoMemory r; node = is; found = λ u s. tt; stored = refused_stores store_fails.NoMemory r };
+          stored = record { kept = refused_kept store_fails.NoMemory r; node = is; found = λ u s. (tt, tt); stored = refused_stores store_fails.NoMemory r };
         }
 
     -- whatever it answers
-    pub did_again : (result : Result (List (ℕ × Msg)) StoreFail) → IfOk result (λ sends. (d : Durable) × (is_new : Bool) × Reopens state d is_new n m sends) → IfErr result (RefusesAgain state n m)
+    pub did_again : (result : Result (List (ℕ × Msg)) StoreFail) → IfOk result (λ sends. (d : Durable) × (is_new : Bool) × Restarts state d is_new n.node m.node sends) → IfErr result (RefusesAgain state n.node m.node)
         → Steps (standing_of state) (StepStores state) n input.Tick (handed_again result) m
     did_again (Ok sends) opened refused = did_open opened.0 opened.1 sends opened.2
     did_again (Err cause) opened refused = did_not cause refused
@@ -338,41 +443,9 @@ module _ {D : Type 0} (state : D → DiskState) where
   opening_stores id true d = refl
   opening_stores id false d = refl
 
-  pub opened_stores_so : (id : ℕ) (members : List ℕ) (first second : D) (n : Node D) (sends : List (ℕ × Msg)) → Opens state id members (disks_with state first second) n sends → IsRepresented state n
-      → Stores state (node_of n).state.durable n
+  pub opened_stores_so : (id : ℕ) (members : List ℕ) (first second : D) (n : NodeCore D) (sends : List (ℕ × Msg)) → Opens state id members (disks_with state first second) n.node sends → IsRepresented state n.node
+      → Stores state (all_stored (node_of n.node).state) n
   opened_stores_so id members first second n sends o stood =
       let named : IsNamed id (opening_state id o.is_new o.durable).durable = subst (λ (d : Durable). IsNamed id d) (sym (opening_stores id o.is_new o.durable)) (named_for id o.durable) in
-      let here : IsNamed (node_of n).me (node_of n).state.durable = subst (λ (k : NodeState). IsNamed k.me k.state.durable) (sym o.node) named in
-      record { up = λ _. stood; failed = λ not. absurd (not (ap (λ (k : NodeState). k.failed) o.node)); named = here; unstored_named = here }
-
-  -- ---- runs
-
-  pub runs_keep : (old new : NodeCore D) (ds : List Deed) → Walks (CoreStores state) old ds new → KeepBoth (disks_of state old.node.store) (disks_of state new.node.store)
-  runs_keep old new [] is = subst (λ (k : NodeCore D). KeepBoth (disks_of state old.node.store) (disks_of state k.node.store)) (sym is) (keep_same (disks_of state old.node.store))
-  runs_keep old new (enters who i f ∷ ds) w =
-      keep_both (disks_of state old.node.store) (disks_of state w.0.node.store) (disks_of state new.node.store) w.1.kept (runs_keep w.0 new ds w.2)
-  runs_keep old new (begins c bytes ∷ ds) w = runs_keep old new ds w
-  runs_keep old new (hears c bytes ∷ ds) w = runs_keep old new ds w
-  runs_keep old new (says f ∷ ds) w = runs_keep old new ds w
-  runs_keep old new (takes c bytes ∷ ds) w = runs_keep old new ds w
-
-  pub runs_find : (old new : NodeCore D) (ds : List Deed) (u : Durable) → Walks (CoreStores state) old ds new → Stores state u old.node → FindStored (standing_of state old.node) u ds
-  runs_find old new [] u w s = tt
-  runs_find old new (enters who i f ∷ ds) u w s = (
-    w.1.found u s,
-    subst (λ (k : Standing). FindStored k (unstored_after (standing_of state old.node) i f u) ds) w.1.node (runs_find w.0 new ds (unstored_after (standing_of state old.node) i f u) w.2 (w.1.stored u s)),
-  )
-  runs_find old new (begins c bytes ∷ ds) u w s = runs_find old new ds u w s
-  runs_find old new (hears c bytes ∷ ds) u w s = runs_find old new ds u w s
-  runs_find old new (says f ∷ ds) u w s = runs_find old new ds u w s
-  runs_find old new (takes c bytes ∷ ds) u w s = runs_find old new ds u w s
-
-  pub runs_store : (old new : NodeCore D) (ds : List Deed) (u : Durable) → Walks (CoreStores state) old ds new → Stores state u old.node → Stores state (unstored_behind (standing_of state old.node) u ds) new.node
-  runs_store old new [] u is s = subst (λ (k : NodeCore D). Stores state u k.node) (sym is) s
-  runs_store old new (enters who i f ∷ ds) u w s =
-      let v : Durable = unstored_after (standing_of state old.node) i f u in
-      subst (λ (k : Standing). Stores state (unstored_behind k v ds) new.node) w.1.node (runs_store w.0 new ds v w.2 (w.1.stored u s))
-  runs_store old new (begins c bytes ∷ ds) u w s = runs_store old new ds u w s
-  runs_store old new (hears c bytes ∷ ds) u w s = runs_store old new ds u w s
-  runs_store old new (says f ∷ ds) u w s = runs_store old new ds u w s
-  runs_store old new (takes c bytes ∷ ds) u w s = runs_store old new ds u w s
+      let here : IsNamed (node_of n.node).me (node_of n.node).state.durable = subst (λ (k : NodeState). IsNamed k.me k.state.durable) (sym o.node) named in
+      record { up = λ _. stood; failed = λ not. absurd (not (ap (λ (k : NodeState). k.failed) o.node)); named = λ _. here; before_named = here; ahead_named = here }

@@ -1,10 +1,9 @@
 -- A node in range does each step that the loop gives it, and stays in range; so is one that is opened.
 use Rattle.std.specs.Set.{is_member}
-use Rattle.std.proofs.Common.{◌≡◌, ◌≤◌, ℕ, nat_eq, if◌then◌else◌, Bool, true, false, List, [], Option, Some, None, Result, Ok, Err, All, IfSome, IfOk, IfErr, get_or, refl, sym, ap, subst, ◌∙◌, arith}
+use Rattle.std.proofs.Common.{◌≡◌, ◌≤◌, ℕ, nat_eq, if◌then◌else◌, Bool, true, false, List, [], Option, Some, None, Result, Ok, Err, All, IfSome, IfOk, IfErr, refl, sym, ap, subst, ◌∙◌, arith}
 use Rattle.std.proofs.lemmas.List.Elements.{All-nil, All-weaker}
-use Rattle.op_types.specs.Limits.{positions_end}
 use Rattle.op_types.specs.Changes.{IsCommand, empty_durable}
-use Rattle.op_types.specs.Ranges.{IsPid, EntryInRange, EntriesInRange}
+use Rattle.op_types.specs.Ranges.{IsPid}
 use Rattle.op_types.specs.declared.answers.Answer.{Answer}
 use Rattle.op_types.specs.declared.answers.Answer.TheVariants as answer
 use Rattle.op_types.specs.declared.answers.Cause.TheVariants as cause
@@ -42,13 +41,14 @@ use Rattle.op_runs.specs.World.{state_after_reopening}
 use Rattle.op_store.specs.declared.fail.StoreFail.{StoreFail}
 use Rattle.op_store.specs.declared.fail.StoreFail.TheVariants as store_fails
 use Rattle.op_store.specs.Stored.{Disks}
-use Rattle.op_node.specs.Reopenings.{Reopens, RefusesAgain}
+use Rattle.op_node.specs.Reopenings.{Reopens, Restarts, RefusesAgain}
 use Rattle.op_node.specs.declared.node.Node.{Node}
 use Rattle.op_node.specs.declared.fail.StepFail.{StepFail}
 use Rattle.op_node.specs.declared.fail.StepFail.TheVariants as fails
 use Rattle.op_serving.specs.Cores as cores
 use Rattle.op_serving.specs.Ranges.{InputInRange, SendInRange, ReplyInRange, GivenInRange}
-use Rattle.op_core.specs.NodeCores.{handed, handed_of, handed_again, standing_at, IsServable}
+use Rattle.op_core.specs.NodeCores.{handed, handed_of, handed_again, standing_by, standing_at, IsServable}
+use Rattle.op_core.specs.declared.place.Place.{Place}
 
 -- ---- from one form of range to the other
 
@@ -212,15 +212,15 @@ refuses_so count (input.Read r) = refl
 refuses_so count (input.Up q) = refl
 refuses_so count (input.Down q) = refl
 
-pub gives_at : (me : ℕ) (s : State) (o : Option ℕ) (f : ℕ) (x : Input) → handed_of (node.gives (record { me = me; state = s; failed = o }) x) ≡ cores.gives (record { me = me; state = s; failed = o; faults = f }) x
+pub gives_at : (me : ℕ) (s : State) (o : Option ℕ) (p : Place) (f : ℕ) (x : Input) → handed_of (node.gives (record { me = me; state = s; failed = o }) x) ≡ cores.gives (standing_by o me s p f) x
 unfolding cores.gives
-gives_at me s None f x = refl
-gives_at me s (Some count) f x = refuses_so count x
+gives_at me s None p f x = refl
+gives_at me s (Some count) p f x = refuses_so count x
 
-pub after_so : (me : ℕ) (s : State) (o : Option ℕ) (f : ℕ) (x : Input) → standing_at (node.after_input (record { me = me; state = s; failed = o }) x) f ≡ cores.after_input (record { me = me; state = s; failed = o; faults = f }) x
+pub after_so : (me : ℕ) (s : State) (o : Option ℕ) (p : Place) (f : ℕ) (x : Input) → standing_at (node.after_input (record { me = me; state = s; failed = o }) x) p f ≡ cores.after_input (standing_by o me s p f) x
 unfolding cores.after_input
-after_so me s None f x = refl
-after_so me s (Some count) f x = refl
+after_so me s None p f x = refl
+after_so me s (Some count) p f x = refl
 
 -- what it gives out is in range
 pub gave : {D : Type 0} (n m : Node D) (x : Input) (result : Result Given StepFail) → IsServable n → InputInRange x → Stepped (node_of n) x result (node_of m)
@@ -294,8 +294,17 @@ reopened state d is_new n m sends o sound s =
       range = subst (StateInRange IsPid) (sym (ap (λ (k : NodeState). k.state) o.node)) (reopening_at (node_of n).me (node_of n).state d s.me o.range);
     }
 
+-- so can one that is opened as after a restart
+pub restarted : {D : Type 0} (state : D → DiskState) (d : Durable) (is_new : Bool) (n m : Node D) (sends : List (ℕ × Msg)) → Restarts state d is_new n m sends → IsSoundNode m → IsServable n → IsServable m
+restarted state d is_new n m sends o sound s =
+    record {
+      me = subst IsPid (sym (ap (λ (k : NodeState). k.me) o.node)) s.me;
+      sound = sound;
+      range = subst (StateInRange IsPid) (sym (ap (λ (k : NodeState). k.state) o.node)) (opening_at (node_of n).me false d s.me o.range);
+    }
+
 -- what it sends then is in range
-pub given_again_in : {D : Type 0} (state : D → DiskState) (d : Durable) (is_new : Bool) (n m : Node D) (sends : List (ℕ × Msg)) → Reopens state d is_new n m sends → IsServable n
+pub given_again_in : {D : Type 0} (state : D → DiskState) (d : Durable) (is_new : Bool) (n m : Node D) (sends : List (ℕ × Msg)) → Restarts state d is_new n m sends → IsServable n
     → GivenInRange (record { sends = sends; replies = []; read_replies = []; outcome = None })
 given_again_in state d is_new n m sends o s =
     let me : ℕ = (node_of n).me in
@@ -317,12 +326,12 @@ unopened state n m cause r sound s =
     }
 
 -- whatever an opening answers, it can be served, and what it gives out is in range
-pub stays_again : {D : Type 0} (state : D → DiskState) (n m : Node D) (result : Result (List (ℕ × Msg)) StoreFail) → IfOk result (λ sends. (d : Durable) × (is_new : Bool) × Reopens state d is_new n m sends)
+pub stays_again : {D : Type 0} (state : D → DiskState) (n m : Node D) (result : Result (List (ℕ × Msg)) StoreFail) → IfOk result (λ sends. (d : Durable) × (is_new : Bool) × Restarts state d is_new n m sends)
     → IfErr result (RefusesAgain state n m) → IsSoundNode m → IsServable n → IsServable m
-stays_again state n m (Ok sends) o r sound s = reopened state o.0 o.1 n m sends o.2 sound s
+stays_again state n m (Ok sends) o r sound s = restarted state o.0 o.1 n m sends o.2 sound s
 stays_again state n m (Err cause) o r sound s = unopened state n m cause r sound s
 
-pub gave_again : {D : Type 0} (state : D → DiskState) (n m : Node D) (result : Result (List (ℕ × Msg)) StoreFail) → IfOk result (λ sends. (d : Durable) × (is_new : Bool) × Reopens state d is_new n m sends)
+pub gave_again : {D : Type 0} (state : D → DiskState) (n m : Node D) (result : Result (List (ℕ × Msg)) StoreFail) → IfOk result (λ sends. (d : Durable) × (is_new : Bool) × Restarts state d is_new n m sends)
     → IsServable n → IfOk (handed_again result) GivenInRange
 gave_again state n m (Ok sends) o s = given_again_in state o.0 o.1 n m sends o.2 s
 gave_again state n m (Err (store_fails.DiskFault count)) o s = tt

@@ -1,2 +1,3 @@
 pub mod NodeCores
 pub mod Disks
+pub mod Groups

@@ -4,10 +4,10 @@ use Rattle.op_types.specs.Ranges.{IsPid}
 use Rattle.op_types.specs.declared.messages.Msg.{Msg}
 use Rattle.op_outside.specs.Disks.{DiskState}
 use Rattle.op_runs.specs.declared.summary.NodeLine.{NodeLine}
-use Rattle.op_runs.specs.declared.summary.Running.{Running}
 use Rattle.op_runs.specs.declared.summary.Running.TheVariants as running
 use Rattle.op_runs.specs.Summary.{stands_at, joining_conf}
 use Rattle.op_text.specs.Nodes.{node_text}
+use Rattle.op_protocol.specs.State.{State}
 use Rattle.op_store.specs.Failing.{faults}
 use Rattle.op_store.specs.Stores.{disks_of}
 use Rattle.op_store.specs.declared.fail.StoreFail.{StoreFail}
@@ -21,14 +21,33 @@ use Rattle.op_node.specs.declared.fail.StepFail.TheVariants as node_fails
 use Rattle.op_serving.specs.declared.node.Given.{Given}
 use Rattle.op_serving.specs.declared.node.StepFail.{StepFail}
 use Rattle.op_serving.specs.declared.node.StepFail.TheVariants as fails
-use Rattle.op_serving.specs.Cores.{Standing}
+use Rattle.op_serving.specs.Cores.{Standing, Failure, forgotten}
+use Rattle.op_core.specs.declared.place.Place.{Place}
+use Rattle.op_core.specs.declared.node_core.NodeCore.{NodeCore}
 
--- a node's state, and the count of faults of its disks
-abbrev pub standing_at : NodeState → ℕ → Standing
-standing_at n count = record { me = n.me; state = n.state; failed = n.failed; faults = count }
+-- what it shows if a disk failed, with this count: where it stood before
+abbrev pub shows : ℕ → Place → Failure
+shows count p = record { count = count; at = p.at; joining = p.joining }
 
-abbrev pub standing_of : {D : Type 0} → (D → DiskState) → Node D → Standing
-standing_of state n = standing_at (node_of n) (faults (disks_of state n.store))
+-- a node in this state of which no disk failed, or one did: then nothing that it keeps in memory counts
+abbrev pub standing_by : Option ℕ → ℕ → State → Place → ℕ → Standing
+standing_by None me s p k = record { me = me; state = s; failed = None; faults = k }
+standing_by (Some count) me s p k =
+    record { me = me; state = forgotten me; failed = Some (shows count p); faults = k }
+
+-- a node's state, where it stood before a disk failed, and the count of faults of its disks
+abbrev pub standing_at : NodeState → Place → ℕ → Standing
+standing_at n p k = standing_by n.failed n.me n.state p k
+
+abbrev pub standing_of : {D : Type 0} → (D → DiskState) → NodeCore D → Standing
+standing_of state c = standing_at (node_of c.node) c.stood (faults (disks_of state c.node.store))
+
+-- where a node in this state stands
+abbrev pub place_at : State → Place
+place_at s = record {
+  at = stands_at s.durable.part s.durable.closed;
+  joining = joining_conf s.durable.joining;
+}
 
 -- what a step did
 abbrev pub handed_of : NodeGiven → Given
@@ -49,18 +68,20 @@ handed_again (Err store_fails.NoMemory) = Err fails.NoMemory
 
 -- ---- where it stands
 
--- how a node runs
-abbrev pub running_of : Option ℕ → Running
-running_of None = running.Up
-running_of (Some count) = running.Failed
-
-abbrev pub standing_line : Standing → NodeLine
-standing_line n = record {
+-- the report of a node that is up, and of one that failed
+abbrev pub up_line : Standing → NodeLine
+up_line n = record {
   pid = n.me;
   at = stands_at n.state.durable.part n.state.durable.closed;
   joining = joining_conf n.state.durable.joining;
-  running = running_of n.failed;
+  running = running.Up;
 }
+
+abbrev pub failed_line : ℕ → Failure → NodeLine
+failed_line me f = record { pid = me; at = f.at; joining = f.joining; running = running.Failed }
+
+abbrev pub standing_line : Standing → NodeLine
+standing_line n = elim n.failed [ None ↦ up_line n | Some f ↦ failed_line n.me f ]
 
 -- the line of a report, without its end
 abbrev pub without_last : List ℕ → List ℕ

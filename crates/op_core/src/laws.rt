@@ -7,12 +7,12 @@ ghost use Rattle.op_store.specs.Stored.{KeepBoth};
 ghost use Rattle.op_store.specs.Stores.{disks_of};
 ghost use Rattle.op_node.specs.Nodes.{node_of, IsRepresented, IsSoundNode};
 ghost use Rattle.op_node.specs.Openings.{Opens, disks_with};
-ghost use Rattle.op_node.specs.Reopenings.{Reopens, RefusesAgain};
+ghost use Rattle.op_node.specs.Reopenings.{Reopens, Restarts, RefusesAgain};
 ghost use Rattle.op_node.specs.declared.node.Node.{Node};
 ghost use Rattle.op_serving.specs.Faults.{Walks};
 ghost use Rattle.op_serving.specs.Inputs.{Deed};
-ghost use Rattle.op_serving.specs.Reopenings.{FindStored, unstored_behind};
-ghost use Rattle.op_core.specs.Disks.{Stores, CoreStores};
+ghost use Rattle.op_serving.specs.Reopenings.{Unstored, all_stored, FindStored, unstored_behind};
+ghost use Rattle.op_core.specs.Disks.{Stores, StepStores};
 ghost use Rattle.op_core.specs.NodeCores.{IsServable, standing_of};
 ghost use Rattle.op_core.specs.declared.node_core.NodeCore.{NodeCore};
 
@@ -28,27 +28,29 @@ pub fn opened_nodes_can_be_served<D: Disk>()
 pub fn reopened_nodes_can_be_served<D: Disk>()
     ensures opened { (d : Durable) (is_new : Bool) (n m : Node D) (sends : List (ℕ × Msg)) →
         Reopens D.state d is_new n m sends → IsSoundNode m → IsServable n → IsServable m }
+    ensures restarted { (d : Durable) (is_new : Bool) (n m : Node D) (sends : List (ℕ × Msg)) →
+        Restarts D.state d is_new n m sends → IsSoundNode m → IsServable n → IsServable m }
     ensures refused { (n m : Node D) (cause : StoreFail) →
         RefusesAgain D.state n m cause → IsSoundNode m → IsServable n → IsServable m }
 {}
 
 /// A node that is opened, and whose disks stand for what it has stored, is named in that.
 pub fn opened_nodes_store<D: Disk>()
-    ensures { (me : ℕ) (members : List ℕ) (first second : D) (n : Node D) (sends : List (ℕ × Msg)) →
-        Opens D.state me members (disks_with D.state first second) n sends → IsRepresented D.state n →
-        Stores D.state (node_of n).state.durable n }
+    ensures { (me : ℕ) (members : List ℕ) (first second : D) (n : NodeCore D) (sends : List (ℕ × Msg)) →
+        Opens D.state me members (disks_with D.state first second) n.node sends →
+        IsRepresented D.state n.node → Stores D.state (all_stored (node_of n.node).state) n }
 {}
 
 /// Over each run of a node that is served its disks are themselves. Where they stood for what it had stored, each
-/// opening of it found what was stored before or after the step in which they had failed, and at the end they stand for
-/// what the node has stored or, where it has failed, for that or for what its failed step was to store.
+/// opening of it found what was stored before or behind the inputs for which they had failed, and at the end they stand for
+/// what the node has stored or, where it has failed, for what it had stored before these or was to store behind them.
 pub fn runs_find_what_is_stored<D: Disk>()
-    ensures kept { (old new : NodeCore D) (ds : List Deed) → Walks (CoreStores D.state) old ds new →
+    ensures kept { (old new : NodeCore D) (ds : List Deed) → Walks (StepStores D.state) old ds new →
         KeepBoth (disks_of D.state old.node.store) (disks_of D.state new.node.store) }
-    ensures found { (old new : NodeCore D) (ds : List Deed) (unstored : Durable) →
-        Walks (CoreStores D.state) old ds new → Stores D.state unstored old.node →
-        FindStored (standing_of D.state old.node) unstored ds }
-    ensures stored { (old new : NodeCore D) (ds : List Deed) (unstored : Durable) →
-        Walks (CoreStores D.state) old ds new → Stores D.state unstored old.node →
-        Stores D.state (unstored_behind (standing_of D.state old.node) unstored ds) new.node }
+    ensures found { (old new : NodeCore D) (ds : List Deed) (u : Unstored) →
+        Walks (StepStores D.state) old ds new → Stores D.state u old →
+        FindStored (standing_of D.state old) u ds }
+    ensures stored { (old new : NodeCore D) (ds : List Deed) (u : Unstored) →
+        Walks (StepStores D.state) old ds new → Stores D.state u old →
+        Stores D.state (unstored_behind (standing_of D.state old) u ds) new }
 {}

@@ -1,6 +1,7 @@
 -- One thing behind the other; and the Downs of the sessions that are over: each is given, and then none is left.
 use Rattle.std.proofs.Common.{◌≡◌, ◌<◌, ◌≤◌, ◌+◌, ◌++◌, ◌∷◌, [], ℕ, zero, suc, Bool, true, false, List, length, drop, Option, Some, None, is_some, inl, inr, nat_lt, if◌then◌else◌, refl, sym, ◌∙◌, ap, subst, arith, append_assoc}
 use Rattle.std.proofs.lemmas.Bool.{cases_Bool}
+use Rattle.std.specs.FinMap as map
 use Rattle.std.proofs.lemmas.List.{append-nil}
 use Rattle.op_types.specs.declared.answers.Outcome.{Outcome}
 use Rattle.op_types.specs.declared.answers.Refusal.{Refusal}
@@ -11,20 +12,20 @@ use Rattle.op_serving.specs.declared.mark.Mark.{Mark}
 use Rattle.op_serving.specs.Cores.{Standing}
 use Rattle.op_serving.specs.Cores as cores
 use Rattle.op_serving.specs.State.{Loop, find, is_open, is_overfull, kind_at, left_by, next, counted, shed}
-use Rattle.op_serving.specs.Losses.{most_marks, mark_at, noted, stopped_if, marked, lost_by, lost_one, is_here, is_due, is_open_one, settle, settled, size, IsCalm, Foretells, Grew, KeepsKinds, Stays}
+use Rattle.op_serving.specs.Losses.{most_marks, mark_at, noted, stopped_if, lost_by, lost_one, is_here, is_due, is_open_one, settle, settled, size, IsCalm, Foretells, Grew, KeepsKinds, Stays}
 use Rattle.op_serving.specs.declared.wanted.Wanted.{Wanted}
-use Rattle.op_serving.specs.Handing.{said_of_denial, said_at_once, told_all, asked, is_read, keys_that_wait, proposed, excused, handed_out}
-use Rattle.op_serving.specs.Inputs.{Deed, State, Luck, asked_by, kept, calm, loop_after, next_fate, entered_with, enter, leaves, first_down, shedding, drained_in, drained, rest}
-use Rattle.op_serving.specs.Fates.{Fate, done, finds, faults, damaged, lost}
+use Rattle.op_serving.specs.Handing.{said_of_denial, said_of_failure, said_at_once, told_all, asked, is_read, keys_that_wait, proposed, excused, given_up, handed_out}
+use Rattle.op_serving.specs.Inputs.{Deed, State, Luck, asked_by, kept, calm, loop_taking, loop_after, next_fate, entered_with, handing, enter, leaves, first_down, shedding, drained_in, drained, rest}
+use Rattle.op_serving.specs.Fates.{Fate, done, finds, faults, shares, damaged, lost}
 use Rattle.op_driver.specs.Driver.{Served, Stores, with_deeds, IsShed, IsDrained, Knows, Acts, FromCalm, Does, Enters, Gives, Drained, Loses}
 use Rattle.op_queues.proofs.Settling.{Blind, settled_before, found_lost, kinds_then, gone, grew_trans, grew_still, foretold, lost_first, lost_grew, left_lost, left_place}
 use Rattle.op_queues.proofs.Sending.{blind_told_all, blind_handed}
 use Rattle.op_queues.proofs.Asking.{blind_asked}
-use Rattle.op_queues.proofs.Sizes.{size_settle, size_loop_after}
+use Rattle.op_queues.proofs.Sizes.{size_settle, size_marked, size_loop_after}
 use Rattle.op_queues.proofs.Shedding.{Sheds, sheds, size_shed, shed_closed, thin_shed, shed_thin}
 use Rattle.op_driver.proofs.Calm.{no_right, calm_before, calm_same, calm_past, calm_settled}
 use Rattle.op_driver.proofs.Stepping.{untouched, went_then, went_none, went_still, went_from}
-use Rattle.op_driver.proofs.Entering.{kept_both}
+use Rattle.op_driver.proofs.Taking.{kept_both}
 
 pub no_items : {X : Type 0} (xs : List X) → length xs ≤ 0 → xs ≡ []
 no_items [] h = refl
@@ -32,10 +33,19 @@ no_items (x ∷ xs) h = absurd (omega (arith, h))
 
 -- ---- an input ends no session twice
 
-size_enter_if : (b : Bool) (l : Luck) (from : List ℕ) (i : Input) (s : State) → size (if b then entered_with l from i (next_fate l i s) s else s).loop ≤ size s.loop
+size_taking : (f : Fate) (s : Loop) → size (loop_taking f s) ≤ size s
+size_taking done s = omega arith
+size_taking (finds d) s = omega arith
+size_taking (faults k) s = omega arith
+size_taking (shares k) s = omega arith
+size_taking damaged s = omega arith
+size_taking lost s = size_marked None s
+
+size_enter_if : (b : Bool) (l : Luck) (from : List ℕ) (i : Input) (s : State) → size (if b then entered_with l from i (next_fate l [] i s) s else s).loop ≤ size s.loop
 size_enter_if true l from i s =
-    let t : Loop = loop_after (asked_by from i) i (next_fate l i s) s.node s.loop in
-    omega (arith, size_settle (drop (length t.lost) l.marks) t, size_loop_after (asked_by from i) i (next_fate l i s) s.node s.loop)
+    let f : Fate = next_fate l [] i s in
+    let t : Loop = loop_after (asked_by from i) i f s.node (loop_taking f s.loop) in
+    omega (arith, size_settle (drop (length t.lost) l.marks) t, size_loop_after (asked_by from i) i f s.node (loop_taking f s.loop), size_taking f s.loop)
 size_enter_if false l from i s = omega arith
 
 pub size_enter : (l : Luck) (from : List ℕ) (i : Input) (s : State) → size (enter l from i s).loop ≤ size s.loop
@@ -72,7 +82,7 @@ shed_settle (m ∷ ms) s h = elim (cases_Bool (is_due m s)) [
   | inr e ↦ rw e h
 ]
 
-blind_same : Blind (λ (s : Loop). s)
+pub blind_same : Blind (λ (s : Loop). s)
 blind_same = record { lost = λ s. refl; place = λ s. refl; opens = λ c s. refl; past = λ c s. refl }
 
 -- what was lost here is lost once
@@ -153,6 +163,51 @@ rest_drained l s h = ap (drained l) (calm_is l s h)
 
 pub rest_still : (l : Luck) (s : State) → IsCalm l.marks s.loop → IsDrained s.loop → rest l s ≡ s
 rest_still l s h none = rest_drained l s h ∙ drained_still l s none.0 (shedding_still l s none.1 (calm_is l s h))
+
+-- ---- and rests there
+
+-- no Down is to be given, and nothing is to end
+record Settled (l : Luck) (s : State) : Type 0 where
+  none : s.loop.downs ≡ []
+  still : shedding l s ≡ s
+
+settled_as : (l : Luck) (s t : State) → t ≡ s → Settled l s → Settled l t
+settled_as l s t e a = record { none = ap (λ (x : State). x.loop.downs) e ∙ a.none; still = ap (shedding l) e ∙ a.still ∙ sym e }
+
+-- so it is behind as many looks as are enough
+settled_at : (k : ℕ) (l : Luck) (s t : State) (ds : List ℕ) → shedding l s ≡ t → t.loop.downs ≡ ds → size s.loop ≤ k → Settled l (drained_in k l s)
+settled_at zero l s t ds is e h =
+    let closed : s.loop.sessions ≡ [] = no_items s.loop.sessions (omega (arith, h)) in
+    record {
+      none = no_items s.loop.downs (omega (arith, h));
+      still = shedding_still l s (λ c. ap (λ t. is_overfull (find c t)) closed) (ap (λ x. record s { loop = x }) (settle_closed (drop (length s.loop.lost) l.marks) s.loop closed));
+    }
+settled_at (suc k) l s t [] is e h =
+    let still : shedding l t ≡ t = ap (shedding l) (sym is) ∙ shedding_twice l s ∙ is in
+    let one : drained_in (suc k) l s ≡ t = ap (λ (x : State). drained_in k l (first_down l x.loop.downs x)) is ∙ ap (λ d. drained_in k l (first_down l d t)) e ∙ none_given k l t e still in
+    settled_as l t (drained_in (suc k) l s) one (record { none = e; still = still })
+settled_at (suc k) l s t (q ∷ qs) is e h =
+    let u : State = enter l [] (input.Down q) (popped qs t) in
+    let less : size u.loop + 1 ≤ size s.loop = omega (arith, size_down l t q qs e, size_shedding l s, ap (λ (x : State). size x.loop) is) in
+    let one : drained_in (suc k) l s ≡ drained_in k l u = ap (λ (x : State). drained_in k l (first_down l x.loop.downs x)) is ∙ ap (λ d. drained_in k l (first_down l d t)) e in
+    settled_as l (drained_in k l u) (drained_in (suc k) l s) one (settled_at k l u (shedding l u) (shedding l u).loop.downs refl refl (omega (arith, less, h)))
+
+settled_drained : (l : Luck) (s : State) → Settled l (drained l s)
+unfolding drained
+settled_drained l s = settled_at (size s.loop) l s (shedding l s) (shedding l s).loop.downs refl refl (omega arith)
+
+calm_shed : (l : Luck) (s : State) → shedding l s ≡ s → calm l s ≡ s
+calm_shed l s e = ap (calm l) (sym e) ∙ calm_twice l (record s { loop = shed s.loop }) ∙ e
+
+-- to hand out nothing there changes nothing
+pub drained_again : (l : Luck) (s : State) → drained l (handing l [] (drained l s)) ≡ drained l s
+drained_again l s =
+    let t : State = drained l s in
+    let a : Settled l t = settled_drained l s in
+    ap (λ ds. drained l (record (calm l t) { deeds = ds })) (append-nil t.deeds) ∙ ap (drained l) (calm_shed l t a.still) ∙ drained_still l t a.none a.still
+
+pub calm_again : (l : Luck) (s : State) → calm l (calm l s) ≡ calm l s
+calm_again l s = calm_twice l s
 
 -- ---- one after the other
 module _ {K : Type 0} where
@@ -337,17 +392,30 @@ closed_excused : (w : Option Wanted) (why : Option Refusal) (c : ℕ) (s : Loop)
 closed_excused None why c s e = e
 closed_excused (Some w) why c s e = closed_blind (told_all (said_of_denial w why)) (blind_told_all (said_of_denial w why)) c s e
 
-closed_after : (a : Option Wanted) (i : Input) (f : Fate) (n : Standing) (c : ℕ) (s : Loop) → find c s.sessions ≡ None → find c (loop_after a i f n s).sessions ≡ None
-closed_after a i done n c s e = closed_blind (handed_out (cores.gives n i)) (blind_handed (cores.gives n i)) c (proposed a (cores.gives n i).outcome (counted s)) (closed_proposed a (cores.gives n i).outcome c (counted s) e)
-closed_after a i (finds d) n c s e = closed_blind (handed_out (cores.given_again n d)) (blind_handed (cores.given_again n d)) c (proposed a None (counted s)) (closed_proposed a None c (counted s) e)
-closed_after a i (faults k) n c s e = closed_excused a (Some (StorageFailed k)) c (counted s) e
-closed_after a i damaged n c s e = e
-closed_after a i lost n c s e = closed_excused a None c (counted (marked None s)) (closed_stopped c (nat_lt (length s.lost + 1) most_marks) (noted (mark_at s.place None) s) e)
+closed_given_up : (k c : ℕ) (s : Loop) → find c s.sessions ≡ None → find c (given_up k s).sessions ≡ None
+closed_given_up k c s e = closed_blind (told_all (said_of_failure k s.askers)) (blind_told_all (said_of_failure k s.askers)) c (record s { askers = map.empty }) e
 
-closed_enter_if : (b : Bool) (l : Luck) (from : List ℕ) (i : Input) (c : ℕ) (s : State) → find c s.loop.sessions ≡ None → find c (if b then entered_with l from i (next_fate l i s) s else s).loop.sessions ≡ None
+closed_after : (a : Option Wanted) (i : Input) (f : Fate) (n : Standing) (c : ℕ) (s : Loop) → find c s.sessions ≡ None → find c (loop_after a i f n s).sessions ≡ None
+closed_after a i done n c s e = closed_blind (handed_out (cores.gives n i)) (blind_handed (cores.gives n i)) c (proposed a (cores.gives n i).outcome s) (closed_proposed a (cores.gives n i).outcome c s e)
+closed_after a i (finds d) n c s e = closed_blind (handed_out (cores.given_again n d)) (blind_handed (cores.given_again n d)) c (proposed a None s) (closed_proposed a None c s e)
+closed_after a i (faults k) n c s e = closed_excused a (Some (StorageFailed k)) c (given_up k s) (closed_given_up k c s e)
+closed_after a i (shares k) n c s e = closed_excused a (Some (StorageFailed k)) c s e
+closed_after a i damaged n c s e = e
+closed_after a i lost n c s e = closed_excused a None c s e
+
+closed_taking : (f : Fate) (c : ℕ) (s : Loop) → find c s.sessions ≡ None → find c (loop_taking f s).sessions ≡ None
+closed_taking done c s e = e
+closed_taking (finds d) c s e = e
+closed_taking (faults k) c s e = e
+closed_taking (shares k) c s e = e
+closed_taking damaged c s e = e
+closed_taking lost c s e = closed_stopped c (nat_lt (length s.lost + 1) most_marks) (noted (mark_at s.place None) s) e
+
+closed_enter_if : (b : Bool) (l : Luck) (from : List ℕ) (i : Input) (c : ℕ) (s : State) → find c s.loop.sessions ≡ None → find c (if b then entered_with l from i (next_fate l [] i s) s else s).loop.sessions ≡ None
 closed_enter_if true l from i c s e =
-    let t : Loop = loop_after (asked_by from i) i (next_fate l i s) s.node s.loop in
-    closed_settle c (drop (length t.lost) l.marks) t (closed_after (asked_by from i) i (next_fate l i s) s.node c s.loop e)
+    let f : Fate = next_fate l [] i s in
+    let t : Loop = loop_after (asked_by from i) i f s.node (loop_taking f s.loop) in
+    closed_settle c (drop (length t.lost) l.marks) t (closed_after (asked_by from i) i f s.node c (loop_taking f s.loop) (closed_taking f c s.loop e))
 closed_enter_if false l from i c s e = e
 
 closed_shedding : (l : Luck) (c : ℕ) (s : State) → find c s.loop.sessions ≡ None → find c (shedding l s).loop.sessions ≡ None

@@ -1,30 +1,34 @@
 -- What a frame says is done, behind what was gathered.
-use Rattle.std.proofs.Common.{map, ◌≡◌, ◌<◌, ◌≤◌, ◌++◌, ◌∷◌, [], ℕ, Bool, true, false, List, length, Some, None, is_some, option_map, Result, Ok, Err, OnOk, nat_lt, if◌then◌else◌, refl, sym, ◌∙◌, ap, subst, inl, arith}
-use Rattle.std.proofs.lemmas.Bool.{lt-ltb, le-ltb}
+use Rattle.std.proofs.Common.{All, map, ◌≡◌, ◌++◌, ◌∷◌, [], ℕ, Bool, true, false, List, length, is_some, option_map, Result, Ok, Err, OnOk, nat_lt, nat_le, if◌then◌else◌, refl, sym, ◌∙◌, ap, inl, inr}
+use Rattle.std.proofs.lemmas.Bool.{cases_Bool, lt-ltb, le-ltb, leb-true, leb-false}
 use Rattle.std.proofs.lemmas.List.{append-nil}
+use Rattle.std.proofs.lemmas.List.Elements.{All-append, All-cons, All-nil}
 use Rattle.op_types.specs.declared.events.Input.TheVariants as input
 use Rattle.op_types.specs.declared.events.Request.TheVariants as request
 use Rattle.op_types.specs.declared.log.Command.{Command}
+use Rattle.op_types.specs.declared.messages.Msg.{Msg}
 use Rattle.op_types.specs.Limits.{most_commands}
 use Rattle.op_command.specs.declared.said.Said.{Said}
 use Rattle.op_command.specs.declared.said.Said.TheVariants as said
 use Rattle.op_serving.specs.declared.hearing.Heard.{Heard}
-use Rattle.op_serving.specs.declared.hearing.Heard.TheVariants.{Asks}
+use Rattle.op_serving.specs.declared.hearing.Heard.TheVariants.{Asks, Message}
 use Rattle.op_serving.specs.declared.session.Session.{Session}
 use Rattle.op_serving.specs.Cores.{Standing}
 use Rattle.op_serving.specs.Wire.{client_frame}
-use Rattle.op_serving.specs.State.{Loop, find, is_open, is_overfull}
+use Rattle.op_serving.specs.State.{Table, Loop, find, is_open, is_overfull}
+use Rattle.op_serving.specs.Fates.{is_session}
 use Rattle.op_serving.specs.Losses.{Stays}
-use Rattle.op_serving.specs.Inputs.{Deed, says, State, Luck, give, gathers, flushed, given_together, released, proposes, behind, rest}
+use Rattle.op_serving.specs.Inputs.{Deed, says, State, Luck, as_delivery, as_one, all_gathered, gathers, brings, most_brought, flushed, given_together, releases, released, behind, rest}
 use Rattle.op_serving.specs.Reading.{tells, ending, on_frame, on_heard, joins_others}
 use Rattle.op_serving.specs.Handing.{no_command}
 use Rattle.op_driver.specs.Driver.{Served, Stores, with_deeds, Knows, Does, Gives, Loses, IsDrained, Rests}
-use Rattle.op_driver.specs.Dealing.{tells_now, GathersOn, DrainsAt, HandlesAlone, Handles}
+use Rattle.op_driver.specs.Dealing.{tells_now, DrainsAt, HandlesAlone, Handles}
+use Rattle.op_driver.specs.Ungiven.{Ungiven, AreUngiven, GivesAll}
 use Rattle.op_queues.proofs.Tables.{found_changed}
 use Rattle.op_queues.proofs.Settling.{kinds_then, stays_same, stays_then, grew_still, grew_trans, foretold}
 use Rattle.op_driver.proofs.Stepping.{Untouched, untouched, untouched_then, went_then, went_beside, went_none, went_still, went_from}
 use Rattle.op_driver.proofs.Calm.{calm_same}
-use Rattle.op_driver.proofs.Draining.{no_items, gives_does, rest_still, knew, known, split_deeds}
+use Rattle.op_driver.proofs.Draining.{gives_does, rest_still, knew, known, split_deeds}
 
 -- ---- it comes to rest
 
@@ -130,41 +134,55 @@ module _ {K : Type 0} {stores : Stores K} where
   same_does : (d : Served K) → Does stores (λ l s. s) d d
   same_does d = nothing_does (λ l s. s) d (λ l s. refl)
 
+none_of : (bs : Table (ℕ × Msg)) (gs : Table Command) → map as_delivery bs ++ as_one gs ≡ [] → (bs ≡ []) × (gs ≡ [])
+none_of [] [] e = (refl, refl)
+none_of [] (p ∷ gs) e = absurd (let k = e in cc)
+none_of (b ∷ bs) gs e = absurd (let k = e in cc)
+
+-- messages and commands tell of no session
+pub all_frames : (s : Loop) → All (λ b. is_session b.1 ≡ false) (all_gathered s)
+all_frames s = All-append (λ b. is_session b.1 ≡ false) (map as_delivery s.brought) (as_one s.gathered) (brought_frames s.brought) (one_frame s.gathered)
+  where
+    brought_frames : (bs : Table (ℕ × Msg)) → All (λ b. is_session b.1 ≡ false) (map as_delivery bs)
+    brought_frames [] = All-nil (λ b. is_session b.1 ≡ false)
+    brought_frames (b ∷ bs) = All-cons (λ b. is_session b.1 ≡ false) (as_delivery b) (map as_delivery bs) refl (brought_frames bs)
+
+    one_frame : (gs : Table Command) → All (λ b. is_session b.1 ≡ false) (as_one gs)
+    one_frame [] = All-nil (λ b. is_session b.1 ≡ false)
+    one_frame (p ∷ gs) = All-cons (λ b. is_session b.1 ≡ false) (map (λ e. e.0) (p ∷ gs), input.Commands (map (λ e. e.1) (p ∷ gs))) [] refl (All-nil (λ b. is_session b.1 ≡ false))
+
+-- where nothing was gathered, nothing is let go
+released_none : (s : Loop) → all_gathered s ≡ [] → releases s ≡ s
+released_none s e =
+    let none : (s.brought ≡ []) × (s.gathered ≡ []) = none_of s.brought s.gathered e in
+    ap (λ l. record s { gathered = l; brought = [] }) (sym none.1) ∙ ap (λ l. record s { brought = l }) (sym none.0)
+
 module _ {K : Type 0} where
   -- nothing was gathered
-  pub flushed_none : (d : Served K) → d.loop.gathered ≡ [] → (l : Luck) (before : List Deed) → flushed l (with_deeds before d) ≡ with_deeds before d
-  flushed_none d e l before = ap (λ r. given_together l r (with_deeds before d)) e
+  flushed_none : (d : Served K) → all_gathered d.loop ≡ [] → (l : Luck) (before : List Deed) → flushed l (with_deeds before d) ≡ with_deeds before d
+  flushed_none d e l before = ap (λ r. given_together l r (released (with_deeds before d))) e ∙ ap (λ (s : Loop). record { loop = s; node = d.node; deeds = before }) (released_none d.loop e)
 
 module _ {K : Type 0} {stores : Stores K} where
-  pub flush_nothing : (d : Served K) → length d.loop.gathered ≤ 0 → Does stores (λ l s. flushed l s) d d
-  flush_nothing d h = does_as (λ l s. s) (λ l s. flushed l s) (flushed_none d (no_items d.loop.gathered h)) (same_does d)
+  pub flush_nothing : (d : Served K) → all_gathered d.loop ≡ [] → Does stores (λ l s. flushed l s) d d
+  flush_nothing d h = does_as (λ l s. s) (λ l s. flushed l s) (flushed_none d h) (same_does d)
 
-  -- some commands were given together
-  pub run_gives : (f : Luck → State → State) (u : List Deed → State) (run : List (ℕ × Command)) (d m e : Served K) → 0 < length run → m.loop.lost ≡ d.loop.lost → m.loop.place ≡ d.loop.place → m.loop.sessions ≡ d.loop.sessions → Untouched d m
-      → ((l : Luck) (before : List Deed) → f l (with_deeds before d) ≡ given_together l run (u before)) → ((before : List Deed) → released (u before) ≡ with_deeds before m)
-      → Gives stores (λ l s. give l (map (λ x. x.0) run) (input.Commands (map (λ x. x.1) run)) s) m e → Gives stores f d e
-  run_gives f u [] d m e some lost place sessions same_node same is g = absurd (omega (arith, some))
-  run_gives f u (p ∷ ps) d m e some lost place sessions same_node same is g = record {
-    deeds = g.deeds;
-    grew = grew_trans (grew_still lost place) g.grew;
-    went = went_from same_node g.went;
-    kinds = kinds_then d.loop m.loop e.loop (λ c. inl (ap (λ t. option_map (λ (x : Session). x.kind) (find c t)) sessions)) g.kinds;
-    sure = λ marks k. calm_same marks d.loop m.loop lost place (λ c. ap (λ t. is_some (find c t)) sessions) (g.sure marks k);
-    stays = stays_then (stays_same place) g.stays;
-    none = g.none;
-    is = λ l before k. same l before ∙ ap (give l (map (λ x. x.0) (p ∷ ps)) (input.Commands (map (λ x. x.1) (p ∷ ps)))) (is before) ∙ g.is l before k;
-  }
-
-module _ {K : Type 0} where
-  abbrev emptied_run : Served K → Served K
-  emptied_run d = record d { loop = record d.loop { gathered = [] } }
-
-module _ {K : Type 0} {stores : Stores K} where
-  pub flush_gives : (run : List (ℕ × Command)) (d m e : Served K) → run ≡ d.loop.gathered → 0 < length d.loop.gathered → m ≡ emptied_run d
-      → Gives stores (λ l s. give l (map (λ x. x.0) run) (input.Commands (map (λ x. x.1) run)) s) m e → Gives stores (λ l s. flushed l s) d e
-  flush_gives run d m e run_is some is g =
-      run_gives (λ l s. flushed l s) (λ before. with_deeds before d) run d m e (omega (arith, some, ap length run_is)) (ap (λ (x : Served K). x.loop.lost) is) (ap (λ (x : Served K). x.loop.place) is) (ap (λ (x : Served K). x.loop.sessions) is) (untouched is)
-      (λ l before. ap (λ r. given_together l r (with_deeds before d)) (sym run_is)) (λ before. ap (with_deeds before) (sym is)) g
+  -- all that was gathered was given together
+  pub flush_gives : (u : Ungiven) (d m e : Served K) → AreUngiven (all_gathered d.loop) u → m ≡ record d { loop = releases d.loop } → GivesAll stores u m e → Gives stores (λ l s. flushed l s) d e
+  flush_gives u d m e are is given =
+      let g = given (all_gathered d.loop) are in
+      let lost : m.loop.lost ≡ d.loop.lost = ap (λ (x : Served K). x.loop.lost) is in
+      let place : m.loop.place ≡ d.loop.place = ap (λ (x : Served K). x.loop.place) is in
+      let sessions : m.loop.sessions ≡ d.loop.sessions = ap (λ (x : Served K). x.loop.sessions) is in
+      record {
+        deeds = g.deeds;
+        grew = grew_trans (grew_still lost place) g.grew;
+        went = went_from (untouched is) g.went;
+        kinds = kinds_then d.loop m.loop e.loop (λ c. inl (ap (λ t. option_map (λ (x : Session). x.kind) (find c t)) sessions)) g.kinds;
+        sure = λ marks k. calm_same marks d.loop m.loop lost place (λ c. ap (λ t. is_some (find c t)) sessions) (g.sure marks k);
+        stays = stays_then (stays_same place) g.stays;
+        none = g.none;
+        is = λ l before k. ap (λ (x : Served K). given_together l (all_gathered d.loop) (with_deeds before x)) (sym is) ∙ g.is l before k;
+      }
 
   -- ---- and then this is done, if the connection still has a session
 
@@ -228,7 +246,7 @@ module _ {K : Type 0} {stores : Stores K} where
   }
 
   -- nothing was gathered
-  pub first_handles : (line : Standing → List ℕ) (c : ℕ) (heard : Heard) {d e : Served K} → joins_others heard ≡ false → length d.loop.gathered ≤ 0 → is_open c d.loop ≡ true → HandlesAlone stores line c heard d e → Handles stores line c heard d e
+  pub first_handles : (line : Standing → List ℕ) (c : ℕ) (heard : Heard) {d e : Served K} → joins_others heard ≡ false → all_gathered d.loop ≡ [] → is_open c d.loop ≡ true → HandlesAlone stores line c heard d e → Handles stores line c heard d e
   first_handles line c heard {d} {e} h few there a = record {
     does = does_as (λ l s. behind l c (on_frame l line c heard) s) (λ l s. on_heard l line c heard s) (λ l before. heard_behind line c heard l (with_deeds before d) h) (behind_goes c (λ l s. on_frame l line c heard s) (flush_nothing d few) there a.does);
     stays = a.stays;
@@ -256,46 +274,81 @@ module _ {K : Type 0} {stores : Stores K} where
     none = drains_at c e.loop a.none;
   }
 
+-- ---- what joins others
+
+-- one test for the other
+if_full : {A : Type 0} (n k : ℕ) (x y : A) → (if nat_lt n k then x else y) ≡ (if nat_le k n then y else x)
+if_full n k x y = elim (cases_Bool (nat_le k n)) [
+  | inl h ↦ rw (h, le-ltb n k (leb-true k n h)) refl
+  | inr h ↦ rw (h, lt-ltb n k (leb-false k n h)) refl
+]
+
+abbrev if_flushed : Bool → Luck → State → State
+if_flushed full l s = if full then flushed l s else s
+
 module _ {K : Type 0} where
-  -- ---- a command
+  -- it was gathered, and nothing else changed
+  pub record Joins (d m : Served K) : Type 0 where
+    pub lost : m.loop.lost ≡ d.loop.lost
+    pub place : m.loop.place ≡ d.loop.place
+    pub sessions : m.loop.sessions ≡ d.loop.sessions
+    pub downs : m.loop.downs ≡ d.loop.downs
+    pub beside : Untouched d m
 
-  abbrev with_gathered : ℕ → Command → Served K → Served K
-  with_gathered c x d = record d { loop = gathers c x d.loop }
+  pub gathers_joins : (c : ℕ) (x : Command) {d m : Served K} → m ≡ record d { loop = gathers c x d.loop } → Joins d m
+  gathers_joins c x is = record {
+    lost = ap (λ (y : Served K). y.loop.lost) is;
+    place = ap (λ (y : Served K). y.loop.place) is;
+    sessions = ap (λ (y : Served K). y.loop.sessions) is;
+    downs = ap (λ (y : Served K). y.loop.downs) is;
+    beside = untouched is;
+  }
 
-  taken_in : (l : Luck) (c : ℕ) (x : Command) (d : Served K) (before : List Deed) (b : Bool) → nat_lt (length (gathers c x d.loop).gathered) most_commands ≡ b
-      → proposes l c x (with_deeds before d) ≡ (if b then with_deeds before (with_gathered c x d) else flushed l (with_deeds before (with_gathered c x d)))
-  taken_in l c x d before b h = ap (λ t. if t then with_deeds before (with_gathered c x d) else flushed l (with_deeds before (with_gathered c x d))) h
+  pub brings_joins : (c : ℕ) (x : ℕ × Msg) {d m : Served K} → m ≡ record d { loop = brings c x d.loop } → Joins d m
+  brings_joins c x is = record {
+    lost = ap (λ (y : Served K). y.loop.lost) is;
+    place = ap (λ (y : Served K). y.loop.place) is;
+    sessions = ap (λ (y : Served K). y.loop.sessions) is;
+    downs = ap (λ (y : Served K). y.loop.downs) is;
+    beside = untouched is;
+  }
+
+  pub joins_drained : {d m : Served K} → Joins d m → IsDrained d.loop → IsDrained m.loop
+  joins_drained j none = (j.downs ∙ none.0, λ n. ap (λ t. is_overfull (find n t)) j.sessions ∙ none.1 n)
 
 module _ {K : Type 0} {stores : Stores K} where
-  -- it waits for others
-  pub gathered_handles : (line : Standing → List ℕ) (c : ℕ) (x : Command) (d e : Served K) → IsDrained d.loop → GathersOn c x d None e → HandlesAlone stores line c (Asks (request.Command x)) d e
-  gathered_handles line c x d e none a =
-      let is : e ≡ with_gathered c x d = ap (λ (s : Loop). record e { loop = s }) a.gathers.0 ∙ ap (λ n. record e { loop = gathers c x d.loop; node = n }) a.node ∙ ap (λ (k : K). record d { loop = gathers c x d.loop; core = k }) a.core in
-      let few : nat_lt (length (gathers c x d.loop).gathered) most_commands ≡ true = lt-ltb (length (gathers c x d.loop).gathered) most_commands (subst (λ (s : Loop). length s.gathered < most_commands) a.gathers.0 a.gathers.1) in
-      let lost : e.loop.lost ≡ d.loop.lost = ap (λ (s : Loop). s.lost) a.gathers.0 in
-      let place : e.loop.place ≡ d.loop.place = ap (λ (s : Loop). s.place) a.gathers.0 in
-      record {
-        does = record {
-          acts = record {
-            deeds = [];
-            grew = grew_still lost place;
-            went = went_still (record { node = a.node; core = a.core });
-            is = λ l before k calm_e. taken_in l c x d before true few ∙ ap (with_deeds before) (sym is) ∙ ap (λ b. with_deeds b e) (sym (append-nil before));
-          };
-          calm = λ marks k calm_e. calm_same marks d.loop e.loop lost place (λ n. ap (λ (s : Loop). is_open n s) a.gathers.0) calm_e;
-        };
-        stays = stays_same place;
-        none = drains_at c e.loop (ap (λ (s : Loop). s.downs) a.gathers.0 ∙ none.0, λ n. ap (λ (s : Loop). is_overfull (find n s.sessions)) a.gathers.0 ∙ none.1 n);
-      }
+  -- it was gathered, and where that is as much as may be, all is given
+  joins_does : (f : Luck → State → State) (full : Bool) {d m e : Served K} → Joins d m → ((l : Luck) (before : List Deed) → f l (with_deeds before d) ≡ if_flushed full l (with_deeds before m)) → Does stores (λ l s. if full then flushed l s else s) m e → Does stores f d e
+  joins_does f full {d} {m} {e} j same a = record {
+    acts = record {
+      deeds = a.acts.deeds;
+      grew = grew_trans (grew_still j.lost j.place) a.acts.grew;
+      went = went_from j.beside a.acts.went;
+      is = λ l before k calm_e. same l before ∙ a.acts.is l before k calm_e;
+    };
+    calm = λ marks k calm_e. calm_same marks d.loop m.loop j.lost j.place (λ n. ap (λ t. is_some (find n t)) j.sessions) (a.calm marks k calm_e);
+  }
 
-  -- it is the last of the most that one input may have
-  pub full_handles : (line : Standing → List ℕ) (c : ℕ) (x : Command) (run : List (ℕ × Command)) (d m e : Served K) → GathersOn c x d (Some run) m
-      → Gives stores (λ l s. give l (map (λ y. y.0) run) (input.Commands (map (λ y. y.1) run)) s) m e → HandlesAlone stores line c (Asks (request.Command x)) d e
-  full_handles line c x run d m e a g =
-      let many : nat_lt (length (gathers c x d.loop).gathered) most_commands ≡ false = le-ltb (length (gathers c x d.loop).gathered) most_commands (subst (λ r. most_commands ≤ length r) a.gathers.0 a.gathers.1) in
-      let some : 0 < length run = omega (arith, a.gathers.1) in
-      let all : Gives stores (λ l s. on_frame l line c (Asks (request.Command x)) s) d e =
-      run_gives (λ l s. on_frame l line c (Asks (request.Command x)) s) (λ before. with_deeds before (with_gathered c x d)) run d m e some (ap (λ (s : Loop). s.lost) a.gathers.2) (ap (λ (s : Loop). s.place) a.gathers.2) (ap (λ (s : Loop). s.sessions) a.gathers.2) (record { node = a.node; core = a.core })
-      (λ l before. taken_in l c x d before false many ∙ ap (λ r. given_together l r (with_deeds before (with_gathered c x d))) (sym a.gathers.0))
-      (λ before. ap (λ (s : Loop). record { loop = s; node = d.node; deeds = before }) (sym a.gathers.2) ∙ ap (λ n. record { loop = m.loop; node = n; deeds = before }) (sym a.node)) g in
-      record { does = gives_does (λ l s. on_frame l line c (Asks (request.Command x)) s) all; stays = all.stays; none = drains_at c e.loop all.none }
+  joins_handles : (line : Standing → List ℕ) (c : ℕ) (heard : Heard) (full : Bool) {d m e : Served K} → Joins d m → ((l : Luck) (before : List Deed) → on_frame l line c heard (with_deeds before d) ≡ if_flushed full l (with_deeds before m))
+      → Does stores (λ l s. if full then flushed l s else s) m e → Stays m.loop e.loop → IsDrained e.loop → HandlesAlone stores line c heard d e
+  joins_handles line c heard full {d} {m} {e} j same a stays none = record {
+    does = joins_does (λ l s. on_frame l line c heard s) full j same a;
+    stays = stays_then (stays_same j.place) stays;
+    none = drains_at c e.loop none;
+  }
+
+  pub command_handles : (line : Standing → List ℕ) (c : ℕ) (x : Command) (full : Bool) (d m e : Served K) → m ≡ record d { loop = gathers c x d.loop } → full ≡ nat_le most_commands (length m.loop.gathered)
+      → Does stores (λ l s. if full then flushed l s else s) m e → Stays m.loop e.loop → IsDrained e.loop → HandlesAlone stores line c (Asks (request.Command x)) d e
+  command_handles line c x full d m e is full_is a stays none =
+      joins_handles line c (Asks (request.Command x)) full (gathers_joins c x is) (λ l before.
+      ap (λ (y : Served K). if nat_lt (length y.loop.gathered) most_commands then with_deeds before y else flushed l (with_deeds before y)) (sym is)
+      ∙ if_full (length m.loop.gathered) most_commands (with_deeds before m) (flushed l (with_deeds before m))
+      ∙ ap (λ b. if_flushed b l (with_deeds before m)) (sym full_is)) a stays none
+
+  pub message_handles : (line : Standing → List ℕ) (c q : ℕ) (x : Msg) (full : Bool) (d m e : Served K) → m ≡ record d { loop = brings c (q, x) d.loop } → full ≡ nat_le most_brought (length m.loop.brought)
+      → Does stores (λ l s. if full then flushed l s else s) m e → Stays m.loop e.loop → IsDrained e.loop → HandlesAlone stores line c (Message q x) d e
+  message_handles line c q x full d m e is full_is a stays none =
+      joins_handles line c (Message q x) full (brings_joins c (q, x) is) (λ l before.
+      ap (λ (y : Served K). if nat_lt (length y.loop.brought) most_brought then with_deeds before y else flushed l (with_deeds before y)) (sym is)
+      ∙ if_full (length m.loop.brought) most_brought (with_deeds before m) (flushed l (with_deeds before m))
+      ∙ ap (λ b. if_flushed b l (with_deeds before m)) (sym full_is)) a stays none

@@ -1,7 +1,12 @@
 pub mod Calm
 pub mod Stepping
-pub mod Entering
+pub mod Taking
 pub mod Draining
+pub mod Together
+pub mod Counting
+pub mod Telling
+pub mod Entering
+pub mod Grouping
 pub mod Handling
 pub mod Dealing
 pub mod Turning

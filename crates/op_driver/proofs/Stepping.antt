@@ -1,9 +1,9 @@
 -- What deeds make of the node.
-use Rattle.std.proofs.Common.{◌≡◌, ◌++◌, ◌∷◌, [], Bool, true, false, List, map, refl, sym, ◌∙◌, ap, subst}
-use Rattle.op_types.specs.declared.events.Input.{Input}
+use Rattle.std.proofs.Common.{◌≡◌, ◌++◌, ◌∷◌, [], Bool, true, false, List, map, refl, sym, ◌∙◌, ap, subst, append_assoc}
+use Rattle.std.specs.List.{flat_map}
 use Rattle.op_serving.specs.Cores.{Standing}
-use Rattle.op_serving.specs.Fates.{Fate, after_fate}
-use Rattle.op_serving.specs.Faults.{Stepped, Walks}
+use Rattle.op_serving.specs.Fates.{Came, after_fate}
+use Rattle.op_serving.specs.Faults.{Stepped, Walks, WalksBy, came_of, came_in}
 use Rattle.op_serving.specs.Room.{Frame}
 use Rattle.op_serving.specs.Inputs.{Deed, begins, hears, enters, says, takes}
 use Rattle.op_serving.specs.State.{Loop}
@@ -23,18 +23,39 @@ pub steps_says : (fs : List Frame) (n m : Standing) → m ≡ n → Stepped n (m
 steps_says [] n m e = e
 steps_says (f ∷ fs) n m e = steps_says fs n m e
 
-module _ {K : Type 0} (step : K → Input → Fate → K → Type 0) where
-  walks_then : (xs ys : List Deed) (k m n : K) → Walks step k xs m → Walks step m ys n → Walks step k (xs ++ ys) n
-  walks_then [] ys k m n a b = subst (λ x. Walks step x ys n) a b
-  walks_then (begins c bytes ∷ xs) ys k m n a b = walks_then xs ys k m n a b
-  walks_then (hears c bytes ∷ xs) ys k m n a b = walks_then xs ys k m n a b
-  walks_then (enters who i fate ∷ xs) ys k m n a b = (a.0, a.1, walks_then xs ys a.0 m n a.2 b)
-  walks_then (says f ∷ xs) ys k m n a b = walks_then xs ys k m n a b
-  walks_then (takes c bytes ∷ xs) ys k m n a b = walks_then xs ys k m n a b
+-- the inputs of some deeds, and then of others
+came_both : (xs ys : List Deed) → came_in (xs ++ ys) ≡ came_in xs ++ came_in ys
+came_both [] ys = refl
+came_both (x ∷ xs) ys = ap (λ l. came_of x ++ l) (came_both xs ys) ∙ sym (append_assoc (came_of x) (came_in xs) (came_in ys))
 
-  pub walks_says : (fs : List Frame) (k : K) → Walks step k (map says fs) k
-  walks_says [] k = refl
-  walks_says (f ∷ fs) k = walks_says fs k
+-- frames alone are no inputs
+pub came_says : (fs : List Frame) → came_in (map says fs) ≡ []
+came_says [] = refl
+came_says (f ∷ fs) = came_says fs
+
+of_both : (gs hs : List (List Came)) → flat_map (λ g. g) (gs ++ hs) ≡ flat_map (λ g. g) gs ++ flat_map (λ g. g) hs
+of_both [] hs = refl
+of_both (g ∷ gs) hs = ap (λ l. g ++ l) (of_both gs hs) ∙ sym (append_assoc g (flat_map (λ x. x) gs) (flat_map (λ x. x) hs))
+
+module _ {K : Type 0} (step : Stores K) where
+  walks_by_then : (gs hs : List (List Came)) (k m n : K) → WalksBy step k gs m → WalksBy step m hs n → WalksBy step k (gs ++ hs) n
+  walks_by_then [] hs k m n a b = subst (λ x. WalksBy step x hs n) a b
+  walks_by_then (g ∷ gs) hs k m n a b = (a.0, a.1, walks_by_then gs hs a.0 m n a.2 b)
+
+  walks_then : (xs ys : List Deed) (k m n : K) → Walks step k xs m → Walks step m ys n → Walks step k (xs ++ ys) n
+  walks_then xs ys k m n a b = record {
+    groups = a.groups ++ b.groups;
+    are = came_both xs ys ∙ ap (λ l. l ++ came_in ys) a.are ∙ ap (λ l. flat_map (λ g. g) a.groups ++ l) b.are ∙ sym (of_both a.groups b.groups);
+    walks = walks_by_then a.groups b.groups k m n a.walks b.walks;
+  }
+
+  -- inputs that were stored together, and then frames
+  pub walks_group : (ds : List Deed) (fs : List Frame) (cs : List Came) (k m : K) → came_in ds ≡ cs → step k cs m → Walks step k (ds ++ map says fs) m
+  walks_group ds fs cs k m is stored = record {
+    groups = cs ∷ [];
+    are = came_both ds (map says fs) ∙ ap (λ l. came_in ds ++ l) (came_says fs) ∙ ap (λ l. l ++ []) is;
+    walks = (m, stored, refl);
+  }
 
 -- the node is untouched
 pub record Untouched {K : Type 0} (d e : Served K) : Type 0 where
@@ -63,18 +84,18 @@ module _ {K : Type 0} {stores : Stores K} where
 
   -- nothing was done
   pub went_still : {d e : Served K} → Untouched d e → Went stores d [] e
-  went_still u = record { steps = u.node; walks = u.core }
+  went_still u = record { steps = u.node; walks = record { groups = []; are = refl; walks = u.core } }
 
   pub went_none : {d : Served K} → Went stores d [] d
-  went_none = record { steps = refl; walks = refl }
+  went_none = record { steps = refl; walks = record { groups = []; are = refl; walks = refl } }
 
   -- a deed that is no input is nothing to the node
   pub went_beside : {d e : Served K} {ds : List Deed} (x : Deed) → is_beside x ≡ true → Went stores d ds e → Went stores d (x ∷ ds) e
-  went_beside (begins c bytes) h a = record { steps = a.steps; walks = a.walks }
-  went_beside (hears c bytes) h a = record { steps = a.steps; walks = a.walks }
+  went_beside (begins c bytes) h a = record { steps = a.steps; walks = record { groups = a.walks.groups; are = a.walks.are; walks = a.walks.walks } }
+  went_beside (hears c bytes) h a = record { steps = a.steps; walks = record { groups = a.walks.groups; are = a.walks.are; walks = a.walks.walks } }
   went_beside (enters who i f) h a = absurd cc
-  went_beside (says f) h a = record { steps = a.steps; walks = a.walks }
-  went_beside (takes c bytes) h a = record { steps = a.steps; walks = a.walks }
+  went_beside (says f) h a = record { steps = a.steps; walks = record { groups = a.walks.groups; are = a.walks.are; walks = a.walks.walks } }
+  went_beside (takes c bytes) h a = record { steps = a.steps; walks = record { groups = a.walks.groups; are = a.walks.are; walks = a.walks.walks } }
 
   -- where the node was before, it is still at first
   pub went_from : {d m e : Served K} {ds : List Deed} → Untouched d m → Went stores m ds e → Went stores d ds e

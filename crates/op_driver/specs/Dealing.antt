@@ -8,9 +8,7 @@ use Rattle.op_serving.specs.State.{Loop, find, is_open, session_of}
 use Rattle.op_serving.specs.Losses.{IsCalm, Grew, Stays}
 use Rattle.op_serving.specs.Inputs.{State, Deed, Luck, behind, over, rest}
 use Rattle.op_serving.specs.Reading.{on_frame, on_heard, counted_if, is_peer, met, replaced, dealt_at, dealt}
-use Rattle.op_types.specs.declared.log.Command.{Command}
 use Rattle.op_queues.specs.Hearing.{TakesAt}
-use Rattle.op_queues.specs.Gathering.{Gathers}
 use Rattle.op_driver.specs.Driver.{Served, with_deeds, Knows, FromCalm, Sure, Stores, Went, Does, Loses, IsShed, Rests}
 use Rattle.op_command.specs.declared.said.Said.{Said}
 use Rattle.op_serving.specs.Handing.{told, no_command}
@@ -27,13 +25,6 @@ module _ {K : Type 0} where
   -- the same, of the loop of a driver
   pub record TakesOn (c : ℕ) (d : Served K) (r : Result Front AllocError) (e : Served K) : Type 0 where
     pub takes : TakesAt c d.loop r e.loop
-    pub node : e.node ≡ d.node
-    pub core : e.core ≡ d.core
-
-  -- a command was gathered, or all that are were given out with it
-  pub record GathersOn (c : ℕ) (x : Command) (d : Served K) (r : Option (List (ℕ × Command))) (e : Served K)
-      : Type 0 where
-    pub gathers : Gathers c x d.loop r e.loop
     pub node : e.node ≡ d.node
     pub core : e.core ≡ d.core
 

@@ -7,9 +7,8 @@ use Rattle.op_serving.specs.Cores.{Standing}
 use Rattle.op_serving.specs.State.{Loop, find, is_open, is_overfull, kind_at, down_of}
 use Rattle.op_serving.specs.Ranges.{KindInRange}
 use Rattle.op_serving.specs.Losses.{most_marks, lost_by, IsCalm, Foretells, Grew, KeepsKinds, Stays}
-use Rattle.op_types.specs.declared.events.Input.{Input}
 use Rattle.op_serving.specs.Inputs.{State, Deed, Luck, kept, calm, rest}
-use Rattle.op_serving.specs.Fates.{Fate}
+use Rattle.op_serving.specs.Fates.{Came, Fate}
 use Rattle.op_serving.specs.Faults.{Stepped, Walks}
 
 -- a node that is served: what is kept beside it, how it stands, and itself
@@ -17,6 +16,10 @@ pub record Served (K : Type 0) : Type 0 where
   pub loop : Loop
   pub node : Standing
   pub core : K
+
+-- the same, by its parts
+abbrev pub served_at : {K : Type 0} → Loop → Standing → K → Served K
+served_at s n k = record { loop = s; node = n; core = k }
 
 module _ {K : Type 0} where
   -- the same, where these deeds were done before
@@ -54,12 +57,12 @@ module _ {K : Type 0} where
   abbrev pub Sure : Served K → Served K → Type 0
   Sure d e = (marks : List Mark) → Foretells marks e.loop → IsCalm marks d.loop
 
--- what a step of a node is to its disks, by what came of its input
+-- what inputs that are stored together are to a node's disks, by what came of them
 abbrev pub Stores : Type 0 → Type 1
-Stores K = K → Input → Fate → K → Type 0
+Stores K = K → List Came → K → Type 0
 
 module _ {K : Type 0} (stores : Stores K) where
-  -- the node went from one to the other by the inputs of these deeds, each a step of it
+  -- the node went from one to the other by the inputs of these deeds
   pub record Went (d : Served K) (deeds : List Deed) (e : Served K) : Type 0 where
     pub steps : Stepped d.node deeds e.node
     pub walks : Walks stores d.core deeds e.core

@@ -1,2 +1,4 @@
 pub mod Driver
 pub mod Dealing
+pub mod Answering
+pub mod Ungiven

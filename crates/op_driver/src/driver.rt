@@ -1,24 +1,24 @@
 ghost use Rattle.std.specs.Prelude.{◌≡◌, ◌≢◌, ◌↔◌, ◌<◌, ◌≤◌, ◌+◌, ◌-◌, ◌∷◌, [], length, drop, map, true, false, IsTrue, None, IfOk, IfSome, IfNone, OnOk, OnErr};
 ghost use Rattle.op_types.specs.Ranges.{IsPid};
-ghost use Rattle.op_types.specs.declared.events.Input.TheVariants as input;
 ghost use Rattle.op_serving.specs.State.{down_of, find, is_open, kind_at, left_by, next, session_of, shed};
-ghost use Rattle.op_serving.specs.Ranges.{InputInRange, GivenInRange, KindInRange, WantedInRange};
-ghost use Rattle.op_serving.specs.Losses.{most_marks, lost_by, settled, size, Stays, Does as SessionsDo};
+ghost use Rattle.op_serving.specs.Ranges.{InputInRange, KindInRange};
+ghost use Rattle.op_serving.specs.Losses.{most_marks, lost_by, size, Stays};
 ghost use Rattle.op_serving.specs.Counts.{hello_in, most_inputs};
-ghost use Rattle.op_serving.specs.Handing.{handed_out, proposed};
-ghost use Rattle.op_serving.specs.Inputs.{enter, give, flushed, leaves, over};
+ghost use Rattle.op_serving.specs.Inputs.{all_gathered, enter, give, flushed, leaves, over, releases};
 ghost use Rattle.op_serving.specs.Turns.{happens_at, joined, joining, queue_in, taken_of, ticked, turn_begins, waiting_from, wrote};
 ghost use Rattle.op_queues.specs.Hearing.{FoundInRange, least_taken};
-ghost use Rattle.op_queues.specs.Gathering.{RunInRange};
 ghost use Rattle.op_driver.specs.Driver.{Acts, Does, FromCalm, Drained, Enters, Gives, IsIdle, Loses, MayBegin, Rests, IsDrained, IsShed, hello_left};
 ghost use Rattle.op_driver.specs.Dealing.{TakesOn};
+ghost use Rattle.op_driver.specs.Ungiven.{GivesAll, GivesFrom};
 
 mod dealing;
 
+use crate::answering::{answer, count};
+use crate::ungiven::Ungiven;
 use op_outside::Conn;
-use op_queues::{Front, Run, Sessions, asked_by};
-use op_serving::{Core, Given, Kind, StepFail, Wanted, goes_up};
-use op_types::{Input, NoMemory, Pid, Refusal};
+use op_queues::{Front, Group, Sessions, asked_by};
+use op_serving::{Core, Kind, goes_up};
+use op_types::{Input, NoMemory, Pid};
 use std::marker::Model;
 
 /// A served node with its sessions.
@@ -129,7 +129,7 @@ impl<K: Core> Driver<K> {
         self.give(&[], Input::Tick);
     }
 
-    /// The commands that were gathered are given as one input.
+    /// All that was gathered is given together.
     pub fn flush(&mut self)
         requires { IsDrained self.old.loop }
         ensures does { Does K.stores (λ l s. flushed l s) self.old self.new }
@@ -137,12 +137,12 @@ impl<K: Core> Driver<K> {
         ensures frames { self.new.loop.place.frames ≡ self.old.loop.place.frames }
         ensures most { most_inputs self.new.loop ≤ most_inputs self.old.loop }
     {
-        if self.gathered_len() > 0 {
+        if self.has_gathered() {
             self.flush_some();
         }
     }
 
-    /// A session ends, behind the commands that were gathered, and its peer goes down.
+    /// A session ends, behind what was gathered, and its peer goes down.
     pub fn end(&mut self, conn: Conn)
         requires at { self.old.loop.place.at ≢ 0 }
         requires none { IsDrained self.old.loop }
@@ -266,35 +266,64 @@ impl<K: Core> Driver<K> {
         self.sessions.leave(conn);
     }
 
-    /// The commands that were gathered are given as one input; there are some.
+    /// All that was gathered is given together, and the Downs right behind it; there is something.
     fn flush_some(&mut self)
-        requires { 0 < length self.old.loop.gathered }
+        requires { 0 < length (all_gathered self.old.loop) }
         ensures gives { Gives K.stores (λ l s. flushed l s) self.old self.new }
         ensures most { most_inputs self.new.loop ≤ most_inputs self.old.loop }
     {
-        let run = self.release();
-        self.give_run(run);
+        let group = self.release();
+        self.give_all(Ungiven::new(group));
     }
 
-    /// The commands that were gathered. Then none is gathered.
-    fn release(&mut self) -> Run
-        ensures run { result ≡ self.old.loop.gathered }
-        ensures range { RunInRange result }
-        ensures rest { self.new ≡ record self.old { loop = record self.old.loop { gathered = [] } } }
+    /// All that was gathered. Then nothing is.
+    fn release(&mut self) -> Group
+        ensures group { result ≡ all_gathered self.old.loop }
+        ensures rest { self.new ≡ record self.old { loop = releases self.old.loop } }
     {
         self.sessions.release()
     }
 
-    /// Commands as one input, and the Downs right behind it.
-    fn give_run(&mut self, run: Run)
-        requires range { RunInRange run }
-        requires some { 0 < length run }
-        ensures gives { Gives K.stores (λ l s. give l (map (λ e. e.0) run)
-            (input.Commands (map (λ e. e.1) run)) s) self.old self.new }
-        ensures most { most_inputs self.new.loop ≤ most_inputs self.old.loop + 1 }
+    /// Inputs together, and the Downs right behind them. Those behind one that found no memory are a group of their
+    /// own.
+    fn give_all(&mut self, mut ungiven: Ungiven)
+        requires { 0 < length ungiven.inputs }
+        ensures gives { GivesAll K.stores ungiven self.old self.new }
+        ensures most { most_inputs self.new.loop ≤ most_inputs self.old.loop + length ungiven.inputs }
     {
-        let (conns, commands) = run.into_parts();
-        self.give(conns.as_slice(), Input::Commands(commands));
+        'groups: while !ungiven.is_empty() {
+            self.give_group(&mut ungiven);
+        }
+    }
+
+    /// Inputs together, up to the first that finds no memory, and the Downs right behind them.
+    fn give_group(&mut self, ungiven: &mut Ungiven)
+        requires { 0 < length ungiven.old.inputs }
+        ensures gives { GivesFrom K.stores ungiven.old ungiven.new self.old self.new }
+        ensures stays { Stays self.old.loop self.new.loop }
+        ensures none { IsDrained self.new.loop }
+        ensures fewer { length ungiven.new.inputs < length ungiven.old.inputs }
+        ensures most { most_inputs self.new.loop + length ungiven.new.inputs
+            ≤ most_inputs self.old.loop + length ungiven.old.inputs }
+    {
+        self.enter_group(ungiven);
+        self.drain();
+    }
+
+    /// Inputs together, up to the first that finds no memory, but for the Downs behind them.
+    fn enter_group(&mut self, ungiven: &mut Ungiven)
+        requires { 0 < length ungiven.old.inputs }
+        ensures gives { GivesFrom K.stores ungiven.old ungiven.new self.old self.new }
+        ensures stays { Stays self.old.loop self.new.loop }
+        ensures fewer { length ungiven.new.inputs < length ungiven.old.inputs }
+        ensures most { most_inputs self.new.loop + length ungiven.new.inputs
+            ≤ most_inputs self.old.loop + length ungiven.old.inputs }
+    {
+        if self.sessions.is_full() {
+            ungiven.clear();
+            return;
+        }
+        ungiven.give(&mut self.core, &mut self.sessions);
     }
 
     /// An input that was frames of these connections, and the Downs right behind it. What clients ask is asked
@@ -347,11 +376,12 @@ impl<K: Core> Driver<K> {
         self.sessions.kind(conn)
     }
 
-    /// How many commands were gathered.
-    fn gathered_len(&self) -> usize
-        ensures { result ≡ length self.now.loop.gathered }
+    /// Whether anything was gathered.
+    fn has_gathered(&self) -> bool
+        ensures some { IsTrue result → 0 < length (all_gathered self.now.loop) }
+        ensures none { result ≡ false → all_gathered self.now.loop ≡ [] }
     {
-        self.sessions.gathered_len()
+        self.sessions.has_gathered()
     }
 
     /// Ends the sessions for which more bytes wait than may, and gives the Downs of those that are over, until none
@@ -411,40 +441,8 @@ impl<K: Core> Driver<K> {
             return;
         }
         let wanted = asked_by(who, &input);
-        match self.core.step(input) {
-            Ok(given) => {
-                self.sessions.count_input();
-                hand_out(&mut self.sessions, wanted, given);
-            }
-            Err(StepFail::DiskFail { count }) => {
-                self.sessions.count_input();
-                self.sessions
-                    .excuse(wanted, Some(Refusal::StorageFailed { count }));
-            }
-            Err(StepFail::Damaged) => self.sessions.count_input(),
-            Err(StepFail::NoMemory) => {
-                self.sessions.lose_input();
-                self.sessions.excuse(wanted, None);
-            }
-        }
+        let result = self.core.step(input);
+        count(&mut self.sessions, &result);
+        answer(&mut self.sessions, wanted, false, result);
     }
-}
-
-/// What a step gives out, and what becomes of what was asked for.
-fn hand_out(sessions: &mut Sessions, wanted: Option<Wanted>, given: Given)
-    requires given { GivenInRange given }
-    requires wanted { IfSome wanted WantedInRange }
-    ensures { SessionsDo (λ marks s. settled marks (handed_out given (proposed wanted given.outcome s)))
-        sessions.old sessions.new }
-{
-    let Given {
-        sends,
-        replies,
-        read_replies,
-        outcome,
-    } = given;
-    sessions.propose(wanted, outcome);
-    sessions.send_all(sends);
-    sessions.reply_all(false, replies);
-    sessions.reply_all(true, read_replies);
 }

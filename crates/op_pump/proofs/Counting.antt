@@ -15,7 +15,7 @@ use Rattle.op_pump.specs.Serving.{knows, begun}
 
 -- what is to be closed doesn't matter
 pub most_emptied : {K : Type 0} (d e : Served K) → emptied d ≡ emptied e → most_inputs d.loop ≡ most_inputs e.loop
-most_emptied d e same = sym (most_same d.loop (emptied d).loop refl refl refl refl) ∙ ap (λ (x : Served _). most_inputs x.loop) same ∙ most_same e.loop (emptied e).loop refl refl refl refl
+most_emptied d e same = sym (most_same d.loop (emptied d).loop refl refl refl refl refl) ∙ ap (λ (x : Served _). most_inputs x.loop) same ∙ most_same e.loop (emptied e).loop refl refl refl refl refl
 
 -- a turn more
 pub one_turn : (a b m left next k : ℕ) → next + 1 ≡ left → b ≤ a + k → a + left * k ≤ m → b + next * k ≤ m
@@ -32,7 +32,7 @@ most_fresh me = refl
 
 most_knows : (ps : List (ℕ × Addr)) (s : Loop) → most_inputs (knows ps s) ≡ most_inputs s
 most_knows [] s = refl
-most_knows (p ∷ ps) s = most_knows ps (knowing p.0 s) ∙ most_same s (knowing p.0 s) refl refl refl refl
+most_knows (p ∷ ps) s = most_knows ps (knowing p.0 s) ∙ most_same s (knowing p.0 s) refl refl refl refl refl
 
 most_begun : (peers : List (ℕ × Addr)) (me : ℕ) → most_inputs (begun peers me) ≡ 0
 most_begun peers me = most_knows peers (fresh me) ∙ most_fresh me

@@ -11,11 +11,11 @@ use Rattle.op_outside.proofs.Seen.{grows_both}
 use Rattle.op_types.specs.declared.events.Input.{Input}
 use Rattle.op_setup.specs.declared.config.Settings.{Settings}
 use Rattle.op_serving.specs.declared.mark.Mark.{Mark}
-use Rattle.op_serving.specs.Cores.{Standing, after_input, faulted, reopened}
+use Rattle.op_serving.specs.Cores.{Failure, Standing, after_input, faulted, reopened}
 use Rattle.op_serving.specs.State.{Loop}
 use Rattle.op_serving.specs.Losses.{last_count, most_marks, IsCalm, IsFrom, has_threat}
 use Rattle.op_serving.specs.Inputs.{State, Deed, begins, hears, enters, says, takes, Luck, kept}
-use Rattle.op_serving.specs.Fates.{Fate, finds, faults, damaged, lost, after_fate}
+use Rattle.op_serving.specs.Fates.{Fate, finds, faults, shares, damaged, lost, after_fate}
 use Rattle.op_serving.specs.Fates as fates
 use Rattle.op_serving.specs.Faults.{Stepped, faulted_steps, FaultsWithin}
 use Rattle.op_serving.specs.Promise.{Keeps, folded}
@@ -44,7 +44,7 @@ folded_so (enters who i f ∷ ds) n m h = folded_so ds (after_fate n i f) m h.1
 folded_so (says f ∷ ds) n m h = folded_so ds n m h
 folded_so (takes c g ∷ ds) n m h = folded_so ds n m h
 
-after_faults_if : (o : Option ℕ) (n : Standing) (i : Input) → n.failed ≡ o → (after_input n i).faults ≡ n.faults
+after_faults_if : (o : Option Failure) (n : Standing) (i : Input) → n.failed ≡ o → (after_input n i).faults ≡ n.faults
 unfolding after_input
 after_faults_if None n i e = rw e refl
 after_faults_if (Some k) n i e = rw e refl
@@ -68,6 +68,7 @@ few_faults (hears c g ∷ ds) n m h = none_more n.faults (faulted_steps ds) m.fa
 few_faults (enters who i fates.done ∷ ds) n m h = none_more n.faults (faulted_steps ds) m.faults (subst (λ f. FaultsWithin f (faulted_steps ds) m.faults) (after_faults_if n.failed n i refl) (few_faults ds (after_input n i) m h.1))
 few_faults (enters who i (finds d) ∷ ds) n m h = none_more n.faults (faulted_steps ds) m.faults (few_faults ds (reopened d n) m h.1)
 few_faults (enters who i (faults k) ∷ ds) n m h = one_more n.faults k (faulted_steps ds) m.faults h.0 (few_faults ds (faulted k n) m h.1)
+few_faults (enters who i (shares k) ∷ ds) n m h = none_more n.faults (faulted_steps ds) m.faults (few_faults ds n m h.1)
 few_faults (enters who i damaged ∷ ds) n m h = none_more n.faults (faulted_steps ds) m.faults (few_faults ds n m h.1)
 few_faults (enters who i lost ∷ ds) n m h = none_more n.faults (faulted_steps ds) m.faults (few_faults ds n m h.1)
 few_faults (says f ∷ ds) n m h = none_more n.faults (faulted_steps ds) m.faults (few_faults ds n m h)
@@ -113,7 +114,7 @@ state_of s n = record { loop = s; node = n; deeds = [] }
 
 knows_begins : (ps : List (ℕ × Addr)) (s : Loop) (n : Standing) → Begins (state_of s n) → Begins (state_of (knows ps s) n)
 knows_begins [] s n b = b
-knows_begins (p ∷ ps) s n b = knows_begins ps (knowing p.0 s) n (record { sessions = b.sessions; askers = b.askers; gathered = b.gathered; lost = b.lost; deeds = b.deeds })
+knows_begins (p ∷ ps) s n b = knows_begins ps (knowing p.0 s) n (record { sessions = b.sessions; askers = b.askers; gathered = b.gathered; brought = b.brought; lost = b.lost; deeds = b.deeds })
 
 knows_me : (ps : List (ℕ × Addr)) (s : Loop) → (knows ps s).me ≡ s.me
 knows_me [] s = refl
@@ -138,7 +139,7 @@ runs o line end marks n start answers made last at led = record {
     p = started o n start
 
     begin : Begins p.driver
-    begin = knows_begins o.peers (fresh n.me) n (record { sessions = refl; askers = refl; gathered = refl; lost = refl; deeds = refl })
+    begin = knows_begins o.peers (fresh n.me) n (record { sessions = refl; askers = refl; gathered = refl; brought = refl; lost = refl; deeds = refl })
 
 module _ {K : Type 0} {standing : K → Standing} {stores : Stores K} where
   pub serves : (o : Settings) (line : Standing → List ℕ) (end : ServeEnd) (marks : List Mark) (start : ℕ) (u : Timer) (d e : Served K) (net0 net1 : NetSeen) (clock0 clock1 clock2 : Option (List ℕ))

@@ -271,7 +271,7 @@ happened_so {K} {stores} o line t d m e r i k h n0 n1 n2 less at none acts told 
     } in
     goes_one o line x (Readied i h ∷ []) a (asks (i + 1) k) t m e r n0 n1 n2 done (moved_calm (λ l s. happened l h s) (i + 1) d m before_it acts) told (unbroken m.loop (asks (i + 1) k) n0.1 n1.1 refl same) s
 
--- behind the last one the commands that were gathered are given
+-- behind the last one what was gathered is given
 pub happenings_end : {K : Type 0} {stores : Stores K} (o : Settings) (line : Standing → List ℕ) (t : Timer) (d m e : Served K) (r : Result (Unit {0}) ServeEnd) (k : ℕ) (n0 n1 : NetSeen) → d.loop.place.at < writes_place → Does stores (λ l s. flushed l s) (moved_to writes_place d) m → Settles m r e n0 n1
     → Goes stores o line [] (moment (asks k k) t d) (moment (reached r (writes 0)) t e) n0 n1
 happenings_end {K} {stores} o line t d m e r k n0 n1 before_it does s =

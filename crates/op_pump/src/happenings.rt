@@ -15,7 +15,7 @@ use op_serving::{Core, Kind, ServeEnd};
 const WRITES_PLACE: u8 = 65;
 
 impl<K: Core> Pump<K> {
-    /// What happened, in its order; then the commands that were gathered are given.
+    /// What happened, in its order; then what was gathered is given.
     pub fn take_happenings<N: Net>(&mut self, net: &mut N, count: usize) -> Result<(), ServeEnd>
         requires most { count ≤ most_happenings }
         requires given { N.given net.old ≡ count }
@@ -36,7 +36,7 @@ impl<K: Core> Pump<K> {
         self.end_happenings(net)
     }
 
-    /// Behind the last happening the commands that were gathered are given.
+    /// Behind the last happening what was gathered is given.
     fn end_happenings<N: Net>(&mut self, net: &mut N) -> Result<(), ServeEnd>
         requires idle { IsResting self.old.driver.loop }
         requires at { self.old.driver.loop.place.at < writes_place }

@@ -1,11 +1,12 @@
 -- Who asked last for which command or read: what is forgotten, and what a table says of it.
-use Rattle.std.proofs.Common.{◌≡◌, ◌∷◌, [], ℕ, Bool, true, false, not, List, Option, Some, None, ◌==◌, cond, if◌then◌else◌, refl, sym, ◌∙◌, ap, inl, inr, filter}
+use Rattle.std.proofs.Common.{◌≡◌, ◌∷◌, [], ℕ, Bool, true, false, not, List, Option, Some, None, ◌==◌, cond, if◌then◌else◌, refl, sym, ◌∙◌, ap, inl, inr, filter, All}
 use Rattle.std.proofs.lemmas.Bool.{cases_Bool, eq-eqb}
 use Rattle.std.specs.FinMap as map
 use Rattle.std.specs.Cmp.{tied_itself}
 use Rattle.std.specs.Map.{lookup, keys_of}
 use Rattle.std.specs.List.{AllByRecursion}
 use Rattle.std.specs.List.Sorted.{IsStrictlySortedBy}
+use Rattle.std.proofs.lemmas.List.Elements.{All-cons, All-head, All-tail}
 use Rattle.std.proofs.lemmas.Map.Keys.{sorted_head, sorted_tail}
 use Rattle.std.specs.declared.cmp.Ordering.{Ordering}
 use Rattle.std.specs.declared.cmp.Ordering.TheVariants.{Less, Equal, Greater}
@@ -13,6 +14,7 @@ use Rattle.std.specs.BTreeMap.{is_at}
 use Rattle.std.specs.Ordering.{is_eq}
 use Rattle.op_serving.specs.State.{Askers, Awaited, askers_in, awaited_cmp, is_conn, without_asker}
 use Rattle.op_serving.proofs.KeyOrder.{key_exact, key_total}
+use Rattle.op_queues.specs.Asked.{AwaitedInRange}
 
 -- ---- the order of what is waited for
 
@@ -163,3 +165,12 @@ filtered_at c q (e ∷ t) s =
 
 pub filtered : (c : ℕ) (t : Entries) → IsStrictlySortedBy awaited_cmp (keys_of t) → askers_in (filter (λ e. not (e.1 == c)) t) ≡ without_asker c (askers_in t)
 filtered c t s = same_askers _ _ (λ q. get_in (filter (kept_from c) t) q ∙ filtered_at c q t s ∙ ap (unless_at c) (sym (get_in t q)) ∙ sym (get_without c (askers_in t) q))
+
+-- ---- in range
+
+pub asked_left : (c : ℕ) (t : Entries) → All AwaitedInRange (keys_of t) → All AwaitedInRange (keys_of (filter (λ e. not (e.1 == c)) t))
+asked_left c [] h = h
+asked_left c (e ∷ t) h = elim (cases_Bool (e.1 == c)) [
+  | inl y ↦ rw y (asked_left c t (All-tail AwaitedInRange e.0 (keys_of t) h))
+  | inr y ↦ rw y (All-cons AwaitedInRange e.0 (keys_of (filter (kept_from c) t)) (All-head AwaitedInRange e.0 (keys_of t) h) (asked_left c t (All-tail AwaitedInRange e.0 (keys_of t) h)))
+]

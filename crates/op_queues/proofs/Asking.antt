@@ -72,7 +72,7 @@ asked_more read (k ∷ keys) p s = asked_more read keys p (asked_by_one read k s
 -- ---- one command
 
 pub asked_found : (read : Bool) (p : ℕ × Key) (s t : Loop) → t ≡ asked_by_one read p s → Does (λ ms x. settled ms (asked_by_one read p x)) s t
-asked_found read p s t e = rw e (record { grew = grew_still refl refl; ends = omega arith; most = omega (arith, most_same s (asked_by_one read p s) refl refl refl refl); kinds = λ c. inl refl; stays = stays_same refl; is = λ marks h. refl })
+asked_found read p s t e = rw e (record { grew = grew_still refl refl; ends = omega arith; most = omega (arith, most_same s (asked_by_one read p s) refl refl refl refl refl); kinds = λ c. inl refl; stays = stays_same refl; is = λ marks h. refl })
 
 -- with and without a session
 pub asked_closed : (read : Bool) (p : ℕ × Key) (s t : Loop) → is_open p.0 s ≡ false → t ≡ with_askers (map.remove s.askers (read, p.1)) s → Does (λ ms x. settled ms (asked_by_one read p x)) s t
@@ -109,7 +109,7 @@ asked_lost read p s t h room none e =
     rw all (record {
       grew = grew_trans still (lost_grew p.0 u);
       ends = size_lost p.0 u;
-      most = omega (arith, most_lost p.0 u, most_same s u refl refl refl refl);
+      most = omega (arith, most_lost p.0 u, most_same s u refl refl refl refl refl);
       kinds = lost_kinds p.0 u;
       stays = stays_same (lost_place p.0 u);
       is = λ marks f. ap (settled marks) is_u ∙ lost_first p.0 u marks h (room h) f;

@@ -9,13 +9,14 @@ use Rattle.std.specs.List.{sum_by}
 use Rattle.std.specs.Map.{values_of}
 use Rattle.std.specs.Ordering.{nat_cmp}
 use Rattle.op_types.specs.declared.log.Command.{Command}
+use Rattle.op_types.specs.declared.messages.Msg.{Msg}
 use Rattle.op_serving.specs.declared.kind.Kind.{Kind}
 use Rattle.op_serving.specs.declared.kind.Kind.TheVariants.{Unknown, Peer, Client}
 use Rattle.op_serving.specs.declared.session.Session.{Session}
 use Rattle.op_serving.specs.State.{Table, Loop, find, is_open, kind_at, set, without, changed, changed_at, down_of, with_bytes, waits_for, left_at, left_by, counted}
 use Rattle.op_serving.specs.Losses.{most_marks, mark_at, noted, stopped_if, marked, lost_by}
 use Rattle.op_serving.specs.Counts.{hello_in, most_of, most_inputs}
-use Rattle.op_serving.specs.Inputs.{gathers, releases}
+use Rattle.op_serving.specs.Inputs.{gathers, brings, releases}
 use Rattle.op_serving.specs.Reading.{feeding, feeds, frames_at, links}
 use Rattle.op_serving.specs.Turns.{happens_at, turn_begins, hello_less, joining, made_session, taken_of, up_peer, without_bytes}
 use Rattle.op_queues.proofs.Tables.{without_short, find_set}
@@ -74,7 +75,7 @@ module _ (f : Session → Session) (n : ℕ) (few : (x : Session) → most_of (f
 
 -- ---- of what is there
 
-pub most_is : (s : Loop) → most_inputs s ≡ s.place.inputs + length s.downs + length s.gathered + most_in s.sessions
+pub most_is : (s : Loop) → most_inputs s ≡ s.place.inputs + length s.downs + length s.gathered + length s.brought + most_in s.sessions
 unfolding most_inputs most_in
 most_is s = refl
 
@@ -83,8 +84,8 @@ pub came : (s : Loop) → s.place.inputs ≤ most_inputs s
 came s = omega (arith, most_is s)
 
 -- where as many came, and the same is there
-pub most_same : (s t : Loop) → t.place.inputs ≡ s.place.inputs → t.downs ≡ s.downs → t.gathered ≡ s.gathered → t.sessions ≡ s.sessions → most_inputs t ≡ most_inputs s
-most_same s t i d g x = omega (arith, most_is s, most_is t, i, ap length d, ap length g, ap most_in x)
+pub most_same : (s t : Loop) → t.place.inputs ≡ s.place.inputs → t.downs ≡ s.downs → t.gathered ≡ s.gathered → t.brought ≡ s.brought → t.sessions ≡ s.sessions → most_inputs t ≡ most_inputs s
+most_same s t i d g b x = omega (arith, most_is s, most_is t, i, ap length d, ap length g, ap length b, ap most_in x)
 
 -- where the sessions alone change
 most_sessions : (n : ℕ) (s : Loop) (t : Table Session) → most_in t ≤ most_in s.sessions + n → most_inputs (record s { sessions = t }) ≤ most_inputs s + n
@@ -95,7 +96,7 @@ most_sessions n s t h = omega (arith, h, most_is s, most_is (record s { sessions
 most_left_at : (c : ℕ) (o : Option Session) (s : Loop) → find c s.sessions ≡ o → most_inputs (left_at c (option_map (λ x. x.kind) o) s) ≤ most_inputs s
 most_left_at c None s e = omega arith
 most_left_at c (Some x) s e =
-    omega (arith, most_is s, most_is (left_at c (Some x.kind) s), length-append s.downs (down_of x.kind), one_down x.kind, without_short c s.gathered, most_taken_out c x s.sessions e)
+    omega (arith, most_is s, most_is (left_at c (Some x.kind) s), length-append s.downs (down_of x.kind), one_down x.kind, without_short c s.gathered, without_short c s.brought, most_taken_out c x s.sessions e)
 
 pub most_left : (c : ℕ) (s : Loop) → most_inputs (left_by c s) ≤ most_inputs s
 most_left c s = most_left_at c (find c s.sessions) s refl
@@ -104,7 +105,7 @@ most_left c s = most_left_at c (find c s.sessions) s refl
 most_ended_at : (c : ℕ) (o : Option Session) (s : Loop) → find c s.sessions ≡ o → is_some o ≡ true → most_inputs (left_at c (option_map (λ x. x.kind) o) s) + 1 ≤ most_inputs s
 most_ended_at c None s e h = absurd cc
 most_ended_at c (Some x) s e h =
-    omega (arith, most_is s, most_is (left_at c (Some x.kind) s), length-append s.downs (down_of x.kind), one_down x.kind, without_short c s.gathered, most_taken_out c x s.sessions e)
+    omega (arith, most_is s, most_is (left_at c (Some x.kind) s), length-append s.downs (down_of x.kind), one_down x.kind, without_short c s.gathered, without_short c s.brought, most_taken_out c x s.sessions e)
 
 pub most_ended : (c : ℕ) (s : Loop) → is_open c s ≡ true → most_inputs (left_by c s) + 1 ≤ most_inputs s
 most_ended c s h = most_ended_at c (find c s.sessions) s refl h
@@ -120,7 +121,7 @@ most_stopped false s = omega (arith, most_is s, most_is (stopped_if false s), mo
 pub most_marked : (conn : Option ℕ) (s : Loop) → most_inputs (marked conn s) ≤ most_inputs s
 most_marked conn s =
     let n : Loop = noted (mark_at s.place conn) s in
-    let same : most_inputs n ≡ most_inputs s = most_same s n refl refl refl refl in
+    let same : most_inputs n ≡ most_inputs s = most_same s n refl refl refl refl refl in
     omega (arith, most_stopped (nat_lt (length s.lost + 1) most_marks) n, same)
 
 pub most_lost : (c : ℕ) (s : Loop) → most_inputs (lost_by c s) ≤ most_inputs s
@@ -177,14 +178,14 @@ pub most_joining : (c : ℕ) (kind : Kind) (s : Loop) → most_inputs (joining c
 most_joining c kind s =
     let x : Session = made_session kind s.me in
     let t : Table Session = insert_entry nat_cmp s.sessions c x in
-    let same : most_inputs (joining c kind s) ≡ most_inputs (record s { sessions = t }) = most_same (record s { sessions = t }) (joining c kind s) refl refl refl refl in
+    let same : most_inputs (joining c kind s) ≡ most_inputs (record s { sessions = t }) = most_same (record s { sessions = t }) (joining c kind s) refl refl refl refl refl in
     omega (arith, same, most_sessions (most_of x) s t (most_put c x s.sessions), most_made kind s.me)
 
 pub most_links : (q c : ℕ) (s : Loop) → most_inputs (links q c s) ≤ most_inputs s
 most_links q c s =
     let f = λ (x : Session). record x { kind = Peer q 0 } in
     let t : Table Session = changed f c s.sessions in
-    let same : most_inputs (links q c s) ≡ most_inputs (record s { sessions = t }) = most_same (record s { sessions = t }) (links q c s) refl refl refl refl in
+    let same : most_inputs (links q c s) ≡ most_inputs (record s { sessions = t }) = most_same (record s { sessions = t }) (links q c s) refl refl refl refl refl in
     omega (arith, same, most_sessions 0 s t (most_changed f 0 (λ x. omega arith) c s.sessions))
 
 -- ---- inputs and commands
@@ -195,20 +196,23 @@ most_counted s = omega (arith, most_is s, most_is (counted s))
 pub most_gathers : (c : ℕ) (x : Command) (s : Loop) → most_inputs (gathers c x s) ≤ most_inputs s + 1
 most_gathers c x s = omega (arith, most_is s, most_is (gathers c x s), length-append s.gathered ((c, x) ∷ []))
 
-pub most_releases : (s : Loop) → most_inputs (releases s) + length s.gathered ≡ most_inputs s
+pub most_brings : (c : ℕ) (m : ℕ × Msg) (s : Loop) → most_inputs (brings c m s) ≤ most_inputs s + 1
+most_brings c m s = omega (arith, most_is s, most_is (brings c m s), length-append s.brought ((c, m) ∷ []))
+
+pub most_releases : (s : Loop) → most_inputs (releases s) + length s.gathered + length s.brought ≡ most_inputs s
 most_releases s = omega (arith, most_is s, most_is (releases s))
 
 -- the first Down is taken
 pub most_less : (s t : Loop) {q : ℕ} {qs : List ℕ} → t ≡ record s { downs = drop 1 s.downs } → s.downs ≡ q ∷ qs → most_inputs t + 1 ≡ most_inputs s
-most_less s t {q} {qs} e first = omega (arith, most_is s, most_is t, ap length first, ap (λ (x : Loop). length x.downs) e, length-drop 1 s.downs, ap (λ (x : Loop). x.place.inputs) e, ap (λ (x : Loop). length x.gathered) e, ap (λ (x : Loop). most_in x.sessions) e)
+most_less s t {q} {qs} e first = omega (arith, most_is s, most_is t, ap length first, ap (λ (x : Loop). length x.downs) e, length-drop 1 s.downs, ap (λ (x : Loop). x.place.inputs) e, ap (λ (x : Loop). length x.gathered) e, ap (λ (x : Loop). length x.brought) e, ap (λ (x : Loop). most_in x.sessions) e)
 
 -- ---- where in the run
 
 pub most_at_frame : (n : ℕ) (s : Loop) → most_inputs (frames_at n s) ≡ most_inputs s
-most_at_frame n s = most_same s (frames_at n s) refl refl refl refl
+most_at_frame n s = most_same s (frames_at n s) refl refl refl refl refl
 
 pub most_at : (i : ℕ) (s : Loop) → most_inputs (happens_at i s) ≡ most_inputs s
-most_at i s = most_same s (happens_at i s) refl refl refl refl
+most_at i s = most_same s (happens_at i s) refl refl refl refl refl
 
 pub most_turn : (s : Loop) → most_inputs (turn_begins s) ≡ most_inputs s
-most_turn s = most_same s (turn_begins s) refl refl refl refl
+most_turn s = most_same s (turn_begins s) refl refl refl refl refl

@@ -17,3 +17,5 @@ pub mod Runs
 pub mod Framings
 pub mod Filling
 pub mod Shedding
+pub mod Failing
+pub mod Grouping

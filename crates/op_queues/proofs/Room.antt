@@ -284,7 +284,7 @@ placed_found false f s t e = rw e (record {
 })
   where
     most_kept : (b : Bool) → most_inputs (kept b f s) ≤ most_inputs s
-    most_kept true = omega (arith, most_same s (kept true f s) refl refl refl refl)
+    most_kept true = omega (arith, most_same s (kept true f s) refl refl refl refl refl)
     most_kept false = omega arith
 
 -- it found none
@@ -487,7 +487,7 @@ pub cleared_done : (b : Bool) (c : ℕ) (s t : Loop) → t ≡ cleared b c s →
 cleared_done true c s t e = rw e (record {
   grew = grew_still refl refl;
   ends = omega arith;
-  most = omega (arith, most_same s (cleared true c s) refl refl refl refl);
+  most = omega (arith, most_same s (cleared true c s) refl refl refl refl refl);
   kinds = λ d. inl refl;
   stays = stays_same refl;
   is = λ marks h. refl;

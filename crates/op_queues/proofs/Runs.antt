@@ -1,8 +1,8 @@
 -- Commands and their connections, as two lists: what is left of both without one connection.
 use Rattle.std.proofs.Common.{◌≡◌, ◌<◌, ◌≤◌, ◌++◌, ◌∷◌, [], ℕ, zero, suc, List, length, take, drop, append_assoc, get_or, map, All, true, false, Bool, ◌==◌, if◌then◌else◌, refl, sym, ◌∙◌, ap, inl, inr, arith}
 use Rattle.std.proofs.lemmas.Bool.{cases_Bool, eqb-true, eq-eqb}
-use Rattle.std.proofs.lemmas.List.{length-map}
-use Rattle.std.proofs.lemmas.List.Elements.{All-nil, All-cons, All-head, All-tail}
+use Rattle.std.proofs.lemmas.List.{length-append, length-map}
+use Rattle.std.proofs.lemmas.List.Elements.{All-nil, All-cons, All-head, All-tail, All-push}
 use Rattle.std.specs.List.{zip, remove}
 use Rattle.std.specs.BTreeMap.{is_at}
 use Rattle.std.specs.Ordering.{nat_cmp}
@@ -13,6 +13,7 @@ use Rattle.op_conns.proofs.Numbers.{is_at_own, is_at_other}
 use Rattle.op_serving.specs.State.{without}
 use Rattle.op_serving.specs.Ranges.{GatheredInRange}
 use Rattle.op_serving.specs.Inputs.{key_of}
+use Rattle.op_queues.specs.Gathering.{RunInRange}
 
 module _ {X : Type 0} where
   -- one more at the end of both
@@ -113,12 +114,12 @@ keys_more (w ∷ who) [] n c x h g is_c is_x = absurd (omega (arith, g))
 keys_more (w ∷ who) (y ∷ xs) zero c x h g is_c is_x = ap (λ k. (k, key_of y) ∷ []) (sym (is_c 0)) ∙ ap (λ z. (c, key_of z) ∷ []) (sym (is_x y))
 keys_more (w ∷ who) (y ∷ xs) (suc n) c x h g is_c is_x = ap (λ l. (w, key_of y) ∷ l) (keys_more who xs n c x (omega (arith, h)) (omega (arith, g)) is_c is_x)
 
--- what is left of them is in range
-pub gathered_left : (c : ℕ) (g : List (ℕ × Command)) → All GatheredInRange g → All GatheredInRange (without c g)
-gathered_left c [] h = h
-gathered_left c (e ∷ g) h = elim (cases_Bool (is_at (nat_cmp c) e.0)) [
-  | inl y ↦ rw y (gathered_left c g (All-tail GatheredInRange e g h))
-  | inr y ↦ rw y (All-cons GatheredInRange e (without c g) (All-head GatheredInRange e g h) (gathered_left c g (All-tail GatheredInRange e g h)))
+-- of what is left all is so that was so of all
+pub all_left : {X : Type 0} (P : ℕ × X → Type 0) (c : ℕ) (g : List (ℕ × X)) → All P g → All P (without c g)
+all_left P c [] h = h
+all_left P c (e ∷ g) h = elim (cases_Bool (is_at (nat_cmp c) e.0)) [
+  | inl y ↦ rw y (all_left P c g (All-tail P e g h))
+  | inr y ↦ rw y (All-cons P e (without c g) (All-head P e g h) (all_left P c g (All-tail P e g h)))
 ]
 
 -- a test of a number, and of where it stands
@@ -127,6 +128,10 @@ at_same a c h = ap (λ k. is_at (nat_cmp c) k) (eqb-true a c h) ∙ is_at_own c
 
 pub at_another : (a c : ℕ) → (a == c) ≡ false → is_at (nat_cmp c) a ≡ false
 at_another a c h = is_at_other c a (λ k. let same : (a == c) ≡ true = eq-eqb a c (sym k) in let bad : true ≡ false = sym same ∙ h in cc)
+
+-- one command more is in range
+pub run_more : (g : List (ℕ × Command)) (c : ℕ) (x : Command) → length g < most_commands → RunInRange g → CommandInRange x → RunInRange (g ++ (c, x) ∷ [])
+run_more g c x few h k = record { each = All-push GatheredInRange g (c, x) h.each k; few = omega (arith, few, length-append g ((c, x) ∷ [])) }
 
 -- what is given together is in range
 pub are_commands : (g : List (ℕ × Command)) (xs : List Command) → xs ≡ map (λ e. e.1) g → All GatheredInRange g → length g ≤ most_commands → 0 < length g → AreCommands xs

@@ -19,13 +19,13 @@ use Rattle.op_serving.specs.declared.node.Given.{Given}
 use Rattle.op_serving.specs.declared.session.Session.{Session}
 use Rattle.op_serving.specs.declared.wanted.Wanted.{Wanted}
 use Rattle.op_serving.specs.Cores.{Standing, gives, given_again}
-use Rattle.op_serving.specs.State.{Key, Table, Loop, find, is_open, changed_at, down_of, left_at, left_by, waits_for, counted}
+use Rattle.op_serving.specs.State.{Key, Table, Loop, find, is_open, changed_at, down_of, left_at, left_by, waits_for}
 use Rattle.op_serving.specs.Wire.{peer_frame, client_frame}
 use Rattle.op_serving.specs.Losses.{most_marks, mark_at, noted, stopped_if, marked, lost_by, lost_one, is_due, settle, size}
 use Rattle.op_serving.specs.Room.{Frame, has_room, count_at, goes_ahead, kept, placed, without_first, first_moved, moved_in, moved, begins_anew, cleared}
-use Rattle.op_serving.specs.Handing.{made_way, said_at, goes_to, sent_at, sent, sent_all, forgotten, answered, replied, replied_all, handed_out, said_of_denial, said_at_once, Told, told_all, asked_by_one, asked, is_read, keys_that_wait, proposed, excused}
-use Rattle.op_serving.specs.Inputs.{loop_after}
-use Rattle.op_serving.specs.Fates.{Fate, done, finds, faults, damaged, lost}
+use Rattle.op_serving.specs.Handing.{made_way, said_at, goes_to, sent_at, sent, sent_all, forgotten, answered, replied, replied_all, handed_out, said_of_denial, said_at_once, Told, told_all, asked_by_one, asked, is_read, keys_that_wait, proposed, excused, said_of_failure, given_up}
+use Rattle.op_serving.specs.Inputs.{Taken, loop_taking, loop_after, loop_after_all}
+use Rattle.op_serving.specs.Fates.{Fate, done, finds, faults, shares, damaged, lost}
 use Rattle.op_queues.proofs.Tables.{without_less}
 
 -- ---- a session ends
@@ -149,10 +149,27 @@ size_excused : (w : Option Wanted) (why : Option Refusal) (s : Loop) → size (e
 size_excused None why s = refl
 size_excused (Some w) why s = size_told_all (said_of_denial w why) s
 
--- an input ends no session but those that are lost
-pub size_loop_after : (a : Option Wanted) (i : Input) (f : Fate) (n : Standing) (s : Loop) → size (loop_after a i f n s) ≤ size s
-size_loop_after a i done n s = omega (arith, size_handed (gives n i) (proposed a (gives n i).outcome (counted s)), size_proposed a (gives n i).outcome (counted s))
-size_loop_after a i (finds d) n s = omega (arith, size_handed (given_again n d) (proposed a None (counted s)), size_proposed a None (counted s))
-size_loop_after a i (faults k) n s = omega (arith, size_excused a (Some (StorageFailed k)) (counted s))
-size_loop_after a i damaged n s = omega arith
-size_loop_after a i lost n s = omega (arith, size_excused a None (counted (marked None s)), size_marked None s)
+size_given_up : (k : ℕ) (s : Loop) → size (given_up k s) ≡ size s
+size_given_up k s = size_told_all (said_of_failure k s.askers) (record s { askers = map.empty })
+
+-- what is taken ends no session but those that are lost
+pub size_loop_taking : (f : Fate) (s : Loop) → size (loop_taking f s) ≤ size s
+size_loop_taking done s = omega arith
+size_loop_taking (finds d) s = omega arith
+size_loop_taking (faults k) s = omega arith
+size_loop_taking (shares k) s = omega arith
+size_loop_taking damaged s = omega arith
+size_loop_taking lost s = omega (arith, size_marked None s)
+
+-- and what is handed out none
+pub size_loop_after : (a : Option Wanted) (i : Input) (f : Fate) (n : Standing) (s : Loop) → size (loop_after a i f n s) ≡ size s
+size_loop_after a i done n s = size_handed (gives n i) (proposed a (gives n i).outcome s) ∙ size_proposed a (gives n i).outcome s
+size_loop_after a i (finds d) n s = size_handed (given_again n d) (proposed a None s) ∙ size_proposed a None s
+size_loop_after a i (faults k) n s = size_excused a (Some (StorageFailed k)) (given_up k s) ∙ size_given_up k s
+size_loop_after a i (shares k) n s = size_excused a (Some (StorageFailed k)) s
+size_loop_after a i damaged n s = refl
+size_loop_after a i lost n s = size_excused a None s
+
+pub size_loop_after_all : (ts : List Taken) (s : Loop) → size (loop_after_all ts s) ≡ size s
+size_loop_after_all [] s = refl
+size_loop_after_all (t ∷ ts) s = size_loop_after_all ts (loop_after t.wanted t.input t.fate t.before s) ∙ size_loop_after t.wanted t.input t.fate t.before s

@@ -1,6 +1,8 @@
-ghost use Rattle.std.specs.Prelude.{◌≡◌, None, OnOk, OnErr};
+ghost use Rattle.std.specs.Prelude.{◌≡◌, None, All, OnOk, OnErr};
+ghost use Rattle.std.specs.Map.{keys_of};
 ghost use Rattle.std.specs.FinMap as map;
 ghost use Rattle.op_serving.specs.State.{askers_in, without_asker};
+ghost use Rattle.op_queues.specs.Asked.{AwaitedInRange};
 
 use op_outside::Conn;
 use op_serving::Awaited;
@@ -17,6 +19,8 @@ pub fn put_asker(
         ≡ map.insert (askers_in askers.old.entries) key conn) }
     ensures err { OnErr result (askers_in askers.new.entries ≡ askers_in askers.old.entries) }
     ensures absent { OnErr result (map.get (askers_in askers.old.entries) key ≡ None) }
+    ensures range { AwaitedInRange key → All AwaitedInRange (keys_of askers.old.entries) →
+        All AwaitedInRange (keys_of askers.new.entries) }
 {
     askers.insert(key, conn)?;
     Ok(())
@@ -26,14 +30,18 @@ pub fn put_asker(
 pub fn forget(askers: &mut BTreeMap<Awaited, Conn>, key: Awaited) -> Option<Conn>
     ensures was { result ≡ map.get (askers_in askers.old.entries) key }
     ensures rest { askers_in askers.new.entries ≡ map.remove (askers_in askers.old.entries) key }
+    ensures range { All AwaitedInRange (keys_of askers.old.entries) →
+        All AwaitedInRange (keys_of askers.new.entries) }
 {
     askers.remove(&key)
 }
 
 /// Whoever asked at a connection waits no more.
 pub fn forget_all(askers: &mut BTreeMap<Awaited, Conn>, conn: Conn)
-    ensures { askers_in askers.new.entries
+    ensures is { askers_in askers.new.entries
         ≡ without_asker conn (askers_in askers.old.entries) }
+    ensures range { All AwaitedInRange (keys_of askers.old.entries) →
+        All AwaitedInRange (keys_of askers.new.entries) }
 {
     askers.retain(|_, at| *at != conn);
 }

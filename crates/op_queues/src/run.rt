@@ -2,7 +2,7 @@ ghost use Rattle.std.specs.Prelude.{◌≡◌, ◌==◌, ◌<◌, ◌≤◌, ◌
 ghost use Rattle.op_types.specs.Limits.{most_commands};
 ghost use Rattle.op_types.specs.declared.log.Command.{Command};
 ghost use Rattle.op_serving.specs.State.{without};
-ghost use Rattle.op_types.specs.Ranges.{AreCommands};
+ghost use Rattle.op_types.specs.Ranges.{CommandInRange, AreCommands};
 ghost use Rattle.op_serving.specs.Ranges.{GatheredInRange};
 ghost use Rattle.op_queues.specs.Gathering.{RunInRange};
 
@@ -53,6 +53,7 @@ impl Run {
         requires { length self.old < most_commands }
         ensures ok { OnOk result (self.new ≡ self.old ++ (conn, command) ∷ []) }
         ensures err { OnErr result (self.new ≡ self.old) }
+        ensures range { RunInRange self.old → CommandInRange command → RunInRange self.new }
     {
         self.commands.push(command)?;
         self.conns.push(conn);
@@ -60,7 +61,7 @@ impl Run {
     }
 
     /// The commands of a connection aren't given any more.
-    #[tactic(auto, using(crate::proofs::Tables::without_short, crate::proofs::Runs::gathered_left))]
+    #[tactic(auto, using(crate::proofs::Tables::without_short, crate::proofs::Runs::all_left))]
     pub fn forget(&mut self, conn: Conn)
         ensures is { self.new ≡ without conn self.old }
         ensures len { length self.new ≤ length self.old }

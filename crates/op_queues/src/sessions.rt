@@ -1,30 +1,31 @@
 ghost use Rattle.std.specs.Map.{keys_of, values_of};
-ghost use Rattle.std.specs.Prelude.{◌≡◌, ◌<◌, ◌≤◌, ◌+◌, ◌∷◌, drop, flat_map, ◌↔◌, [], All, length, IsTrue, OnOk, OnErr, IfOk, IfNone, IfSome, None, true, false};
+ghost use Rattle.std.specs.Prelude.{◌≡◌, ◌<◌, ◌≤◌, ◌+◌, ◌∷◌, drop, nat_le, flat_map, ◌↔◌, [], All, length, IsTrue, OnOk, OnErr, IfOk, IfNone, IfSome, None, true, false};
 ghost use Rattle.op_types.specs.Limits.{most_commands};
 ghost use Rattle.op_types.specs.Ranges.{IsPid, CommandInRange};
+ghost use Rattle.op_msg.specs.Ranges.{MsgInRange};
 ghost use Rattle.op_serving.specs.State.{find, is_open, is_overfull, kind_at, session_of, shed, left_by, next, conn_of, counted, down_of};
 ghost use Rattle.op_serving.specs.Ranges.{KindInRange};
 ghost use Rattle.op_serving.specs.Losses.{most_marks, marked, lost_by, lost_if_open};
-ghost use Rattle.op_serving.specs.Inputs.{releases};
+ghost use Rattle.op_serving.specs.Inputs.{most_brought, gathers, brings, releases, all_gathered};
 ghost use Rattle.op_serving.specs.Reading.{feeds, frames_at, held_in, is_peer, links};
 ghost use Rattle.op_serving.specs.Turns.{closed_new, dialled_to, fresh, joining, knowing, queue_in, waiting_from, taken_of, turn_begins, happens_at};
 ghost use Rattle.op_serving.specs.Counts.{most_inputs};
 ghost use Rattle.op_queues.specs.Hearing.{TakesAt, FoundInRange, least_taken};
 ghost use Rattle.op_queues.specs.Filling.{IsThin, first_over, over_of};
-ghost use Rattle.op_queues.specs.Gathering.{Gathers, RunInRange};
 
 mod handing;
 
 use crate::asker_table::forget_all;
 use crate::behind::Behind;
 use crate::front::Front;
-use crate::run::Run;
+use crate::gathered::Gathered;
+use crate::group::Group;
 use crate::session_table::{
     dial_link, feed, link_peer, note_down, set_kind, take_front_at, take_out, took_at,
 };
 use op_outside::Conn;
-use op_serving::{Awaited, Kind, Mark, Place, Session};
-use op_types::{Command, MOST_COMMANDS, NoMemory, Pid};
+use op_serving::{Awaited, Kind, MOST_BROUGHT, Mark, Place, Session};
+use op_types::{Command, MOST_COMMANDS, Msg, NoMemory, Pid};
 use std::alloc::Global;
 use std::collections::BTreeMap;
 use std::marker::Model;
@@ -45,7 +46,7 @@ pub struct Sessions {
     overfull: bool,
     /// Who asked last for a command or a read: the connection of a session that is there.
     askers: BTreeMap<Awaited, Conn>,
-    gathered: Run,
+    gathered: Gathered,
     behind: Behind,
     place: Place,
     /// There is room for all of them.
@@ -61,14 +62,14 @@ pub struct Sessions {
 impl Model for Sessions {
     ghost use Rattle.std.specs.Prelude.{◌≡◌, ◌<◌, ◌≤◌, ◌+◌, [], length, vec_capacity, All, false};
     ghost use Rattle.std.specs.Map.{keys_of, values_of};
-    ghost use Rattle.op_types.specs.Limits.{most_commands};
     ghost use Rattle.op_types.specs.Ranges.{IsPid};
     ghost use Rattle.std.specs.Coded.{codes};
     ghost use Rattle.op_serving.specs.State.{Loop, askers_in};
-    ghost use Rattle.op_serving.specs.Ranges.{SessionInRange, GatheredInRange};
+    ghost use Rattle.op_serving.specs.Ranges.{SessionInRange};
     ghost use Rattle.op_serving.specs.Codes.{askers_code};
     ghost use Rattle.op_serving.specs.Losses.{most_marks};
     ghost use Rattle.op_queues.specs.Filling.{IsThin};
+    ghost use Rattle.op_queues.specs.Asked.{AwaitedInRange};
 
     ghost Value = { Loop };
 
@@ -79,7 +80,8 @@ impl Model for Sessions {
       peers = s.peers.entries;
       sessions = s.sessions.entries;
       askers = askers_in s.askers.entries;
-      gathered = s.gathered;
+      gathered = s.gathered.gathered;
+      brought = s.gathered.brought;
       behind = s.behind;
       place = s.place;
       lost = s.lost.items;
@@ -94,9 +96,9 @@ impl Model for Sessions {
         × (length s.sessions.entries < vec_capacity s.closes)
         × (length s.downs.items + length s.sessions.entries ≤ vec_capacity s.downs)
         × (most_marks ≤ length s.lost.items → s.sessions.entries ≡ [])
-        × (length s.gathered < most_commands) × All GatheredInRange s.gathered
         × IsPid s.me × All IsPid (keys_of s.peers.entries) × All IsPid s.downs.items
         × All SessionInRange (values_of s.sessions.entries)
+        × All AwaitedInRange (keys_of s.askers.entries)
         × (s.overfull ≡ false → All IsThin (values_of s.sessions.entries)) };
 }
 
@@ -112,7 +114,7 @@ impl Sessions {
             sessions: BTreeMap::new(alloc),
             overfull: false,
             askers: BTreeMap::new(alloc),
-            gathered: Run::new(alloc),
+            gathered: Gathered::new(alloc),
             behind: Behind::new(alloc),
             place: Place {
                 turn: 0,
@@ -403,7 +405,7 @@ impl Sessions {
         if self.lost.len() >= MOST_MARKS {
             self.sessions.clear();
             self.askers.clear();
-            self.gathered = Run::new(self.alloc);
+            self.gathered = Gathered::new(self.alloc);
             self.behind = Behind::new(self.alloc);
             self.downs.clear();
         }
@@ -554,34 +556,44 @@ impl Sessions {
         }
     }
 
-    /// How many commands were gathered.
-    pub fn gathered_len(&self) -> usize
-        ensures { result ≡ length self.now.gathered }
+    /// Whether anything was gathered.
+    pub fn has_gathered(&self) -> bool
+        ensures some { IsTrue result → 0 < length (all_gathered self.now) }
+        ensures none { result ≡ false → all_gathered self.now ≡ [] }
     {
-        self.gathered.len()
+        self.gathered.messages() > 0 || self.gathered.commands() > 0
     }
 
-    /// A command was read, and is to be given together with those before it. Gives all of them, where they are the
-    /// most that one input may have. Without memory nothing changes.
-    pub fn gather(&mut self, conn: Conn, command: Command) -> Result<Option<Run>, NoMemory>
+    /// A command was read, and is to be given together with the others. Gives whether there are as many as one input
+    /// may have. Without memory nothing changes, and where there are as many already.
+    pub fn gather(&mut self, conn: Conn, command: Command) -> Result<bool, NoMemory>
         requires { CommandInRange command }
-        ensures ok { IfOk result (λ r. Gathers conn command self.old r self.new) }
-        ensures range { IfOk result (λ r. IfSome r RunInRange) }
+        ensures ok { OnOk result (self.new ≡ gathers conn command self.old) }
+        ensures full { IfOk result (λ full. full ≡ nat_le most_commands (length self.new.gathered)) }
         ensures err { OnErr result (self.new ≡ self.old) }
     {
-        self.gathered.push(conn, command)?;
-        if self.gathered.len() < MOST_COMMANDS {
-            return Ok(None);
-        }
-        Ok(Some(mem::replace(&mut self.gathered, Run::new(self.alloc))))
+        self.gathered.gather(conn, command)?;
+        Ok(self.gathered.commands() >= MOST_COMMANDS)
     }
 
-    /// The commands that were gathered, and their connections. Then none is gathered.
-    pub fn release(&mut self) -> Run
-        ensures run { result ≡ self.old.gathered }
-        ensures released { self.new ≡ releases self.old }
-        ensures range { RunInRange result }
+    /// A message was read, and is to be given together with the others. Gives whether there are as many as may be.
+    /// Without memory nothing changes.
+    pub fn bring(&mut self, conn: Conn, from: Pid, message: Msg) -> Result<bool, NoMemory>
+        requires from { IsPid from }
+        requires message { MsgInRange message }
+        ensures ok { OnOk result (self.new ≡ brings conn (from, message) self.old) }
+        ensures full { IfOk result (λ full. full ≡ nat_le most_brought (length self.new.brought)) }
+        ensures err { OnErr result (self.new ≡ self.old) }
     {
-        mem::replace(&mut self.gathered, Run::new(self.alloc))
+        self.gathered.bring(conn, (from, message))?;
+        Ok(self.gathered.messages() >= MOST_BROUGHT)
+    }
+
+    /// All that was gathered. Then nothing is. This takes no memory.
+    pub fn release(&mut self) -> Group
+        ensures group { result ≡ all_gathered self.old }
+        ensures released { self.new ≡ releases self.old }
+    {
+        Group::new(mem::replace(&mut self.gathered, Gathered::new(self.alloc)))
     }
 }

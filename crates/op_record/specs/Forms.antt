@@ -1,6 +1,7 @@
 -- Bodies of records as bytes.
 use Rattle.std.specs.Prelude.{◌==◌, ◌-◌, ◌+◌, ◌++◌, ℕ, Bool, true, not, List, Option, length, nat_lt, is_ok, Ok, Err, if◌then◌else◌}
 use Rattle.std.specs.Int.{w8, w32, w64}
+use Rattle.std.specs.List.{flat_map}
 use Rattle.op_types.specs.Limits.{last_conf, positions_end, most_donors, greatest_pid}
 use Rattle.op_fields.specs.Form.{◌>>=◌, Form, Options, encoded, number, counted_read, pair, fitted, tested, listed, optional, option, no_option, choice, whole}
 use Rattle.op_types.specs.declared.ballot.Ballot.{Ballot}
@@ -307,6 +308,10 @@ batch =
     (listed w8 0 most_changes (λ _. change) (λ _. 0) 0)
 
 -- ---- a record
+
+-- the body of the record of a step with these changes, where this stands in the place of their count
+abbrev pub step_text : ℕ → List Change → List ℕ
+step_text count changes = encoded w8 2 ++ (encoded w8 count ++ flat_map change.text changes)
 
 -- a record's tag
 abbrev pub body_tag : Rec → ℕ

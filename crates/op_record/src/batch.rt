@@ -7,6 +7,7 @@ ghost use Rattle.op_record.specs.Ranges.{ChangeInRange, BatchInRange};
 ghost use Rattle.op_record.specs.Forms.{flag, change_options, change, batch};
 
 use crate::base::{base_at, put_base};
+use crate::growing::put_changes;
 use crate::part::place_at;
 use op_entry::{ballot_at, entries_at, members_at, put_ballot, put_entries, put_members};
 use op_fields::{NoMemory, TakeFail, items_at, put_u8, put_u32, put_u64, u8_in, u32_in, u64_in};
@@ -49,14 +50,11 @@ pub fn put_batch(out: &mut Vec<u8>, changes: &Batch) -> Result<(), NoMemory>
     ensures err { OnErr result (KeepsPrefix out.old.items out.new.items) }
 {
     put_u8(out, changes.len() as u8)?;
-    'changes: for c in changes.as_slice() {
-        put_change(out, c)?;
-    }
-    Ok(())
+    put_changes(out, changes)
 }
 
 #[tactic(auto, using(op_fields::proofs::Prefixes::kept_through))]
-fn put_change(out: &mut Vec<u8>, c: &Change) -> Result<(), NoMemory>
+pub fn put_change(out: &mut Vec<u8>, c: &Change) -> Result<(), NoMemory>
     requires { ChangeInRange c.now }
     ensures ok { OnOk result (out.new.items ≡ out.old.items ++ change.text c.now) }
     ensures err { OnErr result (KeepsPrefix out.old.items out.new.items) }

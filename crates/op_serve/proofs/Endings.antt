@@ -1,5 +1,5 @@
 -- How a node ends, from what its opening and its serving tell.
-use Rattle.std.proofs.Common.{◌≡◌, ◌≤◌, ℕ, Bool, List, ◌∷◌, [], Option, Some, Err, refl, inl, inr, ⊎_elim, arith}
+use Rattle.std.proofs.Common.{◌≡◌, ◌≤◌, ℕ, Bool, List, ◌∷◌, [], Option, Some, None, Err, refl, sym, ap, subst, ◌∙◌, inl, inr, ⊎_elim, arith}
 use Rattle.std.proofs.lemmas.List.Elements.{All-weaker}
 use Rattle.op_types.specs.declared.durable.Durable.{Durable}
 use Rattle.op_types.specs.declared.messages.Msg.{Msg}
@@ -25,20 +25,25 @@ use Rattle.op_node.specs.Openings.{Opens, RefusesNode, disks_with, fresh_for}
 use Rattle.op_node.specs.declared.node.Node.{Node}
 use Rattle.op_node.proofs.Refusals.{refusal_tells}
 use Rattle.op_node.proofs.Represented.{opened_represented}
-use Rattle.op_core.specs.Disks.{Stores, CoreStores}
-use Rattle.op_core.specs.NodeCores.{standing_of, status_line}
+use Rattle.op_core.specs.Disks.{Stores, StepStores}
+use Rattle.op_core.specs.NodeCores.{standing_by, standing_of, status_line}
 use Rattle.op_core.specs.declared.node_core.NodeCore.{NodeCore}
-use Rattle.op_core.proofs.Disks.{opened_stores_so, runs_keep, runs_find, runs_store}
+use Rattle.op_core.proofs.Disks.{opened_stores_so}
+use Rattle.op_core.proofs.Runs.{runs_keep, runs_find, runs_store}
 use Rattle.op_pump.specs.Moments.{PeersInRange}
 use Rattle.op_pump.specs.Serving as loop
 use Rattle.op_serving.specs.declared.serve_end.ServeEnd.{ServeEnd}
 use Rattle.op_serving.specs.declared.mark.Mark.{Mark}
-use Rattle.op_serving.specs.Faults.{Walks}
+use Rattle.op_serving.specs.Cores.{Standing}
+use Rattle.op_serving.specs.Faults.{faulted_steps, FaultsWithin, Stepped}
 use Rattle.op_serving.specs.Inputs.{Deed}
+use Rattle.op_serving.specs.Promise.{folded}
+use Rattle.op_serving.specs.Reopenings.{Unstored, all_stored, FindStored, unstored_behind}
 use Rattle.op_status.specs.declared.status.Status.{Status}
 use Rattle.op_status.specs.declared.status.Status.TheVariants as status
-use Rattle.op_serve.proofs.Living.{served_lives, unserved_lives}
-use Rattle.op_serve.specs.Nodes.{Around, Goes, is_unheard, cannot_begin, has_served, Ends, cannot_open, is_damaged, has_no_memory, is_opened, IsHeard, IsNodeOf, IsOwn, IsReady, Holds, HoldsOver, KeepsStored, around, status_of, status_of_refusal}
+use Rattle.op_serve.proofs.Living.{count_of, faults_at, up_at, served_lives, unserved_lives}
+use Rattle.op_serve.specs.Lives.{opened_at}
+use Rattle.op_serve.specs.Nodes.{Around, Goes, is_unheard, cannot_begin, has_served, Ends, cannot_open, is_damaged, has_no_memory, is_opened, IsHeard, IsNodeOf, IsOwn, IsReady, Holds, HoldsOf, HoldsOver, KeepsStored, around, status_of, status_of_refusal}
 
 module _ {D : Type 0} (state : D → DiskState) where
   -- what stood for what was stored may be known by less
@@ -46,7 +51,7 @@ module _ {D : Type 0} (state : D → DiskState) where
       → Goes state id o n P old new s lost → Goes state id o n Q old new s lost
   goes_by id o n P Q old new s lost f (is_unheard h same lives) = is_unheard h same (λ q. lives (f q))
   goes_by id o n P Q old new s lost f (cannot_begin t r c same lives) = cannot_begin t r c same (λ q. lives (f q))
-  goes_by id o n P Q old new s lost f (has_served net r run kept stored lives) = has_served net r run kept (λ q. stored (f q)) (λ q. lives (f q))
+  goes_by id o n P Q old new s lost f (has_served net r count run kept stored lives) = has_served net r count run kept (λ q. stored (f q)) (λ q. lives (f q))
 
   -- ---- what an opening keeps
 
@@ -115,11 +120,13 @@ module _ {D : Type 0} (state : D → DiskState) where
   -- ---- how an opening goes on
 
   -- an opened node goes on
-  pub ends_opened : (id : ℕ) (o : Settings) (first second : D) (n : Node D) (sends : List (ℕ × Msg)) (net : NetSeen) (clock : Option (List ℕ)) (out : StreamSeen) (new : Around D) (s : Status) (lost : List Mark)
-      → Opens state id o.members (disks_with state first second) n sends
-      → Goes state id o (node_of n) (Stores state (node_of n).state.durable n) (around n.store.first n.store.second net clock out) new s lost
+  pub ends_opened : (id : ℕ) (o : Settings) (first second : D) (found : Node D) (k : NodeCore D) (sends : List (ℕ × Msg)) (net : NetSeen) (clock : Option (List ℕ)) (out : StreamSeen) (new : Around D) (s : Status) (lost : List Mark)
+      → k.node ≡ found → Opens state id o.members (disks_with state first second) found sends
+      → Goes state id o (node_of k.node) (Stores state (all_stored (node_of k.node).state) k) (around k.node.store.first k.node.store.second net clock out) new s lost
       → Ends state id o (around first second net clock out) new s lost
-  ends_opened id o first second n sends net clock out new s lost opens goes =
+  ends_opened id o first second found k sends net clock out new s lost same is goes =
+      let n : Node D = k.node in
+      let opens : Opens state id o.members (disks_with state first second) n sends = subst (λ (m : Node D). Opens state id o.members (disks_with state first second) m sends) (sym same) is in
       is_opened (around n.store.first n.store.second net clock out)
       (record {
         durable = opens.durable;
@@ -130,8 +137,8 @@ module _ {D : Type 0} (state : D → DiskState) where
         no_fault = opens.opened.no_fault;
         keeps = opened_keeps id o.members first second n.store opens.durable opens.is_new net clock out opens.opened;
       })
-      (goes_by id o (node_of n) (Stores state (node_of n).state.durable n) (IsOwn state id (around first second net clock out) opens.durable) _ new s lost
-      (λ own. opened_stores_so state id o.members first second n sends opens (opened_represented state id o.members (disks_with state first second) n sends opens own.0 own.1)) goes)
+      (goes_by id o (node_of n) (Stores state (all_stored (node_of n).state) k) (IsOwn state id (around first second net clock out) opens.durable) _ new s lost
+      (λ own. opened_stores_so state id o.members first second k sends opens (opened_represented state id o.members (disks_with state first second) n sends opens own.0 own.1)) goes)
 
   -- a node that was not opened ends
   refused_by : (id : ℕ) (o : Settings) (first second : D) (cause : StoreFail) (a b : D) (net : NetSeen) (clock : Option (List ℕ)) (out : StreamSeen)
@@ -165,47 +172,88 @@ module _ {D : Type 0} (state : D → DiskState) where
 
   -- ---- how an open node ends
 
-  -- it is not heard
-  pub goes_unheard : (id : ℕ) (o : Settings) (k : Node D) (net0 net1 : NetSeen) (clock : Option (List ℕ)) (out0 out1 : StreamSeen)
-      (a b : D) (told s : Status) (lost : List Mark)
-      → PeersInRange o → IsHeard {T = Unit {0}} id o (Err told) net0 net1 out0 out1 → a ≡ k.store.first → b ≡ k.store.second → s ≡ told → lost ≡ []
-      → Goes state id o (node_of k) (Stores state (node_of k).state.durable k) (around k.store.first k.store.second net0 clock out0) (around a b net1 clock out1) s lost
-  goes_unheard id o k net0 net1 clock out0 out1 a b told s lost peers heard at_first at_second is no_loss =
-      rw (at_first, at_second, is, no_loss) (is_unheard heard refl (λ stood. unserved_lives state o k peers stood))
+  module _ (id : ℕ) (o : Settings) (k : NodeCore D) (up : (node_of k.node).failed ≡ None) (peers : PeersInRange o) where
+    -- around it, and how it goes on
+    abbrev with_node : NodeCore D → NetSeen → Option (List ℕ) → StreamSeen → Around D
+    with_node c net clock out = around c.node.store.first c.node.store.second net clock out
 
-  -- it finds no memory to begin
-  pub goes_unserved : (id : ℕ) (o : Settings) (k : Node D) (net0 mid net1 : NetSeen) (clock0 clock1 : Option (List ℕ)) (out0 out1 : StreamSeen)
-      (a b : D) (t : ℕ) (s : Status) (lost : List Mark)
-      → PeersInRange o → IsReady id o net0 mid out0 out1 → net1 ≡ mid → Grows clock0 (t ∷ []) clock1 → a ≡ k.store.first → b ≡ k.store.second → s ≡ status.NoMemory → lost ≡ []
-      → Goes state id o (node_of k) (Stores state (node_of k).state.durable k) (around k.store.first k.store.second net0 clock0 out0) (around a b net1 clock1 out1) s lost
-  goes_unserved id o k net0 mid net1 clock0 clock1 out0 out1 a b t s lost peers ready same grows at_first at_second is no_loss =
-      rw (same, at_first, at_second, is, no_loss) (cannot_begin t ready grows refl (λ stood. unserved_lives state o k peers stood))
+    abbrev GoesOn : (old new : Around D) → Status → List Mark → Type 0
+    GoesOn old new s lost = Goes state id o (node_of k.node) (Stores state (all_stored (node_of k.node).state) k) old new s lost
 
-  -- what is stored at the end of a run of a node, and was found in it
-  holds_over : (k m : NodeCore D) (deeds : List Deed) (net0 net1 : NetSeen) (clock0 clock1 : Option (List ℕ)) (out0 out1 : StreamSeen) → Walks (CoreStores state) k deeds m → Stores state (node_of k.node).state.durable k.node
-      → HoldsOver state deeds (node_of k.node) (node_of m.node) (around k.node.store.first k.node.store.second net0 clock0 out0) (around m.node.store.first m.node.store.second net1 clock1 out1)
-  holds_over k m deeds net0 net1 clock0 clock1 out0 out1 walks stood =
-      let d : Durable = (node_of k.node).state.durable in
-      let there = runs_store state k m deeds d walks stood in
-      record {
-        found = runs_find state k m deeds d walks stood;
-        holds = record { up = λ up. holds m.node (node_of m.node).state.durable net1 clock1 out1 (there.up up); failed = there.failed };
-      }
+    -- it is not heard
+    pub goes_unheard : (net0 net1 : NetSeen) (clock : Option (List ℕ)) (out0 out1 : StreamSeen) (a b : D) (told s : Status) (lost : List Mark)
+        → IsHeard {T = Unit {0}} id o (Err told) net0 net1 out0 out1 → a ≡ k.node.store.first → b ≡ k.node.store.second → s ≡ told → lost ≡ []
+        → GoesOn (with_node k net0 clock out0) (around a b net1 clock out1) s lost
+    goes_unheard net0 net1 clock out0 out1 a b told s lost heard at_first at_second is no_loss =
+        rw (at_first, at_second, is, no_loss) (is_unheard heard refl (λ stood. unserved_lives state o k peers up stood))
 
-  -- it has served
-  pub goes_served : (id : ℕ) (o : Settings) (k m : NodeCore D) (end : ServeEnd) (net0 mid net1 : NetSeen) (clock0 clock1 : Option (List ℕ)) (out0 out1 : StreamSeen)
-      (a b : D) (s : Status) (lost : List Mark)
-      → PeersInRange o → IsReady id o net0 mid out0 out1
-      → loop.ServesNode (λ (c : NodeCore D). standing_of state c.node) (CoreStores state) o status_line end lost k m mid net1 clock0 clock1
-      → a ≡ m.node.store.first → b ≡ m.node.store.second → s ≡ status_of end
-      → Goes state id o (node_of k.node) (Stores state (node_of k.node).state.durable k.node) (around k.node.store.first k.node.store.second net0 clock0 out0) (around a b net1 clock1 out1) s lost
-  goes_served id o k m end net0 mid net1 clock0 clock1 out0 out1 a b s lost peers ready served at_first at_second is =
-      let run = served.serves in
-      let deeds : List Deed = run.last.driver.deeds in
-      let d : Durable = (node_of k.node).state.durable in
-      rw (at_first, at_second, is)
-      (has_served mid ready run (runs_keep state k m deeds served.walks) (λ stood. holds_over k m deeds net0 net1 clock0 clock1 out0 out1 served.walks stood)
-      (λ stood. served_lives state o end lost k.node m.node run.start run.answers run.made run.last peers run.run (runs_find state k m deeds d served.walks stood) run.fold (runs_store state k m deeds d served.walks stood)))
+    -- it finds no memory to begin
+    pub goes_unserved : (net0 mid net1 : NetSeen) (clock0 clock1 : Option (List ℕ)) (out0 out1 : StreamSeen) (a b : D) (t : ℕ) (s : Status) (lost : List Mark)
+        → IsReady id o net0 mid out0 out1 → net1 ≡ mid → Grows clock0 (t ∷ []) clock1 → a ≡ k.node.store.first → b ≡ k.node.store.second → s ≡ status.NoMemory → lost ≡ []
+        → GoesOn (with_node k net0 clock0 out0) (around a b net1 clock1 out1) s lost
+    goes_unserved net0 mid net1 clock0 clock1 out0 out1 a b t s lost ready same grows at_first at_second is no_loss =
+        rw (same, at_first, at_second, is, no_loss) (cannot_begin t ready grows refl (λ stood. unserved_lives state o k peers up stood))
+
+    -- ---- it has served
+
+    -- it stood so at the start
+    abbrev start : Standing
+    start = opened_at (node_of k.node) (count_of state k)
+
+    abbrev unstored : Unstored
+    unstored = all_stored (node_of k.node).state
+
+    module _ (m : NodeCore D) (end : ServeEnd) (lost : List Mark) (mid net1 : NetSeen) (clock0 clock1 : Option (List ℕ))
+        (served : loop.ServesNode (λ (c : NodeCore D). standing_of state c) (StepStores state) o status_line end lost k m mid net1 clock0 clock1) where
+      abbrev deeds : List Deed
+      deeds = served.serves.last.driver.deeds
+
+      begins : standing_of state k ≡ start
+      begins = up_at state k up
+
+      abbrev run : loop.Serves o status_line end lost start (standing_of state m) mid net1 clock0 clock1
+      run =
+          let r = served.serves in
+          record {
+            start = r.start;
+            answers = r.answers;
+            made = r.made;
+            last = r.last;
+            run = subst (λ (n : Standing). loop.Runs o status_line end lost n r.start r.answers r.made r.last) begins r.run;
+            net = r.net;
+            clock = r.clock;
+            ends = r.ends;
+            faults = r.faults;
+            lost_is = r.lost_is;
+            marks = r.marks;
+            node = r.node;
+            fold = r.fold ∙ ap (λ (n : Standing). folded n deeds) begins;
+            steps = subst (λ (n : Standing). Stepped n deeds (standing_of state m)) begins r.steps;
+            few = subst (λ (n : Standing). FaultsWithin n.faults (faulted_steps deeds) (standing_of state m).faults) begins r.few;
+          }
+
+      module _ (stood : Stores state unstored k) where
+        found : FindStored start unstored deeds
+        found = subst (λ (n : Standing). FindStored n unstored deeds) begins (runs_find state k m deeds unstored served.walks stood)
+
+        there : Stores state (unstored_behind start unstored deeds) m
+        there = subst (λ (n : Standing). Stores state (unstored_behind n unstored deeds) m) begins (runs_store state k m deeds unstored served.walks stood)
+
+        -- what is stored at the end
+        held : (out : StreamSeen) (u : Unstored) → Stores state u m → (f : Option ℕ) → (node_of m.node).failed ≡ f
+            → HoldsOf state (with_node m net1 clock1 out) (standing_by f (node_of m.node).me (node_of m.node).state m.stood (count_of state m)) u
+        held out u h None e = record { up = λ _. holds m.node (node_of m.node).state.durable net1 clock1 out (h.up e); failed = λ not. absurd (not refl) }
+        held out u h (Some c) e = record { up = λ none. absurd cc; failed = λ _. h.failed (λ none. let bad : None ≡ Some c = sym none ∙ e in absurd cc) }
+
+        holds_over : (net0 : NetSeen) (out0 out1 : StreamSeen) → HoldsOver state deeds (node_of k.node) (standing_of state m) (with_node k net0 clock0 out0) (with_node m net1 clock1 out1)
+        holds_over net0 out0 out1 = record { found = found; holds = held out1 (unstored_behind start unstored deeds) there (node_of m.node).failed refl }
+
+      pub goes_served : (net0 : NetSeen) (out0 out1 : StreamSeen) (a b : D) (s : Status) → IsReady id o net0 mid out0 out1
+          → a ≡ m.node.store.first → b ≡ m.node.store.second → s ≡ status_of end → GoesOn (with_node k net0 clock0 out0) (around a b net1 clock1 out1) s lost
+      goes_served net0 out0 out1 a b s ready at_first at_second is =
+          rw (at_first, at_second, is)
+          (has_served mid ready (faults_at state m) run (runs_keep state k m deeds served.walks) (λ stood. holds_over stood net0 out0 out1)
+          (λ stood. served_lives state o end lost (node_of k.node) (count_of state k) m run.start run.answers run.made run.last peers run.run (found stood) run.fold (there stood)))
 
 -- ---- its settings
 

@@ -14,6 +14,7 @@ use Rattle.op_protocol.specs.Starting.{first_volatile, state_after_restart}
 use Rattle.op_protocol.proofs.Bases.{service_in_base}
 use Rattle.op_runs.specs.World.{first_durable}
 use Rattle.op_bounds.proofs.ReadBases.{new_service_in}
+use Rattle.op_store.specs.Failing.{faults}
 use Rattle.op_store.specs.Openings.{IsOpenedAs}
 use Rattle.op_store.specs.Stored.{Disks}
 use Rattle.op_store.specs.Stores.{Represents, disks_of}
@@ -25,7 +26,9 @@ use Rattle.op_node.specs.Openings.{durable_for, fresh_for, opening_state}
 use Rattle.op_node.specs.Reopenings.{IsOneOf, StoreOneOf}
 use Rattle.op_node.specs.declared.node.Node.{Node}
 use Rattle.op_core.specs.Disks.{Stores}
-use Rattle.op_core.specs.NodeCores.{standing_at, standing_of, status_line}
+use Rattle.op_core.specs.NodeCores.{standing_by, standing_of, status_line}
+use Rattle.op_core.specs.declared.node_core.NodeCore.{NodeCore}
+use Rattle.op_core.specs.declared.place.Place.{Place}
 use Rattle.op_core.proofs.Disks.{taken}
 use Rattle.op_serving.specs.declared.mark.Mark.{Mark}
 use Rattle.op_serving.specs.declared.serve_end.ServeEnd.{ServeEnd}
@@ -34,20 +37,20 @@ use Rattle.op_serving.specs.Fates.{after_fate}
 use Rattle.op_serving.specs.Inputs.{Deed, begins, hears, enters, says, takes}
 use Rattle.op_serving.specs.Promise.{folded}
 use Rattle.op_serving.specs.Pump.{Answer, Pump}
-use Rattle.op_serving.specs.Reopenings.{FindStored, unstored_after, unstored_behind}
+use Rattle.op_serving.specs.Reopenings.{Unstored, all_stored, FindStored, unstored_after, unstored_behind}
 use Rattle.op_pump.specs.Moments.{PeersInRange}
 use Rattle.op_pump.specs.Serving as loop
 use Rattle.op_cluster_laws.specs.Clusters.{IsLife, MayOpen}
 use Rattle.op_cluster_laws.specs.Lives as lives
-use Rattle.op_cluster_laws.specs.Traces.{Lived, opens, stands, left_between, lived_by}
+use Rattle.op_cluster_laws.specs.Traces.{Lived, ends, opens, held_with, stands, unstored_in, lived_by}
 use Rattle.op_cluster_laws.proofs.Serving.{runs_serve}
-use Rattle.op_serve.specs.Lives.{life_of, life_ended, TakesWhole, Leaves, Lives, MayFollow, IsNext, IsFirst}
+use Rattle.op_serve.specs.Lives.{opened_at, life_of, life_ended, TakesWhole, Leaves, Lives, MayFollow, IsNext, IsFirst}
 use Rattle.op_serve.specs.Nodes.{Around, IsOpened, ObeyIn, disks_in, faults_of}
 
 -- ---- a run is a life
 
 -- what was found in a first part of deeds
-front_found : (n : Standing) (u : Durable) (xs ys : List Deed) → FindStored n u (xs ++ ys) → FindStored n u xs
+front_found : (n : Standing) (u : Unstored) (xs ys : List Deed) → FindStored n u (xs ++ ys) → FindStored n u xs
 front_found n u [] ys h = tt
 front_found n u (enters who i f ∷ xs) ys h = (h.0, front_found (after_fate n i f) (unstored_after n i f u) xs ys h.1)
 front_found n u (begins c bytes ∷ xs) ys h = front_found n u xs ys h
@@ -55,10 +58,10 @@ front_found n u (hears c bytes ∷ xs) ys h = front_found n u xs ys h
 front_found n u (says f ∷ xs) ys h = front_found n u xs ys h
 front_found n u (takes c bytes ∷ xs) ys h = front_found n u xs ys h
 
-lives_of : (n : NodeState) (count : ℕ) (deeds : List Deed) → ((first later : List Deed) → deeds ≡ first ++ later → lives.Serves (standing_at n count) first)
-    → FindStored (standing_at n count) n.state.durable deeds → (first later : List Deed) → deeds ≡ first ++ later → IsLife (life_of n count first)
+lives_of : (n : NodeState) (count : ℕ) (deeds : List Deed) → ((first later : List Deed) → deeds ≡ first ++ later → lives.Serves (opened_at n count) first)
+    → FindStored (opened_at n count) (all_stored n.state) deeds → (first later : List Deed) → deeds ≡ first ++ later → IsLife (life_of n count first)
 lives_of n count deeds serves found first later split =
-    record { serves = serves first later split; stored = front_found (standing_at n count) n.state.durable first later (subst (λ l. FindStored (standing_at n count) n.state.durable l) split found) }
+    record { serves = serves first later split; stored = front_found (opened_at n count) (all_stored n.state) first later (subst (λ l. FindStored (opened_at n count) (all_stored n.state) l) split found) }
 
 -- nothing was done yet
 none_served : (o : Settings) (n : Standing) → PeersInRange o → (first later : List Deed) → [] ≡ first ++ later → lives.Serves n first
@@ -74,9 +77,39 @@ none_served o n peers first later split = record {
   are = split;
 }
 
+-- ---- where a node stands
+
+-- its disks have failed so often
+faults_by : (o : Option ℕ) (me : ℕ) (s : State) (p : Place) (k : ℕ) → (standing_by o me s p k).faults ≡ k
+faults_by None me s p k = refl
+faults_by (Some c) me s p k = refl
+
 -- ---- what a life leaves
 
+-- it leaves what its disks may hold that stand for this
+left_by : (l : Lived) (n : Standing) (disks : Disks) → n ≡ stands l → let v : Unstored = held_with [] n (unstored_in l) in StoreOneOf v.before.durable v.ahead.durable disks
+    → TakesWhole n.me v.before.durable → TakesWhole n.me v.ahead.durable → Leaves (lived_by l ends) disks
+left_by l n disks is stored before ahead =
+    let v : Unstored = held_with [] n (unstored_in l) in
+    record {
+      left = v;
+      is = ap (λ (k : Standing). Some (held_with [] k (unstored_in l))) (sym is);
+      stored = stored;
+      whole = (subst (λ (k : Standing). TakesWhole k.me v.before.durable) is before, subst (λ (k : Standing). TakesWhole k.me v.ahead.durable) is ahead);
+    }
+
 module _ {D : Type 0} (state : D → DiskState) where
+  -- how often the disks of a node have failed
+  abbrev pub count_of : NodeCore D → ℕ
+  count_of c = faults (disks_of state c.node.store)
+
+  pub faults_at : (c : NodeCore D) → (standing_of state c).faults ≡ count_of c
+  faults_at c = faults_by (node_of c.node).failed (node_of c.node).me (node_of c.node).state c.stood (count_of c)
+
+  -- so a node stands of which no disk failed
+  pub up_at : (c : NodeCore D) → (node_of c.node).failed ≡ None → standing_of state c ≡ opened_at (node_of c.node) (count_of c)
+  up_at c up = ap (λ (o : Option ℕ). standing_by o (node_of c.node).me (node_of c.node).state c.stood (count_of c)) up
+
   -- disks that stand for one durable state store it
   one_left : (n : Node D) (d : Durable) → Represents state d n.store → StoreOneOf d d (disks_of state n.store)
   one_left n d r =
@@ -87,50 +120,50 @@ module _ {D : Type 0} (state : D → DiskState) where
         left = λ x y at_first at_second. inl (image_stored d s.is_second s.generation s.end s.base s.is_closed (disks_of state s) r x y at_first at_second);
       })
 
-  leaves_then : (k m : Node D) (count : ℕ) (deeds : List Deed) → standing_of state m ≡ folded (standing_at (node_of k) count) deeds
-      → Stores state (unstored_behind (standing_at (node_of k) count) (node_of k).state.durable deeds) m → Leaves (life_ended (node_of k) count deeds) (disks_of state m.store)
-  leaves_then k m count deeds fold there = by_end (node_of m).failed refl
+  leaves_then : (n : NodeState) (count : ℕ) (m : NodeCore D) (deeds : List Deed) → standing_of state m ≡ folded (opened_at n count) deeds
+      → Stores state (unstored_behind (opened_at n count) (all_stored n.state) deeds) m → Leaves (life_ended n count deeds) (disks_of state m.node.store)
+  leaves_then n count m deeds fold there = by_failed (node_of m.node).failed refl
     where
       l : Lived
-      l = life_of (node_of k) count deeds
+      l = life_of n count deeds
 
-      now : standing_at (node_of m) (standing_of state m).faults ≡ stands l
-      now = fold
+      u : Unstored
+      u = unstored_in l
 
-      own : TakesWhole (stands l).me (stands l).state.durable
-      own = subst (λ (s : Standing). TakesWhole s.me s.state.durable) now (taken (node_of m).me (node_of m).state.durable there.named)
+      me : ℕ
+      me = (node_of m.node).me
 
-      by_end : (o : Option ℕ) → (node_of m).failed ≡ o → Leaves (life_ended (node_of k) count deeds) (disks_of state m.store)
-      by_end None e = record {
-        left = (stands l).state.durable;
-        is = ap (λ (f : Option ℕ). Some (left_between f l)) (ap (λ (s : Standing). s.failed) (sym now) ∙ e);
-        stored = subst (λ (s : Standing). StoreOneOf s.state.durable s.state.durable (disks_of state m.store)) now (one_left m (node_of m).state.durable (there.up e));
-        whole = (own, own);
-      }
-      by_end (Some faults) e =
-          let u : Durable = unstored_behind (standing_at (node_of k) count) (node_of k).state.durable deeds in
-          record {
-            left = u;
-            is = ap (λ (f : Option ℕ). Some (left_between f l)) (ap (λ (s : Standing). s.failed) (sym now) ∙ e);
-            stored = subst (λ (s : Standing). StoreOneOf s.state.durable u (disks_of state m.store)) now (there.failed (λ none. let bad : None ≡ Some faults = sym none ∙ e in cc));
-            whole = (own, subst (λ (s : Standing). TakesWhole s.me u) now (taken (node_of m).me u there.unstored_named));
-          }
+      standing : Option ℕ → Standing
+      standing o = standing_by o me (node_of m.node).state m.stood (count_of m)
+
+      now : (o : Option ℕ) → (node_of m.node).failed ≡ o → standing o ≡ stands l
+      now o e = ap standing (sym e) ∙ fold
+
+      by_failed : (o : Option ℕ) → (node_of m.node).failed ≡ o → Leaves (life_ended n count deeds) (disks_of state m.node.store)
+      by_failed None e =
+          let d : Durable = (node_of m.node).state.durable in
+          let own : TakesWhole me d = taken me d (there.named e) in
+          left_by l (standing None) (disks_of state m.node.store) (now None e) (one_left m.node d (there.up e)) own own
+      by_failed (Some c) e =
+          left_by l (standing (Some c)) (disks_of state m.node.store) (now (Some c) e) (there.failed (λ none. let bad : None ≡ Some c = sym none ∙ e in cc))
+          (taken me u.before.durable there.before_named) (taken me u.ahead.durable there.ahead_named)
 
   -- it has served
-  pub served_lives : (o : Settings) (end : ServeEnd) (lost : List Mark) (k m : Node D) (start : ℕ) (answers : List Answer) (made : List Call) (last : Pump) → PeersInRange o
-      → loop.Runs o status_line end lost (standing_of state k) start answers made last → FindStored (standing_of state k) (node_of k).state.durable last.driver.deeds
-      → standing_of state m ≡ folded (standing_of state k) last.driver.deeds → Stores state (unstored_behind (standing_of state k) (node_of k).state.durable last.driver.deeds) m
-      → Lives (node_of k) (standing_of state k).faults last.driver.deeds (disks_of state m.store)
-  served_lives o end lost k m start answers made last peers run found fold there = record {
-    lives = lives_of (node_of k) (standing_of state k).faults last.driver.deeds (runs_serve o status_line end lost (standing_of state k) start answers made last peers run) found;
-    leaves = leaves_then k m (standing_of state k).faults last.driver.deeds fold there;
+  pub served_lives : (o : Settings) (end : ServeEnd) (lost : List Mark) (n : NodeState) (count : ℕ) (m : NodeCore D) (start : ℕ) (answers : List Answer) (made : List Call) (last : Pump) → PeersInRange o
+      → loop.Runs o status_line end lost (opened_at n count) start answers made last → FindStored (opened_at n count) (all_stored n.state) last.driver.deeds
+      → standing_of state m ≡ folded (opened_at n count) last.driver.deeds → Stores state (unstored_behind (opened_at n count) (all_stored n.state) last.driver.deeds) m
+      → Lives n count last.driver.deeds (disks_of state m.node.store)
+  served_lives o end lost n count m start answers made last peers run found fold there = record {
+    lives = lives_of n count last.driver.deeds (runs_serve o status_line end lost (opened_at n count) start answers made last peers run) found;
+    leaves = leaves_then n count m last.driver.deeds fold there;
   }
 
   -- it did nothing
-  pub unserved_lives : (o : Settings) (k : Node D) → PeersInRange o → Stores state (node_of k).state.durable k → Lives (node_of k) (standing_of state k).faults [] (disks_of state k.store)
-  unserved_lives o k peers there = record {
-    lives = lives_of (node_of k) (standing_of state k).faults [] (none_served o (standing_of state k) peers) tt;
-    leaves = leaves_then k k (standing_of state k).faults [] refl there;
+  pub unserved_lives : (o : Settings) (k : NodeCore D) → PeersInRange o → (node_of k.node).failed ≡ None → Stores state (all_stored (node_of k.node).state) k
+      → Lives (node_of k.node) (count_of k) [] (disks_of state k.node.store)
+  unserved_lives o k peers up there = record {
+    lives = lives_of (node_of k.node) (count_of k) [] (none_served o (opened_at (node_of k.node) (count_of k)) peers) tt;
+    leaves = leaves_then (node_of k.node) (count_of k) k [] (up_at k up) there;
   }
 
 -- ---- what the next opening finds
@@ -159,7 +192,7 @@ module _ {D : Type 0} (state : D → DiskState) where
       → MayFollow disks (disks_in state old) → ObeyIn state old → IsNext id l opened.durable opened.is_new n (faults_of state new)
   next_life id members l disks old new n opened me leaves follows obey = record {
     there = one.0;
-    may = subst (λ (o : Option Durable). MayOpen l o d) (sym leaves.is) one.1;
+    may = subst (λ (o : Option Unstored). MayOpen o d) (sym leaves.is) one.1;
     whole = whole;
     next = opened_life id (faults_of state new) d n l me whole
         (opened.node ∙ ap (λ (b : Bool). let k : NodeState = record { me = id; state = opening_state id b d; failed = None } in k) one.0);
@@ -168,9 +201,15 @@ module _ {D : Type 0} (state : D → DiskState) where
       d : Durable
       d = opened.durable
 
-      one : (opened.is_new ≡ false) × ((d ≡ (stands l).state.durable) ⊎ (d ≡ leaves.left))
-      one = one_found (fresh_for id members) (stands l).state.durable leaves.left d opened.is_new (state old.first).content (state old.second).content
-          (follows_one (stands l).state.durable leaves.left disks (disks_in state old) leaves.stored follows) (opened.found obey)
+      before : Durable
+      before = leaves.left.before.durable
+
+      ahead : Durable
+      ahead = leaves.left.ahead.durable
+
+      one : (opened.is_new ≡ false) × ((d ≡ before) ⊎ (d ≡ ahead))
+      one = one_found (fresh_for id members) before ahead d opened.is_new (state old.first).content (state old.second).content
+          (follows_one before ahead disks (disks_in state old) leaves.stored follows) (opened.found obey)
 
       whole : TakesWhole id d
       whole = elim one.1 [

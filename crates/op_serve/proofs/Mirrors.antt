@@ -45,12 +45,12 @@ module _ {T : Type 0} (known : T → DiskState) (id : ℕ) (o : Settings) where
       → KeepBoth (disks_in known old) (disks_in known new)
   goes_keep n stood old new s lost (is_unheard h same lives) = rw same (keep_same (disks_in known old))
   goes_keep n stood old new s lost (cannot_begin t r c same lives) = rw same (keep_same (disks_in known old))
-  goes_keep n stood old new s lost (has_served net r run kept stored lives) = kept
+  goes_keep n stood old new s lost (has_served net r count run kept stored lives) = kept
 
   goes_no_fault : (n : NodeState) (stood : Type 0) (old new : Around T) (s : Status) (lost : List Mark) → Goes known id o n stood old new s lost → s ≡ status.DiskFault → ⊥
   goes_no_fault n stood old new s lost (is_unheard h same lives) is = heard_no_fault id o s old.net new.net old.output new.output h is
   goes_no_fault n stood old new s lost (cannot_begin t r c same lives) is = absurd cc
-  goes_no_fault n stood old new s lost (has_served {end = end} net r run kept stored lives) is = served_no_fault end is
+  goes_no_fault n stood old new s lost (has_served {end = end} net r count run kept stored lives) is = served_no_fault end is
 
   -- what it keeps of both
   ends_keep : (old new : Around T) (s : Status) (lost : List Mark) → Ends known id o old new s lost → KeepBoth (disks_in known old) (disks_in known new)

@@ -10,13 +10,12 @@ use Rattle.op_store.proofs.UniquePairs.{one_stored, nothing_or_stored}
 use Rattle.op_node.specs.Nodes.{NodeState}
 use Rattle.op_node.specs.Openings.{fresh_for}
 use Rattle.op_node.specs.Reopenings.{IsOneOf}
-use Rattle.op_core.specs.NodeCores.{standing_at}
 use Rattle.op_serving.specs.declared.mark.Mark.{Mark}
 use Rattle.op_serving.specs.Inputs.{Deed}
 use Rattle.op_cluster_laws.specs.Traces.{Event, does, ends, Lived, stands, first_life}
 use Rattle.op_cluster_laws.specs.Clusters.{IsLife}
 use Rattle.op_cluster_laws.proofs.Tracing.{folded_me}
-use Rattle.op_serve.specs.Lives.{life_of, life_ended, Leaves, Lives}
+use Rattle.op_serve.specs.Lives.{opened_at, life_of, life_ended, Leaves, Lives}
 use Rattle.op_serve.specs.Nodes.{Around, Ends, cannot_open, is_damaged, has_no_memory, is_opened, Goes, is_unheard, cannot_begin, has_served, IsOpened, IsOwn, KeepsStored, ObeyIn, disks_in, faults_of}
 use Rattle.op_serve.specs.Processes.{Lasts, Process, Follow, events_of, events_then}
 use Rattle.op_serve.proofs.Living.{next_life, first_start}
@@ -36,7 +35,7 @@ deeds_last n count deeds disks k es behind first (d ∷ later) split =
 module _ {D : Type 0} (state : D → DiskState) (id : ℕ) (members : List ℕ) where
   -- whose life it is
   mine : (p : Process state id members) → (stands (life_ended p.node (faults_of state p.mid) p.deeds)).me ≡ id
-  mine p = folded_me (standing_at p.node (faults_of state p.mid)) p.deeds ∙ ap (λ (n : NodeState). n.me) p.opened.node
+  mine p = folded_me (opened_at p.node (faults_of state p.mid)) p.deeds ∙ ap (λ (n : NodeState). n.me) p.opened.node
 
   then_last : (l : Lived) (disks : Disks) → (stands l).me ≡ id → Leaves l disks → IsLife l → (ps : List (Process state id members)) → Follow state disks ps → Lasts l (events_then state ps)
   then_last l disks me leaves life [] follow = life
@@ -68,7 +67,7 @@ module _ {D : Type 0} (state : D → DiskState) (id : ℕ) (o : Settings) (old :
       → Goes state id o n (IsOwn state id old opened.durable) mid new s lost → (p : Process state id o.members) × (p.old ≡ old) × (p.new ≡ new)
   opened_process mid new n s lost opened (is_unheard h same lives) = (record { old = old; mid = mid; new = new; node = n; opened = opened; obey = obey; deeds = []; did = lives }, refl, refl)
   opened_process mid new n s lost opened (cannot_begin t r c same lives) = (record { old = old; mid = mid; new = new; node = n; opened = opened; obey = obey; deeds = []; did = lives }, refl, refl)
-  opened_process mid new n s lost opened (has_served net r run kept stored lives) =
+  opened_process mid new n s lost opened (has_served net r count run kept stored lives) =
       (record { old = old; mid = mid; new = new; node = n; opened = opened; obey = obey; deeds = run.last.driver.deeds; did = lives }, refl, refl)
 
 pub process_of : {D : Type 0} (state : D → DiskState) (id : ℕ) (o : Settings) (old new : Around D) (s : Status) (lost : List Mark) → Ends state id o old new s lost → ObeyIn state old
@@ -101,7 +100,10 @@ refused_leaves state id members l old new keeps had k = record {
 }
   where
     before : Durable
-    before = (stands l).state.durable
+    before = k.left.before.durable
+
+    ahead : Durable
+    ahead = k.left.ahead.durable
 
     obey : ObeyIn state old
     obey = k.stored.obey
@@ -109,8 +111,8 @@ refused_leaves state id members l old new keeps had k = record {
     images : HaveImages (disks_in state new)
     images = keeps.images obey had
 
-    each : (x y : List ℕ) → MayLeave (state new.first) x → MayLeave (state new.second) y → IsOneOf before k.left x y
+    each : (x y : List ℕ) → MayLeave (state new.first) x → MayLeave (state new.second) y → IsOneOf before ahead x y
     each x y at_first at_second = elim ((keeps.crash obey).now x y at_first at_second) [
       | inl was ↦ k.stored.left x y was.0 was.1
-      | inr remains ↦ remains_one (fresh_for id members) before k.left (state old.first).content (state old.second).content x y k.stored.read remains
+      | inr remains ↦ remains_one (fresh_for id members) before ahead (state old.first).content (state old.second).content x y k.stored.read remains
     ]

@@ -8,15 +8,25 @@ use Rattle.op_store.specs.Stored.{Disks}
 use Rattle.op_node.specs.Nodes.{NodeState}
 use Rattle.op_node.specs.Openings.{durable_for}
 use Rattle.op_node.specs.Reopenings.{StoreOneOf}
-use Rattle.op_core.specs.NodeCores.{standing_at}
+use Rattle.op_serving.specs.Cores.{Standing}
 use Rattle.op_serving.specs.Inputs.{Deed}
+use Rattle.op_serving.specs.Reopenings.{Unstored, all_stored}
 use Rattle.op_cluster_laws.specs.Traces.{ends, opens, Lived, stands, lived_by, first_life}
 use Rattle.op_cluster_laws.specs.Clusters.{IsLife, MayOpen}
 
--- a node that was opened when its disks had failed so often, and what it has done since
+-- where a node stands that was opened when its disks had failed so often
+abbrev pub opened_at : NodeState → ℕ → Standing
+opened_at n count = record { me = n.me; state = n.state; failed = None; faults = count }
+
+-- such a node, and what it has done since
 abbrev pub life_of : NodeState → ℕ → List Deed → Lived
-life_of n count deeds =
-    record { first = standing_at n count; unstored = n.state.durable; deeds = deeds; left = None }
+life_of n count deeds = record {
+  first = opened_at n count;
+  unstored = all_stored n.state;
+  deeds = deeds;
+  inside = [];
+  left = None;
+}
 
 -- the same, once it ends
 abbrev pub life_ended : NodeState → ℕ → List Deed → Lived
@@ -26,13 +36,14 @@ life_ended n count deeds = lived_by (life_of n count deeds) ends
 abbrev pub TakesWhole : ℕ → Durable → Type 0
 TakesWhole id d = durable_for id d ≡ d
 
--- A life is over: its disks store what the node has stored, or what else they may leave, and so does what a
--- crash leaves of them. The node takes either whole.
+-- A life is over: its disks store what the node had stored before the inputs that were to be stored together
+-- as one of them failed, or what is behind these, and so does what a crash leaves of them. Where none has
+-- failed both are all that it has stored. The node takes either whole.
 pub record Leaves (l : Lived) (disks : Disks) : Type 0 where
-  pub left : Durable
+  pub left : Unstored
   pub is : l.left ≡ Some left
-  pub stored : StoreOneOf (stands l).state.durable left disks
-  pub whole : TakesWhole (stands l).me (stands l).state.durable × TakesWhole (stands l).me left
+  pub stored : StoreOneOf left.before.durable left.ahead.durable disks
+  pub whole : TakesWhole (stands l).me left.before.durable × TakesWhole (stands l).me left.ahead.durable
 
 -- each first part of these deeds is a life of the node so far, and these disks are what all of it leaves
 pub record Lives (n : NodeState) (count : ℕ) (deeds : List Deed) (disks : Disks) : Type 0 where
@@ -51,7 +62,7 @@ MayFollow old new = ((new.first.content ≡ old.first.content) × (new.second.co
 pub record IsNext (id : ℕ) (l : Lived) (d : Durable) (is_new : Bool) (n : NodeState)
     (count : ℕ) : Type 0 where
   pub there : is_new ≡ false
-  pub may : MayOpen l l.left d
+  pub may : MayOpen l.left d
   pub whole : TakesWhole id d
   pub next : life_of n count [] ≡ lived_by l (opens d count)
 

@@ -21,16 +21,17 @@ use Rattle.op_store.specs.declared.fail.StoreFail.TheVariants as refusals
 use Rattle.op_node.specs.Nodes.{NodeState}
 use Rattle.op_node.specs.Openings.{disks_with, durable_for, fresh_for, opening_state}
 use Rattle.op_node.specs.Reopenings.{StoreOneOf}
-use Rattle.op_core.specs.NodeCores.{standing_at, status_line}
+use Rattle.op_core.specs.NodeCores.{status_line}
 use Rattle.op_pump.specs.Counts.{IsLimited}
 use Rattle.op_pump.specs.Moments.{PeersInRange}
 use Rattle.op_pump.specs.Serving as loop
 use Rattle.op_serving.specs.declared.serve_end.ServeEnd.{ServeEnd}
 use Rattle.op_serving.specs.declared.serve_end.ServeEnd.TheVariants as ends
 use Rattle.op_serving.specs.declared.mark.Mark.{Mark}
+use Rattle.op_serving.specs.Cores.{Standing}
 use Rattle.op_serving.specs.Inputs.{Deed}
-use Rattle.op_serving.specs.Reopenings.{FindStored, unstored_behind}
-use Rattle.op_serve.specs.Lives.{Lives}
+use Rattle.op_serving.specs.Reopenings.{Unstored, all_stored, FindStored, unstored_behind}
+use Rattle.op_serve.specs.Lives.{Lives, opened_at}
 use Rattle.op_status.specs.declared.status.Status.{Status}
 use Rattle.op_status.specs.declared.status.Status.TheVariants as status
 
@@ -119,17 +120,19 @@ module _ {D : Type 0} (state : D → DiskState) where
     pub rests_second : IsAtRest (state a.second)
     pub stored : IsStored d (state a.first).content (state a.second).content
 
-  -- They hold what a node has stored. Of one that has failed they store that, or what its failed step was to
-  -- store, and so does what a crash leaves.
-  pub record HoldsOf (a : Around D) (n : NodeState) (unstored : Durable) : Type 0 where
+  -- They hold what a node has stored. Of one that has failed they store what it had stored before the inputs
+  -- that were to be stored together then, or what is behind all of these, and so does what a crash leaves.
+  pub record HoldsOf (a : Around D) (n : Standing) (unstored : Unstored) : Type 0 where
     pub up : n.failed ≡ None → Holds a n.state.durable
-    pub failed : n.failed ≢ None → StoreOneOf n.state.durable unstored (disks_in a)
+    pub failed : n.failed ≢ None →
+        StoreOneOf unstored.before.durable unstored.ahead.durable (disks_in a)
 
-  -- A node's disks over these deeds of it: each opening of it again found what it had stored before the step
-  -- in which they failed, or what that step was to store, and at the end they hold what is stored.
-  pub record HoldsOver (deeds : List Deed) (n m : NodeState) (old new : Around D) : Type 0 where
-    pub found : FindStored (standing_at n (faults_of old)) n.state.durable deeds
-    pub holds : HoldsOf new m (unstored_behind (standing_at n (faults_of old)) n.state.durable deeds)
+  -- A node's disks over these deeds of it: each opening of it again found what it had stored before the
+  -- inputs for which they had failed, or what is behind all of these, and at the end they hold what is stored.
+  pub record HoldsOver (deeds : List Deed) (n : NodeState) (m : Standing) (old new : Around D)
+      : Type 0 where
+    pub found : FindStored (opened_at n (faults_of old)) (all_stored n.state) deeds
+    pub holds : HoldsOf new m (unstored_behind (opened_at n (faults_of old)) (all_stored n.state) deeds)
 
   -- What an opening leaves, however it ends: nothing but the disks was called, each of them is itself, and
   -- the count of faults didn't fall. A crash leaves what it might have left before, or what they stored;
@@ -177,10 +180,10 @@ module _ {D : Type 0} (state : D → DiskState) where
         → new ≡ record old { net = new.net; output = new.output; clock = new.clock }
         → (stood → Lives n (faults_of old) [] (disks_in new))
         → Goes id o n stood old new status.NoMemory []
-    has_served : {m : NodeState} {end : ServeEnd} {lost : List Mark} (net : NetSeen)
-        → IsReady id o old.net net old.output new.output
-        → (run : loop.Serves o status_line end lost (standing_at n (faults_of old))
-        (standing_at m (faults_of new)) net new.net old.clock new.clock)
+    has_served : {m : Standing} {end : ServeEnd} {lost : List Mark} (net : NetSeen)
+        → IsReady id o old.net net old.output new.output → m.faults ≡ faults_of new
+        → (run : loop.Serves o status_line end lost (opened_at n (faults_of old)) m net new.net
+        old.clock new.clock)
         → KeepBoth (disks_in old) (disks_in new)
         → (stood → HoldsOver run.last.driver.deeds n m old new)
         → (stood → Lives n (faults_of old) run.last.driver.deeds (disks_in new))

@@ -6,6 +6,7 @@ ghost use Rattle.op_setup.specs.Settings.{IsAmong};
 ghost use Rattle.op_node.specs.Nodes.{node_of};
 ghost use Rattle.op_core.specs.Disks.{Stores};
 ghost use Rattle.op_core.specs.NodeCores.{IsServable};
+ghost use Rattle.op_serving.specs.Reopenings.{all_stored};
 ghost use Rattle.op_serve.specs.Nodes.{Ends, Goes, IsHeard, IsNodeOf, around, ready_line, status_of, status_of_refusal};
 
 use crate::ended::Ended;
@@ -41,7 +42,7 @@ pub(crate) fn serve_on<D: Disk, N: Net, C: Clock, K: Sink>(
 {
     opened_nodes_can_be_served::<D>();
     match Node::open(alloc, id, &settings.members, first, second) {
-        Ok((node, _)) => serve_opened(alloc, id, settings, node, net, clock, out),
+        Ok((node, _)) => serve_opened(alloc, id, settings, NodeCore::new(node), net, clock, out),
         Err(refused) => {
             let status = status_of_refusal(refused.cause);
             Ended::early(alloc, status, refused.first, refused.second)
@@ -54,24 +55,26 @@ fn serve_opened<D: Disk, N: Net, C: Clock, K: Sink>(
     alloc: Global,
     id: Pid,
     settings: &Settings,
-    node: Node<D>,
+    core: NodeCore<D>,
     net: &mut N,
     clock: &mut C,
     out: &mut K,
 ) -> Ended<D>
     requires settings { IsNodeOf id settings.now }
-    requires ready { IsServable node }
-    ensures { Goes D.state id settings.now (node_of node) (Stores D.state (node_of node).state.durable node)
-        (around node.store.first node.store.second (N.told net.old, N.fault_count net.old)
+    requires ready { IsServable core.node }
+    requires up { (node_of core.node).failed ≡ None }
+    ensures { Goes D.state id settings.now (node_of core.node)
+        (Stores D.state (all_stored (node_of core.node).state) core)
+        (around core.node.store.first core.node.store.second (N.told net.old, N.fault_count net.old)
         (C.answers clock.old) (K.held out.old, K.fault_count out.old))
         (around result.first result.second (N.told net.new, N.fault_count net.new) (C.answers clock.new)
         (K.held out.new, K.fault_count out.new))
         result.status result.lost.items }
 {
     if let Err(status) = listen(id, settings, net, out) {
-        return handed_back(alloc, status, node);
+        return handed_back(alloc, status, core.node);
     }
-    let Served { core, end } = serve(alloc, NodeCore { node }, net, clock, settings);
+    let Served { core, end } = serve(alloc, core, net, clock, settings);
     match end {
         Ok((end, lost)) => {
             let (_, first, second) = core.node.park();

@@ -1,22 +1,30 @@
--- A node that is served: its state, how often its disks have failed, what an input makes of it, and its
--- opening after a failure.
+-- A node that is served: its state, how often its disks have failed, what an input makes of it, what is left
+-- of it where one of them failed, and its opening after that.
 use Rattle.std.specs.Prelude.{ℕ, [], Bool, false, is_some, Option, Some, None}
+use Rattle.op_types.specs.Changes.{empty_durable}
 use Rattle.op_types.specs.declared.durable.Durable.{Durable}
 use Rattle.op_types.specs.declared.answers.Outcome.{Outcome}
 use Rattle.op_types.specs.declared.events.Input.{Input}
 use Rattle.op_types.specs.declared.events.Input.TheVariants as input
 use Rattle.op_protocol.specs.State.{State, Planned, state_after}
 use Rattle.op_protocol.specs.Rows.{step_plan}
-use Rattle.op_protocol.specs.Starting.{sends_after_restart}
-use Rattle.op_runs.specs.World.{failed_outcome, state_after_reopening}
+use Rattle.op_protocol.specs.Starting.{state_after_restart, sends_after_restart}
+use Rattle.op_runs.specs.Summary.{stands_at, joining_conf}
+use Rattle.op_runs.specs.World.{failed_outcome}
 use Rattle.op_serving.specs.declared.node.Given.{Given}
 
--- whose node it is, its state in the step table, the count with which it failed,
--- and the count of its disks' faults
+-- what a node shows of which a disk failed: with which count, and where it stood before
+pub record Failure : Type 0 where
+  pub count : ℕ
+  pub at : Option (ℕ × ℕ × ℕ)  -- the configuration, how much of it was decided, and how much was trimmed
+  pub joining : Option ℕ
+
+-- whose node it is, its state in the step table, what it shows if a disk failed, and the count of its disks'
+-- faults
 pub record Standing : Type 0 where
   pub me : ℕ
   pub state : State
-  pub failed : Option ℕ
+  pub failed : Option Failure
   pub faults : ℕ
 
 -- what a plan gives out
@@ -34,17 +42,35 @@ refused_with count x = saying (failed_outcome count x)
 
 -- what an input gives out
 unfoldable pub gives : Standing → Input → Given
-gives n x = elim n.failed [ None ↦ given_of (step_plan n.me n.state x) | Some count ↦ refused_with count x ]
+gives n x = elim n.failed [ None ↦ given_of (step_plan n.me n.state x) | Some f ↦ refused_with f.count x ]
 
 -- the node after an input
 unfoldable pub after_input : Standing → Input → Standing
 after_input n x =
     elim n.failed
-    [ None ↦ record n { state = state_after n.state (step_plan n.me n.state x) } | Some count ↦ n ]
+    [ None ↦ record n { state = state_after n.state (step_plan n.me n.state x) } | Some f ↦ n ]
 
--- its disks failed, and this is the count since
+-- ---- a disk failed
+
+-- what is kept in memory of a node of which a disk failed: nothing
+abbrev pub forgotten : ℕ → State
+forgotten me = state_after_restart me empty_durable
+
+-- where a node stands
+abbrev pub failure_at : ℕ → State → Failure
+failure_at k s = record {
+  count = k;
+  at = stands_at s.durable.part s.durable.closed;
+  joining = joining_conf s.durable.joining;
+}
+
+-- what it shows since a disk failed with this count: where it stood before the first one failed
+abbrev pub shown_since : ℕ → Standing → Failure
+shown_since k n = elim n.failed [ None ↦ failure_at k n.state | Some f ↦ record f { count = k } ]
+
+-- A disk failed, and this is the count since. What it kept in memory is lost, as if it had stopped.
 unfoldable pub faulted : ℕ → Standing → Standing
-faulted k n = record n { failed = Some k; faults = k }
+faulted k n = record n { state = forgotten n.me; failed = Some (shown_since k n); faults = k }
 
 -- ---- a node that failed is opened again
 
@@ -53,9 +79,9 @@ abbrev pub reopens : Standing → Input → Bool
 reopens n input.Tick = is_some n.failed
 reopens n x = false
 
--- it takes what its disks store, and begins with that; its clients wait still
+-- it takes what its disks store, and begins with that, as after a restart
 unfoldable pub reopened : Durable → Standing → Standing
-reopened d n = record n { state = state_after_reopening n.me n.state d; failed = None }
+reopened d n = record n { state = state_after_restart n.me d; failed = None }
 
 -- and it sends what it does after a restart
 unfoldable pub given_again : Standing → Durable → Given

@@ -18,7 +18,8 @@ hello_in Client = 0
 abbrev pub most_of : Session → ℕ
 most_of x = 2 + hello_in x.kind + length x.frames.held
 
--- so many came, or may yet come of what is there: Downs, commands that were gathered, and sessions
+-- so many came, or may yet come of what is there: Downs, what was read and is to be given, and sessions
 unfoldable pub most_inputs : Loop → ℕ
 most_inputs s =
-    s.place.inputs + length s.downs + length s.gathered + sum_by most_of (values_of s.sessions)
+    s.place.inputs + length s.downs + length s.gathered + length s.brought
+    + sum_by most_of (values_of s.sessions)

@@ -4,6 +4,7 @@ use Rattle.std.specs.FinMap as map
 use Rattle.op_types.specs.declared.answers.Outcome.{Outcome}
 use Rattle.op_types.specs.declared.answers.Outcome.TheVariants.{Refused, Asked}
 use Rattle.op_types.specs.declared.answers.Refusal.{Refusal}
+use Rattle.op_types.specs.declared.answers.Refusal.TheVariants.{StorageFailed}
 use Rattle.op_types.specs.declared.answers.Reply.{Reply}
 use Rattle.op_types.specs.declared.messages.Msg.{Msg}
 use Rattle.op_command.specs.declared.reply.ClientReply.{ClientReply}
@@ -14,7 +15,7 @@ use Rattle.op_serving.specs.declared.wanted.Wanted.{Wanted}
 use Rattle.op_serving.specs.declared.wanted.Wanted.TheVariants.{Commands, Stop, Trim, Read}
 use Rattle.op_serving.specs.declared.node.Given.{Given}
 use Rattle.op_serving.specs.Wire.{fits_peer, peer_frame, client_frame}
-use Rattle.op_serving.specs.State.{Key, Awaited, Loop, find, is_open, session_of, waits_for}
+use Rattle.op_serving.specs.State.{Key, Awaited, Askers, Loop, find, is_open, session_of, waits_for}
 use Rattle.op_serving.specs.Room.{Frame, count_at, goes_ahead, placed, frames_placed, begins_anew, cleared, moved, frames_moved}
 
 abbrev pub frame_at : Option ℕ → List ℕ → List Frame
@@ -218,3 +219,18 @@ excused (Some w) why s = told_all (said_of_denial w why) s
 abbrev pub frames_excused : Option Wanted → Option Refusal → List Frame
 frames_excused None why = []
 frames_excused (Some w) why = frames_told (said_of_denial w why)
+
+-- ---- a disk failed
+
+-- what all that wait are told then, by what they wait for
+abbrev pub said_of_failure : ℕ → Askers → List Told
+said_of_failure k askers =
+    each (λ e. (e.1, of_command e.0.1 (said.Outcome (Refused (StorageFailed k))))) (map.entries askers)
+
+-- nobody waits any more
+abbrev pub given_up : ℕ → Loop → Loop
+given_up k s = told_all (said_of_failure k s.askers) (record s { askers = map.empty })
+
+-- the frames of that
+abbrev pub frames_given_up : ℕ → Loop → List Frame
+frames_given_up k s = frames_told (said_of_failure k s.askers)

@@ -15,11 +15,11 @@ most_marks = 64
 abbrev pub mark_at : Place → Option ℕ → Mark
 mark_at p conn = record { turn = p.turn; at = p.at; inputs = p.inputs; frames = p.frames; conn = conn }
 
--- with the last mark nothing more is done: no session is left, and no command is to be given
+-- with the last mark nothing more is done: no session is left, and nothing is to be given
 abbrev pub stopped_if : Bool → Loop → Loop
 stopped_if true s = s
 stopped_if false s =
-    record s { sessions = []; askers = map.empty; gathered = []; behind = []; downs = [] }
+    record s { sessions = []; askers = map.empty; gathered = []; brought = []; behind = []; downs = [] }
 
 -- a loss is marked
 abbrev pub noted : Mark → Loop → Loop

@@ -2,7 +2,7 @@
 -- a connection are those of the frames of the bytes that it read, in order; the bytes that it took are
 -- the first of its hello and of the frames for it, and while it is open the others wait; the node is the
 -- fold of its step over all inputs.
-use Rattle.std.specs.Prelude.{◌≡◌, ◌++◌, ◌∷◌, ◌⊎◌, [], ℕ, List, map, fold, zip, flat_map, ◌==◌, if◌then◌else◌, Option, Some, None, Ok}
+use Rattle.std.specs.Prelude.{◌≡◌, ◌++◌, ◌∷◌, ◌⊎◌, [], ℕ, List, map, fold, zip, flat_map, ◌==◌, if◌then◌else◌, true, All, Option, Some, None}
 use Rattle.op_types.specs.declared.events.Input.{Input}
 use Rattle.op_types.specs.declared.events.Input.TheVariants as input
 use Rattle.op_types.specs.declared.events.Request.TheVariants as request
@@ -14,11 +14,11 @@ use Rattle.op_serving.specs.declared.kind.Kind.{Kind}
 use Rattle.op_serving.specs.declared.kind.Kind.TheVariants.{Unknown, Peer, Client}
 use Rattle.op_serving.specs.declared.session.Session.{Session}
 use Rattle.op_serving.specs.Cores.{Standing}
-use Rattle.op_serving.specs.Wire.{peer_head, client_head, request_in}
-use Rattle.op_serving.specs.State.{Table, find}
+use Rattle.op_serving.specs.Wire.{peer_head, client_head}
+use Rattle.op_serving.specs.State.{Table, Loop, find}
 use Rattle.op_serving.specs.Fates.{after_fate}
 use Rattle.op_serving.specs.Inputs.{Deed, begins, hears, enters, says, takes, State}
-use Rattle.op_serving.specs.Reading.{client_byte, client_limit, peer_limit, heard_in}
+use Rattle.op_serving.specs.Reading.{client_byte, client_limit, peer_limit, heard_in, joins_others}
 use Rattle.op_serving.specs.Turns.{hello}
 
 -- ---- the node
@@ -83,11 +83,24 @@ pub record Frames (me : ℕ) (kind : Kind) (head limit : ℕ) (text : List ℕ) 
   pub frames : IsFrames head limit text bodies []
   pub are : inputs ≡ flat_map (λ body. inputs_of (heard_in me kind body)) bodies
 
--- bytes are the whole frames of these commands
-pub record CommandFrames (bytes : List ℕ) (xs : List Command) : Type 0 where
+-- bytes are whole frames that join others, of which these are the inputs
+pub record JoiningFrames (me : ℕ) (kind : Kind) (head limit : ℕ) (text : List ℕ) (inputs : List Input)
+    : Type 0 where
   pub bodies : List (List ℕ)
-  pub frames : IsFrames client_head client_limit bytes bodies []
-  pub are : map request_in bodies ≡ map (λ x. Ok (request.Command x)) xs
+  pub frames : IsFrames head limit text bodies []
+  pub join : All (λ body. joins_others (heard_in me kind body) ≡ true) bodies
+  pub are : inputs ≡ flat_map (λ body. inputs_of (heard_in me kind body)) bodies
+
+-- So are these bytes of a session: none of one that hasn't said who it is.
+abbrev pub Gathers : ℕ → Kind → List ℕ → List Input → Type 0
+Gathers me Unknown bytes inputs = (bytes ≡ []) × (inputs ≡ [])
+Gathers me (Peer q h) bytes inputs = JoiningFrames me (Peer q 0) peer_head peer_limit bytes inputs
+Gathers me Client bytes inputs = JoiningFrames me Client client_head client_limit bytes inputs
+
+-- what a connection brought that is not given yet, as inputs
+abbrev pub pending_at : ℕ → Loop → List Input
+pending_at c s =
+    map (λ m. input.Deliver m.0 m.1) (at_conn c s.brought) ++ map alone (at_conn c s.gathered)
 
 -- a peer says who it is, unless it was dialled
 abbrev pub OfPeer : ℕ → List ℕ → List ℕ → Type 0
@@ -104,31 +117,31 @@ Hears me Client bytes inputs = (rest : List ℕ) × (bytes ≡ client_byte ∷ r
 
 -- ---- what each connection is promised
 
--- What an open connection read is dealt with, but for the frames of its commands that are to be given
--- together with others, and for what is held. What was said for it was taken, but for what waits.
-pub record KeepsOpen (me : ℕ) (x : Life) (commands : List Command) (y : Session) : Type 0 where
+-- What an open connection read is dealt with, but for the frames that are to be given together with others,
+-- and for what is held. What was said for it was taken, but for what waits.
+pub record KeepsOpen (me : ℕ) (x : Life) (waiting : List Input) (y : Session) : Type 0 where
   pub dealt : List ℕ
   pub pending : List ℕ
   pub split : x.heard ≡ dealt ++ (pending ++ y.frames.held)
   pub hears : Hears me y.kind dealt x.inputs
-  pub gathered : CommandFrames pending commands
+  pub gathered : Gathers me y.kind pending waiting
   pub said : x.said ≡ x.taken ++ y.queue
 
 -- Of a closed one the first part of what it read was dealt with, and it took the first part of what was said.
-pub record KeepsClosed (me : ℕ) (x : Life) (commands : List Command) : Type 0 where
+pub record KeepsClosed (me : ℕ) (x : Life) (waiting : List Input) : Type 0 where
   pub kind : Kind
   pub dealt : List ℕ
   pub rest : List ℕ
   pub split : x.heard ≡ dealt ++ rest
   pub hears : Hears me kind dealt x.inputs
-  pub none : commands ≡ []
+  pub none : waiting ≡ []
   pub waits : List ℕ
   pub said : x.said ≡ x.taken ++ waits
 
-abbrev pub KeepsAt : ℕ → Life → List Command → Option Session → Type 0
-KeepsAt me x commands None = KeepsClosed me x commands
-KeepsAt me x commands (Some y) = KeepsOpen me x commands y
+abbrev pub KeepsAt : ℕ → Life → List Input → Option Session → Type 0
+KeepsAt me x waiting None = KeepsClosed me x waiting
+KeepsAt me x waiting (Some y) = KeepsOpen me x waiting y
 
 abbrev pub Keeps : State → Type 0
 Keeps s = (c : ℕ) →
-    KeepsAt s.loop.me (life c s.deeds) (at_conn c s.loop.gathered) (find c s.loop.sessions)
+    KeepsAt s.loop.me (life c s.deeds) (pending_at c s.loop) (find c s.loop.sessions)

@@ -134,7 +134,7 @@ module _ (o : Settings) (l : Luck) (line : Standing → List ℕ) where
   has_dialled (q ∷ qs) k (was_dialled (Some (Some c))) p = to (dials qs k) (dialled l q.0 c p.driver) p
   has_dialled (q ∷ qs) k _ p = to (dials qs k) p.driver p
 
-  -- a happening; behind the last one the commands that were gathered are given, and then come the writes
+  -- a happening; behind the last one all that was gathered is given, and then come the writes
   abbrev pub happens : ℕ → ℕ → Answer → Pump → Pump
   happens i k (was_readied (Accepted c)) p =
       to (asks (i + 1) k) (accepted l c (at_happening (i + 1) p.driver)) p

@@ -20,7 +20,7 @@ use Rattle.op_serving.specs.Cores.{Standing}
 use Rattle.op_serving.specs.Wire.{peer_head, client_head, message_in, request_in, client_frame}
 use Rattle.op_serving.specs.State.{Loop, find, changed, is_open, session_of}
 use Rattle.op_serving.specs.Handing.{told, no_command}
-use Rattle.op_serving.specs.Inputs.{hears, says, State, Luck, noting, give, proposes, behind, over, rest}
+use Rattle.op_serving.specs.Inputs.{hears, says, State, Luck, noting, give, proposes, delivers, behind, over, rest}
 
 -- how many bytes the body of a client's frame has at most, and of a peer's
 abbrev pub client_limit : ℕ
@@ -124,19 +124,20 @@ on_request l line c request.End s = ending (tells c said.Ended s)
 
 -- what a frame leads to by itself
 abbrev pub on_frame : Luck → (Standing → List ℕ) → ℕ → Heard → State → State
-on_frame l line c (Message q m) s = give l (c ∷ []) (input.Deliver q m) s
+on_frame l line c (Message q m) s = delivers l c (q, m) s
 on_frame l line c Foreign s = s
 on_frame l line c Noise s = over l c s
 on_frame l line c (Asks r) s = on_request l line c r s
 on_frame l line c (Mistake at) s = tells c (said.BadRequest at) s
 
--- commands join those before them, and what says nothing to this node is passed by
+-- messages and commands join those before them, and what says nothing to this node is passed by
 abbrev pub joins_others : Heard → Bool
+joins_others (Message q m) = true
 joins_others (Asks (request.Command x)) = true
 joins_others Foreign = true
 joins_others _ = false
 
--- what a frame leads to: all but a command comes behind the commands that were gathered
+-- what a frame leads to: all that doesn't join what was gathered comes behind it
 abbrev pub on_heard : Luck → (Standing → List ℕ) → ℕ → Heard → State → State
 on_heard l line c h s = if joins_others h then on_frame l line c h s else behind l c (on_frame l line c h) s
 

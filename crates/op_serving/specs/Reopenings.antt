@@ -1,37 +1,48 @@
 -- What the openings of a node that failed find, over disks that obey the model of a disk.
 use Rattle.std.specs.Prelude.{◌≡◌, ◌⊎◌, [], ◌∷◌, List, Some, None}
-use Rattle.op_types.specs.Changes.{durable_after}
-use Rattle.op_types.specs.declared.durable.Durable.{Durable}
 use Rattle.op_types.specs.declared.events.Input.{Input}
+use Rattle.op_protocol.specs.State.{State, state_after}
 use Rattle.op_protocol.specs.Rows.{step_plan}
 use Rattle.op_serving.specs.Cores.{Standing}
-use Rattle.op_serving.specs.Fates.{Fate, finds, faults, damaged, after_fate}
+use Rattle.op_serving.specs.Fates.{Fate, finds, faults, shares, damaged, after_fate}
 use Rattle.op_serving.specs.Inputs.{Deed, enters}
 
--- What the step was to store in which the disks failed; one in which they fail again stores nothing.
-abbrev pub unstored_after : Standing → Input → Fate → Durable → Durable
-unstored_after n i (faults k) unstored =
-    elim n.failed
-    [ None ↦ durable_after n.state.durable (step_plan n.me n.state i).batch | Some count ↦ unstored ]
-unstored_after n i f unstored = unstored
+-- What a node's disks may hold since one failed: its state before the first of the inputs that were to be
+-- stored together then, or its state behind them all.
+pub record Unstored : Type 0 where
+  pub before : State
+  pub ahead : State
 
--- An opening finds what the node had stored before the step in which they failed, or what that step was to
--- store; it finds no damage.
-abbrev pub FindsOneOf : Durable → Durable → Fate → Type 0
-FindsOneOf before after (finds d) = (d ≡ before) ⊎ (d ≡ after)
-FindsOneOf before after damaged = ⊥
-FindsOneOf before after f = Unit {0}
+-- of a node that is up, all is stored
+abbrev pub all_stored : State → Unstored
+all_stored s = record { before = s; ahead = s }
+
+-- so it is after an input with this fate; where they fail again, nothing more is stored
+abbrev pub unstored_after : Standing → Input → Fate → Unstored → Unstored
+unstored_after n i (faults k) u = elim n.failed [
+  | None ↦ record { before = n.state; ahead = state_after n.state (step_plan n.me n.state i) }
+  | Some f ↦ u
+]
+unstored_after n i (shares k) u = record u { ahead = state_after u.ahead (step_plan n.me u.ahead i) }
+unstored_after n i f u = u
+
+-- An opening finds what was stored before the inputs for which they failed, or all that these were to store;
+-- it finds no damage.
+abbrev pub FindsOneOf : Unstored → Fate → Type 0
+FindsOneOf u (finds d) = (d ≡ u.before.durable) ⊎ (d ≡ u.ahead.durable)
+FindsOneOf u damaged = ⊥
+FindsOneOf u f = Unit {0}
 
 -- each opening of these deeds finds one of the two
-abbrev pub FindStored : Standing → Durable → List Deed → Type 0
-FindStored n unstored [] = Unit {0}
-FindStored n unstored (enters who i f ∷ ds) = FindsOneOf n.state.durable unstored f
-    × FindStored (after_fate n i f) (unstored_after n i f unstored) ds
-FindStored n unstored (_ ∷ ds) = FindStored n unstored ds
+abbrev pub FindStored : Standing → Unstored → List Deed → Type 0
+FindStored n u [] = Unit {0}
+FindStored n u (enters who i f ∷ ds) =
+    FindsOneOf u f × FindStored (after_fate n i f) (unstored_after n i f u) ds
+FindStored n u (_ ∷ ds) = FindStored n u ds
 
--- what the last step with a fault was to store, behind these deeds
-abbrev pub unstored_behind : Standing → Durable → List Deed → Durable
-unstored_behind n unstored [] = unstored
-unstored_behind n unstored (enters who i f ∷ ds) =
-    unstored_behind (after_fate n i f) (unstored_after n i f unstored) ds
-unstored_behind n unstored (_ ∷ ds) = unstored_behind n unstored ds
+-- what the disks may hold behind these deeds
+abbrev pub unstored_behind : Standing → Unstored → List Deed → Unstored
+unstored_behind n u [] = u
+unstored_behind n u (enters who i f ∷ ds) =
+    unstored_behind (after_fate n i f) (unstored_after n i f u) ds
+unstored_behind n u (_ ∷ ds) = unstored_behind n u ds

@@ -6,6 +6,7 @@ use Rattle.std.specs.Ordering.{nat_cmp, bool_cmp, ordering_then}
 use Rattle.std.specs.FinMap as map
 use Rattle.std.specs.declared.cmp.Ordering.{Ordering}
 use Rattle.op_types.specs.declared.log.Command.{Command}
+use Rattle.op_types.specs.declared.messages.Msg.{Msg}
 use Rattle.op_serving.specs.declared.kind.Kind.{Kind}
 use Rattle.op_serving.specs.declared.kind.Kind.TheVariants.{Unknown, Peer, Client}
 use Rattle.op_serving.specs.declared.session.Session.{Session}
@@ -77,6 +78,7 @@ pub record Loop : Type 0 where
   pub sessions : Table Session  -- each open connection
   pub askers : Askers
   pub gathered : Table Command  -- commands that were read and are not given yet, each with its connection
+  pub brought : Table (ℕ × Msg)  -- messages that were read and are not given yet, each with its sender
   pub behind : Table (List ℕ)  -- frames for which there was no room, in order
   pub place : Place  -- where in the run: turn, happening, inputs, frames
   pub lost : List Mark
@@ -121,7 +123,7 @@ down_of Unknown = []
 down_of (Peer q h) = if h == 0 then q ∷ [] else []
 down_of Client = []
 
--- A session is over: it waits for nothing, its commands that were not given yet and its frames go with it,
+-- A session is over: it waits for nothing, what it brought that was not given yet and its frames go with it,
 -- its connection is to be closed, and its peer goes down.
 abbrev pub left_at : ℕ → Option Kind → Loop → Loop
 left_at c None s = s
@@ -129,6 +131,7 @@ left_at c (Some kind) s = record s {
   sessions = without c s.sessions;
   askers = without_asker c s.askers;
   gathered = without c s.gathered;
+  brought = without c s.brought;
   behind = without c s.behind;
   closes = s.closes ++ c ∷ [];
   downs = s.downs ++ down_of kind;

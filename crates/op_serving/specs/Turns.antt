@@ -26,6 +26,7 @@ fresh me = record {
   sessions = [];
   askers = map.empty;
   gathered = [];
+  brought = [];
   behind = [];
   place = record { turn = 0; at = 0; inputs = 0; frames = 0 };
   lost = [];
@@ -85,6 +86,7 @@ abbrev pub closed_new : ℕ → Loop → Loop
 closed_new c s = record s {
   askers = without_asker c s.askers;
   gathered = without c s.gathered;
+  brought = without c s.brought;
   behind = without c s.behind;
   closes = s.closes ++ c ∷ [];
 }

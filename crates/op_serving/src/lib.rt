@@ -21,6 +21,8 @@ pub use kind::{Kind, goes_up};
 pub use mark::{Mark, Place};
 pub use node::{Core, Given, StepFail};
 pub use serve_end::ServeEnd;
-pub use session::{CLIENT_HEAD, CLIENT_LIMIT, MOST_BEHIND, PEER_HEAD, PEER_LIMIT, Session};
+pub use session::{
+    CLIENT_HEAD, CLIENT_LIMIT, MOST_BEHIND, MOST_BROUGHT, PEER_HEAD, PEER_LIMIT, Session,
+};
 pub use urgent::is_urgent;
 pub use wanted::Wanted;

@@ -1,13 +1,13 @@
-ghost use Rattle.std.specs.Prelude.{◌≡◌, ◌≤◌, ℕ, List, length, IfOk};
+ghost use Rattle.std.specs.Prelude.{◌≡◌, ◌≤◌, ℕ, List, [], length, vec_capacity, All, IfOk};
 ghost use Rattle.op_command.specs.Ranges.{most_line_bytes};
 ghost use Rattle.op_types.specs.Ranges.{IsPid};
-ghost use Rattle.op_types.specs.declared.events.Input.{Input};
 ghost use Rattle.op_serving.specs.Cores.{Standing};
-ghost use Rattle.op_serving.specs.Fates.{Fate, Steps};
+ghost use Rattle.op_serving.specs.Fates.{Came, Steps, StepsAll};
 ghost use Rattle.op_serving.specs.Ranges.{InputInRange, GivenInRange};
 
 use op_types::{Blob, Input, NoMemory, Outcome, Pid, Replies, Sends};
 use std::alloc::Global;
+use std::collections::VecDeque;
 
 /// What a step gives out, once it is stored.
 #[derive(Drop)]
@@ -44,8 +44,8 @@ pub trait Core {
     /// What it keeps in memory is of what it has stored, and is in range.
     ghost ready: { Self → Type 0 };
 
-    /// What a step is to its disks, of which this came.
-    ghost stores: { Self → Input → Fate → Self → Type 0 };
+    /// What inputs that are stored together are to its disks, of which this came.
+    ghost stores: { Self → List Came → Self → Type 0 };
 
     /// Where it stands, as a client is told.
     ghost line: { Standing → List ℕ };
@@ -57,6 +57,20 @@ pub trait Core {
         requires range { InputInRange input }
         ensures steps { Steps standing stores self.old input result self.new }
         ensures given { IfOk result GivenInRange }
+        ensures ready { ready self.new };
+
+    /// Several inputs, which are taken one after the other and stored together: each up to the first that finds no memory,
+    /// or to the last. What came of each goes into `results`, where there is room for it; the others are left. Where a
+    /// disk fails nothing of them is given out.
+    fn step_all(&mut self, inputs: &mut VecDeque<Input>, results: &mut Vec<Result<Given, StepFail>>)
+        requires ready { ready self.old }
+        requires inputs { All InputInRange inputs.old.items }
+        requires none { results.old.items ≡ [] }
+        requires room { length inputs.old.items ≤ vec_capacity results.old }
+        ensures steps { StepsAll standing stores self.old inputs.old.items inputs.new.items results.new.items
+            self.new }
+        ensures given { All (λ r. IfOk r GivenInRange) results.new.items }
+        ensures kept { vec_capacity results.old ≤ vec_capacity results.new }
         ensures ready { ready self.new };
 
     /// The server whose node it is.

@@ -31,6 +31,9 @@ const MOST_AHEAD: usize = 2_097_152;
 /// Where so many frames wait behind, further ones go ahead of them.
 pub const MOST_BEHIND: usize = 65_536;
 
+/// So many messages are gathered before they are given.
+pub const MOST_BROUGHT: usize = 64;
+
 /// A session, which is what a connection is used for.
 #[derive(Drop)]
 pub struct Session {

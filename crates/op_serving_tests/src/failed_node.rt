@@ -1,15 +1,15 @@
-ghost use Rattle.std.specs.Prelude.{◌≡◌, [], Some, None};
-ghost use Rattle.op_types.specs.Ranges.{IsPid};
-ghost use Rattle.op_protocol.specs.Starting.{first_volatile};
-ghost use Rattle.op_spec.specs.Service.{new_service};
+ghost use Rattle.std.specs.Prelude.{◌≡◌, IfOk};
 ghost use Rattle.op_serving.specs.Cores.{refused_with};
 ghost use Rattle.op_serving.specs.Ranges.{GivenInRange};
+ghost use Rattle.op_serving_tests.specs.Refusing as refusing;
+ghost use Rattle.op_serving_tests.specs.Refusing.{Refuses, stands};
 
 use op_core::short_line;
 use op_runs::{NodeLine, Running};
 use op_serving::{Core, Given, StepFail};
 use op_types::{Blob, Input, NoMemory, Outcome, Pid, Refusal, Replies, Sends};
 use std::alloc::Global;
+use std::collections::VecDeque;
 
 /// A spare's node that has failed: it refuses what is proposed and reads, and does nothing else. What its disks store is damaged.
 #[derive(Drop)]
@@ -23,37 +23,34 @@ pub struct FailedNode {
 }
 
 impl Core for FailedNode {
-    ghost use Rattle.std.specs.Prelude.{[], Some, None};
     ghost use Rattle.op_types.specs.Ranges.{IsPid};
-    ghost use Rattle.op_protocol.specs.Starting.{first_volatile};
-    ghost use Rattle.op_spec.specs.Service.{new_service};
     ghost use Rattle.op_core.specs.NodeCores.{status_line};
+    ghost use Rattle.op_serving_tests.specs.Refusing.{stands};
 
-    ghost standing = { λ n. record {
-      me = n.me;
-      state = record {
-        durable = record { part = None; closed = None; joining = None };
-        volatile = first_volatile n.me;
-        service = new_service;
-        waiting = [];
-        reads = None;
-      };
-      failed = Some n.count;
-      faults = n.count;
-    } };
+    ghost standing = { stands };
 
     ghost ready = { λ n. IsPid n.me };
 
-    ghost stores = { λ _ _ _ _. Unit {0} };
+    ghost stores = { λ _ _ _. Unit {0} };
 
     ghost line = { status_line };
 
-    #[tactic(auto, unfolding(op_serving::specs::Cores::gives, op_serving::specs::Cores::after_input))]
     fn step(&mut self, input: Input) -> Result<Given, StepFail> {
-        match &input {
-            Input::Commands(_) if self.is_scarce => Err(StepFail::NoMemory),
-            Input::Tick => Err(StepFail::Damaged),
-            _ => Ok(refused(self.alloc, self.count, &input)),
+        self.take(input)
+    }
+
+    fn step_all(
+        &mut self,
+        inputs: &mut VecDeque<Input>,
+        results: &mut Vec<Result<Given, StepFail>>,
+    ) {
+        'inputs: while let Some(input) = inputs.pop_front() {
+            let told = self.take(input);
+            let is_last = is_starved(&told);
+            results.push_reserved(told);
+            if is_last {
+                return;
+            }
         }
     }
 
@@ -70,6 +67,36 @@ impl Core for FailedNode {
         };
         short_line(alloc, &line)
     }
+}
+
+impl FailedNode {
+    /// What it answers to an input that it is handed.
+    fn take(&self, input: Input) -> Result<Given, StepFail>
+        ensures refuses { Refuses (stands self.now) input result }
+        ensures range { IfOk result GivenInRange }
+    {
+        self.answer(&input)
+    }
+
+    /// What it answers.
+    #[tactic(auto, unfolding(op_serving::specs::Cores::gives, op_serving::specs::Cores::after_input))]
+    fn answer(&self, input: &Input) -> Result<Given, StepFail>
+        ensures refuses { Refuses (stands self.now) input.now result }
+        ensures range { IfOk result GivenInRange }
+    {
+        match input {
+            Input::Commands(_) if self.is_scarce => Err(StepFail::NoMemory),
+            Input::Tick => Err(StepFail::Damaged),
+            _ => Ok(refused(self.alloc, self.count, input)),
+        }
+    }
+}
+
+/// Whether an input was answered that there is no memory.
+fn is_starved(told: &Result<Given, StepFail>) -> bool
+    ensures { result ≡ refusing.is_starved told.now }
+{
+    matches!(told, Err(StepFail::NoMemory))
 }
 
 /// What a node gives out that has failed so often.

@@ -20,6 +20,8 @@ mod disks;
 #[cfg(test)]
 mod ends;
 #[cfg(test)]
+mod groups;
+#[cfg(test)]
 mod malformed;
 #[cfg(test)]
 mod peers;

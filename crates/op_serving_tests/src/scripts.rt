@@ -185,8 +185,8 @@ pub fn read_gives(script: &mut NetScript, bytes: Vec<u8>) -> Result<(), NoMemory
     Ok(())
 }
 
-/// How serving ended, how many marks there are, and the net.
-type Run = (ServeEnd, usize, ScriptNet);
+/// How serving ended, how many marks there are, the net, and how many calls of the first disk were made.
+type Run = (ServeEnd, usize, ScriptNet, u64);
 
 /// The node that serves.
 #[derive(Clone, Copy)]
@@ -203,6 +203,8 @@ pub enum Server {
     Beside,
     /// Node 1, the only member, where this call of its first disk fails.
     Failing(u64),
+    /// The same, where 2 is the other member.
+    FailingBeside(u64),
 }
 
 /// What is served, and what comes of it.
@@ -225,15 +227,17 @@ fn served(alloc: Global, server: Server, steps: &[Step], turns: u64) -> Result<R
         Server::Alone => served_over(alloc, &sole()?, None, steps, turns),
         Server::Beside => served_over(alloc, &pair()?, None, steps, turns),
         Server::Failing(call) => served_over(alloc, &sole()?, Some(call), steps, turns),
+        Server::FailingBeside(call) => served_over(alloc, &pair()?, Some(call), steps, turns),
     }
 }
 
 /// How it ended, how many calls of the net there were, and the first connection with which it went otherwise.
 pub fn seen_of(alloc: Global, row: &Row) -> Result<Seen, Fail> {
-    let (end, lost, net) = served(alloc, row.server, row.steps, row.turns)?;
+    let (end, lost, net, disk_calls) = served(alloc, row.server, row.steps, row.turns)?;
     Ok(Seen {
         is_ended: (end, lost) == (row.end, row.lost),
         calls: net.calls().len(),
+        disk_calls,
         wrong: first_wrong(alloc, &net, row.conns)?,
     })
 }
@@ -269,7 +273,7 @@ fn served_as(
     };
     let Served { end, .. } = serve(alloc, node, &mut net, &mut clock, &settings);
     let (end, lost) = end?;
-    Ok((end, lost.len(), net))
+    Ok((end, lost.len(), net, 0))
 }
 
 /// A new disk, of which this call fails, if one does.
@@ -308,9 +312,10 @@ fn served_over(
     let mut net = ScriptNet::new(alloc, script_of(alloc, steps)?);
     let mut clock = FakeClock::new(alloc, VecDeque::new(alloc), 1);
     let node = opened(alloc, members, fails)?;
-    let Served { end, .. } = serve(alloc, NodeCore { node }, &mut net, &mut clock, &settings);
+    let Served { core, end } = serve(alloc, NodeCore::new(node), &mut net, &mut clock, &settings);
+    let (_, first, _) = core.node.park();
     let (end, lost) = end?;
-    Ok((end, lost.len(), net))
+    Ok((end, lost.len(), net, first.calls()))
 }
 
 /// What is written to a connection.
@@ -338,6 +343,8 @@ pub struct Seen {
     pub is_ended: bool,
     /// The calls of the net.
     pub calls: usize,
+    /// The calls of the first disk, of a node that has one.
+    pub disk_calls: u64,
     /// The first connection with which it went otherwise.
     pub wrong: Option<Conn>,
 }

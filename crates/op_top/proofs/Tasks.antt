@@ -83,7 +83,7 @@ heard id o status.NoReply net0 net1 out0 out1 h = tt
 node_goes : {D : Type 0} (state : D → DiskState) (id : ℕ) (o : Settings) (n : NodeState) (stood : Type 0) (old new : node.Around D) (s : Status) (lost : List Mark) → node.Goes state id o n stood old new s lost → IsNoUsage s
 node_goes state id o n stood old new s lost (node.is_unheard h same lives) = heard id o s old.net new.net old.output new.output h
 node_goes state id o n stood old new s lost (node.cannot_begin t r c same lives) = tt
-node_goes state id o n stood old new s lost (node.has_served {end} net r serves kept stored lives) = served end
+node_goes state id o n stood old new s lost (node.has_served {end} net r count serves kept stored lives) = served end
 
 node_ends : {D : Type 0} (state : D → DiskState) (id : ℕ) (o : Settings) (old new : node.Around D) (s : Status) (lost : List Mark) → node.Ends state id o old new s lost → IsNoUsage s
 node_ends state id o old new s lost (node.cannot_open a b) = tt

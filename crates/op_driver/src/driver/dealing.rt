@@ -1,26 +1,27 @@
 //! What a connection read is dealt with: its frames, one after the other, and what each says.
-ghost use Rattle.std.specs.Prelude.{◌≡◌, ◌≢◌, ◌<◌, ◌≤◌, ◌+◌, ◌-◌, [], length, true, false, IsTrue, None, IfOk, IfSome, IfNone, OnOk, OnErr};
+ghost use Rattle.std.specs.Prelude.{◌≡◌, ◌≢◌, ◌<◌, ◌≤◌, ◌+◌, ◌-◌, [], length, nat_le, true, false, IsTrue, if◌then◌else◌, None, IfOk, IfSome, IfNone, OnOk, OnErr};
+ghost use Rattle.op_types.specs.Limits.{most_commands};
 ghost use Rattle.op_types.specs.Ranges.{IsPid, CommandInRange};
+ghost use Rattle.op_msg.specs.Ranges.{MsgInRange};
 ghost use Rattle.op_types.specs.declared.events.Request.TheVariants as request;
 ghost use Rattle.op_command.specs.Ranges.{RequestInRange, SaidInRange};
 ghost use Rattle.op_command.specs.declared.said.Said.TheVariants.{Status};
-ghost use Rattle.op_serving.specs.declared.hearing.Heard.TheVariants.{Asks};
+ghost use Rattle.op_serving.specs.declared.hearing.Heard.TheVariants.{Asks, Message};
 ghost use Rattle.op_serving.specs.State.{find, is_open, session_of};
 ghost use Rattle.op_serving.specs.Losses.{Stays};
 ghost use Rattle.op_serving.specs.Counts.{most_inputs};
-ghost use Rattle.op_serving.specs.Inputs.{give};
+ghost use Rattle.op_serving.specs.Inputs.{brings, flushed, gathers, give, most_brought};
 ghost use Rattle.op_serving.specs.Reading.{feeds, frames_at, held_in, is_peer, joins_others, links, read, replaced};
 ghost use Rattle.op_queues.specs.Hearing.{HeardInRange};
-ghost use Rattle.op_queues.specs.Gathering.{RunInRange};
 ghost use Rattle.op_driver.specs.Driver.{Acts, Does, Loses, Rests, IsDrained};
-ghost use Rattle.op_driver.specs.Dealing.{Deals, DealsAll, GathersOn, Handles, HandlesAlone, Taken, framed, greeted, makes_way, tells_now};
+ghost use Rattle.op_driver.specs.Dealing.{Deals, DealsAll, Handles, HandlesAlone, Taken, framed, greeted, makes_way, tells_now};
 
 use super::Driver;
 use op_command::Said;
 use op_outside::Conn;
-use op_queues::{Front, Run, of_no_command};
+use op_queues::{Front, of_no_command};
 use op_serving::{Core, Heard};
-use op_types::{Command, Input, NoMemory, Pid, Request};
+use op_types::{Command, Input, Msg, NoMemory, Pid, Request};
 
 impl<K: Core> Driver<K> {
     /// Bytes that a connection read, and all that they complete. Where they find no memory, its session is
@@ -93,7 +94,7 @@ impl<K: Core> Driver<K> {
         }
     }
 
-    /// A peer has said who it is: behind the commands that were gathered its earlier session ends, and it goes
+    /// A peer has said who it is: behind what was gathered its earlier session ends, and it goes
     /// up. A stranger's session ends.
     fn greet(&mut self, conn: Conn, peer: Pid, frames: u64) -> Option<u64>
         requires at { self.old.loop.place.at ≢ 0 }
@@ -203,7 +204,7 @@ impl<K: Core> Driver<K> {
         self.sessions.begin_frame(frames);
     }
 
-    /// What a frame says is dealt with: all but a command comes behind the commands that were gathered. Where
+    /// What a frame says is dealt with: all but a message and a command comes behind what was gathered. Where
     /// that finds no memory, its session is lost.
     fn hear(&mut self, conn: Conn, heard: Heard) -> Result<(), NoMemory>
         requires open { is_open conn self.old.loop ≡ true }
@@ -217,7 +218,7 @@ impl<K: Core> Driver<K> {
         if joins_others(&heard) {
             return self.hear_alone(conn, heard);
         }
-        if self.gathered_len() == 0 {
+        if !self.has_gathered() {
             return self.hear_alone(conn, heard);
         }
         self.flush_some();
@@ -241,10 +242,7 @@ impl<K: Core> Driver<K> {
         ensures most { most_inputs self.new.loop ≤ most_inputs self.old.loop + 1 }
     {
         match heard {
-            Heard::Message(from, message) => {
-                self.give(&[conn], Input::Deliver(from, message));
-                Ok(())
-            }
+            Heard::Message(from, message) => self.deliver(conn, from, message),
             Heard::Foreign => Ok(()),
             Heard::Noise => {
                 self.end(conn);
@@ -294,7 +292,29 @@ impl<K: Core> Driver<K> {
         self.sessions.end();
     }
 
-    /// A client's command is gathered; the most that one input may have are given at once.
+    /// A peer's message is gathered; with the most that may be all are given at once.
+    fn deliver(&mut self, conn: Conn, from: Pid, message: Msg) -> Result<(), NoMemory>
+        requires open { is_open conn self.old.loop ≡ true }
+        requires none { IsDrained self.old.loop }
+        requires range { IsPid from × MsgInRange message }
+        ensures ok { OnOk result
+            (HandlesAlone K.stores K.line conn (Message from message) self.old self.new) }
+        ensures err { OnErr result (Loses K.stores conn self.old self.new) }
+        ensures most { most_inputs self.new.loop ≤ most_inputs self.old.loop + 1 }
+    {
+        match self.bring(conn, from, message) {
+            Ok(full) => {
+                self.flush_if(full);
+                Ok(())
+            }
+            Err(_) => {
+                self.lose(conn);
+                Err(NoMemory)
+            }
+        }
+    }
+
+    /// A client's command is gathered; with the most that one input may have all are given at once.
     fn propose(&mut self, conn: Conn, command: Command) -> Result<(), NoMemory>
         requires open { is_open conn self.old.loop ≡ true }
         requires none { IsDrained self.old.loop }
@@ -305,9 +325,8 @@ impl<K: Core> Driver<K> {
         ensures most { most_inputs self.new.loop ≤ most_inputs self.old.loop + 1 }
     {
         match self.gather(conn, command) {
-            Ok(None) => Ok(()),
-            Ok(Some(run)) => {
-                self.give_run(run);
+            Ok(full) => {
+                self.flush_if(full);
                 Ok(())
             }
             Err(_) => {
@@ -317,11 +336,36 @@ impl<K: Core> Driver<K> {
         }
     }
 
-    /// A command is gathered. Gives all that are, where they are the most that one input may have.
-    fn gather(&mut self, conn: Conn, command: Command) -> Result<Option<Run>, NoMemory>
+    /// All that was gathered is given together, if there is as much as may be.
+    fn flush_if(&mut self, full: bool)
+        requires { IsDrained self.old.loop }
+        ensures does { Does K.stores (λ l s. if full then flushed l s else s) self.old self.new }
+        ensures stays { Stays self.old.loop self.new.loop }
+        ensures none { IsDrained self.new.loop }
+        ensures most { most_inputs self.new.loop ≤ most_inputs self.old.loop }
+    {
+        if full {
+            self.flush();
+        }
+    }
+
+    /// A message is gathered. Gives whether there are as many as may be. Without memory nothing changes.
+    fn bring(&mut self, conn: Conn, from: Pid, message: Msg) -> Result<bool, NoMemory>
+        requires { IsPid from × MsgInRange message }
+        ensures ok { OnOk result
+            (self.new ≡ record self.old { loop = brings conn (from, message) self.old.loop }) }
+        ensures full { IfOk result (λ full. full ≡ nat_le most_brought (length self.new.loop.brought)) }
+        ensures err { OnErr result (self.new ≡ self.old) }
+    {
+        self.sessions.bring(conn, from, message)
+    }
+
+    /// A command is gathered. Gives whether there are as many as one input may have. Without memory nothing changes.
+    fn gather(&mut self, conn: Conn, command: Command) -> Result<bool, NoMemory>
         requires { CommandInRange command }
-        ensures ok { IfOk result (λ r. GathersOn conn command self.old r self.new) }
-        ensures range { IfOk result (λ r. IfSome r RunInRange) }
+        ensures ok { OnOk result
+            (self.new ≡ record self.old { loop = gathers conn command self.old.loop }) }
+        ensures full { IfOk result (λ full. full ≡ nat_le most_commands (length self.new.loop.gathered)) }
         ensures err { OnErr result (self.new ≡ self.old) }
     {
         self.sessions.gather(conn, command)
@@ -362,12 +406,13 @@ impl<K: Core> Driver<K> {
     }
 }
 
-/// Whether a frame says a command, or nothing to this node. What else it says comes behind the commands that were
+/// Whether a frame says a message, a command, or nothing to this node. What else it says comes behind what was
 /// gathered.
 fn joins_others(heard: &Heard) -> bool
     ensures { result ≡ joins_others heard.now }
 {
     match heard {
+        Heard::Message(_, _) => true,
         Heard::Asks(Request::Command(_)) => true,
         Heard::Foreign => true,
         _ => false,

@@ -53,7 +53,7 @@ impl<D: Disk> Node<D> {
 }
 
 /// The count of faults that a node keeps whose opening is refused.
-fn count_kept(failed: Option<u64>, cause: StoreFail) -> Option<u64>
+pub(super) fn count_kept(failed: Option<u64>, cause: StoreFail) -> Option<u64>
     ensures { result ≡ reopenings.count_kept failed cause }
 {
     match cause {

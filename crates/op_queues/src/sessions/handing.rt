@@ -10,7 +10,8 @@ ghost use Rattle.op_serving.specs.State.{find, waits_for};
 ghost use Rattle.op_serving.specs.Room.{count_at, has_room, goes_ahead, kept, placed, without_first, moved};
 ghost use Rattle.op_serving.specs.Ranges.{KeyInRange, KeyAtInRange, WantedInRange, SendInRange, ReplyInRange as AnswerInRange};
 ghost use Rattle.op_serving.specs.Losses.{settled, Does};
-ghost use Rattle.op_serving.specs.Handing.{made_way, sent, sent_at, sent_all, forgotten, replied, replied_all, asked, asked_by_one, of_command, no_command, said_each, said_of_refusal, said_of_outcome, said_of_read, said_of_denial, told, told_all, waits_if_asked, waits_unless, proposed, excused};
+ghost use Rattle.op_serving.specs.Handing.{made_way, sent, sent_at, sent_all, forgotten, replied, replied_all, asked, asked_by_one, of_command, no_command, said_each, said_of_refusal, said_of_outcome, said_of_read, said_of_denial, told, told_all, waits_if_asked, waits_unless, proposed, excused, given_up};
+ghost use Rattle.op_queues.specs.Asked.{AwaitedInRange};
 
 use super::Sessions;
 use crate::asked::{denied, of_command, of_no_command, refusal};
@@ -24,6 +25,8 @@ use op_conns::Encode;
 use op_outside::Conn;
 use op_serving::{Awaited, Key, MOST_BEHIND, Wanted, begins_anew, is_urgent};
 use op_types::{Msg, NoMemory, Outcome, Pid, Refusal, Replies, Reply, Sends};
+use std::collections::BTreeMap;
+use std::mem;
 
 impl Sessions {
     /// A message for a peer without a session is lost, and one that is too long for its peer. Before one waits at a
@@ -190,6 +193,7 @@ impl Sessions {
     /// A command or a read is asked for: who asked for it before waits no more, and this session does. Where that
     /// finds no memory, the session is lost.
     fn ask(&mut self, read: bool, conn: Conn, key: Key)
+        requires { KeyInRange key }
         ensures { Does (λ marks s. settled marks (asked_by_one read (conn, key) s)) self.old self.new }
     {
         if !self.is_open(conn) {
@@ -204,6 +208,7 @@ impl Sessions {
 
     /// Notes who asks last for a command or a read. Without memory nothing changes, and nobody had asked.
     fn note(&mut self, conn: Conn, key: Awaited) -> Result<(), NoMemory>
+        requires { AwaitedInRange key }
         ensures ok { OnOk result
             (self.new ≡ record self.old { askers = map.insert self.old.askers key conn }) }
         ensures err { OnErr result (self.new ≡ self.old) }
@@ -214,6 +219,7 @@ impl Sessions {
 
     /// Commands are asked for, in their order.
     fn ask_all(&mut self, keys: &[(Conn, Key)])
+        requires { All KeyAtInRange keys.now }
         ensures { Does (λ marks s. settled marks (asked false keys.now s)) self.old self.new }
     {
         for (conn, key) in keys {
@@ -372,6 +378,17 @@ impl Sessions {
     {
         for decided in replies.into_vec() {
             self.reply(read, decided);
+        }
+    }
+
+    /// A disk failed, with this count since: all that wait for an answer are told, and nobody waits any more.
+    pub fn give_up(&mut self, count: u64)
+        ensures { Does (λ marks s. settled marks (given_up count s)) self.old self.new }
+    {
+        let askers = mem::replace(&mut self.askers, BTreeMap::new(self.alloc));
+        let why = Refusal::StorageFailed { count };
+        for ((_read, key), conn) in askers {
+            self.deny(conn, key, Some(why));
         }
     }
 

@@ -1,7 +1,10 @@
-use Rattle.std.proofs.Common.{rules, ◌∙◌, ◌≡◌, None}
+use Rattle.std.proofs.Common.{rules, sym, subst, ◌∙◌, ◌≡◌, None, All}
 use Rattle.std.specs.FinMap as map
-use Rattle.op_serving.specs.State.{askers_in}
-use Rattle.op_queues.proofs.Askers.{get_in, put_in}
+use Rattle.std.proofs.lemmas.Map.Views.{All-keys-insert_entry}
+use Rattle.std.specs.Map.{keys_of}
+use Rattle.op_serving.specs.State.{askers_in, awaited_cmp}
+use Rattle.op_queues.specs.Asked.{AwaitedInRange}
+use Rattle.op_queues.proofs.Askers.{Entries, get_in, put_in}
 use Rattle.op_queues.proofs.asker_table.put_asker.Goals as goal
 
 pub returns-in_err-insert-clause-absent : goal.returns-in_err-insert-clause-absent
@@ -11,3 +14,8 @@ returns-in_err-insert-clause-absent c =
 
 pub returns-clause-ok : goal.returns-clause-ok
 returns-clause-ok c = put_in c.args.key c.args.conn c.args.askers.now.entries c.insert.new.self.entries (λ q. c.in_ok-insert.ensures.updates.0 q)
+
+pub returns-clause-range : goal.returns-clause-range
+returns-clause-range c asked h =
+    subst (λ (es : Entries). All AwaitedInRange (keys_of es)) (sym c.in_ok-insert.ensures.entries)
+    (All-keys-insert_entry awaited_cmp c.args.key c.args.conn AwaitedInRange c.args.askers.now.entries h asked)

@@ -1,12 +1,19 @@
-use Rattle.std.proofs.Common.{◌∙◌}
+use Rattle.std.proofs.Common.{ap, sym, subst, ◌∙◌}
+use Rattle.op_node.specs.Nodes.{NodeState, node_of}
+use Rattle.op_node.specs.declared.node.Node.{Node}
+use Rattle.op_core.specs.NodeCores.{IsServable}
 use Rattle.op_serve.proofs.Endings.{ends_opened, ends_refused}
 use Rattle.op_serve.proofs.serving.serve_on.Goals as goal
 
 pub serve_opened-requires-clause-ready : goal.serve_opened-requires-clause-ready
-serve_opened-requires-clause-ready g c = c.opened_nodes_can_be_served.ensures _ _ _ _ _ _ c.in-Ok.ensures.opened c.requires.server
+serve_opened-requires-clause-ready g c =
+    subst (λ (n : Node _). IsServable n) (sym c.new.ensures) (c.opened_nodes_can_be_served.ensures _ _ _ _ _ _ c.in-Ok.ensures.opened c.requires.server)
+
+pub serve_opened-requires-clause-up : goal.serve_opened-requires-clause-up
+serve_opened-requires-clause-up g c = ap (λ (n : Node _). (node_of n).failed) c.new.ensures ∙ ap (λ (n : NodeState). n.failed) c.in-Ok.ensures.opened.node
 
 pub returns-in-Ok : goal.returns-in-Ok
-returns-in-Ok g c = ends_opened _ _ _ _ _ _ _ _ _ _ _ _ _ c.in-Ok.ensures.opened c.serve_opened.ensures
+returns-in-Ok g c = ends_opened _ _ _ _ _ _ _ _ _ _ _ _ _ _ c.new.ensures c.in-Ok.ensures.opened c.serve_opened.ensures
 
 pub returns : goal.returns
 returns g c =

@@ -40,4 +40,4 @@ returns-in_ok-tell-in-End-clause-ok g c =
 pub returns-in_ok-tell-in-End-clause-most : goal.returns-in_ok-tell-in-End-clause-most
 returns-in_ok-tell-in-End-clause-most g c =
     let s = c.tell.new.self.loop in
-    omega (arith, c.tell.ensures.most, ap (λ (x : Served _). most_inputs x.loop) c.note_end.ensures, most_same s (record s { ending = true }) refl refl refl refl)
+    omega (arith, c.tell.ensures.most, ap (λ (x : Served _). most_inputs x.loop) c.note_end.ensures, most_same s (record s { ending = true }) refl refl refl refl refl)

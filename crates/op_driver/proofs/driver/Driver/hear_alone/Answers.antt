@@ -1,16 +1,18 @@
-use Rattle.std.proofs.Common.{◌∷◌, [], refl, ap}
-use Rattle.op_types.specs.declared.events.Input.TheVariants as input
+use Rattle.std.proofs.Common.{refl, sym, ap, subst}
 use Rattle.op_command.specs.declared.said.Said.TheVariants as said
-use Rattle.op_serving.specs.Inputs.{give}
+use Rattle.op_serving.specs.declared.hearing.Heard.{Heard}
+use Rattle.op_serving.specs.declared.hearing.Heard.TheVariants.{Message}
 use Rattle.op_serving.specs.Reading.{on_frame}
 use Rattle.op_driver.specs.Driver.{with_deeds}
+use Rattle.op_driver.specs.Dealing.{HandlesAlone}
 use Rattle.op_queues.proofs.Settling.{stays_same}
-use Rattle.op_driver.proofs.Handling.{nothing_does, on_ok_as, given_handles, told_handles, drains_at}
+use Rattle.op_driver.proofs.Handling.{nothing_does, on_ok_as, told_handles, drains_at}
 use Rattle.op_driver.proofs.driver.Driver.hear_alone.Goals as goal
 
 pub returns-in-Message-clause-ok : goal.returns-in-Message-clause-ok
 returns-in-Message-clause-ok g c =
-    given_handles g.K.Core.line c.args.conn c.args.heard (λ l s. give l (c.args.conn ∷ []) (input.Deliver c.in-Message.from c.in-Message.message) s) c.give.ensures.gives (λ l before. ap (λ h. on_frame l g.K.Core.line c.args.conn h (with_deeds before c.args.self.now)) c.in-Message.is)
+    let m : Heard = Message c.in-Message.from c.in-Message.message in
+    on_ok_as c.deliver.result (λ (x : HandlesAlone g.K.Core.stores g.K.Core.line c.args.conn m c.args.self.now c.deliver.new.self). subst (λ (h : Heard). HandlesAlone g.K.Core.stores g.K.Core.line c.args.conn h c.args.self.now c.deliver.new.self) (sym c.in-Message.is) x) c.deliver.ensures.ok
 
 pub returns-in-Foreign-clause-ok : goal.returns-in-Foreign-clause-ok
 returns-in-Foreign-clause-ok g c = record {

@@ -2,7 +2,7 @@ use Rattle.std.proofs.Common.{◌≡◌, ◌<◌, ◌-◌, ◌++◌, ℕ, List, 
 use Rattle.std.specs.List.{remove}
 use Rattle.op_types.specs.declared.log.Command.{Command}
 use Rattle.op_serving.specs.State.{without}
-use Rattle.op_queues.proofs.Runs.{some_one, kept_one, removed_one, there_is, left_is, gathered_left, at_same, at_another}
+use Rattle.op_queues.proofs.Runs.{some_one, kept_one, removed_one, there_is, left_is, all_left, at_same, at_another}
 use Rattle.op_queues.proofs.Tables.{without_short}
 use Rattle.op_serving.specs.Ranges.{GatheredInRange}
 use Rattle.op_queues.proofs.run.Run.forget.Goals as goal
@@ -41,4 +41,4 @@ pub returns-clause-len : goal.returns-clause-len
 returns-clause-len c = omega (arith, ap length (c.loop-at.invariant.is ∙ left_is c.args.conn c.loop-at.at c.args.self.now c.loop-at-test.false), without_short c.args.conn c.args.self.now)
 
 pub returns-clause-range : goal.returns-clause-range
-returns-clause-range c all = subst (All GatheredInRange) (sym (c.loop-at.invariant.is ∙ left_is c.args.conn c.loop-at.at c.args.self.now c.loop-at-test.false)) (gathered_left c.args.conn c.args.self.now all)
+returns-clause-range c all = subst (All GatheredInRange) (sym (c.loop-at.invariant.is ∙ left_is c.args.conn c.loop-at.at c.args.self.now c.loop-at-test.false)) (all_left GatheredInRange c.args.conn c.args.self.now all)

@@ -15,7 +15,7 @@ Moves c s t = Does (λ marks x. settled marks (moved c x)) s t
 moves_on : (c : ℕ) (bytes : List ℕ) (s v u t : Loop) → has_room (find c s.sessions) ≡ true → find c s.behind ≡ Some bytes → v ≡ dropped c s → Does (λ marks x. settled marks (waits_for c bytes x)) v u → Moves c u t → Moves c s t
 moves_on c bytes s v u t room first is one rest =
     let both : Does (λ marks x. settled marks (moved c (waits_for c bytes x))) (dropped c s) t = subst (λ (x : Loop). Does (λ marks y. settled marks (moved c (waits_for c bytes y))) x t) is (does_then (waits_for c bytes) (moved c) (blind_moved c) one rest) in
-    does_after (λ x. moved c (waits_for c bytes x)) (moved c) {s = s} {u = dropped c s} refl refl (omega arith) (omega (arith, most_same s (dropped c s) refl refl refl refl)) (λ d. inl refl)
+    does_after (λ x. moved c (waits_for c bytes x)) (moved c) {s = s} {u = dropped c s} refl refl (omega arith) (omega (arith, most_same s (dropped c s) refl refl refl refl refl)) (λ d. inl refl)
     (moved_more c bytes s room first ∙ ap (λ (o : Option (List ℕ)). moved c (Rattle.op_serving.specs.Room.first_moved c o s)) first) both
 
 pub returns-in_default : goal.returns-in_default

@@ -10,7 +10,7 @@ use Rattle.op_queues.proofs.Settling.{does_after, does_nothing}
 use Rattle.op_queues.proofs.sessions.Sessions.reply.Goals as goal
 
 forgets : (key : Awaited) (s t : Loop) → t ≡ forgotten key s → (size t ≤ size s) × (most_inputs t ≤ most_inputs s)
-forgets key s t e = rw e (omega arith, omega (arith, most_same s (forgotten key s) refl refl refl refl))
+forgets key s t e = rw e (omega arith, omega (arith, most_same s (forgotten key s) refl refl refl refl refl))
 
 pub returns-in_default : goal.returns-in_default
 returns-in_default c =

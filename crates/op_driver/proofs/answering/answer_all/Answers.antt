@@ -1,0 +1,55 @@
+use Rattle.std.proofs.Common.{◌≡◌, ◌≤◌, ◌-◌, ◌||◌, ◌==◌, ◌++◌, ◌∷◌, [], Bool, length, All, IfOk, None, if◌then◌else◌, vec_len, subst, sym, ap, ◌∙◌, rules}
+use Rattle.std.proofs.lemmas.List.Elements.{All-take}
+use Rattle.std.proofs.lemmas.List.Sorted.{All-permutation}
+use Rattle.op_serving.specs.Ranges.{GivenInRange}
+use Rattle.op_driver.specs.Answering.{Answer}
+use Rattle.op_driver.proofs.Telling.{hands_none, hands_more, hands_all, range_if}
+use Rattle.op_driver.proofs.answering.answer_all.Goals as goal
+
+abbrev InRange : Answer → Type 0
+InRange r = IfOk r GivenInRange
+
+pub answers-init : goal.answers-init
+answers-init c = record {
+  hands = hands_none c.args.wanted c.args.results.now.items c.reverse.new.self.items c.args.sessions.now c.reverse.ensures.items;
+  range = All-permutation InRange c.args.results.now.items c.reverse.new.self.items c.reverse.ensures.permutation c.requires.given;
+  wanted = c.requires.wanted;
+  room = c.reverse.ensures.capacity;
+}
+
+pub answers-preserved : goal.answers-preserved
+answers-preserved c =
+    let i = c.answers.invariant in
+    let left = c.pop.new.self.items in
+    let r : Answer = c.in-Some.result in
+    let split : c.answers.results.items ≡ left ++ r ∷ [] = c.in-Some.ensures.items in
+    let empty : c.is_empty.result ≡ (length left == 0) = search rules in
+    let asked = c.take_if-asked.ensures.taken ∙ ap (λ (b : Bool). if b then c.answers.wanted else None) empty in
+    let later = c.take_if-asked.ensures.left ∙ ap (λ (b : Bool). if b then None else c.answers.wanted) empty in
+    record {
+      hands = hands_more c.args.wanted c.answers.wanted c.take_if-asked.result c.take_if-asked.new.wanted c.args.results.now.items left c.answers.results.items r c.answers.failed c.is_fault-fails.result c.is_fault-fails.result c.args.sessions.now c.answers.sessions c.answer.new.sessions i.hands split asked later c.is_fault-fails.ensures (ap (λ b. b || c.is_fault-fails.result) (sym c.if-failed.false)) c.answer.ensures;
+      range = subst (All InRange) (sym c.pop.ensures.rest) (All-take InRange (vec_len c.answers.results - 1) c.answers.results.items i.range);
+      wanted = range_if c.is_empty.result c.answers.wanted c.take_if-asked.new.wanted c.take_if-asked.ensures.left i.wanted;
+      room = c.pop.ensures.capacity ∙ i.room;
+    }
+
+pub answers-preserved-then-failed : goal.answers-preserved-then-failed
+answers-preserved-then-failed c =
+    let i = c.answers.invariant in
+    let left = c.pop.new.self.items in
+    let r : Answer = c.in-Some.result in
+    let split : c.answers.results.items ≡ left ++ r ∷ [] = c.in-Some.ensures.items in
+    let empty : c.is_empty.result ≡ (length left == 0) = search rules in
+    let asked = c.take_if-asked.ensures.taken ∙ ap (λ (b : Bool). if b then c.answers.wanted else None) empty in
+    let later = c.take_if-asked.ensures.left ∙ ap (λ (b : Bool). if b then None else c.answers.wanted) empty in
+    record {
+      hands = hands_more c.args.wanted c.answers.wanted c.take_if-asked.result c.take_if-asked.new.wanted c.args.results.now.items left c.answers.results.items r c.answers.failed c.is_fault-fails.result c.answers.failed c.args.sessions.now c.answers.sessions c.answer.new.sessions i.hands split asked later c.is_fault-fails.ensures (c.if-failed.true ∙ ap (λ b. b || c.is_fault-fails.result) (sym c.if-failed.true)) c.answer.ensures;
+      range = subst (All InRange) (sym c.pop.ensures.rest) (All-take InRange (vec_len c.answers.results - 1) c.answers.results.items i.range);
+      wanted = range_if c.is_empty.result c.answers.wanted c.take_if-asked.new.wanted c.take_if-asked.ensures.left i.wanted;
+      room = c.pop.ensures.capacity ∙ i.room;
+    }
+
+pub returns-clause-does : goal.returns-clause-does
+returns-clause-does c =
+    let none : length c.answers.results.items ≤ 0 = search rules in
+    hands_all c.args.wanted c.answers.wanted c.args.results.now.items c.answers.results.items c.answers.failed c.args.sessions.now c.answers.sessions c.answers.invariant.hands none
