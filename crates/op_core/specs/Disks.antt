@@ -25,8 +25,8 @@ unstored_after_all n u (c ∷ cs) =
     unstored_after_all (after_fate n c.0 c.1) (unstored_after n c.0 c.1 u) cs
 
 module _ {D : Type 0} (state : D → DiskState) where
-  -- A node's disks, where this is what they may hold since one failed: they stand for what the node has stored
-  -- or, where it has failed, for one of the two. Each of these names the node.
+  -- A node's disks, where this is what they may hold since one failed: they stand for what the node has
+  -- stored or, where it has failed, for one of the two. Each of these names the node.
   pub record Stores (u : Unstored) (c : NodeCore D) : Type 0 where
     pub up : (node_of c.node).failed ≡ None → IsRepresented state c.node
     pub failed : (node_of c.node).failed ≢ None →
@@ -36,8 +36,8 @@ module _ {D : Type 0} (state : D → DiskState) where
     pub before_named : IsNamed (node_of c.node).me u.before.durable
     pub ahead_named : IsNamed (node_of c.node).me u.ahead.durable
 
-  -- What inputs that are stored together are to them, of which this came: each is itself. Where they stood so,
-  -- each opening finds what was stored before or behind those that failed, and they still stand so.
+  -- What inputs that are stored together are to them, of which this came: each is itself. Where they stood
+  -- so, each opening finds what was stored before or behind those that failed, and they still stand so.
   pub record StepStores (old : NodeCore D) (cs : List Came) (new : NodeCore D) : Type 0 where
     pub kept : KeepBoth (disks_of state old.node.store) (disks_of state new.node.store)
     pub node : standing_of state new ≡ after_all (standing_of state old) cs

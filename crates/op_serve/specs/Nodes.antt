@@ -128,7 +128,8 @@ module _ {D : Type 0} (state : D → DiskState) where
         StoreOneOf unstored.before.durable unstored.ahead.durable (disks_in a)
 
   -- A node's disks over these deeds of it: each opening of it again found what it had stored before the
-  -- inputs for which they had failed, or what is behind all of these, and at the end they hold what is stored.
+  -- inputs for which they had failed, or what is behind all of these, and at the end they hold what is
+  -- stored.
   pub record HoldsOver (deeds : List Deed) (n : NodeState) (m : Standing) (old new : Around D)
       : Type 0 where
     pub found : FindStored (opened_at n (faults_of old)) (all_stored n.state) deeds

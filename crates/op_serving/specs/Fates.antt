@@ -128,8 +128,8 @@ TellAll [] n cs = cs ≡ []
 TellAll (r ∷ rs) n [] = ⊥
 TellAll (r ∷ rs) n (c ∷ cs) = Tells r n c.0 c.1 × TellAll rs (after_fate n c.0 c.1) cs
 
--- What came of inputs that were given together, of which these are left: of each up to the first that found no
--- memory.
+-- What came of inputs that were given together, of which these are left: of each up to the first that
+-- found no memory.
 pub record StepsAll {K : Type 0} (standing : K → Standing) (stores : K → List Came → K → Type 0)
     (old : K) (xs rest : List Input) (results : List (Result Given StepFail)) (new : K) : Type 0 where
   pub came : List Came

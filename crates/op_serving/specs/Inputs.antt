@@ -1,6 +1,6 @@
 -- Inputs to the node: what comes of them, what is handed out, and the Downs right behind. Messages and
--- commands that are read are gathered, and given together: the commands as one input, and all of them stored at
--- once.
+-- commands that are read are gathered, and given together: the commands as one input, and all of them
+-- stored at once.
 use Rattle.std.specs.Prelude.{◌++◌, ◌∷◌, [], ℕ, zero, suc, List, length, map, fold, slice_get, zip, Bool, false, nat_lt, ◌&&◌, not, is_some, if◌then◌else◌, Option, Some, None}
 use Rattle.op_types.specs.Limits.{most_commands}
 use Rattle.op_types.specs.declared.answers.Refusal.TheVariants.{StorageFailed}

@@ -88,7 +88,10 @@ const ONE_COMMIT: (Row<'static>, u64) = (
 fn messages_and_commands_of_a_turn_are_one_commit(rt: HostRuntime) -> Result<(), Fail> {
     let (row, disk_calls) = ONE_COMMIT;
     let seen = seen_of(rt.alloc(), &row)?;
-    assert_eq!(rt; (seen.is_ended, seen.wrong, seen.disk_calls), (true, None, disk_calls));
+    assert_eq!(rt;
+        (seen.is_ended, seen.wrong, seen.disk_calls),
+        (true, None, disk_calls)
+    );
     Ok(())
 }
 
