@@ -23,7 +23,7 @@ use Rattle.op_command.specs.Ranges.{AnswerInRange, OutcomeInRange}
 use Rattle.op_protocol.specs.State.{State}
 use Rattle.op_protocol.specs.Rows.{step_plan}
 use Rattle.op_protocol.specs.Starting.{first_volatile, sends_after_restart}
-use Rattle.op_bounds.specs.Messages.{EntryOf, EntriesOf}
+use Rattle.op_bounds.specs.Messages.{EntryOf}
 use Rattle.op_bounds.specs.Messages as known
 use Rattle.op_bounds.specs.States.{VolatileEndsNowhere, StateInRange}
 use Rattle.op_bounds.specs.Laws.{PlanInRange, OpeningInRange}

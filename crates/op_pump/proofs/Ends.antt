@@ -15,7 +15,7 @@ use Rattle.op_serving.specs.Cores.{Failure, Standing, after_input, faulted, reop
 use Rattle.op_serving.specs.State.{Loop}
 use Rattle.op_serving.specs.Losses.{last_count, most_marks, IsCalm, IsFrom, has_threat}
 use Rattle.op_serving.specs.Inputs.{State, Deed, begins, hears, enters, says, takes, Luck, kept}
-use Rattle.op_serving.specs.Fates.{Fate, finds, faults, shares, damaged, lost, after_fate}
+use Rattle.op_serving.specs.Fates.{finds, faults, shares, damaged, lost, after_fate}
 use Rattle.op_serving.specs.Fates as fates
 use Rattle.op_serving.specs.Faults.{Stepped, faulted_steps, FaultsWithin}
 use Rattle.op_serving.specs.Promise.{Keeps, folded}

@@ -21,7 +21,7 @@ use Rattle.op_serving.specs.Losses.{last_count}
 use Rattle.op_serving.specs.Inputs.{State, Deed, Luck, flushed, over}
 use Rattle.op_serving.specs.Reading.{read, hello_len}
 use Rattle.op_serving.specs.Turns.{happens_at, at_happening, turn_begins, turn_begun, joined, ticked, wrote, queue_in, waiting_from}
-use Rattle.op_serving.specs.Pump.{piece_len, next_due, writes_place, Settings, Stage, turn, time, dials, asks, reads, writes, stop, Ask, wait, clock, dial, ready, read_from, write_to, nothing, was_waited, was_told, was_dialled, was_readied, was_seen, was_written, no_answer, call_of, ask}
+use Rattle.op_serving.specs.Pump.{piece_len, next_due, writes_place, Settings, Stage, turn, time, dials, asks, reads, writes, stop, wait, dial, ready, write_to, nothing, was_waited, was_told, was_dialled, was_readied, was_seen, was_written, no_answer, call_of, ask}
 use Rattle.op_serving.specs.Pump as pump
 use Rattle.op_serving.specs.Answers.{IsAnswer}
 use Rattle.op_driver.proofs.Stepping.{untouched, went_none, went_from}

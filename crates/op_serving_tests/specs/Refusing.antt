@@ -1,5 +1,5 @@
 -- A node that has failed, and does nothing but refuse.
-use Rattle.std.specs.Prelude.{◌≡◌, ◌⊎◌, Bool, true, false, Some, None, Result, Ok, Err}
+use Rattle.std.specs.Prelude.{◌≡◌, Bool, true, false, Some, None, Result, Err}
 use Rattle.op_types.specs.declared.events.Input.{Input}
 use Rattle.op_serving.specs.Cores.{Standing, forgotten}
 use Rattle.op_serving.specs.Fates.{Fate, lost, IsTogether, MayCome, Tells, after_fate}

@@ -1,4 +1,4 @@
-use Rattle.std.proofs.Common.{◌≡◌, ◌++◌, ◌∷◌, [], List, true, false, All, sym, subst, arith, ap, length, refl, ◌∙◌}
+use Rattle.std.proofs.Common.{◌≡◌, ◌++◌, ◌∷◌, [], List, true, false, All, sym, subst, arith, ap, length, ◌∙◌}
 use Rattle.std.proofs.lemmas.List.Elements.{All-nil, All-cons, All-append}
 use Rattle.op_types.specs.declared.events.Input.{Input}
 use Rattle.op_core.specs.Groups.{Told, ToldInRange}
