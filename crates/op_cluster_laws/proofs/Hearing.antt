@@ -20,7 +20,7 @@ use Rattle.op_serving.specs.declared.session.Session.{Session}
 use Rattle.op_serving.specs.Cores.{Standing}
 use Rattle.op_serving.specs.Wire.{peer_head, message_in, request_in}
 use Rattle.op_serving.specs.State.{Loop, find, kind_at, is_open, session_of}
-use Rattle.op_serving.specs.Inputs.{Deed, hears, enters, State, Luck, give, most_brought, gathering, bringing, flushed, proposes, behind, over, rest, noting}
+use Rattle.op_serving.specs.Inputs.{Deed, hears, enters, State, Luck, give, has_brought, most_brought, gathering, bringing, flushed, proposes, behind, over, rest, noting}
 use Rattle.op_serving.specs.Reading.{peer_limit, peer_byte, hello_len, Front, partial, refused, hello, frame, front_of, heard_from, asked_in, heard_in, tells, ending, on_heard, of_kind, holding, linked, replaced, is_peer, at_frame, counted_if, up_if_open, met, dealt_front, dealt_at, dealt, feeds, held_in, read}
 use Rattle.op_serving.specs.Turns.{hello as hello_bytes}
 use Rattle.op_serving.specs.Promise.{life}
@@ -146,8 +146,12 @@ module _ (me : ℕ) (n : Standing) (l : Luck) (line : Standing → List ℕ) (c 
       (λ u k b e. knows_give me n all_held l (c ∷ []) (input.Stop members) u k (c, refl, asked_behind s u (request.Stop members) b asked) (b.kinds Client client e))
   knows_request request.Trim s h client asked = knows_behind (give l (c ∷ []) input.TrimNow) s h
       (λ u k b e. knows_give me n all_held l (c ∷ []) input.TrimNow u k (c, refl, asked_behind s u request.Trim b asked) (b.kinds Client client e))
-  knows_request (request.Read r) s h client asked = knows_behind (give l (c ∷ []) (input.Read r)) s h
-      (λ u k b e. knows_give me n all_held l (c ∷ []) (input.Read r) u k (c, refl, asked_behind s u (request.Read r) b asked) (b.kinds Client client e))
+  knows_request (request.Read r) s h client asked = by_first (not (has_brought c s.loop))
+    where
+      by_first : (b : Bool) → K (if b then give l (c ∷ []) (input.Read r) s else behind l c (give l (c ∷ []) (input.Read r)) s)
+      by_first true = knows_give me n all_held l (c ∷ []) (input.Read r) s h (c, refl, asked) client
+      by_first false = knows_behind (give l (c ∷ []) (input.Read r)) s h
+          (λ u k b e. knows_give me n all_held l (c ∷ []) (input.Read r) u k (c, refl, asked_behind s u (request.Read r) b asked) (b.kinds Client client e))
   knows_request request.Status s h client asked = knows_behind (λ u. tells c (said.Status (line u.node)) u) s h
       (λ u k b e. knows_tells me n c (said.Status (line u.node)) u (λ a is. cc) (b.kinds Client client e) k)
   knows_request request.End s h client asked = knows_behind (λ u. ending (tells c said.Ended u)) s h

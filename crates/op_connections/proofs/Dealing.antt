@@ -1,5 +1,5 @@
 -- A read keeps what its connection is promised, and what the others are.
-use Rattle.std.proofs.Common.{◌≡◌, ◌≤◌, ◌+◌, ◌++◌, ◌∷◌, [], ℕ, zero, suc, Bool, true, false, List, length, map, nat_lt, Result, Ok, Err, Option, Some, None, is_some, option_map, if◌then◌else◌, refl, sym, ◌∙◌, ap, subst, inl, inr}
+use Rattle.std.proofs.Common.{◌≡◌, ◌≤◌, ◌+◌, ◌++◌, ◌∷◌, [], ℕ, zero, suc, Bool, true, false, List, length, map, nat_lt, Result, Ok, Err, Option, Some, None, is_some, option_map, if◌then◌else◌, refl, sym, ◌∙◌, ap, subst, inl, inr, not}
 use Rattle.std.proofs.lemmas.Bool.{cases_eq}
 use Rattle.std.proofs.lemmas.List.{append-nil}
 use Rattle.op_types.specs.Limits.{most_commands}
@@ -23,7 +23,7 @@ use Rattle.op_serving.specs.declared.mark.Mark.{Mark}
 use Rattle.op_serving.specs.Losses.{most_marks}
 use Rattle.op_serving.specs.State.{Table, Loop, find, changed, is_open, left_at, left_by, session_of}
 use Rattle.op_serving.specs.Handing.{no_command}
-use Rattle.op_serving.specs.Inputs.{says, State, Luck, enter, give, most_brought, gathering, bringing, flushed, proposes, delivers, behind, over, rest}
+use Rattle.op_serving.specs.Inputs.{says, State, Luck, enter, give, has_brought, most_brought, gathering, bringing, flushed, proposes, delivers, behind, over, rest}
 use Rattle.op_serving.specs.Reading.{peer_limit, Front, partial, refused, hello, frame, front_of, asked_in, heard_in, joins_others, tells, ending, on_heard, of_kind, holding, linked, replaced, is_peer, at_frame, counted_if, up_if_open, met, dealt_front, dealt_at, dealt}
 use Rattle.op_serving.specs.Turns.{hello as hello_bytes}
 use Rattle.op_serving.specs.Promise.{Life, life, alone, at_conn, pending_at, inputs_at, inputs_of, Gathers}
@@ -33,7 +33,7 @@ use Rattle.op_connections.proofs.Keeping.{Shape, HasForm, formed, is_just, is_id
 use Rattle.op_connections.proofs.Hearing.{IsFrame, peer_gathers}
 use Rattle.op_connections.proofs.Coming.{life_more, lived_says, pending_same, kept_same, keeping_unseen, keeping_left, kept_enter}
 use Rattle.op_connections.proofs.Giving.{kept_other, keeping_drained, keeping_rest, keeping_give, flushing, flushing_over}
-use Rattle.op_connections.proofs.Joining.{command_more, command_apart, message_more, message_apart}
+use Rattle.op_connections.proofs.Joining.{command_more, command_apart, message_more, message_apart, none_pending}
 use Rattle.op_connections.proofs.Fronts.{seat, Fronted, taken_off, linked_to, frame_dealt, frame_joined}
 
 -- ---- all connections, of which one is dealt with just now
@@ -223,6 +223,26 @@ module _ (me c : ℕ) (kind : Kind) (z : Stream) (bytes body : List ℕ) (h : He
       by_open u m true e = let y = found_open me c (find c u.loop.sessions) e in led u y.0 y.1 m
       by_open u m false e = held_shut me c (is_idle kind z) formed bytes u (found_none me c (find c u.loop.sessions) e) m
 
+  -- nothing that it brought was gathered
+  idle_at : (x : Life) (ws : List Input) (o : Option Session) → ws ≡ [] → OpenAt me (is_just kind z) bytes x ws o → OpenAt me (is_idle kind z) bytes x ws o
+  idle_at x ws None none k = k
+  idle_at x ws (Some y) none k = record {
+    dealt = k.dealt;
+    pending = k.pending;
+    split = k.split;
+    hears = k.hears;
+    gathered = k.gathered;
+    form = (k.form.0, k.form.1, none);
+    bytes = k.bytes;
+    said = k.said;
+  }
+
+  held_idle : (s : State) → pending_at c s.loop ≡ [] → Held me c (is_just kind z) bytes s → Held me c (is_idle kind z) bytes s
+  held_idle s none k = record {
+    own = record { at = idle_at (life c s.deeds) (pending_at c s.loop) (find c s.loop.sessions) none k.own.at; spent = k.own.spent; me_is = k.own.me_is };
+    others = k.others;
+  }
+
   -- it joins what was gathered
   joined_open : (shape : Shape) (x : Life) (ws : List Input) (y : Session) → joins_others h ≡ true → y.kind ≡ kind → y.frames ≡ z → Open me shape bytes x ws y → Open me formed [] x (ws ++ inputs_of h) y
   joined_open shape x ws y joins k e o =
@@ -311,8 +331,14 @@ module _ (me c : ℕ) (kind : Kind) (z : Stream) (bytes body : List ℕ) (l : Lu
       (λ u v e m. held_input me c kind z bytes body (Asks (request.Stop members)) f l (input.Stop members) u v refl (λ d. refl) e m)
   asked_led request.Trim s y f there k = held_behind me c kind z bytes body (Asks request.Trim) f l (give l (c ∷ []) input.TrimNow) s k
       (λ u v e m. held_input me c kind z bytes body (Asks request.Trim) f l input.TrimNow u v refl (λ d. refl) e m)
-  asked_led (request.Read r) s y f there k = held_behind me c kind z bytes body (Asks (request.Read r)) f l (give l (c ∷ []) (input.Read r)) s k
-      (λ u v e m. held_input me c kind z bytes body (Asks (request.Read r)) f l (input.Read r) u v refl (λ d. refl) e m)
+  asked_led (request.Read r) s y f there k = by_first (has_brought c s.loop) refl
+    where
+      read_now : (u : State) (v : Session) → find c u.loop.sessions ≡ Some v → Held me c (is_idle kind z) bytes u → Held me c formed [] (give l (c ∷ []) (input.Read r) u)
+      read_now u v e m = held_input me c kind z bytes body (Asks (request.Read r)) f l (input.Read r) u v refl (λ d. refl) e m
+
+      by_first : (b : Bool) → has_brought c s.loop ≡ b → Held me c formed [] (if not b then give l (c ∷ []) (input.Read r) s else behind l c (give l (c ∷ []) (input.Read r)) s)
+      by_first false e = read_now s y there (held_idle me c kind z bytes body (Asks (request.Read r)) f s (none_pending c s.loop e) k)
+      by_first true e = held_behind me c kind z bytes body (Asks (request.Read r)) f l (give l (c ∷ []) (input.Read r)) s k read_now
   asked_led request.Status s y f there k = held_behind me c kind z bytes body (Asks request.Status) f l (λ u. tells c (said.Status (line u.node)) u) s k
       (λ u v e m. held_done me c kind z bytes body (Asks request.Status) f (tells c (said.Status (line u.node)) u) refl (held_keeping me c (is_idle kind z) bytes u (tells c (said.Status (line u.node)) u) (keeping_tells c (said.Status (line u.node)) u) m))
   asked_led request.End s y f there k = held_behind me c kind z bytes body (Asks request.End) f l (λ u. ending (tells c said.Ended u)) s k

@@ -1,14 +1,14 @@
 -- What a command and a message add to what a connection brought that is not given yet.
-use Rattle.std.proofs.Common.{◌≡◌, ◌++◌, ◌∷◌, [], ℕ, List, map, sym, ◌∙◌, ap, append_assoc}
+use Rattle.std.proofs.Common.{◌≡◌, ◌++◌, ◌∷◌, [], ℕ, List, map, Bool, true, false, ◌||◌, is_some, refl, sym, ◌∙◌, ap, append_assoc}
 use Rattle.std.proofs.lemmas.List.{append-nil, map-append}
 use Rattle.op_types.specs.declared.events.Input.{Input}
 use Rattle.op_types.specs.declared.events.Input.TheVariants as input
 use Rattle.op_types.specs.declared.log.Command.{Command}
 use Rattle.op_types.specs.declared.messages.Msg.{Msg}
-use Rattle.op_serving.specs.State.{Table, Loop}
-use Rattle.op_serving.specs.Inputs.{gathers, brings}
+use Rattle.op_serving.specs.State.{Table, Loop, find}
+use Rattle.op_serving.specs.Inputs.{gathers, brings, has_brought}
 use Rattle.op_serving.specs.Promise.{alone, at_conn, pending_at}
-use Rattle.op_connections.proofs.Tables.{at_both, at_own, at_other}
+use Rattle.op_connections.proofs.Tables.{at_none, at_both, at_own, at_other}
 
 module _ {X : Type 0} (t : Table X) (c : ℕ) (x : X) where
   -- an entry more
@@ -42,3 +42,13 @@ module _ (c : ℕ) (s : Loop) where
 
   pub message_apart : (m : ℕ × Msg) (d : ℕ) → (c ≡ d → ⊥) → pending_at d (brings c m s) ≡ pending_at d s
   message_apart m d apart = ap (λ l. map delivery l ++ map alone (at_conn d s.gathered)) (other_more s.brought c m d apart)
+
+-- ---- nothing that a connection brought waits to be given
+
+pub none_pending : (c : ℕ) (s : Loop) → has_brought c s ≡ false → pending_at c s ≡ []
+none_pending c s e = by_both (is_some (find c s.brought)) (is_some (find c s.gathered)) refl refl e
+  where
+    by_both : (a b : Bool) → is_some (find c s.brought) ≡ a → is_some (find c s.gathered) ≡ b → (a || b) ≡ false → pending_at c s ≡ []
+    by_both true b ea eb h = absurd cc
+    by_both false true ea eb h = absurd cc
+    by_both false false ea eb h = ap (λ l. map delivery l ++ map alone (at_conn c s.gathered)) (at_none c s.brought ea) ∙ ap (map alone) (at_none c s.gathered eb)

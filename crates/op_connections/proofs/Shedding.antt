@@ -1,5 +1,5 @@
 -- Once the loop comes to rest no more bytes wait for a session than may: those for which more wait are over.
-use Rattle.std.proofs.Common.{◌≡◌, ◌≤◌, ◌+◌, ◌++◌, ◌∷◌, ◌⊎◌, [], ℕ, zero, suc, Bool, true, false, List, length, flat_map, drop, Option, Some, None, is_some, option_map, nat_lt, ◌&&◌, if◌then◌else◌, refl, sym, ◌∙◌, ap, subst, inl, inr, arith}
+use Rattle.std.proofs.Common.{◌≡◌, ◌≤◌, ◌+◌, ◌++◌, ◌∷◌, ◌⊎◌, [], ℕ, zero, suc, Bool, true, false, List, length, flat_map, drop, Option, Some, None, is_some, option_map, nat_lt, ◌&&◌, if◌then◌else◌, refl, sym, ◌∙◌, ap, subst, inl, inr, arith, not}
 use Rattle.std.proofs.lemmas.Bool.{and_parts, cases_Bool, le-ltb, ltb-false}
 use Rattle.std.proofs.lemmas.List.{length-append}
 use Rattle.std.specs.BTreeMap.{is_at}
@@ -27,7 +27,7 @@ use Rattle.op_serving.specs.Wire.{client_frame}
 use Rattle.op_serving.specs.Handing.{no_command}
 use Rattle.op_serving.specs.declared.mark.Mark.{Mark}
 use Rattle.op_serving.specs.Losses.{most_marks, mark_at, noted, stopped_if, marked, is_here, is_open_one, is_due, lost_one, settle, settled, size}
-use Rattle.op_serving.specs.Inputs.{State, Luck, Taken, Brought, loop_after_all, frames_after_all, next_fate, calm, takes_in, taken_as, handing, entered_with, enter, first_down, shedding, drained_in, drained, rest, give, together, given_together, most_brought, gathering, bringing, released, all_gathered, flushed, proposes, delivers, behind, over, noting, hears}
+use Rattle.op_serving.specs.Inputs.{State, Luck, Taken, Brought, loop_after_all, frames_after_all, next_fate, calm, takes_in, taken_as, handing, entered_with, enter, first_down, shedding, drained_in, drained, rest, give, together, given_together, most_brought, gathering, bringing, released, all_gathered, flushed, proposes, delivers, behind, over, noting, hears, has_brought}
 use Rattle.op_serving.specs.Reading.{Front, partial, refused, hello, frame, front_of, heard_in, tells, ending, on_heard, of_kind, holding, linked, replaced, is_peer, at_frame, counted_if, up_if_open, met, dealt_front, dealt_at, dealt, feeds, held_in, read}
 use Rattle.op_conns.proofs.Numbers.{is_at_own, is_at_one}
 use Rattle.op_connections.specs.Waiting.{QueuesAreShort}
@@ -291,7 +291,11 @@ module _ (l : Luck) (line : Standing → List ℕ) (c : ℕ) where
   asked_fits (request.Command x) s h = command_fits x s h
   asked_fits (request.Stop members) s h = behind_fits (give l (c ∷ []) (input.Stop members)) s h (λ u k e. inl (give_fits l (c ∷ []) (input.Stop members) u))
   asked_fits request.Trim s h = behind_fits (give l (c ∷ []) input.TrimNow) s h (λ u k e. inl (give_fits l (c ∷ []) input.TrimNow u))
-  asked_fits (request.Read r) s h = behind_fits (give l (c ∷ []) (input.Read r)) s h (λ u k e. inl (give_fits l (c ∷ []) (input.Read r) u))
+  asked_fits (request.Read r) s h = by_first (not (has_brought c s.loop))
+    where
+      by_first : (b : Bool) → FitsOrOpen (if b then give l (c ∷ []) (input.Read r) s else behind l c (give l (c ∷ []) (input.Read r)) s)
+      by_first true = inl (give_fits l (c ∷ []) (input.Read r) s)
+      by_first false = behind_fits (give l (c ∷ []) (input.Read r)) s h (λ u k e. inl (give_fits l (c ∷ []) (input.Read r) u))
   asked_fits request.Status s h = behind_fits (λ u. tells c (said.Status (line u.node)) u) s h (λ u k e. inr (told_open (said.Status (line u.node)) u e))
   asked_fits request.End s h = behind_fits (λ u. ending (tells c said.Ended u)) s h (λ u k e. inr (told_open said.Ended u e))
 

@@ -1,5 +1,5 @@
 -- Tables by number: what is found after a change at one number, after a removal, and after an entry more.
-use Rattle.std.proofs.Common.{◌≡◌, ◌<◌, ◌++◌, ◌∷◌, ℕ, [], true, false, List, Bool, map, if◌then◌else◌, Option, Some, None, option_map, ◌==◌, refl, sym, ◌∙◌, ap, subst, inl, inr, arith, append_assoc}
+use Rattle.std.proofs.Common.{◌≡◌, ◌<◌, ◌++◌, ◌∷◌, ℕ, [], true, false, List, Bool, map, if◌then◌else◌, Option, Some, None, is_some, option_map, ◌==◌, refl, sym, ◌∙◌, ap, subst, inl, inr, arith, append_assoc}
 use Rattle.std.proofs.lemmas.Bool.{cases_Bool, eq-eqb, ne_eqb}
 use Rattle.std.specs.Prelude.{zip}
 use Rattle.std.specs.List.{find as first}
@@ -68,6 +68,14 @@ module _ {X : Type 0} where
   at_without c (e ∷ t) = elim (cases_Bool (is_at (nat_cmp c) e.0)) [
     | inl h ↦ rw h (at_without c t)
     | inr h ↦ (let away : (e.0 == c) ≡ false = ne_eqb e.0 c (λ k. let bad : true ≡ false = sym (is_at_own c) ∙ ap (λ n. is_at (nat_cmp c) n) (sym k) ∙ h in cc) in rw (h, away) (at_without c t))
+  ]
+
+  -- nor where none is found
+  pub at_none : (c : ℕ) (t : Table X) → is_some (find c t) ≡ false → at_conn c t ≡ []
+  at_none c [] e = refl
+  at_none c (x ∷ t) e = elim (cases_Bool (is_at (nat_cmp c) x.0)) [
+    | inl h ↦ absurd (let bad = rw h at e in cc)
+    | inr h ↦ (let away : (x.0 == c) ≡ false = ne_eqb x.0 c (λ k. let bad : true ≡ false = sym (is_at_own c) ∙ ap (λ n. is_at (nat_cmp c) n) (sym k) ∙ h in cc) in rw away (at_none c t (rw h at e)))
   ]
 
   -- another's stays

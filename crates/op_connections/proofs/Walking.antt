@@ -1,5 +1,5 @@
 -- What every input, every end of a session and every read keeps, by what each of their parts keeps.
-use Rattle.std.proofs.Common.{◌≡◌, ◌⊎◌, inl, inr, subst, drop, ◌+◌, ◌++◌, ◌∷◌, [], ℕ, zero, suc, Bool, true, false, List, length, take, flat_map, nat_lt, Option, Some, None, if◌then◌else◌, refl, sym}
+use Rattle.std.proofs.Common.{◌≡◌, ◌⊎◌, inl, inr, subst, drop, ◌+◌, ◌++◌, ◌∷◌, [], ℕ, zero, suc, Bool, true, false, List, length, take, flat_map, nat_lt, Option, Some, None, if◌then◌else◌, refl, sym, not}
 use Rattle.std.specs.Map.{keys_of}
 use Rattle.op_types.specs.declared.events.Input.{Input}
 use Rattle.op_types.specs.declared.events.Input.TheVariants as input
@@ -22,7 +22,7 @@ use Rattle.op_serving.specs.Cores.{Standing}
 use Rattle.op_serving.specs.State.{Loop, find, is_open, left_by, session_of, counted, is_overfull, shed_at, shed_each, conn_of, shed}
 use Rattle.op_serving.specs.Fates.{Fate, lost, is_lost}
 use Rattle.op_serving.specs.Losses.{most_marks, marked, size}
-use Rattle.op_serving.specs.Inputs.{hears, State, Luck, Taken, Brought, loop_taking, next_fate, calm, takes_in, taken_as, handing, entered_with, enter, shedding, first_down, drained_in, drained, rest, give, noting, together, given_together, most_brought, gathering, bringing, released, all_gathered, flushed, proposes, delivers, behind, leaves, over}
+use Rattle.op_serving.specs.Inputs.{hears, State, Luck, Taken, Brought, loop_taking, next_fate, calm, takes_in, taken_as, handing, entered_with, enter, shedding, first_down, drained_in, drained, rest, give, noting, together, given_together, most_brought, gathering, bringing, released, all_gathered, flushed, proposes, delivers, behind, leaves, over, has_brought}
 use Rattle.op_command.specs.declared.said.Said.TheVariants as said
 use Rattle.op_serving.specs.Reading.{Front, partial, refused, hello, frame, framed, first_frame, greeted, greeting, client_stream, front_of, heard_in, tells, ending, on_heard, holding, linked, replaced, is_peer, at_frame, counted_if, up_if_open, met, dealt_front, dealt_at, dealt, feeds, held_in, read}
 
@@ -293,7 +293,14 @@ module _ (l : Luck) (line : Standing → List ℕ) (c : ℕ) (Holds : State → 
   asked_holds (request.Command x) s h = command_holds x s h
   asked_holds (request.Stop members) s h = behind_holds l Holds k.steps c (give l (c ∷ []) (input.Stop members)) s h (λ u m. give_holds l Holds k.steps (c ∷ []) (input.Stop members) u m)
   asked_holds request.Trim s h = behind_holds l Holds k.steps c (give l (c ∷ []) input.TrimNow) s h (λ u m. give_holds l Holds k.steps (c ∷ []) input.TrimNow u m)
-  asked_holds (request.Read r) s h = behind_holds l Holds k.steps c (give l (c ∷ []) (input.Read r)) s h (λ u m. give_holds l Holds k.steps (c ∷ []) (input.Read r) u m)
+  asked_holds (request.Read r) s h = by_first (not (has_brought c s.loop))
+    where
+      read_now : (u : State) → Holds u → Holds (give l (c ∷ []) (input.Read r) u)
+      read_now u m = give_holds l Holds k.steps (c ∷ []) (input.Read r) u m
+
+      by_first : (b : Bool) → Holds (if b then give l (c ∷ []) (input.Read r) s else behind l c (give l (c ∷ []) (input.Read r)) s)
+      by_first true = read_now s h
+      by_first false = behind_holds l Holds k.steps c (give l (c ∷ []) (input.Read r)) s h read_now
   asked_holds request.Status s h = behind_holds l Holds k.steps c (λ u. tells c (said.Status (line u.node)) u) s h (λ u m. k.says_one (said.Status (line u.node)) u m)
   asked_holds request.End s h = behind_holds l Holds k.steps c (λ u. ending (tells c said.Ended u)) s h (λ u m. ended_holds u m)
 

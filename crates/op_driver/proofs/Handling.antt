@@ -19,7 +19,7 @@ use Rattle.op_serving.specs.State.{Table, Loop, find, is_open, is_overfull}
 use Rattle.op_serving.specs.Fates.{is_session}
 use Rattle.op_serving.specs.Losses.{Stays}
 use Rattle.op_serving.specs.Inputs.{Deed, says, State, Luck, as_delivery, as_one, all_gathered, gathers, brings, most_brought, flushed, given_together, releases, released, behind, rest}
-use Rattle.op_serving.specs.Reading.{tells, ending, on_frame, on_heard, joins_others}
+use Rattle.op_serving.specs.Reading.{tells, ending, on_frame, on_heard, goes_first}
 use Rattle.op_serving.specs.Handing.{no_command}
 use Rattle.op_driver.specs.Driver.{Served, Stores, with_deeds, Knows, Does, Gives, Loses, IsDrained, Rests}
 use Rattle.op_driver.specs.Dealing.{tells_now, DrainsAt, HandlesAlone, Handles}
@@ -127,7 +127,7 @@ module _ {K : Type 0} {stores : Stores K} where
 abbrev if_there : ℕ → (Luck → State → State) → Luck → State → State
 if_there c f l t = if is_open c t.loop then f l t else t
 
-heard_behind : (line : Standing → List ℕ) (c : ℕ) (heard : Heard) (l : Luck) (s : State) → joins_others heard ≡ false → on_heard l line c heard s ≡ behind l c (on_frame l line c heard) s
+heard_behind : (line : Standing → List ℕ) (c : ℕ) (heard : Heard) (l : Luck) (s : State) → goes_first c heard s.loop ≡ false → on_heard l line c heard s ≡ behind l c (on_frame l line c heard) s
 heard_behind line c heard l s e = ap (λ b. if b then on_frame l line c heard s else behind l c (on_frame l line c heard) s) e
 
 module _ {K : Type 0} {stores : Stores K} where
@@ -238,36 +238,36 @@ module _ {K : Type 0} {stores : Stores K} where
 
   -- ---- a frame, behind what was gathered
 
-  pub joined_handles : (line : Standing → List ℕ) (c : ℕ) (heard : Heard) {d e : Served K} → joins_others heard ≡ true → HandlesAlone stores line c heard d e → Handles stores line c heard d e
-  joined_handles line c heard {d} {e} h a = record {
+  pub first_handles : (line : Standing → List ℕ) (c : ℕ) (heard : Heard) {d e : Served K} → goes_first c heard d.loop ≡ true → HandlesAlone stores line c heard d e → Handles stores line c heard d e
+  first_handles line c heard {d} {e} h a = record {
     does = does_as (λ l s. on_frame l line c heard s) (λ l s. on_heard l line c heard s) (λ l before. ap (λ b. if b then on_frame l line c heard (with_deeds before d) else behind l c (on_frame l line c heard) (with_deeds before d)) h) a.does;
     stays = a.stays;
     none = a.none;
   }
 
   -- nothing was gathered
-  pub first_handles : (line : Standing → List ℕ) (c : ℕ) (heard : Heard) {d e : Served K} → joins_others heard ≡ false → all_gathered d.loop ≡ [] → is_open c d.loop ≡ true → HandlesAlone stores line c heard d e → Handles stores line c heard d e
-  first_handles line c heard {d} {e} h few there a = record {
+  pub alone_handles : (line : Standing → List ℕ) (c : ℕ) (heard : Heard) {d e : Served K} → goes_first c heard d.loop ≡ false → all_gathered d.loop ≡ [] → is_open c d.loop ≡ true → HandlesAlone stores line c heard d e → Handles stores line c heard d e
+  alone_handles line c heard {d} {e} h few there a = record {
     does = does_as (λ l s. behind l c (on_frame l line c heard) s) (λ l s. on_heard l line c heard s) (λ l before. heard_behind line c heard l (with_deeds before d) h) (behind_goes c (λ l s. on_frame l line c heard s) (flush_nothing d few) there a.does);
     stays = a.stays;
     none = a.none;
   }
 
-  pub closed_handles : (line : Standing → List ℕ) (c : ℕ) (heard : Heard) {d m : Served K} → joins_others heard ≡ false → Gives stores (λ l s. flushed l s) d m → is_open c m.loop ≡ false → Handles stores line c heard d m
+  pub closed_handles : (line : Standing → List ℕ) (c : ℕ) (heard : Heard) {d m : Served K} → goes_first c heard d.loop ≡ false → Gives stores (λ l s. flushed l s) d m → is_open c m.loop ≡ false → Handles stores line c heard d m
   closed_handles line c heard {d} {m} h g closed = record {
     does = does_as (λ l s. behind l c (on_frame l line c heard) s) (λ l s. on_heard l line c heard s) (λ l before. heard_behind line c heard l (with_deeds before d) h) (behind_closed c (λ l s. on_frame l line c heard s) (gives_does (λ l s. flushed l s) g) closed);
     stays = g.stays;
     none = drains_at c m.loop g.none;
   }
 
-  pub behind_handles : (line : Standing → List ℕ) (c : ℕ) (heard : Heard) {d m e : Served K} → joins_others heard ≡ false → Gives stores (λ l s. flushed l s) d m → is_open c m.loop ≡ true → HandlesAlone stores line c heard m e → Handles stores line c heard d e
+  pub behind_handles : (line : Standing → List ℕ) (c : ℕ) (heard : Heard) {d m e : Served K} → goes_first c heard d.loop ≡ false → Gives stores (λ l s. flushed l s) d m → is_open c m.loop ≡ true → HandlesAlone stores line c heard m e → Handles stores line c heard d e
   behind_handles line c heard {d} {m} {e} h g there a = record {
     does = does_as (λ l s. behind l c (on_frame l line c heard) s) (λ l s. on_heard l line c heard s) (λ l before. heard_behind line c heard l (with_deeds before d) h) (behind_goes c (λ l s. on_frame l line c heard s) (gives_does (λ l s. flushed l s) g) there a.does);
     stays = stays_then g.stays a.stays;
     none = a.none;
   }
 
-  pub lost_handles : (line : Standing → List ℕ) (c : ℕ) (heard : Heard) {d m e : Served K} → joins_others heard ≡ false → Gives stores (λ l s. flushed l s) d m → Loses stores c m e → Handles stores line c heard d e
+  pub lost_handles : (line : Standing → List ℕ) (c : ℕ) (heard : Heard) {d m e : Served K} → goes_first c heard d.loop ≡ false → Gives stores (λ l s. flushed l s) d m → Loses stores c m e → Handles stores line c heard d e
   lost_handles line c heard {d} {m} {e} h g a = record {
     does = does_as (λ l s. behind l c (on_frame l line c heard) s) (λ l s. on_heard l line c heard s) (λ l before. heard_behind line c heard l (with_deeds before d) h) (behind_lost c (λ l s. on_frame l line c heard s) g a);
     stays = stays_then g.stays a.stays;

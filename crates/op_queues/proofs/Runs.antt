@@ -1,16 +1,19 @@
 -- Commands and their connections, as two lists: what is left of both without one connection.
-use Rattle.std.proofs.Common.{◌≡◌, ◌<◌, ◌≤◌, ◌++◌, ◌∷◌, [], ℕ, zero, suc, List, length, take, drop, append_assoc, get_or, map, All, true, false, Bool, ◌==◌, if◌then◌else◌, refl, sym, ◌∙◌, ap, inl, inr, arith}
+use Rattle.std.proofs.Common.{◌≡◌, ◌<◌, ◌≤◌, ◌++◌, ◌∷◌, [], ℕ, zero, suc, List, length, take, drop, append_assoc, get_or, map, All, true, false, Bool, ◌==◌, if◌then◌else◌, refl, sym, ◌∙◌, ap, inl, inr, arith, is_some}
 use Rattle.std.proofs.lemmas.Bool.{cases_Bool, eqb-true, eq-eqb}
 use Rattle.std.proofs.lemmas.List.{length-append, length-map}
 use Rattle.std.proofs.lemmas.List.Elements.{All-nil, All-cons, All-head, All-tail, All-push}
 use Rattle.std.specs.List.{zip, remove}
+use Rattle.std.specs.List.{list_any}
+use Rattle.std.specs.Map.{keys_of}
+use Rattle.std.proofs.lemmas.Map.Made.{is_some-lookup, keys_of-zip}
 use Rattle.std.specs.BTreeMap.{is_at}
 use Rattle.std.specs.Ordering.{nat_cmp}
 use Rattle.op_types.specs.declared.log.Command.{Command}
 use Rattle.op_types.specs.Limits.{most_commands}
 use Rattle.op_types.specs.Ranges.{CommandInRange, AreCommands}
 use Rattle.op_conns.proofs.Numbers.{is_at_own, is_at_other}
-use Rattle.op_serving.specs.State.{without}
+use Rattle.op_serving.specs.State.{without, find}
 use Rattle.op_serving.specs.Ranges.{GatheredInRange}
 use Rattle.op_serving.specs.Inputs.{key_of}
 use Rattle.op_queues.specs.Gathering.{RunInRange}
@@ -128,6 +131,25 @@ at_same a c h = ap (λ k. is_at (nat_cmp c) k) (eqb-true a c h) ∙ is_at_own c
 
 pub at_another : (a c : ℕ) → (a == c) ≡ false → is_at (nat_cmp c) a ≡ false
 at_another a c h = is_at_other c a (λ k. let same : (a == c) ≡ true = eq-eqb a c (sym k) in let bad : true ≡ false = sym same ∙ h in cc)
+
+-- a number is among those of a table, or of the first of two lists, exactly if it is found
+same_test : (c : ℕ) (ks : List ℕ) → list_any (λ k. k == c) ks ≡ list_any (is_at (nat_cmp c)) ks
+same_test c [] = refl
+same_test c (k ∷ ks) = elim (cases_Bool (k == c)) [
+  | inl h ↦ rw (h, at_same k c h) refl
+  | inr h ↦ rw (h, at_another k c h) (same_test c ks)
+]
+
+pub any_found : {X : Type 0} (c : ℕ) (t : List (ℕ × X)) → list_any (λ e. e.0 == c) t ≡ is_some (find c t)
+any_found c [] = refl
+any_found c (e ∷ t) = elim (cases_Bool (e.0 == c)) [
+  | inl h ↦ rw (h, at_same e.0 c h) refl
+  | inr h ↦ rw (h, at_another e.0 c h) (any_found c t)
+]
+
+pub any_run : {X : Type 0} (c : ℕ) (cs : List ℕ) (xs : List X) → length xs ≡ length cs → list_any (λ k. k == c) cs ≡ is_some (find c (zip cs xs))
+any_run c cs xs e =
+    same_test c cs ∙ ap (list_any (is_at (nat_cmp c))) (sym (keys_of-zip cs xs e)) ∙ sym (is_some-lookup (is_at (nat_cmp c)) (zip cs xs))
 
 -- one command more is in range
 pub run_more : (g : List (ℕ × Command)) (c : ℕ) (x : Command) → length g < most_commands → RunInRange g → CommandInRange x → RunInRange (g ++ (c, x) ∷ [])

@@ -1,7 +1,8 @@
-ghost use Rattle.std.specs.Prelude.{◌≡◌, ◌≤◌, ◌+◌, ◌++◌, ◌∷◌, [], length, vec_capacity, All, OnOk, OnErr};
+ghost use Rattle.std.specs.List.{list_any};
+ghost use Rattle.std.specs.Prelude.{◌≡◌, ◌==◌, ◌≤◌, ◌+◌, ◌++◌, ◌∷◌, [], length, vec_capacity, All, OnOk, OnErr, ◌||◌, is_some};
 ghost use Rattle.std.specs.VecDeque.{deque_capacity};
 ghost use Rattle.op_types.specs.Ranges.{CommandInRange};
-ghost use Rattle.op_serving.specs.State.{without};
+ghost use Rattle.op_serving.specs.State.{without, find};
 ghost use Rattle.op_queues.specs.Gathering.{nothing, as_inputs, BroughtInRange, RunInRange};
 
 use crate::run::Run;
@@ -72,6 +73,13 @@ impl Gathered {
         self.commands.len()
     }
 
+    /// Whether one of the messages or commands is of this connection.
+    pub fn has(&self, conn: Conn) -> bool
+        ensures { result ≡ (is_some (find conn self.now.brought) || is_some (find conn self.now.gathered)) }
+    {
+        is_among(&self.messages, conn) || self.commands.has(conn)
+    }
+
     /// One message more. Without memory nothing changes.
     pub fn bring(&mut self, conn: Conn, message: (Pid, Msg)) -> Result<(), NoMemory>
         requires { BroughtInRange (conn, message) }
@@ -120,6 +128,13 @@ impl Gathered {
     {
         (self.messages, self.commands, self.inputs, self.results)
     }
+}
+
+/// Whether one of the messages is of this connection.
+fn is_among(messages: &[(Conn, (Pid, Msg))], conn: Conn) -> bool
+    ensures { result ≡ list_any (λ e. e.0 == conn) messages.now }
+{
+    messages.iter().any(|message| message.0 == conn)
 }
 
 /// Room for one message more than so many, and for the commands.

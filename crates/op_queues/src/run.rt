@@ -1,7 +1,7 @@
-ghost use Rattle.std.specs.Prelude.{◌≡◌, ◌==◌, ◌<◌, ◌≤◌, ◌++◌, ◌∷◌, [], ℕ, All, length, map, get_or, remove, OnOk, OnErr};
+ghost use Rattle.std.specs.Prelude.{◌≡◌, ◌==◌, ◌<◌, ◌≤◌, ◌++◌, ◌∷◌, [], ℕ, All, length, map, get_or, remove, OnOk, OnErr, is_some};
 ghost use Rattle.op_types.specs.Limits.{most_commands};
 ghost use Rattle.op_types.specs.declared.log.Command.{Command};
-ghost use Rattle.op_serving.specs.State.{without};
+ghost use Rattle.op_serving.specs.State.{without, find};
 ghost use Rattle.op_types.specs.Ranges.{CommandInRange, AreCommands};
 ghost use Rattle.op_serving.specs.Ranges.{GatheredInRange};
 ghost use Rattle.op_queues.specs.Gathering.{RunInRange};
@@ -74,6 +74,13 @@ impl Run {
                 self.remove(at);
             }
         }
+    }
+
+    /// Whether one of the commands is of this connection.
+    pub fn has(&self, conn: Conn) -> bool
+        ensures { result ≡ is_some (find conn self.now) }
+    {
+        self.conns.contains(&conn)
     }
 
     /// Whether the command at this index is of this connection.

@@ -6,7 +6,7 @@ ghost use Rattle.op_msg.specs.Ranges.{MsgInRange};
 ghost use Rattle.op_serving.specs.State.{find, is_open, is_overfull, kind_at, session_of, shed, left_by, next, conn_of, counted, down_of};
 ghost use Rattle.op_serving.specs.Ranges.{KindInRange};
 ghost use Rattle.op_serving.specs.Losses.{most_marks, marked, lost_by, lost_if_open};
-ghost use Rattle.op_serving.specs.Inputs.{most_brought, gathers, brings, releases, all_gathered};
+ghost use Rattle.op_serving.specs.Inputs.{most_brought, gathers, brings, releases, all_gathered, has_brought};
 ghost use Rattle.op_serving.specs.Reading.{feeds, frames_at, held_in, is_peer, links};
 ghost use Rattle.op_serving.specs.Turns.{closed_new, dialled_to, fresh, joining, knowing, queue_in, waiting_from, taken_of, turn_begins, happens_at};
 ghost use Rattle.op_serving.specs.Counts.{most_inputs};
@@ -562,6 +562,13 @@ impl Sessions {
         ensures none { result ≡ false → all_gathered self.now ≡ [] }
     {
         self.gathered.messages() > 0 || self.gathered.commands() > 0
+    }
+
+    /// Whether something that a connection brought was gathered.
+    pub fn has_brought(&self, conn: Conn) -> bool
+        ensures { result ≡ has_brought conn self.now }
+    {
+        self.gathered.has(conn)
     }
 
     /// A command was read, and is to be given together with the others. Gives whether there are as many as one input

@@ -1,7 +1,7 @@
 -- Inputs to the node: what comes of them, what is handed out, and the Downs right behind. Messages and
 -- commands that are read are gathered, and given together: the commands as one input, and all of them
 -- stored at once.
-use Rattle.std.specs.Prelude.{◌++◌, ◌∷◌, [], ℕ, zero, suc, List, length, map, fold, slice_get, zip, Bool, false, nat_lt, ◌&&◌, not, is_some, if◌then◌else◌, Option, Some, None}
+use Rattle.std.specs.Prelude.{◌++◌, ◌∷◌, [], ℕ, zero, suc, List, length, map, fold, slice_get, zip, Bool, false, nat_lt, ◌&&◌, ◌||◌, not, is_some, if◌then◌else◌, Option, Some, None}
 use Rattle.op_types.specs.Limits.{most_commands}
 use Rattle.op_types.specs.declared.answers.Refusal.TheVariants.{StorageFailed}
 use Rattle.op_types.specs.declared.events.Input.{Input}
@@ -15,7 +15,7 @@ use Rattle.op_serving.specs.Cores.{Standing, gives, reopens, given_again}
 use Rattle.op_serving.specs.Fates.{Fate, done, finds, faults, shares, damaged, lost, is_session, is_lost, broke_by, after_fate}
 use Rattle.op_serving.specs.Handing.{handed_out, frames_handed, proposed, frames_proposed, excused, frames_excused, given_up, frames_given_up}
 use Rattle.op_serving.specs.Room.{Frame}
-use Rattle.op_serving.specs.State.{Key, Loop, is_open, left_by, shed, counted}
+use Rattle.op_serving.specs.State.{Key, Loop, find, is_open, left_by, shed, counted}
 use Rattle.op_serving.specs.Losses.{most_marks, is_here, marked, settled, size}
 
 -- what happens to connections and to the node
@@ -220,6 +220,10 @@ given_together l [] s = s
 given_together l (b ∷ bs) s = drained l (together l [] (b ∷ bs) s)
 
 -- ---- what is gathered
+
+-- something that a connection brought was gathered
+abbrev pub has_brought : ℕ → Loop → Bool
+has_brought c s = is_some (find c s.brought) || is_some (find c s.gathered)
 
 -- how many messages may be gathered
 abbrev pub most_brought : ℕ

@@ -1,5 +1,5 @@
 -- What a connection reads: its first bytes, its frames, and the inputs that they are.
-use Rattle.std.specs.Prelude.{◌+◌, ◌∷◌, [], ℕ, zero, suc, List, length, take, drop, true, false, ◌==◌, ◌&&◌, not, nat_lt, is_some, Bool, if◌then◌else◌, Option, Some, None, Result, Ok, Err}
+use Rattle.std.specs.Prelude.{◌+◌, ◌∷◌, [], ℕ, zero, suc, List, length, take, drop, true, false, ◌==◌, ◌&&◌, ◌||◌, not, nat_lt, is_some, Bool, if◌then◌else◌, Option, Some, None, Result, Ok, Err}
 use Rattle.std.specs.Int.{w32, from_be_bytes}
 use Rattle.op_types.specs.Limits.{most_peer_body}
 use Rattle.op_types.specs.declared.events.Input.TheVariants as input
@@ -20,7 +20,7 @@ use Rattle.op_serving.specs.Cores.{Standing}
 use Rattle.op_serving.specs.Wire.{peer_head, client_head, message_in, request_in, client_frame}
 use Rattle.op_serving.specs.State.{Loop, find, changed, is_open, session_of}
 use Rattle.op_serving.specs.Handing.{told, no_command}
-use Rattle.op_serving.specs.Inputs.{hears, says, State, Luck, noting, give, proposes, delivers, behind, over, rest}
+use Rattle.op_serving.specs.Inputs.{hears, says, State, Luck, noting, give, has_brought, proposes, delivers, behind, over, rest}
 
 -- how many bytes the body of a client's frame has at most, and of a peer's
 abbrev pub client_limit : ℕ
@@ -137,9 +137,19 @@ joins_others (Asks (request.Command x)) = true
 joins_others Foreign = true
 joins_others _ = false
 
--- what a frame leads to: all that doesn't join what was gathered comes behind it
+-- a read stores nothing
+abbrev pub is_read : Heard → Bool
+is_read (Asks (request.Read r)) = true
+is_read _ = false
+
+-- Nothing has to be given before what a frame says: it joins what was gathered, or it is a read, and nothing
+-- that its connection brought waits to be given.
+abbrev pub goes_first : ℕ → Heard → Loop → Bool
+goes_first c h s = joins_others h || (is_read h && not (has_brought c s))
+
+-- what a frame leads to: all else comes behind what was gathered
 abbrev pub on_heard : Luck → (Standing → List ℕ) → ℕ → Heard → State → State
-on_heard l line c h s = if joins_others h then on_frame l line c h s else behind l c (on_frame l line c h) s
+on_heard l line c h s = if goes_first c h s.loop then on_frame l line c h s else behind l c (on_frame l line c h) s
 
 -- ---- greetings
 

@@ -1,7 +1,9 @@
-//! Messages of a peer and commands of clients that come in one turn are stored by one commit.
+//! Messages of a peer and commands of clients that come in one turn are stored by one commit, whatever is read between
+//! them.
 use crate::scripts::{Row, Server, Step, Wrote, first_other, seen_of};
 use op_outside::Happening;
 use op_pump::ServeEnd;
+use std::alloc::Global;
 use std::test::Fail;
 
 /// The turns before the next tick, where one turn was taken.
@@ -39,6 +41,9 @@ const REFUSED: &[u8] = b"\0\0\0\x1a\0\0\0\0\0\0\0\x07\0\0\0\0\0\0\0\x01\x06\x01\
 const OTHER_REFUSED: &[u8] =
     b"\0\0\0\x1a\0\0\0\0\0\0\0\x08\0\0\0\0\0\0\0\x01\x06\x01\0\0\0\0\0\0\0\x01";
 
+/// Client 9's read 1 of `a`.
+const READ: &[u8] = b"C\0\0\0\x13\x06\0\0\0\0\0\0\0\x09\0\0\0\0\0\0\0\x01\x01a";
+
 /// A request for the status.
 const STATUS: &[u8] = b"C\0\0\0\x01\x04";
 
@@ -67,8 +72,32 @@ const ACCEPTED_AND_PUT: &[Step] = &[
     Step::Comes(ACCEPTED),
 ];
 
-/// What comes of it, and the calls of the first disk: the last turn makes those of one record.
-const ONE_COMMIT: (Row<'static>, u64) = (
+/// The same, and between the put and what node 2 accepts session 8 reads: that waits for node 2 to confirm it.
+const ACCEPTED_PUT_AND_READ: &[Step] = &[
+    Step::Happens(&[Happening::Accepted(5), Happening::Readable(5)]),
+    Step::Comes(HELLO),
+    Step::Idles(NEXT_TICK),
+    Step::Happens(&[Happening::Readable(5)]),
+    Step::Comes(REPLY),
+    Step::Idles(NEXT_TICK),
+    Step::Happens(&[Happening::Readable(5)]),
+    Step::Comes(PROMISE),
+    Step::Happens(&[Happening::Accepted(6), Happening::Readable(6)]),
+    Step::ComesPuts(2),
+    Step::Happens(&[
+        Happening::Accepted(7),
+        Happening::Readable(7),
+        Happening::Accepted(8),
+        Happening::Readable(8),
+        Happening::Readable(5),
+    ]),
+    Step::Comes(OTHER_PUT),
+    Step::Comes(READ),
+    Step::Comes(ACCEPTED),
+];
+
+/// What comes of both: the last turn makes the calls of one record.
+const ONE_COMMIT: [Row<'static>; 2] = [
     Row {
         server: Server::Beside,
         steps: ACCEPTED_AND_PUT,
@@ -81,17 +110,38 @@ const ONE_COMMIT: (Row<'static>, u64) = (
         end: ServeEnd::TurnsOver,
         lost: 0,
     },
-    CALLS_BEFORE + 4,
-);
+    Row {
+        server: Server::Beside,
+        steps: ACCEPTED_PUT_AND_READ,
+        turns: 23,
+        conns: &[
+            (5, Wrote::Something, 0),
+            (6, Wrote::Dones(2), 0),
+            (7, Wrote::Bytes(b""), 0),
+            (8, Wrote::Bytes(b""), 0),
+        ],
+        end: ServeEnd::TurnsOver,
+        lost: 0,
+    },
+];
+
+/// Each first disk's calls, up to the first row that goes otherwise.
+fn disk_calls_of(alloc: Global, rows: &[Row]) -> Result<Vec<u64>, Fail> {
+    let mut calls = Vec::new(alloc);
+    for row in rows {
+        let seen = seen_of(alloc, row)?;
+        if !seen.is_ended || seen.wrong.is_some() {
+            return Ok(calls);
+        }
+        calls.push(seen.disk_calls)?;
+    }
+    Ok(calls)
+}
 
 #[test]
-fn messages_and_commands_of_a_turn_are_one_commit(rt: HostRuntime) -> Result<(), Fail> {
-    let (row, disk_calls) = ONE_COMMIT;
-    let seen = seen_of(rt.alloc(), &row)?;
-    assert_eq!(rt;
-        (seen.is_ended, seen.wrong, seen.disk_calls),
-        (true, None, disk_calls)
-    );
+fn what_comes_in_a_turn_is_one_commit(rt: HostRuntime) -> Result<(), Fail> {
+    let calls = disk_calls_of(rt.alloc(), &ONE_COMMIT)?;
+    assert_eq!(rt; calls.as_slice(), &[CALLS_BEFORE + 4, CALLS_BEFORE + 4]);
     Ok(())
 }
 

@@ -11,7 +11,7 @@ ghost use Rattle.op_serving.specs.State.{find, is_open, session_of};
 ghost use Rattle.op_serving.specs.Losses.{Stays};
 ghost use Rattle.op_serving.specs.Counts.{most_inputs};
 ghost use Rattle.op_serving.specs.Inputs.{brings, flushed, gathers, give, most_brought};
-ghost use Rattle.op_serving.specs.Reading.{feeds, frames_at, held_in, is_peer, joins_others, links, read, replaced};
+ghost use Rattle.op_serving.specs.Reading.{feeds, frames_at, goes_first, held_in, is_peer, is_read, joins_others, links, read, replaced};
 ghost use Rattle.op_queues.specs.Hearing.{HeardInRange};
 ghost use Rattle.op_driver.specs.Driver.{Acts, Does, Loses, Rests, IsDrained};
 ghost use Rattle.op_driver.specs.Dealing.{Deals, DealsAll, Handles, HandlesAlone, Taken, framed, greeted, makes_way, tells_now};
@@ -204,8 +204,8 @@ impl<K: Core> Driver<K> {
         self.sessions.begin_frame(frames);
     }
 
-    /// What a frame says is dealt with: all but a message and a command comes behind what was gathered. Where
-    /// that finds no memory, its session is lost.
+    /// What a frame says is dealt with: all before which something has to be given comes behind what was
+    /// gathered. Where that finds no memory, its session is lost.
     fn hear(&mut self, conn: Conn, heard: Heard) -> Result<(), NoMemory>
         requires open { is_open conn self.old.loop ≡ true }
         requires at { self.old.loop.place.at ≢ 0 }
@@ -215,7 +215,7 @@ impl<K: Core> Driver<K> {
         ensures err { OnErr result (Loses K.stores conn self.old self.new) }
         ensures most { most_inputs self.new.loop ≤ most_inputs self.old.loop + 1 }
     {
-        if joins_others(&heard) {
+        if self.goes_first(conn, &heard) {
             return self.hear_alone(conn, heard);
         }
         if !self.has_gathered() {
@@ -229,6 +229,14 @@ impl<K: Core> Driver<K> {
             }
         }
         Ok(())
+    }
+
+    /// Whether nothing has to be given before what a frame says: it joins what was gathered, or it is a read,
+    /// and nothing that its connection brought waits to be given.
+    fn goes_first(&self, conn: Conn, heard: &Heard) -> bool
+        ensures { result ≡ goes_first conn heard.now self.now.loop }
+    {
+        joins_others(heard) || (is_read(heard) && !self.sessions.has_brought(conn))
     }
 
     /// What a frame says is dealt with by itself. Where that finds no memory, its session is lost.
@@ -406,8 +414,7 @@ impl<K: Core> Driver<K> {
     }
 }
 
-/// Whether a frame says a message, a command, or nothing to this node. What else it says comes behind what was
-/// gathered.
+/// Whether a frame says a message, a command, or nothing to this node.
 fn joins_others(heard: &Heard) -> bool
     ensures { result ≡ joins_others heard.now }
 {
@@ -415,6 +422,16 @@ fn joins_others(heard: &Heard) -> bool
         Heard::Message(_, _) => true,
         Heard::Asks(Request::Command(_)) => true,
         Heard::Foreign => true,
+        _ => false,
+    }
+}
+
+/// Whether a frame says a read.
+fn is_read(heard: &Heard) -> bool
+    ensures { result ≡ is_read heard.now }
+{
+    match heard {
+        Heard::Asks(Request::Read(_)) => true,
         _ => false,
     }
 }
