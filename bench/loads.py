@@ -1,4 +1,4 @@
-"""Closed loops of puts, or of reads: each connection sends one, waits for its answer, and sends the next. The connections are spread over several
+"""Closed loops of puts, of reads, or of both by turns: each connection sends one, waits for its answer, and sends the next. The connections are spread over several
 processes, so that no client is the limit, and over all nodes. One that is refused, cut or hears nothing for a while asks again under the
 same number at the next node; its time runs on from when it first asked."""
 import base64
@@ -57,6 +57,14 @@ class OmniReads(OmniWire):
         return "read", next_key(self.number)
 
 
+class OmniMixed(OmniWire):
+    """One that puts and reads by turns, at the leader."""
+    asks, answers = "puts and reads", (DONE, FOUND, ABSENT)
+
+    def words(self):
+        return ("read", next_key(self.number)) if self.number % 2 else super().words()
+
+
 class EtcdWire:
     """A client of etcd's JSON gateway that puts, on one connection that stays open."""
     asks, greeting, path = "puts", b"", b"put"
@@ -87,6 +95,18 @@ class EtcdReads(EtcdWire):
 
     def fields(self):
         return {"key": next_key(self.number)}
+
+
+class EtcdMixed(EtcdWire):
+    """One that puts and reads by turns."""
+    asks = "puts and reads"
+
+    @property
+    def path(self):
+        return b"range" if self.number % 2 else b"put"
+
+    def fields(self):
+        return {"key": next_key(self.number)} if self.number % 2 else super().fields()
 
 
 class Connection:
