@@ -141,7 +141,10 @@ fn disk_calls_of(alloc: Global, rows: &[Row]) -> Result<Vec<u64>, Fail> {
 #[test]
 fn what_comes_in_a_turn_is_one_commit(rt: HostRuntime) -> Result<(), Fail> {
     let calls = disk_calls_of(rt.alloc(), &ONE_COMMIT)?;
-    assert_eq!(rt; calls.as_slice(), &[CALLS_BEFORE + 4, CALLS_BEFORE + 4]);
+    assert_eq!(rt;
+        calls.as_slice(),
+        [CALLS_BEFORE + 4, CALLS_BEFORE + 4].as_slice()
+    );
     Ok(())
 }
 

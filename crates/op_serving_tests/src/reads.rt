@@ -1,4 +1,4 @@
-//! Reads, each answered without an entry of the log, behind the commands that came before it.
+//! Reads, each answered without an entry of the log, behind the commands of its own connection that came before it.
 use crate::scripts::{Conduct, Row, Server, Step, Wrote, first_other, seen_of};
 use op_outside::{Conn, Happening};
 use op_pump::ServeEnd;
@@ -209,15 +209,15 @@ fn otherwise<'a>(
         Step::Happens(&[Happening::Readable(5)]),
         Step::Comes(REPLY),
         Step::Idles(NEXT_TICK),
+        Step::Happens(&[Happening::Readable(5)]),
+        Step::Comes(PROMISE),
         Step::Happens(&[
-            Happening::Readable(5),
             Happening::Accepted(6),
             Happening::Readable(6),
             Happening::Accepted(7),
             Happening::Readable(7),
             Happening::Readable(5),
         ]),
-        Step::Comes(PROMISE),
         Step::Comes(first),
         Step::Comes(second),
         Step::Comes(said),
@@ -225,7 +225,7 @@ fn otherwise<'a>(
     let row = Row {
         server: Server::Beside,
         steps: &steps,
-        turns: 21,
+        turns: 22,
         conns,
         end: ServeEnd::TurnsOver,
         lost: 0,
