@@ -149,7 +149,9 @@ goes_first c h s = joins_others h || (is_read h && not (has_brought c s))
 
 -- what a frame leads to: all else comes behind what was gathered
 abbrev pub on_heard : Luck → (Standing → List ℕ) → ℕ → Heard → State → State
-on_heard l line c h s = if goes_first c h s.loop then on_frame l line c h s else behind l c (on_frame l line c h) s
+on_heard l line c h s = if goes_first c h s.loop
+    then on_frame l line c h s
+    else behind l c (on_frame l line c h) s
 
 -- ---- greetings
 
