@@ -20,6 +20,7 @@ use Rattle.op_store.specs.declared.store.Store.{Store}
 use Rattle.op_bounds.specs.States.{IsNamed}
 use Rattle.op_node.specs.Nodes.{NodeState, node_of}
 use Rattle.op_node.specs.Reopenings.{StoreOneOf}
+use Rattle.op_node.specs.declared.bound.Bound.{Bound}
 use Rattle.op_node.specs.Taking.{StoresAtOnce}
 use Rattle.op_node.specs.declared.node.Node.{Node}
 use Rattle.op_node.specs.declared.record.Record.{Record}
@@ -264,7 +265,7 @@ module _ {D : Type 0} (state : D → DiskState) (mid new : NodeCore D) (n : Node
   ahead_named_so named = subst (λ (k : NodeState). IsNamed me k.state.durable) took.node (took.named named)
 
   -- they are stored
-  module _ (same : node_of new.node ≡ node_of n) (at : StoresAtOnce state s.durable changes n.store new.node.store (Ok tt)) where
+  module _ (same : node_of new.node ≡ node_of n) (bound : Bound) (at : StoresAtOnce state s.durable changes n.store new.node.store (Ok bound)) where
     is_node : node_of new.node ≡ up_node me ahead
     is_node = same ∙ took.node
 
@@ -366,7 +367,7 @@ module _ {D : Type 0} (state : D → DiskState) (mid new : NodeCore D) (n : Node
         told = told_all me s ts;
         are = done_inputs ts;
         added = at.1 ∙ took.added;
-        comes = stored_comes at.0 at.2;
+        comes = stored_comes at.0 at.2 at.3;
         ends = done_settles ts;
         keeps = done_stays ts;
         given = took.given;

@@ -9,6 +9,7 @@ use Rattle.op_protocol.specs.State.{State, state_after}
 use Rattle.op_protocol.specs.Rows.{step_plan}
 use Rattle.op_bounds.specs.States.{IsNamed}
 use Rattle.op_node.specs.Nodes.{NodeState, node_of}
+use Rattle.op_node.specs.declared.bound.Bound.{Bound}
 use Rattle.op_node.specs.Taking.{LeadsFrom, StoresAtOnce}
 use Rattle.op_node.specs.declared.node.Node.{Node}
 use Rattle.op_node.specs.declared.record.Record.{Record}
@@ -154,7 +155,7 @@ abbrev pub StoredAs : {D : Type 0} → (D → DiskState) → End → Durable →
     → List Told → List Told → Type 0
 StoredAs state Settled d changes from old new before after =
     (node_of new ≡ node_of old) × (after ≡ before)
-    × StoresAtOnce state d changes old.store new.store (Ok tt)
+    × (bound : Bound) × StoresAtOnce state d changes old.store new.store (Ok bound)
 StoredAs state Broke d changes from old new before after = (count : ℕ)
     × (node_of new ≡ record (node_of old) { failed = Some count })
     × (after ≡ take from before ++ replicate (length before - from) (failed_with count))

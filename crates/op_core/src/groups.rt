@@ -217,7 +217,7 @@ fn store<D: Disk>(
     ensures ready { IsServable node.new }
 {
     match node.store(gathered) {
-        Ok(()) => End::Settled,
+        Ok(_) => End::Settled,
         Err(fault) => {
             refuse(results, from, fault.count);
             End::Broke

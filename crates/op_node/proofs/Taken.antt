@@ -15,6 +15,7 @@ use Rattle.op_store.specs.declared.store.Store.{Store}
 use Rattle.op_store.proofs.CommitCrashes.{image_stored}
 use Rattle.op_node.specs.Reopenings.{StoreOneOf}
 use Rattle.op_node.specs.Steps.{Steps}
+use Rattle.op_node.specs.declared.bound.Bound.TheVariants.{Kept, Passed}
 use Rattle.op_node.specs.Taking.{StoresAtOnce}
 use Rattle.op_node.specs.declared.fail.StepFail.TheVariants.{DiskFail}
 use Rattle.op_journal.specs.declared.fail.DiskFault.{DiskFault}
@@ -34,8 +35,8 @@ module _ {D : Type 0} (state : D → DiskState) (d : Durable) (changes : List Ch
             (λ is. is) (commits.crash.now x y one two);
       }
 
-  -- what is known of a commit and its checkpoint
-  pub at_once_ended : changes ≢ [] → Steps {T = Unit {0}} state d changes old new (Ok tt) → StoresAtOnce state d changes old new (Ok tt)
+  -- what is known of what is stored as a step's batch is
+  pub at_once_ended : changes ≢ [] → Steps {T = Unit {0}} state d changes old new (Ok tt) → StoresAtOnce state d changes old new (Ok Kept)
   at_once_ended some s =
       record {
         commits = λ r. let k = s.commits r in record { stored = k.stored; left = tt; crash = k.crash };
@@ -45,10 +46,11 @@ module _ {D : Type 0} (state : D → DiskState) (d : Durable) (changes : List Ch
         cause = record { later = s.cause.0; ok = s.cause.1; err = λ err. absurd (cc) };
         told = tt;
         kept = s.kept;
+        step = s;
       }
 
-  pub at_once_failed : (k : ℕ) → changes ≢ [] → Steps {T = Unit {0}} state d changes old new (Err (DiskFail k)) → StoresAtOnce state d changes old new (Err (record { count = k }))
-  at_once_failed k some s =
+  pub at_once_failed : (e : DiskFault) → changes ≢ [] → Steps {T = Unit {0}} state d changes old new (Err (DiskFail e.count)) → StoresAtOnce state d changes old new (Err e)
+  at_once_failed e some s =
       record {
         commits = λ r. let c = s.commits r in record { stored = tt; left = c.left; crash = c.crash };
         calls = λ _. s.calls some (λ err. cc);
@@ -57,24 +59,11 @@ module _ {D : Type 0} (state : D → DiskState) (d : Durable) (changes : List Ch
         cause = record { later = s.cause.0; ok = tt; err = λ err. s.cause.1.1 };
         told = s.cause.1.0;
         kept = s.kept;
+        step = s;
       }
-
-  -- a call that didn't fail ended
-  pub at_once_otherwise : (r : Result (Unit {0}) DiskFault) → ((e : DiskFault) → r ≡ Err e → ⊥) → StoresAtOnce state d changes old new r → StoresAtOnce state d changes old new (Ok tt)
-  at_once_otherwise (Ok x) not s =
-      record {
-        commits = λ r. let k = s.commits r in record { stored = k.stored; left = tt; crash = k.crash };
-        calls = s.calls;
-        idle = λ none. let i = s.idle none in (i.0, refl);
-        ready = s.ready;
-        cause = record { later = s.cause.later; ok = s.cause.ok; err = λ err. absurd (cc) };
-        told = tt;
-        kept = s.kept;
-      }
-  at_once_otherwise (Err e) not s = absurd (not e refl)
 
 -- with nothing to store
-pub at_once_idle : {D : Type 0} (state : D → DiskState) (d : Durable) (changes : List Change) (s : Store D) → changes ≡ [] → StoresAtOnce state d changes s s (Ok tt)
+pub at_once_idle : {D : Type 0} (state : D → DiskState) (d : Durable) (changes : List Change) (s : Store D) → changes ≡ [] → StoresAtOnce state d changes s s (Ok Kept)
 at_once_idle state d changes s none =
     let idle : Steps {T = Unit {0}} state d changes s s (Ok tt) = steps_idle state d changes s tt none in
     record {
@@ -85,6 +74,7 @@ at_once_idle state d changes s none =
       cause = record { later = omega arith; ok = refl; err = λ err. absurd (cc) };
       told = tt;
       kept = idle.kept;
+      step = idle;
     }
 
 -- a commit, and then a checkpoint, whatever comes of it
@@ -96,12 +86,15 @@ module _ {D : Type 0} (state : D → DiskState) (d : Durable) (changes : List Ch
     (ends : GoesOnOrFails state {T = Unit {0}} old mid (Ok tt)) (appended : Appended state {T = Unit {0}} {E = DiskFault} framed old mid (Ok tt))
     (next_alone : (e : Durable) → Represents state e mid → IsBodyOf (Whole e) whole
     → LeavesOnly (IsBelowOrNext mid.is_second mid.generation e) (other_disk mid.is_second (disks_of state mid)) (other_disk mid.is_second (disks_of state new))) where
-  pub at_once_checkpointed : (r : Result (Unit {0}) DiskFault) → (Represents state d old → Checkpoints state {T = Unit {0}} {E = DiskFault} (durable_after d changes) mid new r)
-      → GoesOnOrFails state {T = Unit {0}} mid new r → Switched state {T = Unit {0}} {E = DiskFault} mid new r → StoresAtOnce state d changes old new r
-  at_once_checkpointed (Ok x) checkpoints ended switched =
+  pub at_once_checkpointed : (Represents state d old → Checkpoints state {T = Unit {0}} {E = DiskFault} (durable_after d changes) mid new (Ok tt))
+      → GoesOnOrFails state {T = Unit {0}} mid new (Ok tt) → Switched state {T = Unit {0}} {E = DiskFault} mid new (Ok tt) → StoresAtOnce state d changes old new (Ok Kept)
+  at_once_checkpointed checkpoints ended switched =
       at_once_ended state d changes old new some
       (steps_checkpointed state d changes framed whole is applies some old mid new is_whole passes commits alone ends appended next_alone switched.uncalled (λ r. (checkpoints r).stored) ended switched)
-  at_once_checkpointed (Err e) checkpoints ended switched =
+
+  pub at_once_uncheckpointed : (e : DiskFault) → (Represents state d old → Checkpoints state {T = Unit {0}} {E = DiskFault} (durable_after d changes) mid new (Err e))
+      → GoesOnOrFails state {T = Unit {0}} mid new (Err e) → Switched state {T = Unit {0}} {E = DiskFault} mid new (Err e) → StoresAtOnce state d changes old new (Err e)
+  at_once_uncheckpointed e checkpoints ended switched =
       let rose : FaultsRose (faults (disks_of state mid)) (faults (disks_of state new)) = ended.cause.err refl in
-      at_once_failed state d changes old new e.count some
+      at_once_failed state d changes old new e some
       (steps_uncheckpointed state d changes framed whole is applies some old mid new is_whole passes commits alone ends appended next_alone switched.uncalled e.count (λ r. (checkpoints r).left) ended.cause.later rose ended.told ended.kept switched.calls)

@@ -6,17 +6,22 @@ use Rattle.op_types.specs.declared.durable.Durable.{Durable}
 use Rattle.op_types.specs.declared.events.Input.{Input}
 use Rattle.op_outside.specs.Causes.{FailsOnlyOnFault}
 use Rattle.op_outside.specs.Disks.{DiskState, Costs}
-use Rattle.op_record.specs.Forms.{step_text}
+use Rattle.op_record.specs.Forms.{step_text, body}
+use Rattle.op_record.specs.declared.body.Rec.TheVariants.{Step}
 use Rattle.op_record.specs.Ranges.{BatchInRange}
 use Rattle.op_journal.specs.Areas.{frame_space}
 use Rattle.op_journal.specs.Calls.{append_calls}
 use Rattle.op_journal.specs.declared.fail.DiskFault.{DiskFault}
 use Rattle.op_server.specs.declared.given.Given.{Given}
 use Rattle.op_store.specs.Failing.{faults}
-use Rattle.op_store.specs.Stored.{KeepBoth, chosen_disk}
-use Rattle.op_store.specs.Stores.{Represents, Commits, IsReady, disks_of}
+use Rattle.op_store.specs.Stored.{KeepBoth, other, chosen_disk}
+use Rattle.op_store.specs.Stores.{Represents, Commits, IsReady, Passes, disks_of}
 use Rattle.op_store.specs.declared.store.Store.{Store}
 use Rattle.op_node.specs.Nodes.{NodeState, node_of, gives, stores, after_input}
+use Rattle.op_node.specs.Steps.{Steps}
+use Rattle.op_node.specs.declared.bound.Bound.{Bound}
+use Rattle.op_node.specs.declared.bound.Bound.TheVariants.{Kept, Passed}
+use Rattle.op_node.specs.declared.fail.StepFail.TheVariants.{DiskFail}
 use Rattle.op_node.specs.declared.node.Node.{Node}
 use Rattle.op_node.specs.declared.record.Record.{Record}
 
@@ -56,14 +61,22 @@ module _ {D : Type 0} where
 -- ---- what was taken is stored
 
 -- the count of faults with which a node fails, if it does
-abbrev pub count_told : Result (Unit {0}) DiskFault → Option ℕ
+abbrev pub count_told : Result Bound DiskFault → Option ℕ
 count_told (Ok x) = None
 count_told (Err fault) = Some fault.count
+
+module _ {D : Type 0} (state : D → DiskState) (d : Durable) (changes : List Change) (old new : Store D) where
+  -- They are stored as one step's are, with a checkpoint where one is due; or it was left out for want of memory.
+  abbrev pub StoresAs : Result Bound DiskFault → Type 0
+  StoresAs (Ok Kept) = Steps {T = Unit {0}} state d changes old new (Ok tt)
+  StoresAs (Ok Passed) = Passes old (body.text (Step changes))
+      × (other old.is_second new.first new.second ≡ other old.is_second old.first old.second)
+  StoresAs (Err fault) = Steps {T = Unit {0}} state d changes old new (Err (DiskFail fault.count))
 
 -- What storing these changes at once does to the store of a node that stored this durable state before them:
 -- a crash at any moment of it leaves the state before all of them, or behind all of them.
 pub record StoresAtOnce {D : Type 0} (state : D → DiskState) (d : Durable) (changes : List Change)
-    (old new : Store D) (result : Result (Unit {0}) DiskFault) : Type 0 where
+    (old new : Store D) (result : Result Bound DiskFault) : Type 0 where
   pub commits : Represents state d old → Commits state d changes old new result
   -- one append's calls of the chosen area's disk
   pub calls : changes ≢ [] → Costs append_calls (chosen_disk old.is_second (disks_of state old))
@@ -73,3 +86,4 @@ pub record StoresAtOnce {D : Type 0} (state : D → DiskState) (d : Durable) (ch
   pub cause : FailsOnlyOnFault (faults (disks_of state old)) (faults (disks_of state new)) result
   pub told : IfErr result (λ e. e.count ≡ faults (disks_of state new))
   pub kept : KeepBoth (disks_of state old) (disks_of state new)
+  pub step : StoresAs state d changes old new result

@@ -11,6 +11,7 @@ ghost use Rattle.op_store.specs.Stores.{IsReady, Passes};
 ghost use Rattle.op_node.specs.Taking.{StoresAtOnce};
 ghost use Rattle.std.specs.Prelude.{◌≡◌};
 
+use crate::bound::Bound;
 use crate::checkpointing::framed_now;
 use op_journal::{DiskFault, Framed};
 use op_outside::Disk;
@@ -25,29 +26,48 @@ pub fn commit_all<D: Disk>(
     store: &mut Store<D>,
     durable: &Durable,
     framed: &Framed,
-) -> Result<(), DiskFault>
+) -> Result<Bound, DiskFault>
     requires ready { IsReady store.old }
     requires range { DurableInRange (with_room no_needs durable.now) }
     ensures { (d : stored.Durable) (changes : List Change) →
         IsBodyOf (Step changes) framed.now → Applies d changes → changes ≢ [] → durable_after d changes ≡ with_room no_needs durable.now →
         StoresAtOnce D.state d changes store.old store.new result }
 {
-    if store.passes(framed) {
-        if let Ok(whole) = framed_now(alloc, durable) {
-            return commit_then_checkpoint(store, framed, whole);
-        }
+    if !store.passes(framed) {
+        return commit_only(store, framed);
     }
-    commit_only(store, framed)
+    match framed_now(alloc, durable) {
+        Ok(whole) => commit_then_checkpoint(store, framed, whole),
+        Err(_) => commit_past(store, framed),
+    }
 }
 
-/// Stores changes without a checkpoint.
-fn commit_only<D: Disk>(store: &mut Store<D>, framed: &Framed) -> Result<(), DiskFault>
-    requires { IsReady store.old }
+/// Stores changes with which the chosen area doesn't become too long.
+fn commit_only<D: Disk>(store: &mut Store<D>, framed: &Framed) -> Result<Bound, DiskFault>
+    requires ready { IsReady store.old }
+    requires small { Passes store.old framed.now → ⊥ }
     ensures { (d : stored.Durable) (changes : List Change) →
         IsBodyOf (Step changes) framed.now → Applies d changes → changes ≢ [] →
         StoresAtOnce D.state d changes store.old store.new result }
 {
-    store.commit(framed)
+    match store.commit(framed) {
+        Ok(()) => Ok(Bound::Kept),
+        Err(fault) => Err(fault),
+    }
+}
+
+/// Stores changes with which the chosen area becomes too long, without a checkpoint.
+fn commit_past<D: Disk>(store: &mut Store<D>, framed: &Framed) -> Result<Bound, DiskFault>
+    requires ready { IsReady store.old }
+    requires passes { Passes store.old framed.now }
+    ensures { (d : stored.Durable) (changes : List Change) →
+        IsBodyOf (Step changes) framed.now → Applies d changes → changes ≢ [] →
+        StoresAtOnce D.state d changes store.old store.new result }
+{
+    match store.commit(framed) {
+        Ok(()) => Ok(Bound::Passed),
+        Err(fault) => Err(fault),
+    }
 }
 
 /// Stores changes, and then the whole durable state behind them in the other area.
@@ -55,7 +75,7 @@ fn commit_then_checkpoint<D: Disk>(
     store: &mut Store<D>,
     framed: &Framed,
     whole: Framed,
-) -> Result<(), DiskFault>
+) -> Result<Bound, DiskFault>
     requires ready { IsReady store.old }
     requires passes { Passes store.old framed.now }
     ensures { (d : stored.Durable) (changes : List Change) →
@@ -63,6 +83,11 @@ fn commit_then_checkpoint<D: Disk>(
         IsBodyOf (Whole (durable_after d changes)) whole →
         StoresAtOnce D.state d changes store.old store.new result }
 {
-    store.commit(framed)?;
-    store.checkpoint(whole)
+    if let Err(fault) = store.commit(framed) {
+        return Err(fault);
+    }
+    match store.checkpoint(whole) {
+        Ok(()) => Ok(Bound::Kept),
+        Err(fault) => Err(fault),
+    }
 }

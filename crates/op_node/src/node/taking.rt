@@ -6,6 +6,7 @@ ghost use Rattle.op_node.specs.Nodes.{node_of, stores, AdmitsInput, IsSoundNode}
 ghost use Rattle.op_node.specs.Taking.{LaysOut, LeadsFrom, Takes, TakesNone, StoresAtOnce, count_told};
 
 use super::Node;
+use crate::bound::Bound;
 use crate::gathered::commit_all;
 use crate::record::Record;
 use op_journal::DiskFault;
@@ -41,7 +42,7 @@ impl<D: Disk> Node<D> {
 
     /// Stores what was taken, at once, with a checkpoint where the area becomes too long and there is memory for one. It takes
     /// no memory. Where a disk fails nothing of it may be given out, and the node has failed.
-    pub fn store(&mut self, gathered: Record) -> Result<(), DiskFault>
+    pub fn store(&mut self, gathered: Record) -> Result<Bound, DiskFault>
         requires sound { IsSoundNode self.old }
         requires runs { (node_of self.old).failed ≡ None }
         requires leads { (d : Durable) × (changes : List Change)
@@ -53,18 +54,15 @@ impl<D: Disk> Node<D> {
         ensures sound { IsSoundNode self.new }
     {
         if gathered.is_empty() {
-            return Ok(());
+            return Ok(Bound::Kept);
         }
         let framed = gathered.into_framed();
-        if let Err(fault) = commit_all(
-            self.alloc,
-            &mut self.store,
-            self.server.durable(),
-            &framed,
-        ) {
-            self.failed = Some(fault.count);
-            return Err(fault);
+        match commit_all(self.alloc, &mut self.store, self.server.durable(), &framed) {
+            Ok(bound) => Ok(bound),
+            Err(fault) => {
+                self.failed = Some(fault.count);
+                Err(fault)
+            }
         }
-        Ok(())
     }
 }

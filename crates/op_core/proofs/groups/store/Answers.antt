@@ -1,4 +1,9 @@
+use Rattle.std.proofs.Common.{refl}
 use Rattle.op_core.proofs.groups.store.Goals as goal
+
+pub returns-in-Ok-clause-stored : goal.returns-in-Ok-clause-stored
+returns-in-Ok-clause-stored g c d changes leads =
+    (c.in-Ok.ensures.node, refl, c.in-Ok.field-0, c.in-Ok.ensures.stored d changes leads)
 
 pub returns-in-Err-clause-stored : goal.returns-in-Err-clause-stored
 returns-in-Err-clause-stored g c d changes leads =
