@@ -1,5 +1,5 @@
 -- What was taken is stored at once, or a disk fails.
-use Rattle.std.proofs.Common.{◌≡◌, ◌≢◌, ℕ, List, [], Result, Ok, Err, inl, ⊎_elim, refl, arith}
+use Rattle.std.proofs.Common.{◌≡◌, ◌≢◌, ℕ, List, [], Ok, Err, inl, ⊎_elim, refl, arith}
 use Rattle.op_types.specs.Changes.{Applies, durable_after}
 use Rattle.op_types.specs.declared.changes.Change.{Change}
 use Rattle.op_types.specs.declared.durable.Durable.{Durable}
@@ -15,7 +15,7 @@ use Rattle.op_store.specs.declared.store.Store.{Store}
 use Rattle.op_store.proofs.CommitCrashes.{image_stored}
 use Rattle.op_node.specs.Reopenings.{StoreOneOf}
 use Rattle.op_node.specs.Steps.{Steps}
-use Rattle.op_node.specs.declared.bound.Bound.TheVariants.{Kept, Passed}
+use Rattle.op_node.specs.declared.bound.Bound.TheVariants.{Kept}
 use Rattle.op_node.specs.Taking.{StoresAtOnce}
 use Rattle.op_node.specs.declared.fail.StepFail.TheVariants.{DiskFail}
 use Rattle.op_journal.specs.declared.fail.DiskFault.{DiskFault}

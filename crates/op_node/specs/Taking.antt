@@ -66,7 +66,7 @@ count_told (Ok x) = None
 count_told (Err fault) = Some fault.count
 
 module _ {D : Type 0} (state : D → DiskState) (d : Durable) (changes : List Change) (old new : Store D) where
-  -- They are stored as one step's are, with a checkpoint where one is due; or it was left out for want of memory.
+  -- They are stored as those of one step, with a checkpoint where one is due, or there was no memory for it.
   abbrev pub StoresAs : Result Bound DiskFault → Type 0
   StoresAs (Ok Kept) = Steps {T = Unit {0}} state d changes old new (Ok tt)
   StoresAs (Ok Passed) = Passes old (body.text (Step changes))
