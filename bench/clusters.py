@@ -8,7 +8,8 @@ import tempfile
 import time
 
 TOP = os.path.dirname(os.path.dirname(os.path.abspath(__file__)))
-sys.path.insert(0, os.path.join(TOP, "examples"))
+sys.path[:0] = [os.path.join(TOP, "examples"), os.path.join(TOP, "bench")]
+from ballots import promised  # noqa: E402
 from client import Client  # noqa: E402
 
 PROGRAM = os.environ.get("OMNI", os.path.join(TOP, "crates/omni/out/omni"))
@@ -81,6 +82,11 @@ class Cluster:
             if self.call(it, "read", "1", "1", "leader")[0] != "notleading":
                 return it
         return self.ids[0]
+
+    def ballot(self):
+        """The highest ballot that a node has promised, as its number and its owner, told by the disks."""
+        areas = [promised(os.path.join(self.folder, f"n{it}", f"omni.{area}")) for it in self.ids for area in "ab"]
+        return max(ballots[-1] for ballots in areas if ballots)
 
     def end(self):
         """Ends the nodes, and gives what `omni cluster` printed."""
