@@ -37,6 +37,10 @@ pub record LaysOut (changes : List Change) (r : Record) : Type 0 where
   pub range : BatchInRange changes
   pub room : vec_len r.bytes < vec_capacity r.bytes
 
+-- a record with no more changes than this has room for those of any step
+abbrev pub most_before_step : ℕ
+most_before_step = 223
+
 -- it has what was changed since this durable state, and the node is ahead by that
 pub record LeadsFrom (d : Durable) (changes : List Change) (r : Record) (n : NodeState) : Type 0 where
   pub laid : LaysOut changes r

@@ -1,4 +1,4 @@
-//! A durable state is laid out as the record of a checkpoint: the one that is kept, or the one after a batch.
+//! The durable state after a batch is laid out as the record of a checkpoint.
 ghost use Rattle.std.specs.Prelude.{◌≡◌, IfOk};
 ghost use Rattle.op_types.specs.Changes.{Applies, durable_after};
 ghost use Rattle.op_types.specs.Rooms.{no_needs, with_room};
@@ -33,13 +33,4 @@ pub fn framed_after(alloc: Global, durable: &Durable, batch: &Batch) -> Result<F
 {
     let after = after(alloc, durable, batch)?;
     framed_whole(alloc, &after)
-}
-
-/// Lays the durable state that is kept out as the record of a checkpoint. It is left as it is.
-pub fn framed_now(alloc: Global, durable: &Durable) -> Result<Framed, NoMemory>
-    requires { DurableInRange (with_room no_needs durable.now) }
-    ensures { IfOk result (λ x. IsBodyOf (Whole (with_room no_needs durable.now)) x) }
-{
-    let kept = durable.copy(alloc)?;
-    framed_whole(alloc, &kept)
 }

@@ -12,10 +12,9 @@ ghost use Rattle.op_node.specs.Taking.{StoresAtOnce};
 ghost use Rattle.std.specs.Prelude.{◌≡◌};
 
 use crate::bound::Bound;
-use crate::checkpointing::framed_now;
 use op_journal::{DiskFault, Framed};
 use op_outside::Disk;
-use op_store::Store;
+use op_store::{Store, framed_whole};
 use op_types::Durable;
 use std::alloc::Global;
 
@@ -36,7 +35,7 @@ pub fn commit_all<D: Disk>(
     if !store.passes(framed) {
         return commit_only(store, framed);
     }
-    match framed_now(alloc, durable) {
+    match framed_whole(alloc, durable) {
         Ok(whole) => commit_then_checkpoint(store, framed, whole),
         Err(_) => commit_past(store, framed),
     }

@@ -4,7 +4,7 @@ ghost use Rattle.op_types.specs.declared.changes.Change.{Change};
 ghost use Rattle.op_record.specs.Ranges.{BatchInRange};
 ghost use Rattle.op_record.specs.declared.body.Rec.TheVariants.{Step};
 ghost use Rattle.op_store.specs.Records.{IsBodyOf};
-ghost use Rattle.op_node.specs.Taking.{LaysOut};
+ghost use Rattle.op_node.specs.Taking.{LaysOut, most_before_step};
 
 use op_journal::Framed;
 use op_record::{begin_step, put_changes, set_count};
@@ -15,7 +15,7 @@ use std::alloc::Global;
 const SPACE: usize = 25;
 
 /// A record with no more changes than this has room for those of any step.
-const ROOMY: u8 = 223;
+const MOST_BEFORE_STEP: u8 = 223;
 
 /// The changes of steps that were taken and are to be stored together.
 #[derive(Drop)]
@@ -63,8 +63,11 @@ impl Record {
     }
 
     /// Whether the changes of one more step surely have room.
-    pub fn is_roomy(&self) -> bool {
-        self.count <= ROOMY
+    pub fn is_roomy(&self) -> bool
+        ensures { (changes : List Change) → LaysOut changes self.now →
+            IsTrue result ↔ (length changes ≤ most_before_step) }
+    {
+        self.count <= MOST_BEFORE_STEP
     }
 
     /// Whether there is nothing to store.

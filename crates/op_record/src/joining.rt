@@ -5,6 +5,7 @@ ghost use Rattle.op_fields.specs.Items.{GivesItem};
 ghost use Rattle.op_fields.specs.Taken.{Gives, GivesVec};
 ghost use Rattle.op_types.specs.Ranges.{EntryInRange};
 ghost use Rattle.op_types.specs.Rises.{Rises};
+ghost use Rattle.op_types.specs.Rooms.{joining_with_room};
 ghost use Rattle.op_record.specs.Ranges.{JoiningInRange};
 ghost use Rattle.op_record.specs.Forms.{donor, donors, held_base, held_entry, held, pieces, pieces_of, joining};
 
@@ -19,8 +20,8 @@ use std::alloc::Global;
 /// Appends what is held while joining. Without memory a part of its bytes may be appended.
 #[tactic(auto, using(op_fields::proofs::Prefixes::kept_through))]
 pub fn put_joining(out: &mut Vec<u8>, j: &Joining) -> Result<(), NoMemory>
-    requires { JoiningInRange j.now }
-    ensures ok { OnOk result (out.new.items ≡ out.old.items ++ joining.text j.now) }
+    requires { JoiningInRange (joining_with_room 0 j.now) }
+    ensures ok { OnOk result (out.new.items ≡ out.old.items ++ joining.text (joining_with_room 0 j.now)) }
     ensures err { OnErr result (KeepsPrefix out.old.items out.new.items) }
 {
     put_u32(out, j.conf)?;
@@ -33,7 +34,7 @@ pub fn put_joining(out: &mut Vec<u8>, j: &Joining) -> Result<(), NoMemory>
 /// Appends donors, base and entries.
 #[tactic(auto, using(op_fields::proofs::Prefixes::kept_through))]
 fn put_pieces(out: &mut Vec<u8>, j: &Joining) -> Result<(), NoMemory>
-    requires { JoiningInRange j.now }
+    requires { JoiningInRange (joining_with_room 0 j.now) }
     ensures ok { OnOk result (out.new.items ≡ out.old.items ++ (pieces j.now.len).text (pieces_of j.now)) }
     ensures err { OnErr result (KeepsPrefix out.old.items out.new.items) }
 {
@@ -80,7 +81,7 @@ fn put_held_base(out: &mut Vec<u8>, j: &Joining) -> Result<(), NoMemory>
 
 #[tactic(auto, using(op_fields::proofs::Prefixes::kept_through))]
 fn put_held(out: &mut Vec<u8>, j: &Joining) -> Result<(), NoMemory>
-    requires { JoiningInRange j.now }
+    requires { JoiningInRange (joining_with_room 0 j.now) }
     ensures ok { OnOk result (out.new.items ≡ out.old.items ++ (held j.now.len).text j.now.held.items) }
     ensures err { OnErr result (KeepsPrefix out.old.items out.new.items) }
 {

@@ -3,6 +3,7 @@ ghost use Rattle.op_fields.specs.Prefixes.{KeepsPrefix};
 ghost use Rattle.op_fields.specs.Form.{items_read};
 ghost use Rattle.op_fields.specs.Items.{GivesItem};
 ghost use Rattle.op_fields.specs.Taken.{Gives, GivesVec};
+ghost use Rattle.op_types.specs.Rooms.{part_with_room};
 ghost use Rattle.op_record.specs.Ranges.{PartInRange};
 ghost use Rattle.op_record.specs.Forms.{may_stand, entry_in, entries_in, place, log, log_of_part, part};
 
@@ -12,11 +13,11 @@ use op_fields::{NoMemory, TakeFail, items_at, put_u32, put_u64, u32_in, u64_in};
 use op_types::{ConfNo, Entries, Entry, LAST_CONF, POSITIONS_END, Part, Reserved, Seq};
 use std::alloc::Global;
 
-/// Appends a part. Without memory a part of its bytes may be appended.
+/// Appends a part, of which the room that is reserved is no matter. Without memory a part of its bytes may be appended.
 #[tactic(auto, using(op_fields::proofs::Prefixes::kept_through))]
 pub fn put_part(out: &mut Vec<u8>, p: &Part) -> Result<(), NoMemory>
-    requires { PartInRange p.now }
-    ensures ok { OnOk result (out.new.items ≡ out.old.items ++ part.text p.now) }
+    requires { PartInRange (part_with_room 0 p.now) }
+    ensures ok { OnOk result (out.new.items ≡ out.old.items ++ part.text (part_with_room 0 p.now)) }
     ensures err { OnErr result (KeepsPrefix out.old.items out.new.items) }
 {
     put_u32(out, p.conf)?;
@@ -29,7 +30,7 @@ pub fn put_part(out: &mut Vec<u8>, p: &Part) -> Result<(), NoMemory>
 
 #[tactic(auto, using(op_fields::proofs::Prefixes::kept_through))]
 fn put_log(out: &mut Vec<u8>, p: &Part) -> Result<(), NoMemory>
-    requires { PartInRange p.now }
+    requires { PartInRange (part_with_room 0 p.now) }
     ensures ok { OnOk result (out.new.items ≡ out.old.items ++ (log p.now.conf).text (log_of_part p.now)) }
     ensures err { OnErr result (KeepsPrefix out.old.items out.new.items) }
 {

@@ -40,8 +40,9 @@ impl<D: Disk> Node<D> {
         Ok(self.server.adopt(plan))
     }
 
-    /// Stores what was taken, at once, with a checkpoint where the area becomes too long and there is memory for one. It takes
-    /// no memory. Where a disk fails nothing of it may be given out, and the node has failed.
+    /// Stores what was taken, at once. Where the area becomes too long a checkpoint follows; without memory for one it answers
+    /// `Bound::Passed`, and what is stored next tries again. Nothing else takes memory. Where a disk fails nothing of what was
+    /// taken may be given out, and the node has failed.
     pub fn store(&mut self, gathered: Record) -> Result<Bound, DiskFault>
         requires sound { IsSoundNode self.old }
         requires runs { (node_of self.old).failed ≡ None }

@@ -1,5 +1,6 @@
 use Rattle.std.proofs.Common.{◌≡◌, ◌<◌, ◌++◌, ap, length, length-append, arith, rules}
 use Rattle.std.specs.Prelude.{◌^◌}
+use Rattle.op_types.specs.Rooms.{no_needs, with_room}
 use Rattle.op_record.specs.Forms.{body}
 use Rattle.op_record.specs.declared.body.Rec.TheVariants.{Whole}
 use Rattle.op_record.proofs.Short.{short_fits}
@@ -8,7 +9,7 @@ use Rattle.op_store.proofs.framing.framed_whole.Goals as goal
 
 pub returns : goal.returns
 returns c =
-    let r = Whole c.args.durable.now in
+    let r = Whole (with_room no_needs c.args.durable.now) in
     let start = c.in_ok-bytes.bytes.items in
     let bytes = c.put_whole.new.out in
     let is : bytes.items ≡ start ++ body.text r = search rules in
