@@ -5,12 +5,13 @@ use Rattle.op_types.specs.declared.events.Input.{Input}
 use Rattle.op_outside.specs.Disks.{DiskState}
 use Rattle.op_store.specs.Stores.{disks_of}
 use Rattle.op_store.proofs.KeptDisks.{keep_same, keep_both}
+use Rattle.op_node.specs.Nodes.{node_of}
 use Rattle.op_serving.specs.Cores.{Standing}
 use Rattle.op_serving.specs.Fates.{Fate, done, finds, faults, shares, damaged, lost, is_lost, Came, inputs_of, ends_lost, after_fate, after_all, broke_by, IsTogether, IsLast, MayComeAll, Tells, TellAll, Steps, StepsAll}
 use Rattle.op_serving.specs.Reopenings.{Unstored, unstored_after}
 use Rattle.op_serving.specs.declared.node.StepFail.TheVariants as fails
 use Rattle.op_core.specs.Disks.{FindEach, unstored_after_all, Stores, StepStores}
-use Rattle.op_core.specs.Groups.{Told, starved, is_settled, EndsAs, EndsSo, end_of, LosesNext, Comes, GoesOn}
+use Rattle.op_core.specs.Groups.{Told, starved, is_settled, EndsAs, EndsSo, end_of, LosesNext, IsCalm, IsAlone, Comes, GoesTogether, GoesOn}
 use Rattle.op_core.specs.NodeCores.{standing_of}
 use Rattle.op_core.specs.declared.end.End.TheVariants.{Settled, Broke, Lost}
 use Rattle.op_core.specs.declared.node_core.NodeCore.{NodeCore}
@@ -99,6 +100,11 @@ pub lost_behind : (cs ds : List Came) → ends_lost ds ≡ true → ends_lost (c
 lost_behind [] ds is = is
 lost_behind (c ∷ cs) ds is = one_more c (cs ++ ds) (lost_behind cs ds is)
 
+-- one behind which another is lost
+pub lost_unsettled : (cs : List Came) (x : Input) → All settles (cs ++ (x, lost) ∷ []) → ⊥
+lost_unsettled [] x all = let bad : false ≡ true = All-head settles (x, lost) [] all in absurd (cc)
+lost_unsettled (c ∷ cs) x all = lost_unsettled cs x (All-tail settles c (cs ++ (x, lost) ∷ []) all)
+
 -- one that was told so
 one_ends : (r : Told) (n : Standing) (x : Input) (f : Fate) → Tells r n x f → IsTogether None f → EndsAs (end_of r) ((x, f) ∷ [])
 one_ends (Ok given) n x done told alone = All-cons settles (x, done) [] refl (All-nil settles)
@@ -171,9 +177,9 @@ module _ {D : Type 0} (state : D → DiskState) where
       }
 
   -- one came alone
-  pub goes_alone : (old new : NodeCore D) (x : Input) (rest : List Input) (r : Told) (before after : List Told) → after ≡ before ++ r ∷ [] → Steps (standing_of state) (StepStores state) old x r new
+  pub goes_alone : (old new : NodeCore D) (x : Input) (rest : List Input) (r : Told) (before after : List Told) → IsAlone (node_of old.node) x → after ≡ before ++ r ∷ [] → Steps (standing_of state) (StepStores state) old x r new
       → GoesOn state (EndsAs (end_of r)) old (x ∷ rest) rest before after new
-  goes_alone old new x rest r before after added s =
+  goes_alone old new x rest r before after alone added s =
       record {
         came = (x, s.fate) ∷ [];
         told = r ∷ [];
@@ -181,12 +187,13 @@ module _ {D : Type 0} (state : D → DiskState) where
         added = added;
         comes = record { may = (s.may, s.alone, (λ is. refl), tt); tell = (s.tells, refl); stored = s.stored };
         ends = one_ends r (standing_of state old) x s.fate s.tells s.alone;
+        together = λ up calm settled. absurd (alone up (All-head IsCalm x [] calm));
       }
 
   -- the first is lost
   pub goes_lost : (n m : NodeCore D) (x : Input) (rest : List Input) (before after : List Told) → after ≡ before ++ starved ∷ [] → Comes state n [] [] m → GoesOn state (EndsAs Lost) n (x ∷ rest) rest before after m
   goes_lost n m x rest before after added none =
-      record { came = (x, lost) ∷ []; told = starved ∷ []; split = refl; added = added; comes = comes_lost n m [] [] x (All-nil stays) none; ends = refl }
+      record { came = (x, lost) ∷ []; told = starved ∷ []; split = refl; added = added; comes = comes_lost n m [] [] x (All-nil stays) none; ends = refl; together = λ up calm settled. absurd (lost_unsettled [] x settled) }
 
   -- behind those that a fault ended the next is lost
   pub goes_broken : (old new : NodeCore D) (xs ys rest : List Input) (before mid after : List Told) → GoesOn state (EndsAs Broke) old xs ys before mid new → LosesNext ys rest mid after → GoesOn state (EndsSo false rest) old xs rest before after new
@@ -198,6 +205,7 @@ module _ {D : Type 0} (state : D → DiskState) where
         added = l.1 ∙ g.added;
         comes = g.comes;
         ends = inl l.0;
+        together = λ up calm settled. subst (λ (zs : List Input). GoesTogether state old (inputs_of g.came) zs new) (sym l.0) (g.together up calm settled);
       }
   goes_broken old new xs (y ∷ ys) rest before mid after g l =
       record {
@@ -207,14 +215,15 @@ module _ {D : Type 0} (state : D → DiskState) where
         added = l.1 ∙ ap (λ (rs : List Told). rs ++ starved ∷ []) g.added ∙ append_assoc before g.told (starved ∷ []);
         comes = comes_lost old new g.came g.told y g.ends g.comes;
         ends = inr (lost_behind g.came ((y, lost) ∷ []) refl);
+        together = λ up calm settled. absurd (lost_unsettled g.came y settled);
       }
 
   -- they ended well, or for want of memory
   pub goes_settled : (old new : NodeCore D) (xs rest : List Input) (before after : List Told) → GoesOn state (EndsAs Settled) old xs rest before after new → GoesOn state (EndsSo true rest) old xs rest before after new
-  goes_settled old new xs rest before after g = record { came = g.came; told = g.told; split = g.split; added = g.added; comes = g.comes; ends = g.ends }
+  goes_settled old new xs rest before after g = record { came = g.came; told = g.told; split = g.split; added = g.added; comes = g.comes; ends = g.ends; together = g.together }
 
   pub goes_starved : (old new : NodeCore D) (xs rest : List Input) (before after : List Told) → GoesOn state (EndsAs Lost) old xs rest before after new → GoesOn state (EndsSo false rest) old xs rest before after new
-  goes_starved old new xs rest before after g = record { came = g.came; told = g.told; split = g.split; added = g.added; comes = g.comes; ends = inr g.ends }
+  goes_starved old new xs rest before after g = record { came = g.came; told = g.told; split = g.split; added = g.added; comes = g.comes; ends = inr g.ends; together = g.together }
 
   -- ---- one group behind the other
 

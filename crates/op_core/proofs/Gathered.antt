@@ -30,12 +30,12 @@ use Rattle.op_serving.specs.Cores.{Standing, reopens}
 use Rattle.op_serving.specs.Fates.{done, faults as faulting, shares, lost, Came, inputs_of, after_all, MayComeAll, TellAll}
 use Rattle.op_serving.specs.Reopenings.{Unstored, unstored_after}
 use Rattle.op_core.specs.Disks.{FindEach, unstored_after_all, Stores}
-use Rattle.op_core.specs.Groups.{Told, ToldInRange, failed_with, starved, IsCalm, EndsAs, Comes, GoesOn, state_all, told_all, changes_all, up_node, Took, StoredAs}
+use Rattle.op_core.specs.Groups.{Told, ToldInRange, failed_with, starved, IsCalm, EndsAs, IsFull, Comes, GoesTogether, GoesOn, state_all, told_all, changes_all, up_node, Took, StoredAs}
 use Rattle.op_core.specs.NodeCores.{place_at, standing_by, standing_of}
 use Rattle.op_core.specs.declared.end.End.{End}
 use Rattle.op_core.specs.declared.end.End.TheVariants.{Settled, Broke, Lost}
 use Rattle.op_core.specs.declared.node_core.NodeCore.{NodeCore}
-use Rattle.op_core.proofs.Came.{settles, stays, not_last, inputs_both, comes_lost, lost_behind}
+use Rattle.op_core.proofs.Came.{settles, stays, not_last, inputs_both, comes_lost, lost_behind, lost_unsettled}
 use Rattle.op_core.proofs.Disks.{noted_stores}
 
 -- a node that is up
@@ -87,6 +87,10 @@ share_stays k (x ∷ xs) = All-cons stays (x, shares k) (all_share k xs) refl (s
 broken_stays : (k : ℕ) (ts : List Input) → All stays (broken k ts)
 broken_stays k [] = All-nil stays
 broken_stays k (x ∷ xs) = All-cons stays (x, faulting k) (all_share k xs) refl (share_stays k xs)
+
+broken_unsettled : (k : ℕ) (ts : List Input) → ts ≢ [] → All settles (broken k ts) → ⊥
+broken_unsettled k [] some all = some refl
+broken_unsettled k (x ∷ xs) some all = let bad : false ≡ true = All-head settles (x, faulting k) (all_share k xs) all in absurd (cc)
 
 -- ---- they were stored
 
@@ -351,6 +355,7 @@ module _ {D : Type 0} (state : D → DiskState) (mid new : NodeCore D) (n : Node
     pub ends : EndsAs end came
     pub keeps : All stays came
     pub given : All ToldInRange told
+    pub once : All settles came → (bound : Bound) × StoresAtOnce state s.durable changes n.store new.node.store (Ok bound)
 
   failed_added : (k from : ℕ) (later : List Told) → from ≡ length before → later ≡ take from after ++ replicate (length after - from) (failed_with k) → later ≡ before ++ all_failed k ts
   failed_added k from later place is =
@@ -371,6 +376,7 @@ module _ {D : Type 0} (state : D → DiskState) (mid new : NodeCore D) (n : Node
         ends = done_settles ts;
         keeps = done_stays ts;
         given = took.given;
+        once = λ all. (at.2, at.3);
       }
   gone Broke from later place stood at =
       record {
@@ -382,6 +388,7 @@ module _ {D : Type 0} (state : D → DiskState) (mid new : NodeCore D) (n : Node
         ends = broken_stays at.0 ts;
         keeps = broken_stays at.0 ts;
         given = failed_in at.0 ts;
+        once = λ all. absurd (broken_unsettled at.0 ts (some at.0 at.1 at.3 stood) all);
       }
   gone Lost from later place stood at = absurd at
 
@@ -397,15 +404,34 @@ module _ {D : Type 0} (state : D → DiskState) (old mid new : NodeCore D) (n : 
     stored = noted_stores state old mid same is m cs c.stored;
   }
 
-  -- none of them found no memory
-  pub goes_whole : (left : List Input) → left ≡ [] → xs ≡ ts ++ (left ++ rest) → GoesOn state (EndsAs end) old xs rest before later new
-  goes_whole left none split = record {
+  -- none of them found no memory, and none that is left could have gone with them
+  module _ (full : IsFull (changes_all (node_of mid.node).me (node_of mid.node).state ts) rest) where
+    abbrev core_over : Node D → NodeCore D
+    core_over k = record old { node = k }
+
+    goes_together_here : All settles x.came → GoesTogether state (core_over mid.node) ts rest new
+    goes_together_here settled =
+        let here = x.once settled in
+        record {
+          bound = here.0;
+          at_once = subst (λ (t : Store D). StoresAtOnce state (node_of mid.node).state.durable (changes_all (node_of mid.node).me (node_of mid.node).state ts) t new.node.store (Ok here.0)) took.store here.1;
+          full = full;
+        }
+
+    goes_together : All settles x.came → GoesTogether state old (inputs_of x.came) rest new
+    goes_together settled =
+        subst (λ (ys : List Input). GoesTogether state old ys rest new) (sym x.are)
+        (subst (λ (k : Node D). GoesTogether state (core_over k) ts rest new) same (goes_together_here settled))
+
+  pub goes_whole : (left : List Input) → left ≡ [] → xs ≡ ts ++ (left ++ rest) → IsFull (changes_all (node_of mid.node).me (node_of mid.node).state ts) rest → GoesOn state (EndsAs end) old xs rest before later new
+  goes_whole left none split full = record {
     came = x.came;
     told = x.told;
     split = split ∙ ap (λ (ls : List Input). ts ++ (ls ++ rest)) none ∙ ap (λ (is : List Input). is ++ rest) (sym x.are);
     added = x.added;
     comes = from_old x.came x.told new x.comes;
     ends = x.ends;
+    together = λ up calm settled. goes_together full settled;
   }
 
   -- the last did
@@ -420,4 +446,5 @@ module _ {D : Type 0} (state : D → DiskState) (old mid new : NodeCore D) (n : 
         added = added ∙ ap (λ (rs : List Told). rs ++ starved ∷ []) x.added ∙ append_assoc before x.told (starved ∷ []);
         comes = from_old (x.came ++ (y, lost) ∷ []) (x.told ++ starved ∷ []) new (comes_lost state mid new x.came x.told y x.keeps x.comes);
         ends = lost_behind x.came ((y, lost) ∷ []) refl;
+        together = λ up calm settled. absurd (lost_unsettled x.came y settled);
       }

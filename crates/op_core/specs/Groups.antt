@@ -1,5 +1,5 @@
 -- Inputs that are given together: each group of them that is stored by one commit, or one input alone.
-use Rattle.std.specs.Prelude.{◌≡◌, ◌⊎◌, ◌-◌, ◌++◌, ◌∷◌, [], ℕ, List, length, take, replicate, All, Bool, true, false, None, Some, Result, Ok, Err, IfOk}
+use Rattle.std.specs.Prelude.{◌≡◌, ◌<◌, ◌⊎◌, ◌-◌, ◌++◌, ◌∷◌, [], ℕ, List, length, take, replicate, All, Bool, true, false, None, Some, Result, Ok, Err, IfOk}
 use Rattle.op_types.specs.declared.changes.Change.{Change}
 use Rattle.op_types.specs.declared.durable.Durable.{Durable}
 use Rattle.op_types.specs.declared.events.Input.{Input}
@@ -10,7 +10,7 @@ use Rattle.op_protocol.specs.Rows.{step_plan}
 use Rattle.op_bounds.specs.States.{IsNamed}
 use Rattle.op_node.specs.Nodes.{NodeState, node_of}
 use Rattle.op_node.specs.declared.bound.Bound.{Bound}
-use Rattle.op_node.specs.Taking.{LeadsFrom, StoresAtOnce}
+use Rattle.op_node.specs.Taking.{LeadsFrom, StoresAtOnce, most_before_step}
 use Rattle.op_node.specs.declared.node.Node.{Node}
 use Rattle.op_node.specs.declared.record.Record.{Record}
 use Rattle.op_serving.specs.Cores.{given_of}
@@ -80,26 +80,7 @@ abbrev pub LosesNext : List Input → List Input → List Told → List Told →
 LosesNext [] rest before after = (rest ≡ []) × (after ≡ before)
 LosesNext (x ∷ xs) rest before after = (rest ≡ xs) × (after ≡ before ++ starved ∷ [])
 
--- ---- what comes of inputs
-
-module _ {D : Type 0} (state : D → DiskState) where
-  -- this came of inputs one after the other, and is told
-  pub record Comes (old : NodeCore D) (came : List Came) (told : List Told) (new : NodeCore D) : Type 0 where
-    pub may : MayComeAll (standing_of state old) None came
-    pub tell : TellAll told (standing_of state old) came
-    pub stored : StepStores state old came new
-
-  -- of these inputs those came that aren't left, and the answers were added
-  pub record GoesOn (Ends : List Came → Type 0) (old : NodeCore D) (xs rest : List Input)
-      (before after : List Told) (new : NodeCore D) : Type 0 where
-    pub came : List Came
-    pub told : List Told
-    pub split : xs ≡ inputs_of came ++ rest
-    pub added : after ≡ before ++ told
-    pub comes : Comes old came told new
-    pub ends : Ends came
-
--- ---- what is taken of a node that is up
+-- ---- inputs of a node that is up
 
 -- the state behind these inputs
 abbrev pub state_all : ℕ → State → List Input → State
@@ -120,6 +101,48 @@ changes_all me s (x ∷ xs) =
 -- a node that is up, in this state
 abbrev pub up_node : ℕ → State → NodeState
 up_node me s = record { me = me; state = s; failed = None }
+
+-- nothing that is left could be stored with these changes: a tick is next, or the record may have no room
+-- for another step
+abbrev pub IsFull : List Change → List Input → Type 0
+IsFull changes [] = Unit {0}
+IsFull changes (input.Tick ∷ rest) = Unit {0}
+IsFull changes (x ∷ rest) = most_before_step < length changes
+
+-- it is stored by itself: a tick is, and each input of a node that failed
+abbrev pub IsAlone : NodeState → Input → Type 0
+IsAlone n x = (n.failed ≡ None) → IsCalm x → ⊥
+
+-- ---- what comes of inputs
+
+module _ {D : Type 0} (state : D → DiskState) where
+  -- this came of inputs one after the other, and is told
+  pub record Comes (old : NodeCore D) (came : List Came) (told : List Told) (new : NodeCore D) : Type 0 where
+    pub may : MayComeAll (standing_of state old) None came
+    pub tell : TellAll told (standing_of state old) came
+    pub stored : StepStores state old came new
+
+  -- these inputs went into one commit, and none is left that could have gone with them
+  pub record GoesTogether (old : NodeCore D) (xs rest : List Input) (new : NodeCore D) : Type 0 where
+    pub bound : Bound
+    pub at_once : StoresAtOnce state (node_of old.node).state.durable
+        (changes_all (node_of old.node).me (node_of old.node).state xs) old.node.store new.node.store (Ok bound)
+    pub full : IsFull (changes_all (node_of old.node).me (node_of old.node).state xs) rest
+
+  -- of these inputs those came that aren't left, and the answers were added
+  pub record GoesOn (Ends : List Came → Type 0) (old : NodeCore D) (xs rest : List Input)
+      (before after : List Told) (new : NodeCore D) : Type 0 where
+    pub came : List Came
+    pub told : List Told
+    pub split : xs ≡ inputs_of came ++ rest
+    pub added : after ≡ before ++ told
+    pub comes : Comes old came told new
+    pub ends : Ends came
+    -- those of a node that is up, without ticks and lost ones
+    pub together : (node_of old.node).failed ≡ None → All IsCalm (inputs_of came) →
+        All (λ c. is_settled c.1 ≡ true) came → GoesTogether old (inputs_of came) rest new
+
+-- ---- what is taken of a node that is up
 
 -- the inputs that were had and not taken: none, or the last, for want of memory
 abbrev pub IsLeft : Bool → List Input → Type 0
@@ -149,6 +172,7 @@ module _ {D : Type 0} where
     pub split : xs ≡ ts ++ (left ++ rest)
     pub is_left : IsLeft is_whole left
     pub took : Took old ts before after gathered new
+    pub full : is_whole ≡ true → IsFull (changes_all (node_of old).me (node_of old).state ts) rest
 
 -- What was taken is stored, or a disk fails, and then each answer from this place on tells it.
 abbrev pub StoredAs : {D : Type 0} → (D → DiskState) → End → Durable → List Change → ℕ → Node D → Node D

@@ -1,5 +1,5 @@
 //! Inputs that are taken one after the other and stored together.
-ghost use Rattle.std.specs.Prelude.{◌≡◌, ◌≤◌, ◌<◌, ◌+◌, ◌-◌, ◌++◌, ◌∷◌, [], false, None, List, length, take, replicate, vec_len, vec_capacity, All, MatchOption};
+ghost use Rattle.std.specs.Prelude.{◌≡◌, ◌≤◌, ◌<◌, ◌+◌, ◌-◌, ◌++◌, ◌∷◌, [], false, true, None, List, length, take, replicate, vec_len, vec_capacity, All, IsNone, MatchOption};
 ghost use Rattle.op_types.specs.declared.changes.Change.{Change};
 ghost use Rattle.op_types.specs.declared.durable.Durable.{Durable};
 ghost use Rattle.op_node.specs.Nodes.{node_of};
@@ -9,7 +9,9 @@ ghost use Rattle.op_core.specs.Groups.{
   EndsAs,
   EndsSo,
   GoesOn,
+  IsAlone,
   IsCalm,
+  IsFull,
   LosesNext,
   StoredAs,
   TakesAll,
@@ -88,7 +90,8 @@ fn step_some<D: Disk>(
 
 /// Whether an input is stored by itself: so is each of a node that failed, and each tick.
 fn is_alone<D: Disk>(core: &NodeCore<D>, input: &Input) -> bool
-    ensures { result ≡ false → ((node_of core.now.node).failed ≡ None) × IsCalm input.now }
+    ensures alone { result ≡ true → IsAlone (node_of core.now.node) input.now }
+    ensures others { result ≡ false → ((node_of core.now.node).failed ≡ None) × IsCalm input.now }
 {
     core.node.failed().is_some() || matches!(input, Input::Tick)
 }
@@ -183,8 +186,10 @@ fn take_all<D: Disk>(
 
 /// The next input that is stored together with those before it. A tick never is, and none where the record may be full.
 fn next_in_group(inputs: &mut VecDeque<Input>, gathered: &Record) -> Option<Input>
-    ensures { MatchOption result (inputs.new.items ≡ inputs.old.items)
+    ensures next { MatchOption result (inputs.new.items ≡ inputs.old.items)
         (λ x. (inputs.old.items ≡ x ∷ inputs.new.items) × IsCalm x) }
+    ensures full { IsNone result → (changes : List Change) → LaysOut changes gathered.now →
+        IsFull changes inputs.old.items }
 {
     match inputs.front() {
         None | Some(Input::Tick) => None,

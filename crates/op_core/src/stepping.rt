@@ -8,7 +8,8 @@ ghost use Rattle.op_serving.specs.Ranges.{InputInRange, GivenInRange};
 ghost use Rattle.op_serving.specs.declared.node.StepFail.TheVariants as fails;
 ghost use Rattle.op_core.specs.Disks.{StepStores};
 ghost use Rattle.op_core.specs.Groups as groups;
-ghost use Rattle.op_core.specs.Groups.{EndsAs, GoesOn, ToldInRange};
+ghost use Rattle.op_core.specs.Groups.{EndsAs, GoesOn, IsAlone, ToldInRange};
+ghost use Rattle.op_node.specs.Nodes.{node_of};
 ghost use Rattle.op_command.specs.Ranges.{OutcomeInRange};
 ghost use Rattle.op_bounds.specs.Messages.{OutcomeInRange as IsOutcomeOf};
 ghost use Rattle.op_types.specs.Ranges.{IsPid};
@@ -94,6 +95,7 @@ pub fn step_alone<D: Disk>(
     input: Input,
     results: &mut Vec<Result<Given, StepFail>>,
 ) -> End
+    requires alone { IsAlone (node_of core.old.node) input }
     requires ready { IsServable core.old.node }
     requires range { InputInRange input }
     requires room { vec_len results.old < vec_capacity results.old }

@@ -43,7 +43,7 @@ returns-then-is_whole-clause-goes g c =
     let place : c.len-from.result ≡ length before = search rules in
     let stood : mid.stood ≡ place_at (node_of mid.node).state = noted.place c.requires.up ∙ ap (λ (k : Node _). place_at (node_of k).state) (sym noted.node) in
     let x = gone state mid new n t.ts before after h runs t.took c.store-end.result c.len-from.result later place stood (c.store-end.ensures.stored (node_of mid.node).state.durable (changes_all (node_of mid.node).me (node_of mid.node).state t.ts) t.took.leads) in
-    goes_whole state old mid new n t.ts before after later h runs t.took noted.node noted.standing c.store-end.result x (c.args.first ∷ c.args.inputs.now.items) c.take_all-is_whole.new.inputs.items t.left t.is_left t.split
+    goes_whole state old mid new n t.ts before after later h runs t.took noted.node noted.standing c.store-end.result x (c.args.first ∷ c.args.inputs.now.items) c.take_all-is_whole.new.inputs.items t.left t.is_left t.split (t.full refl)
 
 pub returns-then-is_whole-clause-given : goal.returns-then-is_whole-clause-given
 returns-then-is_whole-clause-given g c all =

@@ -1,8 +1,10 @@
-use Rattle.std.proofs.Common.{◌++◌, ◌∷◌, [], List, length, Ok, All, refl, sym, ap, subst, ◌∙◌, append_assoc, arith}
+use Rattle.std.proofs.Common.{◌≡◌, false, true, ◌++◌, ◌∷◌, [], List, length, Ok, All, refl, sym, ap, subst, ◌∙◌, append_assoc, arith}
 use Rattle.std.proofs.lemmas.List.Elements.{All-head, All-tail}
 use Rattle.op_types.specs.declared.events.Input.{Input}
 use Rattle.op_serving.specs.Ranges.{InputInRange}
-use Rattle.op_core.specs.Groups.{Told, Took}
+use Rattle.op_types.specs.declared.changes.Change.{Change}
+use Rattle.op_node.specs.Nodes.{node_of}
+use Rattle.op_core.specs.Groups.{Told, IsFull, changes_all, Took}
 use Rattle.op_core.proofs.NodeCores.{admits, gave}
 use Rattle.op_core.proofs.Takings.{took_none, took_same, took_more}
 use Rattle.op_core.proofs.groups.take_all.Goals as goal
@@ -33,6 +35,7 @@ returns-in_default-clause-takes g c =
       split = inv.split;
       is_left = (c.inputs.next, refl);
       took = took_same c.args.node.now c.inputs.node c.take.new.self inv.ts c.args.results.now.items c.inputs.results.items c.inputs.gathered c.take.new.gathered inv.took e.unchanged e.kept e.sound;
+      full = λ is. let bad : false ≡ true = is in absurd (cc);
     }
 
 pub inputs-preserved : goal.inputs-preserved
@@ -48,16 +51,16 @@ inputs-preserved g c =
     let fits = gave c.inputs.node c.take.new.self x (Ok c.in-Ok.given) inv.took.servable inv.next_in (e.taken.given, e.taken.node) c.count_fits.ensures in
     let took = took_more old c.inputs.node c.take.new.self inv.ts before after c.inputs.gathered c.take.new.gathered x c.in-Ok.given inv.took e.taken e.added inv.next_in inv.calm e.sound fits in
     let pushed = c.push_reserved.ensures.items ∙ ap (λ k. after ++ Ok k ∷ []) c.hand_on_given.ensures in
-    let range : All InputInRange (y ∷ rest) = subst (All InputInRange) c.in-Some.ensures.0 inv.range in
+    let range : All InputInRange (y ∷ rest) = subst (All InputInRange) c.in-Some.ensures.next.0 inv.range in
     record {
       ts = inv.ts ++ x ∷ [];
-      split = inv.split ∙ ap (λ (ys : List Input). inv.ts ++ x ∷ ys) c.in-Some.ensures.0 ∙ sym (append_assoc inv.ts (x ∷ []) (y ∷ rest));
+      split = inv.split ∙ ap (λ (ys : List Input). inv.ts ++ x ∷ ys) c.in-Some.ensures.next.0 ∙ sym (append_assoc inv.ts (x ∷ []) (y ∷ rest));
       took = subst (λ (rs : List Told). Took old (inv.ts ++ x ∷ []) before rs c.take.new.gathered c.take.new.self) (sym pushed) took;
       next_in = All-head InputInRange y rest range;
-      calm = c.in-Some.ensures.1;
+      calm = c.in-Some.ensures.next.1;
       range = All-tail InputInRange y rest range;
-      few = omega (arith, ap length c.in-Some.ensures.0, inv.few);
-      fits = omega (arith, ap length c.in-Some.ensures.0, inv.fits, c.push_reserved.ensures.len, c.push_reserved.ensures.capacity);
+      few = omega (arith, ap length c.in-Some.ensures.next.0, inv.few);
+      fits = omega (arith, ap length c.in-Some.ensures.next.0, inv.fits, c.push_reserved.ensures.len, c.push_reserved.ensures.capacity);
       same_room = c.push_reserved.ensures.capacity ∙ inv.same_room;
     }
 
@@ -73,10 +76,12 @@ returns-in-None-clause-takes g c =
     let fits = gave c.inputs.node c.take.new.self x (Ok c.in-Ok.given) inv.took.servable inv.next_in (e.taken.given, e.taken.node) c.count_fits.ensures in
     let took = took_more old c.inputs.node c.take.new.self inv.ts before after c.inputs.gathered c.take.new.gathered x c.in-Ok.given inv.took e.taken e.added inv.next_in inv.calm e.sound fits in
     let pushed = c.push_reserved.ensures.items ∙ ap (λ k. after ++ Ok k ∷ []) c.hand_on_given.ensures in
+    let changes : List Change = changes_all (node_of old).me (node_of old).state (inv.ts ++ x ∷ []) in
     record {
       ts = inv.ts ++ x ∷ [];
       left = [];
-      split = inv.split ∙ ap (λ (ys : List Input). inv.ts ++ x ∷ ys) (sym c.in-None.ensures) ∙ sym (append_assoc inv.ts (x ∷ []) rest);
+      split = inv.split ∙ ap (λ (ys : List Input). inv.ts ++ x ∷ ys) (sym c.in-None.ensures.next) ∙ sym (append_assoc inv.ts (x ∷ []) rest);
       is_left = refl;
+      full = λ is. subst (IsFull changes) (sym c.in-None.ensures.next) (c.in-None.ensures.full refl changes took.leads.laid);
       took = subst (λ (rs : List Told). Took old (inv.ts ++ x ∷ []) before rs c.take.new.gathered c.take.new.self) (sym pushed) took;
     }
