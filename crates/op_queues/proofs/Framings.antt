@@ -7,7 +7,8 @@ use Rattle.op_frame.proofs.Heads.{wide_head}
 
 -- how long a frame is
 pub frame_len : (head : ℕ) → IsHead head → (body : List ℕ) → length (frame_of head body) ≡ head + length body
-frame_len head h body = let w = wide_head head h in length-append (encoded (width_of head) (length body)) body ∙ ap (λ n. n + length body) (w.0.len (length body) ∙ w.1)
+frame_len head h body =
+    let w = wide_head head h in length-append (encoded (width_of head) (length body)) body ∙ ap (λ n. n + length body) (w.0.len (length body) ∙ w.1)
 
 -- what stands behind the room for a head
 pub behind_room : (start head : ℕ) (bytes : List ℕ) → drop (start + head - start) (drop start bytes) ≡ drop (start + head) bytes
@@ -23,9 +24,11 @@ module _ (head : ℕ) (is_head : IsHead head) (old room body out : List ℕ) (is
   pub out_front : take (length old) out ≡ old
   out_front = ap (take (length old)) (is ∙ append_assoc old room body) ∙ take_at old (room ++ body) (length old) refl
 
-  pub laid_frame : (laid rest : List ℕ) (n : ℕ) → n ≡ length out → laid ≡ take (length old) out ++ frame_of head (drop (length old + head) out) → take n (laid ++ rest) ≡ old ++ frame_of head body
+  pub laid_frame : (laid rest : List ℕ) (n : ℕ) → n ≡ length out → laid ≡ take (length old) out ++ frame_of head (drop (length old + head) out)
+      → take n (laid ++ rest) ≡ old ++ frame_of head body
   laid_frame laid rest n len e =
-      let frame : laid ≡ old ++ frame_of head body = e ∙ ap (λ (l : List ℕ). l ++ frame_of head (drop (length old + head) out)) out_front ∙ ap (λ (l : List ℕ). old ++ frame_of head l) out_body in
+      let frame : laid ≡ old ++ frame_of head body =
+      e ∙ ap (λ (l : List ℕ). l ++ frame_of head (drop (length old + head) out)) out_front ∙ ap (λ (l : List ℕ). old ++ frame_of head l) out_body in
       let size = ap length frame ∙ length-append old (frame_of head body) in
       let long : length laid ≡ n = omega (arith, len, out_len, size, frame_len head is_head body) in
       take_at laid rest n long ∙ frame

@@ -17,7 +17,8 @@ has_head : (kind : Kind) (x : Stream) (n : ℕ) → IsHead x.head → Tells x.he
 unfolding first_frame
 has_head kind x n h t =
     let there : nat_lt (length x.held) x.head ≡ false = le-ltb (length x.held) x.head t.within in
-    ap (λ b. if b then partial kind x else framed kind x (from_be_bytes (width_of x.head) (take x.head x.held))) there ∙ ap (framed kind x) (told_number x.head x.held n h t)
+    ap (λ b. if b then partial kind x else framed kind x (from_be_bytes (width_of x.head) (take x.head x.held))) there
+    ∙ ap (framed kind x) (told_number x.head x.held n h t)
 
 pub too_long_is : (kind : Kind) (x : Stream) (n : ℕ) → IsHead x.head → TellsTooLong x n → first_frame kind x ≡ refused kind x
 too_long_is kind x n h t = has_head kind x n h t.told ∙ rw (lt-ltb x.limit n t.above) refl
@@ -32,11 +33,13 @@ frame_is kind x body rest h b =
     let whole : nat_lt (length x.held) (x.head + n) ≡ false = le-ltb (length x.held) (x.head + n) (omega (arith, enough)) in
     let is_body : take n (drop x.head x.held) ≡ body = ap (take n) after ∙ take_at body rest n refl in
     let is_rest : drop (x.head + n) x.held ≡ rest = sym (drop-drop n x.head x.held) ∙ ap (drop n) after ∙ drop_at body rest n refl in
-    has_head kind x n h t ∙ rw (short, whole) (ap (λ y. frame kind y (left x (drop (x.head + n) x.held))) is_body ∙ ap (λ y. frame kind body (left x y)) is_rest)
+    has_head kind x n h t
+    ∙ rw (short, whole) (ap (λ y. frame kind y (left x (drop (x.head + n) x.held))) is_body ∙ ap (λ y. frame kind body (left x y)) is_rest)
 
 pub partial_is : (kind : Kind) (x : Stream) → IsHead x.head → IsPartial x → first_frame kind x ≡ partial kind x
 unfolding first_frame
-partial_is kind x h (inl short) = ap (λ b. if b then partial kind x else framed kind x (from_be_bytes (width_of x.head) (take x.head x.held))) (lt-ltb (length x.held) x.head short)
+partial_is kind x h (inl short) =
+    ap (λ b. if b then partial kind x else framed kind x (from_be_bytes (width_of x.head) (take x.head x.held))) (lt-ltb (length x.held) x.head short)
 partial_is kind x h (inr (body, missing, allowed, some, e)) = elim (cases_Bool (nat_lt (length x.held) x.head)) [
   | inl g ↦ ap (λ b. if b then partial kind x else framed kind x (from_be_bytes (width_of x.head) (take x.head x.held))) g
   | inr g ↦ (
@@ -47,7 +50,8 @@ partial_is kind x h (inr (body, missing, allowed, some, e)) = elim (cases_Bool (
       let t : Tells x.head more n = frame_tells x.head more body [] x.limit h allowed whole in
       let here : Tells x.head x.held n = record { within = le; fits = t.fits; told = sym (take-append-le x.head x.held missing le) ∙ t.told } in
       let after : drop x.head more ≡ body ++ [] = frame_after x.head more body [] h whole in
-      let less : length x.held < x.head + n = omega (arith, ap length after, length-append body [], length-drop x.head more, length-append x.held missing, some, t.within) in
+      let less : length x.held < x.head + n =
+      omega (arith, ap length after, length-append body [], length-drop x.head more, length-append x.held missing, some, t.within) in
       let short : nat_lt x.limit n ≡ false = le-ltb x.limit n allowed.within in
       has_head kind x n h here ∙ rw (short, lt-ltb (length x.held) (x.head + n) less) refl)
 ]

@@ -1,7 +1,7 @@
 -- What is gathered and given together: its inputs, and what clients asked for with each.
-use Rattle.std.proofs.Common.{◌≡◌, ◌<◌, ◌≤◌, ◌+◌, ◌++◌, ◌∷◌, [], ℕ, suc, List, length, map, All, Option, refl, ap, arith}
-use Rattle.std.proofs.lemmas.List.{length-append}
-use Rattle.std.proofs.lemmas.List.Elements.{All-nil, All-cons, All-head, All-tail}
+use Rattle.std.proofs.Common.{◌≡◌, ◌<◌, ◌≤◌, ◌+◌, ◌++◌, ◌∷◌, [], ℕ, List, length, map, All, Option, refl, ◌∙◌, ap, arith}
+use Rattle.std.proofs.lemmas.List.{length-append, length-map}
+use Rattle.std.proofs.lemmas.List.Elements.{All-nil, All-cons, All-append, All-map}
 use Rattle.op_types.specs.declared.events.Input.{Input}
 use Rattle.op_types.specs.declared.log.Command.{Command}
 use Rattle.op_types.specs.declared.messages.Msg.{Msg}
@@ -29,19 +29,19 @@ abbrev pub deliveries : Table (ℕ × Msg) → List Input
 deliveries ms = map (λ b. b.1) (map as_delivery ms)
 
 count_deliveries : (ms : Table (ℕ × Msg)) → length (deliveries ms) ≡ length ms
-count_deliveries [] = refl
-count_deliveries (m ∷ ms) = ap suc (count_deliveries ms)
+count_deliveries ms = length-map (map as_delivery ms) (λ b. b.1) ∙ length-map ms as_delivery
 
 -- while one is left there is room for it
-pub room_left : (is js : List Input) (m : ℕ × (ℕ × Msg)) (ms ns : Table (ℕ × Msg)) (n : ℕ) → is ++ deliveries (m ∷ ms) ≡ js ++ deliveries ns → length js + length ns ≤ n → length is < n
-room_left is js m ms ns n e h = omega (arith, h, ap length e, length-append is (deliveries (m ∷ ms)), length-append js (deliveries ns), count_deliveries (m ∷ ms), count_deliveries ns)
+pub room_left : (is js : List Input) (m : ℕ × (ℕ × Msg)) (ms ns : Table (ℕ × Msg)) (n : ℕ) → is ++ deliveries (m ∷ ms) ≡ js ++ deliveries ns
+    → length js + length ns ≤ n → length is < n
+room_left is js m ms ns n e h =
+    omega (arith, h, ap length e, length-append is (deliveries (m ∷ ms)), length-append js (deliveries ns), count_deliveries (m ∷ ms), count_deliveries ns)
 
 -- ---- in range
 
-pub inputs_in_range : (ms : Table (ℕ × Msg)) (is : List Input) → All BroughtInRange ms → All InputInRange is → All InputInRange (map (λ b. b.1) (map as_delivery ms) ++ is)
-inputs_in_range [] is h k = k
-inputs_in_range (m ∷ ms) is h k =
-    All-cons InputInRange (as_delivery m).1 (map (λ b. b.1) (map as_delivery ms) ++ is) (All-head BroughtInRange m ms h) (inputs_in_range ms is (All-tail BroughtInRange m ms h) k)
+pub inputs_in_range : (ms : Table (ℕ × Msg)) (is : List Input) → All BroughtInRange ms → All InputInRange is → All InputInRange (deliveries ms ++ is)
+inputs_in_range ms is h k =
+    All-append InputInRange (deliveries ms) is (All-map InputInRange (λ b. b.1) (map as_delivery ms) (All-map (λ b. InputInRange b.1) as_delivery ms h)) k
 
 pub one_in_range : (g : Table Command) → RunInRange g → All InputInRange (map (λ b. b.1) (as_one g))
 one_in_range [] h = All-nil InputInRange

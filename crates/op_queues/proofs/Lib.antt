@@ -1,7 +1,8 @@
 pub mod Tables
+pub mod Frames
+pub mod Losing
 pub mod InRange
 pub mod Askers
-pub mod Told
 pub mod Sizes
 pub mod Counting
 pub mod Settling

@@ -1,12 +1,11 @@
 -- The least connection of a range for which bytes wait.
-use Rattle.std.proofs.Common.{◌≡◌, ◌+◌, ℕ, [], ◌∷◌, refl, true, false, nat_lt, nat_le, Option, Bool, length, inl, inr}
+use Rattle.std.proofs.Common.{◌≡◌, ◌+◌, ℕ, [], ◌∷◌, refl, true, false, nat_lt, nat_le, Option, Bool, length, arith}
 use Rattle.std.specs.Prelude.{◌&&◌}
 use Rattle.std.specs.List.{find as first, filter}
 use Rattle.std.specs.Map.{keys_of}
 use Rattle.std.specs.BTreeMap.Range.{entries_between, range_contains}
 use Rattle.std.specs.declared.ops.Bound.TheVariants.{Included, Excluded, Unbounded}
 use Rattle.std.specs.Ordering.{nat_cmp}
-use Rattle.std.proofs.lemmas.Bool.{cases_Bool}
 use Rattle.op_conns.proofs.Numbers.{is_le_is, is_lt_is}
 use Rattle.op_serving.specs.declared.session.Session.{Session}
 use Rattle.op_serving.specs.State.{Table, find}
@@ -28,10 +27,7 @@ and_true false = refl
 in_range : (w : Table Session) (test inside : ℕ → Bool) → ((n : ℕ) → test n ≡ inside n) → (t : Table Session)
     → first_waiting w (filter (λ e. test e.0) t) ≡ first (λ c. inside c && has w c) (keys_of t)
 in_range w test inside same [] = refl
-in_range w test inside same (e ∷ t) = elim (cases_Bool (inside e.0)) [
-  | inl h ↦ rw (same e.0, h) (elim (cases_Bool (has w e.0)) [ inl g ↦ rw g refl | inr g ↦ rw g (in_range w test inside same t) ])
-  | inr h ↦ rw (same e.0, h) (in_range w test inside same t)
-]
+in_range w test inside same (e ∷ t) = grind (arith, same e.0, in_range w test inside same t)
 
 pub included_is : (w : Table Session) (low : ℕ) (t : Table Session)
     → first_waiting w (entries_between nat_cmp (Included low) Unbounded t) ≡ first (λ c. nat_le low c && has w c) (keys_of t)
@@ -39,4 +35,5 @@ included_is w low t = in_range w (range_contains nat_cmp (Included low) Unbounde
 
 pub excluded_is : (w : Table Session) (conn : ℕ) (t : Table Session)
     → first_waiting w (entries_between nat_cmp (Excluded conn) Unbounded t) ≡ first (λ c. nat_le (conn + 1) c && has w c) (keys_of t)
-excluded_is w conn t = in_range w (range_contains nat_cmp (Excluded conn) Unbounded) (nat_le (conn + 1)) (λ n. rw (is_lt_is conn n) (and_true (nat_le (conn + 1) n))) t
+excluded_is w conn t =
+    in_range w (range_contains nat_cmp (Excluded conn) Unbounded) (nat_le (conn + 1)) (λ n. rw (is_lt_is conn n) (and_true (nat_le (conn + 1) n))) t

@@ -1,6 +1,6 @@
-ghost use Rattle.std.specs.Prelude.{◌≡◌, ◌==◌, ◌<◌, ◌≤◌, ◌++◌, ◌∷◌, [], ℕ, All, length, map, get_or, remove, OnOk, OnErr, is_some};
+ghost use Rattle.std.specs.Prelude.{◌≡◌, ◌==◌, ◌<◌, ◌≤◌, ◌++◌, ◌∷◌, [], All, length, map, remove, OnOk, OnErr, is_some};
 ghost use Rattle.op_types.specs.Limits.{most_commands};
-ghost use Rattle.op_types.specs.declared.log.Command.{Command};
+ghost use Rattle.std.specs.List.{position};
 ghost use Rattle.op_serving.specs.State.{without, find};
 ghost use Rattle.op_types.specs.Ranges.{CommandInRange, AreCommands};
 ghost use Rattle.op_serving.specs.Ranges.{GatheredInRange};
@@ -61,18 +61,13 @@ impl Run {
     }
 
     /// The commands of a connection aren't given any more.
-    #[tactic(auto, using(crate::proofs::Tables::without_short, crate::proofs::Runs::all_left))]
     pub fn forget(&mut self, conn: Conn)
         ensures is { self.new ≡ without conn self.old }
         ensures len { length self.new ≤ length self.old }
         ensures range { All GatheredInRange self.old → All GatheredInRange self.new }
     {
-        let mut at = self.len();
-        while at > 0 {
-            at -= 1;
-            if self.is_of(at, conn) {
-                self.remove(at);
-            }
+        'commands: while let Some(at) = self.place(conn) {
+            self.remove(at);
         }
     }
 
@@ -83,12 +78,11 @@ impl Run {
         self.conns.contains(&conn)
     }
 
-    /// Whether the command at this index is of this connection.
-    fn is_of(&self, at: usize, conn: Conn) -> bool
-        requires { at < length self.now }
-        ensures { (e : ℕ × Command) → result ≡ ((get_or self.now at e).0 == conn) }
+    /// Where the first command of a connection stands, if there is one.
+    fn place(&self, conn: Conn) -> Option<usize>
+        ensures { result ≡ position (λ e. e.0 == conn) self.now }
     {
-        self.conns[at] == conn
+        place_among(self.conns.as_slice(), conn)
     }
 
     /// Takes out the command at this index.
@@ -108,4 +102,11 @@ impl Run {
     {
         (self.conns, Commands::from_vec(self.commands))
     }
+}
+
+/// Where this connection first stands among these, if it does.
+fn place_among(conns: &[Conn], conn: Conn) -> Option<usize>
+    ensures { result ≡ position (λ k. k == conn) conns.now }
+{
+    conns.iter().position(|at| *at == conn)
 }

@@ -26,5 +26,7 @@ returns-clause-ok c =
     let len : c.put.new.out.len ≡ length out = search rules in
     let start : c.len-start.result ≡ length old = search rules in
     let laid : c.lay_long.new.bytes ≡ take (length old) out ++ frame_of 8 (drop (length old + 8) out) =
-    c.lay_long.ensures ∙ ap (λ l. take c.len-start.result l ++ frame_of 8 (drop (c.len-start.result + 8) l)) c.as_mut_slice.ensures.value ∙ ap (λ n. take n out ++ frame_of 8 (drop (n + 8) out)) start in
-    laid_frame 8 (inr refl) old (encoded w64 0) body out is (wide64.len 0) c.lay_long.new.bytes (drop (length c.lay_long.new.bytes) out) c.put.new.out.len len laid
+    c.lay_long.ensures ∙ ap (λ l. take c.len-start.result l ++ frame_of 8 (drop (c.len-start.result + 8) l)) c.as_mut_slice.ensures.value
+    ∙ ap (λ n. take n out ++ frame_of 8 (drop (n + 8) out)) start in
+    laid_frame 8 (inr refl) old (encoded w64 0) body out is (wide64.len 0) c.lay_long.new.bytes
+    (drop (length c.lay_long.new.bytes) out) c.put.new.out.len len laid

@@ -38,5 +38,7 @@ returns-clause-ok c =
     let len : c.put_reply.new.out.len ≡ length out = search rules in
     let start : c.len-start.result ≡ length old = search rules in
     let laid : c.lay_short.new.bytes ≡ take (length old) out ++ frame_of 4 (drop (length old + 4) out) =
-    c.lay_short.ensures ∙ ap (λ l. take c.len-start.result l ++ frame_of 4 (drop (c.len-start.result + 4) l)) c.as_mut_slice.ensures.value ∙ ap (λ n. take n out ++ frame_of 4 (drop (n + 4) out)) start in
-    laid_frame 4 (inl refl) old (encoded w32 0) body out is (wide32.len 0) c.lay_short.new.bytes (drop (length c.lay_short.new.bytes) out) c.put_reply.new.out.len len laid
+    c.lay_short.ensures ∙ ap (λ l. take c.len-start.result l ++ frame_of 4 (drop (c.len-start.result + 4) l)) c.as_mut_slice.ensures.value
+    ∙ ap (λ n. take n out ++ frame_of 4 (drop (n + 4) out)) start in
+    laid_frame 4 (inl refl) old (encoded w32 0) body out is (wide32.len 0) c.lay_short.new.bytes
+    (drop (length c.lay_short.new.bytes) out) c.put_reply.new.out.len len laid

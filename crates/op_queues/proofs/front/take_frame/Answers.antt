@@ -7,22 +7,30 @@ use Rattle.op_queues.proofs.front.take_frame.Goals as goal
 
 pub returns-in-Err-NotYet-clause-takes : goal.returns-in-Err-NotYet-clause-takes
 returns-in-Err-NotYet-clause-takes c =
-    let x = c.args.session.now in (x.kind, x.frames, partial_is x.kind x.frames c.peek.ensures.head (rw c.in-Err-NotYet.field-0-is at c.in-Err-NotYet.ensures.err), refl)
+    let x =
+    c.args.session.now in
+    (x.kind, x.frames, partial_is x.kind x.frames c.peek.ensures.head (rw c.in-Err-NotYet.field-0-is at c.in-Err-NotYet.ensures.err), refl)
 
 pub returns-in-Err-TooLong-clause-takes : goal.returns-in-Err-TooLong-clause-takes
 returns-in-Err-TooLong-clause-takes c =
-    let x = c.args.session.now in (x.kind, x.frames, too_long_is x.kind x.frames c.in-Err-TooLong.field-0-0 c.peek.ensures.head (rw c.in-Err-TooLong.field-0-is at c.in-Err-TooLong.ensures.err), refl)
+    let x = c.args.session.now in
+    let f = rw c.in-Err-TooLong.field-0-is at c.in-Err-TooLong.ensures.err in
+    (x.kind, x.frames, too_long_is x.kind x.frames c.in-Err-TooLong.field-0-0 c.peek.ensures.head f, refl)
 
 pub returns-in-Err-NoMemory-clause-takes : goal.returns-in-Err-NoMemory-clause-takes
 returns-in-Err-NoMemory-clause-takes c =
     let x = c.args.session.now in
-    let f = rw c.in-Err-NoMemory.field-0-is at c.in-Err-NoMemory.ensures.err in (x.kind, f.0, left x.frames f.1, frame_is x.kind x.frames f.0 f.1 c.peek.ensures.head f.2)
+    let f =
+    rw c.in-Err-NoMemory.field-0-is at c.in-Err-NoMemory.ensures.err in
+    (x.kind, f.0, left x.frames f.1, frame_is x.kind x.frames f.0 f.1 c.peek.ensures.head f.2)
 
 pub returns-in_default-clause-takes : goal.returns-in_default-clause-takes
 returns-in_default-clause-takes c =
     let x = c.args.session.now in
     let body : List ℕ = c.in-Ok.body.now in
-    let rest : List ℕ = drop (x.frames.head + length body) x.frames.held in (x.kind, body, left x.frames rest, frame_is x.kind x.frames body rest c.peek.ensures.head c.in-Ok.ensures.body)
+    let rest : List ℕ =
+    drop (x.frames.head + length body) x.frames.held in
+    (x.kind, body, left x.frames rest, frame_is x.kind x.frames body rest c.peek.ensures.head c.in-Ok.ensures.body)
 
 pub pass-requires : goal.pass-requires
 pass-requires c =
@@ -48,4 +56,5 @@ returns-clause-bytes c =
     let x = c.args.session.now in
     let n : ℕ = length c.in-Ok.body.now in
     let fits = frame_fits x.frames c.in-Ok.body.now (drop (x.frames.head + n) x.frames.held) c.peek.ensures.head c.in-Ok.ensures.body in
-    omega (arith, ap (λ (s : Stream). length s.held) c.pass.ensures, length-drop (x.frames.head + n) x.frames.held, fits, some_head x.frames.head c.peek.ensures.head)
+    let passed = ap (λ (s : Stream). length s.held) c.pass.ensures in
+    omega (arith, passed, length-drop (x.frames.head + n) x.frames.held, fits, some_head x.frames.head c.peek.ensures.head)

@@ -2,7 +2,8 @@ use Rattle.std.proofs.Common.{rules, ◌≡◌, ◌++◌, ◌∷◌, [], ℕ, �
 use Rattle.std.specs.VecDeque.{deque_len}
 use Rattle.op_serving.specs.State.{Table, find}
 use Rattle.op_serving.specs.Room.{count_at}
-use Rattle.op_queues.proofs.Counted.{count_few, counts_push}
+use Rattle.op_queues.proofs.Frames.{count_few}
+use Rattle.op_queues.proofs.Counted.{counts_push}
 use Rattle.op_queues.proofs.behind.Behind.push.Goals as goal
 
 pub overflow_add-count : goal.overflow_add-count
@@ -16,4 +17,5 @@ invariant_of-self-3 c =
     let t : Table (List ℕ) = c.self.inside.messages.items in
     let now : c.push_back_reserved.new.self.items ≡ t ++ (c.args.conn, c.args.message) ∷ [] = search rules in
     let own : find c.args.conn c.insert.new.self.entries ≡ Some (count_at c.args.conn t + 1) = search rules in
-    counts_push c.self.inside.counts.entries c.insert.new.self.entries t c.args.conn c.self.invariant c.args.message c.push_back_reserved.new.self.items now own c.in_ok-insert.ensures.updates.2
+    counts_push c.self.inside.counts.entries c.insert.new.self.entries t c.args.conn c.self.invariant c.args.message c.push_back_reserved.new.self.items now
+    own c.in_ok-insert.ensures.updates.2

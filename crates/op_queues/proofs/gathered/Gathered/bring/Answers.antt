@@ -12,8 +12,10 @@ invariant_of-self-2 c =
     let old = c.self.inside.messages.items in
     let is : c.push.new.self.items ≡ old ++ (c.args.conn, c.args.message) ∷ [] = c.in_ok-push.ensures.items in
     let count : length c.push.new.self.items ≡ length old + 1 = omega (arith, ap length is, length-append old ((c.args.conn, c.args.message) ∷ [])) in
-    let inputs : length c.push.new.self.items < deque_capacity c.make_room.new.inputs = omega (arith, count, c.in_ok-make_room.ensures.inputs, c.len.ensures, c.self.inside.messages.ok) in
-    let results : length c.push.new.self.items < vec_capacity c.make_room.new.results = omega (arith, count, c.in_ok-make_room.ensures.results, c.len.ensures, c.self.inside.messages.ok) in (
+    let inputs : length c.push.new.self.items < deque_capacity c.make_room.new.inputs =
+    omega (arith, count, c.in_ok-make_room.ensures.inputs, c.len.ensures, c.self.inside.messages.ok) in
+    let results : length c.push.new.self.items < vec_capacity c.make_room.new.results =
+    omega (arith, count, c.in_ok-make_room.ensures.results, c.len.ensures, c.self.inside.messages.ok) in (
       c.make_room.ensures.none.0,
       c.make_room.ensures.none.1,
       omega (arith, inputs),

@@ -3,21 +3,23 @@ use Rattle.std.proofs.lemmas.Fn.{filter_same}
 use Rattle.op_types.specs.declared.messages.Msg.{Msg}
 use Rattle.op_serving.specs.State.{without}
 use Rattle.op_queues.specs.Gathering.{Unread, BroughtInRange}
-use Rattle.op_queues.proofs.Room.{filtered_without}
+use Rattle.op_queues.proofs.Frames.{filtered_without}
 use Rattle.op_queues.proofs.Runs.{all_left}
 use Rattle.op_queues.proofs.Tables.{without_short}
 use Rattle.op_queues.proofs.gathered.Gathered.forget.Goals as goal
 
 kept : (c : goal.After-forget) → c.retain.new.self.items ≡ without c.args.conn c.self.inside.messages.items
 kept c =
-    let same : c.retain.new.self.items ≡ filter (λ (f : ℕ × (ℕ × Msg)). not (f.0 == c.args.conn)) c.self.inside.messages.items = filter_same _ _ _ (λ x b f' k. search rules) _ _ c.retain.ensures.filtered in
+    let same : c.retain.new.self.items ≡ filter (λ (f : ℕ × (ℕ × Msg)). not (f.0 == c.args.conn)) c.self.inside.messages.items =
+    filter_same _ _ _ (λ x b f' k. search rules) _ _ c.retain.ensures.filtered in
     same ∙ filtered_without c.args.conn c.self.inside.messages.items
 
 pub invariant_of-self : goal.invariant_of-self
 invariant_of-self c =
     let i = c.self.invariant in
     let is : c.retain.new.self.items ≡ without c.args.conn c.self.inside.messages.items = kept c in
-    let few : length c.retain.new.self.items ≤ length c.self.inside.messages.items = omega (arith, ap length is, without_short c.args.conn c.self.inside.messages.items) in (
+    let few : length c.retain.new.self.items ≤ length c.self.inside.messages.items =
+    omega (arith, ap length is, without_short c.args.conn c.self.inside.messages.items) in (
       i.0,
       i.1,
       omega (arith, few, i.2),
@@ -30,6 +32,8 @@ invariant_of-self c =
 
 pub returns : goal.returns
 returns c =
-    let same : c.retain.new.self.items ≡ without c.args.conn c.args.self.now.brought = kept c ∙ ap (λ (u : Unread). without c.args.conn u.brought) c.self.view_is in
-    let rest : c.forget.new.self ≡ without c.args.conn c.args.self.now.gathered = c.forget.ensures.is ∙ ap (λ (u : Unread). without c.args.conn u.gathered) c.self.view_is in
+    let same : c.retain.new.self.items ≡ without c.args.conn c.args.self.now.brought =
+    kept c ∙ ap (λ (u : Unread). without c.args.conn u.brought) c.self.view_is in
+    let rest : c.forget.new.self ≡ without c.args.conn c.args.self.now.gathered =
+    c.forget.ensures.is ∙ ap (λ (u : Unread). without c.args.conn u.gathered) c.self.view_is in
     cc

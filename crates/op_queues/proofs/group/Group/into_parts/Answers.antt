@@ -13,7 +13,8 @@ returns-clause-asked c =
     let u : Unread = c.self.inside.gathered in
     let asked : AskWithLast (as_one u.gathered) c.propose-wanted.result =
     subst (λ (g : Table Command). AskWithLast (as_one g) c.propose-wanted.result) c.into_parts-messages.ensures.commands c.propose-wanted.ensures.asked in
-    subst (λ (bs : List Brought). AskWithLast bs c.propose-wanted.result) c.self.view_is (asked_with u.brought (as_one u.gathered) c.propose-wanted.result asked)
+    subst (λ (bs : List Brought). AskWithLast bs c.propose-wanted.result) c.self.view_is
+    (asked_with u.brought (as_one u.gathered) c.propose-wanted.result asked)
 
 pub returns-clause-range : goal.returns-clause-range
 returns-clause-range c =
@@ -24,4 +25,5 @@ returns-clause-range c =
     let all : c.propose-wanted.new.inputs.items ≡ deliveries u.brought ++ map (λ b. b.1) (as_one u.gathered) =
     c.propose-wanted.ensures.items ∙ ap (λ (l : List Input). l ++ map (λ b. b.1) (as_one parts.result.1)) first
     ∙ ap (λ (g : Table Command). deliveries u.brought ++ map (λ b. b.1) (as_one g)) parts.ensures.commands in
-    subst (All InputInRange) (sym all) (inputs_in_range u.brought (map (λ b. b.1) (as_one u.gathered)) parts.ensures.range.0 (one_in_range u.gathered parts.ensures.range.1))
+    subst (All InputInRange) (sym all)
+    (inputs_in_range u.brought (map (λ b. b.1) (as_one u.gathered)) parts.ensures.range.0 (one_in_range u.gathered parts.ensures.range.1))

@@ -1,44 +1,40 @@
-use Rattle.std.proofs.Common.{◌≡◌, ◌<◌, ◌-◌, ◌++◌, ℕ, List, suc, length, take, drop, true, false, ◌==◌, get_or, All, sym, ◌∙◌, ap, subst, arith}
-use Rattle.std.specs.List.{remove}
+use Rattle.std.proofs.Common.{rules, ◌≡◌, ◌<◌, ◌∙◌, ◌==◌, ℕ, List, length, None, Some, All, sym, ap, subst, arith}
+use Rattle.std.proofs.lemmas.List.Edits.{length-remove}
+use Rattle.std.specs.List.{position, position_or_len}
 use Rattle.op_types.specs.declared.log.Command.{Command}
 use Rattle.op_serving.specs.State.{without}
-use Rattle.op_queues.proofs.Runs.{some_one, kept_one, removed_one, there_is, left_is, all_left, at_same, at_another}
-use Rattle.op_queues.proofs.Tables.{without_short}
 use Rattle.op_serving.specs.Ranges.{GatheredInRange}
+use Rattle.op_queues.proofs.Frames.{is_place, no_place}
+use Rattle.op_queues.proofs.Runs.{without_place, all_left}
+use Rattle.op_queues.proofs.Tables.{without_none, without_short}
 use Rattle.op_queues.proofs.run.Run.forget.Goals as goal
+use Rattle.op_queues.proofs.run.Run.forget.Goals.{After-remove}
 
-pub loop-at-preserved-then-is_of : goal.loop-at-preserved-then-is_of
-loop-at-preserved-then-is_of c =
-    let i = c.loop-at.invariant in
-    let old : List (ℕ × Command) = c.args.self.now in
-    let n : ℕ = c.loop-at.at - 1 in
-    let one : c.loop-at.at ≡ suc n = omega (arith, c.loop-at-test.true) in
-    let lt : n < length old = omega (arith, c.loop-at-test.true, i.le) in
-    let d : ℕ × Command = some_one old n lt in
-    let is : c.loop-at.self ≡ take (suc n) old ++ without c.args.conn (drop (suc n) old) = i.is ∙ ap (λ k. take k old ++ without c.args.conn (drop k old)) one in
-    let same : ((get_or old n d).0 == c.args.conn) ≡ true = ap (λ (e : ℕ × Command). e.0 == c.args.conn) (sym (ap (λ l. get_or l n d) is ∙ there_is c.args.conn n old d lt)) ∙ sym (c.is_of.ensures d) ∙ c.if-is_of.true in
-    record {
-      le = omega (arith, lt);
-      is = c.remove.ensures ∙ ap (λ l. remove l n) is ∙ removed_one c.args.conn n old d lt (at_same (get_or old n d).0 c.args.conn same);
-    }
+stands : (c : After-remove)
+    → (position_or_len (λ (e : ℕ × Command). e.0 == c.args.conn) c.commands.self ≡ c.in-Some.at) × (c.in-Some.at < length c.commands.self)
+stands c =
+    let some : position (λ (e : ℕ × Command). e.0 == c.args.conn) c.commands.self ≡ Some c.in-Some.at = search rules in
+    is_place c.args.conn c.commands.self c.in-Some.at some
 
-pub loop-at-preserved : goal.loop-at-preserved
-loop-at-preserved c =
-    let i = c.loop-at.invariant in
-    let old : List (ℕ × Command) = c.args.self.now in
-    let n : ℕ = c.loop-at.at - 1 in
-    let one : c.loop-at.at ≡ suc n = omega (arith, c.loop-at-test.true) in
-    let lt : n < length old = omega (arith, c.loop-at-test.true, i.le) in
-    let d : ℕ × Command = some_one old n lt in
-    let is : c.loop-at.self ≡ take (suc n) old ++ without c.args.conn (drop (suc n) old) = i.is ∙ ap (λ k. take k old ++ without c.args.conn (drop k old)) one in
-    let other : ((get_or old n d).0 == c.args.conn) ≡ false = ap (λ (e : ℕ × Command). e.0 == c.args.conn) (sym (ap (λ l. get_or l n d) is ∙ there_is c.args.conn n old d lt)) ∙ sym (c.is_of.ensures d) ∙ c.if-is_of.false in
-    record {
-      le = omega (arith, lt);
-      is = is ∙ kept_one c.args.conn n old d lt (at_another (get_or old n d).0 c.args.conn other);
-    }
+pub remove-requires : goal.remove-requires
+remove-requires c =
+    let some : position (λ (e : ℕ × Command). e.0 == c.args.conn) c.commands.self ≡ Some c.in-Some.at = search rules in
+    (is_place c.args.conn c.commands.self c.in-Some.at some).1
+
+pub commands-preserved : goal.commands-preserved
+commands-preserved c =
+    ap (without c.args.conn) c.remove.ensures ∙ without_place c.args.conn c.commands.self c.in-Some.at (stands c).0 (stands c).1 ∙ c.commands.invariant
+
+pub commands-smaller : goal.commands-smaller
+commands-smaller c = omega (arith, ap length c.remove.ensures, length-remove c.commands.self c.in-Some.at (stands c).1)
+
+pub returns-clause-is : goal.returns-clause-is
+returns-clause-is c =
+    let none : position (λ (e : ℕ × Command). e.0 == c.args.conn) c.commands.self ≡ None = search rules in
+    sym (without_none c.args.conn c.commands.self (no_place c.args.conn c.commands.self none)) ∙ c.commands.invariant
 
 pub returns-clause-len : goal.returns-clause-len
-returns-clause-len c = omega (arith, ap length (c.loop-at.invariant.is ∙ left_is c.args.conn c.loop-at.at c.args.self.now c.loop-at-test.false), without_short c.args.conn c.args.self.now)
+returns-clause-len c = omega (arith, ap length (returns-clause-is c), without_short c.args.conn c.args.self.now)
 
 pub returns-clause-range : goal.returns-clause-range
-returns-clause-range c all = subst (All GatheredInRange) (sym (c.loop-at.invariant.is ∙ left_is c.args.conn c.loop-at.at c.args.self.now c.loop-at-test.false)) (all_left GatheredInRange c.args.conn c.args.self.now all)
+returns-clause-range c all = subst (All GatheredInRange) (sym (returns-clause-is c)) (all_left GatheredInRange c.args.conn c.args.self.now all)

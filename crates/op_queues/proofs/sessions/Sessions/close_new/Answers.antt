@@ -5,11 +5,12 @@ use Rattle.op_queues.proofs.sessions.Sessions.close_new.Goals as goal
 pub invariant_of-self : goal.invariant_of-self
 invariant_of-self c =
     let i = c.self.invariant in
+    let more = c.push_reserved.ensures in
     let none : c.self.inside.closes.items ≡ [] = ap (λ (s : Loop). s.closes) c.self.view_is ∙ c.requires in (
       i.0,
       i.1,
-      omega (arith, i.3, ap length none, ap length c.push_reserved.ensures.items, c.push_reserved.ensures.len, c.push_reserved.ensures.capacity, c.self.inside.closes.ok, c.push_reserved.new.self.ok),
-      omega (arith, i.3, c.push_reserved.ensures.capacity),
+      omega (arith, i.3, ap length none, ap length more.items, more.len, more.capacity, c.self.inside.closes.ok, c.push_reserved.new.self.ok),
+      omega (arith, i.3, more.capacity),
       i.4,
       i.5,
       i.6,

@@ -1,10 +1,10 @@
-use Rattle.std.proofs.Common.{rules, ◌≡◌, ◌∙◌, ℕ, List, length, true, false, None, Some, Option, refl, sym, ap, subst, arith, inl}
+use Rattle.std.proofs.Common.{rules, ◌≡◌, ◌∙◌, ℕ, List, length, true, false, None, Some, sym, ap, subst, arith}
 use Rattle.op_serving.specs.State.{Loop, find, waits_for}
 use Rattle.op_serving.specs.Losses.{settled, Does}
 use Rattle.op_serving.specs.Room.{has_room, without_first, moved}
-use Rattle.op_queues.proofs.Counting.{most_same}
-use Rattle.op_queues.proofs.Settling.{does_then, does_after, does_nothing}
-use Rattle.op_queues.proofs.Room.{dropped, first_none, first_shorter, blind_moved, moved_more, moved_full, moved_empty}
+use Rattle.op_queues.proofs.Frames.{first_none, first_shorter}
+use Rattle.op_queues.proofs.Settling.{blind, quiet_then, quiet_waits, does_found, does_as, does_then, does_nothing}
+use Rattle.op_queues.proofs.Room.{dropped, quiet_dropped, quiet_moved, moved_more, moved_full, moved_empty}
 use Rattle.op_queues.proofs.sessions.Sessions.move_up.Goals as goal
 
 -- what moves up comes to this
@@ -12,11 +12,12 @@ abbrev Moves : ℕ → Loop → Loop → Type 0
 Moves c s t = Does (λ marks x. settled marks (moved c x)) s t
 
 -- the first frame moved up, and then the others
-moves_on : (c : ℕ) (bytes : List ℕ) (s v u t : Loop) → has_room (find c s.sessions) ≡ true → find c s.behind ≡ Some bytes → v ≡ dropped c s → Does (λ marks x. settled marks (waits_for c bytes x)) v u → Moves c u t → Moves c s t
+moves_on : (c : ℕ) (bytes : List ℕ) (s v u t : Loop) → has_room (find c s.sessions) ≡ true → find c s.behind ≡ Some bytes → v ≡ dropped c s
+    → Does (λ marks x. settled marks (waits_for c bytes x)) v u → Moves c u t → Moves c s t
 moves_on c bytes s v u t room first is one rest =
-    let both : Does (λ marks x. settled marks (moved c (waits_for c bytes x))) (dropped c s) t = subst (λ (x : Loop). Does (λ marks y. settled marks (moved c (waits_for c bytes y))) x t) is (does_then (waits_for c bytes) (moved c) (blind_moved c) one rest) in
-    does_after (λ x. moved c (waits_for c bytes x)) (moved c) {s = s} {u = dropped c s} refl refl (omega arith) (omega (arith, most_same s (dropped c s) refl refl refl refl refl)) (λ d. inl refl)
-    (moved_more c bytes s room first ∙ ap (λ (o : Option (List ℕ)). moved c (Rattle.op_serving.specs.Room.first_moved c o s)) first) both
+    does_as (λ x. moved c (waits_for c bytes (dropped c x))) (moved c) (sym (moved_more c bytes s room first))
+    (does_then (dropped c) (λ x. moved c (waits_for c bytes x)) (blind (quiet_then (quiet_waits c bytes) (quiet_moved c))) (does_found (quiet_dropped c) s v is)
+    (does_then (waits_for c bytes) (moved c) (blind (quiet_moved c)) one rest))
 
 pub returns-in_default : goal.returns-in_default
 returns-in_default c =
@@ -31,7 +32,8 @@ behind-smaller c =
     let first : find c.args.conn s.behind ≡ Some c.in-Some.unsent = search rules in
     let less = first_shorter c.args.conn c.in-Some.unsent s.behind first in
     let fewer = c.put_ahead.ensures.fewer in
-    let rest : length (c.first_behind.new.self).behind ≡ length (without_first c.args.conn s.behind) = ap (λ (x : Loop). length x.behind) c.first_behind.ensures.rest in
+    let rest : length (c.first_behind.new.self).behind ≡ length (without_first c.args.conn s.behind) =
+    ap (λ (x : Loop). length x.behind) c.first_behind.ensures.rest in
     omega (arith, less, fewer, rest)
 
 pub behind-preserved : goal.behind-preserved
@@ -39,7 +41,9 @@ behind-preserved c =
     let s : Loop = c.behind.self in
     let first : find c.args.conn s.behind ≡ Some c.in-Some.unsent = search rules in
     let room : has_room (find c.args.conn s.sessions) ≡ true = search rules in
-    λ t rest. c.behind.invariant t (moves_on c.args.conn c.in-Some.unsent s c.first_behind.new.self c.put_ahead.new.self t room first c.first_behind.ensures.rest c.put_ahead.ensures.does rest)
+    λ t rest. c.behind.invariant t
+    (moves_on c.args.conn c.in-Some.unsent s c.first_behind.new.self c.put_ahead.new.self t room first
+    c.first_behind.ensures.rest c.put_ahead.ensures.does rest)
 
 pub returns : goal.returns
 returns c =

@@ -16,13 +16,16 @@ pub returns-then-not-self-clause-is : goal.returns-then-not-self-clause-is
 returns-then-not-self-clause-is c =
     let thin : c.self.inside.overfull ≡ false = search rules in
     let all : All IsThin (values_of c.self.inside.sessions.entries) = search (rules, thin) in
-    sym (shed_thin c.args.self.now (subst (λ (s : Loop). (n : ℕ) → is_overfull (find n s.sessions) ≡ false) c.self.view_is (λ n. thin_found c.self.inside.sessions.entries all n)))
+    let none : (n : ℕ) → is_overfull (find n c.args.self.now.sessions) ≡ false =
+    subst (λ (s : Loop). (n : ℕ) → is_overfull (find n s.sessions) ≡ false) c.self.view_is (thin_found c.self.inside.sessions.entries all) in
+    sym (shed_thin c.args.self.now none)
 
 pub overfull-smaller : goal.overfull-smaller
 overfull-smaller c =
     let s : Loop = c.overfull.self in
     let over : over_of s ≡ Some c.in-Some.conn = search rules in
-    omega (arith, ended_less s c.in-Some.conn over, ap (λ (x : Loop). length x.sessions) c.leave.ensures, ap (λ (x : Loop). length x.sessions) c.count_input.ensures.counted)
+    let now = ap (λ (x : Loop). length x.sessions) (c.count_input.ensures.counted ∙ ap counted c.leave.ensures) in
+    omega (arith, ended_less s c.in-Some.conn over, now)
 
 pub returns-clause-is : goal.returns-clause-is
 returns-clause-is c =
