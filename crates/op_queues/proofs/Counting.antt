@@ -1,5 +1,5 @@
 -- How many inputs may yet come of what is left by each thing that is done.
-use Rattle.std.proofs.Common.{◌≡◌, ◌≤◌, ◌+◌, ◌∷◌, [], ℕ, true, false, List, length, drop, Option, Some, None, option_map, nat_lt, ◌-◌, refl, ◌∙◌, sym, ap, inl, inr, arith}
+use Rattle.std.proofs.Common.{◌≡◌, ◌≤◌, ◌+◌, ◌∷◌, [], ℕ, true, false, List, length, drop, Option, Some, None, option_map, nat_lt, refl, ◌∙◌, sym, ap, inl, inr, arith}
 use Rattle.std.proofs.lemmas.List.{length-append, length-drop}
 use Rattle.std.proofs.lemmas.List.Sums.{sum_by-cons}
 use Rattle.std.proofs.lemmas.Map.Entries.{sum_by-set_value}

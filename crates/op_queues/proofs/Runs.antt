@@ -1,5 +1,5 @@
 -- Commands and their connections, as two lists: what is left of both without one connection.
-use Rattle.std.proofs.Common.{◌≡◌, ◌<◌, ◌≤◌, ◌++◌, ◌∷◌, [], ℕ, zero, suc, List, length, take, get_or, map, All, ◌==◌, refl, sym, ◌∙◌, ap, arith, is_some, nat_lt, cond, Option, Some, None}
+use Rattle.std.proofs.Common.{◌≡◌, ◌<◌, ◌≤◌, ◌++◌, ◌∷◌, [], ℕ, zero, suc, List, length, take, get_or, map, All, ◌==◌, refl, sym, ◌∙◌, ap, arith, is_some, nat_lt, cond, Some, None}
 use Rattle.std.proofs.lemmas.List.{length-append, length-map}
 use Rattle.std.proofs.lemmas.List.Elements.{All-filter, All-map, All-push}
 use Rattle.std.proofs.lemmas.Slice.Zip.{length-zip}
