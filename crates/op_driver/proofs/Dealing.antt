@@ -1,111 +1,86 @@
 -- What stands at the front of a session is dealt with.
 use Rattle.std.proofs.Common.{◌≡◌, ◌<◌, ◌≤◌, ◌+◌, ◌++◌, ◌∷◌, ◌⊎◌, [], ℕ, zero, suc, add-one, Bool, true, false, List, length, Option, Some, None, is_some, option_map, Result, Ok, Err, nat_lt, if◌then◌else◌, refl, sym, ◌∙◌, ap, subst, inl, inr, arith}
-use Rattle.std.proofs.lemmas.List.{append-nil}
-use Rattle.std.proofs.lemmas.List.Elements.{All-nil}
 use Rattle.std.specs.declared.alloc.AllocError.{AllocError}
 use Rattle.op_types.specs.declared.events.Input.TheVariants as input
 use Rattle.op_queues.specs.declared.front.Front.{Front}
 use Rattle.op_queues.specs.declared.front.Front.TheVariants as found
 use Rattle.op_serving.specs.declared.hearing.Heard.{Heard}
+use Rattle.op_serving.specs.declared.kind.Kind.{Kind}
 use Rattle.op_serving.specs.declared.kind.Kind.TheVariants.{Unknown, Peer}
 use Rattle.op_serving.specs.declared.mark.Mark.{Mark}
-use Rattle.op_serving.specs.declared.mark.Place.{Place}
 use Rattle.op_serving.specs.declared.session.Session.{Session}
 use Rattle.op_serving.specs.Cores.{Standing}
 use Rattle.op_serving.specs.State.{Table, Loop, find, set, changed, changed_at, is_open, is_overfull, most_waiting, down_of, left_at, left_by}
-use Rattle.op_serving.specs.Losses.{most_marks, mark_at, noted, stopped_if, lost_by, settled, IsCalm, IsFrom, Foretells, Grew, Stays}
+use Rattle.op_serving.specs.Losses.{most_marks, mark_at, noted as noted_mark, stopped_if, lost_by, settled, IsCalm, IsFrom, Foretells, Grew, Stays}
 use Rattle.op_serving.specs.Inputs.{Deed, hears, State, Luck, noting, give, over, drained, rest}
-use Rattle.op_serving.specs.Reading.{on_heard, of_kind, holding, links, linked, is_peer, frames_at, at_frame, held_in, feeding, feeds, counted_if, met, dealt_front, dealt_at, dealt, read}
+use Rattle.op_serving.specs.Reading.{on_heard, of_kind, holding, links, linked, is_peer, frames_at, at_frame, held_in, feeding, feeds, counted_if, up_if_open, met, dealt_front, dealt_at, dealt, read}
 use Rattle.op_queues.specs.Hearing.{Alike, TakesOut}
-use Rattle.op_driver.specs.Driver.{Served, Stores, Went, with_deeds, Knows, Acts, FromCalm, Does, Gives, Drained, Loses, IsDrained, Rests}
-use Rattle.op_driver.specs.Dealing.{TakesOn, makes_way, Handles, Next, Ends, Taken, framed, greeted, fronted, Deals, DealsAll}
+use Rattle.op_driver.specs.Driver.{Served, Stores, with_deeds, Acts, Does, FromCalm, Gives, Drained, Loses, IsDrained, Rests}
+use Rattle.op_driver.specs.Dealing.{TakesOn, makes_way, Handles, Next, Ends, CountsTo, Taken, framed, greeted, fronted, Deals, DealsAll}
 use Rattle.op_queues.proofs.Tables.{same_or_not, find_set, find_set_apart, without_set, found_changed}
-use Rattle.op_queues.proofs.Settling.{grew_still, grew_trans, foretold, lost_first}
-use Rattle.op_driver.proofs.Stepping.{untouched, went_then, went_beside, went_none, went_from, went_to}
-use Rattle.op_driver.proofs.Calm.{calm_same, calm_frame}
-use Rattle.op_driver.proofs.Draining.{rest_still, knew, known, split_deeds}
-use Rattle.op_driver.proofs.Handling.{rests_stays, rests_then}
+use Rattle.op_queues.proofs.Settling.{grew_still, lost_first}
+use Rattle.op_driver.proofs.Calm.{grew_on, calm_same, calm_frame}
+use Rattle.op_driver.proofs.Stepping.{Any, Chance, Run, run_then, run_as, run_any, at_once, noted}
+use Rattle.op_driver.proofs.Draining.{does_run, gives_run, drained_run, run_acts, rest_still}
+use Rattle.op_driver.proofs.Handling.{rests_stays, rests_then, loses_run}
 
--- ---- a frame
+-- ---- what was found was dealt with
 
-from_frame : (p : Place) (n : ℕ) (x : Mark) → p.frames ≤ n → IsFrom (record p { frames = n }) x → IsFrom p x
-from_frame p n x le (inl h) = inl h
-from_frame p n x le (inr h) = inr (
-  h.0,
-  elim h.1 [
-    | inl g ↦ inl g
-    | inr g ↦ inr (g.0, g.1, omega (arith, le, g.2))
-  ],
-)
+module _ {K : Type 0} {stores : Stores K} {f : Luck → Next → State → State} {c n : ℕ} where
+  taken_some : {k : ℕ} {d e : Served K} → Run stores IsCalm Any (λ l s t. (more : Next) → f l more s ≡ more k (rest l t)) d e → Rests d.loop e.loop → CountsTo n (Some k) e → Taken stores f c n (Some k) d e
+  taken_some r rests counts = record { deeds = r.deeds; grew = r.grew; went = r.went; rests = rests; counts = counts; is = (λ marks f. r.sure marks f tt, λ l before more k. r.is l before k tt more) }
 
-grew_frame : (n : ℕ) (s : Loop) → s.place.frames ≤ n → Grew s (frames_at n s)
-grew_frame n s le = record { added = []; lost = sym (append-nil s.lost); from = All-nil (IsFrom s.place); place = λ x h. from_frame s.place n x le h; counts = omega arith }
-
-module _ {K : Type 0} {stores : Stores K} where
-  -- it was dealt with, and its session is still there: it is counted, and what is overfull then ends
-  pub frame_counts : (line : Standing → List ℕ) (c n : ℕ) (heard : Heard) (d m u e : Served K) → Handles stores line c heard d m → d.loop.place.frames ≡ n → is_open c m.loop ≡ true → u ≡ record m { loop = frames_at (n + 1) m.loop }
-      → Drained stores u e → Stays u.loop e.loop → IsDrained e.loop → Taken stores (framed line c heard n) c n (Some (n + 1)) d e
-  frame_counts line c n heard d m u e h at there is b stays none =
-      let frames : m.loop.place.frames ≡ n = h.stays.frames ∙ at in
-      let grew_m : Grew m.loop u.loop = subst (λ (x : Served K). Grew m.loop x.loop) (sym is) (grew_frame (n + 1) m.loop (omega (arith, frames))) in
-      let calm_m : (marks : List Mark) → Foretells marks u.loop → IsCalm marks m.loop = λ marks f. calm_frame marks (n + 1) m.loop (omega (arith, frames)) (subst (λ (x : Served K). Foretells marks x.loop) is f) in
-      record {
-        deeds = h.does.acts.deeds ++ b.deeds;
-        grew = grew_trans h.does.acts.grew (grew_trans grew_m b.grew);
-        went = went_then (went_to h.does.acts.went (untouched is)) b.went;
-        rests = record {
-          turn = stays.turn ∙ ap (λ (x : Served K). x.loop.place.turn) is ∙ h.stays.turn;
-          at = stays.at ∙ ap (λ (x : Served K). x.loop.place.at) is ∙ h.stays.at;
-          none = none;
-        };
-        counts = (stays.frames ∙ ap (λ (x : Served K). x.loop.place.frames) is, omega arith);
-        is = (
-          λ marks f. let f_u : Foretells marks u.loop = foretold b.grew f in h.does.calm marks (foretold grew_m f_u) (calm_m marks f_u),
-          λ l before more k.
-              let all : List Deed = before ++ h.does.acts.deeds in
-              let k2 : Knows l (with_deeds (all ++ b.deeds) e) = known e before h.does.acts.deeds b.deeds k in
-              let k_u : Knows l (with_deeds all u) = knew u e all b.deeds b.grew k2 in
-              let k_m : Knows l (with_deeds all m) = record { marks = foretold grew_m k_u.marks; rest = k_u.rest; fates = k_u.fates } in
-              ap (counted_if l line c more n) (h.does.acts.is l before k_m (calm_m l.marks k_u.marks))
-              ∙ ap (λ o. if o then more (n + 1) (rest l (at_frame (n + 1) (with_deeds all m))) else with_deeds all m) there
-              ∙ ap (λ (x : Served K). more (n + 1) (rest l (with_deeds all x))) (sym is)
-              ∙ ap (more (n + 1)) (b.is l all k2 ∙ ap (λ x. rest l (with_deeds x e)) (sym (split_deeds before h.does.acts.deeds b.deeds))),
-        );
-      }
-
-  -- it ended the session
-  pub frame_ends : (line : Standing → List ℕ) (c n : ℕ) (heard : Heard) (d e : Served K) → Handles stores line c heard d e → is_open c e.loop ≡ false → Taken stores (framed line c heard n) c n None d e
-  frame_ends line c n heard d e h closed = record {
-    deeds = h.does.acts.deeds;
-    grew = h.does.acts.grew;
-    went = h.does.acts.went;
-    rests = rests_stays h.stays (h.none.0, h.none.1 closed);
-    counts = tt;
-    is = inr (
-      h.does.calm,
-      λ l before more k calm_e.
-          let all : List Deed = before ++ h.does.acts.deeds in
-          ap (counted_if l line c more n) (h.does.acts.is l before k calm_e) ∙ ap (λ b. if b then more (n + 1) (rest l (at_frame (n + 1) (with_deeds all e))) else with_deeds all e) closed,
-    );
-  }
+  -- it was the last
+  pub taken_none : {d e : Served K} → Run stores IsCalm IsCalm (λ l s t. (more : Next) → f l more s ≡ t) d e → Rests d.loop e.loop → Taken stores f c n None d e
+  taken_none r rests = record { deeds = r.deeds; grew = r.grew; went = r.went; rests = rests; counts = tt; is = inr (r.sure, λ l before more k end. r.is l before k end more) }
 
   -- its session was lost
-  pub taken_lost : (f : Luck → Next → State → State) (c n : ℕ) (d e : Served K) → Loses stores c d e → Taken stores f c n None d e
-  taken_lost f c n d e h = record { deeds = h.deeds; grew = h.grew; went = h.went; rests = rests_stays h.stays h.none; counts = tt; is = inl h }
+  pub taken_lost : {d e : Served K} → Loses stores c d e → Taken stores f c n None d e
+  taken_lost h = record { deeds = h.deeds; grew = h.grew; went = h.went; rests = rests_stays h.stays h.none; counts = tt; is = inl h }
 
-module _ {K : Type 0} where
-  -- ---- what stood at the front
+module _ {K : Type 0} {stores : Stores K} {c n : ℕ} where
+  -- it was refused
+  pub taken_over : {d e : Served K} → Does stores (λ l s. over l c s) d e → Rests d.loop e.loop → Taken stores (λ l more s. over l c s) c n None d e
+  taken_over a rests = taken_none (run_as (λ l s t. (more : Next) → over l c s ≡ t) (does_run a) (λ l before zs k end x more. x)) rests
 
-  -- only what a session has read was taken, or whose it is
-  pub record Same (c : ℕ) (v m : Served K) : Type 0 where
-    pub before : Session
-    pub now : Session
-    pub found : find c v.loop.sessions ≡ Some before
-    pub alike : Alike before now
-    pub is : m ≡ record v { loop = record v.loop { sessions = set c now v.loop.sessions } }
+module _ {K : Type 0} {stores : Stores K} {line : Standing → List ℕ} {c n : ℕ} {heard : Heard} where
+  -- a frame was dealt with, and its session is still there: it is counted, and what is overfull then ends
+  pub frame_counts : {d m u e : Served K} → Handles stores line c heard d m → d.loop.place.frames ≡ n → is_open c m.loop ≡ true → u ≡ record m { loop = frames_at (n + 1) m.loop }
+      → Drained stores u e → Stays u.loop e.loop → IsDrained e.loop → Taken stores (framed line c heard n) c n (Some (n + 1)) d e
+  frame_counts {d} {m} {u} {e} h at there is b stays none =
+      let s : Loop = frames_at (n + 1) m.loop in
+      let frames : m.loop.place.frames ≡ n = h.stays.frames ∙ at in
+      let up : m.loop.place.frames < n + 1 = omega (arith, frames) in
+      let grew : Grew m.loop s = grew_on m.loop s refl (inr (refl, inr (refl, omega arith, omega (arith, up)))) (omega arith) in
+      let behind = run_then (λ l v t. rest l (at_frame (n + 1) v) ≡ rest l t) (at_once IsCalm Any (at_frame (n + 1)) {d = m} is grew (λ marks f h. calm_frame marks (n + 1) m.loop up f) (λ before. refl)) (drained_run b)
+      (λ l before xs zs k mid end x y. ap (rest l) x ∙ y) in
+      let still : Stays s e.loop = subst (λ (x : Served K). Stays x.loop e.loop) is stays in
+      taken_some (run_then (λ l v t. (more : Next) → framed line c heard n l more v ≡ more (n + 1) (rest l t)) (does_run h.does) behind (λ l before xs zs k mid end x y more.
+      ap (counted_if l line c more n) x ∙ ap (λ o. if o then more (n + 1) (rest l (at_frame (n + 1) (with_deeds xs m))) else with_deeds xs m) there ∙ ap (more (n + 1)) y))
+      (record { turn = still.turn ∙ h.stays.turn; at = still.at ∙ h.stays.at; none = none }) (still.frames, omega arith)
 
-abbrev with_session : ℕ → Session → Loop → Loop
-with_session c y s = record s { sessions = set c y s.sessions }
+-- ---- a hello
+
+module _ {K : Type 0} {stores : Stores K} (line : Standing → List ℕ) (c n q : ℕ) {d m : Served K} (peer : is_peer q d.loop ≡ true) (a : Does stores (λ l s. makes_way l c q s) d m) (stays : Stays d.loop m.loop) where
+  greets : (l : Luck) (more : Next) (s t : State) → s.loop ≡ d.loop → makes_way l c q s ≡ t → greeted line c q n l more s ≡ up_if_open l line c more n q t
+  greets l more s t is x = ap (λ b. if b then met l line c more n q s else over l c s) (ap (is_peer q) is ∙ peer) ∙ ap (up_if_open l line c more n q) x
+
+  pub greet_closed : IsDrained m.loop → is_open c m.loop ≡ false → Taken stores (greeted line c q n) c n None d m
+  greet_closed none closed = taken_none (run_as (λ l s t. (more : Next) → greeted line c q n l more s ≡ t) (does_run a) (λ l before zs k end x more.
+      greets l more (with_deeds before d) (with_deeds zs m) refl x ∙ ap (λ b. if b then more n (give l [] (input.Up q) (linked q c (with_deeds zs m))) else with_deeds zs m) closed)) (rests_stays stays none)
+
+  pub greet_goes : {u e : Served K} → d.loop.place.frames ≡ n → is_open c m.loop ≡ true → u ≡ record m { loop = links q c m.loop } → Gives stores (λ l s. give l [] (input.Up q) s) u e → Taken stores (greeted line c q n) c n (Some n) d e
+  greet_goes {u} {e} at there is g =
+      let s : Loop = links q c m.loop in
+      let opens : (x : ℕ) → is_open x s ≡ is_open x m.loop = λ x. found_changed (λ (z : Session). record z { kind = Peer q 0 }) c x m.loop.sessions in
+      let behind = run_then (λ l v t. give l [] (input.Up q) (linked q c v) ≡ rest l t) (at_once IsCalm IsCalm (linked q c) {d = m} is (grew_still refl refl) (λ marks f h. calm_same marks m.loop s refl refl opens h) (λ before. refl)) (gives_run g)
+      (λ l before xs zs k mid end x y. ap (give l [] (input.Up q)) x ∙ y) in
+      let still : Stays s e.loop = subst (λ (x : Served K). Stays x.loop e.loop) is g.stays in
+      taken_some (run_then (λ l v t. (more : Next) → greeted line c q n l more v ≡ more n (rest l t)) (does_run a) behind (λ l before xs zs k mid end x y more.
+      greets l more (with_deeds before d) (with_deeds xs m) refl x ∙ ap (λ b. if b then more n (give l [] (input.Up q) (linked q c (with_deeds xs m))) else with_deeds xs m) there ∙ ap (more n) y))
+      (record { turn = still.turn ∙ stays.turn; at = still.at ∙ stays.at; none = g.none }) (still.frames ∙ stays.frames ∙ at, omega arith)
+
+-- ---- what a session has read, and whose it is, matters to no loss
 
 -- as much waits as before
 over_set : (c n : ℕ) (x y : Session) (t : Table Session) → find c t ≡ Some x → is_overfull (Some y) ≡ is_overfull (Some x) → is_overfull (find n (set c y t)) ≡ is_overfull (find n t)
@@ -114,13 +89,8 @@ over_set c n x y t e same = elim (same_or_not c n) [
   | inr apart ↦ ap is_overfull (find_set_apart c n y t apart)
 ]
 
-opens_set : (c n : ℕ) (x y : Session) (t : Table Session) → find c t ≡ Some x → is_some (find n (set c y t)) ≡ is_some (find n t)
-opens_set c n x y t e = ap (λ o. is_some (find n (changed_at (λ _. y) c o t))) (sym e) ∙ found_changed (λ _. y) c n t
-
-module _ {K : Type 0} where
-  calm_before_take : (c : ℕ) (v m : Served K) → Same c v m → (marks : List Mark) → IsCalm marks m.loop → IsCalm marks v.loop
-  calm_before_take c v m h marks calm_m =
-      calm_same marks v.loop m.loop (ap (λ (x : Served K). x.loop.lost) h.is) (ap (λ (x : Served K). x.loop.place) h.is) (λ n. ap (λ (x : Served K). is_open n x.loop) h.is ∙ opens_set c n h.before h.now v.loop.sessions h.found) calm_m
+abbrev with_session : ℕ → Session → Loop → Loop
+with_session c y s = record s { sessions = set c y s.sessions }
 
 left_alike : (c : ℕ) (x y : Session) (s : Loop) → find c s.sessions ≡ Some x → Alike x y → left_by c (with_session c y s) ≡ left_by c s
 left_alike c x y s e a =
@@ -129,375 +99,193 @@ left_alike c x y s e a =
     ∙ ap (λ t. record (left_at c (Some x.kind) s) { downs = s.downs ++ t }) a.down
     ∙ sym (ap (λ o. left_at c (option_map (λ (z : Session). z.kind) o) s) e)
 
-lost_alike_if : (c : ℕ) (b : Bool) (x y : Session) (s : Loop) → find c s.sessions ≡ Some x → Alike x y → left_by c (stopped_if b (with_session c y s)) ≡ left_by c (stopped_if b s)
-lost_alike_if c true x y s e a = left_alike c x y s e a
-lost_alike_if c false x y s e a = refl
-
 lost_alike : (c : ℕ) (x y : Session) (s : Loop) → find c s.sessions ≡ Some x → Alike x y → lost_by c (with_session c y s) ≡ lost_by c s
-lost_alike c x y s e a = lost_alike_if c (nat_lt (length s.lost + 1) most_marks) x y (noted (mark_at s.place (Some c)) s) e a
+lost_alike c x y s e a = by_marks (nat_lt (length s.lost + 1) most_marks)
+  where
+    by_marks : (b : Bool) → left_by c (stopped_if b (noted_mark (mark_at s.place (Some c)) (with_session c y s))) ≡ left_by c (stopped_if b (noted_mark (mark_at s.place (Some c)) s))
+    by_marks true = left_alike c x y (noted_mark (mark_at s.place (Some c)) s) e a
+    by_marks false = refl
 
-module _ {K : Type 0} {stores : Stores K} where
-  -- a session that is lost then is as good as lost before
-  rest_lost : (c : ℕ) (v m e : Served K) → lost_by c m.loop ≡ lost_by c v.loop → is_open c v.loop ≡ true → length v.loop.lost < most_marks → m.node ≡ v.node → Loses stores c m e → (l : Luck) (before : List Deed) → Foretells l.marks e.loop
-      → rest l (with_deeds before v) ≡ rest l (with_deeds before m)
+-- a table that is as good to a loss of this session
+record Same (c : ℕ) (s : Loop) (t : Table Session) : Type 0 where
+  opens : (n : ℕ) → is_some (find n t) ≡ is_some (find n s.sessions)
+  over : (n : ℕ) → is_overfull (find n t) ≡ is_overfull (find n s.sessions)
+  lost : lost_by c (record s { sessions = t }) ≡ lost_by c s
+
+same_set : (c : ℕ) (x y : Session) (s : Loop) → find c s.sessions ≡ Some x → Alike x y → Same c s (set c y s.sessions)
+same_set c x y s e a = record {
+  opens = λ n. ap (λ o. is_some (find n (changed_at (λ _. y) c o s.sessions))) (sym e) ∙ found_changed (λ _. y) c n s.sessions;
+  over = λ n. over_set c n x y s.sessions e (ap (λ q. nat_lt most_waiting (length q)) a.queue);
+  lost = lost_alike c x y s e a;
+}
+
+same_taken : (c : ℕ) (s : Loop) (r : Result Front AllocError) (t : Table Session) (o : Option Session) → find c s.sessions ≡ o → TakesOut c s.me o s.sessions r t → Same c s t
+same_taken c s r t None look takes = subst (λ u. Same c s u) (sym takes.1) (record { opens = λ n. refl; over = λ n. refl; lost = refl })
+same_taken c s r t (Some x) look takes = subst (λ u. Same c s u) (sym takes.3) (same_set c x takes.0 s look takes.2)
+
+same_fed : (c : ℕ) (bytes : List ℕ) (s : Loop) (o : Option Session) → find c s.sessions ≡ o → Same c s (changed_at (feeding bytes) c o s.sessions)
+same_fed c bytes s None e = record { opens = λ n. refl; over = λ n. refl; lost = refl }
+same_fed c bytes s (Some x) e = same_set c x (feeding bytes x) s e (record { queue = refl; down = refl })
+
+pub drained_fed : (c : ℕ) (bytes : List ℕ) (s : Loop) → IsDrained s → IsDrained (feeds c bytes s)
+drained_fed c bytes s none = (none.0, λ n. (same_fed c bytes s (find c s.sessions) refl).over n ∙ none.1 n)
+
+module _ {K : Type 0} {stores : Stores K} {c : ℕ} {m e : Served K} (a : Loses stores c m e) where
+  -- where a session is lost, one as good as it is lost
+  lost_rest : (s : Loop) → lost_by c m.loop ≡ lost_by c s → is_open c m.loop ≡ is_open c s → m.loop.lost ≡ s.lost → (l : Luck) (n : Standing) (ds : List Deed) → Foretells l.marks e.loop
+      → rest l (record { loop = s; node = n; deeds = ds }) ≡ rest l (record { loop = m.loop; node = n; deeds = ds })
   unfolding rest
-  rest_lost c v m e same there few node a l before f =
+  lost_rest s same opens lost l n ds f =
       let f_m : Foretells l.marks (lost_by c m.loop) = a.marked l.marks f in
-      let f_v : Foretells l.marks (lost_by c v.loop) = subst (λ (x : Loop). Foretells l.marks x) same f_m in
-      let settle_v : settled l.marks v.loop ≡ settled l.marks m.loop = lost_first c v.loop l.marks there few f_v ∙ ap (settled l.marks) (sym same) ∙ sym (lost_first c m.loop l.marks a.there a.few f_m) in
-      ap (λ (x : Loop). drained l (record { loop = x; node = v.node; deeds = before })) settle_v ∙ ap (λ n. drained l (record { loop = settled l.marks m.loop; node = n; deeds = before })) (sym node)
+      let first : settled l.marks s ≡ settled l.marks (lost_by c s) = lost_first c s l.marks (sym opens ∙ a.there) (subst (λ x. length x < most_marks) lost a.few) (subst (λ (x : Loop). Foretells l.marks x) same f_m) in
+      ap (λ (x : Loop). drained l (record { loop = x; node = n; deeds = ds })) (first ∙ ap (settled l.marks) (sym same) ∙ sym (lost_first c m.loop l.marks a.there a.few f_m))
 
-  rest_alike : (c : ℕ) (v m e : Served K) → Same c v m → Loses stores c m e → (l : Luck) (before : List Deed) → Foretells l.marks e.loop → rest l (with_deeds before v) ≡ rest l (with_deeds before m)
-  rest_alike c v m e h a l before f =
-      rest_lost c v m e (ap (λ (x : Served K). lost_by c x.loop) h.is ∙ lost_alike c h.before h.now v.loop h.found h.alike) (ap is_some h.found) (subst (λ (x : Served K). length x.loop.lost < most_marks) h.is a.few) (ap (λ (x : Served K). x.node) h.is) a l before f
+-- ---- what stood at the front
 
-module _ {K : Type 0} where
-  -- what is overfull is so after it
-  drained_take : (c : ℕ) (v m : Served K) → Same c v m → IsDrained v.loop → IsDrained m.loop
-  drained_take c v m h none = (ap (λ (x : Served K). x.loop.downs) h.is ∙ none.0, λ n. ap (λ (x : Served K). is_overfull (find n x.loop.sessions)) h.is ∙ over_set c n h.before h.now v.loop.sessions h.found (ap (λ q. nat_lt most_waiting (length q)) h.alike.queue) ∙ none.1 n)
+-- what is done with what was found
+abbrev found_goes : (Standing → List ℕ) → ℕ → ℕ → Front → Luck → Next → State → State
+found_goes line c n found.Waits l more s = s
+found_goes line c n found.Refused l more s = over l c s
+found_goes line c n (found.Hello q) l more s = greeted line c q n l more s
+found_goes line c n (found.Frame heard) l more s = framed line c heard n l more s
 
-  grew_take : (c : ℕ) {v m : Served K} → Same c v m → Grew v.loop m.loop
-  grew_take c {v} {m} h = grew_still (ap (λ (x : Served K). x.loop.lost) h.is) (ap (λ (x : Served K). x.loop.place) h.is)
+module _ (line : Standing → List ℕ) (c n : ℕ) (l : Luck) (more : Next) (s : State) where
+  abbrev with_table : Table Session → State
+  with_table t = record s { loop = record s.loop { sessions = t } }
 
-  -- what is done with what stands at the front of v is this of m
-  abbrev pub Fronts : (Standing → List ℕ) → ℕ → ℕ → (Luck → Next → State → State) → Served K → Served K → Type 0
-  Fronts line c n f v m = (l : Luck) (before : List Deed) (more : Next) → dealt_at l line c more n (find c v.loop.sessions) (with_deeds before v) ≡ f l more (with_deeds before m)
+  set_is : (kind : Kind) (x y : Session) (t : Table Session) → find c s.loop.sessions ≡ Some x → (g : Session → Session) → y ≡ g x → t ≡ set c y s.loop.sessions → changed g c s.loop.sessions ≡ t
+  set_is kind x y t look g y_is t_is = ap (λ o. changed_at g c o s.loop.sessions) look ∙ ap (λ z. set c z s.loop.sessions) (sym y_is) ∙ sym t_is
 
-  rested : (line : Standing → List ℕ) (c n : ℕ) (f : Luck → Next → State → State) {v m : Served K} → Same c v m → IsDrained v.loop → (l : Luck) (before : List Deed) (more : Next) → Fronts line c n f v m → IsCalm l.marks m.loop
-      → fronted line c n l more (with_deeds before v) ≡ f l more (with_deeds before m)
-  rested line c n f {v} {m} h none_v l before more front calm_m =
-      ap (λ t. dealt_at l line c more n (find c t.loop.sessions) t) (rest_still l (with_deeds before v) (calm_before_take c v m h l.marks calm_m) none_v) ∙ front l before more
-
-  rests_of : (c : ℕ) {v m : Served K} (t : Loop) → Same c v m → Rests m.loop t → Rests v.loop t
-  rests_of c t h a = record {
-    turn = a.turn ∙ ap (λ (x : Served K). x.loop.place.turn) h.is;
-    at = a.at ∙ ap (λ (x : Served K). x.loop.place.at) h.is;
-    none = a.none;
-  }
-
-module _ {K : Type 0} {stores : Stores K} where
-  module _ (line : Standing → List ℕ) (c n : ℕ) (f : Luck → Next → State → State) (v m e : Served K) (h : Same c v m) (none_v : IsDrained v.loop) where
-    deals_lost : Loses stores c m e → Deals stores line c n None v e
-    deals_lost a = record {
-      deeds = a.deeds;
-      grew = grew_trans (grew_take c h) a.grew;
-      went = went_from (untouched h.is) a.went;
-      rests = rests_of c e.loop h (rests_stays a.stays a.none);
-      counts = tt;
-      is = λ l before more known calm_e.
-          let first : rest l (with_deeds before v) ≡ rest l (with_deeds before m) = rest_alike c v m e h a l before known.marks in
-          let closed : find c (rest l (with_deeds before v)).loop.sessions ≡ None = ap (λ (t : State). find c t.loop.sessions) first ∙ a.closed l before known in
-          ap (λ o. dealt_at l line c more n o (rest l (with_deeds before v))) closed ∙ first ∙ a.is l before known ∙ rest_still l (with_deeds (before ++ a.deeds) e) calm_e a.none;
-    }
-
-    deals_end : (deeds : List Deed) → Grew m.loop e.loop → Went stores m deeds e → Rests m.loop e.loop → Fronts line c n f v m → FromCalm m e → Ends f m e deeds → Deals stores line c n None v e
-    deals_end deeds g went rests front calm_m is = record {
-      deeds = deeds;
-      grew = grew_trans (grew_take c h) g;
-      went = went_from (untouched h.is) went;
-      rests = rests_of c e.loop h rests;
-      counts = tt;
-      is = λ l before more known calm_e. rested line c n f h none_v l before more front (calm_m l.marks known.marks calm_e) ∙ is l before more known calm_e;
-    }
-
-    deals_none : (t : Taken stores f c n None m e) → Fronts line c n f v m → Loses stores c m e ⊎ (FromCalm m e × Ends f m e t.deeds) → Deals stores line c n None v e
-    deals_none t front (inl a) = deals_lost a
-    deals_none t front (inr a) = deals_end t.deeds t.grew t.went t.rests front a.0 a.1
-
-    -- what was found was dealt with
-    pub deals : (r : Option ℕ) → Fronts line c n f v m → Taken stores f c n r m e → Deals stores line c n r v e
-    deals None front t = deals_none t front t.is
-    deals (Some k) front t = record {
-      deeds = t.deeds;
-      grew = grew_trans (grew_take c h) t.grew;
-      went = went_from (untouched h.is) t.went;
-      rests = rests_of c e.loop h t.rests;
-      counts = t.counts;
-      is = λ l before more known. rested line c n f h none_v l before more front (t.is.0 l.marks known.marks) ∙ t.is.1 l before more known;
-    }
-
-    pub deals_when_lost : Loses stores c m e → Deals stores line c n None v e
-    deals_when_lost a = deals_lost a
-    -- ---- what was found
-
-changed_found : (c : ℕ) (g : Session → Session) (x : Session) (t : Table Session) → find c t ≡ Some x → changed g c t ≡ set c (g x) t
-changed_found c g x t e = ap (λ o. changed_at g c o t) e
-
-module _ {K : Type 0} {stores : Stores K} where
-  -- it waits for more
-  waits_at : (line : Standing → List ℕ) (c n : ℕ) (v e : Served K) (o : Option Session) → find c v.loop.sessions ≡ o → TakesOut c v.loop.me o v.loop.sessions (Ok found.Waits) e.loop.sessions → e ≡ record v { loop = record v.loop { sessions = e.loop.sessions } }
-      → IsDrained v.loop → Deals stores line c n None v e
-  waits_at line c n v e None look takes is none_v =
-      let same : e ≡ v = is ∙ ap (λ t. record v { loop = record v.loop { sessions = t } }) takes.1 in
-      subst (λ (x : Served K). Deals stores line c n None v x) (sym same) (record {
-        deeds = [];
-        grew = grew_still refl refl;
-        went = went_none;
-        rests = record { turn = refl; at = refl; none = none_v };
-        counts = tt;
-        is = λ l before more known calm_v.
-            ap (λ t. dealt_at l line c more n (find c t.loop.sessions) t) (rest_still l (with_deeds before v) calm_v none_v) ∙ ap (λ w. dealt_at l line c more n w (with_deeds before v)) look ∙ ap (λ b. with_deeds b v) (sym (append-nil before));
-      })
-  waits_at line c n v e (Some x) look takes is none_v =
-      let y : Session = takes.0 in
+  front_is : (f : Front) (t : Table Session) (o : Option Session) → find c s.loop.sessions ≡ o → TakesOut c s.loop.me o s.loop.sessions (Ok f) t → dealt_at l line c more n o s ≡ found_goes line c n f l more (with_table t)
+  front_is found.Waits t None look takes = ap with_table (sym takes.1)
+  front_is f t None look takes = absurd (let k = takes.0 in cc)
+  front_is found.Waits t (Some x) look takes =
+      let k = takes.1 in ap (λ w. dealt_front l line c more n w s) k.2 ∙ ap with_table (set_is k.0 x takes.0 t look (of_kind k.0 k.1) k.3 takes.3)
+  front_is found.Refused t (Some x) look takes =
+      let k = takes.1 in ap (λ w. dealt_front l line c more n w s) k.2 ∙ ap (λ u. over l c (with_table u)) (set_is k.0 x takes.0 t look (of_kind k.0 k.1) k.3 takes.3)
+  front_is (found.Hello q) t (Some x) look takes =
+      let k = takes.1 in ap (λ w. dealt_front l line c more n w s) k.1 ∙ ap (λ u. greeted line c q n l more (with_table u)) (set_is Unknown x takes.0 t look (of_kind Unknown k.0) k.2 takes.3)
+  front_is (found.Frame heard) t (Some x) look takes =
       let k = takes.1 in
-      let h : Same c v e = record { before = x; now = y; found = look; alike = takes.2; is = is ∙ ap (λ t. record v { loop = record v.loop { sessions = t } }) takes.3 } in
-      let front : Fronts line c n (λ l more s. s) v e = λ l before more.
-      ap (λ o. dealt_at l line c more n o (with_deeds before v)) look
-      ∙ ap (λ w. dealt_front l line c more n w (with_deeds before v)) k.2
-      ∙ ap (λ t. record (with_deeds before v) { loop = record v.loop { sessions = t } }) (changed_found c (of_kind k.0 k.1) x v.loop.sessions look ∙ ap (λ z. set c z v.loop.sessions) (sym k.3))
-      ∙ ap (with_deeds before) (sym h.is) in
-      deals line c n (λ l more s. s) v e e h none_v None front (record {
-        deeds = [];
-        grew = grew_still refl refl;
-        went = went_none;
-        rests = record { turn = refl; at = refl; none = drained_take c v e h none_v };
-        counts = tt;
-        is = inr (λ marks f calm_e. calm_e, λ l before more known calm_e. ap (λ b. with_deeds b e) (sym (append-nil before)));
-      })
+      ap (λ w. dealt_front l line c more n w s) k.3
+      ∙ ap (λ w. counted_if l line c more n (on_heard l line c w (holding c k.0 k.2 s))) (sym k.5)
+      ∙ ap (λ u. framed line c heard n l more (with_table u)) (set_is k.0 x takes.0 t look (of_kind k.0 k.2) k.4 takes.3)
 
-module _ {K : Type 0} where
-  whole_of : (c : ℕ) (v e : Served K) (r : Result Front AllocError) → TakesOn c v r e → e ≡ record v { loop = record v.loop { sessions = e.loop.sessions } }
-  whole_of c v e r t = ap (λ (x : Loop). record e { loop = x }) t.takes.rest ∙ ap (λ n. record e { loop = record v.loop { sessions = e.loop.sessions }; node = n }) t.node ∙ ap (λ (k : K). record v { loop = record v.loop { sessions = e.loop.sessions }; core = k }) t.core
+module _ {K : Type 0} {c : ℕ} {r : Result Front AllocError} {v m : Served K} (t : TakesOn c v r m) where
+  same_of : Same c v.loop m.loop.sessions
+  same_of = same_taken c v.loop r m.loop.sessions (find c v.loop.sessions) refl t.takes.takes
 
-over_out : (c n me : ℕ) (r : Result Front AllocError) (s t : Table Session) (o : Option Session) → find c s ≡ o → TakesOut c me o s r t → is_overfull (find n t) ≡ is_overfull (find n s)
-over_out c n me r s t None look takes = ap (λ u. is_overfull (find n u)) takes.1
-over_out c n me r s t (Some x) look takes = ap (λ u. is_overfull (find n u)) takes.3 ∙ over_set c n x takes.0 s look (ap (λ q. nat_lt most_waiting (length q)) takes.2.queue)
+  whole_of : m ≡ record v { loop = record v.loop { sessions = m.loop.sessions } }
+  whole_of =
+      ap (λ (x : Loop). record m { loop = x }) t.takes.rest
+      ∙ ap (λ n. record m { loop = record v.loop { sessions = m.loop.sessions }; node = n }) t.node
+      ∙ ap (λ (k : K). record v { loop = record v.loop { sessions = m.loop.sessions }; core = k }) t.core
 
-module _ {K : Type 0} where
   -- nor does it make any overfull
-  pub drained_taken : (c : ℕ) (r : Result Front AllocError) (v m : Served K) → TakesOn c v r m → IsDrained v.loop → IsDrained m.loop
-  drained_taken c r v m t none = (ap (λ (s : Loop). s.downs) t.takes.rest ∙ none.0, λ n. over_out c n v.loop.me r v.loop.sessions m.loop.sessions (find c v.loop.sessions) refl t.takes.takes ∙ none.1 n)
+  pub drained_taken : IsDrained v.loop → IsDrained m.loop
+  drained_taken none = (ap (λ (s : Loop). s.downs) t.takes.rest ∙ none.0, λ n. same_of.over n ∙ none.1 n)
 
-module _ {K : Type 0} {stores : Stores K} where
-  pub deals_waits : (line : Standing → List ℕ) (c n : ℕ) (v e : Served K) → TakesOn c v (Ok found.Waits) e → IsDrained v.loop → Deals stores line c n None v e
-  deals_waits line c n v e t none_v = waits_at line c n v e (find c v.loop.sessions) refl t.takes.takes (whole_of c v e (Ok found.Waits) t) none_v
+  -- whose session is there
+  pub open_taken : (r ≡ Ok found.Waits → ⊥) → is_open c m.loop ≡ true
+  open_taken other = by_session (find c v.loop.sessions) refl t.takes.takes
+    where
+      by_session : (o : Option Session) → find c v.loop.sessions ≡ o → TakesOut c v.loop.me o v.loop.sessions r m.loop.sessions → is_some (find c m.loop.sessions) ≡ true
+      by_session None look takes = absurd (other takes.0)
+      by_session (Some x) look takes = same_of.opens c ∙ ap is_some look
 
-  -- a frame
-  frame_at : (line : Standing → List ℕ) (c n : ℕ) (heard : Heard) (v m e : Served K) (r : Option ℕ) (o : Option Session) → find c v.loop.sessions ≡ o → TakesOut c v.loop.me o v.loop.sessions (Ok (found.Frame heard)) m.loop.sessions
-      → m ≡ record v { loop = record v.loop { sessions = m.loop.sessions } } → IsDrained v.loop → Taken stores (framed line c heard n) c n r m e → Deals stores line c n r v e
-  frame_at line c n heard v m e r None look takes is none_v t = absurd (let k = takes.0 in cc)
-  frame_at line c n heard v m e r (Some x) look takes is none_v t =
-      let y : Session = takes.0 in
-      let k = takes.1 in
-      let h : Same c v m = record { before = x; now = y; found = look; alike = takes.2; is = is ∙ ap (λ t. record v { loop = record v.loop { sessions = t } }) takes.3 } in
-      let front : Fronts line c n (framed line c heard n) v m = λ l before more.
-      ap (λ o. dealt_at l line c more n o (with_deeds before v)) look
-      ∙ ap (λ w. dealt_front l line c more n w (with_deeds before v)) k.3
-      ∙ ap (λ w. counted_if l line c more n (on_heard l line c w (holding c k.0 k.2 (with_deeds before v)))) (sym k.5)
-      ∙ ap (λ t. framed line c heard n l more (record (with_deeds before v) { loop = record v.loop { sessions = t } })) (changed_found c (of_kind k.0 k.2) x v.loop.sessions look ∙ ap (λ z. set c z v.loop.sessions) (sym k.4))
-      ∙ ap (λ (z : Served K). framed line c heard n l more (with_deeds before z)) (sym h.is) in
-      deals line c n (framed line c heard n) v m e h none_v r front t
+  rests_of : (s : Loop) → Rests m.loop s → Rests v.loop s
+  rests_of s a = record { turn = a.turn ∙ ap (λ (x : Loop). x.place.turn) t.takes.rest; at = a.at ∙ ap (λ (x : Loop). x.place.at) t.takes.rest; none = a.none }
 
-  pub deals_frame : (line : Standing → List ℕ) (c n : ℕ) (heard : Heard) (v m e : Served K) (r : Option ℕ) → TakesOn c v (Ok (found.Frame heard)) m → IsDrained v.loop → Taken stores (framed line c heard n) c n r m e → Deals stores line c n r v e
-  deals_frame line c n heard v m e r t none_v a = frame_at line c n heard v m e r (find c v.loop.sessions) refl t.takes.takes (whole_of c v m (Ok (found.Frame heard)) t) none_v a
+  -- it was taken
+  abbrev take : State → State
+  take u = record u { loop = record u.loop { sessions = m.loop.sessions } }
 
-  -- a peer's hello
-  hello_at : (line : Standing → List ℕ) (c n q : ℕ) (v m e : Served K) (r : Option ℕ) (o : Option Session) → find c v.loop.sessions ≡ o → TakesOut c v.loop.me o v.loop.sessions (Ok (found.Hello q)) m.loop.sessions
-      → m ≡ record v { loop = record v.loop { sessions = m.loop.sessions } } → IsDrained v.loop → Taken stores (greeted line c q n) c n r m e → Deals stores line c n r v e
-  hello_at line c n q v m e r None look takes is none_v t = absurd (let k = takes.0 in cc)
-  hello_at line c n q v m e r (Some x) look takes is none_v t =
-      let y : Session = takes.0 in
-      let k = takes.1 in
-      let h : Same c v m = record { before = x; now = y; found = look; alike = takes.2; is = is ∙ ap (λ t. record v { loop = record v.loop { sessions = t } }) takes.3 } in
-      let front : Fronts line c n (greeted line c q n) v m = λ l before more.
-      ap (λ o. dealt_at l line c more n o (with_deeds before v)) look
-      ∙ ap (λ w. dealt_front l line c more n w (with_deeds before v)) k.1
-      ∙ ap (λ t. greeted line c q n l more (record (with_deeds before v) { loop = record v.loop { sessions = t } })) (changed_found c (of_kind Unknown k.0) x v.loop.sessions look ∙ ap (λ z. set c z v.loop.sessions) (sym k.2))
-      ∙ ap (λ (z : Served K). greeted line c q n l more (with_deeds before z)) (sym h.is) in
-      deals line c n (greeted line c q n) v m e h none_v r front t
+  take_run : {stores : Stores K} → Run stores IsCalm IsCalm (λ l s u. take s ≡ u) v m
+  take_run = at_once IsCalm IsCalm take whole_of (grew_still refl refl) (λ marks f h. calm_same marks v.loop (record v.loop { sessions = m.loop.sessions }) refl refl same_of.opens h) (λ before. refl)
 
-  pub deals_hello : (line : Standing → List ℕ) (c n q : ℕ) (v m e : Served K) (r : Option ℕ) → TakesOn c v (Ok (found.Hello q)) m → IsDrained v.loop → Taken stores (greeted line c q n) c n r m e → Deals stores line c n r v e
-  deals_hello line c n q v m e r t none_v a = hello_at line c n q v m e r (find c v.loop.sessions) refl t.takes.takes (whole_of c v m (Ok (found.Hello q)) t) none_v a
+module _ {K : Type 0} {stores : Stores K} {line : Standing → List ℕ} {c n : ℕ} {v e : Served K} where
+  deals_last : {A : Chance} → Run stores A IsCalm (λ l s u. (more : Next) → fronted line c n l more s ≡ u) v e → Rests v.loop e.loop → Deals stores line c n None v e
+  deals_last r rests = record { deeds = r.deeds; grew = r.grew; went = r.went; rests = rests; counts = tt; is = λ l before more k end. r.is l before k end more }
 
-  -- what is refused
-  refused_at : (line : Standing → List ℕ) (c n : ℕ) (v m e : Served K) (o : Option Session) → find c v.loop.sessions ≡ o → TakesOut c v.loop.me o v.loop.sessions (Ok found.Refused) m.loop.sessions → m ≡ record v { loop = record v.loop { sessions = m.loop.sessions } }
-      → IsDrained v.loop → Does stores (λ l s. over l c s) m e → Rests m.loop e.loop → Deals stores line c n None v e
-  refused_at line c n v m e None look takes is none_v a rests = absurd (let k = takes.0 in cc)
-  refused_at line c n v m e (Some x) look takes is none_v a rests =
-      let y : Session = takes.0 in
-      let k = takes.1 in
-      let h : Same c v m = record { before = x; now = y; found = look; alike = takes.2; is = is ∙ ap (λ t. record v { loop = record v.loop { sessions = t } }) takes.3 } in
-      let front : Fronts line c n (λ l more s. over l c s) v m = λ l before more.
-      ap (λ o. dealt_at l line c more n o (with_deeds before v)) look
-      ∙ ap (λ w. dealt_front l line c more n w (with_deeds before v)) k.2
-      ∙ ap (λ t. over l c (record (with_deeds before v) { loop = record v.loop { sessions = t } })) (changed_found c (of_kind k.0 k.1) x v.loop.sessions look ∙ ap (λ z. set c z v.loop.sessions) (sym k.3))
-      ∙ ap (λ (z : Served K). over l c (with_deeds before z)) (sym h.is) in
-      deals line c n (λ l more s. over l c s) v m e h none_v None front (record {
-        deeds = a.acts.deeds;
-        grew = a.acts.grew;
-        went = a.acts.went;
-        rests = rests;
-        counts = tt;
-        is = inr (a.calm, λ l before more known calm_e. a.acts.is l before known calm_e);
-      })
+module _ {K : Type 0} (line : Standing → List ℕ) (n : ℕ) {c : ℕ} {v m : Served K} where
+  fronts : {f : Front} (t : TakesOn c v (Ok f) m) → IsDrained v.loop → (l : Luck) (before : List Deed) (more : Next) → IsCalm l.marks m.loop → fronted line c n l more (with_deeds before v) ≡ found_goes line c n f l more (take t (with_deeds before v))
+  fronts {f} t none l before more mid =
+      let calm_v : IsCalm l.marks v.loop = calm_same l.marks v.loop m.loop (ap (λ (z : Loop). z.lost) t.takes.rest) (ap (λ (z : Loop). z.place) t.takes.rest) (same_of t).opens mid in
+      ap (λ s. dealt_at l line c more n (find c s.loop.sessions) s) (rest_still l (with_deeds before v) calm_v none)
+      ∙ front_is line c n l more (with_deeds before v) f m.loop.sessions (find c v.loop.sessions) refl t.takes.takes
 
-  pub deals_refused : (line : Standing → List ℕ) (c n : ℕ) (v m e : Served K) → TakesOn c v (Ok found.Refused) m → IsDrained v.loop → Does stores (λ l s. over l c s) m e → Rests m.loop e.loop → Deals stores line c n None v e
-  deals_refused line c n v m e t none_v a rests = refused_at line c n v m e (find c v.loop.sessions) refl t.takes.takes (whole_of c v m (Ok found.Refused) t) none_v a rests
-
+module _ {K : Type 0} {stores : Stores K} {line : Standing → List ℕ} {c n : ℕ} {v m e : Served K} where
   -- what finds no memory
-  lost_at : (line : Standing → List ℕ) (c n : ℕ) (v m e : Served K) (w : AllocError) (o : Option Session) → find c v.loop.sessions ≡ o → TakesOut c v.loop.me o v.loop.sessions (Err w) m.loop.sessions → m ≡ record v { loop = record v.loop { sessions = m.loop.sessions } }
-      → IsDrained v.loop → Loses stores c m e → Deals stores line c n None v e
-  lost_at line c n v m e w None look takes is none_v a = absurd (let k = takes.0 in cc)
-  lost_at line c n v m e w (Some x) look takes is none_v a =
-      let h : Same c v m = record { before = x; now = takes.0; found = look; alike = takes.2; is = is ∙ ap (λ t. record v { loop = record v.loop { sessions = t } }) takes.3 } in
-      deals_when_lost line c n (λ l more s. s) v m e h none_v a
+  pub deals_lost : {r : Result Front AllocError} → TakesOn c v r m → Loses stores c m e → Deals stores line c n None v e
+  deals_lost t a =
+      deals_last (run_then (λ l s u. (more : Next) → fronted line c n l more s ≡ u) (at_once Any Any (take t) (whole_of t) (grew_still refl refl) (λ marks f h. tt) (λ before. refl)) (run_any (loses_run a)) (λ l before xs zs k mid end x y more.
+      let s : State = rest l (with_deeds before v) in
+      let whole : record { loop = m.loop; node = v.node; deeds = before } ≡ with_deeds xs m = ap (λ (z : Loop). record { loop = z; node = v.node; deeds = before }) t.takes.rest ∙ x in
+      let first : s ≡ rest l (with_deeds xs m) = lost_rest a v.loop (ap (lost_by c) t.takes.rest ∙ (same_of t).lost) ((same_of t).opens c) (ap (λ (z : Loop). z.lost) t.takes.rest) l v.node before k.marks ∙ ap (rest l) whole in
+      let closed : find c s.loop.sessions ≡ None = ap (λ (z : State). find c z.loop.sessions) first ∙ y.1 in
+      ap (λ o. dealt_at l line c more n o s) closed ∙ first ∙ y.0 ∙ rest_still l (with_deeds zs e) end a.none)) (rests_of t e.loop (rests_stays a.stays a.none))
 
-  pub deals_lost_at : (line : Standing → List ℕ) (c n : ℕ) (v m e : Served K) (w : AllocError) → TakesOn c v (Err w) m → IsDrained v.loop → Loses stores c m e → Deals stores line c n None v e
-  deals_lost_at line c n v m e w t none_v a = lost_at line c n v m e w (find c v.loop.sessions) refl t.takes.takes (whole_of c v m (Err w) t) none_v a
+  -- what was found was dealt with
+  pub deals : {f : Front} {k : Option ℕ} → TakesOn c v (Ok f) m → IsDrained v.loop → Taken stores (found_goes line c n f) c n k m e → Deals stores line c n k v e
+  deals {f} {k = None} t none b = by_end b.is
+    where
+      by_end : Loses stores c m e ⊎ (FromCalm m e × Ends (found_goes line c n f) m e b.deeds) → Deals stores line c n None v e
+      by_end (inl a) = deals_lost t a
+      by_end (inr a) =
+          let behind : Run stores IsCalm IsCalm (λ l s u. (more : Next) → found_goes line c n f l more s ≡ u) m e = record { deeds = b.deeds; grew = b.grew; went = b.went; sure = a.0; is = λ l before k end more. a.1 l before more k end } in
+          deals_last (run_then (λ l s u. (more : Next) → fronted line c n l more s ≡ u) (take_run t) behind (λ l before xs zs k mid end x y more.
+          fronts line n t none l before more mid ∙ ap (found_goes line c n f l more) x ∙ y more)) (rests_of t e.loop b.rests)
+  deals {f} {k = Some k} t none b =
+      let behind : Run stores IsCalm Any (λ l s u. (more : Next) → found_goes line c n f l more s ≡ more k (rest l u)) m e = record { deeds = b.deeds; grew = b.grew; went = b.went; sure = λ marks f h. b.is.0 marks f; is = λ l before kn end more. b.is.1 l before more kn } in
+      let r = run_then (λ l s u. (more : Next) → fronted line c n l more s ≡ more k (rest l u)) (take_run t) behind (λ l before xs zs kn mid end x y more. fronts line n t none l before more mid ∙ ap (found_goes line c n f l more) x ∙ y more) in
+      record { deeds = r.deeds; grew = r.grew; went = r.went; rests = rests_of t e.loop b.rests; counts = b.counts; is = λ l before more kn. r.is l before kn tt more }
 
-  -- ---- a hello
-
-  pub greet_closed : (line : Standing → List ℕ) (c n q : ℕ) (d m : Served K) → is_peer q d.loop ≡ true → Does stores (λ l s. makes_way l c q s) d m → Stays d.loop m.loop → IsDrained m.loop → is_open c m.loop ≡ false → Taken stores (greeted line c q n) c n None d m
-  greet_closed line c n q d m peer a stays none closed = record {
-    deeds = a.acts.deeds;
-    grew = a.acts.grew;
-    went = a.acts.went;
-    rests = rests_stays stays none;
-    counts = tt;
-    is = inr (
-      a.calm,
-      λ l before more k calm_m.
-          let all : List Deed = before ++ a.acts.deeds in
-          ap (λ b. if b then met l line c more n q (with_deeds before d) else over l c (with_deeds before d)) peer
-          ∙ ap (λ t. if is_open c t.loop then more n (give l [] (input.Up q) (linked q c t)) else t) (a.acts.is l before k calm_m)
-          ∙ ap (λ b. if b then more n (give l [] (input.Up q) (linked q c (with_deeds all m))) else with_deeds all m) closed,
-    );
-  }
-
-  pub greet_goes : (line : Standing → List ℕ) (c n q : ℕ) (d m u e : Served K) → d.loop.place.frames ≡ n → is_peer q d.loop ≡ true → Does stores (λ l s. makes_way l c q s) d m → Stays d.loop m.loop → is_open c m.loop ≡ true
-      → u ≡ record m { loop = links q c m.loop } → Gives stores (λ l s. give l [] (input.Up q) s) u e → Taken stores (greeted line c q n) c n (Some n) d e
-  greet_goes line c n q d m u e at peer a stays there is g =
-      let lost : u.loop.lost ≡ m.loop.lost = ap (λ (x : Served K). x.loop.lost) is in
-      let place : u.loop.place ≡ m.loop.place = ap (λ (x : Served K). x.loop.place) is in
-      let grew_u : Grew m.loop u.loop = grew_still lost place in
-      let calm_m : (marks : List Mark) → Foretells marks e.loop → IsCalm marks m.loop = λ marks f.
-      calm_same marks m.loop u.loop lost place (λ x. ap (λ (y : Served K). is_open x y.loop) is ∙ found_changed (λ (z : Session). record z { kind = Peer q 0 }) c x m.loop.sessions) (g.sure marks f) in
-      record {
-        deeds = a.acts.deeds ++ g.deeds;
-        grew = grew_trans a.acts.grew (grew_trans grew_u g.grew);
-        went = went_then a.acts.went (went_from (untouched is) g.went);
-        rests = record {
-          turn = g.stays.turn ∙ ap (λ p. p.turn) place ∙ stays.turn;
-          at = g.stays.at ∙ ap (λ p. p.at) place ∙ stays.at;
-          none = g.none;
-        };
-        counts = (g.stays.frames ∙ ap (λ p. p.frames) place ∙ stays.frames ∙ at, omega arith);
-        is = (
-          λ marks f. a.calm marks (foretold grew_u (foretold g.grew f)) (calm_m marks f),
-          λ l before more k.
-              let all : List Deed = before ++ a.acts.deeds in
-              let k2 : Knows l (with_deeds (all ++ g.deeds) e) = known e before a.acts.deeds g.deeds k in
-              let k_u : Knows l (with_deeds all u) = knew u e all g.deeds g.grew k2 in
-              let k_m : Knows l (with_deeds all m) = record { marks = foretold grew_u k_u.marks; rest = k_u.rest; fates = k_u.fates } in
-              ap (λ b. if b then met l line c more n q (with_deeds before d) else over l c (with_deeds before d)) peer
-              ∙ ap (λ t. if is_open c t.loop then more n (give l [] (input.Up q) (linked q c t)) else t) (a.acts.is l before k_m (calm_m l.marks k.marks))
-              ∙ ap (λ b. if b then more n (give l [] (input.Up q) (linked q c (with_deeds all m))) else with_deeds all m) there
-              ∙ ap (λ (x : Served K). more n (give l [] (input.Up q) (with_deeds all x))) (sym is)
-              ∙ ap (more n) (g.is l all k2 ∙ ap (λ x. rest l (with_deeds x e)) (sym (split_deeds before a.acts.deeds g.deeds))),
-        );
-      }
-  -- ---- whose session is there
-
-open_out : (c me : ℕ) (r : Result Front AllocError) (s t : Table Session) (o : Option Session) → find c s ≡ o → TakesOut c me o s r t → (r ≡ Ok found.Waits → ⊥) → is_some (find c t) ≡ true
-open_out c me r s t None look takes other = absurd (other takes.0)
-open_out c me r s t (Some x) look takes other = ap (λ u. is_some (find c u)) takes.3 ∙ ap is_some (find_set c takes.0 x s look)
-
-module _ {K : Type 0} where
-  pub open_taken : (c : ℕ) (r : Result Front AllocError) (v m : Served K) → TakesOn c v r m → (r ≡ Ok found.Waits → ⊥) → is_open c m.loop ≡ true
-  open_taken c r v m t other = open_out c v.loop.me r v.loop.sessions m.loop.sessions (find c v.loop.sessions) refl t.takes.takes other
+module _ {K : Type 0} {stores : Stores K} {line : Standing → List ℕ} {c n : ℕ} {v m : Served K} where
+  -- it waits for more
+  pub deals_waits : TakesOn c v (Ok found.Waits) m → IsDrained v.loop → Deals stores line c n None v m
+  deals_waits t none = deals_last (run_as (λ l s u. (more : Next) → fronted line c n l more s ≡ u) (take_run t) (λ l before zs k end x more. fronts line n t none l before more end ∙ x)) (rests_of t m.loop (record { turn = refl; at = refl; none = drained_taken t none }))
 
 -- ---- one after the other
 
-module _ {K : Type 0} (stores : Stores K) where
+module _ (line : Standing → List ℕ) (c most : ℕ) where
   -- dealing with all that stands there goes on so
-  pub record Reached (line : Standing → List ℕ) (c most left n : ℕ) (d v : Served K) : Type 0 where
-    pub deeds : List Deed
-    pub grew : Grew d.loop v.loop
-    pub went : Went stores d deeds v
-    pub is : (l : Luck) (before : List Deed) → Knows l (with_deeds (before ++ deeds) v) → dealt l line c most 0 (rest l (with_deeds before d)) ≡ dealt l line c left n (rest l (with_deeds (before ++ deeds) v))
+  abbrev pub Reached : ℕ → ℕ → Luck → State → State → Type 0
+  Reached left n l s t = dealt l line c most 0 (rest l s) ≡ dealt l line c left n (rest l t)
 
-module _ {K : Type 0} {stores : Stores K} where
-  pub reached_start : (line : Standing → List ℕ) (c most : ℕ) (d : Served K) → Reached stores line c most most 0 d d
-  reached_start line c most d = record { deeds = []; grew = grew_still refl refl; went = went_none; is = λ l before k. ap (λ b. dealt l line c most 0 (rest l (with_deeds b d))) (sym (append-nil before)) }
+dealt_more : (l : Luck) (line : Standing → List ℕ) (c k n left : ℕ) (t : State) → left ≡ k + 1 → dealt l line c left n t ≡ dealt_at l line c (dealt l line c k) n (find c t.loop.sessions) t
+dealt_more l line c k n left t e = ap (λ j. dealt l line c j n t) (e ∙ add-one k)
 
-dealt_more : (l : Luck) (line : Standing → List ℕ) (c k n : ℕ) (t : State) → dealt l line c (k + 1) n t ≡ dealt_at l line c (dealt l line c k) n (find c t.loop.sessions) t
-dealt_more l line c k n t = ap (λ j. dealt l line c j n t) (add-one k)
+module _ {K : Type 0} {stores : Stores K} (line : Standing → List ℕ) (c most : ℕ) where
+  pub reached_start : (d : Served K) → Run stores Any Any (Reached line c most most 0) d d
+  reached_start d = run_as (Reached line c most most 0) (at_once Any Any (λ s. s) {d = d} {s = d.loop} refl (grew_still refl refl) (λ marks f h. h) (λ before. refl)) (λ l before zs k h x. ap (λ s. dealt l line c most 0 (rest l s)) x)
 
-module _ {K : Type 0} {stores : Stores K} where
-  pub reached_more : (line : Standing → List ℕ) (c most k n m : ℕ) (d v e : Served K) → Reached stores line c most (k + 1) n d v → Deals stores line c n (Some m) v e → Reached stores line c most k m d e
-  reached_more line c most k n m d v e a b = record {
-    deeds = a.deeds ++ b.deeds;
-    grew = grew_trans a.grew b.grew;
-    went = went_then a.went b.went;
-    is = λ l before h.
-        let k2 : Knows l (with_deeds ((before ++ a.deeds) ++ b.deeds) e) = known e before a.deeds b.deeds h in
-        a.is l before (knew v e (before ++ a.deeds) b.deeds b.grew k2)
-        ∙ dealt_more l line c k n (rest l (with_deeds (before ++ a.deeds) v))
-        ∙ b.is l (before ++ a.deeds) (dealt l line c k) k2
-        ∙ ap (λ x. dealt l line c k m (rest l (with_deeds x e))) (sym (split_deeds before a.deeds b.deeds));
-  }
+module _ {K : Type 0} {stores : Stores K} {line : Standing → List ℕ} {c : ℕ} (most : ℕ) where
+  pub reached_more : (k : ℕ) {left n m : ℕ} {d v e : Served K} → left ≡ k + 1 → Run stores Any Any (Reached line c most left n) d v → Deals stores line c n (Some m) v e → Run stores Any Any (Reached line c most k m) d e
+  reached_more k {left} {n} {m} {d} {v} {e} back a b =
+      let behind : Run stores Any Any (λ l s u. (more : Next) → fronted line c n l more s ≡ more m (rest l u)) v e = record { deeds = b.deeds; grew = b.grew; went = b.went; sure = λ marks f h. tt; is = λ l before k h more. b.is l before more k } in
+      run_then (Reached line c most k m) a behind (λ l before xs zs kn mid end x y. x ∙ dealt_more l line c k n left (rest l (with_deeds xs v)) back ∙ y (dealt l line c k))
 
-  pub reached_end : (line : Standing → List ℕ) (c most k n : ℕ) (d v e : Served K) → Reached stores line c most (k + 1) n d v → Rests d.loop v.loop → Deals stores line c n None v e → DealsAll stores line c most d e
-  reached_end line c most k n d v e a rests b = record {
-    deeds = a.deeds ++ b.deeds;
-    grew = grew_trans a.grew b.grew;
-    went = went_then a.went b.went;
-    rests = rests_then rests b.rests;
-    is = λ l before h calm_e.
-        let k2 : Knows l (with_deeds ((before ++ a.deeds) ++ b.deeds) e) = known e before a.deeds b.deeds h in
-        a.is l before (knew v e (before ++ a.deeds) b.deeds b.grew k2)
-        ∙ dealt_more l line c k n (rest l (with_deeds (before ++ a.deeds) v))
-        ∙ b.is l (before ++ a.deeds) (dealt l line c k) k2 calm_e
-        ∙ ap (λ x. with_deeds x e) (sym (split_deeds before a.deeds b.deeds));
-  }
+module _ {K : Type 0} {stores : Stores K} {line : Standing → List ℕ} {c most : ℕ} where
+  deals_all : {d e : Served K} → Run stores Any IsCalm (λ l s t. dealt l line c most 0 (rest l s) ≡ t) d e → Rests d.loop e.loop → DealsAll stores line c most d e
+  deals_all r rests = record { deeds = r.deeds; grew = r.grew; went = r.went; rests = rests; is = λ l before k end. r.is l before k end }
 
-  pub reached_all : (line : Standing → List ℕ) (c most n : ℕ) (d v : Served K) → Reached stores line c most 0 n d v → Rests d.loop v.loop → DealsAll stores line c most d v
-  reached_all line c most n d v a rests = record {
-    deeds = a.deeds;
-    grew = a.grew;
-    went = a.went;
-    rests = rests;
-    is = λ l before h calm_v. a.is l before h ∙ rest_still l (with_deeds (before ++ a.deeds) v) calm_v rests.none;
-  }
+  pub reached_end : (k : ℕ) {left n : ℕ} {d v e : Served K} → left ≡ k + 1 → Run stores Any Any (Reached line c most left n) d v → Rests d.loop v.loop → Deals stores line c n None v e → DealsAll stores line c most d e
+  reached_end k {left} {n} {d} {v} {e} back a rests b =
+      let behind : Run stores Any IsCalm (λ l s u. (more : Next) → fronted line c n l more s ≡ u) v e = record { deeds = b.deeds; grew = b.grew; went = b.went; sure = λ marks f h. tt; is = λ l before k end more. b.is l before more k end } in
+      deals_all (run_then (λ l s t. dealt l line c most 0 (rest l s) ≡ t) a behind (λ l before xs zs kn mid end x y. x ∙ dealt_more l line c k n left (rest l (with_deeds xs v)) back ∙ y (dealt l line c k))) (rests_then rests b.rests)
 
-module _ {K : Type 0} where
+  pub reached_all : (n : ℕ) {left : ℕ} {d v : Served K} → left ≡ 0 → Run stores Any Any (Reached line c most left n) d v → Rests d.loop v.loop → DealsAll stores line c most d v
+  reached_all n {left} {d} {v} none a rests = deals_all (run_as (λ l s t. dealt l line c most 0 (rest l s) ≡ t) (run_any a) (λ l before zs k end x.
+      x ∙ ap (λ j. dealt l line c j n (rest l (with_deeds zs v))) none ∙ rest_still l (with_deeds zs v) end rests.none)) rests
+
   -- ---- a read
 
-  feed_at : (c : ℕ) (bytes : List ℕ) (d m : Served K) → m ≡ record d { loop = feeds c bytes d.loop } → (before : List Deed) → with_deeds (before ++ hears c bytes ∷ []) m ≡ noting (hears c bytes) (record (with_deeds before d) { loop = feeds c bytes d.loop })
-  feed_at c bytes d m is before = ap (with_deeds (before ++ hears c bytes ∷ [])) is
-
-module _ {K : Type 0} {stores : Stores K} where
-  pub reads_all : (line : Standing → List ℕ) (c held : ℕ) (bytes : List ℕ) (d m e : Served K) → m ≡ record d { loop = feeds c bytes d.loop } → held ≡ held_in (find c m.loop.sessions) → DealsAll stores line c held m e → Acts stores (λ l s. read l line c bytes s) d e
-  reads_all line c held bytes d m e is count a =
-      let h : List Deed = hears c bytes ∷ [] in
-      let grew_m : Grew d.loop m.loop = grew_still (ap (λ (x : Served K). x.loop.lost) is) (ap (λ (x : Served K). x.loop.place) is) in
-      record {
-        deeds = h ++ a.deeds;
-        grew = grew_trans grew_m a.grew;
-        went = went_beside (hears c bytes) refl (went_from (untouched is) a.went);
-        is = λ l before k calm_e.
-            let k2 : Knows l (with_deeds ((before ++ h) ++ a.deeds) e) = known e before h a.deeds k in
-            let same : with_deeds (before ++ h) m ≡ noting (hears c bytes) (record (with_deeds before d) { loop = feeds c bytes d.loop }) = feed_at c bytes d m is before in
-            sym (ap (λ (t : State). dealt l line c (held_in (find c t.loop.sessions)) 0 (rest l t)) same)
-            ∙ ap (λ n. dealt l line c n 0 (rest l (with_deeds (before ++ h) m))) (sym count)
-            ∙ a.is l (before ++ h) k2 calm_e
-            ∙ ap (λ x. with_deeds x e) (sym (split_deeds before h a.deeds));
-      }
-
-fed_alike : (bytes : List ℕ) (x : Session) → Alike x (feeding bytes x)
-fed_alike bytes x = record { queue = refl; down = refl }
-
-over_fed : (c n : ℕ) (bytes : List ℕ) (t : Table Session) (o : Option Session) → find c t ≡ o → is_overfull (find n (changed_at (feeding bytes) c o t)) ≡ is_overfull (find n t)
-over_fed c n bytes t None e = refl
-over_fed c n bytes t (Some x) e = over_set c n x (feeding bytes x) t e refl
-
-pub drained_fed : (c : ℕ) (bytes : List ℕ) (s : Loop) → IsDrained s → IsDrained (feeds c bytes s)
-drained_fed c bytes s none = (none.0, λ n. over_fed c n bytes s.sessions (find c s.sessions) refl ∙ none.1 n)
-
-lost_fed : (c : ℕ) (bytes : List ℕ) (s : Loop) (o : Option Session) → find c s.sessions ≡ o → lost_by c (feeds c bytes s) ≡ lost_by c s
-lost_fed c bytes s None e = ap (λ w. lost_by c (record s { sessions = changed_at (feeding bytes) c w s.sessions })) e
-lost_fed c bytes s (Some x) e = ap (λ w. lost_by c (record s { sessions = changed_at (feeding bytes) c w s.sessions })) e ∙ lost_alike c x (feeding bytes x) s e (fed_alike bytes x)
+  pub reads_all : {bytes : List ℕ} {d m e : Served K} → m ≡ record d { loop = feeds c bytes d.loop } → most ≡ held_in (find c m.loop.sessions) → DealsAll stores line c most m e → Acts stores (λ l s. read l line c bytes s) d e
+  reads_all {bytes} {d} {m} {e} is count a =
+      let fed : State → State = λ s. noting (hears c bytes) (record s { loop = feeds c bytes s.loop }) in
+      let behind : Run stores Any IsCalm (λ l s t. dealt l line c most 0 (rest l s) ≡ t) m e = record { deeds = a.deeds; grew = a.grew; went = a.went; sure = λ marks f h. tt; is = a.is } in
+      run_acts (run_then (λ l s t. read l line c bytes s ≡ t) (noted Any Any fed (hears c bytes) refl is (grew_still refl refl) (λ marks f h. tt) (λ before. refl)) behind (λ l before xs zs k mid end x y.
+      ap (λ t. dealt l line c (held_in (find c t.loop.sessions)) 0 (rest l t)) x ∙ ap (λ n. dealt l line c n 0 (rest l (with_deeds xs m))) (sym count) ∙ y))
 
 dealt_closed : (l : Luck) (line : Standing → List ℕ) (c k n : ℕ) (t : State) → find c t.loop.sessions ≡ None → dealt l line c k n t ≡ t
 dealt_closed l line c zero n t e = refl
@@ -507,20 +295,9 @@ module _ {K : Type 0} {stores : Stores K} where
   -- what was read found no memory
   pub reads_none : (line : Standing → List ℕ) (c : ℕ) (bytes : List ℕ) (d e : Served K) → Loses stores c d e → Acts stores (λ l s. read l line c bytes s) d e
   reads_none line c bytes d e a =
-      let h : List Deed = hears c bytes ∷ [] in
-      let m : Served K = record d { loop = feeds c bytes d.loop } in
-      record {
-        deeds = h ++ a.deeds;
-        grew = a.grew;
-        went = went_beside (hears c bytes) refl a.went;
-        is = λ l before k calm_e.
-            let k2 : Knows l (with_deeds ((before ++ h) ++ a.deeds) e) = known e before h a.deeds k in
-            let there : is_open c m.loop ≡ true = found_changed (feeding bytes) c c d.loop.sessions ∙ a.there in
-            let first : rest l (with_deeds (before ++ h) m) ≡ rest l (with_deeds (before ++ h) d) = rest_lost c m d e (sym (lost_fed c bytes d.loop (find c d.loop.sessions) refl)) there a.few refl a l (before ++ h) k.marks in
-            let closed : find c (rest l (with_deeds (before ++ h) m)).loop.sessions ≡ None = ap (λ (t : State). find c t.loop.sessions) first ∙ a.closed l (before ++ h) k2 in
-            dealt_closed l line c (held_in (find c m.loop.sessions)) 0 (rest l (with_deeds (before ++ h) m)) closed
-            ∙ first
-            ∙ a.is l (before ++ h) k2
-            ∙ rest_still l (with_deeds ((before ++ h) ++ a.deeds) e) calm_e a.none
-            ∙ ap (λ x. with_deeds x e) (sym (split_deeds before h a.deeds));
-      }
+      let fed : Loop = feeds c bytes d.loop in
+      let same : Same c d.loop fed.sessions = same_fed c bytes d.loop (find c d.loop.sessions) refl in
+      run_acts (run_then (λ l s t. read l line c bytes s ≡ t) (noted Any Any (noting (hears c bytes)) (hears c bytes) refl {d = d} {s = d.loop} refl (grew_still refl refl) (λ marks f h. tt) (λ before. refl)) (run_any (loses_run a)) (λ l before xs zs k mid end x y.
+      let u : State = record { loop = fed; node = d.node; deeds = before ++ hears c bytes ∷ [] } in
+      let as_lost : rest l u ≡ rest l (with_deeds xs d) = lost_rest a fed (sym same.lost) (sym (same.opens c)) refl l d.node (before ++ hears c bytes ∷ []) k.marks ∙ ap (rest l) x in
+      dealt_closed l line c (held_in (find c fed.sessions)) 0 (rest l u) (ap (λ (z : State). find c z.loop.sessions) as_lost ∙ y.1) ∙ as_lost ∙ y.0 ∙ rest_still l (with_deeds zs e) end a.none))

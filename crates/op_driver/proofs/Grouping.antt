@@ -7,7 +7,7 @@ use Rattle.op_types.specs.declared.events.Input.{Input}
 use Rattle.op_serving.specs.declared.wanted.Wanted.{Wanted}
 use Rattle.op_serving.specs.Cores.{Standing}
 use Rattle.op_serving.specs.Counts.{most_inputs}
-use Rattle.op_serving.specs.Fates.{Came, Fate, done, finds, faults, shares, damaged, lost, is_session, MayFail, inputs_of, ends_lost, after_fate, after_all, MayComeAll, TellAll, StepsAll}
+use Rattle.op_serving.specs.Fates.{Came, Fate, faults, is_session, MayFail, inputs_of, ends_lost, after_fate, after_all, MayComeAll, TellAll, StepsAll}
 use Rattle.op_serving.specs.State.{Loop}
 use Rattle.op_serving.specs.Losses as losses
 use Rattle.op_serving.specs.Losses.{most_marks, settled, Stays}
@@ -70,12 +70,8 @@ abbrev IsFrame : Brought → Type 0
 IsFrame b = is_session b.1 ≡ false
 
 may_fail : (i : Input) (f : Fate) → is_session i ≡ false → MayFail i f
-may_fail i done e = tt
-may_fail i (finds d) e = tt
 may_fail i (faults k) e = e
-may_fail i (shares k) e = tt
-may_fail i damaged e = tt
-may_fail i lost e = tt
+may_fail i f e = tt
 
 fail_all : (zs : List Entry) (left : List Brought) → All IsFrame (brought_of zs ++ left) → FailAll zs
 fail_all [] left h = tt
@@ -110,11 +106,7 @@ told_length [] n cs t = sym (ap length t)
 told_length (r ∷ rs) n [] t = absurd t
 told_length (r ∷ rs) n (c ∷ cs) t = let a = told_length rs (after_fate n c.0 c.1) cs t.1 in omega (arith, a)
 
-told_some : (rs : List Answer) (n : Standing) (cs : List Came) → TellAll rs n cs → 0 < length cs → 0 < length rs
-told_some [] n cs t some = absurd (omega (arith, some, ap length t))
-told_some (r ∷ rs) n cs t some = omega arith
-
-module _ {K : Type 0} (standing : K → Standing) (stores : Stores K) (u v : Ungiven) (rs : List Answer) (now : Option Wanted) (s m t : Loop) (k e : K) (d : DealsWith standing stores u v rs now s m t k e) where
+module _ {K : Type 0} {standing : K → Standing} {stores : Stores K} {u v : Ungiven} {rs : List Answer} {now : Option Wanted} {s m t : Loop} {k e : K} (d : DealsWith standing stores u v rs now s m t k e) where
   abbrev before_it : Served K
   before_it = served_at s (standing k) k
 
@@ -135,7 +127,7 @@ module _ {K : Type 0} (standing : K → Standing) (stores : Stores K) (u v : Ung
       let taken : losses.Does (λ ms x. settled ms (answered_all now false rs x)) (loop_taken zs s) t = subst (λ (x : Loop). losses.Does (λ ms y. settled ms (answered_all now false rs y)) x t) (d.counted ∙ counting_all_is rs n None zs s tell may) d.out in
       record {
         few = d.few;
-        short = d.short (told_some rs n d.steps.came d.steps.tell came_here);
+        short = d.short (omega (arith, came_here, told_length rs n d.steps.came d.steps.tell));
         may = may;
         fails = fail_all zs left frames;
         node = d.steps.node ∙ ap (after_all n) (sym came);
@@ -145,7 +137,7 @@ module _ {K : Type 0} (standing : K → Standing) (stores : Stores K) (u v : Ung
 
   gives_parted : (zs : List Entry) (left : List Brought) → came_of zs ≡ d.steps.came → v.inputs ≡ map (λ b. b.1) left → AskWithLast (brought_of zs ++ left) u.wanted → All IsFrame (brought_of zs ++ left) → GivesSome stores (brought_of zs ++ left) left before_it behind_it
   gives_parted [] left came rest asks frames = absurd (omega (arith, came_here, ap length came))
-  gives_parted (z ∷ zs) left came rest asks frames = gives_group z zs left before_it behind_it (comes_all (z ∷ zs) left came rest asks frames) (ends_so left rest d.steps.ends)
+  gives_parted (z ∷ zs) left came rest asks frames = gives_group left (comes_all (z ∷ zs) left came rest asks frames) (ends_so left rest d.steps.ends)
     where
       ends_so : (left : List Brought) → v.inputs ≡ map (λ b. b.1) left → (v.inputs ≡ []) ⊎ (ends_lost d.steps.came ≡ true) → (left ≡ []) ⊎ (ends_lost (came_of (z ∷ zs)) ≡ true)
       ends_so left rest (inl none) = inl (no_brought left (sym rest ∙ none))
@@ -190,15 +182,9 @@ module _ {K : Type 0} (stores : Stores K) where
   Gone u v d e = ((v ≡ u) × (e ≡ d)) ⊎ (GivesFrom stores u v d e × Stays d.loop e.loop × IsDrained e.loop)
 
 module _ {K : Type 0} {stores : Stores K} where
-  pub from_then : (u v w : Ungiven) (d m e : Served K) → GivesFrom stores u v d m → IsDrained m.loop → GivesFrom stores v w m e → GivesFrom stores u w d e
-  from_then u v w d m e a none b bs are =
-      let x = a bs are in
-      let y = b x.0 x.1 in
-      (y.0, y.1, some_then bs x.0 y.0 x.2 none y.2)
-
   pub gone_then : (u v w : Ungiven) (d m e : Served K) → Gone stores u v d m → GivesFrom stores v w m e → Stays m.loop e.loop → IsDrained e.loop → Gone stores u w d e
   gone_then u v w d m e (inl same) b stays none = inr (subst (λ (x : Ungiven). GivesFrom stores x w d e) same.0 (subst (λ (x : Served K). GivesFrom stores v w x e) same.1 b), subst (λ (x : Served K). Stays x.loop e.loop) same.1 stays, none)
-  gone_then u v w d m e (inr a) b stays none = inr (from_then u v w d m e a.0 a.2 b, stays_then a.1 stays, none)
+  gone_then u v w d m e (inr a) b stays none = inr (λ bs are. let x = a.0 bs are in let y = b x.0 x.1 in (y.0, y.1, some_then x.2 a.2 y.2), stays_then a.1 stays, none)
 
   -- none is left
   pub gone_all : (u v : Ungiven) (d e : Served K) → Gone stores u v d e → 0 < length u.inputs → length v.inputs ≤ 0 → GivesAll stores u d e
@@ -206,11 +192,11 @@ module _ {K : Type 0} {stores : Stores K} where
   gone_all u v d e (inr a) some none bs are =
       let x = a.0 bs are in
       let left : x.0 ≡ [] = no_items x.0 (omega (arith, none, ap length x.1.inputs, length-map x.0 (λ (b : Brought). b.1))) in
-      some_gives bs (omega (arith, some, ap length are.inputs, length-map bs (λ (b : Brought). b.1))) (subst (λ l. GivesSome stores bs l d e) left x.2) a.1 a.2
+      some_gives (omega (arith, some, ap length are.inputs, length-map bs (λ (b : Brought). b.1))) (subst (λ l. GivesSome stores bs l d e) left x.2) a.1 a.2
 
   -- the Downs behind them
   pub from_drained : (u v : Ungiven) {d m e : Served K} → GivesFrom stores u v d m → Drained stores m e → GivesFrom stores u v d e
-  from_drained u v a b bs are = let x = a bs are in (x.0, x.1, some_drained bs x.0 x.2 b)
+  from_drained u v a b bs are = let x = a bs are in (x.0, x.1, some_drained x.2 b)
 
   -- serving has stopped
   pub from_full : (u v : Ungiven) (d : Served K) → v ≡ record { inputs = []; wanted = None } → most_marks ≤ length d.loop.lost → GivesFrom stores u v d d

@@ -1,138 +1,84 @@
 -- What a frame says is done, behind what was gathered.
-use Rattle.std.proofs.Common.{All, map, ◌≡◌, ◌++◌, ◌∷◌, [], ℕ, Bool, true, false, List, length, is_some, option_map, Result, Ok, Err, OnOk, nat_lt, nat_le, if◌then◌else◌, refl, sym, ◌∙◌, ap, inl, inr}
+use Rattle.std.proofs.Common.{All, map, ◌≡◌, ◌++◌, ◌∷◌, [], ℕ, Bool, true, false, List, length, is_some, Result, Ok, Err, OnOk, nat_lt, nat_le, if◌then◌else◌, None, refl, sym, ◌∙◌, ap, subst, inl, inr}
 use Rattle.std.proofs.lemmas.Bool.{cases_Bool, lt-ltb, le-ltb, leb-true, leb-false}
 use Rattle.std.proofs.lemmas.List.{append-nil}
 use Rattle.std.proofs.lemmas.List.Elements.{All-append, All-cons, All-nil}
 use Rattle.op_types.specs.declared.events.Input.TheVariants as input
-use Rattle.op_types.specs.declared.events.Request.TheVariants as request
 use Rattle.op_types.specs.declared.log.Command.{Command}
 use Rattle.op_types.specs.declared.messages.Msg.{Msg}
-use Rattle.op_types.specs.Limits.{most_commands}
 use Rattle.op_command.specs.declared.said.Said.{Said}
-use Rattle.op_command.specs.declared.said.Said.TheVariants as said
 use Rattle.op_serving.specs.declared.hearing.Heard.{Heard}
-use Rattle.op_serving.specs.declared.hearing.Heard.TheVariants.{Asks, Message}
-use Rattle.op_serving.specs.declared.session.Session.{Session}
 use Rattle.op_serving.specs.Cores.{Standing}
 use Rattle.op_serving.specs.Wire.{client_frame}
-use Rattle.op_serving.specs.State.{Table, Loop, find, is_open, is_overfull}
+use Rattle.op_serving.specs.State.{Table, Loop, find, is_open}
 use Rattle.op_serving.specs.Fates.{is_session}
-use Rattle.op_serving.specs.Losses.{Stays}
-use Rattle.op_serving.specs.Inputs.{Deed, says, State, Luck, as_delivery, as_one, all_gathered, gathers, brings, most_brought, flushed, given_together, releases, released, behind, rest}
-use Rattle.op_serving.specs.Reading.{tells, ending, on_frame, on_heard, goes_first}
-use Rattle.op_serving.specs.Handing.{no_command}
-use Rattle.op_driver.specs.Driver.{Served, Stores, with_deeds, Knows, Does, Gives, Loses, IsDrained, Rests}
-use Rattle.op_driver.specs.Dealing.{tells_now, DrainsAt, HandlesAlone, Handles}
+use Rattle.op_serving.specs.Losses.{IsCalm, Stays}
+use Rattle.op_serving.specs.Inputs.{Deed, says, State, Luck, as_delivery, as_one, all_gathered, flushed, given_together, releases, released, behind, rest}
+use Rattle.op_serving.specs.Reading.{tells, on_frame, on_heard, goes_first}
+use Rattle.op_serving.specs.Handing.{told, no_command}
+use Rattle.op_driver.specs.Driver.{Served, Stores, with_deeds, Does, Gives, Loses, IsDrained, Rests}
+use Rattle.op_driver.specs.Dealing.{DrainsAt, HandlesAlone, Handles}
 use Rattle.op_driver.specs.Ungiven.{Ungiven, AreUngiven, GivesAll}
 use Rattle.op_queues.proofs.Tables.{found_changed}
-use Rattle.op_queues.proofs.Settling.{kinds_then, stays_same, stays_then, grew_still, grew_trans, foretold}
-use Rattle.op_driver.proofs.Stepping.{Untouched, untouched, untouched_then, went_then, went_beside, went_none, went_still, went_from}
+use Rattle.op_queues.proofs.Settling.{stays_same, stays_then, grew_still}
 use Rattle.op_driver.proofs.Calm.{calm_same}
-use Rattle.op_driver.proofs.Draining.{gives_does, rest_still, knew, known, split_deeds}
+use Rattle.op_driver.proofs.Stepping.{Any, Run, run_then, run_as, run_any, at_once, noted, went_none}
+use Rattle.op_driver.proofs.Draining.{does_run, run_does, gives_run, run_gives, gives_does, rest_still}
 
 -- ---- it comes to rest
 
 pub rests_stays : {s t : Loop} → Stays s t → IsDrained t → Rests s t
-rests_stays {s} {t} a none = record { turn = a.turn; at = a.at; none = none }
+rests_stays a none = record { turn = a.turn; at = a.at; none = none }
 
 pub rests_then : {s m t : Loop} → Rests s m → Rests m t → Rests s t
-rests_then {s} {m} {t} a b = record { turn = b.turn ∙ a.turn; at = b.at ∙ a.at; none = b.none }
+rests_then a b = record { turn = b.turn ∙ a.turn; at = b.at ∙ a.at; none = b.none }
 
 -- nothing is to end, whether a session is over or not
 pub drains_at : (c : ℕ) (s : Loop) → IsDrained s → DrainsAt c s
 drains_at c s h = (h.0, λ closed. h.1)
 
--- a session that is open is not over
-drains_open : (c : ℕ) (s : Loop) → s.downs ≡ [] → is_open c s ≡ true → DrainsAt c s
-drains_open c s none there = (none, λ closed. absurd (let bad : true ≡ false = sym there ∙ closed in cc))
-
-module _ {K : Type 0} where
-  -- whoever is told something is still there
-  told_open : (c : ℕ) (what : Said) (d e : Served K) → e ≡ tells_now c what d → is_open c d.loop ≡ true → is_open c e.loop ≡ true
-  told_open c what d e is there = ap (λ (y : Served K). is_open c y.loop) is ∙ found_changed _ c c d.loop.sessions ∙ there
-
 module _ {K : Type 0} {stores : Stores K} where
-  -- what is noted of one deed is known e before it
-  pub tells_does : (c : ℕ) (what : Said) (d e : Served K) → e ≡ tells_now c what d → Does stores (λ l s. tells c what s) d e
-  tells_does c what d e is =
-      let deed : Deed = says (c, client_frame (no_command what)) in
-      let lost : e.loop.lost ≡ d.loop.lost = ap (λ (x : Served K). x.loop.lost) is in
-      let place : e.loop.place ≡ d.loop.place = ap (λ (x : Served K). x.loop.place) is in
-      record {
-        acts = record {
-          deeds = deed ∷ [];
-          grew = grew_still lost place;
-          went = went_beside deed refl (went_still (untouched is));
-          is = λ l before k calm_e. ap (with_deeds (before ++ deed ∷ [])) (sym is);
-        };
-        calm = λ marks f calm_e. calm_same marks d.loop e.loop lost place (λ x. ap (λ (y : Served K). is_open x y.loop) is ∙ found_changed _ c x d.loop.sessions) calm_e;
-      }
-
-  pub nothing_does : (f : Luck → State → State) (d : Served K) → ((l : Luck) (s : State) → f l s ≡ s) → Does stores f d d
-  nothing_does f d same = record {
-    acts = record { deeds = []; grew = grew_still refl refl; went = went_none; is = λ l before k calm_e. same l (with_deeds before d) ∙ ap (λ b. with_deeds b d) (sym (append-nil before)) };
-    calm = λ marks f calm_e. calm_e;
-  }
-
   pub does_as : (f g : Luck → State → State) {d e : Served K} → ((l : Luck) (before : List Deed) → g l (with_deeds before d) ≡ f l (with_deeds before d)) → Does stores f d e → Does stores g d e
-  does_as f g same a = record {
-    acts = record { deeds = a.acts.deeds; grew = a.acts.grew; went = a.acts.went; is = λ l before k calm_e. same l before ∙ a.acts.is l before k calm_e };
-    calm = a.calm;
+  does_as f g same a = run_does (run_as (λ l s t. g l s ≡ t) (does_run a) (λ l before zs k end x. same l before ∙ x))
+
+  pub nothing_does : (f : Luck → State → State) (d : Served K) → ((l : Luck) (before : List Deed) → f l (with_deeds before d) ≡ with_deeds before d) → Does stores f d d
+  nothing_does f d same = record {
+    acts = record { deeds = []; grew = grew_still refl refl; went = went_none; is = λ l before k end. same l before ∙ ap (λ b. with_deeds b d) (sym (append-nil before)) };
+    calm = λ marks f end. end;
   }
 
 pub on_ok_as : {A E P Q : Type 0} (r : Result A E) → (P → Q) → OnOk r P → OnOk r Q
 on_ok_as (Ok x) f h = f h
 on_ok_as (Err e) f h = tt
 
-module _ {K : Type 0} {stores : Stores K} where
-  -- what a frame says was dealt with
-  pub given_handles : (line : Standing → List ℕ) (c : ℕ) (heard : Heard) (f : Luck → State → State) {d e : Served K} → Gives stores f d e → ((l : Luck) (before : List Deed) → on_frame l line c heard (with_deeds before d) ≡ f l (with_deeds before d)) → HandlesAlone stores line c heard d e
-  given_handles line c heard f {d} {e} a same = record {
-    does = does_as f (λ l s. on_frame l line c heard s) same (gives_does f a);
-    stays = a.stays;
-    none = drains_at c e.loop a.none;
-  }
+module _ {K : Type 0} {stores : Stores K} {line : Standing → List ℕ} {c : ℕ} where
+  pub handles_as : {heard now : Heard} {d e : Served K} → heard ≡ now → HandlesAlone stores line c now d e → HandlesAlone stores line c heard d e
+  handles_as {d = d} {e = e} is a = subst (λ h. HandlesAlone stores line c h d e) (sym is) a
 
-  pub told_handles : (line : Standing → List ℕ) (c : ℕ) (heard : Heard) (what : Said) {d e : Served K} → IsDrained d.loop → is_open c d.loop ≡ true → ((l : Luck) (before : List Deed) → on_frame l line c heard (with_deeds before d) ≡ tells c what (with_deeds before d)) → e ≡ tells_now c what d → HandlesAlone stores line c heard d e
-  told_handles line c heard what {d} {e} none there same is = record {
-    does = does_as (λ l s. tells c what s) (λ l s. on_frame l line c heard s) same (tells_does c what d e is);
-    stays = stays_same (ap (λ (x : Served K). x.loop.place) is);
-    none = drains_open c e.loop (ap (λ (x : Served K). x.loop.downs) is ∙ none.0) (told_open c what d e is there);
-  }
+  -- what a frame says was dealt with: by an input
+  pub given_handles : {heard : Heard} {d e : Served K} → Gives stores (λ l s. on_frame l line c heard s) d e → HandlesAlone stores line c heard d e
+  given_handles {heard} {d} {e} a = record { does = gives_does (λ l s. on_frame l line c heard s) a; stays = a.stays; none = drains_at c e.loop a.none }
 
-  -- an end request
-  pub ended_handles : (line : Standing → List ℕ) (c : ℕ) (heard : Heard) {d m e : Served K} → IsDrained d.loop → is_open c d.loop ≡ true → ((l : Luck) (before : List Deed) → on_frame l line c heard (with_deeds before d) ≡ ending (tells c said.Ended (with_deeds before d)))
-      → m ≡ tells_now c said.Ended d → e ≡ record m { loop = record m.loop { ending = true } } → HandlesAlone stores line c heard d e
-  ended_handles line c heard {d} {m} {e} none there same is_m is =
-      let deed : Deed = says (c, client_frame (no_command said.Ended)) in
-      let lost : e.loop.lost ≡ d.loop.lost = ap (λ (x : Served K). x.loop.lost) is ∙ ap (λ (x : Served K). x.loop.lost) is_m in
-      let place : e.loop.place ≡ d.loop.place = ap (λ (x : Served K). x.loop.place) is ∙ ap (λ (x : Served K). x.loop.place) is_m in
-      record {
-        does = record {
-          acts = record {
-            deeds = deed ∷ [];
-            grew = grew_still lost place;
-            went = went_beside deed refl (went_still (untouched_then (untouched is_m) (untouched is)));
-            is = λ l before k calm_e. same l before ∙ ap (λ (x : Served K). ending (with_deeds (before ++ deed ∷ []) x)) (sym is_m) ∙ ap (with_deeds (before ++ deed ∷ [])) (sym is);
-          };
-          calm = λ marks f calm_e. calm_same marks d.loop e.loop lost place (λ x. ap (λ (y : Served K). is_open x y.loop) is ∙ ap (λ (y : Served K). is_open x y.loop) is_m ∙ found_changed _ c x d.loop.sessions) calm_e;
-        };
-        stays = stays_same place;
-        none = drains_open c e.loop (ap (λ (x : Served K). x.loop.downs) is ∙ ap (λ (x : Served K). x.loop.downs) is_m ∙ none.0) (ap (λ (y : Served K). is_open c y.loop) is ∙ told_open c said.Ended d m is_m there);
-      }
+  -- or by what its client is told, at an end request once it is noted
+  pub told_handles : {heard : Heard} (what : Said) (ending : Bool) {d e : Served K} → IsDrained d.loop → is_open c d.loop ≡ true
+      → ((l : Luck) (before : List Deed) → let s : State = tells c what (with_deeds before d) in on_frame l line c heard (with_deeds before d) ≡ record s { loop = record s.loop { ending = ending } })
+      → e ≡ record d { loop = record (told c (no_command what) d.loop) { ending = ending } } → HandlesAlone stores line c heard d e
+  told_handles {heard} what ending {d} {e} none there same is =
+      let s : Loop = record (told c (no_command what) d.loop) { ending = ending } in
+      let opens : (n : ℕ) → is_open n s ≡ is_open n d.loop = λ n. found_changed _ c n d.loop.sessions in
+      let tells_it : State → State = λ u. record (tells c what u) { loop = record (told c (no_command what) u.loop) { ending = ending } } in
+      subst (λ (x : Served K). HandlesAlone stores line c heard d x) (sym is) (record {
+        does = run_does (run_as (λ l u t. on_frame l line c heard u ≡ t) (noted IsCalm IsCalm tells_it (says (c, client_frame (no_command what))) refl {s = s} refl
+            (grew_still refl refl) (λ marks f h. calm_same marks d.loop s refl refl opens h) (λ before. refl)) (λ l before zs k end x. same l before ∙ x));
+        stays = stays_same refl;
+        none = (none.0, λ closed. absurd (let bad : true ≡ false = sym (opens c ∙ there) ∙ closed in cc));
+      })
 
 -- ---- what was gathered is given first
 
 -- this is done, if the connection has a session
 abbrev if_there : ℕ → (Luck → State → State) → Luck → State → State
 if_there c f l t = if is_open c t.loop then f l t else t
-
-heard_behind : (line : Standing → List ℕ) (c : ℕ) (heard : Heard) (l : Luck) (s : State) → goes_first c heard s.loop ≡ false → on_heard l line c heard s ≡ behind l c (on_frame l line c heard) s
-heard_behind line c heard l s e = ap (λ b. if b then on_frame l line c heard s else behind l c (on_frame l line c heard) s) e
-
-module _ {K : Type 0} {stores : Stores K} where
-  same_does : (d : Served K) → Does stores (λ l s. s) d d
-  same_does d = nothing_does (λ l s. s) d (λ l s. refl)
 
 none_of : (bs : Table (ℕ × Msg)) (gs : Table Command) → map as_delivery bs ++ as_one gs ≡ [] → (bs ≡ []) × (gs ≡ [])
 none_of [] [] e = (refl, refl)
@@ -151,127 +97,51 @@ all_frames s = All-append (λ b. is_session b.1 ≡ false) (map as_delivery s.br
     one_frame [] = All-nil (λ b. is_session b.1 ≡ false)
     one_frame (p ∷ gs) = All-cons (λ b. is_session b.1 ≡ false) (map (λ e. e.0) (p ∷ gs), input.Commands (map (λ e. e.1) (p ∷ gs))) [] refl (All-nil (λ b. is_session b.1 ≡ false))
 
--- where nothing was gathered, nothing is let go
-released_none : (s : Loop) → all_gathered s ≡ [] → releases s ≡ s
-released_none s e =
-    let none : (s.brought ≡ []) × (s.gathered ≡ []) = none_of s.brought s.gathered e in
-    ap (λ l. record s { gathered = l; brought = [] }) (sym none.1) ∙ ap (λ l. record s { brought = l }) (sym none.0)
-
-module _ {K : Type 0} where
-  -- nothing was gathered
-  flushed_none : (d : Served K) → all_gathered d.loop ≡ [] → (l : Luck) (before : List Deed) → flushed l (with_deeds before d) ≡ with_deeds before d
-  flushed_none d e l before = ap (λ r. given_together l r (released (with_deeds before d))) e ∙ ap (λ (s : Loop). record { loop = s; node = d.node; deeds = before }) (released_none d.loop e)
-
 module _ {K : Type 0} {stores : Stores K} where
+  -- nothing was gathered
   pub flush_nothing : (d : Served K) → all_gathered d.loop ≡ [] → Does stores (λ l s. flushed l s) d d
-  flush_nothing d h = does_as (λ l s. s) (λ l s. flushed l s) (flushed_none d h) (same_does d)
+  flush_nothing d h =
+      let none : (d.loop.brought ≡ []) × (d.loop.gathered ≡ []) = none_of d.loop.brought d.loop.gathered h in
+      let released_none : releases d.loop ≡ d.loop = ap (λ l. record d.loop { gathered = l; brought = [] }) (sym none.1) ∙ ap (λ l. record d.loop { brought = l }) (sym none.0) in
+      nothing_does (λ l s. flushed l s) d (λ l before. ap (λ r. given_together l r (released (with_deeds before d))) h ∙ ap (λ (s : Loop). record { loop = s; node = d.node; deeds = before }) released_none)
 
   -- all that was gathered was given together
   pub flush_gives : (u : Ungiven) (d m e : Served K) → AreUngiven (all_gathered d.loop) u → m ≡ record d { loop = releases d.loop } → GivesAll stores u m e → Gives stores (λ l s. flushed l s) d e
   flush_gives u d m e are is given =
-      let g = given (all_gathered d.loop) are in
-      let lost : m.loop.lost ≡ d.loop.lost = ap (λ (x : Served K). x.loop.lost) is in
-      let place : m.loop.place ≡ d.loop.place = ap (λ (x : Served K). x.loop.place) is in
-      let sessions : m.loop.sessions ≡ d.loop.sessions = ap (λ (x : Served K). x.loop.sessions) is in
-      record {
-        deeds = g.deeds;
-        grew = grew_trans (grew_still lost place) g.grew;
-        went = went_from (untouched is) g.went;
-        kinds = kinds_then d.loop m.loop e.loop (λ c. inl (ap (λ t. option_map (λ (x : Session). x.kind) (find c t)) sessions)) g.kinds;
-        sure = λ marks k. calm_same marks d.loop m.loop lost place (λ c. ap (λ t. is_some (find c t)) sessions) (g.sure marks k);
-        stays = stays_then (stays_same place) g.stays;
-        none = g.none;
-        is = λ l before k. ap (λ (x : Served K). given_together l (all_gathered d.loop) (with_deeds before x)) (sym is) ∙ g.is l before k;
-      }
+      let bs = all_gathered d.loop in
+      let s : Loop = releases d.loop in
+      let g = subst (λ (x : Served K). GivesAll stores u x e) is given bs are in
+      run_gives (run_then (λ l s t. flushed l s ≡ rest l t) (at_once IsCalm IsCalm released {d = d} {s = s} refl (grew_still refl refl) (λ marks f h. calm_same marks d.loop s refl refl (λ c. refl) h) (λ before. refl)) (gives_run g)
+      (λ l before xs zs k mid end x y. ap (given_together l bs) x ∙ y)) g.kinds (record { turn = g.stays.turn; at = g.stays.at; frames = g.stays.frames }) g.none
 
   -- ---- and then this is done, if the connection still has a session
 
+  pub loses_run : {c : ℕ} {d e : Served K} → Loses stores c d e → Run stores Any Any (λ l s t. (rest l s ≡ rest l t) × (find c (rest l s).loop.sessions ≡ None)) d e
+  loses_run a = record { deeds = a.deeds; grew = a.grew; went = a.went; sure = λ marks f h. tt; is = λ l before k h. (a.is l before k, a.closed l before k) }
+
   module _ (c : ℕ) (f : Luck → State → State) where
     pub behind_closed : {d m : Served K} → Does stores (λ l s. flushed l s) d m → is_open c m.loop ≡ false → Does stores (λ l s. behind l c (f l) s) d m
-    behind_closed {d} {m} a closed = record {
-      acts = record {
-        deeds = a.acts.deeds;
-        grew = a.acts.grew;
-        went = a.acts.went;
-        is = λ l before k calm_m. ap (if_there c f l) (a.acts.is l before k calm_m) ∙ ap (λ b. if b then f l (with_deeds (before ++ a.acts.deeds) m) else with_deeds (before ++ a.acts.deeds) m) closed;
-      };
-      calm = a.calm;
-    }
+    behind_closed {d} {m} a closed = run_does (run_as (λ l s t. behind l c (f l) s ≡ t) (does_run a) (λ l before zs k end x.
+        ap (if_there c f l) x ∙ ap (λ b. if b then f l (with_deeds zs m) else with_deeds zs m) closed))
 
     pub behind_goes : {d m e : Served K} → Does stores (λ l s. flushed l s) d m → is_open c m.loop ≡ true → Does stores f m e → Does stores (λ l s. behind l c (f l) s) d e
-    behind_goes {d} {m} {e} a there b = record {
-      acts = record {
-        deeds = a.acts.deeds ++ b.acts.deeds;
-        grew = grew_trans a.acts.grew b.acts.grew;
-        went = went_then a.acts.went b.acts.went;
-        is = λ l before k calm_e.
-            let all : List Deed = before ++ a.acts.deeds in
-            let k2 : Knows l (with_deeds (all ++ b.acts.deeds) e) = known e before a.acts.deeds b.acts.deeds k in
-            ap (if_there c f l) (a.acts.is l before (knew m e all b.acts.deeds b.acts.grew k2) (b.calm l.marks k.marks calm_e))
-            ∙ ap (λ o. if o then f l (with_deeds all m) else with_deeds all m) there
-            ∙ b.acts.is l all k2 calm_e
-            ∙ ap (λ x. with_deeds x e) (sym (split_deeds before a.acts.deeds b.acts.deeds));
-      };
-      calm = λ marks k calm_e. a.calm marks (foretold b.acts.grew k) (b.calm marks k calm_e);
-    }
+    behind_goes {d} {m} {e} a there b = run_does (run_then (λ l s t. behind l c (f l) s ≡ t) (does_run a) (does_run b) (λ l before xs zs k mid end x y.
+        ap (if_there c f l) x ∙ ap (λ o. if o then f l (with_deeds xs m) else with_deeds xs m) there ∙ y))
 
     -- what was to be done found no memory: its session was lost behind what was given
     pub behind_lost : {d m e : Served K} → Gives stores (λ l s. flushed l s) d m → Loses stores c m e → Does stores (λ l s. behind l c (f l) s) d e
-    behind_lost {d} {m} {e} g a = record {
-      acts = record {
-        deeds = g.deeds ++ a.deeds;
-        grew = grew_trans g.grew a.grew;
-        went = went_then g.went a.went;
-        is = λ l before k calm_e.
-            let all : List Deed = before ++ g.deeds in
-            let k2 : Knows l (with_deeds (all ++ a.deeds) e) = known e before g.deeds a.deeds k in
-            let first : flushed l (with_deeds before d) ≡ rest l (with_deeds all m) = g.is l before (knew m e all a.deeds a.grew k2) in
-            let closed : is_open c (rest l (with_deeds all m)).loop ≡ false = ap is_some (a.closed l all k2) in
-            ap (if_there c f l) first
-            ∙ ap (λ o. if o then f l (rest l (with_deeds all m)) else rest l (with_deeds all m)) closed
-            ∙ a.is l all k2
-            ∙ rest_still l (with_deeds (all ++ a.deeds) e) calm_e a.none
-            ∙ ap (λ x. with_deeds x e) (sym (split_deeds before g.deeds a.deeds));
-      };
-      calm = λ marks k calm_e. g.sure marks (foretold a.grew k);
-    }
+    behind_lost {d} {m} {e} g a = run_does (run_then (λ l s t. behind l c (f l) s ≡ t) (gives_run g) (run_any (loses_run a)) (λ l before xs zs k mid end x y.
+        let s : State = rest l (with_deeds xs m) in
+        ap (if_there c f l) x ∙ ap (λ o. if o then f l s else s) (ap is_some y.1) ∙ y.0 ∙ rest_still l (with_deeds zs e) end a.none))
 
-  -- ---- a frame, behind what was gathered
-
-  pub first_handles : (line : Standing → List ℕ) (c : ℕ) (heard : Heard) {d e : Served K} → goes_first c heard d.loop ≡ true → HandlesAlone stores line c heard d e → Handles stores line c heard d e
-  first_handles line c heard {d} {e} h a = record {
-    does = does_as (λ l s. on_frame l line c heard s) (λ l s. on_heard l line c heard s) (λ l before. ap (λ b. if b then on_frame l line c heard (with_deeds before d) else behind l c (on_frame l line c heard) (with_deeds before d)) h) a.does;
-    stays = a.stays;
-    none = a.none;
-  }
-
-  -- nothing was gathered
-  pub alone_handles : (line : Standing → List ℕ) (c : ℕ) (heard : Heard) {d e : Served K} → goes_first c heard d.loop ≡ false → all_gathered d.loop ≡ [] → is_open c d.loop ≡ true → HandlesAlone stores line c heard d e → Handles stores line c heard d e
-  alone_handles line c heard {d} {e} h few there a = record {
-    does = does_as (λ l s. behind l c (on_frame l line c heard) s) (λ l s. on_heard l line c heard s) (λ l before. heard_behind line c heard l (with_deeds before d) h) (behind_goes c (λ l s. on_frame l line c heard s) (flush_nothing d few) there a.does);
-    stays = a.stays;
-    none = a.none;
-  }
-
-  pub closed_handles : (line : Standing → List ℕ) (c : ℕ) (heard : Heard) {d m : Served K} → goes_first c heard d.loop ≡ false → Gives stores (λ l s. flushed l s) d m → is_open c m.loop ≡ false → Handles stores line c heard d m
-  closed_handles line c heard {d} {m} h g closed = record {
-    does = does_as (λ l s. behind l c (on_frame l line c heard) s) (λ l s. on_heard l line c heard s) (λ l before. heard_behind line c heard l (with_deeds before d) h) (behind_closed c (λ l s. on_frame l line c heard s) (gives_does (λ l s. flushed l s) g) closed);
-    stays = g.stays;
-    none = drains_at c m.loop g.none;
-  }
-
-  pub behind_handles : (line : Standing → List ℕ) (c : ℕ) (heard : Heard) {d m e : Served K} → goes_first c heard d.loop ≡ false → Gives stores (λ l s. flushed l s) d m → is_open c m.loop ≡ true → HandlesAlone stores line c heard m e → Handles stores line c heard d e
-  behind_handles line c heard {d} {m} {e} h g there a = record {
-    does = does_as (λ l s. behind l c (on_frame l line c heard) s) (λ l s. on_heard l line c heard s) (λ l before. heard_behind line c heard l (with_deeds before d) h) (behind_goes c (λ l s. on_frame l line c heard s) (gives_does (λ l s. flushed l s) g) there a.does);
-    stays = stays_then g.stays a.stays;
-    none = a.none;
-  }
-
-  pub lost_handles : (line : Standing → List ℕ) (c : ℕ) (heard : Heard) {d m e : Served K} → goes_first c heard d.loop ≡ false → Gives stores (λ l s. flushed l s) d m → Loses stores c m e → Handles stores line c heard d e
-  lost_handles line c heard {d} {m} {e} h g a = record {
-    does = does_as (λ l s. behind l c (on_frame l line c heard) s) (λ l s. on_heard l line c heard s) (λ l before. heard_behind line c heard l (with_deeds before d) h) (behind_lost c (λ l s. on_frame l line c heard s) g a);
-    stays = stays_then g.stays a.stays;
-    none = drains_at c e.loop a.none;
+module _ {K : Type 0} {stores : Stores K} {line : Standing → List ℕ} {c : ℕ} {heard : Heard} where
+  -- a frame, behind what was gathered
+  pub behind_handles : {d e : Served K} → goes_first c heard d.loop ≡ false → Does stores (λ l s. behind l c (on_frame l line c heard) s) d e → Stays d.loop e.loop → DrainsAt c e.loop → Handles stores line c heard d e
+  behind_handles {d} h a stays none = record {
+    does = does_as (λ l s. behind l c (on_frame l line c heard) s) (λ l s. on_heard l line c heard s)
+        (λ l before. let s : State = with_deeds before d in ap (λ b. if b then on_frame l line c heard s else behind l c (on_frame l line c heard) s) h) a;
+    stays = stays;
+    none = none;
   }
 
 -- ---- what joins others
@@ -283,72 +153,23 @@ if_full n k x y = elim (cases_Bool (nat_le k n)) [
   | inr h ↦ rw (h, lt-ltb n k (leb-false k n h)) refl
 ]
 
-abbrev if_flushed : Bool → Luck → State → State
-if_flushed full l s = if full then flushed l s else s
-
-module _ {K : Type 0} where
-  -- it was gathered, and nothing else changed
-  pub record Joins (d m : Served K) : Type 0 where
-    pub lost : m.loop.lost ≡ d.loop.lost
-    pub place : m.loop.place ≡ d.loop.place
-    pub sessions : m.loop.sessions ≡ d.loop.sessions
-    pub downs : m.loop.downs ≡ d.loop.downs
-    pub beside : Untouched d m
-
-  pub gathers_joins : (c : ℕ) (x : Command) {d m : Served K} → m ≡ record d { loop = gathers c x d.loop } → Joins d m
-  gathers_joins c x is = record {
-    lost = ap (λ (y : Served K). y.loop.lost) is;
-    place = ap (λ (y : Served K). y.loop.place) is;
-    sessions = ap (λ (y : Served K). y.loop.sessions) is;
-    downs = ap (λ (y : Served K). y.loop.downs) is;
-    beside = untouched is;
-  }
-
-  pub brings_joins : (c : ℕ) (x : ℕ × Msg) {d m : Served K} → m ≡ record d { loop = brings c x d.loop } → Joins d m
-  brings_joins c x is = record {
-    lost = ap (λ (y : Served K). y.loop.lost) is;
-    place = ap (λ (y : Served K). y.loop.place) is;
-    sessions = ap (λ (y : Served K). y.loop.sessions) is;
-    downs = ap (λ (y : Served K). y.loop.downs) is;
-    beside = untouched is;
-  }
-
-  pub joins_drained : {d m : Served K} → Joins d m → IsDrained d.loop → IsDrained m.loop
-  joins_drained j none = (j.downs ∙ none.0, λ n. ap (λ t. is_overfull (find n t)) j.sessions ∙ none.1 n)
-
-module _ {K : Type 0} {stores : Stores K} where
-  -- it was gathered, and where that is as much as may be, all is given
-  joins_does : (f : Luck → State → State) (full : Bool) {d m e : Served K} → Joins d m → ((l : Luck) (before : List Deed) → f l (with_deeds before d) ≡ if_flushed full l (with_deeds before m)) → Does stores (λ l s. if full then flushed l s else s) m e → Does stores f d e
-  joins_does f full {d} {m} {e} j same a = record {
-    acts = record {
-      deeds = a.acts.deeds;
-      grew = grew_trans (grew_still j.lost j.place) a.acts.grew;
-      went = went_from j.beside a.acts.went;
-      is = λ l before k calm_e. same l before ∙ a.acts.is l before k calm_e;
-    };
-    calm = λ marks k calm_e. calm_same marks d.loop m.loop j.lost j.place (λ n. ap (λ t. is_some (find n t)) j.sessions) (a.calm marks k calm_e);
-  }
-
-  joins_handles : (line : Standing → List ℕ) (c : ℕ) (heard : Heard) (full : Bool) {d m e : Served K} → Joins d m → ((l : Luck) (before : List Deed) → on_frame l line c heard (with_deeds before d) ≡ if_flushed full l (with_deeds before m))
+module _ {K : Type 0} {stores : Stores K} {line : Standing → List ℕ} {c : ℕ} {heard : Heard} where
+  -- It was gathered, which changes nothing that a loss reads, and where that is as much as may be, all is given.
+  pub joins_handles : (full : Bool) (count : Loop → ℕ) (most : ℕ) {d m e : Served K} {s : Loop} → m ≡ record d { loop = s } → s.lost ≡ d.loop.lost → s.place ≡ d.loop.place → s.sessions ≡ d.loop.sessions
+      → full ≡ nat_le most (count m.loop)
+      → ((l : Luck) (before : List Deed) → let t : State = record { loop = s; node = d.node; deeds = before } in on_frame l line c heard (with_deeds before d) ≡ (if nat_lt (count s) most then t else flushed l t))
       → Does stores (λ l s. if full then flushed l s else s) m e → Stays m.loop e.loop → IsDrained e.loop → HandlesAlone stores line c heard d e
-  joins_handles line c heard full {d} {m} {e} j same a stays none = record {
-    does = joins_does (λ l s. on_frame l line c heard s) full j same a;
-    stays = stays_then (stays_same j.place) stays;
-    none = drains_at c e.loop none;
-  }
-
-  pub command_handles : (line : Standing → List ℕ) (c : ℕ) (x : Command) (full : Bool) (d m e : Served K) → m ≡ record d { loop = gathers c x d.loop } → full ≡ nat_le most_commands (length m.loop.gathered)
-      → Does stores (λ l s. if full then flushed l s else s) m e → Stays m.loop e.loop → IsDrained e.loop → HandlesAlone stores line c (Asks (request.Command x)) d e
-  command_handles line c x full d m e is full_is a stays none =
-      joins_handles line c (Asks (request.Command x)) full (gathers_joins c x is) (λ l before.
-      ap (λ (y : Served K). if nat_lt (length y.loop.gathered) most_commands then with_deeds before y else flushed l (with_deeds before y)) (sym is)
-      ∙ if_full (length m.loop.gathered) most_commands (with_deeds before m) (flushed l (with_deeds before m))
-      ∙ ap (λ b. if_flushed b l (with_deeds before m)) (sym full_is)) a stays none
-
-  pub message_handles : (line : Standing → List ℕ) (c q : ℕ) (x : Msg) (full : Bool) (d m e : Served K) → m ≡ record d { loop = brings c (q, x) d.loop } → full ≡ nat_le most_brought (length m.loop.brought)
-      → Does stores (λ l s. if full then flushed l s else s) m e → Stays m.loop e.loop → IsDrained e.loop → HandlesAlone stores line c (Message q x) d e
-  message_handles line c q x full d m e is full_is a stays none =
-      joins_handles line c (Message q x) full (brings_joins c (q, x) is) (λ l before.
-      ap (λ (y : Served K). if nat_lt (length y.loop.brought) most_brought then with_deeds before y else flushed l (with_deeds before y)) (sym is)
-      ∙ if_full (length m.loop.brought) most_brought (with_deeds before m) (flushed l (with_deeds before m))
-      ∙ ap (λ b. if_flushed b l (with_deeds before m)) (sym full_is)) a stays none
+  joins_handles full count most {d} {m} {e} {s} is lost place sessions full_is same a stays none =
+      let opens : (n : ℕ) → is_open n s ≡ is_open n d.loop = λ n. ap (λ t. is_some (find n t)) sessions in
+      let full_now : full ≡ nat_le most (count s) = full_is ∙ ap (λ (x : Served K). nat_le most (count x.loop)) is in
+      record {
+        does = run_does (run_then (λ l u t. on_frame l line c heard u ≡ t) (at_once IsCalm IsCalm (λ u. record u { loop = s }) is (grew_still lost place) (λ marks f h. calm_same marks d.loop s lost place opens h) (λ before. refl)) (does_run a) (λ l before xs zs k mid end x y.
+            let t : State = record { loop = s; node = d.node; deeds = before } in
+            same l before
+            ∙ if_full (count s) most t (flushed l t)
+            ∙ ap (λ b. if b then flushed l t else t) (sym full_now)
+            ∙ ap (λ u. if full then flushed l u else u) x
+            ∙ y));
+        stays = stays_then (subst (λ (x : Served K). Stays d.loop x.loop) (sym is) (stays_same place)) stays;
+        none = drains_at c e.loop none;
+      }

@@ -5,7 +5,6 @@ pub mod Draining
 pub mod Together
 pub mod Counting
 pub mod Telling
-pub mod Entering
 pub mod Grouping
 pub mod Handling
 pub mod Dealing

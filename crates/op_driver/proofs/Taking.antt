@@ -8,15 +8,15 @@ use Rattle.op_types.specs.declared.events.Input.{Input}
 use Rattle.op_serving.specs.declared.mark.Mark.{Mark}
 use Rattle.op_serving.specs.declared.mark.Place.{Place}
 use Rattle.op_serving.specs.Cores.{Standing}
-use Rattle.op_serving.specs.Fates.{Came, Fate, done, finds, faults, shares, damaged, lost, broke_by, after_fate, after_all, MayCome, MayFail, IsTogether, MayComeAll}
+use Rattle.op_serving.specs.Fates.{Came, Fate, done, finds, faults, shares, damaged, lost, broke_by, after_fate, after_all, is_lost, MayCome, MayFail, IsTogether, MayComeAll}
 use Rattle.op_serving.specs.Faults.{Stepped, came_in}
 use Rattle.op_serving.specs.Room.{Frame}
 use Rattle.op_serving.specs.State.{Loop, next, counted}
 use Rattle.op_serving.specs.Losses.{most_marks, last_count, mark_at, noted, marked, is_here, IsCalm, IsFrom, Foretells, Grew, KeepsKinds}
 use Rattle.op_serving.specs.Inputs.{Brought, Taken, Deed, enters, says, State, Luck, asked_by, loop_taking, kept_fate, kept_of, kept, is_lost_here, broke, fate_with, next_fate}
-use Rattle.op_queues.proofs.Settling.{kinds_then, marked_kinds, grew_trans, grew_still, stopped_lost, stopped_place, from_own, here_own, from_counted, counted_grew}
-use Rattle.op_driver.proofs.Calm.{no_left, not_here, calm_before, calm_lost}
-use Rattle.op_driver.proofs.Stepping.{steps_says}
+use Rattle.op_queues.proofs.Settling.{foretold, kinds_then, marked_kinds, grew_trans, grew_still, stopped_lost, stopped_place, from_own, here_own, from_counted, counted_grew}
+use Rattle.op_driver.proofs.Calm.{no_left, not_here, past_inputs, calm_before, calm_lost}
+use Rattle.op_driver.proofs.Stepping.{kept_both, steps_says}
 
 -- an input, the connections whose frames it was, and what came of it
 abbrev pub Entry : Type 0
@@ -54,10 +54,6 @@ state_at s n ds = record { loop = s; node = n; deeds = ds }
 
 -- ---- what came of inputs before
 
-pub kept_both : (xs ys : List Deed) → kept (xs ++ ys) ≡ kept xs ++ kept ys
-kept_both [] ys = refl
-kept_both (x ∷ xs) ys = ap (λ l. kept_of x ++ l) (kept_both xs ys) ∙ sym (append_assoc (kept_of x) (kept xs) (kept ys))
-
 kept_says : (fs : List Frame) → kept (map says fs) ≡ []
 kept_says [] = refl
 kept_says (f ∷ fs) = kept_says fs
@@ -79,7 +75,9 @@ past_seam (a ∷ xs) = past_seam xs
 
 here_next : (ms : List Mark) (s : Loop) → All (IsFrom (counted s).place) ms → s.place.inputs < next s.place.inputs → is_lost_here (slice_get (s.lost ++ ms) (length s.lost)) s ≡ false
 here_next [] s all up = rw (past_seam s.lost) refl
-here_next (m ∷ ms) s all up = rw (at_seam s.lost m ms) (no_left (is_here s.place m) (not (is_some m.conn)) (not_here s.place (counted s).place m refl refl up (All-head (IsFrom (counted s).place) m ms all)))
+here_next (m ∷ ms) s all up =
+    let away : is_here s.place m ≡ false = not_here s.place (counted s).place m (past_inputs s.place (next s.place.inputs) up) (All-head (IsFrom (counted s).place) m ms all) in
+    rw (at_seam s.lost m ms) (no_left (is_here s.place m) (not (is_some m.conn)) away)
 
 -- no mark of this place loses an input that was counted
 counted_here : (l : Luck) (s : Loop) → Foretells l.marks (counted s) → is_lost_here (slice_get l.marks (length s.lost)) s ≡ false
@@ -99,41 +97,29 @@ lost_here l s f =
     rw (split, at_seam s.lost (none_marked s) f.rest, here_own s.place None) refl
 
 -- what may come does come, if it is next
-comes_so : (b : Option ℕ) (n : Standing) (i : Input) (f : Fate) → MayCome n i f → MayFail i f → IsTogether b f → kept_fate f ≡ f ∷ [] → fate_with b n i (Some f) ≡ f
-comes_so None n i done may fails one kept_is = refl
-comes_so None n i (finds d) may fails one kept_is = ap (λ b. if b then finds d else done) may
-comes_so None n i (faults k) may fails one kept_is = ap (λ b. if b then done else faults k) fails
-comes_so None n i (shares k) may fails one kept_is = absurd one
-comes_so None n i damaged may fails one kept_is = refl
-comes_so None n i lost may fails one kept_is = absurd (let k = kept_is in cc)
-comes_so (Some k) n i done may fails one kept_is = sym one
-comes_so (Some k) n i (finds d) may fails one kept_is = sym one
-comes_so (Some k) n i (faults j) may fails one kept_is = sym one
-comes_so (Some k) n i (shares j) may fails one kept_is = sym one
-comes_so (Some k) n i damaged may fails one kept_is = sym one
-comes_so (Some k) n i lost may fails one kept_is = absurd (let k = kept_is in cc)
+comes_so : (b : Option ℕ) (n : Standing) (i : Input) (f : Fate) → MayCome n i f → MayFail i f → IsTogether b f → is_lost f ≡ false → fate_with b n i (Some f) ≡ f
+comes_so b n i lost may fails one kept = absurd cc
+comes_so None n i (finds d) may fails one kept = ap (λ b. if b then finds d else done) may
+comes_so None n i (faults k) may fails one kept = ap (λ b. if b then done else faults k) fails
+comes_so None n i (shares k) may fails one kept = absurd one
+comes_so None n i f may fails one kept = refl
+comes_so (Some k) n i f may fails one kept = sym one
 
 module _ (l : Luck) (ts : List Taken) (i : Input) (s : Loop) (n : Standing) (ds : List Deed) where
   abbrev next_with : Bool → Option Fate → Fate
   next_with b o = if b then lost else fate_with (broke ts) n i o
 
   -- one that was counted and not lost has the next fate
-  next_counted : (f : Fate) (more : List Fate) → kept_fate f ≡ f ∷ [] → MayCome n i f → MayFail i f → IsTogether (broke ts) f → Foretells l.marks (counted s) → l.fates ≡ kept ds ++ (kept_fate f ++ more) → next_fate l ts i (state_at s n ds) ≡ f
+  next_counted : (f : Fate) (more : List Fate) → is_lost f ≡ false → MayCome n i f → MayFail i f → IsTogether (broke ts) f → Foretells l.marks (counted s) → l.fates ≡ kept ds ++ f ∷ more → next_fate l ts i (state_at s n ds) ≡ f
   next_counted f more one may fails with_it marks fates =
-      let split : l.fates ≡ kept ds ++ f ∷ more = fates ∙ ap (λ r. kept ds ++ (r ++ more)) one in
-      ap (λ b. next_with b (slice_get l.fates (length (kept ds)))) (counted_here l s marks) ∙ ap (λ r. next_with false (slice_get r (length (kept ds)))) split ∙ ap (next_with false) (at_seam (kept ds) f more) ∙ comes_so (broke ts) n i f may fails with_it one
+      ap (λ b. next_with b (slice_get l.fates (length (kept ds)))) (counted_here l s marks)
+      ∙ ap (λ r. next_with false (slice_get r (length (kept ds)))) fates
+      ∙ ap (next_with false) (at_seam (kept ds) f more) ∙ comes_so (broke ts) n i f may fails with_it one
 
   -- that of a lost one is told by its mark
-  next_lost : Foretells l.marks (counted (marked None s)) → next_fate l ts i (state_at s n ds) ≡ lost
-  next_lost marks = ap (λ b. next_with b (slice_get l.fates (length (kept ds)))) (lost_here l s marks)
-
   pub next_is : (f : Fate) (more : List Fate) → MayCome n i f → MayFail i f → IsTogether (broke ts) f → Foretells l.marks (loop_taking f s) → l.fates ≡ kept ds ++ (kept_fate f ++ more) → next_fate l ts i (state_at s n ds) ≡ f
-  next_is done more may fails with_it marks fates = next_counted done more refl may fails with_it marks fates
-  next_is (finds d) more may fails with_it marks fates = next_counted (finds d) more refl may fails with_it marks fates
-  next_is (faults k) more may fails with_it marks fates = next_counted (faults k) more refl may fails with_it marks fates
-  next_is (shares k) more may fails with_it marks fates = next_counted (shares k) more refl may fails with_it marks fates
-  next_is damaged more may fails with_it marks fates = next_counted damaged more refl may fails with_it marks fates
-  next_is lost more may fails with_it marks fates = next_lost marks
+  next_is lost more may fails with_it marks fates = ap (λ b. next_with b (slice_get l.fates (length (kept ds)))) (lost_here l s marks)
+  next_is f more may fails with_it marks fates = next_counted f more refl may fails with_it marks fates
 
 -- ---- what is kept behind them
 
@@ -148,12 +134,8 @@ abbrev pub InCount : Loop → Type 0
 InCount s = s.place.inputs ≤ last_count
 
 pub in_count : (f : Fate) (s : Loop) → InCount (loop_taking f s)
-in_count done s = omega arith
-in_count (finds d) s = omega arith
-in_count (faults k) s = omega arith
-in_count (shares k) s = omega arith
-in_count damaged s = omega arith
 in_count lost s = subst (λ (p : Place). p.inputs ≤ last_count) (sym (lost_place s)) (omega arith)
+in_count f s = omega arith
 
 grew_lost : (s : Loop) → InCount s → Grew s (counted (marked None s))
 grew_lost s short =
@@ -166,44 +148,26 @@ grew_lost s short =
       counts = subst (λ (p : Place). s.place.inputs ≤ p.inputs) (sym (lost_place s)) up;
     }
 
-grew_counted : (s : Loop) → InCount s → Grew s (counted s)
-grew_counted s short = counted_grew s (omega (arith, short))
-
 pub grew_taking : (f : Fate) (s : Loop) → InCount s → Grew s (loop_taking f s)
-grew_taking done s short = grew_counted s short
-grew_taking (finds d) s short = grew_counted s short
-grew_taking (faults k) s short = grew_counted s short
-grew_taking (shares k) s short = grew_counted s short
-grew_taking damaged s short = grew_counted s short
 grew_taking lost s short = grew_lost s short
+grew_taking f s short = counted_grew s (omega (arith, short))
 
 pub grew_taken : (zs : List Entry) (s : Loop) → InCount s → Grew s (loop_taken zs s)
 grew_taken [] s short = grew_still refl refl
 grew_taken (z ∷ zs) s short = grew_trans (grew_taking z.1 s short) (grew_taken zs (loop_taking z.1 s) (in_count z.1 s))
 
 kinds_taking : (f : Fate) (s : Loop) → KeepsKinds s (loop_taking f s)
-kinds_taking done s = λ c. inl refl
-kinds_taking (finds d) s = λ c. inl refl
-kinds_taking (faults k) s = λ c. inl refl
-kinds_taking (shares k) s = λ c. inl refl
-kinds_taking damaged s = λ c. inl refl
 kinds_taking lost s = marked_kinds None s
+kinds_taking f s = λ c. inl refl
 
 pub kinds_taken : (zs : List Entry) (s : Loop) → KeepsKinds s (loop_taken zs s)
 kinds_taken [] s = λ c. inl refl
 kinds_taken (z ∷ zs) s = kinds_then s (loop_taking z.1 s) (loop_taken zs (loop_taking z.1 s)) (kinds_taking z.1 s) (kinds_taken zs (loop_taking z.1 s))
 
 -- before an input it was calm
-calm_lost_one : (marks : List Mark) (s t : Loop) → Grew (counted (marked None s)) t → Foretells marks t → IsCalm marks s
-calm_lost_one marks s t g f = calm_lost marks s t g.added (g.lost ∙ ap (λ l. l ++ g.added) (taking_lost s) ∙ append_assoc s.lost (none_marked s ∷ []) g.added) f
-
 pub calm_taking : (f : Fate) (marks : List Mark) (s t : Loop) → Grew (loop_taking f s) t → Foretells marks t → IsCalm marks s
-calm_taking done marks s t g k = calm_before marks s t g k
-calm_taking (finds d) marks s t g k = calm_before marks s t g k
-calm_taking (faults j) marks s t g k = calm_before marks s t g k
-calm_taking (shares j) marks s t g k = calm_before marks s t g k
-calm_taking damaged marks s t g k = calm_before marks s t g k
-calm_taking lost marks s t g k = calm_lost_one marks s t g k
+calm_taking lost marks s t g k = calm_lost marks s (counted (marked None s)) (taking_lost s) (foretold g k)
+calm_taking f marks s t g k = calm_before marks s t g k
 
 -- ---- what they are to the node
 

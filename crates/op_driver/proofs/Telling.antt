@@ -14,7 +14,7 @@ use Rattle.op_serving.specs.declared.wanted.Wanted.{Wanted}
 use Rattle.op_serving.specs.Cores.{Standing, gives, given_again}
 use Rattle.op_serving.specs.Fates as fates
 use Rattle.op_serving.specs.Fates.{Fate, done, finds, faults, shares, damaged, lost, broke_by, after_fate, IsTogether, MayComeAll, Tells, TellAll}
-use Rattle.op_serving.specs.Handing.{handed_out, proposed, asked, is_read, keys_that_wait, said_at_once, told_all, excused, said_of_denial}
+use Rattle.op_serving.specs.Handing.{handed_out, proposed, asked, is_read, keys_that_wait, said_at_once, told_all, excused, said_of_denial, given_up}
 use Rattle.op_serving.specs.Losses.{settled, Does}
 use Rattle.op_serving.specs.Ranges.{WantedInRange}
 use Rattle.op_serving.specs.State.{Loop}
@@ -26,93 +26,37 @@ use Rattle.op_queues.proofs.Failing.{blind_given_up}
 use Rattle.op_queues.proofs.Sending.{blind_told_all, blind_handed}
 use Rattle.op_queues.proofs.Settling.{Blind, blind_then, does_nothing, does_then, does_as}
 use Rattle.op_driver.proofs.Calm.{apart}
-use Rattle.op_driver.proofs.Draining.{blind_same}
 use Rattle.op_driver.proofs.Taking.{Entry, brought_of, came_of, taken_of, loop_taken}
 
 -- ---- one input
 
--- the answers that there are, by what came of the input
-data ToldBy : Answer → Standing → Input → Fate → Type 0 where
-  gave : (n : Standing) (i : Input) → ToldBy (Ok (gives n i)) n i done
-  opened : (n : Standing) (i : Input) (d : Durable) → ToldBy (Ok (given_again n d)) n i (finds d)
-  fell : (n : Standing) (i : Input) (k : ℕ) → ToldBy (Err (DiskFail k)) n i (faults k)
-  shared : (n : Standing) (i : Input) (k : ℕ) → ToldBy (Err (DiskFail k)) n i (shares k)
-  broken : (n : Standing) (i : Input) → ToldBy (Err Damaged) n i damaged
-  wanting : (n : Standing) (i : Input) → ToldBy (Err NoMemory) n i lost
-
-told_by : (r : Answer) (n : Standing) (i : Input) (f : Fate) → Tells r n i f → ToldBy r n i f
-told_by (Ok given) n i done t = subst (λ g. ToldBy (Ok g) n i done) (sym t) (gave n i)
-told_by (Ok given) n i (finds d) t = subst (λ g. ToldBy (Ok g) n i (finds d)) (sym t) (opened n i d)
-told_by (Ok given) n i (faults j) t = absurd t
-told_by (Ok given) n i (shares j) t = absurd t
-told_by (Ok given) n i damaged t = absurd t
-told_by (Ok given) n i lost t = absurd t
-told_by (Err (DiskFail k)) n i done t = absurd t
-told_by (Err (DiskFail k)) n i (finds d) t = absurd t
-told_by (Err (DiskFail k)) n i (faults j) t = subst (λ x. ToldBy (Err (DiskFail k)) n i (faults x)) t (fell n i k)
-told_by (Err (DiskFail k)) n i (shares j) t = subst (λ x. ToldBy (Err (DiskFail k)) n i (shares x)) t (shared n i k)
-told_by (Err (DiskFail k)) n i damaged t = absurd t
-told_by (Err (DiskFail k)) n i lost t = absurd t
-told_by (Err Damaged) n i done t = absurd t
-told_by (Err Damaged) n i (finds d) t = absurd t
-told_by (Err Damaged) n i (faults j) t = absurd t
-told_by (Err Damaged) n i (shares j) t = absurd t
-told_by (Err Damaged) n i damaged t = broken n i
-told_by (Err Damaged) n i lost t = absurd t
-told_by (Err NoMemory) n i done t = absurd t
-told_by (Err NoMemory) n i (finds d) t = absurd t
-told_by (Err NoMemory) n i (faults j) t = absurd t
-told_by (Err NoMemory) n i (shares j) t = absurd t
-told_by (Err NoMemory) n i damaged t = absurd t
-told_by (Err NoMemory) n i lost t = wanting n i
-
 -- it is counted as its fate says
-counting_told : {r : Answer} {n : Standing} {i : Input} {f : Fate} (s : Loop) → ToldBy r n i f → counting r s ≡ loop_taking f s
-counting_told s (gave n i) = refl
-counting_told s (opened n i d) = refl
-counting_told s (fell n i k) = refl
-counting_told s (shared n i k) = refl
-counting_told s (broken n i) = refl
-counting_told s (wanting n i) = refl
+pub counting_is : (r : Answer) (n : Standing) (i : Input) (f : Fate) (s : Loop) → Tells r n i f → counting r s ≡ loop_taking f s
+counting_is r n i f s t = grind arith
 
-lost_told : {r : Answer} {n : Standing} {i : Input} {f : Fate} → ToldBy r n i f → is_lost r ≡ fates.is_lost f
-lost_told (gave n i) = refl
-lost_told (opened n i d) = refl
-lost_told (fell n i k) = refl
-lost_told (shared n i k) = refl
-lost_told (broken n i) = refl
-lost_told (wanting n i) = refl
+lost_told : (r : Answer) (n : Standing) (i : Input) (f : Fate) → Tells r n i f → is_lost r ≡ fates.is_lost f
+lost_told r n i f t = grind arith
 
 again_is : (w : Option Wanted) (n : Standing) (d : Durable) (s : Loop) → handed_out (given_again n d) (proposed w (given_again n d).outcome s) ≡ handed_out (given_again n d) (proposed w None s)
 unfolding given_again
 again_is w n d s = refl
 
 -- what it gives out is handed out as its fate says, where this is so of a fault before it
-answered_told : (w : Option Wanted) (b : Option ℕ) {r : Answer} {n : Standing} {i : Input} {f : Fate} (s : Loop) → ToldBy r n i f → IsTogether b f → answered w (is_some b) r s ≡ loop_after w i f n s
-answered_told w b s (gave n i) one = refl
-answered_told w b s (opened n i d) one = again_is w n d s
-answered_told w None s (fell n i k) one = refl
-answered_told w (Some j) s (fell n i k) one = absurd (let x = one in cc)
-answered_told w None s (shared n i k) one = absurd one
-answered_told w (Some j) s (shared n i k) one = refl
-answered_told w b s (broken n i) one = refl
-answered_told w b s (wanting n i) one = refl
+pub answered_is : (w : Option Wanted) (b : Option ℕ) (r : Answer) (n : Standing) (i : Input) (f : Fate) (s : Loop) → Tells r n i f → IsTogether b f → answered w (is_some b) r s ≡ loop_after w i f n s
+answered_is w b (Ok given) n i done s t one = ap (λ g. handed_out g (proposed w g.outcome s)) t
+answered_is w b (Ok given) n i (finds d) s t one = ap (λ g. handed_out g (proposed w g.outcome s)) t ∙ again_is w n d s
+answered_is w None (Err (DiskFail k)) n i (faults j) s t one = ap (λ x. excused w (Some (StorageFailed x)) (given_up x s)) t
+answered_is w (Some m) (Err (DiskFail k)) n i (faults j) s t one = absurd (let x = one in cc)
+answered_is w None (Err (DiskFail k)) n i (shares j) s t one = absurd one
+answered_is w (Some m) (Err (DiskFail k)) n i (shares j) s t one = ap (λ x. excused w (Some (StorageFailed x)) s) t
+answered_is w b (Err Damaged) n i damaged s t one = refl
+answered_is w b (Err NoMemory) n i lost s t one = refl
+answered_is w b r n i f s t one = absurd t
 
 -- whether one behind it comes behind a fault
-fault_told : (b : Option ℕ) {r : Answer} {n : Standing} {i : Input} {f : Fate} → ToldBy r n i f → IsTogether b f → (is_some b || is_fault r) ≡ is_some (broke_by b f)
-fault_told (Some j) t one = refl
-fault_told None (gave n i) one = refl
-fault_told None (opened n i d) one = refl
-fault_told None (fell n i k) one = refl
-fault_told None (shared n i k) one = absurd one
-fault_told None (broken n i) one = refl
-fault_told None (wanting n i) one = refl
-
-pub counting_is : (r : Answer) (n : Standing) (i : Input) (f : Fate) (s : Loop) → Tells r n i f → counting r s ≡ loop_taking f s
-counting_is r n i f s t = counting_told s (told_by r n i f t)
-
-pub answered_is : (w a : Option Wanted) (b : Option ℕ) (r : Answer) (n : Standing) (i : Input) (f : Fate) (s : Loop) → w ≡ a → Tells r n i f → IsTogether b f → answered w (is_some b) r s ≡ loop_after a i f n s
-answered_is w a b r n i f s w_is t one = ap (λ x. answered x (is_some b) r s) w_is ∙ answered_told a b s (told_by r n i f t) one
+fault_told : (b : Option ℕ) (r : Answer) (n : Standing) (i : Input) (f : Fate) → Tells r n i f → IsTogether b f → (is_some b || is_fault r) ≡ is_some (broke_by b f)
+fault_told (Some j) r n i f t one = refl
+fault_told None r n i f t one = grind arith
 
 -- ---- several
 
@@ -125,24 +69,26 @@ counting_all_is [] n b [] s t may = refl
 counting_all_is [] n b (z ∷ zs) s t may = absurd (let k = t in cc)
 counting_all_is (r ∷ rs) n b [] s t may = absurd t
 counting_all_is (r ∷ rs) n b (z ∷ zs) s t may =
-    let told : ToldBy r n z.0.1 z.1 = told_by r n z.0.1 z.1 t.0 in
+    let one : counting r s ≡ loop_taking z.1 s = counting_is r n z.0.1 z.1 s t.0 in
     let goes = λ (b : Bool). if b then counting r s else counting_all rs (counting r s) in
     elim (cases_Bool (is_lost r)) [
-      | inl h ↦ ap goes h ∙ (counting_told s told ∙ ap (λ ys. loop_taken ys (loop_taking z.1 s)) (sym (none_came zs (may.2 (sym (lost_told told) ∙ h)))))
-      | inr h ↦ ap goes h ∙ (ap (counting_all rs) (counting_told s told) ∙ counting_all_is rs (after_fate n z.0.1 z.1) (broke_by b z.1) zs (loop_taking z.1 s) t.1 may.3)
+      | inl h ↦ ap goes h ∙ (one ∙ ap (λ ys. loop_taken ys (loop_taking z.1 s)) (sym (none_came zs (may.2 (sym (lost_told r n z.0.1 z.1 t.0) ∙ h)))))
+      | inr h ↦ ap goes h ∙ (ap (counting_all rs) one ∙ counting_all_is rs (after_fate n z.0.1 z.1) (broke_by b z.1) zs (loop_taking z.1 s) t.1 may.3)
     ]
 
 pub answered_all_is : (w : Option Wanted) (rs : List Answer) (n : Standing) (b : Option ℕ) (zs : List Entry) (s : Loop) → TellAll rs n (came_of zs) → MayComeAll n b (came_of zs) → AskWithLast (brought_of zs) w → answered_all w (is_some b) rs s ≡ loop_after_all (taken_of zs n) s
 answered_all_is w [] n b [] s t may asks = refl
 answered_all_is w [] n b (z ∷ zs) s t may asks = absurd (let k = t in cc)
 answered_all_is w (r ∷ rs) n b [] s t may asks = absurd t
-answered_all_is w (r ∷ []) n b (z ∷ []) s t may asks = answered_is w (asked_by z.0.0 z.0.1) b r n z.0.1 z.1 s asks t.0 may.1
+answered_all_is w (r ∷ []) n b (z ∷ []) s t may asks = ap (λ x. answered x (is_some b) r s) asks ∙ answered_is (asked_by z.0.0 z.0.1) b r n z.0.1 z.1 s t.0 may.1
 answered_all_is w (r ∷ q ∷ rs) n b (z ∷ []) s t may asks = absurd t.1
 answered_all_is w (r ∷ []) n b (z ∷ y ∷ zs) s t may asks = absurd (let k = t.1 in cc)
 answered_all_is w (r ∷ q ∷ rs) n b (z ∷ y ∷ zs) s t may asks =
-    ap (λ o. answered_all w o (q ∷ rs) (answered None (is_some b) r s)) (fault_told b (told_by r n z.0.1 z.1 t.0) may.1)
-    ∙ ap (answered_all w (is_some (broke_by b z.1)) (q ∷ rs)) (answered_is None (asked_by z.0.0 z.0.1) b r n z.0.1 z.1 s (sym asks.0) t.0 may.1)
-    ∙ answered_all_is w (q ∷ rs) (after_fate n z.0.1 z.1) (broke_by b z.1) (y ∷ zs) (loop_after (asked_by z.0.0 z.0.1) z.0.1 z.1 n s) t.1 may.3 asks.1
+    let a : Option Wanted = asked_by z.0.0 z.0.1 in
+    ap (λ o. answered_all w o (q ∷ rs) (answered None (is_some b) r s)) (fault_told b r n z.0.1 z.1 t.0 may.1)
+    ∙ ap (λ x. answered_all w (is_some (broke_by b z.1)) (q ∷ rs) (answered x (is_some b) r s)) (sym asks.0)
+    ∙ ap (answered_all w (is_some (broke_by b z.1)) (q ∷ rs)) (answered_is a b r n z.0.1 z.1 s t.0 may.1)
+    ∙ answered_all_is w (q ∷ rs) (after_fate n z.0.1 z.1) (broke_by b z.1) (y ∷ zs) (loop_after a z.0.1 z.1 n s) t.1 may.3 asks.1
 
 -- ---- what is asked for with those that are left
 
@@ -157,7 +103,10 @@ asked_behind [] b left w h = h
 asked_behind (c ∷ []) b left w h = h.1
 asked_behind (c ∷ d ∷ bs) b left w h = asked_behind (d ∷ bs) b left w h.1
 
--- ---- handed out one after the other
+-- ---- what is handed out leaves all that a loss reads
+
+pub blind_same : Blind (λ (s : Loop). s)
+blind_same = record { lost = λ s. refl; place = λ s. refl; opens = λ c s. refl; past = λ c s. refl }
 
 blind_proposed : (w : Option Wanted) (o : Option Outcome) → Blind (proposed w o)
 blind_proposed None o = blind_same
@@ -177,6 +126,16 @@ blind_answered w b (Err (DiskFail k)) = blind_then (given_up_unless b k) (excuse
 blind_answered w b (Err Damaged) = blind_same
 blind_answered w b (Err NoMemory) = blind_excused w None
 
+pub blind_after : (a : Option Wanted) (i : Input) (f : Fate) (n : Standing) → Blind (loop_after a i f n)
+blind_after a i done n = blind_then (proposed a (gives n i).outcome) (handed_out (gives n i)) (blind_proposed a (gives n i).outcome) (blind_handed (gives n i))
+blind_after a i (finds d) n = blind_then (proposed a None) (handed_out (given_again n d)) (blind_proposed a None) (blind_handed (given_again n d))
+blind_after a i (faults k) n = blind_then (given_up k) (excused a (Some (StorageFailed k))) (blind_given_up k) (blind_excused a (Some (StorageFailed k)))
+blind_after a i (shares k) n = blind_excused a (Some (StorageFailed k))
+blind_after a i damaged n = blind_same
+blind_after a i lost n = blind_excused a None
+
+-- ---- handed out one after the other
+
 -- what a fault gives out
 pub answered_fault : (w : Option Wanted) (b : Bool) (r : Answer) (k : ℕ) {s m t : Loop} → r ≡ Err (DiskFail k) → Does (λ ms x. settled ms (given_up_unless b k x)) s m → Does (λ ms x. settled ms (excused w (Some (StorageFailed k)) x)) m t → Does (λ ms x. settled ms (answered w b r x)) s t
 answered_fault w b r k {s} {m} {t} is first second =
@@ -188,8 +147,8 @@ pub record HandsOut (w : Option Wanted) (rs : List Answer) (v : Option Wanted) (
   pub does : Does (λ ms x. settled ms (so_far x)) s t
   pub is : (x : Loop) → answered_all w false rs x ≡ answered_all v failed (reverse left) (so_far x)
 
-pub hands_none : (w : Option Wanted) (rs left : List Answer) (s : Loop) → left ≡ reverse rs → HandsOut w rs w false left s s
-hands_none w rs left s is = record {
+pub hands_none : (w : Option Wanted) {rs left : List Answer} {s : Loop} → left ≡ reverse rs → HandsOut w rs w false left s s
+hands_none w {rs} {left} {s} is = record {
   so_far = λ x. x;
   does = does_nothing (λ x. x) s refl;
   is = λ x. ap (λ l. answered_all w false l x) (sym (ap reverse is ∙ reverse-reverse rs));
@@ -208,24 +167,23 @@ later_of [] v z b e x = refl
 later_of (r ∷ left) v z b e x = ap (λ o. answered_all o b (reverse (r ∷ left)) x) (sym (e ∙ ap (λ c. if c then None else v) (apart (length (r ∷ left)) 0 (λ e. omega (arith, e)))))
 
 -- one more
-pub hands_more : (w v a z : Option Wanted) (rs left before : List Answer) (r : Answer) (failed fails now : Bool) (s m t : Loop) → HandsOut w rs v failed before s m → before ≡ left ++ r ∷ [] → a ≡ (if length left == 0 then v else None) → z ≡ (if length left == 0 then None else v)
-    → fails ≡ is_fault r → now ≡ (failed || fails) → Does (λ ms x. settled ms (answered a failed r x)) m t → HandsOut w rs z now left s t
-hands_more w v a z rs left before r failed fails now s m t h split a_is z_is fails_is now_is d = record {
+pub hands_more : (r : Answer) {w v a z : Option Wanted} {rs left before : List Answer} {failed now : Bool} {s m t : Loop} → HandsOut w rs v failed before s m → before ≡ left ++ r ∷ []
+    → a ≡ (if length left == 0 then v else None) → z ≡ (if length left == 0 then None else v) → now ≡ (failed || is_fault r) → Does (λ ms x. settled ms (answered a failed r x)) m t → HandsOut w rs z now left s t
+hands_more r {w} {v} {a} {z} {rs} {left} {before} {failed} {now} h split a_is z_is now_is d = record {
   so_far = λ x. answered a failed r (h.so_far x);
   does = does_then h.so_far (answered a failed r) (blind_answered a failed r) h.does d;
   is = λ x.
       h.is x
       ∙ ap (λ l. answered_all v failed l (h.so_far x)) (ap reverse split ∙ reverse-append left (r ∷ []))
-      ∙ ap (λ b. answered_all v b (reverse left) (answered (if_last (reverse left) v) failed r (h.so_far x))) (ap (λ b. failed || b) (sym fails_is) ∙ sym now_is)
+      ∙ ap (λ b. answered_all v b (reverse left) (answered (if_last (reverse left) v) failed r (h.so_far x))) (sym now_is)
       ∙ ap (λ o. answered_all v now (reverse left) (answered o failed r (h.so_far x))) (last_of left v ∙ sym a_is)
       ∙ later_of left v z now z_is (answered a failed r (h.so_far x));
 }
 
-pub hands_all : (w v : Option Wanted) (rs left : List Answer) (failed : Bool) (s t : Loop) → HandsOut w rs v failed left s t → length left ≤ 0 → Does (λ ms x. settled ms (answered_all w false rs x)) s t
-hands_all w v rs [] failed s t h none = does_as h.so_far (answered_all w false rs) (sym (h.is s)) h.does
-hands_all w v rs (r ∷ left) failed s t h none = absurd (omega (arith, none))
+pub hands_all : {w v : Option Wanted} {rs left : List Answer} {failed : Bool} {s t : Loop} → HandsOut w rs v failed left s t → left ≡ [] → Does (λ ms x. settled ms (answered_all w false rs x)) s t
+hands_all {w} {v} {rs} {left} {failed} {s} h none = does_as h.so_far (answered_all w false rs) (sym (h.is s ∙ ap (λ l. answered_all v failed (reverse l) (h.so_far s)) none)) h.does
 
 -- what is asked for with those that are left is in range
-pub range_if : (b : Bool) (w v : Option Wanted) → v ≡ (if b then None else w) → IfSome w WantedInRange → IfSome v WantedInRange
-range_if true w v e h = subst (λ o. IfSome o WantedInRange) (sym e) tt
-range_if false w v e h = subst (λ o. IfSome o WantedInRange) (sym e) h
+pub range_if : (b : Bool) (w : Option Wanted) {v : Option Wanted} → v ≡ (if b then None else w) → IfSome w WantedInRange → IfSome v WantedInRange
+range_if true w e h = subst (λ o. IfSome o WantedInRange) (sym e) tt
+range_if false w e h = subst (λ o. IfSome o WantedInRange) (sym e) h

@@ -1,23 +1,27 @@
--- Inputs that are given together: those that one call deals with are taken, and then all that they give out is handed
--- out; the others, behind one that found no memory, are a group of their own.
-use Rattle.std.proofs.Common.{◌≡◌, ◌⊎◌, ◌<◌, ◌≤◌, ◌++◌, ◌∷◌, [], Bool, true, false, List, length, map, if◌then◌else◌, None, refl, sym, ◌∙◌, ap, subst, inl, inr, arith, append_assoc}
+-- Inputs that are given: those that one call deals with are taken, and then all that they give out is handed out; the
+-- others, behind one that found no memory, are a group of their own.
+use Rattle.std.proofs.Common.{◌≡◌, ◌⊎◌, ◌<◌, ◌≤◌, ◌++◌, ◌∷◌, [], Bool, true, false, ℕ, List, length, map, drop, nat_lt, if◌then◌else◌, Option, None, refl, sym, ◌∙◌, ap, subst, inl, inr, arith, append_assoc}
 use Rattle.std.proofs.lemmas.Bool.{cases_Bool, lt-ltb, le-ltb}
 use Rattle.std.proofs.lemmas.List.{append-nil}
+use Rattle.op_types.specs.declared.events.Input.{Input}
 use Rattle.op_serving.specs.declared.mark.Mark.{Mark}
+use Rattle.op_serving.specs.declared.wanted.Wanted.{Wanted}
 use Rattle.op_serving.specs.Cores.{Standing}
-use Rattle.op_serving.specs.Fates.{Fate, done, finds, faults, shares, damaged, lost, is_lost, ends_lost, after_fate, after_all, MayComeAll}
+use Rattle.op_serving.specs.Fates.{Fate, lost, is_lost, ends_lost, after_fate, after_all, MayComeAll, Steps}
 use Rattle.op_serving.specs.Room.{Frame}
 use Rattle.op_serving.specs.State.{Loop}
 use Rattle.op_serving.specs.Losses as losses
-use Rattle.op_serving.specs.Losses.{most_marks, settled, Foretells, Grew, KeepsKinds, Stays}
-use Rattle.op_serving.specs.Inputs.{Brought, Taken, Deed, enters, says, State, Luck, kept_fate, kept, calm, loop_taking, loop_after_all, frames_after_all, broke, next_fate, takes_in, taken_as, handing, drained, rest, together, given_together}
-use Rattle.op_driver.specs.Driver.{Served, Stores, Went, with_deeds, Knows, Sure, Gives, Drained, IsDrained}
+use Rattle.op_serving.specs.Losses.{most_marks, is_due, settle, settled, IsCalm, Foretells, KeepsKinds, Stays}
+use Rattle.op_serving.specs.Inputs.{Brought, Taken, Deed, enters, says, State, Luck, asked_by, kept_fate, kept, calm, loop_taking, loop_after, loop_after_all, frames_after_all, broke, next_fate, takes_in, taken_as, handing, entered_with, enter, drained, rest, together, given_together}
+use Rattle.op_driver.specs.Answering.{Answer, counting, answered}
+use Rattle.op_driver.specs.Driver.{Served, Stores, served_at, with_deeds, Enters, Gives, Drained, IsDrained}
 use Rattle.op_driver.specs.Ungiven.{GivesSome}
-use Rattle.op_queues.proofs.Settling.{kinds_then, foretold, grew_trans, grew_still}
-use Rattle.op_driver.proofs.Calm.{calm_full}
-use Rattle.op_driver.proofs.Stepping.{walks_group, went_then, went_none}
-use Rattle.op_driver.proofs.Taking.{Entry, FailAll, kept_both, brought_of, came_of, taken_of, enters_of, loop_taken, state_at, kept_more, next_is, InCount, in_count, grew_taken, kinds_taken, calm_taking, came_enters, steps_all, broke_more}
-use Rattle.op_driver.proofs.Draining.{knew, known, split_deeds, rest_still, drained_again}
+use Rattle.op_queues.proofs.Settling.{kinds_then, foretold, grew_trans, grew_still, does_as}
+use Rattle.op_driver.proofs.Calm.{no_left, calm_full}
+use Rattle.op_driver.proofs.Stepping.{kept_both, walks_group, went_none, Any, Run, run_then, run_as, run_any}
+use Rattle.op_driver.proofs.Taking.{Entry, FailAll, brought_of, came_of, taken_of, enters_of, loop_taken, state_at, kept_more, next_is, InCount, in_count, grew_taken, kinds_taken, calm_taking, came_enters, steps_all, broke_more}
+use Rattle.op_driver.proofs.Telling.{counting_is, answered_is}
+use Rattle.op_driver.proofs.Draining.{rest_still, drained_again, drained_run}
 
 -- ---- those that one call deals with
 
@@ -42,23 +46,16 @@ ends_here l ts s = sym (drained_again l (handing l ts s))
 -- the last of them
 last_goes : (l : Luck) (left : List Brought) (ts : List Taken) (b : Brought) (f : Fate) (s : State) → (left ≡ []) ⊎ (is_lost f ≡ true) → drained l (then_goes l left ts b f s) ≡ left_behind l left (ts ++ taken_as b.0 b.1 f s ∷ []) (takes_in b.0 b.1 f s)
 last_goes l left ts b f s ends = elim (cases_Bool (is_lost f)) [
-  | inl h ↦ (let us : List Taken = ts ++ taken_as b.0 b.1 f s ∷ [] in
-      let t : State = takes_in b.0 b.1 f s in
-      ap (λ o. drained l (if o then together l [] left (drained l (handing l us t)) else together l us left t)) h)
+  | inl h ↦ rw h refl
   | inr h ↦ elim ends [
-    | inl none ↦ (let us : List Taken = ts ++ taken_as b.0 b.1 f s ∷ [] in
-        let t : State = takes_in b.0 b.1 f s in
-        ap (λ o. drained l (if o then together l [] left (drained l (handing l us t)) else together l us left t)) h ∙ ap (λ r. drained l (together l us r t)) none ∙ ends_here l us t ∙ ap (λ r. left_behind l r us t) (sym none))
+    | inl none ↦ rw (h, none) (ends_here l (ts ++ taken_as b.0 b.1 f s ∷ []) (takes_in b.0 b.1 f s))
     | inr bad ↦ absurd (let k : true ≡ false = sym bad ∙ h in cc)
   ]
 ]
 
 -- one that wasn't lost, and then others
 more_goes : (l : Luck) (left : List Brought) (ts : List Taken) (b : Brought) (f : Fate) (s : State) → is_lost f ≡ false → then_goes l left ts b f s ≡ together l (ts ++ taken_as b.0 b.1 f s ∷ []) left (takes_in b.0 b.1 f s)
-more_goes l left ts b f s h =
-    let us : List Taken = ts ++ taken_as b.0 b.1 f s ∷ [] in
-    let t : State = takes_in b.0 b.1 f s in
-    ap (λ o. if o then together l [] left (drained l (handing l us t)) else together l us left t) h
+more_goes l left ts b f s h = rw h refl
 
 -- an input behind which others come was not lost
 not_last : {A : Type 0} (x : A) (xs : List A) (b : Bool) → (b ≡ true → x ∷ xs ≡ []) → b ≡ false
@@ -66,12 +63,8 @@ not_last x xs true h = absurd (let k = h refl in cc)
 not_last x xs false h = refl
 
 few_taking : (f : Fate) (s : Loop) → is_lost f ≡ false → length s.lost < most_marks → length (loop_taking f s).lost < most_marks
-few_taking done s h few = few
-few_taking (finds d) s h few = few
-few_taking (faults k) s h few = few
-few_taking (shares k) s h few = few
-few_taking damaged s h few = few
 few_taking lost s h few = absurd (let k = h in cc)
+few_taking f s h few = few
 
 -- the first of what is kept of some deeds
 kept_first : (ds : List Deed) (z : Entry) → kept (ds ++ enters z.0.0 z.0.1 z.1 ∷ []) ≡ kept ds ++ kept_fate z.1
@@ -79,13 +72,13 @@ kept_first ds z = kept_both ds (enters z.0.0 z.0.1 z.1 ∷ []) ∙ ap (λ r. kep
 
 -- where the first has the next fate, the others have those behind it
 module _ (l : Luck) (ds : List Deed) (z : Entry) (zs : List Entry) (more : List Fate) (fates : l.fates ≡ kept ds ++ (kept (enters_of (z ∷ zs)) ++ more)) where
-  pub fates_first : l.fates ≡ kept ds ++ (kept_fate z.1 ++ (kept (enters_of zs) ++ more))
+  fates_first : l.fates ≡ kept ds ++ (kept_fate z.1 ++ (kept (enters_of zs) ++ more))
   fates_first = fates ∙ ap (λ r. kept ds ++ r) (append_assoc (kept_fate z.1) (kept (enters_of zs)) more)
 
   fates_behind : l.fates ≡ kept (ds ++ enters z.0.0 z.0.1 z.1 ∷ []) ++ (kept (enters_of zs) ++ more)
   fates_behind = fates_first ∙ sym (append_assoc (kept ds) (kept_fate z.1) (kept (enters_of zs) ++ more)) ∙ ap (λ r. r ++ (kept (enters_of zs) ++ more)) (sym (kept_first ds z))
 
-pub together_so : (l : Luck) (left : List Brought) (more : List Fate) (z : Entry) (zs : List Entry) (ts : List Taken) (s : Loop) (n : Standing) (ds : List Deed) → length s.lost < most_marks → InCount s → MayComeAll n (broke ts) (came_of (z ∷ zs)) → FailAll (z ∷ zs) → Foretells l.marks (loop_taken (z ∷ zs) s)
+together_so : (l : Luck) (left : List Brought) (more : List Fate) (z : Entry) (zs : List Entry) (ts : List Taken) (s : Loop) (n : Standing) (ds : List Deed) → length s.lost < most_marks → InCount s → MayComeAll n (broke ts) (came_of (z ∷ zs)) → FailAll (z ∷ zs) → Foretells l.marks (loop_taken (z ∷ zs) s)
     → l.fates ≡ kept ds ++ (kept (enters_of (z ∷ zs)) ++ more) → (left ≡ []) ⊎ (ends_lost (came_of (z ∷ zs)) ≡ true)
     → drained l (together l ts (brought_of (z ∷ zs) ++ left) (state_at s n ds)) ≡ left_behind l left (ts ++ taken_of (z ∷ zs) n) (state_at (loop_taken (z ∷ zs) s) (after_all n (came_of (z ∷ zs))) (ds ++ enters_of (z ∷ zs)))
 together_so l left more z [] ts s n ds few short may fails marks fates ends =
@@ -118,100 +111,135 @@ module _ {K : Type 0} (stores : Stores K) where
     pub stored : stores d.core (came_of zs) e.core
     pub out : losses.Does (λ ms s. settled ms (loop_after_all (taken_of zs d.node) s)) (loop_taken zs d.loop) e.loop
 
-module _ {K : Type 0} where
-  -- what is handed out then
-  abbrev frames_of : List Entry → Served K → List Frame
-  frames_of zs d = frames_after_all (taken_of zs d.node) (loop_taken zs d.loop)
+-- the state once they were taken
+abbrev taken_all : List Entry → State → State
+taken_all zs s = state_at (loop_taken zs s.loop) (after_all s.node (came_of zs)) (s.deeds ++ enters_of zs)
 
-  abbrev pub deeds_of : List Entry → Served K → List Deed
-  deeds_of zs d = enters_of zs ++ map says (frames_of zs d)
+-- they came as the marks and fates tell, and what is handed out of them is what it comes to
+record Handed (zs : List Entry) (l : Luck) (s t : State) : Type 0 where
+  more : List Fate
+  fates : l.fates ≡ kept s.deeds ++ (kept (enters_of zs) ++ more)
+  marks : Foretells l.marks (loop_taken zs s.loop)
+  handed : handing l (taken_of zs s.node) (taken_all zs s) ≡ calm l t
 
-  -- the state once they were taken
-  abbrev pub taken_at : List Entry → Served K → List Deed → State
-  taken_at zs d before = state_at (loop_taken zs d.loop) (after_all d.node (came_of zs)) (before ++ enters_of zs)
+module _ {K : Type 0} {stores : Stores K} {z : Entry} {zs : List Entry} {d e : Served K} (c : ComesAll stores (z ∷ zs) d e) where
+  abbrev all_of : List Entry
+  all_of = z ∷ zs
 
-module _ {K : Type 0} {stores : Stores K} (zs : List Entry) (d e : Served K) (c : ComesAll stores zs d e) where
-  pub group_grew : Grew d.loop e.loop
-  group_grew = grew_trans (grew_taken zs d.loop c.short) c.out.grew
+  comes_kinds : KeepsKinds d.loop e.loop
+  comes_kinds = kinds_then d.loop (loop_taken all_of d.loop) e.loop (kinds_taken all_of d.loop) c.out.kinds
 
-  pub group_went : Went stores d (deeds_of zs d) e
-  group_went = record {
-    steps = steps_all zs (frames_of zs d) d.node e.node None c.may c.node;
-    walks = walks_group stores (enters_of zs) (frames_of zs d) (came_of zs) d.core e.core (came_enters zs) c.stored;
-  }
+  comes_run : Run stores IsCalm Any (Handed (z ∷ zs)) d e
+  comes_run =
+      let frames : List Frame = frames_after_all (taken_of all_of d.node) (loop_taken all_of d.loop) in
+      record {
+        deeds = enters_of all_of ++ map says frames;
+        grew = grew_trans (grew_taken all_of d.loop c.short) c.out.grew;
+        went = record {
+          steps = steps_all all_of frames d.node e.node None c.may c.node;
+          walks = walks_group stores (enters_of all_of) frames (came_of all_of) d.core e.core (came_enters all_of) c.stored;
+        };
+        sure = λ marks f h. calm_taking z.1 marks d.loop e.loop (grew_trans (grew_taken zs (loop_taking z.1 d.loop) (in_count z.1 d.loop)) c.out.grew) f;
+        is = λ l before k h. record {
+          more = k.rest;
+          fates = k.fates ∙ ap (λ r. r ++ k.rest) (kept_more before (enters_of all_of) frames) ∙ append_assoc (kept before) (kept (enters_of all_of)) k.rest;
+          marks = foretold c.out.grew k.marks;
+          handed =
+              ap (λ (r : Loop). state_at r (after_all d.node (came_of all_of)) ((before ++ enters_of all_of) ++ map says frames)) (c.out.is l.marks k.marks)
+              ∙ ap (λ n. state_at (settled l.marks e.loop) n ((before ++ enters_of all_of) ++ map says frames)) (sym c.node)
+              ∙ ap (state_at (settled l.marks e.loop) e.node) (append_assoc before (enters_of all_of) (map says frames));
+        };
+      }
 
-  pub group_kinds : KeepsKinds d.loop e.loop
-  group_kinds = kinds_then d.loop (loop_taken zs d.loop) e.loop (kinds_taken zs d.loop) c.out.kinds
+-- ---- an input that is given alone
 
-  -- what is handed out is what it comes to
-  pub group_handed : (l : Luck) (before : List Deed) → Foretells l.marks e.loop → handing l (taken_of zs d.node) (taken_at zs d before) ≡ calm l (with_deeds (before ++ deeds_of zs d) e)
-  group_handed l before f =
-      ap (λ (r : Loop). state_at r (after_all d.node (came_of zs)) ((before ++ enters_of zs) ++ map says (frames_of zs d))) (c.out.is l.marks f)
-      ∙ ap (λ n. state_at (settled l.marks e.loop) n ((before ++ enters_of zs) ++ map says (frames_of zs d))) (sym c.node)
-      ∙ ap (state_at (settled l.marks e.loop) e.node) (append_assoc before (enters_of zs) (map says (frames_of zs d)))
+enter_is : (l : Luck) (from : List ℕ) (i : Input) (f : Fate) (s : State) → length s.loop.lost < most_marks → next_fate l [] i s ≡ f → enter l from i s ≡ entered_with l from i f s
+enter_is l from i f s h e = ap (λ b. if b then entered_with l from i (next_fate l [] i s) s else s) (lt-ltb (length s.loop.lost) most_marks h) ∙ ap (λ x. entered_with l from i x s) e
 
-  -- what is known behind it
-  pub group_fates : (l : Luck) (before : List Deed) (k : Knows l (with_deeds (before ++ deeds_of zs d) e)) → l.fates ≡ kept before ++ (kept (enters_of zs) ++ k.rest)
-  group_fates l before k = k.fates ∙ ap (λ r. r ++ k.rest) (kept_more before (enters_of zs) (frames_of zs d)) ∙ append_assoc (kept before) (kept (enters_of zs)) k.rest
-
-  pub group_taken : (marks : List Mark) → Foretells marks e.loop → Foretells marks (loop_taken zs d.loop)
-  group_taken marks f = foretold c.out.grew f
-
-module _ {K : Type 0} {stores : Stores K} (z : Entry) (zs : List Entry) (d e : Served K) (c : ComesAll stores (z ∷ zs) d e) where
-  pub group_sure : Sure d e
-  group_sure = λ marks f. calm_taking z.1 marks d.loop e.loop (grew_trans (grew_taken zs (loop_taking z.1 d.loop) (in_count z.1 d.loop)) c.out.grew) f
+-- serving has stopped
+settle_full : (ms : List Mark) (s : Loop) → most_marks ≤ length s.lost → settle ms s ≡ s
+settle_full [] s h = refl
+settle_full (m ∷ ms) s h = let no : is_due m s ≡ false = no_left (nat_lt (length s.lost) most_marks) _ (le-ltb (length s.lost) most_marks h) in rw no refl
 
 module _ {K : Type 0} {stores : Stores K} where
-  -- some were dealt with, and these are left
-  pub gives_group : (z : Entry) (zs : List Entry) (left : List Brought) (d e : Served K) → ComesAll stores (z ∷ zs) d e → (left ≡ []) ⊎ (ends_lost (came_of (z ∷ zs)) ≡ true) → GivesSome stores (brought_of (z ∷ zs) ++ left) left d e
-  unfolding rest
-  gives_group z zs left d e c ends = record {
-    deeds = deeds_of (z ∷ zs) d;
-    grew = group_grew (z ∷ zs) d e c;
-    went = group_went (z ∷ zs) d e c;
-    kinds = group_kinds (z ∷ zs) d e c;
-    sure = group_sure z zs d e c;
+  enters_one : {z : Entry} {d e : Served K} → ComesAll stores (z ∷ []) d e → Enters stores (λ l s. enter l z.0.0 z.0.1 s) d e
+  enters_one {z} {d} {e} c =
+      let r = comes_run c in
+      record {
+        deeds = r.deeds;
+        grew = r.grew;
+        went = r.went;
+        kinds = comes_kinds c;
+        sure = λ marks f. r.sure marks f tt;
+        is = λ l before k.
+            let h = r.is l before k tt in
+            enter_is l z.0.0 z.0.1 z.1 (with_deeds before d) c.few (next_is l [] z.0.1 d.loop d.node before z.1 h.more c.may.0 c.fails.0 c.may.1 h.marks (fates_first l before z [] h.more h.fates)) ∙ h.handed;
+      }
+
+  -- by what a step answered
+  pub entered : {standing : K → Standing} (from : List ℕ) {i : Input} {r : Answer} {w : Option Wanted} {s u t : Loop} {k m : K} → Steps standing stores k i r m → length s.lost < most_marks → InCount s → w ≡ asked_by from i → u ≡ counting r s
+      → losses.Does (λ ms x. settled ms (answered w false r x)) u t → Enters stores (λ l x. enter l from i x) (served_at s (standing k) k) (served_at t (standing m) m)
+  entered {standing} from {i} {r} {w} {s} {u} {t} {k} {m} steps few short w_is u_is out =
+      let n : Standing = standing k in
+      let f : Fate = steps.fate in
+      let now : Loop = loop_taking f s in
+      let taken : losses.Does (λ ms x. settled ms (answered w false r x)) now t = subst (λ (x : Loop). losses.Does (λ ms y. settled ms (answered w false r y)) x t) (u_is ∙ counting_is r n i f s steps.tells) out in
+      enters_one {z = ((from, i), f)} (record {
+        few = few;
+        short = short;
+        may = (steps.may, steps.alone, λ h. refl, tt);
+        fails = (steps.fails, tt);
+        node = steps.node;
+        stored = steps.stored;
+        out = does_as (answered w false r) (loop_after (asked_by from i) i f n) (ap (λ x. answered x false r now) w_is ∙ answered_is (asked_by from i) None r n i f now steps.tells steps.alone) taken;
+      })
+
+  pub entered_full : (from : List ℕ) (i : Input) (d : Served K) → most_marks ≤ length d.loop.lost → Enters stores (λ l s. enter l from i s) d d
+  entered_full from i d h = record {
+    deeds = [];
+    grew = grew_still refl refl;
+    went = went_none;
+    kinds = λ c. inl refl;
+    sure = λ marks f. calm_full marks d.loop h;
     is = λ l before k.
-        together_so l left k.rest z zs [] d.loop d.node before c.few c.short c.may c.fails (group_taken (z ∷ zs) d e c l.marks k.marks) (group_fates (z ∷ zs) d e c l before k) ends
-        ∙ ap (λ t. drained l (together l [] left (drained l t))) (group_handed (z ∷ zs) d e c l before k.marks);
+        ap (λ b. if b then entered_with l from i (next_fate l [] i (with_deeds before d)) (with_deeds before d) else with_deeds before d) (le-ltb (length d.loop.lost) most_marks h)
+        ∙ ap (λ b. with_deeds b d) (sym (append-nil before))
+        ∙ ap (λ r. record { loop = r; node = d.node; deeds = before ++ [] }) (sym (settle_full (drop (length d.loop.lost) l.marks) d.loop h));
   }
+
+-- ---- several
+
+-- these inputs are to be given, or those that are left
+abbrev Goes : List Brought → List Brought → Luck → State → State → Type 0
+Goes bs left l s t = drained l (together l [] bs s) ≡ drained l (together l [] left (rest l t))
+
+module _ {K : Type 0} {stores : Stores K} where
+  some_run : {bs left : List Brought} {d e : Served K} → GivesSome stores bs left d e → Run stores IsCalm Any (Goes bs left) d e
+  some_run a = record { deeds = a.deeds; grew = a.grew; went = a.went; sure = λ marks f h. a.sure marks f; is = λ l before k h. a.is l before k }
+
+  run_some : {bs left : List Brought} {d e : Served K} → Run stores IsCalm Any (Goes bs left) d e → KeepsKinds d.loop e.loop → GivesSome stores bs left d e
+  run_some r kinds = record { deeds = r.deeds; grew = r.grew; went = r.went; kinds = kinds; sure = λ marks f. r.sure marks f tt; is = λ l before k. r.is l before k tt }
+
+  -- some were dealt with, and these are left
+  pub gives_group : {z : Entry} {zs : List Entry} (left : List Brought) {d e : Served K} → ComesAll stores (z ∷ zs) d e → (left ≡ []) ⊎ (ends_lost (came_of (z ∷ zs)) ≡ true) → GivesSome stores (brought_of (z ∷ zs) ++ left) left d e
+  unfolding rest
+  gives_group {z} {zs} left {d} {e} c ends = run_some (run_as (Goes (brought_of (z ∷ zs) ++ left) left) (comes_run c) (λ l before xs k h x.
+      together_so l left x.more z zs [] d.loop d.node before c.few c.short c.may c.fails x.marks x.fates ends ∙ ap (λ t. drained l (together l [] left (drained l t))) x.handed)) (comes_kinds c)
 
   -- and then the Downs
-  pub some_drained : (bs left : List Brought) {d m e : Served K} → GivesSome stores bs left d m → Drained stores m e → GivesSome stores bs left d e
-  some_drained bs left {d} {m} {e} a b = record {
-    deeds = a.deeds ++ b.deeds;
-    grew = grew_trans a.grew b.grew;
-    went = went_then a.went b.went;
-    kinds = kinds_then d.loop m.loop e.loop a.kinds b.kinds;
-    sure = λ marks f. a.sure marks (foretold b.grew f);
-    is = λ l before k.
-        let k2 : Knows l (with_deeds ((before ++ a.deeds) ++ b.deeds) e) = known e before a.deeds b.deeds k in
-        a.is l before (knew m e (before ++ a.deeds) b.deeds b.grew k2)
-        ∙ ap (λ t. drained l (together l [] left t)) (b.is l (before ++ a.deeds) k2 ∙ ap (λ x. rest l (with_deeds x e)) (sym (split_deeds before a.deeds b.deeds)));
-  }
+  pub some_drained : {bs left : List Brought} {d m e : Served K} → GivesSome stores bs left d m → Drained stores m e → GivesSome stores bs left d e
+  some_drained {bs} {left} {d} {m} {e} a b = run_some (run_then (Goes bs left) (some_run a) (drained_run b) (λ l before xs zs k mid end x y. x ∙ ap (λ t. drained l (together l [] left t)) y)) (kinds_then d.loop m.loop e.loop a.kinds b.kinds)
 
   -- one group behind the other
-  pub some_then : (bs cs left : List Brought) {d m e : Served K} → GivesSome stores bs cs d m → IsDrained m.loop → GivesSome stores cs left m e → GivesSome stores bs left d e
-  some_then bs cs left {d} {m} {e} a none b = record {
-    deeds = a.deeds ++ b.deeds;
-    grew = grew_trans a.grew b.grew;
-    went = went_then a.went b.went;
-    kinds = kinds_then d.loop m.loop e.loop a.kinds b.kinds;
-    sure = λ marks f. a.sure marks (foretold b.grew f);
-    is = λ l before k.
-        let all : List Deed = before ++ a.deeds in
-        let k2 : Knows l (with_deeds (all ++ b.deeds) e) = known e before a.deeds b.deeds k in
-        a.is l before (knew m e all b.deeds b.grew k2)
-        ∙ ap (λ t. drained l (together l [] cs t)) (rest_still l (with_deeds all m) (b.sure l.marks k.marks) none)
-        ∙ b.is l all k2
-        ∙ ap (λ x. drained l (together l [] left (rest l (with_deeds x e)))) (sym (split_deeds before a.deeds b.deeds));
-  }
+  pub some_then : {bs cs left : List Brought} {d m e : Served K} → GivesSome stores bs cs d m → IsDrained m.loop → GivesSome stores cs left m e → GivesSome stores bs left d e
+  some_then {bs} {cs} {left} {d} {m} {e} a none b =
+      run_some (run_then (Goes bs left) (run_any (some_run a)) (some_run b) (λ l before xs zs k mid end x y. x ∙ ap (λ t. drained l (together l [] cs t)) (rest_still l (with_deeds xs m) mid none) ∙ y)) (kinds_then d.loop m.loop e.loop a.kinds b.kinds)
 
   -- where none is left, it comes to rest so
-  pub some_gives : (bs : List Brought) {d e : Served K} → 0 < length bs → GivesSome stores bs [] d e → Stays d.loop e.loop → IsDrained e.loop → Gives stores (λ l s. given_together l bs s) d e
+  pub some_gives : {bs : List Brought} {d e : Served K} → 0 < length bs → GivesSome stores bs [] d e → Stays d.loop e.loop → IsDrained e.loop → Gives stores (λ l s. given_together l bs s) d e
   unfolding rest
-  some_gives [] some a stays none = absurd (omega (arith, some))
-  some_gives (b ∷ bs) {d} {e} some a stays none = record {
+  some_gives {bs = []} some a stays none = absurd (omega (arith, some))
+  some_gives {bs = b ∷ bs} {d} {e} some a stays none = record {
     deeds = a.deeds;
     grew = a.grew;
     went = a.went;
@@ -233,12 +261,10 @@ module _ {K : Type 0} {stores : Stores K} where
     sure = λ marks f. calm_full marks d.loop h;
     is = λ l before k.
         let s : State = with_deeds before d in
-        ap (drained l) (none_full l bs s h ∙ handing_none l s) ∙ sym (drained_again l (calm l s)) ∙ ap (λ b. drained l (handing l [] (drained l (calm l (with_deeds b d))))) (sym (append-nil before));
+        ap (drained l) (none_full l bs s h ∙ ap (λ ds. record (calm l s) { deeds = ds }) (append-nil s.deeds))
+        ∙ sym (drained_again l (calm l s)) ∙ ap (λ b. drained l (handing l [] (drained l (calm l (with_deeds b d))))) (sym (append-nil before));
   }
     where
-      handing_none : (l : Luck) (s : State) → handing l [] s ≡ calm l s
-      handing_none l s = ap (λ ds. record (calm l s) { deeds = ds }) (append-nil s.deeds)
-
       none_full : (l : Luck) (bs : List Brought) (s : State) → most_marks ≤ length s.loop.lost → together l [] bs s ≡ handing l [] s
       none_full l [] s h = refl
       none_full l (b ∷ bs) s h = ap (λ o. if o then then_goes l bs [] b (next_fate l [] b.1 s) s else handing l [] s) (le-ltb (length s.loop.lost) most_marks h)

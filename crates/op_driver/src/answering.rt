@@ -58,7 +58,7 @@ pub fn answer_all(sessions: &mut Sessions, results: &mut Results, mut wanted: Op
         let asked = take_if(results.is_empty(), &mut wanted);
         let fails = is_fault(&result);
         answer(sessions, asked, failed, result);
-        failed = failed || fails;
+        failed |= fails;
     }
 }
 

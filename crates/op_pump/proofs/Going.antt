@@ -21,8 +21,7 @@ use Rattle.op_serving.specs.declared.serve_end.ServeEnd.{ServeEnd}
 use Rattle.op_pump.specs.declared.timer.Timer.{Timer}
 use Rattle.op_pump.specs.Moments.{Moment, moment, pump_at, pump_of, reached, unless_full, is_broken, is_starved, MarksAt, Leads, times_in, On, Goes, TurnGoes, IsIdleAt, Settles}
 use Rattle.op_queues.proofs.Settling.{grew_trans, grew_still, foretold}
-use Rattle.op_driver.proofs.Draining.{knew, known, split_deeds}
-use Rattle.op_driver.proofs.Stepping.{untouched, went_then, went_none, went_to}
+use Rattle.op_driver.proofs.Stepping.{knew, known, split_deeds, untouched, went_then, went_none, went_to}
 use Rattle.op_pump.proofs.Knowing.{calm_emptied, foretells_emptied, knows_emptied, grew_emptied}
 
 -- ---- answers after answers

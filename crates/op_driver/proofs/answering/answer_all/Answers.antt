@@ -11,7 +11,7 @@ InRange r = IfOk r GivenInRange
 
 pub answers-init : goal.answers-init
 answers-init c = record {
-  hands = hands_none c.args.wanted c.args.results.now.items c.reverse.new.self.items c.args.sessions.now c.reverse.ensures.items;
+  hands = hands_none c.args.wanted c.reverse.ensures.items;
   range = All-permutation InRange c.args.results.now.items c.reverse.new.self.items c.reverse.ensures.permutation c.requires.given;
   wanted = c.requires.wanted;
   room = c.reverse.ensures.capacity;
@@ -20,36 +20,16 @@ answers-init c = record {
 pub answers-preserved : goal.answers-preserved
 answers-preserved c =
     let i = c.answers.invariant in
-    let left = c.pop.new.self.items in
-    let r : Answer = c.in-Some.result in
-    let split : c.answers.results.items ≡ left ++ r ∷ [] = c.in-Some.ensures.items in
-    let empty : c.is_empty.result ≡ (length left == 0) = search rules in
+    let split : c.answers.results.items ≡ c.pop.new.self.items ++ c.in-Some.result ∷ [] = c.in-Some.ensures.items in
+    let empty : c.is_empty.result ≡ (length c.pop.new.self.items == 0) = search rules in
     let asked = c.take_if-asked.ensures.taken ∙ ap (λ (b : Bool). if b then c.answers.wanted else None) empty in
     let later = c.take_if-asked.ensures.left ∙ ap (λ (b : Bool). if b then None else c.answers.wanted) empty in
     record {
-      hands = hands_more c.args.wanted c.answers.wanted c.take_if-asked.result c.take_if-asked.new.wanted c.args.results.now.items left c.answers.results.items r c.answers.failed c.is_fault-fails.result c.is_fault-fails.result c.args.sessions.now c.answers.sessions c.answer.new.sessions i.hands split asked later c.is_fault-fails.ensures (ap (λ b. b || c.is_fault-fails.result) (sym c.if-failed.false)) c.answer.ensures;
+      hands = hands_more c.in-Some.result i.hands split asked later (ap (λ b. c.answers.failed || b) c.is_fault-fails.ensures) c.answer.ensures;
       range = subst (All InRange) (sym c.pop.ensures.rest) (All-take InRange (vec_len c.answers.results - 1) c.answers.results.items i.range);
-      wanted = range_if c.is_empty.result c.answers.wanted c.take_if-asked.new.wanted c.take_if-asked.ensures.left i.wanted;
-      room = c.pop.ensures.capacity ∙ i.room;
-    }
-
-pub answers-preserved-then-failed : goal.answers-preserved-then-failed
-answers-preserved-then-failed c =
-    let i = c.answers.invariant in
-    let left = c.pop.new.self.items in
-    let r : Answer = c.in-Some.result in
-    let split : c.answers.results.items ≡ left ++ r ∷ [] = c.in-Some.ensures.items in
-    let empty : c.is_empty.result ≡ (length left == 0) = search rules in
-    let asked = c.take_if-asked.ensures.taken ∙ ap (λ (b : Bool). if b then c.answers.wanted else None) empty in
-    let later = c.take_if-asked.ensures.left ∙ ap (λ (b : Bool). if b then None else c.answers.wanted) empty in
-    record {
-      hands = hands_more c.args.wanted c.answers.wanted c.take_if-asked.result c.take_if-asked.new.wanted c.args.results.now.items left c.answers.results.items r c.answers.failed c.is_fault-fails.result c.answers.failed c.args.sessions.now c.answers.sessions c.answer.new.sessions i.hands split asked later c.is_fault-fails.ensures (c.if-failed.true ∙ ap (λ b. b || c.is_fault-fails.result) (sym c.if-failed.true)) c.answer.ensures;
-      range = subst (All InRange) (sym c.pop.ensures.rest) (All-take InRange (vec_len c.answers.results - 1) c.answers.results.items i.range);
-      wanted = range_if c.is_empty.result c.answers.wanted c.take_if-asked.new.wanted c.take_if-asked.ensures.left i.wanted;
+      wanted = range_if c.is_empty.result c.answers.wanted c.take_if-asked.ensures.left i.wanted;
       room = c.pop.ensures.capacity ∙ i.room;
     }
 
 pub returns-clause-does : goal.returns-clause-does
-returns-clause-does c =
-    let none : length c.answers.results.items ≤ 0 = search rules in
-    hands_all c.args.wanted c.answers.wanted c.args.results.now.items c.answers.results.items c.answers.failed c.args.sessions.now c.answers.sessions c.answers.invariant.hands none
+returns-clause-does c = hands_all c.answers.invariant.hands (search rules)

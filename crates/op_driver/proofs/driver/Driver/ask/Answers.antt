@@ -1,41 +1,34 @@
-use Rattle.std.proofs.Common.{ap, subst, sym, ◌∷◌, [], refl, true, arith}
-use Rattle.op_types.specs.declared.events.Input.TheVariants as input
-use Rattle.op_types.specs.declared.events.Request.{Request}
+use Rattle.std.proofs.Common.{ap, subst, sym, ◌≡◌, refl, false, true, arith}
 use Rattle.op_types.specs.declared.events.Request.TheVariants as request
 use Rattle.op_command.specs.declared.said.Said.TheVariants as said
 use Rattle.op_serving.specs.declared.hearing.Heard.TheVariants.{Asks}
-use Rattle.op_serving.specs.Inputs.{give}
-use Rattle.op_serving.specs.Reading.{on_frame}
-use Rattle.op_driver.specs.Driver.{with_deeds, Served}
-use Rattle.op_driver.specs.Dealing.{HandlesAlone}
-use Rattle.op_driver.proofs.Handling.{on_ok_as, given_handles, told_handles, ended_handles}
 use Rattle.op_serving.specs.Counts.{most_inputs}
+use Rattle.op_driver.specs.Driver.{Served}
 use Rattle.op_queues.proofs.Counting.{most_same}
+use Rattle.op_driver.proofs.Handling.{on_ok_as, handles_as, given_handles, told_handles}
 use Rattle.op_driver.proofs.driver.Driver.ask.Goals as goal
 
 pub returns-in-Command-clause-ok : goal.returns-in-Command-clause-ok
-returns-in-Command-clause-ok g c =
-    on_ok_as c.propose.result (λ (x : HandlesAlone g.K.Core.stores g.K.Core.line c.args.conn (Asks (request.Command c.in-Command.command)) c.args.self.now c.propose.new.self). subst (λ (r : Request). HandlesAlone g.K.Core.stores g.K.Core.line c.args.conn (Asks r) c.args.self.now c.propose.new.self) (sym c.in-Command.is) x) c.propose.ensures.ok
+returns-in-Command-clause-ok g c = on_ok_as c.propose.result (handles_as (ap Asks c.in-Command.is)) c.propose.ensures.ok
 
 pub returns-in-Stop-clause-ok : goal.returns-in-Stop-clause-ok
-returns-in-Stop-clause-ok g c =
-    given_handles g.K.Core.line c.args.conn (Asks c.args.request) (λ l s. give l (c.args.conn ∷ []) (input.Stop c.in-Stop.members) s) c.give.ensures.gives (λ l before. ap (λ (r : Request). on_frame l g.K.Core.line c.args.conn (Asks r) (with_deeds before c.args.self.now)) c.in-Stop.is)
+returns-in-Stop-clause-ok g c = handles_as (ap Asks c.in-Stop.is) (given_handles c.give.ensures.gives)
 
 pub returns-in-Trim-clause-ok : goal.returns-in-Trim-clause-ok
-returns-in-Trim-clause-ok g c =
-    given_handles g.K.Core.line c.args.conn (Asks c.args.request) (λ l s. give l (c.args.conn ∷ []) input.TrimNow s) c.give-in-Trim.ensures.gives (λ l before. ap (λ (r : Request). on_frame l g.K.Core.line c.args.conn (Asks r) (with_deeds before c.args.self.now)) c.in-Trim.is)
+returns-in-Trim-clause-ok g c = handles_as (ap Asks c.in-Trim.is) (given_handles c.give-in-Trim.ensures.gives)
 
 pub returns-in-Read-clause-ok : goal.returns-in-Read-clause-ok
-returns-in-Read-clause-ok g c =
-    given_handles g.K.Core.line c.args.conn (Asks c.args.request) (λ l s. give l (c.args.conn ∷ []) (input.Read c.in-Read.read) s) c.give-in-Read.ensures.gives (λ l before. ap (λ (r : Request). on_frame l g.K.Core.line c.args.conn (Asks r) (with_deeds before c.args.self.now)) c.in-Read.is)
+returns-in-Read-clause-ok g c = handles_as (ap Asks c.in-Read.is) (given_handles c.give-in-Read.ensures.gives)
 
 pub returns-in-Status-clause-ok : goal.returns-in-Status-clause-ok
 returns-in-Status-clause-ok g c =
-    on_ok_as c.tell_status.result (told_handles g.K.Core.line c.args.conn (Asks c.args.request) (said.Status (g.K.Core.line c.args.self.now.node)) c.requires.none c.requires.open (λ l before. ap (λ (r : Request). on_frame l g.K.Core.line c.args.conn (Asks r) (with_deeds before c.args.self.now)) c.in-Status.is)) c.tell_status.ensures.ok
+    let d = c.args.self.now in
+    on_ok_as c.tell_status.result (λ is. handles_as (ap Asks c.in-Status.is) (told_handles (said.Status (g.K.Core.line d.node)) d.loop.ending c.requires.none c.requires.open (λ l before. refl) is)) c.tell_status.ensures.ok
 
 pub returns-in_ok-tell-in-End-clause-ok : goal.returns-in_ok-tell-in-End-clause-ok
 returns-in_ok-tell-in-End-clause-ok g c =
-    ended_handles g.K.Core.line c.args.conn (Asks c.args.request) {m = c.tell.new.self} c.requires.none c.requires.open (λ l before. ap (λ (r : Request). on_frame l g.K.Core.line c.args.conn (Asks r) (with_deeds before c.args.self.now)) c.in-End.is) c.in_ok-tell-in-End.ensures.ok c.note_end.ensures
+    let is = subst (λ (x : Served _). c.note_end.new.self ≡ record x { loop = record x.loop { ending = true } }) c.in_ok-tell-in-End.ensures.ok c.note_end.ensures in
+    handles_as (ap Asks c.in-End.is) (told_handles said.Ended true c.requires.none c.requires.open (λ l before. refl) is)
 
 pub returns-in_ok-tell-in-End-clause-most : goal.returns-in_ok-tell-in-End-clause-most
 returns-in_ok-tell-in-End-clause-most g c =

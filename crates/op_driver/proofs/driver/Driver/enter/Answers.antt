@@ -3,7 +3,7 @@ use Rattle.op_serving.specs.Losses.{most_marks, size, Stays}
 use Rattle.op_serving.specs.State.{Loop}
 use Rattle.op_serving.specs.Counts.{most_inputs}
 use Rattle.op_driver.specs.Driver.{Served}
-use Rattle.op_driver.proofs.Entering.{entered, entered_full}
+use Rattle.op_driver.proofs.Together.{entered, entered_full}
 use Rattle.op_queues.proofs.Settling.{stays_then}
 use Rattle.op_driver.proofs.Counting.{most_counting, size_counting, stays_counting}
 use Rattle.op_driver.proofs.driver.Driver.enter.Goals as goal
@@ -17,7 +17,7 @@ pub returns-clause-does : goal.returns-clause-does
 returns-clause-does g c =
     let s = c.self.inside.sessions in
     let few : length s.lost < most_marks = search rules in
-    rw (← c.self.view_is) (entered g.K.Core.standing c.args.who.now c.args.input c.step-result.result c.asked_by-wanted.result s c.count.new.sessions c.answer.new.sessions c.self.inside.core c.step-result.new.self c.step-result.ensures.steps few c.count.ensures.short c.asked_by-wanted.ensures.is c.count.ensures.counted c.answer.ensures)
+    rw (← c.self.view_is) (entered c.args.who.now c.step-result.ensures.steps few c.count.ensures.short c.asked_by-wanted.ensures.is c.count.ensures.counted c.answer.ensures)
 
 pub returns-clause-most : goal.returns-clause-most
 returns-clause-most g c = rw (← c.self.view_is) (omega (arith, c.answer.ensures.most, ap most_inputs c.count.ensures.counted, most_counting c.step-result.result c.self.inside.sessions))

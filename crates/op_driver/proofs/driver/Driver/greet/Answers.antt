@@ -1,6 +1,4 @@
-use Rattle.std.proofs.Common.{rules, ◌≡◌, true, false, ap, arith}
-use Rattle.op_serving.specs.State.{is_open}
-use Rattle.op_serving.specs.Reading.{is_peer}
+use Rattle.std.proofs.Common.{rules, ap, arith}
 use Rattle.op_driver.proofs.Dealing.{greet_closed, greet_goes}
 use Rattle.op_serving.specs.Counts.{most_inputs}
 use Rattle.op_driver.specs.Driver.{Served}
@@ -8,16 +6,10 @@ use Rattle.op_queues.proofs.Counting.{most_links}
 use Rattle.op_driver.proofs.driver.Driver.greet.Goals as goal
 
 pub returns-then-not-is_open-clause-taken : goal.returns-then-not-is_open-clause-taken
-returns-then-not-is_open-clause-taken g c =
-    let peer : is_peer c.args.peer c.args.self.now.loop ≡ true = search rules in
-    let closed : is_open c.args.conn c.make_way.new.self.loop ≡ false = search rules in
-    greet_closed g.K.Core.line c.args.conn c.args.frames c.args.peer c.args.self.now c.make_way.new.self peer c.make_way.ensures.does c.make_way.ensures.stays c.make_way.ensures.none closed
+returns-then-not-is_open-clause-taken g c = let way = c.make_way.ensures in greet_closed g.K.Core.line c.args.conn c.args.frames c.args.peer (search rules) way.does way.stays way.none (search rules)
 
 pub returns-clause-taken : goal.returns-clause-taken
-returns-clause-taken g c =
-    let peer : is_peer c.args.peer c.args.self.now.loop ≡ true = search rules in
-    let there : is_open c.args.conn c.make_way.new.self.loop ≡ true = search rules in
-    greet_goes g.K.Core.line c.args.conn c.args.frames c.args.peer c.args.self.now c.make_way.new.self c.link.new.self c.give.new.self c.requires.frames peer c.make_way.ensures.does c.make_way.ensures.stays there c.link.ensures c.give.ensures.gives
+returns-clause-taken g c = let way = c.make_way.ensures in greet_goes g.K.Core.line c.args.conn c.args.frames c.args.peer (search rules) way.does way.stays c.requires.frames (search rules) c.link.ensures c.give.ensures.gives
 
 pub returns-clause-most : goal.returns-clause-most
 returns-clause-most g c = omega (arith, c.give.ensures.most, c.make_way.ensures.most, ap (λ (x : Served _). most_inputs x.loop) c.link.ensures, most_links c.args.peer c.args.conn c.make_way.new.self.loop)

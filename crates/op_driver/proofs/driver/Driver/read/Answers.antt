@@ -7,7 +7,7 @@ use Rattle.op_queues.proofs.Counting.{most_feeds}
 use Rattle.op_driver.proofs.driver.Driver.read.Goals as goal
 
 pub returns-in-Ok-clause-acts : goal.returns-in-Ok-clause-acts
-returns-in-Ok-clause-acts g c = reads_all g.K.Core.line c.args.conn c.in-Ok.held c.args.bytes.now c.args.self.now c.feed.new.self c.deal_all.new.self c.in-Ok.ensures.ok c.in-Ok.ensures.held c.deal_all.ensures.deals
+returns-in-Ok-clause-acts g c = reads_all c.in-Ok.ensures.ok c.in-Ok.ensures.held c.deal_all.ensures.deals
 
 pub returns-in-Err-clause-acts : goal.returns-in-Err-clause-acts
 returns-in-Err-clause-acts g c =

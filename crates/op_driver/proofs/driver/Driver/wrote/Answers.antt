@@ -8,31 +8,25 @@ use Rattle.op_queues.proofs.Counting.{most_took, most_up}
 use Rattle.op_driver.proofs.driver.Driver.wrote.Goals as goal
 
 pub returns-in_default-clause-does : goal.returns-in_default-clause-does
-returns-in_default-clause-does g c =
-    let none : up_peer (kind_at c.args.conn c.args.self.now.loop) (kind_at c.args.conn c.took.new.self.loop) ≡ None = search rules in
-    wrote_some c.args.conn c.args.n c.args.self.now c.took.new.self c.took.ensures none
+returns-in_default-clause-does g c = wrote_some c.args.conn c.args.n c.took.ensures (search rules)
 
 pub returns-in_default-clause-rests : goal.returns-in_default-clause-rests
-returns-in_default-clause-rests g c = wrote_rests c.args.conn c.args.n c.args.self.now c.took.new.self c.requires.none c.took.ensures
+returns-in_default-clause-rests g c = wrote_rests c.args.conn c.args.n c.args.self.now c.took.ensures c.requires.none
 
 pub returns-in-Some-clause-does : goal.returns-in-Some-clause-does
-returns-in-Some-clause-does g c =
-    let up : up_peer (kind_at c.args.conn c.args.self.now.loop) (kind_at c.args.conn c.took.new.self.loop) ≡ Some c.in-Some.peer = search rules in
-    wrote_hello c.args.conn c.args.n c.in-Some.peer c.args.self.now c.took.new.self c.give.new.self c.took.ensures up c.give.ensures.gives
+returns-in-Some-clause-does g c = wrote_hello c.args.conn c.args.n c.took.ensures (search rules) c.give.ensures.gives
 
 pub returns-in_default-clause-hello : goal.returns-in_default-clause-hello
-returns-in_default-clause-hello g c = wrote_less c.args.conn c.args.n c.args.self.now c.took.new.self c.took.ensures
+returns-in_default-clause-hello g c = wrote_less c.args.conn c.args.n c.args.self.now c.took.ensures
 
 pub returns-in_default-clause-pours : goal.returns-in_default-clause-pours
-returns-in_default-clause-pours g c = wrote_pours c.args.conn c.args.n c.args.self.now c.took.new.self c.took.ensures
+returns-in_default-clause-pours g c = wrote_pours c.args.conn c.args.n c.args.self.now c.took.ensures
 
 pub returns-in-Some-clause-hello : goal.returns-in-Some-clause-hello
-returns-in-Some-clause-hello g c = wrote_less_then c.args.conn c.args.n c.args.self.now c.took.new.self c.took.ensures c.give.new.self c.give.ensures.gives.kinds
+returns-in-Some-clause-hello g c = wrote_less_then c.args.conn c.args.n c.args.self.now c.took.ensures c.give.new.self c.give.ensures.gives.kinds
 
 pub returns-in-Some-clause-pours : goal.returns-in-Some-clause-pours
-returns-in-Some-clause-pours g c =
-    let up : up_peer (kind_at c.args.conn c.args.self.now.loop) (kind_at c.args.conn c.took.new.self.loop) ≡ Some c.in-Some.peer = search rules in
-    λ z. absurd (wrote_no_up c.args.conn c.args.n c.args.self.now c.took.new.self c.took.ensures c.in-Some.peer z up)
+returns-in-Some-clause-pours g c = λ z. absurd (wrote_no_up c.args.conn c.args.n c.args.self.now c.took.ensures {q = c.in-Some.peer} z (search rules))
 
 pub returns-in_default-clause-most : goal.returns-in_default-clause-most
 returns-in_default-clause-most g c = omega (arith, ap (λ (x : Served _). most_inputs x.loop) c.took.ensures, most_took c.args.conn c.args.n c.args.self.now.loop)

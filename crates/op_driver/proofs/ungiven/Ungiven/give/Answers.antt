@@ -24,23 +24,23 @@ dealt g c =
     }
 
 pub returns-clause-gives : goal.returns-clause-gives
-returns-clause-gives g c = rw (← c.self.view_is) (deals_from _ _ _ _ _ _ _ _ _ _ _ (dealt g c))
+returns-clause-gives g c = rw (← c.self.view_is) (deals_from (dealt g c))
 
 pub returns-clause-stays : goal.returns-clause-stays
-returns-clause-stays g c = deals_stays _ _ _ _ _ _ _ _ _ _ _ (dealt g c)
+returns-clause-stays g c = deals_stays (dealt g c)
 
 pub returns-clause-fewer : goal.returns-clause-fewer
-returns-clause-fewer g c = rw (← c.self.view_is) (deals_fewer _ _ _ _ _ _ _ _ _ _ _ (dealt g c))
+returns-clause-fewer g c = rw (← c.self.view_is) (deals_fewer (dealt g c))
 
 pub returns-clause-most : goal.returns-clause-most
-returns-clause-most g c = rw (← c.self.view_is) (deals_most _ _ _ _ _ _ _ _ _ _ _ (dealt g c))
+returns-clause-most g c = rw (← c.self.view_is) (deals_most (dealt g c))
 
 pub invariant_of-self : goal.invariant_of-self
 invariant_of-self g c =
     let i = c.self.invariant in
-    let fewer : length c.step_all.new.inputs.items < length c.self.inside.inputs.items = deals_fewer _ _ _ _ _ _ _ _ _ _ _ (dealt g c) in (
+    let fewer : length c.step_all.new.inputs.items < length c.self.inside.inputs.items = deals_fewer (dealt g c) in (
       c.answer_all.ensures.none,
       omega (arith, fewer, i.1, c.step_all.ensures.kept, c.answer_all.ensures.room),
       all_left InputInRange c.self.inside.inputs.items c.step_all.new.inputs.items c.step_all.ensures.steps.came c.step_all.ensures.steps.split i.2,
-      range_if c.is_empty.result c.self.inside.wanted c.take_if-wanted.new.wanted c.take_if-wanted.ensures.left i.3,
+      range_if c.is_empty.result c.self.inside.wanted c.take_if-wanted.ensures.left i.3,
     )
