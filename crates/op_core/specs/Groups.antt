@@ -126,7 +126,8 @@ module _ {D : Type 0} (state : D → DiskState) where
   pub record GoesTogether (old : NodeCore D) (xs rest : List Input) (new : NodeCore D) : Type 0 where
     pub bound : Bound
     pub at_once : StoresAtOnce state (node_of old.node).state.durable
-        (changes_all (node_of old.node).me (node_of old.node).state xs) old.node.store new.node.store (Ok bound)
+        (changes_all (node_of old.node).me (node_of old.node).state xs)
+        old.node.store new.node.store (Ok bound)
     pub full : IsFull (changes_all (node_of old.node).me (node_of old.node).state xs) rest
 
   -- of these inputs those came that aren't left, and the answers were added
