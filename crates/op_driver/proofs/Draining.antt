@@ -10,7 +10,7 @@ use Rattle.op_serving.specs.Losses.{most_marks, mark_at, noted, stopped_if, lost
 use Rattle.op_serving.specs.Inputs.{Deed, State, Luck, asked_by, calm, loop_taking, loop_after, next_fate, entered_with, handing, enter, leaves, first_down, shedding, drained_in, drained, rest}
 use Rattle.op_serving.specs.Fates.{Fate, lost}
 use Rattle.op_driver.specs.Driver.{Served, Stores, with_deeds, IsShed, IsDrained, Knows, Acts, FromCalm, Does, Enters, Gives, Drained, Loses}
-use Rattle.op_queues.proofs.Settling.{settled_before, found_lost, not_found, kinds_then, gone, grew_trans, grew_still, foretold, lost_first, lost_grew, left_lost, left_place}
+use Rattle.op_queues.proofs.Settling.{settled_before, found_lost, kinds_then, gone, grew_trans, grew_still, foretold, lost_first, lost_grew, left_lost, left_place}
 use Rattle.op_queues.proofs.Sizes.{size_settle, size_marked, size_loop_after}
 use Rattle.op_queues.proofs.Shedding.{Sheds, sheds, size_shed, shed_closed, thin_shed, shed_thin}
 use Rattle.op_driver.proofs.Calm.{no_right, calm_before, calm_same, calm_past, calm_settled}
@@ -20,6 +20,10 @@ use Rattle.op_driver.proofs.Telling.{blind_same, blind_after}
 pub no_items : {X : Type 0} (xs : List X) → length xs ≤ 0 → xs ≡ []
 no_items [] h = refl
 no_items (x ∷ xs) h = absurd (omega (arith, h))
+
+none_is : {X : Type 0} (o : Option X) → is_some o ≡ false → o ≡ None
+none_is None h = refl
+none_is (Some x) h = absurd cc
 
 -- ---- an input ends no session twice
 
@@ -200,7 +204,7 @@ closed_enter l from i c s e = by_room (nat_lt (length s.loop.lost) most_marks)
         let f : Fate = next_fate l [] i s in
         let u : Loop = loop_taking f s.loop in
         let t : Loop = loop_after (asked_by from i) i f s.node u in
-        closed_settle c (drop (length t.lost) l.marks) t (not_found c t.sessions ((blind_after (asked_by from i) i f s.node).opens c u ∙ ap is_some (closed_taking f c s.loop e)))
+        closed_settle c (drop (length t.lost) l.marks) t (none_is (find c t.sessions) ((blind_after (asked_by from i) i f s.node).opens c u ∙ ap is_some (closed_taking f c s.loop e)))
     by_room false = e
 
 closed_in : (k : ℕ) (l : Luck) (c : ℕ) (s : State) → find c s.loop.sessions ≡ None → find c (drained_in k l s).loop.sessions ≡ None
