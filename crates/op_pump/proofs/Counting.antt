@@ -15,7 +15,8 @@ use Rattle.op_pump.specs.Serving.{knows, begun}
 
 -- what is to be closed doesn't matter
 pub most_emptied : {K : Type 0} (d e : Served K) → emptied d ≡ emptied e → most_inputs d.loop ≡ most_inputs e.loop
-most_emptied d e same = sym (most_same d.loop (emptied d).loop refl refl refl refl refl) ∙ ap (λ (x : Served _). most_inputs x.loop) same ∙ most_same e.loop (emptied e).loop refl refl refl refl refl
+most_emptied d e same = sym (most_same d.loop (emptied d).loop refl refl refl refl refl) ∙ ap (λ (x : Served _). most_inputs x.loop) same
+    ∙ most_same e.loop (emptied e).loop refl refl refl refl refl
 
 -- a turn more
 pub one_turn : (a b m left next k : ℕ) → next + 1 ≡ left → b ≤ a + k → a + left * k ≤ m → b + next * k ≤ m
@@ -40,9 +41,11 @@ most_begun peers me = most_knows peers (fresh me) ∙ most_fresh me
 -- all turns of settings bring few
 few_in_all : (o : Settings) → IsLimited o → o.turns * most_in_turn (length o.peers) < last_count
 few_in_all o h =
-    let most : o.turns * most_in_turn (length o.peers) ≤ most_turns * most_in_turn most_peers = mul-le o.turns (most_in_turn (length o.peers)) most_turns (most_in_turn most_peers) h.turns (omega (arith, h.peers)) in
+    let most : o.turns * most_in_turn (length o.peers) ≤ most_turns * most_in_turn most_peers =
+    mul-le o.turns (most_in_turn (length o.peers)) most_turns (most_in_turn most_peers) h.turns (omega (arith, h.peers)) in
     omega (arith, most)
 
 -- so that the count of inputs does not come to its last value
-pub is_short : (o : Settings) (me : ℕ) (s t : Loop) → IsLimited o → s ≡ begun o.peers me → most_inputs t ≤ most_inputs s + o.turns * most_in_turn (length o.peers) → t.place.inputs < last_count
+pub is_short : (o : Settings) (me : ℕ) (s t : Loop) → IsLimited o → s ≡ begun o.peers me
+    → most_inputs t ≤ most_inputs s + o.turns * most_in_turn (length o.peers) → t.place.inputs < last_count
 is_short o me s t h e most = omega (arith, few_in_all o h, most, came t, ap most_inputs e, most_begun o.peers me)

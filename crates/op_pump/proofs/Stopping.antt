@@ -1,9 +1,9 @@
 -- Serving ends only with its cause: an end request was read, or all turns were taken and none was.
 use Rattle.std.proofs.Common.{◌≡◌, ◌≤◌, ◌+◌, ◌-◌, ◌∷◌, ◌&&◌, [], ℕ, Bool, List, length, true, false, not, nat_lt, if◌then◌else◌, Option, Some, None, refl, subst, arith}
 use Rattle.std.proofs.lemmas.Bool.{ltb-false}
-use Rattle.op_outside.specs.Nets.{SawBytes, SawNotYet, SawEnd, SawFault}
+use Rattle.op_outside.specs.Nets.{SawFault}
 use Rattle.op_outside.specs.declared.net.Addr.{Addr}
-use Rattle.op_outside.specs.declared.net.Happening.TheVariants.{Accepted, Readable, Writable, Ended}
+use Rattle.op_outside.specs.declared.net.Happening.TheVariants.{Readable}
 use Rattle.op_outside.specs.declared.net.Took.TheVariants as took
 use Rattle.op_serving.specs.Cores.{Standing}
 use Rattle.op_serving.specs.State.{is_open}
@@ -39,7 +39,8 @@ module _ (o : Settings) (l : Luck) (line : Standing → List ℕ) where
       none_left : left ≤ 0 → left ≡ 0
       none_left h = omega (arith, h)
 
-  no_other : (p : Pump) (a : Answer) → (IsAnswer (wait (p.due - p.last)) a → ⊥) → (IsAnswer nothing a → ⊥) → IsAnswer (ask o l line (record p { at = turn })) a → ⊥
+  no_other : (p : Pump) (a : Answer) → (IsAnswer (wait (p.due - p.last)) a → ⊥) → (IsAnswer nothing a → ⊥) → IsAnswer (ask o l line (record p { at = turn })) a
+      → ⊥
   no_other p a first second = by_ask (nat_lt 0 p.left && not p.driver.loop.ending)
     where
       by_ask : (b : Bool) → IsAnswer (if b then wait (p.due - p.last) else nothing) a → ⊥
@@ -54,11 +55,7 @@ module _ (o : Settings) (l : Luck) (line : Standing → List ℕ) where
       by_ask : (b : Bool) → IsAnswer (if b then wait (p.due - p.last) else nothing) no_answer → b ≡ false
       by_ask true e = absurd e
       by_ask false e = refl
-  turn_stops p (was_told t) is = absurd (no_other p (was_told t) (λ e. e) (λ e. e) is)
-  turn_stops p (was_dialled x) is = absurd (no_other p (was_dialled x) (λ e. e) (λ e. e) is)
-  turn_stops p (was_readied x) is = absurd (no_other p (was_readied x) (λ e. e) (λ e. e) is)
-  turn_stops p (was_seen x) is = absurd (no_other p (was_seen x) (λ e. e) (λ e. e) is)
-  turn_stops p (was_written x) is = absurd (no_other p (was_written x) (λ e. e) (λ e. e) is)
+  turn_stops p a is = absurd (no_other p a (λ e. e) (λ e. e) is)
 
   -- ---- in a turn
 
@@ -68,72 +65,39 @@ module _ (o : Settings) (l : Luck) (line : Standing → List ℕ) where
       p : Pump
       p = record q { at = time n }
 
-      by_due : (b : Bool) → StopsAt (if b then record (to o l line (asks 0 n) p.driver p) { last = t } else record (to o l line (dials o.peers n) (ticked l p.driver) p) { last = t; due = next_due o.tick_ms p.due t })
+      by_due : (b : Bool) → StopsAt
+          (if b then record (to o l line (asks 0 n) p.driver p) { last = t } else record (to o l line (dials o.peers n) (ticked l p.driver) p)
+          { last = t; due = next_due o.tick_ms p.due t })
       by_due true = tt
       by_due false = tt
-  time_stops q n (was_waited x) = tt
-  time_stops q n (was_dialled x) = tt
-  time_stops q n (was_readied x) = tt
-  time_stops q n (was_seen x) = tt
-  time_stops q n (was_written x) = tt
-  time_stops q n no_answer = tt
+  time_stops q n a = tt
 
   dials_stop : (p : Pump) (ps : List (ℕ × Addr)) (n : ℕ) (a : Answer) → StopsAt (answered o l line a (record p { at = dials ps n }))
   dials_stop p [] n a = tt
-  dials_stop p (q ∷ qs) n (was_dialled None) = tt
-  dials_stop p (q ∷ qs) n (was_dialled (Some None)) = tt
   dials_stop p (q ∷ qs) n (was_dialled (Some (Some c))) = tt
-  dials_stop p (q ∷ qs) n (was_waited x) = tt
-  dials_stop p (q ∷ qs) n (was_told x) = tt
-  dials_stop p (q ∷ qs) n (was_readied x) = tt
-  dials_stop p (q ∷ qs) n (was_seen x) = tt
-  dials_stop p (q ∷ qs) n (was_written x) = tt
-  dials_stop p (q ∷ qs) n no_answer = tt
+  dials_stop p (q ∷ qs) n a = tt
 
   asks_stop : (p : Pump) (i n : ℕ) (a : Answer) → StopsAt (answered o l line a (record p { at = asks i n }))
-  asks_stop p i n (was_readied (Accepted c)) = tt
   asks_stop p i n (was_readied (Readable c)) = by_open (is_open c p.driver.loop)
     where
       by_open : (b : Bool) → Stops (if b then reads c i n else asks (i + 1) n) p.left p.driver.loop.ending
       by_open true = tt
       by_open false = tt
-  asks_stop p i n (was_readied (Writable c)) = tt
-  asks_stop p i n (was_readied (Ended c)) = tt
-  asks_stop p i n (was_waited x) = tt
-  asks_stop p i n (was_told x) = tt
-  asks_stop p i n (was_dialled x) = tt
-  asks_stop p i n (was_seen x) = tt
-  asks_stop p i n (was_written x) = tt
-  asks_stop p i n no_answer = tt
+  asks_stop p i n a = tt
 
   reads_stop : (p : Pump) (c i n : ℕ) (a : Answer) → StopsAt (answered o l line a (record p { at = reads c i n }))
-  reads_stop p c i n (was_seen (SawBytes bytes)) = tt
-  reads_stop p c i n (was_seen SawNotYet) = tt
-  reads_stop p c i n (was_seen SawEnd) = tt
   reads_stop p c i n (was_seen SawFault) = tt
-  reads_stop p c i n (was_waited x) = tt
-  reads_stop p c i n (was_told x) = tt
-  reads_stop p c i n (was_dialled x) = tt
-  reads_stop p c i n (was_readied x) = tt
-  reads_stop p c i n (was_written x) = tt
-  reads_stop p c i n no_answer = tt
+  reads_stop p c i n a = tt
 
   writes_stop : (p : Pump) (c : Option ℕ) (a : Answer) → StopsAt (writes_at o l line c a p)
   writes_stop p None a = tt
-  writes_stop p (Some c) (was_written None) = tt
-  writes_stop p (Some c) (was_written (Some (took.Bytes n))) = tt
-  writes_stop p (Some c) (was_written (Some took.NotYet)) = tt
   writes_stop p (Some c) (was_written (Some took.Ended)) = tt
-  writes_stop p (Some c) (was_waited x) = tt
-  writes_stop p (Some c) (was_told x) = tt
-  writes_stop p (Some c) (was_dialled x) = tt
-  writes_stop p (Some c) (was_readied x) = tt
-  writes_stop p (Some c) (was_seen x) = tt
-  writes_stop p (Some c) no_answer = tt
+  writes_stop p (Some c) a = tt
 
   -- ---- a run
 
-  stage_stops : (p : Pump) (st : Stage) (a : Answer) → IsAnswer (ask o l line (record p { at = st })) a → Stops st p.left p.driver.loop.ending → StopsAt (answered o l line a (record p { at = st }))
+  stage_stops : (p : Pump) (st : Stage) (a : Answer) → IsAnswer (ask o l line (record p { at = st })) a → Stops st p.left p.driver.loop.ending
+      → StopsAt (answered o l line a (record p { at = st }))
   stage_stops p turn a is k = turn_stops p a is
   stage_stops p (time n) a is k = time_stops p n a
   stage_stops p (dials ps n) a is k = dials_stop p ps n a
@@ -157,5 +121,4 @@ module _ (o : Settings) (l : Luck) (line : Standing → List ℕ) where
 pub ends_so : (e : ServeEnd) (p : Pump) → p.at ≡ stop e → StopsAt p → EndsSo e p
 ends_so ends.Ended p is k = subst (λ st. Stops st p.left p.driver.loop.ending) is k
 ends_so ends.TurnsOver p is k = subst (λ st. Stops st p.left p.driver.loop.ending) is k
-ends_so ends.NetFault p is k = tt
-ends_so ends.Starved p is k = tt
+ends_so e p is k = tt

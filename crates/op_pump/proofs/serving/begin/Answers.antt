@@ -7,5 +7,6 @@ use Rattle.op_pump.proofs.serving.begin.Goals as goal
 pub returns : goal.returns
 returns c =
     let long : length c.as_slice-peer-items.result.now ≡ length c.args.settings.now.peers = ap length c.as_slice-peer-items.ensures in
-    let none : drop c.loop-peer.peer-index c.args.settings.now.peers ≡ [] = drop_all c.loop-peer.peer-index c.args.settings.now.peers (omega (arith, long, c.loop-peer-test.false)) in
+    let none : drop c.loop-peer.peer-index c.args.settings.now.peers ≡ [] =
+    drop_all c.loop-peer.peer-index c.args.settings.now.peers (omega (arith, long, c.loop-peer-test.false)) in
     ap (λ ps. knows ps c.loop-peer.sessions) (sym none) ∙ c.loop-peer.invariant

@@ -34,13 +34,18 @@ returns-in-Ok-clause-serves g c =
     let marks = c.into_lost.result.items in
     let begun_is : c.in-Ok.sessions ≡ begun o.peers c.me.result = search rules in
     let core_is : d.core ≡ c.args.core = ap (λ (x : Served _). x.core) c.new.ensures in
-    let loop_is : d.loop ≡ begun o.peers (g.K.Core.standing d.core).me = ap (λ (x : Served _). x.loop) c.new.ensures ∙ begun_is ∙ ap (begun o.peers) (c.me.ensures.me ∙ ap (λ k. (g.K.Core.standing k).me) (sym core_is)) in
+    let loop_is : d.loop ≡ begun o.peers (g.K.Core.standing d.core).me = ap (λ (x : Served _). x.loop) c.new.ensures ∙ begun_is
+    ∙ ap (begun o.peers) (c.me.ensures.me ∙ ap (λ k. (g.K.Core.standing k).me) (sym core_is)) in
     let node_is : d.node ≡ g.K.Core.standing d.core = ap (λ (x : Served _). x.node) c.new.ensures ∙ ap g.K.Core.standing (sym core_is) in
     let last_is : e.node ≡ g.K.Core.standing e.core = sym c.into_parts-core.ensures.node ∙ ap g.K.Core.standing c.into_parts-core.ensures.core in
     let lost_is : marks ≡ e.loop.lost = c.into_lost.ensures.lost ∙ ap (λ (s : Loop). s.lost) c.into_parts-core.ensures.sessions in
     let most : length e.loop.lost ≤ most_marks = subst (λ xs. length xs ≤ most_marks) lost_is c.into_lost.ensures.most in
-    let short = is_short o (g.K.Core.standing d.core).me d.loop e.loop c.requires.limits loop_is (subst (λ t. most_inputs e.loop ≤ most_inputs d.loop + t.left * most_in_turn (length o.peers)) c.new-in-Ok.ensures.is c.take_turns-end.ensures.most) in
-    let goes = subst (λ t. TurnsGo g.K.Core.stores (set_of o) g.K.Core.line c.take_turns-end.result t d c.take_turns-end.new.self.timer e n0 n1 k1 k2) c.new-in-Ok.ensures.is c.take_turns-end.ensures.goes in
-    subst (λ m. ServesNode g.K.Core.standing g.K.Core.stores o g.K.Core.line c.take_turns-end.result marks c.args.core m n0 n1 k0 k2) (sym c.into_parts-core.ensures.core)
+    let short = is_short o (g.K.Core.standing d.core).me d.loop e.loop c.requires.limits loop_is
+    (subst (λ t. most_inputs e.loop ≤ most_inputs d.loop + t.left * most_in_turn (length o.peers)) c.new-in-Ok.ensures.is c.take_turns-end.ensures.most) in
+    let goes = subst (λ t. TurnsGo g.K.Core.stores (set_of o) g.K.Core.line c.take_turns-end.result t d c.take_turns-end.new.self.timer e n0 n1 k1 k2)
+    c.new-in-Ok.ensures.is c.take_turns-end.ensures.goes in
+    subst (λ m. ServesNode g.K.Core.standing g.K.Core.stores o g.K.Core.line c.take_turns-end.result marks c.args.core m n0 n1 k0 k2)
+    (sym c.into_parts-core.ensures.core)
     (subst (λ k. ServesNode g.K.Core.standing g.K.Core.stores o g.K.Core.line c.take_turns-end.result marks k e.core n0 n1 k0 k2) core_is
-    (serves o g.K.Core.line c.take_turns-end.result marks c.millis-start.result c.take_turns-end.new.self.timer d e n0 n1 k0 k1 k2 loop_is node_is last_is lost_is most short c.millis-start.ensures goes))
+    (serves o g.K.Core.line c.take_turns-end.result marks c.millis-start.result c.take_turns-end.new.self.timer d e n0 n1 k0 k1 k2 loop_is node_is last_is
+    lost_is most short c.millis-start.ensures goes))

@@ -29,4 +29,5 @@ closes-preserved g c =
     }
 
 pub returns-clause-most : goal.returns-clause-most
-returns-clause-most g c = omega (arith, most_emptied c.next_close.new.self c.args.self.now.driver (ap emptied c.in_default.ensures.rest ∙ c.closes.invariant.same))
+returns-clause-most g c =
+    omega (arith, most_emptied c.next_close.new.self c.args.self.now.driver (ap emptied c.in_default.ensures.rest ∙ c.closes.invariant.same))

@@ -11,7 +11,9 @@ use Rattle.op_pump.proofs.pump.Pump.pour_out.Given as goal
 abbrev pub invariant-queue : goal.invariant-queue
 invariant-queue g l = record {
   idle : IsIdleAt l.fn.self.driver.loop.place.turn l.fn.self.driver.loop.place.at l.self.driver.loop;
-  writes : (o : Settings) → Writes g.K.Core.stores o g.K.Core.line l.conn (Ok l.next) l.fn.self.timer l.fn.self.driver l.self.driver (g.N.Net.told l.fn.net, g.N.Net.fault_count l.fn.net) (g.N.Net.told l.net, g.N.Net.fault_count l.net);
+  writes : (o : Settings)
+      → Writes g.K.Core.stores o g.K.Core.line l.conn (Ok l.next) l.fn.self.timer l.fn.self.driver l.self.driver
+      (g.N.Net.told l.fn.net, g.N.Net.fault_count l.fn.net) (g.N.Net.told l.net, g.N.Net.fault_count l.net);
   waits : Waits l.conn l.self.driver.loop l.next;
   no_hello : l.next ≡ Some l.conn → hello_left l.conn l.self.driver.loop ≡ 0;
   timer : l.self.timer ≡ l.fn.self.timer;

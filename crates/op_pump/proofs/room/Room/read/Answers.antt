@@ -13,5 +13,7 @@ returns-clause-tells g c =
     let len : c.self.inside.bytes.len ≡ length buf = search rules in
     let same : take c.self.inside.bytes.len (buf ++ rest) ≡ buf = ap (λ n. take n (buf ++ rest)) len ∙ take-append_seam buf rest in
     let told : Grows (g.N.Net.told c.args.net.now) (WasRead c.args.conn piece_len (seen_in buf c.read.result) ∷ []) (g.N.Net.told c.read.new.self) =
-    subst (λ n. Grows (g.N.Net.told c.args.net.now) (WasRead c.args.conn n (seen_in buf c.read.result) ∷ []) (g.N.Net.told c.read.new.self)) whole c.read.ensures.tells in
-    subst (λ b. Grows (g.N.Net.told c.args.net.now) (WasRead c.args.conn piece_len (seen_in b c.read.result) ∷ []) (g.N.Net.told c.read.new.self)) (sym same) told
+    subst (λ n. Grows (g.N.Net.told c.args.net.now) (WasRead c.args.conn n (seen_in buf c.read.result) ∷ []) (g.N.Net.told c.read.new.self)) whole
+    c.read.ensures.tells in
+    subst (λ b. Grows (g.N.Net.told c.args.net.now) (WasRead c.args.conn piece_len (seen_in b c.read.result) ∷ []) (g.N.Net.told c.read.new.self)) (sym same)
+    told
