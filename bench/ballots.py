@@ -71,7 +71,7 @@ class Reader:
 
 
 def promised(path):
-    """Each ballot that an area promises, in order: each is above the one before it."""
+    """Each ballot that an area promises, in the order of its records."""
     with open(path, "rb") as it:
         area = it.read()
     ballots, at = [], HEADER
