@@ -6,7 +6,7 @@ use Rattle.op_outside.specs.Moments.{Moment, Before}
 use Rattle.op_outside.specs.Moments.Moment.{At, Both}
 use Rattle.op_memory.specs.declared.call.Call.{Call}
 use Rattle.op_memory.specs.declared.call.Call.TheVariants.{Write, StoppedWrite, Cut, StoppedCut, Sync}
-use Rattle.op_outside.specs.Disks.{TornOf, GoesOn}
+use Rattle.op_outside.specs.Disks.{Edit, TornOf, GoesOn}
 use Rattle.op_memory.specs.Tied.{Tied}
 use Rattle.op_memory.proofs.Images.{write_follows, cut_follows, write_image, cut_image, sync_only}
 use Rattle.op_outside.specs.Pendings.{IsImage}
@@ -153,3 +153,14 @@ module _ (start : List ℕ) (calls new : List Call) (call : Call) (more : new �
 
   pub synced_push : IfSync call next (LeftNow start new)
   synced_push = if_sync call before next (LeftNow start new) same (now_left start new next tied_push.image) (image_after start calls new call more)
+
+-- a disk that stays as it is goes on, whatever was asked of it
+pub goes_on_same : (edit : Edit) (start : List ℕ) (calls : List Call) (bytes : List ℕ) → IsImage (state_of (fresh start) calls).pending bytes → (f i g j : ℕ)
+    → GoesOn edit (known start calls bytes f i) (known start calls bytes g j)
+goes_on_same edit start calls bytes image f i g j = record {
+  later = omega arith;
+  nothing_else = λ t c before left. inl left;
+  keeps = λ t c before left. left;
+  now_too = now_too start calls;
+  image = now_left start calls bytes image;
+}

@@ -1,10 +1,10 @@
 -- A disk whose calls are undone.
-use Rattle.std.proofs.Common.{◌≡◌, ⊎_elim, ℕ, ◌+◌, ◌<◌, ◌≤◌, List, [], ◌∷◌, ◌++◌, length, get_or, take, drop, refl, sym, ◌∙◌, ap, subst, arith, length-append, length-drop}
-use Rattle.std.proofs.lemmas.List.{take_all, take_more, drop_all, drop-drop, take-append-le, drop-append-le}
+use Rattle.std.proofs.Common.{◌≡◌, ⊎_elim, ℕ, ◌+◌, ◌<◌, ◌≤◌, List, [], ◌∷◌, ◌++◌, length, get_or, take, drop, refl, sym, ◌∙◌, ap, subst, arith, length-append, length-drop, append_assoc}
+use Rattle.std.proofs.lemmas.List.{take_all, take_more, drop_all, drop-drop, take-append-le, drop-append-le, take-append-drop, length-take-le}
 use Rattle.std.proofs.lemmas.Bool.{cases_lt}
 use Rattle.op_memory.specs.declared.call.Call.{Call}
 use Rattle.op_memory.specs.declared.replaced.Replaced.{Replaced}
-use Rattle.op_memory.specs.Images.{State, fresh, state_of, after, edit_of, known, IsWithin, IfSync, LeftNow}
+use Rattle.op_memory.specs.Images.{State, fresh, state_of, after, edit_of, known, overlaid, IsWithin, IfSync, LeftNow}
 use Rattle.op_outside.specs.Disks.{GoesOn}
 use Rattle.op_memory.proofs.Moments.{state_of-more, tied_push, goes_on_push, synced_push}
 use Rattle.op_memory.specs.Tied.{Tied}
@@ -86,3 +86,33 @@ undoes_from calls rest replaced left bytes k undoes back behind same = record {
       ∙ undoes.gives (k + n)
       ∙ ap (λ (s : State). s.content) (sym (same n));
 }
+
+-- what a write replaced, laid back
+pub restored : (bytes piece : List ℕ) (at : ℕ) → at ≤ length bytes → take (length bytes) (overlaid (overlaid bytes at piece) at (take (length piece) (drop at bytes))) ≡ bytes
+restored bytes piece at le =
+    let n : ℕ = length piece in
+    let first : List ℕ = take at bytes in
+    let rest : List ℕ = drop at bytes in
+    let over : List ℕ = overlaid bytes at piece in
+    let past : List ℕ = drop (at + length (take n rest)) over in
+    let size : length first ≡ at = length-take-le at bytes le in
+    let all : length (first ++ piece) ≡ at + n = omega (arith, size, length-append first piece) in
+    let front : take at over ≡ first =
+    take-append-le at (first ++ piece) (drop (at + n) bytes) (omega (arith, all)) ∙ take-append-le at first piece (omega (arith, size)) ∙ take_all at first (omega (arith, size)) in
+    ap (λ (l : List ℕ). take (length bytes) ((l ++ take n rest) ++ past)) front
+    ∙ ⊎_elim
+    (λ (short : n < length rest).
+    let there : past ≡ drop n rest =
+    ap (λ (k : ℕ). drop (at + k) over) (length-take-le n rest (omega (arith, short)))
+    ∙ drop-append-le (at + n) (first ++ piece) (drop (at + n) bytes) (omega (arith, all))
+    ∙ ap (λ (l : List ℕ). l ++ drop (at + n) bytes) (drop_all (at + n) (first ++ piece) (omega (arith, all)))
+    ∙ sym (drop-drop n at bytes) in
+    ap (λ (l : List ℕ). take (length bytes) ((first ++ take n rest) ++ l)) there
+    ∙ ap (λ (l : List ℕ). take (length bytes) l) (append_assoc first (take n rest) (drop n rest) ∙ ap (λ (l : List ℕ). first ++ l) (take-append-drop n rest) ∙ take-append-drop at bytes)
+    ∙ take_all (length bytes) bytes (omega arith))
+    (λ (long : length rest ≤ n).
+    ap (λ (l : List ℕ). take (length bytes) ((first ++ l) ++ past)) (take_all n rest long)
+    ∙ ap (λ (l : List ℕ). take (length bytes) (l ++ past)) (take-append-drop at bytes)
+    ∙ take-append-le (length bytes) bytes past (omega arith)
+    ∙ take_all (length bytes) bytes (omega arith))
+    (cases_lt n (length rest))

@@ -5,6 +5,7 @@ use crate::call_fate::CallFate;
 use crate::disk_history::DiskHistory;
 use crate::fault_count::FaultCount;
 use crate::fault_script::FaultScript;
+use crate::piece::Piece;
 use crate::power::Power;
 use op_outside::{DISK_END, Disk, DiskFail};
 use std::alloc::{AllocError, Global};
@@ -315,7 +316,7 @@ impl Disk for MemDisk {
         if at > DISK_END || bytes.len() as u64 > DISK_END - at {
             return Err(self.faults.starve());
         }
-        let Ok(piece) = bytes.to_vec(self.alloc) else {
+        let Ok(piece) = Piece::of(self.alloc, bytes) else {
             return Err(self.faults.starve());
         };
         if fate == CallFate::Stops {

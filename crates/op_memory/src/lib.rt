@@ -15,6 +15,7 @@ mod fault_script;
 mod forgetting;
 mod laws;
 mod pends;
+mod piece;
 mod power;
 mod replaced;
 mod replay;

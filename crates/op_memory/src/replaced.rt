@@ -4,6 +4,7 @@ ghost use Rattle.op_memory.specs.Undoing.{before, undone, IsRestored};
 
 use crate::call::Call;
 use crate::edits::lay;
+use crate::piece::Piece;
 use crate::replay::place;
 use std::alloc::{AllocError, Global};
 
@@ -15,7 +16,7 @@ pub struct Replaced {
     /// Where these bytes stood.
     pub at: usize,
     /// The bytes that the call wrote over or cut off.
-    pub bytes: Vec<u8>,
+    pub bytes: Piece,
 }
 
 impl Replaced {
@@ -30,7 +31,7 @@ impl Replaced {
         Ok(Replaced {
             len: bytes.len(),
             at,
-            bytes: old.to_vec(alloc)?,
+            bytes: Piece::of(alloc, old)?,
         })
     }
 
@@ -39,7 +40,7 @@ impl Replaced {
         ensures { OnOk result (bytes.new.items ≡ before self.now bytes.old.items) }
     {
         let within = self.at.min(bytes.len());
-        lay(bytes, within, &self.bytes)?;
+        lay(bytes, within, self.bytes.as_slice())?;
         bytes.truncate(self.len);
         Ok(())
     }
