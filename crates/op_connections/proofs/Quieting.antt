@@ -4,7 +4,7 @@ use Rattle.std.proofs.lemmas.List.{append-nil}
 use Rattle.op_types.specs.declared.events.Input.{Input}
 use Rattle.op_types.specs.declared.events.Input.TheVariants as input
 use Rattle.op_types.specs.declared.messages.Msg.{Msg}
-use Rattle.op_serving.specs.declared.node.Given.{Given}
+use Rattle.op_types.specs.declared.given.Given.{Given}
 use Rattle.op_serving.specs.Cores.{Standing, gives, reopens}
 use Rattle.op_serving.specs.Fates.{Fate, done, finds, faults, shares, damaged, lost, is_session}
 use Rattle.op_serving.specs.State.{Loop, find, left_by, session_of, counted}

@@ -16,7 +16,7 @@ use Rattle.op_protocol.specs.Rows.{step_plan}
 use Rattle.op_serving.specs.declared.kind.Kind.{Kind}
 use Rattle.op_serving.specs.declared.kind.Kind.TheVariants.{Unknown, Peer}
 use Rattle.op_serving.specs.declared.mark.Mark.{Mark}
-use Rattle.op_serving.specs.declared.node.Given.{Given}
+use Rattle.op_types.specs.declared.given.Given.{Given}
 use Rattle.op_serving.specs.declared.wanted.Wanted.{Wanted}
 use Rattle.op_serving.specs.declared.wanted.Wanted.TheVariants.{Commands, Stop, Trim, Read}
 use Rattle.op_serving.specs.Cores.{Failure, Standing, given_of, gives, after_input, faulted, refused_with, reopened}

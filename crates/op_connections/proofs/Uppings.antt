@@ -15,7 +15,7 @@ use Rattle.op_protocol.specs.Leader.{session_down}
 use Rattle.op_protocol.specs.Reading.{adopted_of, asking_by, leads_on, reading}
 use Rattle.op_protocol.specs.Rows.{plan_of, step_plan, up_at}
 use Rattle.op_serving.proofs.Sessions.{nothing_decided, quietly, plan_with, stored_with}
-use Rattle.op_serving.specs.declared.node.Given.{Given}
+use Rattle.op_types.specs.declared.given.Given.{Given}
 use Rattle.op_serving.specs.Cores.{Failure, Standing, gives, given_of, refused_with}
 use Rattle.op_connections.proofs.Settled.{ReadsAreSettled, answers_none}
 

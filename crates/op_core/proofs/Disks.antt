@@ -27,7 +27,7 @@ use Rattle.op_store.proofs.KeptDisks.{keep_same}
 use Rattle.op_bounds.specs.States.{IsNamed, StateInRange}
 use Rattle.op_bounds.proofs.Known.{servers}
 use Rattle.op_bounds.proofs.Steps.{steps_name}
-use Rattle.op_server.specs.declared.given.Given.{Given as NodeGiven}
+use Rattle.op_types.specs.declared.given.Given.{Given}
 use Rattle.op_node.specs.Nodes.{NodeState, node_of, stores, after_input, Stepped, IsRepresented}
 use Rattle.op_node.specs.Openings.{Opens, disks_with, durable_for, part_for, joining_for, opening_state}
 use Rattle.op_node.specs.Reopenings.{StoreOneOf, Restarts, RefusesAgain, count_kept}
@@ -47,7 +47,7 @@ use Rattle.op_serving.specs.Ranges.{InputInRange}
 use Rattle.op_serving.specs.Reopenings.{Unstored, all_stored, unstored_after}
 use Rattle.op_core.specs.Disks.{FindEach, unstored_after_all, Stores, StepStores}
 use Rattle.op_core.specs.Groups.{Told}
-use Rattle.op_core.specs.NodeCores.{IsServable, handed, handed_of, handed_again, place_at, standing_by, standing_at, standing_of}
+use Rattle.op_core.specs.NodeCores.{IsServable, handed, handed_again, place_at, standing_by, standing_at, standing_of}
 use Rattle.op_core.specs.declared.node_core.NodeCore.{NodeCore}
 use Rattle.op_core.specs.declared.place.Place.{Place}
 use Rattle.op_core.proofs.NodeCores.{input_of, gives_at, after_so, same_me, same_failed}
@@ -124,10 +124,14 @@ unfolding cores.reopened
 open_by None me s p k d = refl
 open_by (Some c) me s p k d = refl
 
-given_by : (o : Option ℕ) (me : ℕ) (s : State) (p : Place) (k : ℕ) (d : Durable) (ss : List (ℕ × Msg)) → ss ≡ sends_after_restart me d → handed_of (record { sends = ss; replies = []; read_replies = []; outcome = None }) ≡ cores.given_again (standing_by o me s p k) d
+-- messages alone
+abbrev given_sends : List (ℕ × Msg) → Given
+given_sends ss = record { sends = ss; replies = []; read_replies = []; outcome = None }
+
+given_by : (o : Option ℕ) (me : ℕ) (s : State) (p : Place) (k : ℕ) (d : Durable) (ss : List (ℕ × Msg)) → ss ≡ sends_after_restart me d → given_sends ss ≡ cores.given_again (standing_by o me s p k) d
 unfolding cores.given_again
-given_by None me s p k d ss is = ap (λ (zs : List (ℕ × Msg)). handed_of (record { sends = zs; replies = []; read_replies = []; outcome = None })) is
-given_by (Some c) me s p k d ss is = ap (λ (zs : List (ℕ × Msg)). handed_of (record { sends = zs; replies = []; read_replies = []; outcome = None })) is
+given_by None me s p k d ss is = ap given_sends is
+given_by (Some c) me s p k d ss is = ap given_sends is
 
 module _ {D : Type 0} (state : D → DiskState) where
   -- ---- the same node
@@ -186,7 +190,7 @@ module _ {D : Type 0} (state : D → DiskState) where
         (named_at me (node_of n.node).state n.node.failed x ready.me ready.range range named)
 
     -- it ends
-    done_stores : (given : NodeGiven) → Stepped (node_of n.node) x (Ok given) (node_of m.node) → DiskSteps state before batch n.node.store m.node.store (Ok given) → (u : Unstored) → Stores state u n → Stores state u m
+    done_stores : (given : Given) → Stepped (node_of n.node) x (Ok given) (node_of m.node) → DiskSteps state before batch n.node.store m.node.store (Ok given) → (u : Unstored) → Stores state u n → Stores state u m
     done_stores given d t u s = by_failed n.node.failed refl
       where
         by_failed : (o : Option ℕ) → n.node.failed ≡ o → Stores state u m
@@ -203,7 +207,7 @@ module _ {D : Type 0} (state : D → DiskState) where
         by_failed (Some count) e = stores_same u n m (d.1 ∙ stays_itself (node_of n.node) x count e) (t.idle (stores_nothing (node_of n.node) x count e)) s
 
     -- a disk fails
-    fault_stores : (count : ℕ) → Stepped (node_of n.node) x (Err (fails.DiskFail count)) (node_of m.node) → DiskSteps {T = NodeGiven} state before batch n.node.store m.node.store (Err (fails.DiskFail count)) → (u : Unstored) → Stores state u n
+    fault_stores : (count : ℕ) → Stepped (node_of n.node) x (Err (fails.DiskFail count)) (node_of m.node) → DiskSteps {T = Given} state before batch n.node.store m.node.store (Err (fails.DiskFail count)) → (u : Unstored) → Stores state u n
         → (o : Option ℕ) → n.node.failed ≡ o → Stores state (unstored_after (standing_by o me (node_of n.node).state n.stood (faults (disks_of state n.node.store))) x (fates.faults count) u) m
     fault_stores count d t u s (Some c) e = absurd (t.unfailing (stores_nothing (node_of n.node) x c e) count refl)
     fault_stores count d t u s None e =
@@ -220,7 +224,7 @@ module _ {D : Type 0} (state : D → DiskState) where
         }
 
     -- of an Up and of a Down nothing is stored, so no disk fails for one
-    no_session : (count : ℕ) → DiskSteps {T = NodeGiven} state before batch n.node.store m.node.store (Err (fails.DiskFail count)) → (is_session x ≡ true) ⊎ (is_session x ≡ false) → is_session x ≡ false
+    no_session : (count : ℕ) → DiskSteps {T = Given} state before batch n.node.store m.node.store (Err (fails.DiskFail count)) → (is_session x ≡ true) ⊎ (is_session x ≡ false) → is_session x ≡ false
     no_session count t (inl tells) = absurd (t.unfailing (stores_of n.node.failed refl) count refl)
       where
         stores_of : (o : Option ℕ) → n.node.failed ≡ o → batch ≡ []
@@ -229,7 +233,7 @@ module _ {D : Type 0} (state : D → DiskState) where
     no_session count t (inr other) = other
 
     -- it is the step that serving knows
-    pub did : (result : Result NodeGiven NodeFail) → reopens (standing_of state n) x ≡ false → Stepped (node_of n.node) x result (node_of m.node) → DiskSteps state before batch n.node.store m.node.store result
+    pub did : (result : Result Given NodeFail) → reopens (standing_of state n) x ≡ false → Stepped (node_of n.node) x result (node_of m.node) → DiskSteps state before batch n.node.store m.node.store result
         → Steps (standing_of state) (StepStores state) n x (handed result) m
     did (Ok given) shut d t =
         let f : ℕ = faults (disks_of state n.node.store) in
@@ -240,7 +244,7 @@ module _ {D : Type 0} (state : D → DiskState) where
           alone = tt;
           fails = tt;
           may = shut;
-          tells = ap handed_of d.0 ∙ gives_at me (node_of n.node).state n.node.failed n.stood f x;
+          tells = d.0 ∙ gives_at me (node_of n.node).state n.node.failed n.stood f x;
           node = is;
           stored = record { kept = t.kept; node = is; found = λ u s. (tt, tt); stored = done_stores given d t };
         }

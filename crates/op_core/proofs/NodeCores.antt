@@ -32,7 +32,7 @@ use Rattle.op_bounds.proofs.Starts.{openings_stay}
 use Rattle.op_bounds.proofs.Beginning.{first_stops}
 use Rattle.op_bounds.proofs.Known.{servers, ballot_any, members_any, entry_any, entries_any, durable_any}
 use Rattle.op_bounds.proofs.Frames.{message_is}
-use Rattle.op_server.specs.declared.given.Given.{Given}
+use Rattle.op_types.specs.declared.given.Given.{Given}
 use Rattle.op_node.specs.Nodes as node
 use Rattle.op_node.specs.Nodes.{NodeState, node_of, stores, Stepped, AdmitsInput, IsSoundNode}
 use Rattle.op_node.specs.Openings.{Opens, durable_for, part_for, joining_for, opening_state}
@@ -47,7 +47,7 @@ use Rattle.op_node.specs.declared.fail.StepFail.{StepFail}
 use Rattle.op_node.specs.declared.fail.StepFail.TheVariants as fails
 use Rattle.op_serving.specs.Cores as cores
 use Rattle.op_serving.specs.Ranges.{InputInRange, SendInRange, ReplyInRange, GivenInRange}
-use Rattle.op_core.specs.NodeCores.{handed, handed_of, handed_again, standing_by, standing_at, IsServable}
+use Rattle.op_core.specs.NodeCores.{handed, handed_again, standing_by, standing_at, IsServable}
 use Rattle.op_core.specs.declared.place.Place.{Place}
 
 -- ---- from one form of range to the other
@@ -202,7 +202,7 @@ stays n m x (Err fails.NoMemory) s r d sound =
     record { me = subst IsPid (sym (ap (λ (k : NodeState). k.me) d)) s.me; sound = sound; range = subst (StateInRange IsPid) (sym (ap (λ (k : NodeState). k.state) d)) s.range }
 
 -- it is the step that serving knows
-refuses_so : (count : ℕ) (x : Input) → handed_of (node.refused_with count x) ≡ cores.refused_with count x
+refuses_so : (count : ℕ) (x : Input) → node.refused_with count x ≡ cores.refused_with count x
 refuses_so count input.Tick = refl
 refuses_so count (input.Deliver q m) = refl
 refuses_so count (input.Commands cs) = refl
@@ -212,7 +212,7 @@ refuses_so count (input.Read r) = refl
 refuses_so count (input.Up q) = refl
 refuses_so count (input.Down q) = refl
 
-pub gives_at : (me : ℕ) (s : State) (o : Option ℕ) (p : Place) (f : ℕ) (x : Input) → handed_of (node.gives (record { me = me; state = s; failed = o }) x) ≡ cores.gives (standing_by o me s p f) x
+pub gives_at : (me : ℕ) (s : State) (o : Option ℕ) (p : Place) (f : ℕ) (x : Input) → node.gives (record { me = me; state = s; failed = o }) x ≡ cores.gives (standing_by o me s p f) x
 unfolding cores.gives
 gives_at me s None p f x = refl
 gives_at me s (Some count) p f x = refuses_so count x

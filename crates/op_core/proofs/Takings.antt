@@ -12,7 +12,7 @@ use Rattle.op_protocol.specs.Rows.{step_plan}
 use Rattle.op_protocol.proofs.Plans.{after_both}
 use Rattle.op_bounds.specs.States.{IsNamed, StateInRange}
 use Rattle.op_bounds.proofs.Batches.{applies_both}
-use Rattle.op_server.specs.declared.given.Given.{Given as NodeGiven}
+use Rattle.op_types.specs.declared.given.Given.{Given}
 use Rattle.op_node.specs.Nodes.{NodeState, node_of, gives, stores, after_input, IsSoundNode}
 use Rattle.op_node.specs.Taking.{LaysOut, LeadsFrom, Takes, TakesNone}
 use Rattle.op_node.specs.declared.node.Node.{Node}
@@ -20,7 +20,7 @@ use Rattle.op_node.specs.declared.record.Record.{Record}
 use Rattle.op_serving.specs.Cores.{given_of}
 use Rattle.op_serving.specs.Ranges.{InputInRange}
 use Rattle.op_core.specs.Groups.{Told, ToldInRange, IsCalm, state_all, told_all, changes_all, up_node, Took}
-use Rattle.op_core.specs.NodeCores.{handed_of, IsServable}
+use Rattle.op_core.specs.NodeCores.{IsServable}
 use Rattle.op_core.proofs.NodeCores.{stays}
 use Rattle.op_core.proofs.Disks.{named_at}
 
@@ -78,10 +78,10 @@ module _ {D : Type 0} where
   }
 
   -- one more was
-  module _ (old mid new : Node D) (ts : List Input) (before after : List Told) (g h : Record) (x : Input) (given : NodeGiven)
+  module _ (old mid new : Node D) (ts : List Input) (before after : List Told) (g h : Record) (x : Input) (given : Given)
       (took : Took old ts before after g mid) (takes : Takes x mid new given)
       (adds : (changes : List Change) → LaysOut changes g → LaysOut (changes ++ stores (node_of mid) x) h)
-      (range : InputInRange x) (calm : IsCalm x) (sound : IsSoundNode new) (fits : ToldInRange (Ok (handed_of given))) where
+      (range : InputInRange x) (calm : IsCalm x) (sound : IsSoundNode new) (fits : ToldInRange (Ok given)) where
     abbrev me : ℕ
     me = (node_of old).me
 
@@ -97,8 +97,8 @@ module _ {D : Type 0} where
     stores_it : stores (node_of mid) x ≡ batch
     stores_it = ap (λ (k : NodeState). stores k x) took.node
 
-    gives_it : handed_of given ≡ given_of (step_plan me so_far x)
-    gives_it = ap handed_of takes.given ∙ ap (λ (k : NodeState). handed_of (gives k x)) took.node
+    gives_it : given ≡ given_of (step_plan me so_far x)
+    gives_it = takes.given ∙ ap (λ (k : NodeState). gives k x) took.node
 
     is_node : node_of new ≡ up_node me (state_all me s (ts ++ x ∷ []))
     is_node = takes.node ∙ ap (λ (k : NodeState). after_input k x) took.node ∙ ap (λ (t : State). up_node me t) (sym (state_more me s ts x))
@@ -132,14 +132,14 @@ module _ {D : Type 0} where
         let after : IsNamed (node_of mid).me (after_input (node_of mid) x).state.durable = named_at (node_of mid).me (node_of mid).state mid.failed x took.servable.me took.servable.range range before in
         subst (λ (p : ℕ). IsNamed p (node_of new).state.durable) same_me (subst (λ (k : NodeState). IsNamed (node_of mid).me k.state.durable) (sym takes.node) after)
 
-    pub took_more : Took old (ts ++ x ∷ []) before (after ++ Ok (handed_of given) ∷ []) h new
+    pub took_more : Took old (ts ++ x ∷ []) before (after ++ Ok given ∷ []) h new
     took_more =
         let gave : Told = Ok (given_of (step_plan me so_far x)) in
         record {
           node = is_node;
           store = takes.store ∙ took.store;
           leads = leads_on;
-          added = ap (λ (rs : List Told). rs ++ Ok (handed_of given) ∷ []) took.added ∙ append_assoc before (told_all me s ts) (Ok (handed_of given) ∷ [])
+          added = ap (λ (rs : List Told). rs ++ Ok given ∷ []) took.added ∙ append_assoc before (told_all me s ts) (Ok given ∷ [])
               ∙ ap (λ (k : _). before ++ (told_all me s ts ++ Ok k ∷ [])) gives_it ∙ ap (λ (rs : List Told). before ++ rs) (sym (told_more me s ts x));
           given = subst (All ToldInRange) (sym (told_more me s ts x))
               (All-append ToldInRange (told_all me s ts) (gave ∷ []) took.given (All-cons ToldInRange gave [] (subst (λ k. ToldInRange (Ok k)) gives_it fits) (All-nil ToldInRange)));

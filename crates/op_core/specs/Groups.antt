@@ -16,7 +16,7 @@ use Rattle.op_node.specs.declared.record.Record.{Record}
 use Rattle.op_serving.specs.Cores.{given_of}
 use Rattle.op_serving.specs.Fates.{Fate, done, finds, faults, shares, damaged, lost, is_lost, Came, inputs_of, ends_lost, MayComeAll, TellAll}
 use Rattle.op_serving.specs.Ranges.{GivenInRange}
-use Rattle.op_serving.specs.declared.node.Given.{Given}
+use Rattle.op_types.specs.declared.given.Given.{Given}
 use Rattle.op_serving.specs.declared.node.StepFail.{StepFail}
 use Rattle.op_serving.specs.declared.node.StepFail.TheVariants as fails
 use Rattle.op_core.specs.Disks.{StepStores}

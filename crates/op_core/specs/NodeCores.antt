@@ -13,12 +13,11 @@ use Rattle.op_store.specs.Stores.{disks_of}
 use Rattle.op_store.specs.declared.fail.StoreFail.{StoreFail}
 use Rattle.op_store.specs.declared.fail.StoreFail.TheVariants as store_fails
 use Rattle.op_bounds.specs.States.{StateInRange}
-use Rattle.op_server.specs.declared.given.Given.{Given as NodeGiven}
 use Rattle.op_node.specs.Nodes.{NodeState, node_of, IsSoundNode}
 use Rattle.op_node.specs.declared.node.Node.{Node}
 use Rattle.op_node.specs.declared.fail.StepFail.{StepFail as NodeFail}
 use Rattle.op_node.specs.declared.fail.StepFail.TheVariants as node_fails
-use Rattle.op_serving.specs.declared.node.Given.{Given}
+use Rattle.op_types.specs.declared.given.Given.{Given}
 use Rattle.op_serving.specs.declared.node.StepFail.{StepFail}
 use Rattle.op_serving.specs.declared.node.StepFail.TheVariants as fails
 use Rattle.op_serving.specs.Cores.{Standing, Failure, forgotten}
@@ -50,12 +49,8 @@ place_at s = record {
 }
 
 -- what a step did
-abbrev pub handed_of : NodeGiven → Given
-handed_of g =
-    record { sends = g.sends; replies = g.replies; read_replies = g.read_replies; outcome = g.outcome }
-
-abbrev pub handed : Result NodeGiven NodeFail → Result Given StepFail
-handed (Ok g) = Ok (handed_of g)
+abbrev pub handed : Result Given NodeFail → Result Given StepFail
+handed (Ok g) = Ok g
 handed (Err (node_fails.DiskFail count)) = Err (fails.DiskFail count)
 handed (Err node_fails.NoMemory) = Err fails.NoMemory
 

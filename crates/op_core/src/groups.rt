@@ -21,7 +21,7 @@ ghost use Rattle.op_core.specs.Groups.{
 ghost use Rattle.op_core.specs.NodeCores.{IsServable};
 
 use crate::end::End;
-use crate::handing::{count_fits, hand_on_given};
+use crate::handing::count_fits;
 use crate::node_core::NodeCore;
 use crate::stepping::step_alone;
 use op_node::{Node, Record};
@@ -176,7 +176,7 @@ fn take_all<D: Disk>(
             return false;
         };
         count_fits(&given.outcome);
-        results.push_reserved(Ok(hand_on_given(given)));
+        results.push_reserved(Ok(given));
         match next_in_group(inputs, gathered) {
             Some(input) => next = input,
             None => return true,

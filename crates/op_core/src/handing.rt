@@ -3,37 +3,19 @@ ghost use Rattle.std.specs.Prelude.{◌≡◌, IfOk, IfSome};
 ghost use Rattle.op_command.specs.Ranges.{OutcomeInRange};
 ghost use Rattle.op_bounds.specs.Messages.{OutcomeInRange as IsOutcomeOf};
 ghost use Rattle.op_types.specs.Ranges.{IsPid};
-ghost use Rattle.op_core.specs.NodeCores.{handed, handed_again, handed_of};
+ghost use Rattle.op_core.specs.NodeCores.{handed, handed_again};
 
-use op_node::{Given as NodeGiven, StepFail as NodeFail};
-use op_serving::{Given, StepFail};
+use op_node::StepFail as NodeFail;
+use op_serving::StepFail;
 use op_store::StoreFail;
-use op_types::{Outcome, Refusal, Replies, Sends};
-
-/// What a step gives out.
-pub fn hand_on_given(given: NodeGiven) -> Given
-    ensures { result ≡ handed_of given }
-{
-    let NodeGiven {
-        sends,
-        replies,
-        read_replies,
-        outcome,
-    } = given;
-    Given {
-        sends,
-        replies,
-        read_replies,
-        outcome,
-    }
-}
+use op_types::{Given, Outcome, Refusal, Replies, Sends};
 
 /// What a step of a node did.
-pub fn hand_on(done: Result<NodeGiven, NodeFail>) -> Result<Given, StepFail>
+pub fn hand_on(done: Result<Given, NodeFail>) -> Result<Given, StepFail>
     ensures { result ≡ handed done }
 {
     match done {
-        Ok(given) => Ok(hand_on_given(given)),
+        Ok(given) => Ok(given),
         Err(NodeFail::DiskFail { count }) => Err(StepFail::DiskFail { count }),
         Err(NodeFail::NoMemory) => Err(StepFail::NoMemory),
     }

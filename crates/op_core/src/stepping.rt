@@ -18,7 +18,7 @@ ghost use Rattle.op_core.specs.NodeCores.{IsServable, standing_of};
 use crate::end::End;
 use crate::handing::{count_fits, hand_on, hand_on_again};
 use crate::node_core::NodeCore;
-use op_node::{Given as NodeGiven, StepFail as NodeFail};
+use op_node::StepFail as NodeFail;
 use op_outside::Disk;
 use op_serving::{Given, StepFail};
 use op_types::Input;
@@ -81,7 +81,7 @@ fn step<D: Disk>(core: &mut NodeCore<D>, input: Input) -> Result<Given, StepFail
 }
 
 /// The count of faults in what a step gives out fits its type.
-fn done_fits(done: &Result<NodeGiven, NodeFail>)
+fn done_fits(done: &Result<Given, NodeFail>)
     ensures { IfOk done.now (λ g. IfSome g.outcome (IsOutcomeOf IsPid) → IfSome g.outcome OutcomeInRange) }
 {
     if let Ok(given) = done {

@@ -1,7 +1,7 @@
 -- What the driver makes of what steps answer: each input is counted, and then each answer is handed out.
 use Rattle.std.specs.Prelude.{◌∷◌, [], ℕ, List, Bool, true, false, ◌||◌, if◌then◌else◌, Option, Some, None, Result, Ok, Err}
 use Rattle.op_types.specs.declared.answers.Refusal.TheVariants.{StorageFailed}
-use Rattle.op_serving.specs.declared.node.Given.{Given}
+use Rattle.op_types.specs.declared.given.Given.{Given}
 use Rattle.op_serving.specs.declared.node.StepFail.{StepFail}
 use Rattle.op_serving.specs.declared.node.StepFail.TheVariants.{DiskFail, Damaged, NoMemory}
 use Rattle.op_serving.specs.declared.wanted.Wanted.{Wanted}

@@ -10,7 +10,7 @@ use Rattle.op_runs.specs.World.{failed_outcome}
 use Rattle.op_outside.specs.Disks.{DiskState}
 use Rattle.op_store.specs.Stores.{Represents, IsReady, detached_of}
 use Rattle.op_server.specs.Servers.{state_of, IsSoundServer}
-use Rattle.op_server.specs.declared.given.Given.{Given}
+use Rattle.op_types.specs.declared.given.Given.{Given}
 use Rattle.op_node.specs.declared.node.Node.{Node}
 use Rattle.op_node.specs.declared.rest.Rest.{Rest}
 use Rattle.op_node.specs.declared.fail.StepFail.{StepFail}

@@ -12,7 +12,7 @@ use Rattle.op_record.specs.Ranges.{BatchInRange}
 use Rattle.op_journal.specs.Areas.{frame_space}
 use Rattle.op_journal.specs.Calls.{append_calls}
 use Rattle.op_journal.specs.declared.fail.DiskFault.{DiskFault}
-use Rattle.op_server.specs.declared.given.Given.{Given}
+use Rattle.op_types.specs.declared.given.Given.{Given}
 use Rattle.op_store.specs.Failing.{faults}
 use Rattle.op_store.specs.Stored.{KeepBoth, other, chosen_disk}
 use Rattle.op_store.specs.Stores.{Represents, Commits, IsReady, Passes, disks_of}

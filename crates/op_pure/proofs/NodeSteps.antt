@@ -21,7 +21,7 @@ use Rattle.op_chain.specs.declared.renewal.Renewal.{Renewal}
 use Rattle.op_server.specs.declared.server.Server.{Server}
 use Rattle.op_server.specs.declared.reading.Reading.{Reading}
 use Rattle.op_server.specs.declared.server_plan.ServerPlan.{ServerPlan}
-use Rattle.op_server.specs.declared.given.Given.{Given}
+use Rattle.op_types.specs.declared.given.Given.{Given}
 use Rattle.op_runs.specs.World.{World, Sent, Node, NodeStatus, Down, Failed, Fate, Done, Stopped, Faulted, Steps, with_node, sent_by, failed_outcome, stored_by, outcome_lines, answer_line, lines_of, world_by_status, world_by_fate}
 use Rattle.op_bounds.specs.States.{StateInRange}
 use Rattle.op_bounds.specs.Laws.{PlanInRange}

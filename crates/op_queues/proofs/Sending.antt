@@ -5,7 +5,7 @@ use Rattle.std.specs.FinMap as map
 use Rattle.op_types.specs.declared.messages.Msg.{Msg}
 use Rattle.op_serving.specs.declared.kind.Kind.{Kind}
 use Rattle.op_serving.specs.declared.kind.Kind.TheVariants.{Unknown, Peer, Client}
-use Rattle.op_serving.specs.declared.node.Given.{Given}
+use Rattle.op_types.specs.declared.given.Given.{Given}
 use Rattle.op_serving.specs.declared.session.Session.{Session}
 use Rattle.op_types.specs.declared.answers.Reply.{Reply}
 use Rattle.op_serving.specs.Wire.{fits_peer, client_frame}

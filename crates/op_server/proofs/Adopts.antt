@@ -20,7 +20,7 @@ use Rattle.op_chain.specs.declared.given.Given as chain_given
 use Rattle.op_server.specs.Asking.{is_read}
 use Rattle.op_server.specs.Plans.{with_reading, HasRoomBehind, HasRoomToSend, Plans, given_with, Adopts}
 use Rattle.op_server.specs.Servers.{state_of, AreOf, IsSoundServer}
-use Rattle.op_server.specs.declared.given.Given.{Given}
+use Rattle.op_types.specs.declared.given.Given.{Given}
 use Rattle.op_server.specs.declared.reading.Reading.{Reading}
 use Rattle.op_server.specs.declared.server.Server.{Server}
 use Rattle.op_server.specs.declared.server_plan.ServerPlan.{ServerPlan}

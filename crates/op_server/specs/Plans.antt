@@ -11,7 +11,7 @@ use Rattle.op_chain.specs.declared.chain_plan.ChainPlan.{ChainPlan}
 use Rattle.op_chain.specs.declared.given.Given as chain_given
 use Rattle.op_server.specs.Servers.{state_of, IsSoundServer}
 use Rattle.op_server.specs.declared.asking.Asking.{Asking}
-use Rattle.op_server.specs.declared.given.Given.{Given}
+use Rattle.op_types.specs.declared.given.Given.{Given}
 use Rattle.op_server.specs.declared.reading.Reading.{Reading}
 use Rattle.op_server.specs.declared.server.Server.{Server}
 use Rattle.op_server.specs.declared.server_plan.ServerPlan.{ServerPlan}

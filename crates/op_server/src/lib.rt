@@ -4,12 +4,11 @@
 
 mod answering;
 mod asking;
-mod given;
 mod reading;
 mod server;
 mod server_plan;
 
-pub use given::Given;
 pub use op_chain::{Map, Pairs, empty_durable, first_durable, sends_after_restart};
+pub use op_types::Given;
 pub use server::Server;
 pub use server_plan::ServerPlan;

@@ -10,12 +10,11 @@ ghost use Rattle.op_server.specs.Plans.{HasRoomBehind, Plans, given_with, Adopts
 ghost use Rattle.op_server.specs.Servers.{state_of, IsSoundServer, IsSame, Admits};
 
 use crate::asking::is_read;
-use crate::given::Given;
 use crate::reading::{Besides, Reading, asked_then};
 use crate::server_plan::ServerPlan;
 use op_chain::{Chain, Map};
 use op_reads::Reads;
-use op_types::{Ballot, Durable, Input, NoMemory, Pid, Replies};
+use op_types::{Ballot, Durable, Given, Input, NoMemory, Pid, Replies};
 use std::alloc::Global;
 
 /// A node over its configurations, with the reads that wait at it.

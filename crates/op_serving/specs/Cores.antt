@@ -11,7 +11,7 @@ use Rattle.op_protocol.specs.Rows.{step_plan}
 use Rattle.op_protocol.specs.Starting.{state_after_restart, sends_after_restart}
 use Rattle.op_runs.specs.Summary.{stands_at, joining_conf}
 use Rattle.op_runs.specs.World.{failed_outcome}
-use Rattle.op_serving.specs.declared.node.Given.{Given}
+use Rattle.op_types.specs.declared.given.Given.{Given}
 
 -- what a node shows of which a disk failed: with which count, and where it stood before
 pub record Failure : Type 0 where

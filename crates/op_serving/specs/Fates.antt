@@ -4,7 +4,7 @@ use Rattle.op_types.specs.declared.durable.Durable.{Durable}
 use Rattle.op_types.specs.declared.events.Input.{Input}
 use Rattle.op_types.specs.declared.events.Input.TheVariants as input
 use Rattle.op_outside.specs.Causes.{Rises}
-use Rattle.op_serving.specs.declared.node.Given.{Given}
+use Rattle.op_types.specs.declared.given.Given.{Given}
 use Rattle.op_serving.specs.declared.node.StepFail.{StepFail}
 use Rattle.op_serving.specs.declared.node.StepFail.TheVariants.{DiskFail, Damaged, NoMemory}
 use Rattle.op_serving.specs.Cores.{Standing, gives, after_input, faulted, reopens, reopened, given_again}

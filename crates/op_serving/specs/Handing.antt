@@ -13,7 +13,7 @@ use Rattle.op_command.specs.declared.said.Said.TheVariants as said
 use Rattle.op_command.specs.Replies.{said_of as denied}
 use Rattle.op_serving.specs.declared.wanted.Wanted.{Wanted}
 use Rattle.op_serving.specs.declared.wanted.Wanted.TheVariants.{Commands, Stop, Trim, Read}
-use Rattle.op_serving.specs.declared.node.Given.{Given}
+use Rattle.op_types.specs.declared.given.Given.{Given}
 use Rattle.op_serving.specs.Wire.{fits_peer, peer_frame, client_frame}
 use Rattle.op_serving.specs.State.{Key, Awaited, Askers, Loop, find, is_open, session_of, waits_for}
 use Rattle.op_serving.specs.Room.{Frame, count_at, goes_ahead, placed, frames_placed, begins_anew, cleared, moved, frames_moved}

@@ -19,7 +19,8 @@ pub use hearing::Heard;
 pub use keys::{Awaited, Key, Keys};
 pub use kind::{Kind, goes_up};
 pub use mark::{Mark, Place};
-pub use node::{Core, Given, StepFail};
+pub use node::{Core, StepFail};
+pub use op_types::Given;
 pub use serve_end::ServeEnd;
 pub use session::{
     CLIENT_HEAD, CLIENT_LIMIT, MOST_BEHIND, MOST_BROUGHT, PEER_HEAD, PEER_LIMIT, Session,

@@ -5,22 +5,9 @@ ghost use Rattle.op_serving.specs.Cores.{Standing};
 ghost use Rattle.op_serving.specs.Fates.{Came, Steps, StepsAll};
 ghost use Rattle.op_serving.specs.Ranges.{InputInRange, GivenInRange};
 
-use op_types::{Blob, Input, NoMemory, Outcome, Pid, Replies, Sends};
+use op_types::{Blob, Given, Input, NoMemory, Pid};
 use std::alloc::Global;
 use std::collections::VecDeque;
-
-/// What a step gives out, once it is stored.
-#[derive(Drop)]
-pub struct Given {
-    /// Messages, each to a node.
-    pub sends: Sends,
-    /// Answers, each to a client that waited here.
-    pub replies: Replies,
-    /// Answers to reads, each to the client that asked.
-    pub read_replies: Replies,
-    /// What a proposal, a wish to trim or a read is answered at once.
-    pub outcome: Option<Outcome>,
-}
 
 /// Why a step was not done.
 #[derive(Clone, Copy, Debug, PartialEq, Eq)]

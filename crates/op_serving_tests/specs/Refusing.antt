@@ -3,7 +3,7 @@ use Rattle.std.specs.Prelude.{◌≡◌, Bool, true, false, Some, None, Result, 
 use Rattle.op_types.specs.declared.events.Input.{Input}
 use Rattle.op_serving.specs.Cores.{Standing, forgotten}
 use Rattle.op_serving.specs.Fates.{Fate, lost, IsTogether, MayCome, Tells, after_fate}
-use Rattle.op_serving.specs.declared.node.Given.{Given}
+use Rattle.op_types.specs.declared.given.Given.{Given}
 use Rattle.op_serving.specs.declared.node.StepFail.{StepFail}
 use Rattle.op_serving.specs.declared.node.StepFail.TheVariants as fails
 use Rattle.op_core.specs.Groups.{is_settled}

@@ -50,7 +50,7 @@ inputs-preserved g c =
     let y : Input = c.in-Some.input in
     let fits = gave c.inputs.node c.take.new.self x (Ok c.in-Ok.given) inv.took.servable inv.next_in (e.taken.given, e.taken.node) c.count_fits.ensures in
     let took = took_more old c.inputs.node c.take.new.self inv.ts before after c.inputs.gathered c.take.new.gathered x c.in-Ok.given inv.took e.taken e.added inv.next_in inv.calm e.sound fits in
-    let pushed = c.push_reserved.ensures.items ∙ ap (λ k. after ++ Ok k ∷ []) c.hand_on_given.ensures in
+    let pushed = c.push_reserved.ensures.items in
     let range : All InputInRange (y ∷ rest) = subst (All InputInRange) c.in-Some.ensures.next.0 inv.range in
     record {
       ts = inv.ts ++ x ∷ [];
@@ -75,7 +75,7 @@ returns-in-None-clause-takes g c =
     let rest : List Input = c.next_in_group.new.inputs.items in
     let fits = gave c.inputs.node c.take.new.self x (Ok c.in-Ok.given) inv.took.servable inv.next_in (e.taken.given, e.taken.node) c.count_fits.ensures in
     let took = took_more old c.inputs.node c.take.new.self inv.ts before after c.inputs.gathered c.take.new.gathered x c.in-Ok.given inv.took e.taken e.added inv.next_in inv.calm e.sound fits in
-    let pushed = c.push_reserved.ensures.items ∙ ap (λ k. after ++ Ok k ∷ []) c.hand_on_given.ensures in
+    let pushed = c.push_reserved.ensures.items in
     let changes : List Change = changes_all (node_of old).me (node_of old).state (inv.ts ++ x ∷ []) in
     record {
       ts = inv.ts ++ x ∷ [];

@@ -1,6 +1,6 @@
-use op_types::{Outcome, Replies, Sends};
+use crate::{Outcome, Replies, Sends};
 
-/// What a step gives out, once it is stored.
+/// What a step of a node gives out, once it is stored.
 #[derive(Drop)]
 pub struct Given {
     /// Messages, each to a node.
@@ -9,6 +9,6 @@ pub struct Given {
     pub replies: Replies,
     /// Answers to reads, each to whoever asked it.
     pub read_replies: Replies,
-    /// What a proposal or a read is answered at once.
+    /// What a proposal, a wish to trim or a read is answered at once.
     pub outcome: Option<Outcome>,
 }
