@@ -240,11 +240,11 @@ fn route(member: &Member, role: &mut Role, from: Pid, body: Body) -> Result<Plan
         Body::Promise(ballot, accepted, len, decided, start, entries) => {
             let promised = Promised {
                 from,
+                start,
+                entries,
                 accepted,
                 len,
                 decided,
-                start,
-                entries,
             };
             on_promise(member, role, ballot, promised)
         }

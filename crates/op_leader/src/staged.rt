@@ -128,22 +128,9 @@ pub(crate) fn whole_promise(
     ensures told { IfOk result (λ k. k ≡ told_by from part k.entries) }
 {
     let mut held = copy_stage(alloc, stages, from)?;
-    let PromisedRun {
-        accepted,
-        len,
-        decided,
-        start,
-        at,
-        run,
-    } = part;
-    held.make_room(run.len())?;
-    held.fill(at, run);
-    Ok(Promised {
-        from,
-        accepted,
-        len,
-        decided,
-        start,
-        entries: held.into_entries(start, len),
-    })
+    held.make_room(part.run.len())?;
+    let told = told_by(from, &part, Entries::new(alloc));
+    held.fill(part.at, part.run);
+    let entries = held.into_entries(told.start, told.len);
+    Ok(Promised { entries, ..told })
 }

@@ -20,12 +20,12 @@ impl Head {
         match self {
             Head::Promise(ballot, accepted, len, decided, start) => {
                 let part = PromisedRun {
+                    at,
+                    run,
                     accepted,
                     len,
                     decided,
                     start,
-                    at,
-                    run,
                 };
                 Body::PromisePart(ballot, part)
             }

@@ -95,16 +95,16 @@ fn entries_in_at(
     ensures range { IfOk result (λ x. length x.0 ≤ most) }
 {
     let (count, at) = u64_in(bytes, at, 0, most)?;
-    let (items, at) = entry_items_at(alloc, count, bytes, at, conf)?;
+    let (items, at) = entry_items_in_at(alloc, conf, count, bytes, at)?;
     Ok((Seq::from_vec(items), at))
 }
 
-fn entry_items_at(
+fn entry_items_in_at(
     alloc: Global,
+    conf: ConfNo,
     count: u64,
     bytes: &[u8],
     first: usize,
-    conf: ConfNo,
 ) -> Result<(Vec<Entry>, usize), TakeFail>
     ensures { GivesVec result (items_read (λ _. entry_in conf) (λ _. 0) count 0 bytes.now first) }
 {
