@@ -1,12 +1,11 @@
 -- Those that wait are answered as the step table says.
 use Rattle.std.proofs.Common.{◌≡◌, ℕ, ◌≤◌, ◌+◌, inl, inr, ◌∷◌, ◌++◌, List, [], length, refl, ap, ◌∙◌, Bool, true, false, arith}
-use Rattle.std.specs.Prelude.{Option, None, Result, Ok, Err, IfOk, fold}
+use Rattle.std.specs.Prelude.{Option, None, Result, Ok, Err, OnOk, fold}
 use Rattle.std.specs.List.{list_any}
 use Rattle.std.specs.Set.{remove_key}
 use Rattle.std.proofs.lemmas.Bool.{cases_Bool}
 use Rattle.std.proofs.lemmas.List.{length-append}
 use Rattle.op_types.specs.Stops.{stop_of, stop_at_end}
-use Rattle.op_types.specs.declared.answers.Answer.{Answer}
 use Rattle.op_types.specs.declared.answers.Reply.{Reply}
 use Rattle.op_types.specs.declared.log.Command.{Command}
 use Rattle.op_types.specs.declared.log.Entry.{Entry}
@@ -15,10 +14,9 @@ use Rattle.op_types.specs.declared.log.StopSign.{StopSign}
 use Rattle.op_spec.specs.Service.{Service, service_with, all_after}
 use Rattle.op_protocol.specs.State.{Waiting}
 use Rattle.op_protocol.specs.Serving.{Served, Dropping, serving_command, serving_entry, reply_of, dropping_reply, is_of_stop, waits, without_waiting}
-use Rattle.op_kv.specs.Over.{Written, service_over, answers_of}
-use Rattle.op_chain.specs.Answering.{replies_to, proposers_of, replies_in, giving_reply, stop_after, ServesNothing, Continues, IsServedBy, IsServed}
+use Rattle.op_kv.specs.Over.{service_over}
+use Rattle.op_chain.specs.Answering.{replies_to, giving_reply, stop_after, ServesNothing, Continues, IsServed}
 use Rattle.op_chain.specs.declared.served.Served as own
-use Rattle.op_chain.specs.declared.service_plan.ServicePlan.{ServicePlan}
 
 -- ---- who doesn't wait
 
@@ -50,12 +48,6 @@ served_all (entry.Command c ∷ es) s d =
     ap (λ (t : Served). fold serving_entry t es) (one_by s d c (waits d.waiting c.client c.seq) refl) ∙ served_all es (service_with s c) (giving_reply d (reply_of s c))
 served_all (entry.Stop stop ∷ es) s d = served_all es s d
 
--- the answers, each to its proposer
-pub replies_are : (es : List Entry) (s : Service) → replies_in (proposers_of es) (answers_of s es) ≡ replies_to s es
-replies_are [] s = refl
-replies_are (entry.Command c ∷ es) s = ap (λ (rs : List Reply). reply_of s c ∷ rs) (replies_are es (service_with s c))
-replies_are (entry.Stop stop ∷ es) s = replies_are es s
-
 -- ---- what a plan comes to
 
 ends_after : (o : Option StopSign) (e : Entry) (es : List Entry) → stop_after o (e ∷ es) ≡ stop_at_end (e ∷ es)
@@ -67,24 +59,26 @@ ends_as : (es : List Entry) → stop_after None es ≡ stop_at_end es
 ends_as [] = refl
 ends_as (e ∷ es) = ends_after None e es
 
--- a plan that serves these entries and no others
-pub served_is : (s : Service) (a b : ServicePlan) (es : List Entry) (x : own.Served) → ServesNothing s a → Continues s a b es → IsServedBy b x → IsServed s es x
-served_is s a b es x none more by =
+-- these entries are served and no others
+pub served_is : (s : Service) (a x : own.Served) (es : List Entry) → ServesNothing s a → Continues s a x es → IsServed s es x
+served_is s a x es none more =
     record {
-      change = ap (λ (w : Written). service_over s w) by.change ∙ more.change ∙ ap (λ (t : Service). all_after t es) none.change;
+      change = more.change ∙ ap (λ (t : Service). all_after t es) none.change;
       replies =
-          by.replies
-          ∙ ap (λ (ps : List (ℕ × ℕ)). replies_in ps b.answers) (more.proposers ∙ ap (λ (ps : List (ℕ × ℕ)). ps ++ proposers_of es) none.proposers)
-          ∙ ap (λ (given : List Answer). replies_in (proposers_of es) given)
-          (more.answers ∙ ap (λ (given : List Answer). given ++ answers_of (service_over s a.change) es) none.answers ∙ ap (λ (t : Service). answers_of t es) none.change)
-          ∙ replies_are es s;
-      stop = by.stop ∙ more.stop ∙ ap (λ (o : Option StopSign). stop_after o es) none.stop ∙ ends_as es;
+          more.replies
+          ∙ ap (λ (given : List Reply). given ++ replies_to (service_over s a.change) es) none.replies
+          ∙ ap (λ (t : Service). replies_to t es) none.change;
+      stop = more.stop ∙ ap (λ (o : Option StopSign). stop_after o es) none.stop ∙ ends_as es;
     }
 
-pub ok_served : {E : Type 0} (r : Result own.Served E) (s : Service) (a b : ServicePlan) (es : List Entry) → ServesNothing s a → Continues s a b es
-    → IfOk r (IsServedBy b) → IfOk r (IsServed s es)
-ok_served (Ok x) s a b es none more by = served_is s a b es x none more by
-ok_served (Err e) s a b es none more by = tt
+-- the same, where it succeeds
+pub ok_served : {X E : Type 0} (r : Result X E) (s : Service) (a x : own.Served) (es : List Entry) → ServesNothing s a → OnOk r (Continues s a x es) → OnOk r (IsServed s es x)
+ok_served (Ok v) s a x es none more = served_is s a x es none more
+ok_served (Err e) s a x es none more = tt
+
+-- no entries are served
+pub none_served : (s : Service) (a : own.Served) → ServesNothing s a → IsServed s [] a
+none_served s a none = record { change = none.change; replies = none.replies; stop = none.stop }
 
 -- ---- what is given up
 

@@ -1,10 +1,10 @@
 -- The log that a batch leaves, change by change.
-use Rattle.std.proofs.Common.{◌≡◌, ℕ, ◌+◌, ◌-◌, ◌<◌, ◌≤◌, ◌∷◌, ◌++◌, List, [], length, take, get_or, refl, sym, ap, subst, ◌∙◌, append_assoc, arith}
+use Rattle.std.proofs.Common.{◌≡◌, ℕ, ◌+◌, ◌-◌, ◌<◌, ◌≤◌, ◌∷◌, ◌++◌, List, [], length, take, get_or, refl, sym, ap, subst, ◌∙◌, append_assoc, append-nil, arith}
 use Rattle.std.specs.Prelude.{Option, Result, Ok, Err, OnOk, IfOk}
 use Rattle.std.proofs.lemmas.List.{take_more, take_all}
 use Rattle.std.proofs.lemmas.List.Sums.{fold-append}
 use Rattle.op_types.specs.Changes.{part_with}
-use Rattle.op_types.specs.declared.answers.Answer.{Answer}
+use Rattle.op_types.specs.declared.answers.Reply.{Reply}
 use Rattle.op_types.specs.declared.ballot.Ballot.{Ballot}
 use Rattle.op_types.specs.declared.changes.Change.{Change}
 use Rattle.op_types.specs.declared.changes.Change.TheVariants as change
@@ -13,12 +13,13 @@ use Rattle.op_types.specs.declared.log.Entry.{Entry}
 use Rattle.op_types.specs.declared.log.Entry.TheVariants as entry
 use Rattle.op_types.specs.declared.log.StopSign.{StopSign}
 use Rattle.op_types.specs.Stops.{stop_of}
-use Rattle.op_spec.specs.Service.{Service, service_after, service_with, answer_of, all_after}
+use Rattle.op_spec.specs.Service.{Service, service_after, service_with, all_after}
 use Rattle.op_protocol.specs.Parts.{part_after}
+use Rattle.op_protocol.specs.Serving.{reply_of}
 use Rattle.op_instance.proofs.Batches.{after_both}
-use Rattle.op_kv.specs.Over.{service_over, answers_of}
-use Rattle.op_chain.specs.Answering.{Continues, proposers_of, stop_after}
-use Rattle.op_chain.specs.declared.service_plan.ServicePlan.{ServicePlan}
+use Rattle.op_kv.specs.Over.{service_over}
+use Rattle.op_chain.specs.Answering.{Continues, replies_to, stop_after}
+use Rattle.op_chain.specs.declared.served.Served.{Served}
 
 -- ---- one more change
 
@@ -86,52 +87,45 @@ log_stays q _ cut add trim = refl
 
 -- ---- serving
 
-answers_of-append : (s : Service) (xs ys : List Entry) → answers_of s (xs ++ ys) ≡ answers_of s xs ++ answers_of (all_after s xs) ys
-answers_of-append s [] ys = refl
-answers_of-append s (entry.Command c ∷ xs) ys = ap (λ (rest : List Answer). answer_of s c ∷ rest) (answers_of-append (service_with s c) xs ys)
-answers_of-append s (entry.Stop stop ∷ xs) ys = answers_of-append s xs ys
-
-proposers_of-append : (xs ys : List Entry) → proposers_of (xs ++ ys) ≡ proposers_of xs ++ proposers_of ys
-proposers_of-append [] ys = refl
-proposers_of-append (entry.Command c ∷ xs) ys = ap (λ (rest : List (ℕ × ℕ)). (c.client, c.seq) ∷ rest) (proposers_of-append xs ys)
-proposers_of-append (entry.Stop stop ∷ xs) ys = proposers_of-append xs ys
+replies_to-append : (s : Service) (xs ys : List Entry) → replies_to s (xs ++ ys) ≡ replies_to s xs ++ replies_to (all_after s xs) ys
+replies_to-append s [] ys = refl
+replies_to-append s (entry.Command c ∷ xs) ys = ap (λ (rest : List Reply). reply_of s c ∷ rest) (replies_to-append (service_with s c) xs ys)
+replies_to-append s (entry.Stop stop ∷ xs) ys = replies_to-append s xs ys
 
 stop_after-append : (o : Option StopSign) (xs ys : List Entry) → stop_after o (xs ++ ys) ≡ stop_after (stop_after o xs) ys
 stop_after-append o [] ys = refl
 stop_after-append o (e ∷ xs) ys = stop_after-append (stop_of e) xs ys
 
--- one more entry that is served
-pub more_proposers : (es : List Entry) (i : ℕ) (e : Entry) → i < length es → e ≡ get_or es i e → proposers_of (take (i + 1) es) ≡ proposers_of (take i es) ++ proposers_of (e ∷ [])
-more_proposers es i e inside at =
-    ap proposers_of (take_more es i e inside) ∙ proposers_of-append (take i es) (get_or es i e ∷ [])
-    ∙ ap (λ (d : Entry). proposers_of (take i es) ++ proposers_of (d ∷ [])) (sym at)
-
-pub more_stop : (o : Option StopSign) (es : List Entry) (i : ℕ) (e : Entry) → i < length es → e ≡ get_or es i e → stop_after o (take (i + 1) es) ≡ stop_of e
-more_stop o es i e inside at =
-    ap (stop_after o) (take_more es i e inside) ∙ stop_after-append o (take i es) (get_or es i e ∷ []) ∙ ap stop_of (sym at)
-
 -- entries served after others
-pub continued : (s : Service) (a b c : ServicePlan) (xs ys : List Entry) → Continues s a b xs → Continues s b c ys → Continues s a c (xs ++ ys)
+pub continued : (s : Service) (a b c : Served) (xs ys : List Entry) → Continues s a b xs → Continues s b c ys → Continues s a c (xs ++ ys)
 continued s a b c xs ys f g =
     record {
-      answers =
-          g.answers ∙ ap (λ (t : Service). b.answers ++ answers_of t ys) f.change ∙ ap (λ (first : List Answer). first ++ answers_of (all_after (service_over s a.change) xs) ys) f.answers
-          ∙ append_assoc a.answers (answers_of (service_over s a.change) xs) (answers_of (all_after (service_over s a.change) xs) ys)
-          ∙ ap (λ (rest : List Answer). a.answers ++ rest) (sym (answers_of-append (service_over s a.change) xs ys));
-      proposers =
-          g.proposers ∙ ap (λ (first : List (ℕ × ℕ)). first ++ proposers_of ys) f.proposers
-          ∙ append_assoc a.proposers.items (proposers_of xs) (proposers_of ys)
-          ∙ ap (λ (rest : List (ℕ × ℕ)). a.proposers.items ++ rest) (sym (proposers_of-append xs ys));
       change = g.change ∙ ap (λ (t : Service). all_after t ys) f.change ∙ sym (fold-append service_after (service_over s a.change) xs ys);
+      replies =
+          g.replies ∙ ap (λ (t : Service). b.replies ++ replies_to t ys) f.change ∙ ap (λ (first : List Reply). first ++ replies_to (all_after (service_over s a.change) xs) ys) f.replies
+          ∙ append_assoc a.replies (replies_to (service_over s a.change) xs) (replies_to (all_after (service_over s a.change) xs) ys)
+          ∙ ap (λ (rest : List Reply). a.replies ++ rest) (sym (replies_to-append (service_over s a.change) xs ys));
       stop = g.stop ∙ ap (λ (o : Option StopSign). stop_after o ys) f.stop ∙ sym (stop_after-append a.stop xs ys);
     }
 
+-- one more entry that is served
+pub one_continued : (s : Service) (a b c : Served) (es : List Entry) (i : ℕ) (e : Entry) → i < length es → e ≡ get_or es i e
+    → Continues s a b (take i es) → Continues s b c (e ∷ []) → Continues s a c (take (i + 1) es)
+one_continued s a b c es i e inside at f g =
+    subst (λ (xs : List Entry). Continues s a c xs)
+    (sym (take_more es i e inside ∙ ap (λ (d : Entry). take i es ++ d ∷ []) (sym at)))
+    (continued s a b c (take i es) (e ∷ []) f g)
+
+-- what is served without any entry
+pub none_continued : (s : Service) (a : Served) → Continues s a a []
+none_continued s a = record { change = refl; replies = sym (append-nil a.replies); stop = refl }
+
 -- the same, where it succeeds
-pub continued_ok : {X E : Type 0} (r : Result X E) (s : Service) (a b c : ServicePlan) (xs ys zs : List Entry) → xs ++ ys ≡ zs → Continues s a b xs → OnOk r (Continues s b c ys) → OnOk r (Continues s a c zs)
+pub continued_ok : {X E : Type 0} (r : Result X E) (s : Service) (a b c : Served) (xs ys zs : List Entry) → xs ++ ys ≡ zs → Continues s a b xs → OnOk r (Continues s b c ys) → OnOk r (Continues s a c zs)
 continued_ok (Ok x) s a b c xs ys zs whole f g = subst (λ (es : List Entry). Continues s a c es) whole (continued s a b c xs ys f g)
 continued_ok (Err e) s a b c xs ys zs whole f g = tt
 
-pub served_ok : {X E : Type 0} (r : Result X E) (s : Service) (a b : ServicePlan) (xs ys : List Entry) → xs ≡ ys → OnOk r (Continues s a b xs) → OnOk r (Continues s a b ys)
+pub served_ok : {X E : Type 0} (r : Result X E) (s : Service) (a b : Served) (xs ys : List Entry) → xs ≡ ys → OnOk r (Continues s a b xs) → OnOk r (Continues s a b ys)
 served_ok r s a b xs ys same f = subst (λ (es : List Entry). OnOk r (Continues s a b es)) same f
 
 pub counted_ok : {E : Type 0} (r : Result ℕ E) (n k : ℕ) → n ≡ k → IfOk r (λ x. x ≡ n) → IfOk r (λ x. x ≡ k)

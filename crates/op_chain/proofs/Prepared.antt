@@ -47,7 +47,7 @@ use Rattle.op_chain.specs.declared.renewal.Renewal.{Renewal}
 use Rattle.op_chain.specs.declared.room.Room.{Room}
 use Rattle.op_chain.specs.declared.served.Served.{Served}
 use Rattle.op_chain.specs.declared.serving.Serving.{Serving}
-use Rattle.op_chain.specs.Waiting.{WaitingSet}
+use Rattle.op_chain.specs.Waiting.{WaitingSet, with_waiters}
 use Rattle.op_chain.proofs.Adopted.{state_with, state_is}
 use Rattle.op_chain.proofs.Based.{begins_fit, bases_after, based_sound}
 use Rattle.op_chain.proofs.Closes.{may_close, close_applies, close_leaves}
@@ -403,16 +403,17 @@ module _ (a : Chain) (sound : IsSoundChain a) (bare : with_room no_needs a.durab
 
 -- ---- how a plan comes about
 
--- a chain in whose memory a role and what is staged have room
-pub like_stepped : (a b : Chain) → (let c : Chain = record a { volatile = alike a.volatile b.volatile } in b ≡ c) → volatile_of b.volatile ≡ volatile_of a.volatile → IsLike a b
-like_stepped a b is same =
+-- a chain in whose memory a role, what is staged and those that are to wait have room
+pub like_stepped : (a b : Chain) → (let c : Chain = record a { volatile = alike a.volatile b.volatile; waiting = b.waiting } in b ≡ c) → volatile_of b.volatile ≡ volatile_of a.volatile
+    → b.waiting.waiting ≡ a.waiting.waiting → IsLike a b
+like_stepped a b is same waits =
     record {
       me = ap (λ (n : Chain). n.me) is;
       durable = ap (λ (n : Chain). n.durable) is;
       volatile = ap (λ (n : Chain). n.volatile) is;
       same = same;
       service = ap (λ (n : Chain). n.service.service) is;
-      waiting = ap (λ (n : Chain). n.waiting.waiting) is;
+      waiting = waits;
     }
 
 -- one whose service is settled
@@ -455,10 +456,11 @@ goes_like a c m old new r like goes =
 abbrev pub serving_with : Written → List Reply → Option Renewal → Room → Serving
 serving_with kv replies r room = record { service = kv; replies = replies; renewal = r; room = room }
 
-pub ok_serves : {E : Type 0} (a : Chain) (old : Plan) (ws : List (ℕ × ℕ)) (c : Chain) (new : Plan) (kv : Written) (replies : List Reply) (r : Option Renewal) (x : Result Serving E)
+pub ok_serves : {E : Type 0} (a : Chain) (old : Plan) (c : Chain) (new : Plan) (kv : Written) (replies : List Reply) (r : Option Renewal) (x : Result Serving E)
     → IfOk x (λ s. s ≡ serving_with kv replies r s.room)
     → IfOk x (λ s. HasRoomFor (length replies + length new.replies + length (told_anew r)) (length new.replies) s.room)
-    → ((room : Room) → HasRoomFor (length replies + length new.replies + length (told_anew r)) (length new.replies) room → Serves a old ws c new (serving_with kv replies r room))
-    → IfOk x (Serves a old ws c new)
-ok_serves a old ws c new kv replies r (Ok s) is tells serves = subst (λ (q : Serving). Serves a old ws c new q) (sym is) (serves s.room tells)
-ok_serves a old ws c new kv replies r (Err e) is tells serves = tt
+    → ((ws : List (ℕ × ℕ)) → a.waiting.next ≡ with_waiters a.waiting.waiting ws → (room : Room)
+    → HasRoomFor (length replies + length new.replies + length (told_anew r)) (length new.replies) room → Serves a old ws c new (serving_with kv replies r room))
+    → IfOk x (λ s. (ws : List (ℕ × ℕ)) → a.waiting.next ≡ with_waiters a.waiting.waiting ws → Serves a old ws c new s)
+ok_serves a old c new kv replies r (Ok s) is tells serves = λ ws next. subst (λ (q : Serving). Serves a old ws c new q) (sym is) (serves ws next s.room tells)
+ok_serves a old c new kv replies r (Err e) is tells serves = tt

@@ -44,3 +44,9 @@ pub step_based : (o : Option Part) (p : Plan) (v : step.Volatile) → (let q : P
 step_based o p v =
     ap (λ (raises : Bool). let w : step.Volatile = record (turned_in p.turn v) { staged = cond raises [] (turned_in p.turn v).staged } in
     let x : PartStep = record { batch = based_batch o p.batch; volatile = w; sends = p.sends; replies = p.replies; outcome = p.outcome } in x) (calm_based o p.batch)
+
+-- the same, where the batch got these bases
+pub with_bases : (o : Option Part) (p : Plan) (batch : List Change) (v : step.Volatile) (x : PartStep) → batch ≡ based_batch o p.batch → part_step_of p v ≡ x
+    → (let q : Plan = record p { batch = batch } in part_step_of q v ≡ based_step o x)
+with_bases o p batch v x is steps =
+    ap (λ (b : List Change). let q : Plan = record p { batch = b } in part_step_of q v) is ∙ step_based o p v ∙ ap (λ (y : PartStep). based_step o y) steps

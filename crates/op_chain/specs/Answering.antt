@@ -2,7 +2,6 @@
 use Rattle.std.specs.Prelude.{◌≡◌, ◌≤◌, ◌++◌, ℕ, List, [], ◌∷◌, Option, None, if◌then◌else◌, fold}
 use Rattle.op_types.specs.Roomed.{Roomed}
 use Rattle.op_types.specs.Stops.{stop_of, stop_at_end}
-use Rattle.op_types.specs.declared.answers.Answer.{Answer}
 use Rattle.op_types.specs.declared.answers.Reply.{Reply}
 use Rattle.op_types.specs.declared.log.Entry.{Entry}
 use Rattle.op_types.specs.declared.log.Entry.TheVariants as entry
@@ -10,11 +9,10 @@ use Rattle.op_types.specs.declared.log.StopSign.{StopSign}
 use Rattle.op_spec.specs.Service.{Service, service_with, all_after}
 use Rattle.op_protocol.specs.State.{Waiting}
 use Rattle.op_protocol.specs.Serving.{Dropping, reply_of, waits, without_waiting}
-use Rattle.op_kv.specs.Over.{service_over, answers_of}
+use Rattle.op_kv.specs.Over.{service_over}
 use Rattle.op_chain.specs.Waiting.{WaitingSet}
 use Rattle.op_chain.specs.declared.room.Room.{Room}
 use Rattle.op_chain.specs.declared.served.Served.{Served}
-use Rattle.op_chain.specs.declared.service_plan.ServicePlan.{ServicePlan}
 
 -- ---- what is decided
 
@@ -24,41 +22,22 @@ replies_to s [] = []
 replies_to s (entry.Command c ∷ es) = reply_of s c ∷ replies_to (service_with s c) es
 replies_to s (entry.Stop stop ∷ es) = replies_to s es
 
--- who proposed the commands among these entries, in order
-abbrev pub proposers_of : List Entry → List (ℕ × ℕ)
-proposers_of [] = []
-proposers_of (entry.Command c ∷ es) = (c.client, c.seq) ∷ proposers_of es
-proposers_of (entry.Stop stop ∷ es) = proposers_of es
-
--- answers, each to its proposer
-abbrev pub replies_in : List (ℕ × ℕ) → List Answer → List Reply
-replies_in (p ∷ ps) (a ∷ answers) = record { client = p.0; seq = p.1; answer = a } ∷ replies_in ps answers
-replies_in ps answers = []
-
 -- the stop-sign that ends these entries; with none of them the one before them
 abbrev pub stop_after : Option StopSign → List Entry → Option StopSign
 stop_after stop [] = stop
 stop_after stop (e ∷ es) = stop_after (stop_of e) es
 
--- over this service, the plan serves no entries
-pub record ServesNothing (s : Service) (plan : ServicePlan) : Type 0 where
-  pub answers : plan.answers ≡ []
-  pub proposers : plan.proposers.items ≡ []
-  pub change : service_over s plan.change ≡ s
-  pub stop : plan.stop ≡ None
+-- over this service, no entries are served
+pub record ServesNothing (s : Service) (x : Served) : Type 0 where
+  pub change : service_over s x.change ≡ s
+  pub replies : x.replies ≡ []
+  pub stop : x.stop ≡ None
 
--- over this service, the new plan serves these entries after those that the old one serves
-pub record Continues (s : Service) (old new : ServicePlan) (entries : List Entry) : Type 0 where
-  pub answers : new.answers ≡ old.answers ++ answers_of (service_over s old.change) entries
-  pub proposers : new.proposers.items ≡ old.proposers.items ++ proposers_of entries
+-- over this service, these entries are served after those that were served before
+pub record Continues (s : Service) (old new : Served) (entries : List Entry) : Type 0 where
   pub change : service_over s new.change ≡ all_after (service_over s old.change) entries
+  pub replies : new.replies ≡ old.replies ++ replies_to (service_over s old.change) entries
   pub stop : new.stop ≡ stop_after old.stop entries
-
--- what a plan comes to
-pub record IsServedBy (plan : ServicePlan) (x : Served) : Type 0 where
-  pub change : x.change ≡ plan.change
-  pub replies : x.replies ≡ replies_in plan.proposers.items plan.answers
-  pub stop : x.stop ≡ plan.stop
 
 -- what these entries do, over this service
 pub record IsServed (s : Service) (entries : List Entry) (x : Served) : Type 0 where

@@ -1,4 +1,4 @@
-ghost use Rattle.std.specs.Prelude.{◌≡◌, ◌≤◌, ℕ, length, fold, Option, Some, None, option_map, IfOk, OnOk, IfSome};
+ghost use Rattle.std.specs.Prelude.{◌≡◌, ◌≤◌, ℕ, List, length, map, fold, Option, Some, None, option_map, IfOk, OnOk, IfSome};
 ghost use Rattle.op_types.specs.Stops.{stop_at_end};
 ghost use Rattle.op_types.specs.Roles.{role_of};
 ghost use Rattle.op_types.specs.Rooms.{with_room, no_needs};
@@ -18,7 +18,8 @@ ghost use Rattle.op_chain.specs.Answering.{dropped_of};
 ghost use Rattle.op_chain.specs.Bringing.{IfJoined};
 ghost use Rattle.op_chain.specs.Chains.{state_of, first_state, ballots_in, pairs_in, IsSoundChain, IsSame, Admits, CanOpen};
 ghost use Rattle.op_chain.specs.Plans.{Plans, Prepares, Adopts, HasRoomToTell};
-ghost use Rattle.op_chain.specs.Plans.{waiters_of, waiting_by, based_step, Serves, IfMayClose, IfCloses, IfGoesOn};
+ghost use Rattle.op_chain.specs.Plans.{waiters_of, waiting_by, Serves, IfMayClose, IfCloses, IfGoesOn};
+ghost use Rattle.op_chain.specs.Waiting.{with_waiters};
 ghost use Rattle.op_chain.specs.Plans.{told_anew, volatile_anew, service_by};
 
 mod leading;
@@ -31,18 +32,19 @@ use crate::closing::{given_up_after, push_news};
 use crate::deciding::{decided_after, serve_decided};
 use crate::given::Given;
 use crate::joining::{bringing, turn_holding};
+use crate::letting_go::starved;
 use crate::ready_plan::ReadyPlan;
 use crate::renewal::{Anew, Renewal, begin, push_requests};
 use crate::room::Room;
 use crate::served::Served;
 use crate::serving::Serving;
 use crate::trimming::{add_bases, service_at};
-use crate::waiting_set::{Waiter, WaitingSet};
+use crate::waiting_set::WaitingSet;
 use op_instance::{Stored, Volatile, first_volatile, spare_volatile, volatile_after_restart};
 use op_kv::{KvChange, Map};
 use op_types::{
-    Ballot, Batch, Cause, Change, Durable, Input, NoMemory, Outcome, Part, Pid, Plan, Replies,
-    Reply, Reserved, is_among,
+    Ballot, Batch, Cause, Change, Command, Durable, Input, NoMemory, Outcome, Part, Pid, Plan,
+    Replies, Reply, Reserved, StopSign, is_among,
 };
 use std::alloc::Global;
 
@@ -177,15 +179,21 @@ impl Chain {
         ensures prepares { IfOk result
             (Prepares self.new (table_plan self.old.me (state_of self.old) input)) }
     {
-        let waiters = waiters_of(self.alloc, &input)?;
-        let mut plan = self.step(input)?;
-        let serving = self.serve(&mut plan, waiters.as_slice())?;
+        let Ok(mut plan) = self.step(input) else {
+            return Err(NoMemory);
+        };
+        let Ok(()) = add_bases(self.alloc, &self.durable.part, &mut plan.batch) else {
+            return Err(starved(plan));
+        };
+        let Ok(serving) = self.serve(&mut plan) else {
+            return Err(starved(plan));
+        };
         serving.into_plan(self.alloc, plan)
     }
 
-    /// What the plan decides is served, and its part closed where it decides a stop-sign. There is room then for those that
-    /// are to wait, and for all who are told.
-    fn serve(&mut self, plan: &mut Plan, waiters: &[Waiter]) -> Result<Serving, NoMemory>
+    /// What the plan decides is served, and its part closed where it decides a stop-sign. There is room then for all who are
+    /// told, and still for those that are to wait, unless they are refused.
+    fn serve(&mut self, plan: &mut Plan) -> Result<Serving, NoMemory>
         requires { IfMayClose self.old.durable.part plan.old.batch }
         ensures rest { self.new ≡ record self.old {
           service = self.new.service;
@@ -193,16 +201,21 @@ impl Chain {
         } }
         ensures service { self.new.service.service ≡ self.old.service.service }
         ensures waiting { self.new.waiting.waiting ≡ self.old.waiting.waiting }
-        ensures served { IfOk result (Serves self.old plan.old waiters.now self.new plan.new) }
+        ensures served { IfOk result (λ x. (waiters : List (ℕ × ℕ)) →
+            self.old.waiting.next ≡ with_waiters self.old.waiting.waiting waiters →
+            Serves self.old plan.old waiters self.new plan.new x) }
     {
-        let served = serve_decided(
-            self.alloc,
-            &mut self.service,
-            &self.durable.part,
-            plan.batch.as_slice(),
-        )?;
-        let renewal = self.close(plan, &served)?;
-        self.make_waiters_room(&plan.outcome, waiters)?;
+        self.service.settle()?;
+        let mut served = Served::nothing(self.alloc);
+        let batch = plan.batch.as_slice();
+        let part = &self.durable.part;
+        let Ok(()) = serve_decided(self.alloc, &self.service, part, batch, &mut served) else {
+            return Err(starved(served));
+        };
+        let Ok(renewal) = self.close(plan, &served) else {
+            return Err(starved(served));
+        };
+        self.let_refused_go(&plan.outcome);
         Serving::new(self.alloc, plan, served.change, served.replies, renewal)
     }
 
@@ -220,20 +233,20 @@ impl Chain {
         ensures prepares { IfOk result
             (Prepares self.new (holds_more self.old.me (state_of self.old) batch)) }
     {
-        // A plan of nothing settles the service.
-        let (_, change) = self.service.plan(self.alloc, &[])?;
+        self.service.settle()?;
+        let change = KvChange::new(self.alloc);
         let mut plan = Plan::nothing(self.alloc);
         plan.turn = turn_holding(&self.durable.joining, batch.as_slice());
         plan.batch = batch;
         let renewal = self.go_on(&mut plan, service)?;
-        self.waiting.make_room(&[])?;
+        self.waiting.give_up_room();
         let replies = Replies::new(self.alloc);
         let serving = Serving::new(self.alloc, &plan, change, replies, renewal)?;
         serving.into_plan(self.alloc, plan)
     }
 
-    /// What the input does in the configurations, with the base of what it trims. Nothing changes yet, but the room that the
-    /// plan's turn needs.
+    /// What the input does in the configurations, but for the base of what it trims. Nothing changes yet, but the room that
+    /// the plan's turn needs, and the room for the clients of the input's commands.
     fn step(&mut self, input: Input) -> Result<Plan, NoMemory>
         requires { IsSoundChain self.old }
         ensures rest { self.new ≡ record self.old {
@@ -241,21 +254,25 @@ impl Chain {
             role = self.new.volatile.role;
             staged = self.new.volatile.staged;
           };
+          waiting = self.new.waiting;
         } }
         ensures same { volatile_of self.new.volatile ≡ volatile_of self.old.volatile }
+        ensures waiting { self.new.waiting.waiting ≡ self.old.waiting.waiting }
+        ensures waiters { OnOk result (self.new.waiting.next
+            ≡ with_waiters self.old.waiting.waiting (waiters_of input)) }
         ensures step { IfOk result (λ plan. part_step_of plan (volatile_of self.old.volatile)
-            ≡ based_step self.old.durable.part
-            (step_at self.old.me self.old.durable (volatile_of self.old.volatile) input)) }
+            ≡ step_at self.old.me self.old.durable (volatile_of self.old.volatile) input) }
         ensures room { IfOk result (λ plan. HasRoomIn plan.turn self.new.volatile) }
     {
+        let Ok(()) = self.waiting.make_room(commands_of(&input)) else {
+            return Err(starved(input));
+        };
         let stored = Stored {
             alloc: self.alloc,
             me: self.me,
             durable: &self.durable,
         };
-        let mut plan = stored.step(&mut self.volatile, input)?;
-        add_bases(self.alloc, &self.durable.part, &mut plan.batch)?;
-        Ok(plan)
+        stored.step(&mut self.volatile, input)
     }
 
     /// Where a plan decides its part's stop-sign, the part is closed: the new members hear of the next configuration, and
@@ -274,6 +291,25 @@ impl Chain {
         let Some(stop) = &served.stop else {
             return Ok(Anew::nothing());
         };
+        self.close_at(plan, served, part, stop)
+    }
+
+    /// The same, of this part at this stop-sign.
+    fn close_at(
+        &self,
+        plan: &mut Plan,
+        served: &Served,
+        part: &Part,
+        stop: &StopSign,
+    ) -> Result<Anew, NoMemory>
+        requires settled { self.now.service.waiting ≡ 0 }
+        requires may { IfMayClose self.now.durable.part plan.old.batch }
+        requires decided { stop_at_end (newly_decided self.now.durable.part plan.old.batch) ≡ Some stop.now }
+        requires part { self.now.durable.part ≡ Some part.now }
+        ensures { IfOk result (IfCloses self.now.me self.now.durable.part
+            (service_over self.now.service.service served.now.change)
+            (role_of self.now.volatile.role) plan.old plan.new) }
+    {
         let named = is_among(stop.members.as_slice(), self.me);
         let cause = Cause::Stop(decided_after(part, plan.batch.as_slice()).saturating_sub(1));
         push_news(
@@ -319,20 +355,16 @@ impl Chain {
         Anew::from_renewal(self.alloc, renewal)
     }
 
-    /// Room for those that are to wait: the clients of commands that weren't refused.
-    fn make_waiters_room(
-        &mut self,
-        outcome: &Option<Outcome>,
-        waiters: &[Waiter],
-    ) -> Result<(), NoMemory>
+    /// Those whose commands are refused are not to wait.
+    fn let_refused_go(&mut self, outcome: &Option<Outcome>)
         ensures rest { self.new ≡ record self.old { waiting = self.new.waiting } }
         ensures same { self.new.waiting.waiting ≡ self.old.waiting.waiting }
-        ensures room { OnOk result (self.new.waiting.next
-            ≡ waiting_by outcome.now self.old.waiting.waiting waiters.now) }
+        ensures room { (waiters : List (ℕ × ℕ)) →
+            self.old.waiting.next ≡ with_waiters self.old.waiting.waiting waiters →
+            self.new.waiting.next ≡ waiting_by outcome.now self.old.waiting.waiting waiters }
     {
-        match outcome {
-            Some(Outcome::Refused(_)) => self.waiting.make_room(&[]),
-            _ => self.waiting.make_room(waiters),
+        if let Some(Outcome::Refused(_)) = outcome {
+            self.waiting.give_up_room();
         }
     }
 
@@ -473,17 +505,14 @@ impl Chain {
     }
 }
 
-/// The clients of the commands that an input proposes, each with its number.
-fn waiters_of(alloc: Global, input: &Input) -> Result<Vec<Waiter>, NoMemory>
-    ensures { IfOk result (λ waiters. waiters.items ≡ waiters_of input.now) }
+/// The commands that an input proposes.
+fn commands_of(input: &Input) -> &[Command]
+    ensures { map (λ c. (c.client, c.seq)) result.now ≡ waiters_of input.now }
 {
-    let mut waiters = Vec::new(alloc);
-    if let Input::Commands(commands) = input {
-        for command in commands.as_slice() {
-            waiters.push((command.client, command.seq))?;
-        }
+    match input {
+        Input::Commands(commands) => commands.as_slice(),
+        _ => &[],
     }
-    Ok(waiters)
 }
 
 /// The service of a part: that of its base, and then of what is decided behind it.

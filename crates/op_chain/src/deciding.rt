@@ -2,32 +2,28 @@
 ghost use Rattle.std.specs.Prelude.{◌≡◌, ◌+◌, ◌-◌, length, take, drop, IfOk, OnOk};
 ghost use Rattle.op_protocol.specs.Parts.{part_after, decided_since};
 ghost use Rattle.op_protocol.specs.Rows.{newly_decided};
-ghost use Rattle.op_chain.specs.Answering.{Continues, IsServed};
+ghost use Rattle.op_chain.specs.Answering.{ServesNothing, Continues, IsServed};
 
 use crate::served::Served;
-use crate::service_plan::ServicePlan;
 use op_kv::Map;
 use op_types::{Ballot, Change, Entry, NoMemory, Part};
 use std::alloc::Global;
 
-/// What the entries that a batch newly decides do. The service stays as it is, and is settled.
+/// The entries that a batch newly decides are served, where none were before.
 pub(crate) fn serve_decided(
     alloc: Global,
-    service: &mut Map,
+    service: &Map,
     part: &Option<Part>,
     batch: &[Change],
-) -> Result<Served, NoMemory>
-    ensures stays { service.new.service ≡ service.old.service }
-    ensures ready { OnOk result (service.new.waiting ≡ 0) }
-    ensures served { IfOk result (IsServed service.old.service (newly_decided part.now batch.now)) }
+    served: &mut Served,
+) -> Result<(), NoMemory>
+    requires settled { service.now.waiting ≡ 0 }
+    requires nothing { ServesNothing service.now.service served.old }
+    ensures { OnOk result (IsServed service.now.service (newly_decided part.now batch.now) served.new) }
 {
-    let mut plan = ServicePlan::new(alloc, service)?;
     match part {
-        Some(part) => {
-            serve_newly(alloc, service, part, batch, &mut plan)?;
-            plan.into_served(alloc)
-        }
-        None => plan.into_served(alloc),
+        Some(part) => serve_newly(alloc, service, part, batch, served),
+        None => Ok(()),
     }
 }
 
@@ -92,10 +88,10 @@ fn serve_newly(
     service: &Map,
     part: &Part,
     batch: &[Change],
-    plan: &mut ServicePlan,
+    served: &mut Served,
 ) -> Result<(), NoMemory>
     requires { service.now.waiting ≡ 0 }
-    ensures { OnOk result (Continues service.now.service plan.old plan.new
+    ensures { OnOk result (Continues service.now.service served.old served.new
         (decided_since part.now (part_after part.now batch.now))) }
 {
     let trimmed = trimmed_after(part, batch);
@@ -104,7 +100,7 @@ fn serve_newly(
         start: index(trimmed, part.decided),
         end: index(trimmed, decided_after(part, batch)),
     };
-    serve_between(alloc, service, log, slice, plan)?;
+    serve_between(alloc, service, log, slice, served)?;
     Ok(())
 }
 
@@ -140,10 +136,10 @@ fn serve_between(
     service: &Map,
     log: LogAfter,
     slice: Slice,
-    plan: &mut ServicePlan,
+    served: &mut Served,
 ) -> Result<usize, NoMemory>
     requires { service.now.waiting ≡ 0 }
-    ensures served { OnOk result (Continues service.now.service plan.old plan.new
+    ensures served { OnOk result (Continues service.now.service served.old served.new
         (drop slice.start (take slice.end (part_after log.entry.part.now log.entry.batch.now).tail.items))) }
     ensures len { IfOk result (λ n.
         n ≡ length (part_after log.entry.part.now log.entry.batch.now).tail.items) }
@@ -151,7 +147,7 @@ fn serve_between(
     let LogAfter { part, batch } = log;
     let [before @ .., last] = batch else {
         let entries = part.tail.as_slice();
-        plan.serve(alloc, service, between(entries, slice.start, slice.end))?;
+        served.serve(alloc, service, between(entries, slice.start, slice.end))?;
         return Ok(entries.len());
     };
     let log = LogAfter {
@@ -162,20 +158,20 @@ fn serve_between(
         Change::CutTo(len) => {
             let kept = index(trimmed_after(part, before), *len);
             let end = slice.end.min(kept);
-            let len = serve_between(alloc, service, log, Slice { end, ..slice }, plan)?;
+            let len = serve_between(alloc, service, log, Slice { end, ..slice }, served)?;
             Ok(len.min(kept))
         }
         Change::Append(entries) => {
-            let len = serve_between(alloc, service, log, slice, plan)?;
-            serve_appended(alloc, service, entries.as_slice(), len, slice, plan)
+            let len = serve_between(alloc, service, log, slice, served)?;
+            serve_appended(alloc, service, entries.as_slice(), len, slice, served)
         }
         Change::Trim(at, _) => {
             let gone = index(trimmed_after(part, before), *at);
             let slice = slice.behind(gone)?;
-            let len = serve_between(alloc, service, log, slice, plan)?;
+            let len = serve_between(alloc, service, log, slice, served)?;
             Ok(len.saturating_sub(gone))
         }
-        _ => serve_between(alloc, service, log, slice, plan),
+        _ => serve_between(alloc, service, log, slice, served),
     }
 }
 
@@ -187,16 +183,16 @@ fn serve_appended(
     entries: &[Entry],
     len: usize,
     slice: Slice,
-    plan: &mut ServicePlan,
+    served: &mut Served,
 ) -> Result<usize, NoMemory>
     requires { service.now.waiting ≡ 0 }
-    ensures served { OnOk result (Continues service.now.service plan.old plan.new
+    ensures served { OnOk result (Continues service.now.service served.old served.new
         (drop (slice.start - len) (take (slice.end - len) entries.now))) }
     ensures len { IfOk result (λ n. n ≡ len + length entries.now) }
 {
     let first = slice.start.saturating_sub(len);
     let past = slice.end.saturating_sub(len);
-    plan.serve(alloc, service, between(entries, first, past))?;
+    served.serve(alloc, service, between(entries, first, past))?;
     match len.checked_add(entries.len()) {
         Some(whole) => Ok(whole),
         None => Err(NoMemory),

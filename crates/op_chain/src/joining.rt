@@ -36,7 +36,7 @@ pub(crate) fn bringing(
     match input {
         Input::Deliver(from, message) => {
             if latest <= message.conf {
-                bring(alloc, joining, pieces, from, message)
+                bring(alloc, from, message, joining, pieces)
             } else {
                 Ok(Brought::Nothing(Input::Deliver(from, message)))
             }
@@ -48,10 +48,10 @@ pub(crate) fn bringing(
 /// What a message brings that the node takes: a base, also one that a piece completes, or entries.
 fn bring(
     alloc: Global,
-    joining: &Joining,
-    pieces: &Option<Pieces>,
     from: Pid,
     message: Msg,
+    joining: &Joining,
+    pieces: &Option<Pieces>,
 ) -> Result<Brought, NoMemory>
     requires { HasBase joining.now }
     ensures { IfOk result (BringsOf joining.now pieces.now from message) }
@@ -65,7 +65,7 @@ fn bring(
             Ok(nothing(from, conf, Body::BasePart(at, base)))
         }
         Body::BasePiece(piece) => {
-            match completed_base(alloc, joining, pieces, conf, &piece)? {
+            match completed_base(alloc, conf, &piece, joining, pieces)? {
                 Some(base) => hold_base(alloc, joining, piece.at, base),
                 None => Ok(nothing(from, conf, Body::BasePiece(piece))),
             }
@@ -115,10 +115,10 @@ fn is_base(bytes: &[u8]) -> bool
 /// The base that a piece completes, if the node takes it.
 fn completed_base(
     alloc: Global,
-    joining: &Joining,
-    pieces: &Option<Pieces>,
     conf: ConfNo,
     piece: &Piece,
+    joining: &Joining,
+    pieces: &Option<Pieces>,
 ) -> Result<Option<Blob>, NoMemory>
     ensures { IfOk result (IsCompleted joining.now pieces.now conf piece.now) }
 {

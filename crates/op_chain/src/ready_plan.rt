@@ -1,6 +1,7 @@
 ghost use Rattle.std.specs.Prelude.{◌≡◌, IfOk};
 
 use crate::chain_plan::ChainPlan;
+use crate::letting_go::starved;
 use op_types::{Batch, NoMemory, Sends};
 use std::alloc::Global;
 use std::marker::Model;
@@ -24,8 +25,10 @@ impl ReadyPlan {
     pub(crate) fn new(alloc: Global, plan: ChainPlan) -> Result<ReadyPlan, NoMemory>
         ensures { IfOk result (λ p. p ≡ plan) }
     {
-        let plan = Box::new(alloc, plan)?;
-        Ok(ReadyPlan { plan })
+        match Box::new(alloc, plan) {
+            Ok(plan) => Ok(ReadyPlan { plan }),
+            Err(failed) => Err(starved(failed.value)),
+        }
     }
 
     /// What it is to do.

@@ -3,6 +3,7 @@ ghost use Rattle.op_chain.specs.Answering.{HasRoomFor};
 ghost use Rattle.op_chain.specs.Plans.{told_anew};
 
 use crate::chain_plan::ChainPlan;
+use crate::letting_go::starved;
 use crate::ready_plan::ReadyPlan;
 use crate::renewal::Anew;
 use crate::room::Room;
@@ -39,7 +40,9 @@ impl Serving {
             (length plan.now.replies) x.room) }
     {
         let (served, given_up) = (replies.len(), plan.replies.len());
-        let room = Room::new(alloc, served, given_up, renewal.count_given_up())?;
+        let Ok(room) = Room::new(alloc, served, given_up, renewal.count_given_up()) else {
+            return Err(starved((service, replies, renewal)));
+        };
         Ok(Serving {
             service,
             replies,

@@ -1,9 +1,9 @@
 //! Which clients wait at a node for a reply.
-ghost use Rattle.std.specs.Prelude.{◌≡◌, ◌∷◌, [], OnOk};
+ghost use Rattle.std.specs.Prelude.{◌≡◌, ◌∷◌, [], map, OnOk};
 ghost use Rattle.op_protocol.specs.Serving.{waits, without_waiting};
 ghost use Rattle.op_chain.specs.Waiting.{nobody, with_waiters, without_coming};
 
-use op_types::NoMemory;
+use op_types::{Command, NoMemory};
 use std::alloc::Global;
 use std::collections::BTreeSet;
 use std::marker::Model;
@@ -42,24 +42,27 @@ impl WaitingSet {
         }
     }
 
-    /// Makes room for those that are to wait. Until `let_wait`, and without memory, nobody waits that didn't.
-    pub fn make_room(&mut self, waiters: &[Waiter]) -> Result<(), NoMemory>
+    /// Makes room for the clients of these commands, which are to wait. Until `let_wait`, and without memory, nobody waits
+    /// that didn't.
+    pub fn make_room(&mut self, commands: &[Command]) -> Result<(), NoMemory>
         ensures same { self.new.waiting ≡ self.old.waiting }
-        ensures room { OnOk result (self.new.next ≡ with_waiters self.old.waiting waiters.now) }
+        ensures room { OnOk result (self.new.next
+            ≡ with_waiters self.old.waiting (map (λ c. (c.client, c.seq)) commands.now)) }
     {
         self.give_up_room();
-        self.make_more_room(waiters)
+        self.make_more_room(commands)
     }
 
-    /// Room for these too.
-    fn make_more_room(&mut self, waiters: &[Waiter]) -> Result<(), NoMemory>
+    /// Room for the clients of these too.
+    fn make_more_room(&mut self, commands: &[Command]) -> Result<(), NoMemory>
         ensures same { self.new.waiting ≡ self.old.waiting }
-        ensures room { OnOk result (self.new.next ≡ with_waiters self.old.next waiters.now) }
+        ensures room { OnOk result (self.new.next
+            ≡ with_waiters self.old.next (map (λ c. (c.client, c.seq)) commands.now)) }
     {
-        match waiters {
+        match commands {
             [] => Ok(()),
             [first, rest @ ..] => {
-                self.make_one_room(*first)?;
+                self.make_one_room((first.client, first.seq))?;
                 self.make_more_room(rest)
             }
         }
@@ -96,7 +99,7 @@ impl WaitingSet {
     }
 
     /// Gives up the room that was made. It takes no memory.
-    fn give_up_room(&mut self)
+    pub fn give_up_room(&mut self)
         ensures waiting { self.new.waiting ≡ self.old.waiting }
         ensures next { self.new.next ≡ self.old.waiting }
     {

@@ -1,5 +1,5 @@
 -- Entries by rising key, with some keys taken out before newer ones are inserted.
-use Rattle.std.proofs.Common.{◌≡◌, Bool, true, false, cond, ◌||◌, refl, sym, ap, ◌∙◌, subst, List, [], ◌∷◌}
+use Rattle.std.proofs.Common.{◌≡◌, Bool, true, false, cond, ◌||◌, refl, sym, ap, ◌∙◌, List, [], ◌∷◌}
 use Rattle.std.specs.Prelude.{Option, None}
 use Rattle.std.specs.Option.{option_or}
 use Rattle.std.specs.List.{AllByRecursion, list_any}
@@ -9,12 +9,12 @@ use Rattle.std.specs.Ordering.{is_eq}
 use Rattle.std.specs.Cmp.{IsTotalOrder, eq_by_cmp_equiv, Equal-is}
 use Rattle.std.specs.List.Sorted.{IsStrictlySortedBy}
 use Rattle.std.specs.Map.{keys_of, lookup, remove_entry}
-use Rattle.std.specs.BTreeMap.{BTreeMap, is_at, MovesPrefix}
+use Rattle.std.specs.BTreeMap.{is_at}
 use Rattle.std.proofs.lemmas.Map.{lookup-remove_entry}
 use Rattle.std.proofs.lemmas.Map.Keys.{IsDistinct-from_sorted}
 use Rattle.std.proofs.lemmas.Map.Lookups.{CmpEqualImpliesEq}
 use Rattle.op_kv.specs.Over.{entries_over, without}
-use Rattle.op_kv.proofs.Entries.{same_entries, rises-over, find-over, over-moved}
+use Rattle.op_kv.proofs.Entries.{same_entries, rises-over, find-over}
 
 -- whether the key is one of these
 abbrev pub among : {K : Type 0} → (K → K → Ordering) → List K → K → Bool
@@ -87,9 +87,9 @@ module _ {K X : Type 0} {R : K → K → Ordering} (o : IsTotalOrder R) where
       ∙ sym (find-remove_entry k all q rises))
 
   -- entries that move below, once those that are gone are taken out there, leave what both make
-  pub moved-without : CmpEqualImpliesEq R → (m other n rest : BTreeMap K X) (es : List (K × X)) (ks left : List K) → Rises es → m.entries ≡ without R es ks → left ≡ [] → MovesPrefix R m other n rest
-      → entries_over R (without R n.entries left) rest.entries ≡ entries_over R (without R es ks) other.entries
-  moved-without exact m other n rest es ks left s e l h =
-      ap (λ gone. entries_over R (without R n.entries gone) rest.entries) l
-      ∙ over-moved o exact m other n rest (subst Rises (sym e) (rises-without es ks s)) h
-      ∙ ap (λ fs. entries_over R fs other.entries) e
+  pub moved-without : (m n other rest es : List (K × X)) (ks left : List K) → m ≡ without R es ks → left ≡ [] → entries_over R n rest ≡ entries_over R m other
+      → entries_over R (without R n left) rest ≡ entries_over R (without R es ks) other
+  moved-without m n other rest es ks left e l h =
+      ap (λ gone. entries_over R (without R n gone) rest) l
+      ∙ h
+      ∙ ap (λ fs. entries_over R fs other) e

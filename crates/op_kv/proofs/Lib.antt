@@ -3,6 +3,7 @@ pub mod BaseReads
 pub mod Climbs
 pub mod Deletes
 pub mod Entries
+pub mod Overlays
 pub mod RisingEntries
 pub mod RisingReads
 pub mod RisingSteps

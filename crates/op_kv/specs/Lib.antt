@@ -1,4 +1,5 @@
 pub mod Over
+pub mod Overlays
 pub mod Rising
 pub mod Bases
 pub mod Looked

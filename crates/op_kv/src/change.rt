@@ -8,43 +8,46 @@ ghost use Rattle.op_spec.specs.Service.{last_of, answer_of, service_with, servic
 ghost use Rattle.op_kv.specs.Over.{nothing_written, pairs_over, clients_over, service_over, answers_of, told_again};
 
 use crate::Answers;
+use crate::overlay::Overlay;
 use crate::tables::Tables;
 use op_types::{Answer, Applied, Blob, Command, Entry, NoMemory, Op};
 use std::alloc::Global;
-use std::collections::{BTreeMap, BTreeSet};
+use std::collections::BTreeSet;
 use std::marker::Model;
 
 /// What commands wrote that a map has not taken in: pairs, keys that were taken out, and the clients' last commands. A
 /// key's pair stands over its being taken out.
 #[derive(Drop)]
 pub struct KvChange {
-    pub(crate) pairs: BTreeMap<Blob, Blob>,
+    pub(crate) pairs: Overlay<Blob, Blob>,
     pub(crate) gone: BTreeSet<Blob>,
-    pub(crate) clients: BTreeMap<u64, Applied>,
+    pub(crate) clients: Overlay<u64, Applied>,
 }
 
 impl Model for KvChange {
-    ghost use Rattle.std.specs.BTreeMap.{IsOrdered};
+    ghost use Rattle.std.specs.List.Sorted.{IsStrictlySortedBy};
+    ghost use Rattle.std.specs.Map.{keys_of};
     ghost use Rattle.std.specs.Ordering.{nat_cmp};
     ghost use Rattle.std.specs.Cmp.Lexicographic.{slice_cmp};
     ghost use Rattle.op_kv.specs.Over.{Written};
 
     ghost Value = { Written };
 
-    ghost view = { λ t. record { pairs = t.pairs.entries; gone = t.gone.keys; clients = t.clients.entries } };
+    ghost view = { λ t. record { pairs = t.pairs; gone = t.gone.keys; clients = t.clients } };
 
-    ghost invariant = { λ t. IsOrdered (slice_cmp nat_cmp) t.pairs × IsOrdered nat_cmp t.clients };
+    ghost invariant = { λ t.
+        IsStrictlySortedBy (slice_cmp nat_cmp) (keys_of t.pairs) × IsStrictlySortedBy nat_cmp (keys_of t.clients) };
 }
 
 impl KvChange {
     /// Nothing is written.
-    pub(crate) fn new(alloc: Global) -> Self
+    pub fn new(alloc: Global) -> Self
         ensures { result ≡ nothing_written }
     {
         KvChange {
-            pairs: BTreeMap::new(alloc),
+            pairs: Overlay::new(alloc),
             gone: BTreeSet::new(alloc),
-            clients: BTreeMap::new(alloc),
+            clients: Overlay::new(alloc),
         }
     }
 
@@ -70,7 +73,7 @@ impl KvChange {
     }
 
     /// What the service of the tables below and of this change answers a command, which takes its effect here.
-    fn serve(
+    pub(crate) fn serve(
         &mut self,
         alloc: Global,
         below: &Tables,
@@ -172,7 +175,7 @@ impl KvChange {
     {
         let _ = &below.pairs;
         self.gone.insert(key.copy()?)?;
-        self.pairs.remove(key);
+        self.pairs.remove(key)?;
         Ok(Answer::Done)
     }
 

@@ -5,6 +5,7 @@ mod base;
 mod change;
 mod laws;
 mod map;
+mod overlay;
 mod reading;
 mod standing;
 mod tables;

@@ -4,7 +4,7 @@ ghost use Rattle.std.specs.Cmp.Lexicographic.{slice_cmp};
 ghost use Rattle.std.specs.List.Sorted.{IsStrictlySortedBy};
 ghost use Rattle.std.specs.Map.{keys_of};
 ghost use Rattle.std.specs.Map.Iter.{deref_pair};
-ghost use Rattle.op_spec.specs.Service.{new_service, value_at, all_after, base_bytes};
+ghost use Rattle.op_spec.specs.Service.{new_service, value_at, answer_of, service_with, all_after, base_bytes};
 ghost use Rattle.op_spec.specs.ServiceRanges.{ServiceInRange, ServiceIsOrdered};
 ghost use Rattle.op_kv.specs.Bases.{IsBase};
 ghost use Rattle.op_kv.specs.Over.{service_over, answers_of};
@@ -14,7 +14,7 @@ use crate::change::KvChange;
 use crate::tables::Tables;
 use crate::writing::{put_clients, put_pairs};
 use crate::{Answers, Pairs};
-use op_types::{Blob, Entry, NoMemory};
+use op_types::{Answer, Blob, Command, Entry, NoMemory};
 use std::alloc::Global;
 use std::collections::BTreeMap;
 use std::marker::Model;
@@ -108,6 +108,23 @@ impl Map {
             ≡ all_after (service_over self.now.service change.old) commands.now) }
     {
         change.serve_all(alloc, &self.kept, answers, commands)
+    }
+
+    /// What the service answers one more command of a plan, which takes its effect in the plan's change. Without memory the
+    /// plan is to be given up.
+    pub fn serve(
+        &self,
+        alloc: Global,
+        change: &mut KvChange,
+        command: &Command,
+    ) -> Result<Answer, NoMemory>
+        requires { self.now.waiting ≡ 0 }
+        ensures answer { IfOk result (λ a. a
+            ≡ answer_of (service_over self.now.service change.old) command.now) }
+        ensures effect { OnOk result (service_over self.now.service change.new
+            ≡ service_with (service_over self.now.service change.old) command.now) }
+    {
+        change.serve(alloc, &self.kept, command)
     }
 
     /// The planned change takes effect. This can't fail, and takes no memory.

@@ -8,6 +8,7 @@ ghost use Rattle.std.specs.Map.Iter.{deref_pair};
 ghost use Rattle.op_kv.specs.Over.{entries_over, without, pairs_over, clients_over};
 
 use crate::change::KvChange;
+use crate::overlay::insert_all;
 use crate::tables::Tables;
 use op_types::{Applied, Blob, NoMemory};
 use std::alloc::Global;
@@ -28,7 +29,7 @@ impl Tables {
         let mut pairs = BTreeMap::new(alloc);
         insert_all(&mut pairs, &self.pairs)?;
         remove_all(&mut pairs, &newer.gone);
-        insert_all(&mut pairs, &newer.pairs)?;
+        newer.pairs.insert_over(&mut pairs)?;
         Ok(pairs)
     }
 
@@ -45,23 +46,9 @@ impl Tables {
     {
         let mut clients = BTreeMap::new(alloc);
         insert_all(&mut clients, &self.clients)?;
-        insert_all(&mut clients, &newer.clients)?;
+        newer.clients.insert_over(&mut clients)?;
         Ok(clients)
     }
-}
-
-/// Inserts references to these entries, in their order.
-fn insert_all<'a, K: Ord, V>(
-    standing: &mut BTreeMap<&'a K, &'a V>,
-    entries: &'a BTreeMap<K, V>,
-) -> Result<(), NoMemory>
-    ensures { OnOk result (map deref_pair standing.new.entries
-        ≡ entries_over K.cmp (map deref_pair standing.old.entries) entries.now.entries) }
-{
-    'entries: for (key, value) in entries {
-        standing.insert(key, value)?;
-    }
-    Ok(())
 }
 
 /// Takes out what stands at these keys.

@@ -47,8 +47,8 @@ impl Tables {
         ensures ok { OnOk result (change.new ≡ nothing_written) }
     {
         take_out(&mut self.pairs, &mut change.gone);
-        self.pairs.append(&mut change.pairs)?;
-        self.clients.append(&mut change.clients)?;
+        change.pairs.move_over(&mut self.pairs)?;
+        change.clients.move_over(&mut self.clients)?;
         Ok(())
     }
 }

@@ -25,7 +25,7 @@ returns-in_ok-len-in-CutTo-clause-served t c =
     let same : drop start (take c.min-end.result (log_after p before)) ≡ drop start (take end (log_after p batch)) =
     ap (λ (n : ℕ). drop start (take n (log_after p before))) stop ∙ ap (λ (es : List Entry). drop start es) (sym (take_both end (c.in-CutTo.len - q.trimmed) (log_after p before)))
     ∙ ap (λ (es : List Entry). drop start (take end es)) (sym log) in
-    subst (λ (es : List Entry). Continues c.args.service.now.service c.args.plan.now c.serve_between.new.plan es) same c.in_ok-len-in-CutTo.ensures.served
+    subst (λ (es : List Entry). Continues c.args.service.now.service c.args.served.now c.serve_between.new.served es) same c.in_ok-len-in-CutTo.ensures.served
 
 pub returns-in_ok-len-in-CutTo-clause-len : goal.returns-in_ok-len-in-CutTo-clause-len
 returns-in_ok-len-in-CutTo-clause-len t c =
@@ -94,7 +94,7 @@ returns-in_ok-len-in-Trim-clause-served t c =
     let same : drop c.in_ok-slice-in-Trim.slice.start (take c.in_ok-slice-in-Trim.slice.end xs) ≡ drop start (take end (log_after p batch)) =
     ap (λ (n : ℕ). drop n (take c.in_ok-slice-in-Trim.slice.end xs)) first ∙ ap (λ (n : ℕ). drop (start + k) (take n xs)) past
     ∙ sym (slice_behind start end k xs) ∙ ap (λ (es : List Entry). drop start (take end es)) (sym log) in
-    subst (λ (es : List Entry). Continues c.args.service.now.service c.args.plan.now c.serve_between-in-Trim.new.plan es) same c.in_ok-len-in-Trim.ensures.served
+    subst (λ (es : List Entry). Continues c.args.service.now.service c.args.served.now c.serve_between-in-Trim.new.served es) same c.in_ok-len-in-Trim.ensures.served
 
 pub returns-in_ok-len-in-Trim-clause-len : goal.returns-in_ok-len-in-Trim-clause-len
 returns-in_ok-len-in-Trim-clause-len t c =

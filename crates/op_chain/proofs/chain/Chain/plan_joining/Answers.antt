@@ -7,6 +7,7 @@ use Rattle.op_types.specs.declared.plan.Plan.{Plan}
 use Rattle.op_types.specs.declared.turn.Turn.{Turn}
 use Rattle.op_protocol.specs.State.{Planned}
 use Rattle.op_protocol.specs.Joining.{holds_more}
+use Rattle.op_kv.specs.Over.{service_over}
 use Rattle.op_chain.specs.Bringing.{turn_holding}
 use Rattle.op_chain.specs.Chains.{state_of}
 use Rattle.op_chain.specs.Plans.{HasRoomToTell, Prepares, IfGoesOn}
@@ -24,18 +25,18 @@ returns-clause-prepares c =
     let batch = c.args.batch in
     let m = c.args.service in
     let new = c.go_on.new.plan in
-    let kv = c.in_ok-change.change in
+    let kv = c.new-change.result in
     let r = c.in_ok-renewal.renewal in
-    let served : Chain = record a { service = c.plan.new.self } in
-    let last : Chain = record served { waiting = c.make_room.new.self } in
-    let like : IsLike a last = like_waiting a served c.make_room.new.self (like_served a a c.plan.new.self (like_self a) c.plan.ensures.stays) c.make_room.ensures.same in
+    let served : Chain = record a { service = c.settle.new.self } in
+    let last : Chain = record served { waiting = c.give_up_room.new.self } in
+    let like : IsLike a last = like_waiting a served c.give_up_room.new.self (like_served a a c.settle.new.self (like_self a) c.settle.ensures.stays) c.give_up_room.ensures.waiting in
     let turn : c.turn_holding.result ≡ turn_holding a.durable.joining batch = c.turn_holding.ensures ∙ ap (λ (b : List Change). turn_holding a.durable.joining b) c.as_slice.ensures in
     let before = subst (λ (n : Plan). let old : Plan = record n { batch = batch; turn = c.turn_holding.result } in IfGoesOn a.me a.durable.joining m (role_of a.volatile.role) old new r) c.nothing-plan.ensures c.in_ok-renewal.ensures in
     let goes = subst (λ (t : Turn). IfGoesOn a.me a.durable.joining m (role_of a.volatile.role) (storing_plan batch t) new r) turn before in
     let t : Planned = holds_more a.me (state_of a) batch in
     let made : (room : Room) → HasRoomToTell (chain_plan new kv [] r room) → Prepares last t (chain_plan new kv [] r room) = λ room tells.
     join_prepared a c.requires.sound c.requires.rested c.requires.brought.0 c.requires.brought.1 c.requires.brought.2 batch c.requires.brought.3 c.requires.served.0 c.requires.served.1 m c.requires.served.2 c.requires.range
-    last new kv r room like c.in_ok-change.ensures.change goes c.in_ok-make_room.ensures.room c.in_ok-change.ensures.ready tells in
+    last new kv r room like (ap (service_over a.service.service) c.new-change.ensures) goes c.give_up_room.ensures.next c.in_ok-settle.ensures.ready tells in
     let replies = c.new-replies.result in
     let here : (room : Room) → HasRoomToTell (chain_plan new kv replies r room) → Prepares last t (chain_plan new kv replies r room) =
     subst (λ (rs : List Reply). (room : Room) → HasRoomToTell (chain_plan new kv rs r room) → Prepares last t (chain_plan new kv rs r room)) (sym c.new-replies.ensures) made in

@@ -10,7 +10,7 @@ pub returns-clause-pairs : goal.returns-clause-pairs
 returns-clause-pairs c =
     let inside = c.self.inside in
     let below = c.below.inside.pairs.entries in
-    let w : Written = record { pairs = inside.pairs.entries; gone = inside.gone.keys; clients = inside.clients.entries } in
+    let w : Written = record { pairs = inside.pairs; gone = inside.gone.keys; clients = inside.clients } in
     let put : insert_entry (slice_cmp nat_cmp) w.pairs c.in_ok-copy.field-0 c.in_ok-copy-2.field-0 ≡ insert_entry (slice_cmp nat_cmp) w.pairs c.args.key.now c.args.value.now =
     λ i. insert_entry (slice_cmp nat_cmp) w.pairs (c.in_ok-copy.ensures i) (c.in_ok-copy-2.ensures i) in
     (λ i. pairs_over (sym c.below.view_is i).pairs (record w { pairs = (c.in_ok-insert.ensures.entries ∙ put) i }))

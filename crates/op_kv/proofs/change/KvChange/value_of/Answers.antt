@@ -11,28 +11,28 @@ returns-in-Some c =
     let inside = c.self.inside in
     let key = c.args.key.now in
     let below = c.below.inside.pairs.entries in
-    let w : Written = record { pairs = inside.pairs.entries; gone = inside.gone.keys; clients = inside.clients.entries } in
+    let w : Written = record { pairs = inside.pairs; gone = inside.gone.keys; clients = inside.clients } in
     sym ((λ i. value_at key (pairs_over (sym c.below.view_is i).pairs (sym c.self.view_is i)))
     ∙ value_over below w key c.below.invariant.0 c.self.invariant.0
-    ∙ ap (λ t. option_or t (cond (is_gone key w) None (value_at key below))) (sym c.in-Some.ensures.value))
+    ∙ ap (λ t. option_or t (cond (is_gone key w) None (value_at key below))) (sym c.in-Some.ensures))
 
 pub returns-in-None : goal.returns-in-None
 returns-in-None c =
     let inside = c.self.inside in
     let key = c.args.key.now in
     let below = c.below.inside.pairs.entries in
-    let w : Written = record { pairs = inside.pairs.entries; gone = inside.gone.keys; clients = inside.clients.entries } in
+    let w : Written = record { pairs = inside.pairs; gone = inside.gone.keys; clients = inside.clients } in
     sym ((λ i. value_at key (pairs_over (sym c.below.view_is i).pairs (sym c.self.view_is i)))
     ∙ value_over below w key c.below.invariant.0 c.self.invariant.0
-    ∙ (λ i. option_or (sym c.in-None.ensures.value i) (cond (sym c.if-contains.ensures i) None (value_at key below))))
+    ∙ (λ i. option_or (sym c.in-None.ensures i) (cond (sym c.if-contains.ensures i) None (value_at key below))))
 
 pub returns-in-None-2 : goal.returns-in-None-2
 returns-in-None-2 c =
     let inside = c.self.inside in
     let key = c.args.key.now in
     let below = c.below.inside.pairs.entries in
-    let w : Written = record { pairs = inside.pairs.entries; gone = inside.gone.keys; clients = inside.clients.entries } in
+    let w : Written = record { pairs = inside.pairs; gone = inside.gone.keys; clients = inside.clients } in
     c.get-in-None-2.ensures.value
     ∙ sym ((λ i. value_at key (pairs_over (sym c.below.view_is i).pairs (sym c.self.view_is i)))
     ∙ value_over below w key c.below.invariant.0 c.self.invariant.0
-    ∙ (λ i. option_or (sym c.in-None-2.ensures.value i) (cond (sym c.if-contains.ensures i) None (value_at key below))))
+    ∙ (λ i. option_or (sym c.in-None-2.ensures i) (cond (sym c.if-contains.ensures i) None (value_at key below))))

@@ -2,7 +2,7 @@ use Rattle.std.proofs.Common.{map, sym, ap, ◌∙◌}
 use Rattle.std.specs.Map.Iter.{deref_pair}
 use Rattle.op_kv.specs.Over.{entries_over}
 use Rattle.op_kv.proofs.Shown.{map-insert_entry}
-use Rattle.op_kv.proofs.standing.insert_all.Goals as goal
+use Rattle.op_kv.proofs.overlay.insert_all.Goals as goal
 
 pub entries-preserved : goal.entries-preserved
 entries-preserved g c =

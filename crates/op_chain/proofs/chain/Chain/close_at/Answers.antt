@@ -14,13 +14,13 @@ use Rattle.op_kv.specs.Over.{service_over}
 use Rattle.op_chain.specs.Plans.{IfCloses}
 use Rattle.op_chain.specs.declared.renewal.Renewal.{Renewal}
 use Rattle.op_chain.proofs.Closes.{closes_up}
-use Rattle.op_chain.proofs.chain.Chain.close.Goals as goal
+use Rattle.op_chain.proofs.chain.Chain.close_at.Goals as goal
 
 pub returns : goal.returns
 returns c =
     let a = c.args.self.now in
     let plan = c.args.plan.now in
-    let part = c.in-Some.part in
+    let part = c.args.part.now in
     let role = role_of a.volatile.role in
     let decided : c.saturating_sub.result ≡ (part_after part plan.batch).decided - 1 =
     c.saturating_sub.ensures ∙ ap (λ (n : ℕ). n - 1) (c.decided_after.ensures ∙ ap (λ (b : List Change). (part_after part b).decided) c.as_slice-2.ensures) in
@@ -28,7 +28,7 @@ returns c =
     let new : Plan = record plan { batch = c.push.new.self; sends = c.push_news.new.sends } in
     IfOk-weaker c.from_renewal.result _ (λ (x : Option Renewal). IfCloses a.me a.durable.part s role plan new x)
     (λ (x : Option Renewal) is. subst (λ (y : Option Renewal). IfCloses a.me a.durable.part s role plan new y) (sym is)
-    (closes_up a.me a.durable.part s role plan part c.in-Some.is c.in-Some-stop.stop (sym c.requires.stop ∙ c.in-Some-stop.is)
+    (closes_up a.me a.durable.part s role plan part c.requires.part c.args.stop.now c.requires.decided
     c.push.new.self c.push_news.new.sends c.is_among-named.result c.in_ok-base.base _
     (c.is_among-named.ensures ∙ ap (λ (ms : List ℕ). is_member nat_eq ms a.me) c.as_slice.ensures)
     c.in_ok-base.ensures.bytes
