@@ -1,3 +1,5 @@
+pub mod EntryLines
+pub mod FirstParts
 pub mod LineEnds
 pub mod UnambiguousSchedules
 pub mod WordLists

@@ -1,24 +1,19 @@
 -- A text begins with the line that ends at its first LF.
-use Rattle.std.proofs.Common.{◌≡◌, ℕ, ◌+◌, ◌<◌, ◌≤◌, Bool, true, false, cond, eqb, ltb, Option, Some, None, List, [], ◌∷◌, length, take, drop, refl, ap, ◌∙◌, arith}
+use Rattle.std.proofs.Common.{◌≡◌, ℕ, ◌+◌, ◌<◌, Bool, true, false, cond, eqb, ltb, Option, Some, None, List, [], ◌∷◌, length, take, drop, refl, ap, ◌∙◌, arith}
 use Rattle.std.proofs.lemmas.Bool.Decides.{nat_tests}
-use Rattle.std.proofs.lemmas.List.Splits.{slice_split_none, slice_split_first, length-slice_split}
-use Rattle.std.proofs.lemmas.List.Sums.{fails_before_first, position_or_len_is}
-use Rattle.std.specs.List.{slice_split, position_or_len}
+use Rattle.std.proofs.lemmas.List.Splits.{length-slice_split}
+use Rattle.std.proofs.lemmas.List.Sums.{position_or_len_is}
+use Rattle.std.specs.List.{slice_split}
 use Rattle.memchr.specs.Find.{IsFirstByte, is_byte}
 use Rattle.op_sched.specs.Grammar.{line_feed, lines_of, without_empty_end}
+use Rattle.op_sched.proofs.FirstParts.{first_place, one_part, part_and_more}
 
 abbrev is_end : ℕ → Bool
 is_end b = eqb b line_feed
 
 -- where the first LF stands, as `position` gives it
 abbrev pub line_end : List ℕ → Option ℕ
-line_end text = cond (ltb (position_or_len is_end text) (length text)) (Some (position_or_len is_end text)) None
-
-none_from : (at len : ℕ) → cond (ltb at len) (Some at) None ≡ None → len ≤ at
-none_from at len e = grind (arith, nat_tests)
-
-some_from : (at len end : ℕ) → cond (ltb at len) (Some at) None ≡ Some end → (at ≡ end) × (end < len)
-some_from at len end e = grind (arith, nat_tests)
+line_end text = first_place is_end text
 
 not_true : (b : Bool) → (b ≡ true → ⊥) → b ≡ false
 not_true true never = absurd (never refl)
@@ -49,14 +44,10 @@ without_empty_end-one part some = one_kept (length part) (part ∷ []) some
 
 -- a text without LF is one line
 pub lines_of-one : (text : List ℕ) → 0 < length text → line_end text ≡ None → lines_of text ≡ text ∷ []
-lines_of-one text some e =
-    let past = none_from (position_or_len is_end text) (length text) e in
-    ap without_empty_end (slice_split_none is_end text (λ k d lt. fails_before_first is_end text k d (omega arith))) ∙ without_empty_end-one text some
+lines_of-one text some e = ap without_empty_end (one_part is_end text e) ∙ without_empty_end-one text some
 
 -- the first line ends at the first LF
 pub lines_of-more : (text : List ℕ) (end : ℕ) → line_end text ≡ Some end → (lines_of text ≡ take end text ∷ lines_of (drop (end + 1) text)) × (end < length text)
 lines_of-more text end e =
-    let at = some_from (position_or_len is_end text) (length text) end e in
-    let first : slice_split is_end text ≡ take end text ∷ slice_split is_end (drop (end + 1) text) =
-    rw (← at.0) (slice_split_first is_end text 0 (omega arith)) in
-    (ap without_empty_end first ∙ without_empty_end-cons (take end text) (slice_split is_end (drop (end + 1) text)) (omega (arith, length-slice_split is_end (drop (end + 1) text))), at.1)
+    let first = part_and_more is_end text end e in
+    (ap without_empty_end first.0 ∙ without_empty_end-cons (take end text) (slice_split is_end (drop (end + 1) text)) (omega (arith, length-slice_split is_end (drop (end + 1) text))), first.1)

@@ -1,7 +1,21 @@
--- What begins some of the report's lines. Only what is inside the crate speaks of this.
+-- What begins and ends some of the report's lines. Only what is inside the crate speaks of this.
 use Rattle.std.specs.Prelude.{ℕ, List, ◌++◌, codes, decimal}
+use Rattle.op_types.specs.declared.log.Op.{Op}
+use Rattle.op_types.specs.declared.log.Op.TheVariants.{Put, Del, Get, Cas}
+use Rattle.op_text.specs.Percent.{encoded}
 
--- a line's name, a node, a client, and the number of its command or its read, each before a space
-abbrev pub asked_text : List ℕ → ℕ → ℕ → ℕ → List ℕ
-asked_text name pid client seq =
-    name ++ decimal pid ++ codes " " ++ decimal client ++ codes " " ++ decimal seq ++ codes " "
+-- a node, a client, and the number of its command or its read, each before a space
+abbrev pub asked_text : ℕ → ℕ → ℕ → List ℕ
+asked_text pid client seq =
+    decimal pid ++ codes " " ++ decimal client ++ codes " " ++ decimal seq ++ codes " "
+
+-- the name of an entry's line, a configuration and a position, each before a space
+abbrev pub place_text : ℕ → ℕ → List ℕ
+place_text conf pos = codes "entry " ++ decimal conf ++ codes " " ++ decimal pos ++ codes " "
+
+-- the key and the values of an operation, with a space between them
+abbrev pub operands_text : Op → List ℕ
+operands_text (Put key value) = encoded key ++ codes " " ++ encoded value
+operands_text (Del key) = encoded key
+operands_text (Get key) = encoded key
+operands_text (Cas key old new) = encoded key ++ codes " " ++ encoded old ++ codes " " ++ encoded new

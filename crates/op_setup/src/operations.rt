@@ -5,7 +5,7 @@ ghost use Rattle.op_text.specs.Operations.{AreKeyOnly, AreOperandsOf};
 ghost use Rattle.op_setup.specs.Requests.{AreOperands, AreSomeKeyOnly};
 
 use crate::arguments::bytes;
-use op_text::{is_key, is_value, key, value};
+use op_text::{cas_operation, is_key, is_value, key, put_operation};
 use op_types::{Blob, NoMemory, Op};
 use std::alloc::Global;
 
@@ -36,13 +36,7 @@ fn put(alloc: Global, words: &[String]) -> Result<Option<Op>, NoMemory>
     if !is_key(key_word) || !is_value(value_word) {
         return Ok(None);
     }
-    let Some(key) = key(alloc, key_word)? else {
-        return Ok(None);
-    };
-    let Some(value) = value(alloc, value_word)? else {
-        return Ok(None);
-    };
-    Ok(Some(Op::Put(key, value)))
+    put_operation(alloc, key_word, value_word)
 }
 
 /// `del`: a key.
@@ -79,16 +73,7 @@ fn cas(alloc: Global, words: &[String]) -> Result<Option<Op>, NoMemory>
     if !is_key(key_word) || !is_value(old_word) || !is_value(new_word) {
         return Ok(None);
     }
-    let Some(key) = key(alloc, key_word)? else {
-        return Ok(None);
-    };
-    let Some(old) = value(alloc, old_word)? else {
-        return Ok(None);
-    };
-    let Some(new) = value(alloc, new_word)? else {
-        return Ok(None);
-    };
-    Ok(Some(Op::Cas(key, old, new)))
+    cas_operation(alloc, key_word, old_word, new_word)
 }
 
 /// The operation of this name that words say.

@@ -1,43 +1,20 @@
 //! What proposals and commands were answered, as text.
 ghost use Rattle.std.specs.Prelude.{◌≡◌, ◌++◌, OnOk};
-ghost use Rattle.op_text.specs.Answers.{answer_text, cause_text, outcome_text, refusal_text};
+ghost use Rattle.op_text.specs.Answers.{answer_text, cause_text, outcome_text};
 
 use crate::ballot::put_ballot;
 use crate::percent::put_encoded;
-use crate::put::{put_named, put_number, put_spaced};
-use op_types::{Answer, Cause, NoMemory, Outcome, Refusal};
+use crate::put::put_named;
+use crate::row::Row;
+use op_types::{Answer, Cause, NoMemory, Outcome};
 
 /// Appends what a proposal was answered.
 pub fn put_outcome(text: &mut Vec<u8>, outcome: &Outcome) -> Result<(), NoMemory>
     ensures { OnOk result (text.new.items ≡ text.old.items ++ outcome_text outcome.now) }
 {
-    match outcome {
-        Outcome::Appended(conf, pos) => {
-            text.extend_from_slice(b"appended ")?;
-            put_spaced(text, u64::from(*conf))?;
-            put_number(text, *pos)
-        }
-        Outcome::Buffered => text.extend_from_slice(b"buffered"),
-        Outcome::Forwarded(pid) => put_named(text, b"forwarded ", u64::from(*pid)),
-        Outcome::Asked => text.extend_from_slice(b"asked"),
-        Outcome::NotLeading => text.extend_from_slice(b"notleading"),
-        Outcome::Refused(cause) => {
-            text.extend_from_slice(b"refused ")?;
-            put_refusal(text, cause)
-        }
-    }
-}
-
-/// Appends why a proposal was refused.
-fn put_refusal(text: &mut Vec<u8>, refusal: &Refusal) -> Result<(), NoMemory>
-    ensures { OnOk result (text.new.items ≡ text.old.items ++ refusal_text refusal.now) }
-{
-    match refusal {
-        Refusal::StorageFailed { count } => put_named(text, b"storage ", *count),
-        Refusal::PendingStop { pos } => put_named(text, b"pending ", *pos),
-        Refusal::NoLeader => text.extend_from_slice(b"noleader"),
-        Refusal::PositionsEnd => text.extend_from_slice(b"end"),
-    }
+    let mut row = Row::new();
+    row.outcome(outcome);
+    text.extend_from_slice(row.as_slice())
 }
 
 /// Appends what a command was answered.

@@ -6,11 +6,22 @@ ghost use Rattle.op_text.specs.Percent.{is_plain, encoded, encoded_byte};
 
 use op_types::NoMemory;
 
+/// Each byte that stands for itself, at its own place, and `%` at every other place.
+static PLAIN_BYTES: [u8; 256] = *b"\
+    %%%%%%%%%%%%%%%%%%%%%%%%%%%%%%%%\
+    %%%%%%%%%%%%%%.%0123456789%%%%%%\
+    %ABCDEFGHIJKLMNOPQRSTUVWXYZ%%%%_\
+    %abcdefghijklmnopqrstuvwxyz%%%%%\
+    %%%%%%%%%%%%%%%%%%%%%%%%%%%%%%%%\
+    %%%%%%%%%%%%%%%%%%%%%%%%%%%%%%%%\
+    %%%%%%%%%%%%%%%%%%%%%%%%%%%%%%%%\
+    %%%%%%%%%%%%%%%%%%%%%%%%%%%%%%%%";
+
 /// Whether a byte stands for itself in keys and values.
 pub fn is_plain(byte: u8) -> bool
     ensures { result ≡ is_plain byte }
 {
-    byte.is_ascii_alphanumeric() || byte == b'.' || byte == b'_'
+    PLAIN_BYTES[usize::from(byte)] != b'%'
 }
 
 /// Whether each byte stands for itself.

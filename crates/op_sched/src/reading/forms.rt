@@ -374,9 +374,18 @@ pub fn event(alloc: Global, words: &[&[u8]]) -> Result<Option<What>, NoMemory>
     let Some((name, words)) = words.split_first() else {
         return Ok(None);
     };
-    let Some(form) = form_of(name) else {
-        return Ok(None);
-    };
+    match form_of(name) {
+        // Most lines are commands: these are read apart from the other forms, whose results take room and time.
+        Some(Form::Command(op)) => command(alloc, op, words),
+        Some(form) => event_of(alloc, form, words),
+        None => Ok(None),
+    }
+}
+
+/// What the words after the name of this form say.
+fn event_of(alloc: Global, form: Form, words: &[&[u8]]) -> Result<Option<What>, NoMemory>
+    ensures { IfOk result (IsFound (AreWordsOf (form_name form ∷ map (λ x. x.now) words.now))) }
+{
     match form {
         Form::Tick => Ok(tick(words)),
         Form::Command(op) => command(alloc, op, words),

@@ -19,7 +19,7 @@ use lines::next_numbered;
 use op_runs::{Event, Events, What};
 use op_types::{Members, NoMemory};
 use std::alloc::Global;
-use words::{is_name, split_words, words};
+use words::{MOST_WORDS, Words, is_name, split_words};
 
 /// The schedule that a text says. `BadLine` names the first line that isn't in the grammar, and `NoMemory` comes
 /// only where the allocator has none.
@@ -31,7 +31,7 @@ pub fn read(alloc: Global, text: &[u8]) -> Result<Schedule, SchedFail>
         Ok(header) => header,
         Err(end) => return Err(SchedFail::BadLine { line: end }),
     };
-    let Some(members) = members(alloc, header.line)? else {
+    let Some(members) = members(header.line)? else {
         return Err(SchedFail::BadLine {
             line: header.number,
         });
@@ -46,11 +46,12 @@ pub fn read(alloc: Global, text: &[u8]) -> Result<Schedule, SchedFail>
 }
 
 /// The members that a header line names.
-fn members(alloc: Global, line: &[u8]) -> Result<Option<Members>, NoMemory>
+fn members(line: &[u8]) -> Result<Option<Members>, NoMemory>
     ensures { IfOk result (IsFound (IsHeader line.now)) }
 {
-    let words = words(alloc, line)?;
-    forms::members(&words)
+    let mut words: Words = [&[]; MOST_WORDS];
+    let count = split_words(&mut words, line);
+    forms::members(&words[..count])
 }
 
 /// What the lines after the members and the spares say.
@@ -78,18 +79,19 @@ fn after_header(
     let Ok(next) = next_numbered(number, text) else {
         return Ok((Members::new(), no_course(alloc)));
     };
-    match spares(alloc, members, next.line)? {
+    match spares(members, next.line)? {
         Some(spares) => Ok((spares, after_spares(alloc, next.number + 1, next.after)?)),
         None => Ok((Members::new(), after_spares(alloc, number, text)?)),
     }
 }
 
 /// The spares that a line names, beside these members.
-fn spares(alloc: Global, members: &Members, line: &[u8]) -> Result<Option<Members>, NoMemory>
+fn spares(members: &Members, line: &[u8]) -> Result<Option<Members>, NoMemory>
     ensures { IfOk result (IsFound (IsSpareLine members.now line.now)) }
 {
-    let words = words(alloc, line)?;
-    forms::spares(&words, members)
+    let mut words: Words = [&[]; MOST_WORDS];
+    let count = split_words(&mut words, line);
+    forms::spares(&words[..count], members)
 }
 
 /// Whether the disks are mirrored, which a first line says, and the events, of a text whose first line has this number.
@@ -132,7 +134,7 @@ fn events(alloc: Global, is_mirrored: bool, number: u64, text: &[u8]) -> Result<
     ensures bad { IfBadLine result (IsFirstBadEvent is_mirrored (numbered_lines number text.now)) }
 {
     let mut events = Events::new(alloc);
-    let mut words = Vec::new(alloc);
+    let mut words: Words = [&[]; MOST_WORDS];
     let mut at = number;
     let mut rest = text;
     while let Ok(next) = next_numbered(at, rest) {
@@ -153,7 +155,7 @@ fn events(alloc: Global, is_mirrored: bool, number: u64, text: &[u8]) -> Result<
 fn event<'a>(
     alloc: Global,
     is_mirrored: bool,
-    words: &mut Vec<&'a [u8]>,
+    words: &mut Words<'a>,
     line: &'a [u8],
 ) -> Result<Option<What>, NoMemory>
     ensures { IfOk result (IsFound (IsEventLine is_mirrored line.now)) }
@@ -165,13 +167,9 @@ fn event<'a>(
 }
 
 /// What an event's line says, whichever disks it suits.
-fn said<'a>(
-    alloc: Global,
-    words: &mut Vec<&'a [u8]>,
-    line: &'a [u8],
-) -> Result<Option<What>, NoMemory>
+fn said<'a>(alloc: Global, words: &mut Words<'a>, line: &'a [u8]) -> Result<Option<What>, NoMemory>
     ensures { IfOk result (IsFound (AreWordsOf (words_of line.now))) }
 {
-    split_words(words, line)?;
-    forms::event(alloc, words)
+    let count = split_words(words, line);
+    forms::event(alloc, &words[..count])
 }

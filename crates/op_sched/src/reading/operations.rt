@@ -5,7 +5,7 @@ ghost use Rattle.op_sched.specs.Forms.{op_form_name};
 ghost use Rattle.op_text.specs.Operations.{AreKeyOnly, AreOperandsOf};
 
 use crate::reading::words::is_name;
-use op_text::{key, value};
+use op_text::{cas_operation, key, put_operation};
 use op_types::{Blob, NoMemory, Op};
 use std::alloc::Global;
 
@@ -53,16 +53,10 @@ fn one_key(alloc: Global, words: &[&[u8]]) -> Result<Option<Blob>, NoMemory>
 fn put(alloc: Global, words: &[&[u8]]) -> Result<Option<Op>, NoMemory>
     ensures { IfOk result (IsFound (AreOperandsOf (codes "put") (map (λ x. x.now) words.now))) }
 {
-    let [key_word, value_word] = words else {
-        return Ok(None);
-    };
-    let Some(key) = key(alloc, key_word)? else {
-        return Ok(None);
-    };
-    let Some(value) = value(alloc, value_word)? else {
-        return Ok(None);
-    };
-    Ok(Some(Op::Put(key, value)))
+    match words {
+        [key, value] => put_operation(alloc, key, value),
+        _ => Ok(None),
+    }
 }
 
 /// `del`: a key.
@@ -89,19 +83,10 @@ fn get(alloc: Global, words: &[&[u8]]) -> Result<Option<Op>, NoMemory>
 fn cas(alloc: Global, words: &[&[u8]]) -> Result<Option<Op>, NoMemory>
     ensures { IfOk result (IsFound (AreOperandsOf (codes "cas") (map (λ x. x.now) words.now))) }
 {
-    let [key_word, old_word, new_word] = words else {
-        return Ok(None);
-    };
-    let Some(key) = key(alloc, key_word)? else {
-        return Ok(None);
-    };
-    let Some(old) = value(alloc, old_word)? else {
-        return Ok(None);
-    };
-    let Some(new) = value(alloc, new_word)? else {
-        return Ok(None);
-    };
-    Ok(Some(Op::Cas(key, old, new)))
+    match words {
+        [key, old, new] => cas_operation(alloc, key, old, new),
+        _ => Ok(None),
+    }
 }
 
 /// The operation of this form that words say.

@@ -1,66 +1,97 @@
 //! Entries and ids, as text.
-ghost use Rattle.std.specs.Prelude.{◌≡◌, ◌++◌, codes, OnOk};
+ghost use Rattle.std.specs.Prelude.{◌≡◌, ◌+◌, ◌≤◌, ◌++◌, codes, length, OnOk};
 ghost use Rattle.std.specs.List.{flat_map};
 ghost use Rattle.op_text.specs.Percent.{encoded};
-ghost use Rattle.op_sched.specs.Text.{entry_line, entry_text, keyed_text, op_text, pid_text};
+ghost use Rattle.op_text.specs.Operations.{op_name};
+ghost use Rattle.op_sched.specs.Pieces.{operands_text, place_text};
+ghost use Rattle.op_sched.specs.Text.{entry_line, op_text, pid_text};
 
-use op_text::{put_encoded, put_named, put_spaced};
+use op_text::{MOST_DIGITS, ROW_BYTES, Row, put_encoded, put_named};
 use op_types::{Blob, Command, ConfNo, Entry, NoMemory, Op, Pid};
+
+/// The most bytes that `put_place` puts: a name of 5 letters, and two numbers, with a space behind each.
+const PLACE_BYTES: usize = 2 * MOST_DIGITS + 8;
 
 /// Appends the line of what a configuration's log holds at a position, from 0, with its end.
 pub fn put_entry(text: &mut Vec<u8>, conf: ConfNo, pos: u64, entry: &Entry) -> Result<(), NoMemory>
     ensures { OnOk result (text.new.items ≡ text.old.items ++ entry_line conf pos entry.now) }
 {
-    text.extend_from_slice(b"entry ")?;
-    put_spaced(text, u64::from(conf))?;
-    put_spaced(text, pos)?;
-    put_held(text, entry)?;
+    match entry {
+        Entry::Command(command) => put_command(text, conf, pos, command)?,
+        Entry::Stop(sign) => {
+            let mut row = Row::new();
+            row.word(b"stop");
+            put_place(&mut row, conf, pos);
+            text.extend_from_slice(row.as_slice())?;
+            put_pids(text, sign.get().members.as_slice())?;
+        }
+    }
     text.push(b'\n')?;
     Ok(())
 }
 
-/// Appends what a log holds at a position.
-fn put_held(text: &mut Vec<u8>, entry: &Entry) -> Result<(), NoMemory>
-    ensures { OnOk result (text.new.items ≡ text.old.items ++ entry_text entry.now) }
+/// Puts the name of an entry's line and where the entry stands before what it is.
+fn put_place(row: &mut Row, conf: ConfNo, pos: u64)
+    requires { length row.old + PLACE_BYTES ≤ ROW_BYTES }
+    ensures { row.new ≡ place_text conf pos ++ row.old }
 {
-    match entry {
-        Entry::Command(command) => put_command(text, command),
-        Entry::Stop(sign) => {
-            text.extend_from_slice(b"stop")?;
-            put_pids(text, sign.get().members.as_slice())
-        }
+    row.word(b" ");
+    row.number(pos);
+    row.word(b" ");
+    row.number(u64::from(conf));
+    row.word(b"entry ");
+}
+
+/// Appends the line of a client's command, without its end.
+fn put_command(
+    text: &mut Vec<u8>,
+    conf: ConfNo,
+    pos: u64,
+    command: &Command,
+) -> Result<(), NoMemory>
+    ensures { OnOk result (text.new.items
+        ≡ text.old.items ++ place_text conf pos ++ op_text command.now.client command.now.seq command.now.op) }
+{
+    let mut row = Row::new();
+    row.word(b" ");
+    row.number(command.seq);
+    row.word(b" ");
+    row.number(command.client);
+    row.word(b" ");
+    row.word(op_name(&command.op));
+    put_place(&mut row, conf, pos);
+    text.extend_from_slice(row.as_slice())?;
+    put_operands(text, &command.op)
+}
+
+/// The name of a client's operation.
+fn op_name(op: &Op) -> &'static [u8; 3]
+    ensures { result.now ≡ op_name op.now }
+{
+    match op {
+        Op::Put(..) => b"put",
+        Op::Del(_) => b"del",
+        Op::Get(_) => b"get",
+        Op::Cas(..) => b"cas",
     }
 }
 
-/// Appends a client's operation.
-fn put_command(text: &mut Vec<u8>, command: &Command) -> Result<(), NoMemory>
-    ensures { OnOk result (text.new.items
-        ≡ text.old.items ++ op_text command.now.client command.now.seq command.now.op) }
+/// Appends the key and the values of an operation, with a space between them.
+fn put_operands(text: &mut Vec<u8>, op: &Op) -> Result<(), NoMemory>
+    ensures { OnOk result (text.new.items ≡ text.old.items ++ operands_text op.now) }
 {
-    match &command.op {
+    match op {
         Op::Put(key, value) => {
-            put_keyed(text, b"put", command, key)?;
+            put_encoded(text, key.as_slice())?;
             put_operand(text, value)
         }
-        Op::Del(key) => put_keyed(text, b"del", command, key),
-        Op::Get(key) => put_keyed(text, b"get", command, key),
+        Op::Del(key) | Op::Get(key) => put_encoded(text, key.as_slice()),
         Op::Cas(key, old, new) => {
-            put_keyed(text, b"cas", command, key)?;
+            put_encoded(text, key.as_slice())?;
             put_operand(text, old)?;
             put_operand(text, new)
         }
     }
-}
-
-/// Appends an operation's name, and the client, the number and the key of its command.
-fn put_keyed(text: &mut Vec<u8>, name: &[u8], command: &Command, key: &Blob) -> Result<(), NoMemory>
-    ensures { OnOk result (text.new.items
-        ≡ text.old.items ++ name.now ++ keyed_text command.now.client command.now.seq key.now) }
-{
-    text.extend_from_slice(name)?;
-    put_named(text, b" ", command.client)?;
-    put_named(text, b" ", command.seq)?;
-    put_operand(text, key)
 }
 
 /// Appends a key or a value after a space.

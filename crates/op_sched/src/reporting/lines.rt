@@ -1,13 +1,19 @@
 //! The lines that events gave, as text.
-ghost use Rattle.std.specs.Prelude.{◌≡◌, ◌++◌, codes, decimal, OnOk};
+ghost use Rattle.std.specs.Prelude.{◌≡◌, ◌+◌, ◌≤◌, ◌++◌, codes, length, OnOk};
 ghost use Rattle.op_text.specs.Answers.{answer_text, ballot_text};
 ghost use Rattle.op_runs.specs.declared.summary.Line.TheVariants as line;
 ghost use Rattle.op_sched.specs.Pieces.{asked_text};
 ghost use Rattle.op_sched.specs.Text.{line_text};
 
 use op_runs::Line;
-use op_text::{put_answer, put_ballot, put_cause, put_encoded, put_named, put_outcome, put_spaced};
+use op_text::{
+    MOST_DIGITS, ROW_BYTES, Row, put_answer, put_ballot, put_cause, put_encoded, put_named,
+    put_spaced,
+};
 use op_types::{Answer, Ballot, Blob, Cause, NoMemory, Outcome, Pid};
+
+/// The most bytes that `put_asked` puts: three numbers, each before a space.
+const ASKED_BYTES: usize = 3 * MOST_DIGITS + 3;
 
 /// Appends a line that an event gave, with its end.
 pub fn put_line(text: &mut Vec<u8>, line: &Line) -> Result<(), NoMemory>
@@ -33,30 +39,30 @@ pub fn put_line(text: &mut Vec<u8>, line: &Line) -> Result<(), NoMemory>
 fn put_outcome_line(text: &mut Vec<u8>, at: u64, outcome: &Outcome) -> Result<(), NoMemory>
     ensures { OnOk result (text.new.items ≡ text.old.items ++ line_text (line.Answer at outcome.now)) }
 {
-    text.extend_from_slice(b"answer ")?;
-    put_spaced(text, at)?;
-    put_outcome(text, outcome)?;
-    text.push(b'\n')?;
-    Ok(())
+    let mut row = Row::new();
+    row.word(b"\n");
+    row.outcome(outcome);
+    row.word(b" ");
+    row.number(at);
+    row.word(b"answer ");
+    text.extend_from_slice(row.as_slice())
 }
 
-/// Appends a line's name, a node's id, a client, and the number of its command or its read, each before a space.
-fn put_asked(
-    text: &mut Vec<u8>,
-    name: &[u8],
-    pid: Pid,
-    client: u64,
-    seq: u64,
-) -> Result<(), NoMemory>
-    ensures { OnOk result (text.new.items ≡ text.old.items ++ asked_text name.now pid client seq) }
+/// Puts a node's id, a client, and the number of its command or its read, each with a space behind it, before the row.
+fn put_asked(row: &mut Row, pid: Pid, client: u64, seq: u64)
+    requires { length row.old + ASKED_BYTES ≤ ROW_BYTES }
+    ensures put { row.new ≡ asked_text pid client seq ++ row.old }
+    ensures longer { length row.new ≤ length row.old + ASKED_BYTES }
 {
-    text.extend_from_slice(name)?;
-    put_spaced(text, u64::from(pid))?;
-    put_spaced(text, client)?;
-    put_spaced(text, seq)
+    row.word(b" ");
+    row.number(seq);
+    row.word(b" ");
+    row.number(client);
+    row.word(b" ");
+    row.number(u64::from(pid));
 }
 
-/// Appends the line of what a client's command or its read was answered.
+/// Appends the line of what a client's command or its read was answered, which begins with this name.
 fn put_answer_line(
     text: &mut Vec<u8>,
     name: &[u8],
@@ -65,10 +71,14 @@ fn put_answer_line(
     seq: u64,
     answer: &Answer,
 ) -> Result<(), NoMemory>
+    requires { length name.now + ASKED_BYTES ≤ ROW_BYTES }
     ensures { OnOk result (text.new.items
-        ≡ text.old.items ++ asked_text name.now pid client seq ++ answer_text answer.now ++ codes "\n") }
+        ≡ text.old.items ++ name.now ++ asked_text pid client seq ++ answer_text answer.now ++ codes "\n") }
 {
-    put_asked(text, name, pid, client, seq)?;
+    let mut row = Row::new();
+    put_asked(&mut row, pid, client, seq);
+    row.word(name);
+    text.extend_from_slice(row.as_slice())?;
     put_answer(text, answer)?;
     text.push(b'\n')?;
     Ok(())
@@ -85,7 +95,10 @@ fn put_cause_line(
     ensures { OnOk result (text.new.items
         ≡ text.old.items ++ line_text (line.Dropped pid client seq cause.now)) }
 {
-    put_asked(text, b"dropped ", pid, client, seq)?;
+    let mut row = Row::new();
+    put_asked(&mut row, pid, client, seq);
+    row.word(b"dropped ");
+    text.extend_from_slice(row.as_slice())?;
     put_cause(text, cause)?;
     text.push(b'\n')?;
     Ok(())

@@ -16,15 +16,31 @@ use op_types::{ConfNo, Entry, NoMemory, Pid};
 use std::alloc::Global;
 pub use summary::summary_text;
 
+/// How many bytes a line that an event gave usually has.
+const USUAL_LINE_BYTES: usize = 24;
+
+/// How many bytes the line of an entry usually has.
+const USUAL_ENTRY_BYTES: usize = 48;
+
 /// The report of a run. `NoMemory` comes only where the allocator has none.
 pub fn report(alloc: Global, summary: &Summary) -> Result<Vec<u8>, NoMemory>
     ensures { IfOk result (λ text. text.items ≡ report_of summary.now) }
 {
-    let mut text = Vec::new(alloc);
+    let mut text = Vec::with_capacity(alloc, usual_len(summary))?;
     put_lines(&mut text, summary.lines.as_slice())?;
     put_lists(&mut text, summary.lists.as_slice())?;
     put_nodes(alloc, &mut text, summary.nodes.as_slice())?;
     Ok(text)
+}
+
+/// How long the report of a run usually is: room for so much at once saves copies of a text that grows.
+fn usual_len(summary: &Summary) -> usize {
+    let mut len = summary.lines.len().saturating_mul(USUAL_LINE_BYTES);
+    for listed in summary.lists.as_slice() {
+        let entries = listed.entries.len().saturating_mul(USUAL_ENTRY_BYTES);
+        len = len.saturating_add(entries);
+    }
+    len
 }
 
 /// Appends the lines that events gave.
