@@ -9,6 +9,7 @@ use op_chain::{Map, Pairs};
 use op_runs::{Line, Lines};
 use op_types::{Answer, Ballot, NoMemory, Outcome, Pid, Replies, Reply};
 use std::alloc::Global;
+use std::mem::replace;
 
 /// The line of what a client is answered at a node.
 fn answer_line(pid: Pid, reply: Reply) -> Line
@@ -118,8 +119,9 @@ pub fn ballot_lines(
 pub fn tell_all(lines: &mut Lines, told: Lines) -> Result<(), NoMemory>
     ensures { OnOk result (lines.new ≡ lines.old ++ told) }
 {
-    'told: for line in told.into_vec() {
-        lines.push(line)?;
-    }
+    let mut told = told.into_vec();
+    let mut all = replace(lines, Lines::new(*told.allocator())).into_vec();
+    all.append(&mut told)?;
+    *lines = Lines::from_vec(all);
     Ok(())
 }

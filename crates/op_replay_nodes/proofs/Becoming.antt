@@ -13,7 +13,7 @@ use Rattle.op_areas.specs.Media.{Medium}
 use Rattle.op_store.specs.Stores.{disks_of}
 use Rattle.op_store.specs.declared.fail.Returned.{Returned}
 use Rattle.op_store.specs.declared.fail.StoreFail.TheVariants as store_fail
-use Rattle.op_server.specs.declared.given.Given.{Given}
+use Rattle.op_types.specs.declared.given.Given.{Given}
 use Rattle.op_node.specs.Nodes.{NodeState as Inner, node_of, stores, Stepped, IsSoundNode}
 use Rattle.op_node.specs.Openings.{Opens as OpensNode, RefusesNode, fresh_for}
 use Rattle.op_node.specs.Reopenings.{StoreOneOf, FindsOneOf, RefusesAgain}

@@ -9,7 +9,7 @@ use Rattle.op_runs.specs.Schedules.{Awaited, Nothing, MayEnd}
 use Rattle.op_areas.specs.Media.{Medium}
 use Rattle.op_types.specs.Changes.{durable_after}
 use Rattle.op_store.specs.Stores.{Represents}
-use Rattle.op_server.specs.declared.given.Given.{Given}
+use Rattle.op_types.specs.declared.given.Given.{Given}
 use Rattle.op_node.specs.Nodes.{node_of, gives, stores, after_input, Stepped, IsRepresented, IsSoundNode}
 use Rattle.op_node.specs.Steps as steps
 use Rattle.op_node.specs.declared.node.Node as nodes

@@ -14,7 +14,7 @@ use Rattle.op_protocol.specs.State.{State, state_after}
 use Rattle.op_protocol.specs.Rows.{step_plan}
 use Rattle.op_areas.specs.Media.{Medium}
 use Rattle.op_store.specs.Stores.{Represents, disks_of}
-use Rattle.op_server.specs.declared.given.Given.{Given}
+use Rattle.op_types.specs.declared.given.Given.{Given}
 use Rattle.op_node.specs.Nodes.{NodeState as Inner, node_of, given_of, gives, stores, after_input, refused_with, IsSoundNode, AdmitsInput}
 use Rattle.op_node.specs.Reopenings.{StoreOneOf}
 use Rattle.op_node.specs.declared.node.Node as nodes

@@ -11,7 +11,7 @@ use Rattle.op_runs.specs.declared.summary.Line.{Line}
 use Rattle.op_runs.specs.declared.summary.Line.TheVariants as said
 use Rattle.op_runs.specs.World.{Node, Fate, Told, Doing, outcome_lines, answer_line, told_lines}
 use Rattle.op_runs.specs.Schedules.{MayEnd}
-use Rattle.op_server.specs.declared.given.Given.{Given}
+use Rattle.op_types.specs.declared.given.Given.{Given}
 use Rattle.op_node.specs.Nodes.{node_of}
 use Rattle.op_node.specs.declared.node.Node as nodes
 use Rattle.op_bounds.specs.Laws.{NodeInRange}

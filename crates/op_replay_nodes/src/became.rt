@@ -110,10 +110,10 @@ fn stepped<A: Area>(
         given.sends (given_lines pid line given) (is_stop plan.awaited)) }
 {
     let Given {
-        sends,
+        outcome,
         replies,
         read_replies,
-        outcome,
+        sends,
     } = given;
     let Ok(told) = step_lines(alloc, line, pid, outcome, replies, read_replies) else {
         return Err(starved(node));

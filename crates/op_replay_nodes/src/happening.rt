@@ -14,14 +14,15 @@ ghost use Rattle.op_replay_nodes.specs.Nodes.{area_nodes, GoesOn, IsKept};
 use crate::awaited::{Awaited, Planned};
 use crate::became::{Became, opened_any, step_told};
 use crate::disks::{Areas, armed_state, closed_node, left_of, open_areas};
+use crate::given::done_by;
 use crate::letting_go::{let_go, put, starved};
 use crate::node_state::{DownNode, NodeState, WorldNode};
 use crate::plan::Plan;
 use crate::told::{Faults, Which, killing};
 use op_areas::{Area, Arming};
 use op_chain::empty_durable;
-use op_executions::{Doing, Done, Server, Told, ballot_lines, pair_lines, step_lines};
-use op_node::{Given, Node};
+use op_executions::{Doing, Done, Server, Told, ballot_lines, pair_lines};
+use op_node::Node;
 use op_runs::Lines;
 use op_types::{Input, Members, NoMemory, Pid, Sends};
 use std::alloc::Global;
@@ -106,15 +107,9 @@ impl<A: Area> WorldNode<A, A::Copies> {
         let Ok(given) = node.step(input) else {
             return Err(NoMemory);
         };
-        let Given {
-            sends,
-            replies,
-            read_replies,
-            outcome,
-        } = given;
-        let told = step_lines(alloc, line, self.pid, outcome, replies, read_replies)?;
+        let done = done_by(alloc, self.pid, line, given)?;
         self.forget_in_time(alloc)?;
-        Ok(Done { sends, told })
+        Ok(done)
     }
 
     /// A step in which the node may stop, or a call may fail, if it is up.
@@ -156,14 +151,7 @@ impl<A: Area> WorldNode<A, A::Copies> {
         let Ok(given) = node.step(input) else {
             return Err(NoMemory);
         };
-        let Given {
-            sends,
-            replies,
-            read_replies,
-            outcome,
-        } = given;
-        let told = step_lines(alloc, line, self.pid, outcome, replies, read_replies)?;
-        Ok(Done { sends, told })
+        done_by(alloc, self.pid, line, given)
     }
 
     /// Goes on as it became by a step or an opening that was awaited.

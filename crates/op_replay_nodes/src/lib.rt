@@ -4,6 +4,7 @@
 mod awaited;
 mod became;
 mod disks;
+mod given;
 mod happening;
 mod letting_go;
 mod node_state;
