@@ -1,5 +1,7 @@
 ghost use Rattle.std.specs.Prelude.{ℕ, OnOk, OnErr};
 ghost use Rattle.op_outside.specs.Disks.{GoesOn};
+ghost use Rattle.op_outside.specs.Disks.Edit.{Nothing};
+ghost use Rattle.op_memory.specs.declared.call.Call.TheVariants.{Sync};
 ghost use Rattle.op_memory.specs.Images.{edit_of, IsWithin};
 ghost use Rattle.op_memory.specs.Histories.{known_of, Adds, IsSame};
 
@@ -24,6 +26,19 @@ impl DiskHistory {
         run(&mut self.bytes, &call)?;
         self.calls.push_reserved(call);
         self.replaced.push_reserved(replaced);
+        Ok(())
+    }
+
+    /// Makes a sync. One that finds no memory changes nothing.
+    pub fn sync(&mut self) -> Result<(), AllocError>
+        ensures added { OnOk result (Adds Sync self.old self.new) }
+        ensures err { OnErr result (IsSame self.old self.new) }
+        ensures goes_on { (f i g j : ℕ) → GoesOn Nothing (known_of self.old f i) (known_of self.new g j) }
+    {
+        self.calls.reserve(1)?;
+        self.replaced.reserve(1)?;
+        self.calls.push_reserved(Call::Sync);
+        self.replaced.push_reserved(Replaced::nothing(&self.bytes));
         Ok(())
     }
 }

@@ -360,7 +360,7 @@ impl Disk for MemDisk {
         if self.next_fate() != CallFate::Runs {
             return Err(self.faults.fail());
         }
-        let done = self.history.add(self.alloc, Call::Sync);
+        let done = self.history.sync();
         self.faults.settle(done)
     }
 }

@@ -1,5 +1,6 @@
-ghost use Rattle.std.specs.Prelude.{◌≡◌, length, IfOk};
+ghost use Rattle.std.specs.Prelude.{◌≡◌, [], length, IfOk};
 
+use crate::edits::copy_of;
 use std::alloc::{AllocError, Global};
 use std::marker::Model;
 
@@ -39,7 +40,7 @@ impl Piece {
         let len = bytes.len();
         if len > SHORT {
             return Ok(Piece {
-                kept: Kept::Long(bytes.to_vec(alloc)?),
+                kept: Kept::Long(copy_of(alloc, bytes)?),
             });
         }
         let mut short = [0; SHORT];
@@ -47,6 +48,15 @@ impl Piece {
         Ok(Piece {
             kept: Kept::Short(short, len),
         })
+    }
+
+    /// No bytes.
+    pub fn empty() -> Piece
+        ensures { result.items ≡ [] }
+    {
+        Piece {
+            kept: Kept::Short([0; SHORT], 0),
+        }
     }
 
     /// The bytes.

@@ -35,6 +35,17 @@ impl Replaced {
         })
     }
 
+    /// What a call replaces that changes none of these bytes.
+    pub fn nothing(bytes: &[u8]) -> Replaced
+        ensures { before result bytes.now ≡ bytes.now }
+    {
+        Replaced {
+            len: bytes.len(),
+            at: bytes.len(),
+            bytes: Piece::empty(),
+        }
+    }
+
     /// Undoes that call, which was the last one.
     fn undo(&self, bytes: &mut Vec<u8>) -> Result<(), AllocError>
         ensures { OnOk result (bytes.new.items ≡ before self.now bytes.old.items) }
