@@ -1,10 +1,10 @@
 -- Bytes that stand for themselves are their own encoding.
-use Rattle.std.proofs.Common.{◌≡◌, ℕ, ◌<◌, true, false, eqb, List, [], ◌∷◌, ◌++◌, refl, ap, ◌∙◌, arith, length}
+use Rattle.std.proofs.Common.{◌≡◌, ℕ, ◌<◌, ◌≤◌, true, false, eqb, List, [], ◌∷◌, ◌++◌, refl, ap, ◌∙◌, arith, length}
 use Rattle.std.proofs.lemmas.Bool.{and_parts}
 use Rattle.std.proofs.lemmas.Bool.Decides.{nat_tests}
 use Rattle.std.proofs.lemmas.List.Elements.{All-nil, All-cons}
 use Rattle.std.specs.List.{flat_map, list_all}
-use Rattle.op_text.specs.Percent.{AreBytes, AreEncoded, is_plain, encoded, encoded_byte}
+use Rattle.op_text.specs.Percent.{AreBytes, AreEncoded, IsEncodedWithin, is_plain, encoded, encoded_byte}
 use Rattle.op_text.proofs.UnambiguousEncoding.{IsByte}
 
 plain_below : (b : ℕ) → is_plain b ≡ true → b < 128
@@ -35,3 +35,7 @@ encoded_plain (b ∷ bytes) some h = flat_map-plain (b ∷ bytes) h
 -- a word of plain bytes is their encodings, one after the other
 pub plain_encoded : (word : List ℕ) → list_all is_plain word ≡ true → AreEncoded word word
 plain_encoded word h = (plain_small word h, flat_map-plain word h)
+
+-- a word of plain bytes, which are from `least` to `most`, encodes itself
+pub plain_within : (least most : ℕ) (word : List ℕ) → eqb (length word) 0 ≡ false → least ≤ length word → length word ≤ most → list_all is_plain word ≡ true → IsEncodedWithin least most word word
+plain_within least most word some low high h = (low, high, (plain_small word h, encoded_plain word some h))

@@ -99,6 +99,25 @@ fn bytes_within(
     requires { 1 ≤ most }
     ensures { IfOk result (IsFound (IsEncodedWithin least most word.now)) }
 {
+    // Most words have no escapes, and so are their own bytes.
+    if !word.is_empty() && least <= word.len() && word.len() <= most && all_plain(word) {
+        return Ok(Some(Blob::from_slice(alloc, word)?));
+    }
+    decoded_within(alloc, word, least, most)
+}
+
+/// The bytes that a word encodes, with or without escapes, if there are from `least` to `most`. A word that is too long
+/// for them takes no memory.
+#[inline(never)]
+fn decoded_within(
+    alloc: Global,
+    word: &[u8],
+    least: usize,
+    most: usize,
+) -> Result<Option<Blob>, NoMemory>
+    requires { 1 ≤ most }
+    ensures { IfOk result (IsFound (IsEncodedWithin least most word.now)) }
+{
     // No bytes are encoded with one letter.
     if most < word.len() / ESCAPE_LETTERS {
         return Ok(None);

@@ -1,15 +1,9 @@
-use Rattle.std.proofs.Common.{◌≡◌, length, sym, ap, ◌∙◌, arith}
-use Rattle.op_text.proofs.UnambiguousEncoding.{one_encoding_of}
-use Rattle.op_text.proofs.DecodedBytes.{too_long}
+use Rattle.std.proofs.Common.{rules, tests, ◌≡◌, false, eqb, length, sym, ◌∙◌}
+use Rattle.op_text.proofs.PlainBytes.{plain_within}
 use Rattle.op_text.proofs.decoding.bytes_within.Goals as goal
-use Rattle.op_text.proofs.decoding.bytes_within.Goals.{else-least-count-via-then-least-count+else-count-most, else-least-count-via-else-least-count}
 
-pub returns-then-most-word : goal.returns-then-most-word
-returns-then-most-word c = λ bytes (low, high, is). too_long c.args.word.now c.args.most c.requires c.if-most-word.true bytes high is.1
-
-pub returns-else-least-count : goal.returns-else-least-count
-returns-else-least-count c = λ bytes (low, high, is).
-    let found = rw c.in-Some.is at c.in_ok-blob.ensures in
-    let same = one_encoding_of bytes c.in-Some.blob is.0 found.0 (is.1 ∙ sym found.1) in
-    let count : length c.as_slice-count.result.now ≡ length bytes = ap length (c.as_slice-count.ensures ∙ sym same) in
-    elim c.else-least-count.branch [ else-least-count-via-then-least-count+else-count-most w ↦ omega arith | else-least-count-via-else-least-count w ↦ omega arith ]
+pub returns-then-all_plain : goal.returns-then-all_plain
+returns-then-all_plain c =
+    let some : eqb (length c.args.word.now) 0 ≡ false = search (rules, tests) in
+    rw c.in_ok-from_slice.ensures
+    (plain_within c.args.least c.args.most c.args.word.now some c.if-least-word.true c.if-word-most.true (sym c.all_plain.ensures ∙ c.if-all_plain.true))
