@@ -4,20 +4,29 @@ ghost use Rattle.op_fields.specs.Form.{items_read};
 ghost use Rattle.op_fields.specs.Items.{GivesItem};
 ghost use Rattle.op_fields.specs.Taken.{Gives, GivesVec};
 ghost use Rattle.op_types.specs.Rooms.{part_with_room};
+ghost use Rattle.op_record.specs.Behind.{decided_behind, part_behind};
 ghost use Rattle.op_record.specs.Ranges.{PartInRange};
 ghost use Rattle.op_record.specs.Forms.{may_stand, entry_in, entries_in, place, log, log_of_part, part};
 
 use crate::base::{base_at, put_base};
-use op_entry::{ballot_at, entry_at, members_at, put_ballot, put_entries, put_members};
+use crate::entries::put_joined;
+use op_entry::{ballot_at, entry_at, members_at, put_ballot, put_members};
 use op_fields::{NoMemory, TakeFail, items_at, put_u32, put_u64, u32_in, u64_in};
 use op_types::{ConfNo, Entries, Entry, LAST_CONF, POSITIONS_END, Part, Reserved, Seq};
 use std::alloc::Global;
 
-/// Appends a part, of which the room that is reserved is no matter. Without memory a part of its bytes may be appended.
+/// Appends a part with these entries behind its log, and so much decided, if that is named. The room that is reserved in it
+/// is no matter. Without memory a part of its bytes may be appended.
 #[tactic(auto, using(op_fields::proofs::Prefixes::kept_through))]
-pub fn put_part(out: &mut Vec<u8>, p: &Part) -> Result<(), NoMemory>
-    requires { PartInRange (part_with_room 0 p.now) }
-    ensures ok { OnOk result (out.new.items ≡ out.old.items ++ part.text (part_with_room 0 p.now)) }
+pub fn put_part(
+    out: &mut Vec<u8>,
+    p: &Part,
+    added: &[Entry],
+    decided: Option<u64>,
+) -> Result<(), NoMemory>
+    requires { PartInRange (part_behind (part_with_room 0 p.now) added.now decided) }
+    ensures ok { OnOk result (out.new.items ≡ out.old.items
+        ++ part.text (part_behind (part_with_room 0 p.now) added.now decided)) }
     ensures err { OnErr result (KeepsPrefix out.old.items out.new.items) }
 {
     put_u32(out, p.conf)?;
@@ -25,18 +34,34 @@ pub fn put_part(out: &mut Vec<u8>, p: &Part) -> Result<(), NoMemory>
     put_ballot(out, p.promised)?;
     put_ballot(out, p.accepted)?;
     put_base(out, &p.base)?;
-    put_log(out, p)
+    put_log(out, p, added, decided)
 }
 
 #[tactic(auto, using(op_fields::proofs::Prefixes::kept_through))]
-fn put_log(out: &mut Vec<u8>, p: &Part) -> Result<(), NoMemory>
-    requires { PartInRange (part_with_room 0 p.now) }
-    ensures ok { OnOk result (out.new.items ≡ out.old.items ++ (log p.now.conf).text (log_of_part p.now)) }
+fn put_log(
+    out: &mut Vec<u8>,
+    p: &Part,
+    added: &[Entry],
+    decided: Option<u64>,
+) -> Result<(), NoMemory>
+    requires { PartInRange (part_behind (part_with_room 0 p.now) added.now decided) }
+    ensures ok { OnOk result (out.new.items ≡ out.old.items
+        ++ (log p.now.conf).text (log_of_part (part_behind p.now added.now decided))) }
     ensures err { OnErr result (KeepsPrefix out.old.items out.new.items) }
 {
     put_u64(out, p.trimmed)?;
-    put_entries(out, p.tail.as_slice())?;
-    put_u64(out, p.decided)
+    put_joined(out, p.tail.as_slice(), added)?;
+    put_u64(out, decided_behind(p, decided))
+}
+
+/// How much is decided: as much as is named, or else as much as there was.
+fn decided_behind(p: &Part, decided: Option<u64>) -> u64
+    ensures { result ≡ decided_behind p.now decided }
+{
+    match decided {
+        Some(len) => len,
+        None => p.decided,
+    }
 }
 
 /// The part at a byte offset, with no room reserved in its tail, and the offset after it.
