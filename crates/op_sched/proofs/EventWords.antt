@@ -162,6 +162,11 @@ command_says f words (what.Commands p (c ∷ [])) h =
     }
 command_says f words w h = absurd (false≢true (sym (ap is_op_name (ap first h.written)) ∙ form_has_op_name f))
 
+-- words that begin with an operation's name say nothing where they say no command
+pub only_commands : (f : OpForm) (words : List (List ℕ)) → ((x : ℕ × List Command) → AreWordsOf (op_form_name f ∷ words) (what.Commands x.0 x.1) → ⊥) → (w : What) → AreWordsOf (op_form_name f ∷ words) w → ⊥
+only_commands f words none (what.Commands p cs) h = none (p, cs) h
+only_commands f words none w h = false≢true (sym (ap is_op_name (ap first h.written)) ∙ form_has_op_name f)
+
 -- a command's words are a server, a client, a number and the operation's own
 pub no_server : {A : Type 0} (now : A → List ℕ) (words : List A) (f : OpForm) (d : A) → ((p : ℕ) → IsPid p × (now (get_or words 0 d) ≡ decimal p) → ⊥) → (w : What) → AreWordsOf (op_form_name f ∷ map now words) w → ⊥
 no_server now words f d none w h =

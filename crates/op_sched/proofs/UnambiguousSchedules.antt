@@ -96,8 +96,8 @@ pub one_said : (words : List (List ℕ)) (w v : What) → AreWordsOf words w →
 one_said words w v p q = one_what w v p.in_range q.in_range p.of_bytes q.of_bytes p.one q.one (sym p.written ∙ q.written)
 
 -- a line of what doesn't suit the disks is of nothing else
-pub none_suits_disks : (mirrored : Bool) (line : List ℕ) (w : What) → AreWordsOf (words_of line) w → (SuitsDisks mirrored w → ⊥) → (x : What) → IsEventLine mirrored line x → ⊥
-none_suits_disks mirrored line w says none x h = none (subst (SuitsDisks mirrored) (one_said (words_of line) x w h.0 says) h.1)
+pub none_suits_disks : (mirrored : Bool) (words : List (List ℕ)) (w : What) → AreWordsOf words w → (SuitsDisks mirrored w → ⊥) → (x : What) → AreWordsOf words x × SuitsDisks mirrored x → ⊥
+none_suits_disks mirrored words w says none x h = none (subst (SuitsDisks mirrored) (one_said words x w h.0 says) h.1)
 
 one_events : (mirrored : Bool) (lines : List (ℕ × List ℕ)) (es fs : List Event) → AreEvents mirrored lines es → AreEvents mirrored lines fs → es ≡ fs
 one_events mirrored [] [] [] p q = refl

@@ -1,9 +1,11 @@
--- The names that begin events' lines, and the ids that stand after one.
+-- The names that begin events' lines, the ids that stand after one, and an event that is added.
 -- Only what is inside the crate speaks of this.
-use Rattle.std.specs.Prelude.{◌≡◌, ◌≤◌, ◌<◌, ◌&&◌, ℕ, nat_eq, Bool, true, not, List, [], ◌∷◌, length, codes, map, decimal}
+use Rattle.std.specs.Prelude.{◌≡◌, ◌≤◌, ◌<◌, ◌&&◌, ℕ, nat_eq, Bool, true, false, not, List, [], ◌∷◌, ◌++◌, length, codes, map, decimal}
 use Rattle.std.specs.Set.{is_member}
 use Rattle.op_types.specs.Ranges.{IsPid, AreRising, MembersInRange}
 use Rattle.op_runs.specs.Possible.{SparesInRange, IsCall, IsDisk, images}
+use Rattle.op_runs.specs.declared.events.What.{What}
+use Rattle.op_runs.specs.declared.events.Event.{Event}
 use Rattle.op_sched.specs.declared.reading.forms.Form.{Form}
 use Rattle.op_sched.specs.declared.reading.forms.Form.TheVariants as form
 use Rattle.op_sched.specs.declared.reading.operations.OpForm.{OpForm}
@@ -66,3 +68,8 @@ are_apart members (id ∷ ids) = not (is_member nat_eq members id) && are_apart 
 -- the words are the ids of spares beside these members
 abbrev pub AreSparesOf : List ℕ → List (List ℕ) → List ℕ → Type 0
 AreSparesOf members words ids = (1 ≤ length ids) × SparesInRange members ids × (words ≡ map decimal ids)
+
+-- what happens by this line, of which P holds, was added to events, or P holds of nothing
+abbrev pub Adds : (What → Type 0) → ℕ → List Event → List Event → Bool → Type 0
+Adds P line old new true = (w : What) × P w × (new ≡ old ++ record { line = line; what = w } ∷ [])
+Adds P line old new false = (w : What) → P w → ⊥

@@ -1,6 +1,7 @@
 //! The forms of lines. Each reads the words after a line's name.
 ghost use Rattle.std.specs.Prelude.{◌≡◌, ◌∷◌, [], map, codes, decimal, IfOk};
 ghost use Rattle.op_types.specs.Ranges.{IsPid};
+ghost use Rattle.op_runs.specs.declared.events.What.TheVariants as what;
 ghost use Rattle.op_text.specs.Found.{IsFound};
 ghost use Rattle.op_sched.specs.Grammar.{AreHeaderWords, AreSpareWords, AreWordsOf};
 ghost use Rattle.op_sched.specs.Forms.{op_form_name, form_name, ArePeers, AreCallOf, AreDiskOf, AreIdsOf, AreMembersOf, AreStopOf, AreSparesOf, are_apart};
@@ -273,9 +274,15 @@ fn read(alloc: Global, words: &[&[u8]]) -> Result<Option<What>, NoMemory>
     }
 }
 
-/// A client's operation: a server, a client, the number of its command, and the operation's own words.
-fn command(alloc: Global, form: OpForm, words: &[&[u8]]) -> Result<Option<What>, NoMemory>
-    ensures { IfOk result (IsFound (AreWordsOf (op_form_name form ∷ map (λ x. x.now) words.now))) }
+/// The server and the command that the words after an operation's name say: a server, a client, the number of its
+/// command, and the operation's own words.
+pub fn command(
+    alloc: Global,
+    form: OpForm,
+    words: &[&[u8]],
+) -> Result<Option<(Pid, Commands)>, NoMemory>
+    ensures { IfOk result (IsFound (λ x.
+        AreWordsOf (op_form_name form ∷ map (λ w. w.now) words.now) (what.Commands x.0 x.1))) }
 {
     let [id, client, seq, words @ ..] = words else {
         return Ok(None);
@@ -293,8 +300,18 @@ fn command(alloc: Global, form: OpForm, words: &[&[u8]]) -> Result<Option<What>,
         return Ok(None);
     };
     let mut commands = Vec::with_capacity(alloc, 1)?;
-    commands.push(Command { client, seq, op })?;
-    Ok(Some(What::Commands(id, Commands::from_vec(commands))))
+    commands.push_reserved(Command { client, seq, op });
+    Ok(Some((id, Commands::from_vec(commands))))
+}
+
+/// What the words after an operation's name say.
+fn proposal(alloc: Global, form: OpForm, words: &[&[u8]]) -> Result<Option<What>, NoMemory>
+    ensures { IfOk result (IsFound (AreWordsOf (op_form_name form ∷ map (λ x. x.now) words.now))) }
+{
+    match command(alloc, form, words)? {
+        Some((id, commands)) => Ok(Some(What::Commands(id, commands))),
+        None => Ok(None),
+    }
 }
 
 /// The forms of an event's line, each with a name of its own.
@@ -331,7 +348,7 @@ pub enum Form {
 }
 
 /// The form that a line's first word names.
-fn form_of(word: &[u8]) -> Option<Form>
+pub fn form_of(word: &[u8]) -> Option<Form>
     ensures { IsFound (λ form. word.now ≡ form_name form) result }
 {
     if let Some(op) = op_form_of(word) {
@@ -367,28 +384,13 @@ fn form_of(word: &[u8]) -> Option<Form>
     }
 }
 
-/// What the words of an event's line say: the first one names the form.
-pub fn event(alloc: Global, words: &[&[u8]]) -> Result<Option<What>, NoMemory>
-    ensures { IfOk result (IsFound (AreWordsOf (map (λ x. x.now) words.now))) }
-{
-    let Some((name, words)) = words.split_first() else {
-        return Ok(None);
-    };
-    match form_of(name) {
-        // Most lines are commands: these are read apart from the other forms, whose results take room and time.
-        Some(Form::Command(op)) => command(alloc, op, words),
-        Some(form) => event_of(alloc, form, words),
-        None => Ok(None),
-    }
-}
-
 /// What the words after the name of this form say.
-fn event_of(alloc: Global, form: Form, words: &[&[u8]]) -> Result<Option<What>, NoMemory>
+pub fn event_of(alloc: Global, form: Form, words: &[&[u8]]) -> Result<Option<What>, NoMemory>
     ensures { IfOk result (IsFound (AreWordsOf (form_name form ∷ map (λ x. x.now) words.now))) }
 {
     match form {
         Form::Tick => Ok(tick(words)),
-        Form::Command(op) => command(alloc, op, words),
+        Form::Command(op) => proposal(alloc, op, words),
         Form::Stop => stop(words),
         Form::Trim => Ok(trim(words)),
         Form::Read => read(alloc, words),

@@ -1,11 +1,13 @@
 //! A schedule, read from its text.
 ghost use Rattle.std.specs.Prelude.{◌≡◌, false, [], ◌+◌, ◌<◌, ◌^◌, length, IfOk};
 ghost use Rattle.op_sched.specs.Failing.{IfBadLine};
+ghost use Rattle.op_sched.specs.Forms.{Adds};
 ghost use Rattle.op_text.specs.Found.{IsFound};
-ghost use Rattle.op_sched.specs.Grammar.{numbered_lines, words_of, IsHeader, IsSpareLine, AreWordsOf, IsEventLine, AreEvents};
+ghost use Rattle.op_sched.specs.Grammar.{numbered_lines, IsHeader, IsSpareLine, IsEventLine, AreEvents};
 ghost use Rattle.op_sched.specs.Grammar.{AreAfterSpares, AreAfterHeader, IsSchedule};
 ghost use Rattle.op_sched.specs.Grammar.{IsFirstBadEvent, IsFirstBadAfterSpares, IsFirstBadAfter, IsFirstBadLine};
 
+mod adding;
 mod calls;
 mod forms;
 mod lines;
@@ -14,9 +16,9 @@ mod reads;
 mod words;
 
 use crate::schedule::{SchedFail, Schedule};
-use calls::suits_disks;
-use lines::next_numbered;
-use op_runs::{Event, Events, What};
+use adding::add_event;
+use lines::{NumberedLine, next_numbered};
+use op_runs::{Event, Events};
 use op_types::{Members, NoMemory};
 use std::alloc::Global;
 use words::{MOST_WORDS, Words, is_name, split_words};
@@ -133,43 +135,32 @@ fn events(alloc: Global, is_mirrored: bool, number: u64, text: &[u8]) -> Result<
     ensures found { IfOk result (λ events. AreEvents is_mirrored (numbered_lines number text.now) events) }
     ensures bad { IfBadLine result (IsFirstBadEvent is_mirrored (numbered_lines number text.now)) }
 {
-    let mut events = Events::new(alloc);
+    let mut events = Vec::new(alloc);
     let mut words: Words = [&[]; MOST_WORDS];
     let mut at = number;
     let mut rest = text;
     while let Ok(next) = next_numbered(at, rest) {
-        let Some(what) = event(alloc, is_mirrored, &mut words, next.line)? else {
+        if !event(&mut events, alloc, is_mirrored, &mut words, &next)? {
             return Err(SchedFail::BadLine { line: next.number });
-        };
-        events.push(Event {
-            line: next.number,
-            what,
-        })?;
+        }
         at = next.number + 1;
         rest = next.after;
     }
-    Ok(events)
+    Ok(Events::from_vec(events))
 }
 
-/// What an event's line says, at nodes whose disks are mirrored or not. Its words take the place of those that stand here.
+/// Adds the event that a line says, at nodes whose disks are mirrored or not, and returns whether it says one. Its words
+/// take the place of those that stand here.
 fn event<'a>(
+    events: &mut Vec<Event>,
     alloc: Global,
     is_mirrored: bool,
     words: &mut Words<'a>,
-    line: &'a [u8],
-) -> Result<Option<What>, NoMemory>
-    ensures { IfOk result (IsFound (IsEventLine is_mirrored line.now)) }
+    next: &NumberedLine<'a>,
+) -> Result<bool, NoMemory>
+    ensures { IfOk result (Adds (IsEventLine is_mirrored next.now.line.now)
+        next.now.number events.old.items events.new.items) }
 {
-    match said(alloc, words, line)? {
-        Some(what) if suits_disks(is_mirrored, &what) => Ok(Some(what)),
-        _ => Ok(None),
-    }
-}
-
-/// What an event's line says, whichever disks it suits.
-fn said<'a>(alloc: Global, words: &mut Words<'a>, line: &'a [u8]) -> Result<Option<What>, NoMemory>
-    ensures { IfOk result (IsFound (AreWordsOf (words_of line.now))) }
-{
-    let count = split_words(words, line);
-    forms::event(alloc, &words[..count])
+    let count = split_words(words, next.line);
+    add_event(events, alloc, is_mirrored, next.number, &words[..count])
 }

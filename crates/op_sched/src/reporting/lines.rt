@@ -63,6 +63,7 @@ fn put_asked(row: &mut Row, pid: Pid, client: u64, seq: u64)
 }
 
 /// Appends the line of what a client's command or its read was answered, which begins with this name.
+#[inline(always)]
 fn put_answer_line(
     text: &mut Vec<u8>,
     name: &[u8],

@@ -5,7 +5,7 @@ use Rattle.op_sched.proofs.reading.events.Given as goal
 
 abbrev pub invariant-loop-next : goal.invariant-loop-next
 invariant-loop-next l = record {
-  good : (more : List Event) → AreEvents l.is_mirrored (numbered_lines l.at l.rest) more → AreEvents l.is_mirrored (numbered_lines l.number l.text) (l.events ++ more);
+  good : (more : List Event) → AreEvents l.is_mirrored (numbered_lines l.at l.rest) more → AreEvents l.is_mirrored (numbered_lines l.number l.text) (l.events.items ++ more);
   bad : (n : ℕ) → IsFirstBadEvent l.is_mirrored (numbered_lines l.at l.rest) n → IsFirstBadEvent l.is_mirrored (numbered_lines l.number l.text) n;
   fits : l.at + length l.rest ≤ l.number + length l.text;
 }
