@@ -97,10 +97,10 @@ pub record Made (old : Chain) (plan : ChainPlan) (kept : Volatile) (new : Chain)
   pub listener : kept.rounds.me ≡ old.volatile.rounds.me
   pub members : kept.rounds.members ≡ old.volatile.rounds.members
   pub volatile : new.volatile ≡ volatile_anew plan.renewal kept
-  pub service : new.service.service ≡ service_by plan.renewal (service_over old.service.service plan.service)
+  pub service : new.service.service ≡ service_by plan.renewal (service_over old.service.service plan.served.change)
   pub told :
       let d = dropping old.waiting.next plan.plan.replies in
-      let e = giving d.waiting plan.replies in
+      let e = giving d.waiting plan.served.replies in
       let first : Dropping = record { waiting = e.waiting; replies = e.replies ++ d.replies } in
       let last : Dropping = record { waiting = new.waiting.waiting; replies = g.replies } in
       last ≡ fold dropping_reply first (told_anew plan.renewal)
@@ -151,11 +151,11 @@ module _ (old new : Chain) (plan : ChainPlan) (kept : Volatile) (g : Given) (k :
   abbrev first : Planned
   first =
       let d = dropping old.waiting.next plan.plan.replies in
-      let e = giving d.waiting plan.replies in
+      let e = giving d.waiting plan.served.replies in
       record {
         batch = plan.plan.batch;
         volatile = adopted_in plan.plan.batch plan.plan.turn (volatile_of old.volatile);
-        service = service_over old.service.service plan.service;
+        service = service_over old.service.service plan.served.change;
         waiting = e.waiting;
         reads = None;
         sends = plan.plan.sends;

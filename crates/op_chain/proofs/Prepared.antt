@@ -1,5 +1,5 @@
 -- A step that is made ready: what it does is what the step table plans, it applies, and it leaves a sound node.
-use Rattle.std.proofs.Common.{◌≡◌, ◌+◌, ℕ, inl, inr, ◌∷◌, ◌++◌, false, List, [], All, Option, Some, None, Result, Ok, Err, IfOk, refl, sym, ap, ◌∙◌, subst, append-nil, length}
+use Rattle.std.proofs.Common.{◌≡◌, ℕ, inl, inr, ◌∷◌, ◌++◌, false, List, [], All, Option, Some, None, refl, sym, ap, ◌∙◌, subst, append-nil}
 use Rattle.std.specs.Prelude.{is_some, nat_eq}
 use Rattle.std.specs.Set.{is_member}
 use Rattle.std.proofs.lemmas.Bool.{cases_Bool}
@@ -11,7 +11,6 @@ use Rattle.op_types.specs.Rooms.{no_needs, with_room}
 use Rattle.op_types.specs.Stages.{Pieces}
 use Rattle.op_types.specs.Stops.{stop_at_end}
 use Rattle.op_types.specs.declared.answers.Outcome.{Outcome}
-use Rattle.op_types.specs.declared.answers.Reply.{Reply}
 use Rattle.op_types.specs.declared.changes.Change.{Change}
 use Rattle.op_types.specs.declared.changes.Change.TheVariants as change
 use Rattle.op_types.specs.declared.durable.Durable.{Durable}
@@ -37,22 +36,21 @@ use Rattle.op_instance.specs.Memory.{volatile_of, adopted_in, part_step_of, HasR
 use Rattle.op_instance.specs.Sound.{IsSound, IfSound, IsSoundNode, IsSoundStep, IfNodeOf, IsNode}
 use Rattle.op_instance.specs.declared.volatile.Volatile.{Volatile}
 use Rattle.op_instance.proofs.StepsApply.{sound_step}
-use Rattle.op_chain.specs.Answering.{IsServed, HasRoomFor}
+use Rattle.op_chain.specs.Answering.{IsServed}
 use Rattle.op_chain.specs.Bringing.{joining_after, joined, IfJoined, turn_beside, turn_holding}
 use Rattle.op_chain.specs.Chains.{state_of, HaveBases, IsSoundChain, IsSame, Admits}
-use Rattle.op_chain.specs.Plans.{renewed, planned_by, made_by, IsPartAfter, Stays, BeginsIn, LeavesWith, HasRoomToTell, Prepares, waiters_of, waiting_by, based_step, told_anew, IfMayClose, IfCloses, IfGoesOn, Serves}
+use Rattle.op_chain.specs.Plans.{renewed, planned_by, made_by, IsPartAfter, Stays, BeginsIn, LeavesWith, HasRoomToTell, Prepares, waiters_of, waiting_by, based_step, IfMayClose, IfCloses, IfGoesOn}
 use Rattle.op_chain.specs.declared.chain.Chain.{Chain}
 use Rattle.op_chain.specs.declared.chain_plan.ChainPlan.{ChainPlan}
 use Rattle.op_chain.specs.declared.renewal.Renewal.{Renewal}
 use Rattle.op_chain.specs.declared.room.Room.{Room}
 use Rattle.op_chain.specs.declared.served.Served.{Served}
-use Rattle.op_chain.specs.declared.serving.Serving.{Serving}
-use Rattle.op_chain.specs.Waiting.{WaitingSet, with_waiters}
+use Rattle.op_chain.specs.Waiting.{WaitingSet}
 use Rattle.op_chain.proofs.Adopted.{state_with, state_is}
 use Rattle.op_chain.proofs.Based.{begins_fit, bases_after, based_sound}
 use Rattle.op_chain.proofs.Closes.{may_close, close_applies, close_leaves}
 use Rattle.op_chain.proofs.Leaves.{hold_applies, hold_leaves, hold_sound, hold_calms, hold_same, hold_part, go_applies, go_leaves}
-use Rattle.op_chain.proofs.Steps.{chain_plan, step_table, storing_plan, IsKept, holding_kept, join_table, waits_table}
+use Rattle.op_chain.proofs.Steps.{chain_plan, unserved, step_table, storing_plan, IsKept, holding_kept, join_table, waits_table}
 
 -- ---- words of lists and records
 
@@ -204,7 +202,7 @@ module _ (a : Chain) (x : Input) (admits : Admits a x) (bare : with_room no_need
         (closes : IfCloses a.me a.durable.part (service_over a.service.service served.change) (role_of a.volatile.role) plan new r) where
       -- the plan that is made ready
       abbrev ready : ChainPlan
-      ready = chain_plan new served.change served.replies r room
+      ready = chain_plan new served r room
 
       keeps_by : (o : Option Part) (s : Service) (q : Role) (y : Option Renewal) → IfCloses a.me o s q plan new y → (new.turn ≡ plan.turn) × (new.outcome ≡ plan.outcome)
       keeps_by None s q y k = (ap (λ (n : Plan). n.turn) k.0, ap (λ (n : Plan). n.outcome) k.0)
@@ -223,7 +221,7 @@ module _ (a : Chain) (x : Input) (admits : Admits a x) (bare : with_room no_need
           ap (λ (ws : Waiting). made_by ws (volatile_of c.volatile) c.service.service ready) waits
           ∙ ap (λ (v : step.Volatile). made_by waiting_then v c.service.service ready) (like.same)
           ∙ ap (λ (s : Service). made_by waiting_then (volatile_of a.volatile) s ready) like.service
-          ∙ step_table a.me waiting_then (volatile_of a.volatile) (state_at a) stepped plan new served.change served.replies r room row serves.change serves.replies closes
+          ∙ step_table a.me waiting_then (volatile_of a.volatile) (state_at a) stepped plan new served r room row serves.change serves.replies closes
           ∙ sym table_is
 
       pub step_in_range : c.waiting.next ≡ waiting_by new.outcome a.waiting.waiting (waiters_of x) → BatchInRange new.batch
@@ -314,7 +312,7 @@ module _ (a : Chain) (sound : IsSoundChain a) (bare : with_room no_needs a.durab
   module _ (c : Chain) (new : Plan) (kv : Written) (r : Option Renewal) (room : Room) (like : IsLike a c) (same : service_over a.service.service kv ≡ a.service.service)
       (goes : IfGoesOn a.me a.durable.joining m (role_of a.volatile.role) (storing_plan batch (turn_holding a.durable.joining batch)) new r) where
     abbrev held : ChainPlan
-    held = chain_plan new kv [] r room
+    held = chain_plan new (unserved kv) r room
 
     -- the plan that stores what is brought
     abbrev storing : Plan
@@ -451,16 +449,3 @@ goes_like a c m old new r like goes =
     subst (λ (v : step.Volatile). IfGoesOn a.me a.durable.joining m v.role old new r) like.same
     (subst (λ (d : Durable). IfGoesOn a.me d.joining m (role_of c.volatile.role) old new r) like.durable
     (subst (λ (n : ℕ). IfGoesOn n c.durable.joining m (role_of c.volatile.role) old new r) like.me goes))
-
--- what is served, with its room
-abbrev pub serving_with : Written → List Reply → Option Renewal → Room → Serving
-serving_with kv replies r room = record { service = kv; replies = replies; renewal = r; room = room }
-
-pub ok_serves : {E : Type 0} (a : Chain) (old : Plan) (c : Chain) (new : Plan) (kv : Written) (replies : List Reply) (r : Option Renewal) (x : Result Serving E)
-    → IfOk x (λ s. s ≡ serving_with kv replies r s.room)
-    → IfOk x (λ s. HasRoomFor (length replies + length new.replies + length (told_anew r)) (length new.replies) s.room)
-    → ((ws : List (ℕ × ℕ)) → a.waiting.next ≡ with_waiters a.waiting.waiting ws → (room : Room)
-    → HasRoomFor (length replies + length new.replies + length (told_anew r)) (length new.replies) room → Serves a old ws c new (serving_with kv replies r room))
-    → IfOk x (λ s. (ws : List (ℕ × ℕ)) → a.waiting.next ≡ with_waiters a.waiting.waiting ws → Serves a old ws c new s)
-ok_serves a old c new kv replies r (Ok s) is tells serves = λ ws next. subst (λ (q : Serving). Serves a old ws c new q) (sym is) (serves ws next s.room tells)
-ok_serves a old c new kv replies r (Err e) is tells serves = tt

@@ -1,5 +1,5 @@
 -- What adopting a plan makes is what the step table plans.
-use Rattle.std.proofs.Common.{◌≡◌, ℕ, ◌-◌, ◌∷◌, ◌++◌, true, false, List, [], map, Option, Some, None, refl, sym, ap, ◌∙◌}
+use Rattle.std.proofs.Common.{◌≡◌, ℕ, ◌-◌, ◌∷◌, ◌++◌, false, List, [], map, Option, Some, None, refl, sym, ap, ◌∙◌}
 use Rattle.std.specs.Prelude.{is_some}
 use Rattle.std.proofs.lemmas.Bool.{cond-true, cond-false}
 use Rattle.op_types.specs.Changes.{joining_with, durable_after}
@@ -33,7 +33,8 @@ use Rattle.op_protocol.specs.Configurations.{closing_part, closing}
 use Rattle.op_protocol.specs.Joining.{joined_service, only_stores, stores_beside, goes_on_if, holding, holds_more}
 use Rattle.op_protocol.specs.Leader.{propose, given_up_by}
 use Rattle.op_protocol.specs.Rows.{entries_of, refusal_of, proposal_at, step_at, waiting_each, waiting_for, waiting_at, based_batch, newly_decided, planned_serving, planned, plan_of}
-use Rattle.op_protocol.specs.Serving.{Served, dropping, waiting_with}
+use Rattle.op_protocol.specs.Serving as serving
+use Rattle.op_protocol.specs.Serving.{dropping, waiting_with}
 use Rattle.op_protocol.specs.Starting.{first_volatile}
 use Rattle.op_protocol.proofs.Based.{based_decides}
 use Rattle.op_kv.specs.Over.{Written, MapState, service_over}
@@ -45,12 +46,16 @@ use Rattle.op_chain.specs.Waiting.{with_waiters}
 use Rattle.op_chain.specs.declared.chain_plan.ChainPlan.{ChainPlan}
 use Rattle.op_chain.specs.declared.renewal.Renewal.{Renewal}
 use Rattle.op_chain.specs.declared.room.Room.{Room}
+use Rattle.op_chain.specs.declared.served.Served.{Served}
 use Rattle.op_chain.proofs.Answered.{served_all}
 
 -- a plan of these
-abbrev pub chain_plan : Plan → Written → List Reply → Option Renewal → Room → ChainPlan
-chain_plan plan change replies renewal room =
-    record { plan = plan; service = change; replies = replies; renewal = renewal; room = room }
+abbrev pub chain_plan : Plan → Served → Option Renewal → Room → ChainPlan
+chain_plan plan served renewal room = record { plan = plan; served = served; renewal = renewal; room = room }
+
+-- this is written, and no entry is served
+abbrev pub unserved : Written → Served
+unserved change = record { change = change; replies = []; stop = None }
 
 -- ---- a row
 
@@ -75,7 +80,7 @@ row_planned : (s : State) (ws : Waiting) (y : PartStep)
     → planned s ws y ≡ row_made ws (replies_to s.service (newly_decided s.durable.part y.batch)) (all_after s.service (newly_decided s.durable.part y.batch)) (based_step s.durable.part y)
 row_planned s ws y =
     let d = dropping ws y.replies in
-    ap (λ (t : Served). planned_serving s y d t) (served_all (newly_decided s.durable.part y.batch) s.service (record { waiting = d.waiting; replies = [] }))
+    ap (λ (t : serving.Served). planned_serving s y d t) (served_all (newly_decided s.durable.part y.batch) s.service (record { waiting = d.waiting; replies = [] }))
 
 -- the bases don't change what is decided
 based_newly : (o : Option Part) (batch : List Change) → newly_decided o (based_batch o batch) ≡ newly_decided o batch
@@ -83,17 +88,17 @@ based_newly None batch = refl
 based_newly (Some p) batch = based_decides p batch
 
 -- a plan of a row is what the table plans, but for what is closed
-pub row_table : (ws : Waiting) (v : step.Volatile) (s : State) (y : PartStep) (plan : Plan) (change : Written) (replies : List Reply) (room : Room)
+pub row_table : (ws : Waiting) (v : step.Volatile) (s : State) (y : PartStep) (plan : Plan) (served : Served) (room : Room)
     → part_step_of plan v ≡ based_step s.durable.part y
-    → service_over s.service change ≡ all_after s.service (newly_decided s.durable.part plan.batch)
-    → replies ≡ replies_to s.service (newly_decided s.durable.part plan.batch)
-    → made_by ws v s.service (chain_plan plan change replies None room) ≡ planned s ws y
-row_table ws v s y plan change replies room row serves gives =
+    → service_over s.service served.change ≡ all_after s.service (newly_decided s.durable.part plan.batch)
+    → served.replies ≡ replies_to s.service (newly_decided s.durable.part plan.batch)
+    → made_by ws v s.service (chain_plan plan served None room) ≡ planned s ws y
+row_table ws v s y plan served room row serves gives =
     let batch : plan.batch ≡ based_batch s.durable.part y.batch = ap (λ (z : PartStep). z.batch) row in
     let es : newly_decided s.durable.part plan.batch ≡ newly_decided s.durable.part y.batch =
     ap (λ (b : List Change). newly_decided s.durable.part b) batch ∙ based_newly s.durable.part y.batch in
     let z : PartStep = part_step_of plan v in
-    ap (λ (rs : List Reply). row_made ws rs (service_over s.service change) z) (gives ∙ ap (λ (xs : List Entry). replies_to s.service xs) es)
+    ap (λ (rs : List Reply). row_made ws rs (service_over s.service served.change) z) (gives ∙ ap (λ (xs : List Entry). replies_to s.service xs) es)
     ∙ ap (λ (t : Service). row_made ws (replies_to s.service (newly_decided s.durable.part y.batch)) t z) (serves ∙ ap (λ (xs : List Entry). all_after s.service xs) es)
     ∙ ap (λ (x : PartStep). row_made ws (replies_to s.service (newly_decided s.durable.part y.batch)) (all_after s.service (newly_decided s.durable.part y.batch)) x) row
     ∙ sym (row_planned s ws y)
@@ -115,44 +120,44 @@ role_turned (turn.StagePiece p fresh) v = refl
 role_turned turn.DropPieces v = refl
 role_turned t v = refl
 
-module _ (me : ℕ) (ws : Waiting) (v : step.Volatile) (s : Service) (change : Written) (replies : List Reply) (room : Room) (plan new : Plan) where
+module _ (me : ℕ) (ws : Waiting) (v : step.Volatile) (s : Service) (served : Served) (room : Room) (plan new : Plan) where
   -- what the plan does without a renewal
   abbrev bare_made : Planned
-  bare_made = made_by ws v s (chain_plan plan change replies None room)
+  bare_made = made_by ws v s (chain_plan plan served None room)
 
-  close_made : (q : Part) (r : Renewal) → Closes me q (service_over s change) v.role plan new r → made_by ws v s (chain_plan new change replies (Some r) room) ≡ closing_part me q bare_made
+  close_made : (q : Part) (r : Renewal) → Closes me q (service_over s served.change) v.role plan new r → made_by ws v s (chain_plan new served (Some r) room) ≡ closing_part me q bare_made
   close_made q r closes =
-      let t : Service = service_over s change in
+      let t : Service = service_over s served.change in
       let more : Plan = closed_plan me q t plan in
-      let x : Planned = made_by ws v s (chain_plan more change replies None room) in
+      let x : Planned = made_by ws v s (chain_plan more served None room) in
       let why = cause.Stop (q.decided - 1) in
-      ap (λ (n : Plan). made_by ws v s (chain_plan n change replies (Some r) room)) closes.plan
+      ap (λ (n : Plan). made_by ws v s (chain_plan n served (Some r) room)) closes.plan
       ∙ ap (λ (w : step.Volatile). anew_of w (service_anew r.service t) r.given_up x) closes.anew.first
       ∙ ap (λ (m : Option MapState). anew_of (first_volatile me) (service_anew m t) r.given_up x) closes.service
       ∙ ap (λ (rs : List Reply). anew_of (first_volatile me) t rs x) (closes.given_up ∙ ap (λ (role : Role). given_up_by role why) (role_turned plan.turn v))
 
   -- a plan that may close its part does what the table says
-  pub closes_made : (o : Option Part) (r : Option Renewal) → IfCloses me o (service_over s change) v.role plan new r → made_by ws v s (chain_plan new change replies r room) ≡ closing me o bare_made
+  pub closes_made : (o : Option Part) (r : Option Renewal) → IfCloses me o (service_over s served.change) v.role plan new r → made_by ws v s (chain_plan new served r room) ≡ closing me o bare_made
   closes_made None r closes =
-      ap (λ (n : Plan). made_by ws v s (chain_plan n change replies r room)) closes.0
-      ∙ ap (λ (x : Option Renewal). made_by ws v s (chain_plan plan change replies x room)) closes.1
+      ap (λ (n : Plan). made_by ws v s (chain_plan n served r room)) closes.0
+      ∙ ap (λ (x : Option Renewal). made_by ws v s (chain_plan plan served x room)) closes.1
   closes_made (Some p) None closes =
-      ap (λ (n : Plan). made_by ws v s (chain_plan n change replies None room)) closes.0
+      ap (λ (n : Plan). made_by ws v s (chain_plan n served None room)) closes.0
       ∙ sym (cond-false (is_some (stop_at_end (decided_since p (part_after p plan.batch)))) (closing_part me (part_after p plan.batch) bare_made) bare_made closes.1)
   closes_made (Some p) (Some r) closes =
       close_made (part_after p plan.batch) r closes.0
       ∙ sym (cond-true (is_some (stop_at_end (decided_since p (part_after p plan.batch)))) (closing_part me (part_after p plan.batch) bare_made) bare_made closes.1)
 
 -- the plan of an input that brings nothing of a closed list
-pub step_table : (me : ℕ) (ws : Waiting) (v : step.Volatile) (s : State) (y : PartStep) (plan new : Plan) (change : Written) (replies : List Reply) (r : Option Renewal) (room : Room)
+pub step_table : (me : ℕ) (ws : Waiting) (v : step.Volatile) (s : State) (y : PartStep) (plan new : Plan) (served : Served) (r : Option Renewal) (room : Room)
     → part_step_of plan v ≡ based_step s.durable.part y
-    → service_over s.service change ≡ all_after s.service (newly_decided s.durable.part plan.batch)
-    → replies ≡ replies_to s.service (newly_decided s.durable.part plan.batch)
-    → IfCloses me s.durable.part (service_over s.service change) v.role plan new r
-    → made_by ws v s.service (chain_plan new change replies r room) ≡ plan_of me s ws y
-step_table me ws v s y plan new change replies r room row serves gives closes =
-    closes_made me ws v s.service change replies room plan new s.durable.part r closes
-    ∙ ap (λ (x : Planned). closing me s.durable.part x) (row_table ws v s y plan change replies room row serves gives)
+    → service_over s.service served.change ≡ all_after s.service (newly_decided s.durable.part plan.batch)
+    → served.replies ≡ replies_to s.service (newly_decided s.durable.part plan.batch)
+    → IfCloses me s.durable.part (service_over s.service served.change) v.role plan new r
+    → made_by ws v s.service (chain_plan new served r room) ≡ plan_of me s ws y
+step_table me ws v s y plan new served r room row serves gives closes =
+    closes_made me ws v s.service served room plan new s.durable.part r closes
+    ∙ ap (λ (x : Planned). closing me s.durable.part x) (row_table ws v s y plan served room row serves gives)
 
 -- ---- what a node that joins takes
 
@@ -220,7 +225,7 @@ holding_kept (Some j) batch v calms = kept_beside (joining_after j batch).base b
 module _ (me : ℕ) (s : State) (batch : List Change) (change : Written) (same : service_over s.service change ≡ s.service) (room : Room) (new : Plan) (calms : raises_promise batch ≡ false) where
   -- what the plan of this turn does, where nothing begins anew
   abbrev stored_with : Turn → Planned
-  stored_with t = made_by s.waiting s.volatile s.service (chain_plan (storing_plan batch t) change [] None room)
+  stored_with t = made_by s.waiting s.volatile s.service (chain_plan (storing_plan batch t) (unserved change) None room)
 
   served_same : (t : Turn) → (let x : Planned = record (only_stores s batch) { volatile = adopted_in batch t s.volatile } in stored_with t ≡ x)
   served_same t = ap (λ (u : Service). let x : Planned = record (only_stores s batch) { volatile = adopted_in batch t s.volatile; service = u } in x) same
@@ -235,15 +240,15 @@ module _ (me : ℕ) (s : State) (batch : List Change) (change : Written) (same :
       ∙ ap (λ (h : Held). let v : step.Volatile = record s.volatile { staged = h; pieces = None } in let x : Planned = record (only_stores s batch) { volatile = v } in x) (calm batch s.volatile.staged calms)
 
   gone_on : (j k : Joining) (m : MapState) (r : Renewal) (t : Turn) → turned t s.volatile.role ≡ s.volatile.role → GoesOn me j m s.volatile.role (storing_plan batch t) new r → k.conf ≡ j.conf → k.members ≡ j.members → k.len ≡ j.len
-      → (b : Option Base) (es : Option (List Entry)) → Some m.service ≡ joined b es → made_by s.waiting s.volatile s.service (chain_plan new change [] (Some r) room) ≡ goes_on_if me s k batch b es
+      → (b : Option Base) (es : Option (List Entry)) → Some m.service ≡ joined b es → made_by s.waiting s.volatile s.service (chain_plan new (unserved change) (Some r) room) ≡ goes_on_if me s k batch b es
   gone_on j k m r t role goes conf members len (Some b) (Some es) is =
       let u : Service = joined_service b es in
       let served : m.service ≡ u = cc in
       let more : Service → ℕ → List ℕ → Plan = λ z c ms. joined_plan me (record k { conf = c; members = ms }) z (storing_plan batch t) in
-      let x : Plan → Planned = λ n. made_by s.waiting s.volatile s.service (chain_plan n change [] None room) in
+      let x : Plan → Planned = λ n. made_by s.waiting s.volatile s.service (chain_plan n (unserved change) None room) in
       let why : ℕ → List Reply = λ n. given_up_by s.volatile.role (cause.Stop (n - 1)) in
       let told : r.given_up ≡ why k.len = goes.given_up ∙ ap (λ (q : Role). given_up_by q (cause.Stop (j.len - 1))) role ∙ ap why (sym len) in
-      ap (λ (n : Plan). made_by s.waiting s.volatile s.service (chain_plan n change [] (Some r) room)) goes.plan
+      ap (λ (n : Plan). made_by s.waiting s.volatile s.service (chain_plan n (unserved change) (Some r) room)) goes.plan
       ∙ ap (λ (w : step.Volatile). anew_of w (service_anew r.service (service_over s.service change)) r.given_up (x (more m.service j.conf j.members))) goes.anew.first
       ∙ ap (λ (o : Option MapState). anew_of (first_volatile me) (service_anew o (service_over s.service change)) r.given_up (x (more m.service j.conf j.members))) goes.service
       ∙ ap (λ (rs : List Reply). anew_of (first_volatile me) m.service rs (x (more m.service j.conf j.members))) told
@@ -259,11 +264,11 @@ module _ (me : ℕ) (s : State) (batch : List Change) (change : Written) (same :
   not_yet k None es is = refl
 
   by_service : (j : Joining) (m : Option MapState) (r : Option Renewal) → IfJoined j batch m → IfGoesOn me (Some j) m s.volatile.role (storing_plan batch (turn_holding (Some j) batch)) new r
-      → made_by s.waiting s.volatile s.service (chain_plan new change [] r room) ≡ holding me s batch (Some (joining_after j batch))
+      → made_by s.waiting s.volatile s.service (chain_plan new (unserved change) r room) ≡ holding me s batch (Some (joining_after j batch))
   by_service j None r is goes =
       let k : Joining = joining_after j batch in
-      ap (λ (n : Plan). made_by s.waiting s.volatile s.service (chain_plan n change [] r room)) goes.0
-      ∙ ap (λ (o : Option Renewal). made_by s.waiting s.volatile s.service (chain_plan (storing_plan batch (turn_beside k.base)) change [] o room)) goes.1
+      ap (λ (n : Plan). made_by s.waiting s.volatile s.service (chain_plan n (unserved change) r room)) goes.0
+      ∙ ap (λ (o : Option Renewal). made_by s.waiting s.volatile s.service (chain_plan (storing_plan batch (turn_beside k.base)) (unserved change) o room)) goes.1
       ∙ stored k.base ∙ not_yet k k.base (cover_of k) is
   by_service j (Some m) None is goes = absurd goes
   by_service j (Some m) (Some r) is goes =
@@ -272,7 +277,7 @@ module _ (me : ℕ) (s : State) (batch : List Change) (change : Written) (same :
 
   -- the plan of an input that brings something of a closed list
   pub join_table : (j : Joining) (m : Option MapState) (r : Option Renewal) → IfJoined j batch m → (durable_after s.durable batch).joining ≡ Some (joining_after j batch)
-      → IfGoesOn me (Some j) m s.volatile.role (storing_plan batch (turn_holding (Some j) batch)) new r → made_by s.waiting s.volatile s.service (chain_plan new change [] r room) ≡ holds_more me s batch
+      → IfGoesOn me (Some j) m s.volatile.role (storing_plan batch (turn_holding (Some j) batch)) new r → made_by s.waiting s.volatile s.service (chain_plan new (unserved change) r room) ≡ holds_more me s batch
   join_table j m r is after goes = by_service j m r is goes ∙ ap (λ (o : Option Joining). holding me s batch o) (sym after)
 
 -- ---- who waits

@@ -47,6 +47,10 @@ pub record IsServed (s : Service) (entries : List Entry) (x : Served) : Type 0 w
 
 -- ---- who is answered
 
+-- no room
+abbrev pub no_room : Room
+no_room = record { replies = record { items = []; room = 0 }; told = record { items = []; room = 0 } }
+
 -- room for so many replies, of which so many are to proposals that a row gives up
 pub record HasRoomFor (all given_up : ℕ) (room : Room) : Type 0 where
   pub no_replies : room.replies.items ≡ []

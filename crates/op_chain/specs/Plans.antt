@@ -4,6 +4,7 @@ use Rattle.std.specs.Set.{is_member}
 use Rattle.op_types.specs.Limits.{last_conf}
 use Rattle.op_types.specs.Stops.{stop_at_end}
 use Rattle.op_types.specs.Changes.{closed_by, Applies, durable_after}
+use Rattle.op_types.specs.Effects.{nothing_plan}
 use Rattle.op_types.specs.Ranges.{IsMember}
 use Rattle.op_types.specs.Roles.{Role, Idle, role_of, turned}
 use Rattle.op_types.specs.Rooms.{HasRoomFor}
@@ -19,7 +20,6 @@ use Rattle.op_types.specs.declared.durable.Part.{Part}
 use Rattle.op_types.specs.declared.events.Input.{Input}
 use Rattle.op_types.specs.declared.events.Input.TheVariants as input
 use Rattle.op_types.specs.declared.messages.Body.TheVariants as body
-use Rattle.op_types.specs.declared.log.StopSign.{StopSign}
 use Rattle.op_types.specs.declared.plan.Plan.{Plan}
 use Rattle.op_record.specs.Ranges.{BatchInRange}
 use Rattle.op_spec.specs.Service.{Service, base_bytes}
@@ -33,7 +33,7 @@ use Rattle.op_protocol.specs.Serving.{dropping}
 use Rattle.op_protocol.specs.Starting.{first_volatile}
 use Rattle.op_protocol.specs.Rows.{based_batch, newly_decided, table_plan}
 use Rattle.op_plans.specs.Positions.{FitsPositions}
-use Rattle.op_kv.specs.Over.{MapState, service_over}
+use Rattle.op_kv.specs.Over.{MapState, nothing_written, service_over}
 use Rattle.op_instance.specs.Memory.{volatile_of, adopted_in, part_step_of, IsKeptBy, HasRoomIn}
 use Rattle.op_instance.specs.Sound.{IsNode, IsSoundStep}
 use Rattle.op_instance.specs.declared.volatile.Volatile.{Volatile}
@@ -45,7 +45,6 @@ use Rattle.op_chain.specs.Leads.{why_anew}
 use Rattle.op_chain.specs.declared.chain.Chain.{Chain}
 use Rattle.op_chain.specs.declared.chain_plan.ChainPlan.{ChainPlan}
 use Rattle.op_chain.specs.declared.renewal.Renewal.{Renewal}
-use Rattle.op_chain.specs.declared.serving.Serving.{Serving}
 use Rattle.op_chain.specs.declared.given.Given.{Given}
 
 -- ---- what adopting a plan makes
@@ -73,12 +72,12 @@ renewed (Some r) x =
 abbrev pub made_by : Waiting → step.Volatile → Service → ChainPlan → Planned
 made_by waiting v s plan =
     let d = dropping waiting plan.plan.replies in
-    let g = giving d.waiting plan.replies in
+    let g = giving d.waiting plan.served.replies in
     renewed plan.renewal
     (record {
       batch = plan.plan.batch;
       volatile = adopted_in plan.plan.batch plan.plan.turn v;
-      service = service_over s plan.service;
+      service = service_over s plan.served.change;
       waiting = g.waiting;
       reads = None;
       sends = plan.plan.sends;
@@ -146,7 +145,7 @@ pub record LeavesNode (c : Chain) (plan : ChainPlan) : Type 0 where
 abbrev pub HasRoomToTell : ChainPlan → Type 0
 HasRoomToTell plan =
     answering.HasRoomFor
-    (length plan.replies + length plan.plan.replies + length (told_anew plan.renewal))
+    (length plan.served.replies + length plan.plan.replies + length (told_anew plan.renewal))
     (length plan.plan.replies) plan.room
 
 -- What the step table plans for an input, made ready in the chain: its batch is in range and applies, what
@@ -186,6 +185,16 @@ pub record Adopts (old : Chain) (p : Planned) (new : Chain) (g : Given) : Type 0
   pub given : IsGiven g p
 
 -- ---- how a plan is made
+
+-- the plan in which nothing happens, with no room
+abbrev pub nothing_ready : ChainPlan
+nothing_ready =
+    record {
+      plan = nothing_plan;
+      served = record { change = nothing_written; replies = []; stop = None };
+      renewal = None;
+      room = answering.no_room;
+    }
 
 -- the clients of the commands that an input proposes, each with its number
 abbrev pub waiters_of : Input → List (ℕ × ℕ)
@@ -267,15 +276,11 @@ IfGoesOn me j s r old new x = (new ≡ old) × (x ≡ None)
 -- what the plan does at the service, and what begins anew with it: of this chain, where the other one has
 -- room for those that are to wait
 pub record Serves (a : Chain) (old : Plan) (waiters : List (ℕ × ℕ))
-    (c : Chain) (new : Plan) (x : Serving) : Type 0 where
+    (c : Chain) (new : ChainPlan) : Type 0 where
   pub settled : c.service.waiting ≡ 0
-  pub served : (stop : Option StopSign) ×
-      answering.IsServed a.service.service (newly_decided a.durable.part old.batch)
-      (record { change = x.service; replies = x.replies; stop = stop })
+  pub served : answering.IsServed a.service.service (newly_decided a.durable.part old.batch) new.served
   pub closes :
-      IfCloses a.me a.durable.part (service_over a.service.service x.service) (role_of a.volatile.role)
-      old new x.renewal
-  pub waits : c.waiting.next ≡ waiting_by new.outcome a.waiting.waiting waiters
-  pub room :
-      answering.HasRoomFor (length x.replies + length new.replies + length (told_anew x.renewal))
-      (length new.replies) x.room
+      IfCloses a.me a.durable.part (service_over a.service.service new.served.change)
+      (role_of a.volatile.role) old new.plan new.renewal
+  pub waits : c.waiting.next ≡ waiting_by new.plan.outcome a.waiting.waiting waiters
+  pub room : HasRoomToTell new

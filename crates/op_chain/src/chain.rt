@@ -1,4 +1,5 @@
 ghost use Rattle.std.specs.Prelude.{◌≡◌, ◌≤◌, ℕ, List, length, map, fold, Option, Some, None, option_map, IfOk, OnOk, IfSome};
+ghost use Rattle.op_types.specs.Effects.{nothing_plan};
 ghost use Rattle.op_types.specs.Stops.{stop_at_end};
 ghost use Rattle.op_types.specs.Roles.{role_of};
 ghost use Rattle.op_types.specs.Rooms.{with_room, no_needs};
@@ -17,7 +18,7 @@ ghost use Rattle.op_instance.specs.Memory.{volatile_of, part_step_of, HasRoomIn}
 ghost use Rattle.op_chain.specs.Answering.{dropped_of};
 ghost use Rattle.op_chain.specs.Bringing.{IfJoined};
 ghost use Rattle.op_chain.specs.Chains.{state_of, first_state, ballots_in, pairs_in, IsSoundChain, IsSame, Admits, CanOpen};
-ghost use Rattle.op_chain.specs.Plans.{Plans, Prepares, Adopts, HasRoomToTell};
+ghost use Rattle.op_chain.specs.Plans.{Plans, Prepares, Adopts, nothing_ready};
 ghost use Rattle.op_chain.specs.Plans.{waiters_of, waiting_by, Serves, IfMayClose, IfCloses, IfGoesOn};
 ghost use Rattle.op_chain.specs.Waiting.{with_waiters};
 ghost use Rattle.op_chain.specs.Plans.{told_anew, volatile_anew, service_by};
@@ -37,14 +38,13 @@ use crate::ready_plan::ReadyPlan;
 use crate::renewal::{Anew, Renewal, begin, push_requests};
 use crate::room::Room;
 use crate::served::Served;
-use crate::serving::Serving;
 use crate::trimming::{add_bases, service_at};
 use crate::waiting_set::WaitingSet;
 use op_instance::{Stored, Volatile, first_volatile, spare_volatile, volatile_after_restart};
-use op_kv::{KvChange, Map};
+use op_kv::Map;
 use op_types::{
     Ballot, Batch, Cause, Change, Command, Durable, Input, NoMemory, Outcome, Part, Pid, Plan,
-    Replies, Reply, Reserved, StopSign, is_among,
+    Reply, Reserved, StopSign, is_among,
 };
 use std::alloc::Global;
 
@@ -135,6 +135,7 @@ impl Chain {
     }
 
     /// The same, of a node that joins: an input may bring something of the closed list.
+    #[inline(never)]
     fn plan_brought(&mut self, input: Input) -> Result<ReadyPlan, NoMemory>
         requires admits { Admits self.old input }
         requires rested { with_room no_needs self.old.durable ≡ self.old.durable }
@@ -179,48 +180,58 @@ impl Chain {
         ensures prepares { IfOk result
             (Prepares self.new (table_plan self.old.me (state_of self.old) input)) }
     {
-        let Ok(mut plan) = self.step(input) else {
-            return Err(NoMemory);
+        let Ok(mut plan) = ChainPlan::nothing(self.alloc) else {
+            return Err(starved(input));
         };
-        let Ok(()) = add_bases(self.alloc, &self.durable.part, &mut plan.batch) else {
+        let Ok(()) = self.fill(input, &mut *plan) else {
             return Err(starved(plan));
         };
-        let Ok(serving) = self.serve(&mut plan) else {
-            return Err(starved(plan));
-        };
-        serving.into_plan(self.alloc, plan)
+        Ok(ReadyPlan::new(plan))
+    }
+
+    /// The same, by a plan in which nothing happens yet.
+    fn fill(&mut self, input: Input, plan: &mut ChainPlan) -> Result<(), NoMemory>
+        requires admits { Admits self.old input }
+        requires rested { with_room no_needs self.old.durable ≡ self.old.durable }
+        requires none { brought_by self.old.durable (volatile_of self.old.volatile) input ≡ None }
+        requires nothing { plan.old ≡ nothing_ready }
+        ensures same { IsSame self.old self.new }
+        ensures rested { self.new.durable ≡ self.old.durable }
+        ensures prepares { OnOk result
+            (Prepares self.new (table_plan self.old.me (state_of self.old) input) plan.new) }
+    {
+        self.step(input, &mut plan.plan)?;
+        add_bases(self.alloc, &self.durable.part, &mut plan.plan.batch)?;
+        self.serve(plan)
     }
 
     /// What the plan decides is served, and its part closed where it decides a stop-sign. There is room then for all who are
     /// told, and still for those that are to wait, unless they are refused.
-    fn serve(&mut self, plan: &mut Plan) -> Result<Serving, NoMemory>
-        requires { IfMayClose self.old.durable.part plan.old.batch }
+    fn serve(&mut self, plan: &mut ChainPlan) -> Result<(), NoMemory>
+        requires may { IfMayClose self.old.durable.part plan.old.plan.batch }
+        requires nothing { plan.old ≡ record nothing_ready { plan = plan.old.plan } }
         ensures rest { self.new ≡ record self.old {
           service = self.new.service;
           waiting = self.new.waiting;
         } }
         ensures service { self.new.service.service ≡ self.old.service.service }
         ensures waiting { self.new.waiting.waiting ≡ self.old.waiting.waiting }
-        ensures served { IfOk result (λ x. (waiters : List (ℕ × ℕ)) →
+        ensures served { OnOk result ((waiters : List (ℕ × ℕ)) →
             self.old.waiting.next ≡ with_waiters self.old.waiting.waiting waiters →
-            Serves self.old plan.old waiters self.new plan.new x) }
+            Serves self.old plan.old.plan waiters self.new plan.new) }
     {
         self.service.settle()?;
-        let mut served = Served::nothing(self.alloc);
-        let batch = plan.batch.as_slice();
+        let batch = plan.plan.batch.as_slice();
         let part = &self.durable.part;
-        let Ok(()) = serve_decided(self.alloc, &self.service, part, batch, &mut served) else {
-            return Err(starved(served));
-        };
-        let Ok(renewal) = self.close(plan, &served) else {
-            return Err(starved(served));
-        };
-        self.let_refused_go(&plan.outcome);
-        Serving::new(self.alloc, plan, served.change, served.replies, renewal)
+        serve_decided(self.alloc, &self.service, part, batch, &mut plan.served)?;
+        self.close(plan)?;
+        self.let_refused_go(&plan.plan.outcome);
+        plan.make_room()
     }
 
     /// The plan of changes by which a node that joins holds more: it goes on in the new configuration with this service, if
     /// it has all then.
+    #[inline(never)]
     fn plan_joining(&mut self, batch: Batch, service: Option<Map>) -> Result<ReadyPlan, NoMemory>
         requires sound { IsSoundChain self.old }
         requires rested { with_room no_needs self.old.durable ≡ self.old.durable }
@@ -234,21 +245,22 @@ impl Chain {
             (Prepares self.new (holds_more self.old.me (state_of self.old) batch)) }
     {
         self.service.settle()?;
-        let change = KvChange::new(self.alloc);
-        let mut plan = Plan::nothing(self.alloc);
-        plan.turn = turn_holding(&self.durable.joining, batch.as_slice());
-        plan.batch = batch;
-        let renewal = self.go_on(&mut plan, service)?;
+        let mut boxed = ChainPlan::nothing(self.alloc)?;
+        let plan = &mut *boxed;
+        plan.plan.turn = turn_holding(&self.durable.joining, batch.as_slice());
+        plan.plan.batch = batch;
+        let renewal = self.go_on(&mut plan.plan, service)?;
+        plan.renewal = renewal;
         self.waiting.give_up_room();
-        let replies = Replies::new(self.alloc);
-        let serving = Serving::new(self.alloc, &plan, change, replies, renewal)?;
-        serving.into_plan(self.alloc, plan)
+        plan.make_room()?;
+        Ok(ReadyPlan::new(boxed))
     }
 
     /// What the input does in the configurations, but for the base of what it trims. Nothing changes yet, but the room that
     /// the plan's turn needs, and the room for the clients of the input's commands.
-    fn step(&mut self, input: Input) -> Result<Plan, NoMemory>
-        requires { IsSoundChain self.old }
+    fn step(&mut self, input: Input, plan: &mut Plan) -> Result<(), NoMemory>
+        requires sound { IsSoundChain self.old }
+        requires nothing { plan.old ≡ nothing_plan }
         ensures rest { self.new ≡ record self.old {
           volatile = record self.old.volatile {
             role = self.new.volatile.role;
@@ -260,9 +272,9 @@ impl Chain {
         ensures waiting { self.new.waiting.waiting ≡ self.old.waiting.waiting }
         ensures waiters { OnOk result (self.new.waiting.next
             ≡ with_waiters self.old.waiting.waiting (waiters_of input)) }
-        ensures step { IfOk result (λ plan. part_step_of plan (volatile_of self.old.volatile)
+        ensures step { OnOk result (part_step_of plan.new (volatile_of self.old.volatile)
             ≡ step_at self.old.me self.old.durable (volatile_of self.old.volatile) input) }
-        ensures room { IfOk result (λ plan. HasRoomIn plan.turn self.new.volatile) }
+        ensures room { OnOk result (HasRoomIn plan.new.turn self.new.volatile) }
     {
         let Ok(()) = self.waiting.make_room(commands_of(&input)) else {
             return Err(starved(input));
@@ -272,29 +284,37 @@ impl Chain {
             me: self.me,
             durable: &self.durable,
         };
-        stored.step(&mut self.volatile, input)
+        stored.step(&mut self.volatile, input, plan)
     }
 
     /// Where a plan decides its part's stop-sign, the part is closed: the new members hear of the next configuration, and
     /// all that is kept in memory of the part begins anew.
-    fn close(&self, plan: &mut Plan, served: &Served) -> Result<Anew, NoMemory>
+    fn close(&self, plan: &mut ChainPlan) -> Result<(), NoMemory>
         requires settled { self.now.service.waiting ≡ 0 }
-        requires may { IfMayClose self.now.durable.part plan.old.batch }
-        requires stop { served.now.stop ≡ stop_at_end (newly_decided self.now.durable.part plan.old.batch) }
-        ensures { IfOk result (IfCloses self.now.me self.now.durable.part
-            (service_over self.now.service.service served.now.change)
-            (role_of self.now.volatile.role) plan.old plan.new) }
+        requires may { IfMayClose self.now.durable.part plan.old.plan.batch }
+        requires stop { plan.old.served.stop
+            ≡ stop_at_end (newly_decided self.now.durable.part plan.old.plan.batch) }
+        requires nothing { plan.old.renewal ≡ None }
+        ensures rest { plan.new
+            ≡ record plan.old { plan = plan.new.plan; renewal = plan.new.renewal } }
+        ensures closes { OnOk result (IfCloses self.now.me self.now.durable.part
+            (service_over self.now.service.service plan.old.served.change)
+            (role_of self.now.volatile.role) plan.old.plan plan.new.plan plan.new.renewal) }
     {
         let Some(part) = &self.durable.part else {
-            return Ok(Anew::nothing());
+            return Ok(());
         };
+        let served = &plan.served;
         let Some(stop) = &served.stop else {
-            return Ok(Anew::nothing());
+            return Ok(());
         };
-        self.close_at(plan, served, part, stop)
+        let anew = self.close_at(&mut plan.plan, served, part, stop)?;
+        put(&mut plan.renewal, anew);
+        Ok(())
     }
 
     /// The same, of this part at this stop-sign.
+    #[inline(never)]
     fn close_at(
         &self,
         plan: &mut Plan,
@@ -376,11 +396,15 @@ impl Chain {
     {
         let ChainPlan {
             plan,
-            service,
-            replies,
+            served,
             renewal,
             room,
         } = plan.into_plan();
+        let Served {
+            change,
+            replies,
+            ..
+        } = served;
         let Plan {
             batch,
             turn,
@@ -394,7 +418,7 @@ impl Chain {
         } = room;
         self.volatile.adopt(turn, &batch);
         self.durable.adopt(batch);
-        self.service.adopt(service);
+        self.service.adopt(change);
         self.waiting.let_wait();
         give_up(&mut self.waiting, &mut told, given_up);
         give(&mut self.waiting, &mut given, replies);
@@ -425,6 +449,7 @@ impl Chain {
     }
 
     /// The same, where something begins anew.
+    #[inline(never)]
     fn begin_anew(&mut self, given: &mut Reserved<Reply>, anew: Anew)
         requires { length (told_anew anew) ≤ given.old.room }
         ensures rest { self.new ≡ record self.old {
@@ -524,4 +549,12 @@ fn service_of(alloc: Global, part: &Option<Part>) -> Result<Map, NoMemory>
         Some(part) => service_at(alloc, part, part.decided),
         None => Ok(Map::new(alloc)),
     }
+}
+
+/// This takes the place of what begins anew.
+#[inline(never)]
+fn put(place: &mut Anew, anew: Anew)
+    ensures { place.new ≡ anew }
+{
+    *place = anew;
 }

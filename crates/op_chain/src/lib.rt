@@ -16,7 +16,6 @@ mod ready_plan;
 mod renewal;
 mod room;
 mod served;
-mod serving;
 mod starting;
 mod trimming;
 mod waiting_set;

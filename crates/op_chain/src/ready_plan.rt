@@ -1,9 +1,7 @@
-ghost use Rattle.std.specs.Prelude.{◌≡◌, IfOk};
+ghost use Rattle.std.specs.Prelude.{◌≡◌};
 
 use crate::chain_plan::ChainPlan;
-use crate::letting_go::starved;
-use op_types::{Batch, NoMemory, Sends};
-use std::alloc::Global;
+use op_types::{Batch, Sends};
 use std::marker::Model;
 
 /// A plan that is ready: it can be adopted, or dropped. It lies on the heap, so that it is handed on without being moved.
@@ -22,13 +20,10 @@ impl Model for ReadyPlan {
 
 impl ReadyPlan {
     /// This plan.
-    pub(crate) fn new(alloc: Global, plan: ChainPlan) -> Result<ReadyPlan, NoMemory>
-        ensures { IfOk result (λ p. p ≡ plan) }
+    pub(crate) fn new(plan: Box<ChainPlan>) -> ReadyPlan
+        ensures { result ≡ plan.value }
     {
-        match Box::new(alloc, plan) {
-            Ok(plan) => Ok(ReadyPlan { plan }),
-            Err(failed) => Err(starved(failed.value)),
-        }
+        ReadyPlan { plan }
     }
 
     /// What it is to do.

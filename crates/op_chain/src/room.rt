@@ -1,5 +1,5 @@
-ghost use Rattle.std.specs.Prelude.{◌+◌, IfOk};
-ghost use Rattle.op_chain.specs.Answering.{HasRoomFor};
+ghost use Rattle.std.specs.Prelude.{◌≡◌, ◌+◌, OnOk};
+ghost use Rattle.op_chain.specs.Answering.{no_room, HasRoomFor};
 
 use op_types::{NoMemory, Reply, Reserved};
 use std::alloc::Global;
@@ -14,14 +14,25 @@ pub(crate) struct Room {
 }
 
 impl Room {
-    /// Room for so many replies: to those who are served, given up by a row, and told by what begins anew.
-    pub(crate) fn new(
-        alloc: Global,
+    /// No room.
+    pub(crate) fn nothing(alloc: Global) -> Room
+        ensures { result ≡ no_room }
+    {
+        Room {
+            replies: Reserved::new(alloc),
+            told: Reserved::new(alloc),
+        }
+    }
+
+    /// Makes room for so many replies: to those who are served, given up by a row, and told by what begins anew.
+    pub(crate) fn make(
+        &mut self,
         served: usize,
         given_up: usize,
         renewed: usize,
-    ) -> Result<Room, NoMemory>
-        ensures { IfOk result (HasRoomFor (served + given_up + renewed) given_up) }
+    ) -> Result<(), NoMemory>
+        requires { self.old ≡ no_room }
+        ensures { OnOk result (HasRoomFor (served + given_up + renewed) given_up self.new) }
     {
         let Some(all) = served
             .checked_add(given_up)
@@ -29,10 +40,8 @@ impl Room {
         else {
             return Err(NoMemory);
         };
-        let mut replies = Reserved::new(alloc);
-        replies.make_room(all)?;
-        let mut told = Reserved::new(alloc);
-        told.make_room(given_up)?;
-        Ok(Room { replies, told })
+        self.replies.make_room(all)?;
+        self.told.make_room(given_up)?;
+        Ok(())
     }
 }

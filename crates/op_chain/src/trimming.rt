@@ -70,6 +70,7 @@ fn is_trim(change: &Change) -> bool
 }
 
 /// A batch with the base of what it trims.
+#[inline(never)]
 fn based(alloc: Global, part: &Part, batch: Batch) -> Result<Batch, NoMemory>
     requires { IsBase part.now.base }
     ensures { IfOk result (λ b. b ≡ based_batch (Some part.now) batch) }

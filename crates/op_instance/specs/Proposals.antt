@@ -1,8 +1,10 @@
 -- What entries that are proposed together need of a node.
-use Rattle.std.specs.Prelude.{◌≡◌, ◌+◌, ◌<◌, ◌≤◌, ℕ, true, Option, Some, None}
+use Rattle.std.specs.Prelude.{◌≡◌, ◌+◌, ◌<◌, ◌≤◌, ℕ, Bool, true, false, Option, Some, None}
 use Rattle.op_types.specs.Limits.{positions_end, last_conf}
 use Rattle.op_types.specs.Changes.{len_of}
 use Rattle.op_types.specs.declared.durable.Part.{Part}
+use Rattle.op_types.specs.declared.events.Input.{Input}
+use Rattle.op_types.specs.declared.events.Input.TheVariants as input
 use Rattle.op_instance.specs.declared.proposing.Proposed.{Proposed}
 
 -- the log has a position for each of so many entries
@@ -24,3 +26,9 @@ pub record Admits (p : Part) (x : Proposed) : Type 0 where
 abbrev pub HasPlaces : Option Part → Proposed → Type 0
 HasPlaces None x = Unit {0}
 HasPlaces (Some p) x = Admits p x
+
+-- whether an input proposes something
+abbrev pub proposes : Input → Bool
+proposes (input.Commands commands) = true
+proposes (input.Stop members) = true
+proposes x = false

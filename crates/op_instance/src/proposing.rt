@@ -1,5 +1,5 @@
 //! Entries are proposed together, or refused.
-ghost use Rattle.std.specs.Prelude.{◌≡◌, ◌∷◌, [], List, Some, None, length, IfOk, IfNone};
+ghost use Rattle.std.specs.Prelude.{◌≡◌, ◌∷◌, [], List, Some, None, length, IfOk, OnOk, IfNone};
 ghost use Rattle.op_types.specs.Effects.{nothing_plan};
 ghost use Rattle.op_types.specs.Roles.{role_of};
 ghost use Rattle.op_types.specs.declared.answers.Outcome.TheVariants.{Refused};
@@ -67,14 +67,16 @@ impl Stored<'_> {
         }
     }
 
-    /// Commands are proposed together.
+    /// Commands are proposed together, by a plan in which nothing happens yet.
     pub(crate) fn propose_commands(
         &self,
         volatile: &mut Volatile,
         commands: Commands,
-    ) -> Result<Plan, NoMemory>
-        requires { IsNode self.now.me self.now.durable.now volatile.old }
-        ensures step { IfOk result (λ plan. part_step_of plan (volatile_of volatile.old)
+        plan: &mut Plan,
+    ) -> Result<(), NoMemory>
+        requires node { IsNode self.now.me self.now.durable.now volatile.old }
+        requires nothing { plan.old ≡ nothing_plan }
+        ensures step { OnOk result (part_step_of plan.new (volatile_of volatile.old)
             ≡ proposal_step self.now.me self.now.durable.now (volatile_of volatile.old)
             (entries_of commands)) }
         ensures rest { volatile.new ≡ record volatile.old {
@@ -82,26 +84,32 @@ impl Stored<'_> {
           staged = volatile.new.staged;
         } }
         ensures same { volatile_of volatile.new ≡ volatile_of volatile.old }
-        ensures room { IfOk result (λ plan. HasRoomIn plan.turn volatile.new) }
+        ensures room { OnOk result (HasRoomIn plan.new.turn volatile.new) }
     {
         let proposed = Proposed {
             count: commands.len(),
             has_stop: false,
         };
         match self.refusal(&volatile.role, proposed) {
-            Some(cause) => Ok(refused(self.alloc, cause)),
-            None => self.propose(volatile, entries_of(self.alloc, commands)?),
+            Some(cause) => {
+                refuse(plan, cause);
+                Ok(())
+            }
+            None => self.propose(volatile, entries_of(self.alloc, commands)?, plan),
         }
     }
 
     /// A stop-sign is proposed, with these members in the next configuration.
+    #[inline(never)]
     pub(crate) fn propose_stop(
         &self,
         volatile: &mut Volatile,
         members: Members,
-    ) -> Result<Plan, NoMemory>
-        requires { IsNode self.now.me self.now.durable.now volatile.old }
-        ensures step { IfOk result (λ plan. part_step_of plan (volatile_of volatile.old)
+        plan: &mut Plan,
+    ) -> Result<(), NoMemory>
+        requires node { IsNode self.now.me self.now.durable.now volatile.old }
+        requires nothing { plan.old ≡ nothing_plan }
+        ensures step { OnOk result (part_step_of plan.new (volatile_of volatile.old)
             ≡ proposal_step self.now.me self.now.durable.now (volatile_of volatile.old)
             (entry.Stop (stop_for self.now.durable.now.part members) ∷ [])) }
         ensures rest { volatile.new ≡ record volatile.old {
@@ -109,17 +117,20 @@ impl Stored<'_> {
           staged = volatile.new.staged;
         } }
         ensures same { volatile_of volatile.new ≡ volatile_of volatile.old }
-        ensures room { IfOk result (λ plan. HasRoomIn plan.turn volatile.new) }
+        ensures room { OnOk result (HasRoomIn plan.new.turn volatile.new) }
     {
         let proposed = Proposed {
             count: 1,
             has_stop: true,
         };
         match self.refusal(&volatile.role, proposed) {
-            Some(cause) => Ok(refused(self.alloc, cause)),
+            Some(cause) => {
+                refuse(plan, cause);
+                Ok(())
+            }
             None => {
                 let stop = self.stop_entry(members)?;
-                self.propose(volatile, one(self.alloc, stop)?)
+                self.propose(volatile, one(self.alloc, stop)?, plan)
             }
         }
     }
@@ -127,21 +138,30 @@ impl Stored<'_> {
 
 impl Stored<'_> {
     /// Entries that nothing refuses are proposed together.
-    fn propose(&self, volatile: &mut Volatile, entries: Entries) -> Result<Plan, NoMemory>
+    fn propose(
+        &self,
+        volatile: &mut Volatile,
+        entries: Entries,
+        plan: &mut Plan,
+    ) -> Result<(), NoMemory>
         requires node { IfNodeOf self.now.me self.now.durable.now.part volatile.old }
         requires places { IfEnd self.now.durable.now.part (length entries) }
-        ensures step { IfOk result (λ plan. part_step_of plan (volatile_of volatile.old)
+        requires nothing { plan.old ≡ nothing_plan }
+        ensures step { OnOk result (part_step_of plan.new (volatile_of volatile.old)
             ≡ proposal_at self.now.me self.now.durable.now.part (volatile_of volatile.old) entries None) }
         ensures rest { volatile.new ≡ record volatile.old {
           role = volatile.new.role;
           staged = volatile.new.staged;
         } }
         ensures same { volatile_of volatile.new ≡ volatile_of volatile.old }
-        ensures room { IfOk result (λ plan. HasRoomIn plan.turn volatile.new) }
+        ensures room { OnOk result (HasRoomIn plan.new.turn volatile.new) }
     {
         match &self.durable.part {
-            Some(part) => propose(&self.at(part), &mut volatile.role, entries),
-            None => Ok(refused(self.alloc, Refusal::NoLeader)),
+            Some(part) => propose(&self.at(part), &mut volatile.role, entries, plan),
+            None => {
+                refuse(plan, Refusal::NoLeader);
+                Ok(())
+            }
         }
     }
 
@@ -206,11 +226,9 @@ fn entries_of(alloc: Global, commands: Commands) -> Result<Entries, NoMemory>
     Ok(entries)
 }
 
-/// Nothing happens, and the proposal is refused.
-fn refused(alloc: Global, cause: Refusal) -> Plan
-    ensures { result ≡ record nothing_plan { outcome = Some (Refused cause) } }
+/// The proposal is refused.
+fn refuse(plan: &mut Plan, cause: Refusal)
+    ensures { plan.new ≡ record plan.old { outcome = Some (Refused cause) } }
 {
-    let mut plan = Plan::nothing(alloc);
     plan.outcome = Some(Outcome::Refused(cause));
-    plan
 }

@@ -1,11 +1,12 @@
 //! A node's step.
-ghost use Rattle.std.specs.Prelude.{◌≡◌, nat_eq, IfOk};
+ghost use Rattle.std.specs.Prelude.{◌≡◌, nat_eq, false, IfOk, OnOk};
 ghost use Rattle.std.specs.Set.{is_member};
 ghost use Rattle.op_protocol.specs.Parts.{others};
 ghost use Rattle.op_protocol.specs.Rows.{session_up, tick_at, trim_at, up_at, step_at};
-ghost use Rattle.op_types.specs.Effects.{effects_of};
+ghost use Rattle.op_types.specs.Effects.{effects_of, nothing_plan};
 ghost use Rattle.op_types.specs.Roles.{role_of, HasRoom};
 ghost use Rattle.op_instance.specs.Memory.{volatile_of, part_step_of, HasRoomIn};
+ghost use Rattle.op_instance.specs.Proposals.{proposes};
 ghost use Rattle.op_instance.specs.Sound.{IfNodeOf, IsNode};
 
 use crate::delivering::deliver;
@@ -19,10 +20,54 @@ use op_types::{Body, Input, NoMemory, Outcome, Pid, Plan, Role, is_among};
 
 impl Stored<'_> {
     /// What comes of an input, but for the base of what it trims, what it decides, what it brings of a closed list, and what
-    /// comes of reads.
+    /// comes of reads, by a plan in which nothing happens yet.
     /// Nothing changes yet, but the room that the plan's turn needs.
-    pub fn step(&self, volatile: &mut Volatile, input: Input) -> Result<Plan, NoMemory>
-        requires { IsNode self.now.me self.now.durable.now volatile.old }
+    pub fn step(
+        &self,
+        volatile: &mut Volatile,
+        input: Input,
+        plan: &mut Plan,
+    ) -> Result<(), NoMemory>
+        requires node { IsNode self.now.me self.now.durable.now volatile.old }
+        requires nothing { plan.old ≡ nothing_plan }
+        ensures step { OnOk result (part_step_of plan.new (volatile_of volatile.old)
+            ≡ step_at self.now.me self.now.durable.now (volatile_of volatile.old) input) }
+        ensures rest { volatile.new ≡ record volatile.old {
+          role = volatile.new.role;
+          staged = volatile.new.staged;
+        } }
+        ensures same { volatile_of volatile.new ≡ volatile_of volatile.old }
+        ensures room { OnOk result (HasRoomIn plan.new.turn volatile.new) }
+    {
+        match input {
+            Input::Commands(commands) => self.propose_commands(volatile, commands, plan),
+            Input::Stop(members) => self.propose_stop(volatile, members, plan),
+            input => self.react(volatile, input, plan),
+        }
+    }
+
+    /// The same, of an input that proposes nothing.
+    #[inline(never)]
+    fn react(&self, volatile: &mut Volatile, input: Input, plan: &mut Plan) -> Result<(), NoMemory>
+        requires node { IsNode self.now.me self.now.durable.now volatile.old }
+        requires other { proposes input ≡ false }
+        ensures step { OnOk result (part_step_of plan.new (volatile_of volatile.old)
+            ≡ step_at self.now.me self.now.durable.now (volatile_of volatile.old) input) }
+        ensures rest { volatile.new ≡ record volatile.old {
+          role = volatile.new.role;
+          staged = volatile.new.staged;
+        } }
+        ensures same { volatile_of volatile.new ≡ volatile_of volatile.old }
+        ensures room { OnOk result (HasRoomIn plan.new.turn volatile.new) }
+    {
+        put(plan, self.reaction(volatile, input)?);
+        Ok(())
+    }
+
+    /// What comes of an input that proposes nothing.
+    fn reaction(&self, volatile: &mut Volatile, input: Input) -> Result<Plan, NoMemory>
+        requires node { IsNode self.now.me self.now.durable.now volatile.old }
+        requires other { proposes input ≡ false }
         ensures step { IfOk result (λ plan. part_step_of plan (volatile_of volatile.old)
             ≡ step_at self.now.me self.now.durable.now (volatile_of volatile.old) input) }
         ensures rest { volatile.new ≡ record volatile.old {
@@ -35,12 +80,11 @@ impl Stored<'_> {
         match input {
             Input::Tick => self.tick(volatile),
             Input::Deliver(from, message) => deliver(self, volatile, from, message),
-            Input::Commands(commands) => self.propose_commands(volatile, commands),
-            Input::Stop(members) => self.propose_stop(volatile, members),
             Input::TrimNow => self.trim(volatile),
             Input::Read(_) => Ok(self.nothing()),
             Input::Up(peer) => self.up(volatile, peer),
             Input::Down(peer) => Ok(session_down(self.alloc, &volatile.role, peer)),
+            Input::Commands(_) | Input::Stop(_) => unreachable!(),
         }
     }
 
@@ -113,4 +157,11 @@ fn is_other(member: &Member, pid: Pid) -> bool
     ensures { result ≡ is_member nat_eq (others member.now.me member.now.part.now.members) pid }
 {
     is_among(member.part.members.as_slice(), pid) && pid != member.me
+}
+
+/// Takes a plan's place.
+fn put(plan: &mut Plan, new: Plan)
+    ensures { plan.new ≡ new }
+{
+    *plan = new;
 }

@@ -4,11 +4,11 @@ ghost use Rattle.op_types.specs.Limits.{positions_end};
 ghost use Rattle.op_types.specs.Changes.{len_of};
 ghost use Rattle.op_types.specs.Effects.{effects_of, nothing_plan};
 ghost use Rattle.op_types.specs.Roles.{role_of, preparing_of, leading_of, HasRoom};
-ghost use Rattle.op_types.specs.declared.answers.Outcome.TheVariants.{Appended, Forwarded};
+ghost use Rattle.op_types.specs.declared.answers.Outcome.TheVariants.{Forwarded};
 ghost use Rattle.op_types.specs.declared.messages.Body.TheVariants.{Accept};
 ghost use Rattle.op_types.specs.declared.role.Role.TheVariants as role;
 ghost use Rattle.op_types.specs.declared.turn.Turn.TheVariants.{Stay, Buffer};
-ghost use Rattle.op_protocol.specs.Parts.{answered, message, to_each};
+ghost use Rattle.op_protocol.specs.Parts.{message, to_each};
 ghost use Rattle.op_protocol.specs.Leader.{synced_others, extends, propose, on_forward, forward_body, waiting_as};
 ghost use Rattle.op_plans.specs.Positions.{FitsPositions};
 
@@ -20,57 +20,52 @@ use op_types::{
 };
 use std::alloc::{AllocError as NoMemory, Global};
 
-/// Entries are added to the log, wait in the buffer, or go to whom the node takes for the leader, together.
-pub fn propose(member: &Member, role: &mut Role, entries: Entries) -> Result<Plan, NoMemory>
+/// Entries are added to the log, wait in the buffer, or go to whom the node takes for the leader, together, by a plan in which
+/// nothing happens yet.
+pub fn propose(
+    member: &Member,
+    role: &mut Role,
+    entries: Entries,
+    plan: &mut Plan,
+) -> Result<(), NoMemory>
     requires positions { FitsPositions member.now.part.now }
     requires members { 0 < length member.now.part.now.members }
     requires end { len_of member.now.part.now + length entries ≤ positions_end }
-    ensures row { IfOk result (λ plan. effects_of role.old plan
+    requires nothing { plan.old ≡ nothing_plan }
+    ensures row { OnOk result (effects_of role.old plan.new
         ≡ propose member.now.me member.now.part.now (role_of role.old) entries) }
     ensures role { role_of role.new ≡ role_of role.old }
-    ensures room { IfOk result (λ plan. HasRoom plan.turn role.new) }
+    ensures room { OnOk result (HasRoom plan.new.turn role.new) }
 {
     match role {
-        Role::Idle => forwards(member, entries),
-        Role::Preparing(preparing) => buffers(
-            member,
-            preparing,
-            entries,
-            true,
-            Some(Outcome::Buffered),
-        ),
-        Role::Leading(leading) => appends(member, leading, entries),
+        Role::Idle => forwards(member, entries, plan),
+        Role::Preparing(preparing) => {
+            buffers(member, preparing, entries, true, plan)?;
+            plan.outcome = Some(Outcome::Buffered);
+            Ok(())
+        }
+        Role::Leading(leading) => {
+            append(member, leading, entries, plan)?;
+            plan.outcome = Some(Outcome::Appended(member.part.conf, member.log_len()));
+            Ok(())
+        }
     }
 }
 
 /// A node that follows forwards entries to whom it takes for the leader.
-fn forwards(member: &Member, entries: Entries) -> Result<Plan, NoMemory>
-    ensures { IfOk result (λ plan. let leader = member.now.part.now.promised.pid in plan
+#[inline(never)]
+fn forwards(member: &Member, entries: Entries, plan: &mut Plan) -> Result<(), NoMemory>
+    requires nothing { plan.old ≡ nothing_plan }
+    ensures { let leader = member.now.part.now.promised.pid in OnOk result (plan.new
         ≡ record nothing_plan {
           sends = message member.now.part.now.conf leader (forward_body entries) ∷ [];
           outcome = Some (Forwarded leader);
         }) }
 {
     let leader = member.part.promised.pid;
-    let mut plan = member.saying(leader, forward(entries))?;
+    member.send(&mut plan.sends, leader, forward(entries))?;
     plan.outcome = Some(Outcome::Forwarded(leader));
-    Ok(plan)
-}
-
-/// A leader adds entries that were proposed at it.
-fn appends(member: &Member, leading: &Leading, entries: Entries) -> Result<Plan, NoMemory>
-    requires positions { FitsPositions member.now.part.now }
-    requires members { 0 < length member.now.part.now.members }
-    requires end { len_of member.now.part.now + length entries ≤ positions_end }
-    ensures row { IfOk result (λ plan. effects_of (role.Leading leading.now) plan
-        ≡ answered (Appended member.now.part.now.conf (len_of member.now.part.now))
-        (extends member.now.me member.now.part.now (leading_of leading.now) entries)) }
-    ensures turn { IfOk result (λ plan. plan.turn ≡ Stay) }
-{
-    let mut plan = member.nothing();
-    append(member, leading, entries, &mut plan)?;
-    plan.outcome = Some(Outcome::Appended(member.part.conf, member.log_len()));
-    Ok(plan)
+    Ok(())
 }
 
 /// Proposals were forwarded together: they are taken where the node leads or prepares.
@@ -84,7 +79,11 @@ pub fn on_forward(member: &Member, role: &mut Role, entries: Entries) -> Result<
 {
     match role {
         Role::Idle => Ok(member.nothing()),
-        Role::Preparing(preparing) => buffers(member, preparing, entries, false, None),
+        Role::Preparing(preparing) => {
+            let mut plan = member.nothing();
+            buffers(member, preparing, entries, false, &mut plan)?;
+            Ok(plan)
+        }
         Role::Leading(leading) => {
             if member.pending().is_some() {
                 return Ok(member.nothing());
@@ -110,24 +109,24 @@ fn forward(entries: Entries) -> Body
     Body::Forwards(Entries::from_vec(entries))
 }
 
-/// Entries wait for the log to be adopted.
+/// Entries wait for the log to be adopted, by a plan in which nothing happens yet.
+#[inline(never)]
 fn buffers(
     member: &Member,
     preparing: &mut Preparing,
     entries: Entries,
     is_own: bool,
-    outcome: Option<Outcome>,
-) -> Result<Plan, NoMemory>
-    ensures plan { IfOk result (λ plan. plan
-        ≡ record nothing_plan { turn = Buffer (waiting_as is_own entries); outcome = outcome }) }
+    plan: &mut Plan,
+) -> Result<(), NoMemory>
+    requires nothing { plan.old ≡ nothing_plan }
+    ensures plan { OnOk result (plan.new
+        ≡ record nothing_plan { turn = Buffer (waiting_as is_own entries) }) }
     ensures role { preparing_of preparing.new ≡ preparing_of preparing.old }
     ensures room { OnOk result (length entries ≤ preparing.new.buffer.room) }
 {
     preparing.buffer.make_room(entries.len())?;
-    let mut plan = member.nothing();
     plan.turn = Turn::Buffer(waiting(member.alloc, entries, is_own)?);
-    plan.outcome = outcome;
-    Ok(plan)
+    Ok(())
 }
 
 /// Entries as they wait in a buffer.

@@ -5,7 +5,7 @@ ghost use Rattle.op_instance.specs.Sound.{IsNode};
 use op_instance::{Stored, Volatile, first_volatile};
 use op_types::{
     Ballot, Blob, Command, Commands, Durable, Input, Leading, Members, Op, Outcome, POSITIONS_END,
-    Part, Refusal, Reserved, Role,
+    Part, Plan, Refusal, Reserved, Role,
 };
 use std::alloc::{AllocError, Global};
 use std::test::Fail;
@@ -74,7 +74,8 @@ fn outcome(alloc: Global, len: u64) -> Result<Option<Outcome>, AllocError>
         me: 1,
         durable: &durable,
     };
-    let plan = stored.step(&mut volatile, Input::Commands(command(alloc)?))?;
+    let mut plan = Plan::nothing(alloc);
+    stored.step(&mut volatile, Input::Commands(command(alloc)?), &mut plan)?;
     Ok(plan.outcome)
 }
 

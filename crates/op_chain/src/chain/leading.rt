@@ -57,7 +57,7 @@ impl Chain {
     {
         match plan.get().renewal.service() {
             Some(service) => service.get(key),
-            None => self.service.value_after(&plan.get().service, key),
+            None => self.service.value_after(&plan.get().served.change, key),
         }
     }
 

@@ -17,8 +17,8 @@ add_all-requires c =
     let few : length c.give_up.new.told.items ≤ length plan.plan.replies =
     rows_few c.let_wait.new.self c.give_up.new.waiting plan.room.told c.give_up.new.told c.args.self.now.waiting.next plan.plan.replies c.let_wait.ensures.waiting room.nobody_told c.give_up.ensures.told in
     let same : length c.into_seq.result ≡ length c.give_up.new.told.items = ap length c.into_seq.ensures in
-    let gave : plan.room.replies.room ≤ c.give.new.given.room + length plan.replies = c.give.ensures.room in
-    let has : length plan.replies + length plan.plan.replies + length (told_anew plan.renewal) ≤ plan.room.replies.room = room.replies in
+    let gave : plan.room.replies.room ≤ c.give.new.given.room + length plan.served.replies = c.give.ensures.room in
+    let has : length plan.served.replies + length plan.plan.replies + length (told_anew plan.renewal) ≤ plan.room.replies.room = room.replies in
     omega arith
 
 pub renew-requires : goal.renew-requires
@@ -28,8 +28,8 @@ renew-requires c =
     let few : length c.give_up.new.told.items ≤ length plan.plan.replies =
     rows_few c.let_wait.new.self c.give_up.new.waiting plan.room.told c.give_up.new.told c.args.self.now.waiting.next plan.plan.replies c.let_wait.ensures.waiting room.nobody_told c.give_up.ensures.told in
     let same : length c.into_seq.result ≡ length c.give_up.new.told.items = ap length c.into_seq.ensures in
-    let gave : plan.room.replies.room ≤ c.give.new.given.room + length plan.replies = c.give.ensures.room in
-    let has : length plan.replies + length plan.plan.replies + length (told_anew plan.renewal) ≤ plan.room.replies.room = room.replies in
+    let gave : plan.room.replies.room ≤ c.give.new.given.room + length plan.served.replies = c.give.ensures.room in
+    let has : length plan.served.replies + length plan.plan.replies + length (told_anew plan.renewal) ≤ plan.room.replies.room = room.replies in
     let left = ap (λ (r : Roomed Reply). r.room) c.add_all.ensures in
     omega arith
 
@@ -51,7 +51,7 @@ returns c x before =
       volatile = ap (λ (n : Chain). n.volatile) c.renew.ensures.rest;
       service = c.renew.ensures.service ∙ ap (λ (s : Service). service_by plan.renewal s) c.adopt-3.ensures;
       told = all_told c.let_wait.new.self c.give_up.new.waiting plan.room.told c.give_up.new.told old.waiting.next plan.plan.replies c.let_wait.ensures.waiting p.room.nobody_told c.give_up.ensures.told
-          c.give.new.waiting plan.room.replies c.give.new.given plan.replies p.room.no_replies c.give.ensures.given
+          c.give.new.waiting plan.room.replies c.give.new.given plan.served.replies p.room.no_replies c.give.ensures.given
           c.into_seq.result (told_anew plan.renewal) c.into_seq-2.result new.waiting c.add_all.new.self c.renew.new.given c.into_seq.ensures (ap (λ (r : Roomed Reply). r.items) c.add_all.ensures) c.renew.ensures.told c.into_seq-2.ensures;
       sends = refl;
       outcome = refl;

@@ -1,4 +1,4 @@
-use Rattle.op_chain.proofs.Decided.{one_continued, none_continued}
+use Rattle.op_chain.proofs.Decided.{one_continued}
 use Rattle.op_chain.proofs.served.Served.serve.Goals as goal
 
 pub entries-preserved : goal.entries-preserved
