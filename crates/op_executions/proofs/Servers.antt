@@ -1,11 +1,15 @@
 -- The server of an id, at its place among the servers, and the servers once another one stands there.
-use Rattle.std.proofs.Common.{◌≡◌, ℕ, zero, suc, Bool, true, false, eqb, nat_eq, ◌+◌, ◌<◌, ◌≤◌, List, [], ◌∷◌, ◌++◌, length, map, take, get_or, set, Some, All, refl, sym, ap, subst, ◌∙◌, arith, ⊎_elim}
+use Rattle.std.proofs.Common.{◌≡◌, ℕ, Result, Ok, Err, zero, suc, Bool, true, false, eqb, nat_eq, ◌+◌, ◌<◌, ◌≤◌, List, [], ◌∷◌, ◌++◌, length, map, take, get_or, set, Some, All, refl, sym, ap, subst, ◌∙◌, arith, ⊎_elim}
 use Rattle.std.proofs.lemmas.Bool.{cond_both, cond-true, cond-false, or_cases, eqb-true, eqb-false}
 use Rattle.std.proofs.lemmas.List.{map-append, take_more, take_all}
 use Rattle.std.proofs.lemmas.List.Elements.{All-nil, All-cons, All-head, All-tail, All-push}
+use Rattle.std.specs.Prelude.{IfOk, OnOk}
 use Rattle.std.specs.Set.{is_member}
-use Rattle.op_runs.specs.World.{Node, node_at, with_node, first_node}
-use Rattle.op_executions.specs.Servers.{Kind, ShowsNode}
+use Rattle.op_types.specs.declared.messages.Msg.{Msg}
+use Rattle.op_runs.specs.declared.summary.Line.{Line}
+use Rattle.op_runs.specs.World.{Node, Doing, node_at, with_node, first_node}
+use Rattle.op_executions.specs.Servers.{Kind, ShowsNode, IsDoneAt, IsToldAt}
+use Rattle.op_executions.specs.declared.server.Done.{Done}
 use Rattle.op_executions.specs.Worlds.{ShowNodes, place_of}
 
 -- ---- a place
@@ -144,3 +148,12 @@ module _ {S F : Type 0} (K : Kind S F) where
   have_all members ids servers k had most =
       let whole : take k ids ≡ ids = take_all k ids most in
       record { shown = subst (λ (ms : List ℕ). ShowNodes K servers (map (first_node members) ms)) whole had.shown; ids_are = had.ids_are ∙ whole; kept = had.kept; first = had.first }
+
+  -- ---- what is told
+
+  -- the lines of what is done are added, and its messages given
+  pub told_at : {E : Type 0} (f : F) (old : S) (d : Doing) (line : ℕ) (new : S) (did : Done) (r : Result (List (ℕ × Msg)) E) (before lines : List Line) → IsDoneAt K f old d line new did.sends did.told → IfOk r (λ sends. sends ≡ did.sends) → OnOk r (lines ≡ before ++ did.told)
+      → IfOk r (λ sends. IsToldAt K f old d line new sends before lines)
+  told_at f old d line new did (Ok sends) before lines done is added =
+      record { told = did.told; done = subst (λ (ss : List (ℕ × Msg)). IsDoneAt K f old d line new ss did.told) (sym is) done; added = added }
+  told_at f old d line new did (Err e) before lines done is added = tt

@@ -82,3 +82,10 @@ pub record IsDoneAt {S F : Type 0} (K : Kind S F) (f : F) (old : S) (d : Doing) 
   pub after : (x : Node) → ShowsNode K old x → IsDoneBy K f old x d line new sends told
   pub pid : K.pid_of new ≡ K.pid_of old
   pub kept : K.is_kept new
+
+-- the same, where these lines became those: what is told is added
+pub record IsToldAt {S F : Type 0} (K : Kind S F) (f : F) (old : S) (d : Doing) (line : ℕ) (new : S)
+    (sends : List (ℕ × Msg)) (before lines : List Line) : Type 0 where
+  pub told : List Line
+  pub done : IsDoneAt K f old d line new sends told
+  pub added : lines ≡ before ++ told

@@ -42,6 +42,7 @@ pub struct Deed {
 
 /// What an event does that is possible where these messages were sent, if it does something by itself. A message that is
 /// delivered is copied.
+#[inline(always)]
 pub fn deed_of(alloc: Global, messages: &[Sent], what: What) -> Result<Option<Deed>, NoMemory>
     requires { (nodes : List ℕ) × (is_possible nodes (length messages.now) what ≡ true) }
     ensures { IfOk result (λ deed. runs.deed_of messages.now what ≡ option_map deed_shown deed) }
@@ -70,6 +71,7 @@ pub fn deed_of(alloc: Global, messages: &[Sent], what: What) -> Result<Option<De
 }
 
 /// The message of this number reaches its addressee.
+#[inline(never)]
 fn delivery(alloc: Global, messages: &[Sent], number: usize) -> Result<Deed, NoMemory>
     requires { number < length messages.now }
     ensures { IfOk result (λ deed.

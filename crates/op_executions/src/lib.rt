@@ -16,5 +16,5 @@ pub use fail::RunFail;
 pub use plain::plain_runs_are_done;
 pub use sent::Sent;
 pub use server::{Done, Server};
-pub use telling::{ballot_lines, pair_lines, step_lines};
+pub use telling::{ballot_lines, pair_lines, push_step_lines};
 pub use world::{ServerWorld, place_of};

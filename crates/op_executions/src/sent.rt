@@ -25,7 +25,19 @@ impl Model for Sent {
 }
 
 /// Adds what a node sends.
+#[inline(always)]
 pub fn send_all(messages: &mut Vec<Sent>, from: Pid, sends: Sends) -> Result<(), NoMemory>
+    ensures { OnOk result (messages.new.items ≡ messages.old.items ++ sent_by from sends) }
+{
+    if sends.is_empty() {
+        return Ok(());
+    }
+    send_some(messages, from, sends)
+}
+
+/// The same, where there is something to send.
+#[inline(never)]
+fn send_some(messages: &mut Vec<Sent>, from: Pid, sends: Sends) -> Result<(), NoMemory>
     ensures { OnOk result (messages.new.items ≡ messages.old.items ++ sent_by from sends) }
 {
     'sends: for (to, message) in sends.into_vec() {

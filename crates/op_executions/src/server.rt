@@ -1,10 +1,11 @@
-ghost use Rattle.std.specs.Prelude.{◌≡◌, [], IfOk};
+ghost use Rattle.std.specs.Prelude.{◌≡◌, ◌++◌, [], IfOk, OnOk};
 ghost use Rattle.op_types.specs.Ranges.{MembersInRange};
 ghost use Rattle.op_runs.specs.World as runs;
 ghost use Rattle.op_executions.specs.Deeds.{doing_of};
-ghost use Rattle.op_executions.specs.Servers.{Kind, ShowsNode, CanDo, IsDoneAt};
+ghost use Rattle.op_executions.specs.Servers.{Kind, ShowsNode, CanDo, IsToldAt};
 
 use crate::deed::Doing;
+use crate::telling::tell_all;
 use op_runs::Lines;
 use op_types::{Members, NoMemory, Pid, Sends};
 use std::alloc::Global;
@@ -28,6 +29,15 @@ impl Done {
             told: Lines::new(alloc),
         }
     }
+
+    /// Adds the lines, and gives the messages.
+    pub fn tell(self, lines: &mut Lines) -> Result<Sends, NoMemory>
+        ensures sends { IfOk result (λ sends. sends ≡ self.sends) }
+        ensures lines { OnOk result (lines.new ≡ lines.old ++ self.told) }
+    {
+        tell_all(lines, self.told)?;
+        Ok(self.sends)
+    }
 }
 
 /// A server of a world: one of the definitions' nodes, over disks or without.
@@ -44,8 +54,8 @@ pub trait Server: Drop {
         ensures kept { IfOk result (λ s. kind.is_kept s) }
         ensures first { IfOk result (λ s. kind.is_first s) };
 
-    /// Does this here, in a world of these first members, with this fate, said in this line of the schedule. Without memory the
-    /// server is lost.
+    /// Does this here, in a world of these first members, with this fate, said in this line of the schedule. Gives the messages,
+    /// each to a server, and adds the lines that are reported. Without memory the server is lost.
     fn happens(
         &mut self,
         alloc: Global,
@@ -53,9 +63,10 @@ pub trait Server: Drop {
         doing: Doing,
         fate: Self::Fate,
         line: u64,
-    ) -> Result<Done, NoMemory>
+        lines: &mut Lines,
+    ) -> Result<Sends, NoMemory>
         requires members { MembersInRange members.now }
         requires can { CanDo kind self.old (doing_of doing) }
-        ensures { IfOk result (λ r.
-            IsDoneAt kind fate self.old (doing_of doing) line self.new r.sends r.told) };
+        ensures { IfOk result (λ sends.
+            IsToldAt kind fate self.old (doing_of doing) line self.new sends lines.old lines.new) };
 }

@@ -1,5 +1,5 @@
 //! The lines that are reported of what is done at a node.
-ghost use Rattle.std.specs.Prelude.{◌≡◌, ◌++◌, map, IfOk, OnOk, option_map};
+ghost use Rattle.std.specs.Prelude.{◌≡◌, ◌∷◌, ◌++◌, [], map, IfOk, OnOk, option_map};
 ghost use Rattle.op_chain.specs.Chains.{ballots_in, pairs_in};
 ghost use Rattle.op_protocol.specs.State.{State};
 ghost use Rattle.op_runs.specs.declared.summary.Line.TheVariants as said;
@@ -11,42 +11,25 @@ use op_types::{Answer, Ballot, NoMemory, Outcome, Pid, Replies, Reply};
 use std::alloc::Global;
 use std::mem::replace;
 
-/// The line of what a client is answered at a node.
-fn answer_line(pid: Pid, reply: Reply) -> Line
-    ensures { result ≡ answer_line pid reply.client reply.seq reply.answer }
-{
-    let Reply {
-        client,
-        seq,
-        answer,
-    } = reply;
-    match answer {
-        Answer::Dropped(cause) => Line::Dropped(pid, client, seq, cause),
-        answer => Line::Reply(pid, client, seq, answer),
-    }
-}
-
-/// The lines of a step at a node, said in this line of the schedule: what a proposal is answered at once, then what clients are
-/// answered, and then what reads are.
-pub fn step_lines(
-    alloc: Global,
+/// Adds the lines of a step at a node, said in this line of the schedule: what a proposal is answered at once, then what clients
+/// are answered, and then what reads are.
+pub fn push_step_lines(
+    lines: &mut Lines,
     line: u64,
     pid: Pid,
     outcome: Option<Outcome>,
     replies: Replies,
     read_replies: Replies,
-) -> Result<Lines, NoMemory>
-    ensures { IfOk result (λ lines. lines ≡ outcome_lines line outcome
+) -> Result<(), NoMemory>
+    ensures { OnOk result (lines.new ≡ lines.old ++ outcome_lines line outcome
         ++ map (λ r. answer_line pid r.client r.seq r.answer) replies
         ++ map (λ r. said.Read pid r.client r.seq r.answer) read_replies) }
 {
-    let mut lines = Lines::new(alloc);
     if let Some(outcome) = outcome {
         lines.push(Line::Answer(line, outcome))?;
     }
-    push_answers(&mut lines, pid, replies)?;
-    push_read_answers(&mut lines, pid, read_replies)?;
-    Ok(lines)
+    push_answers(lines, pid, replies)?;
+    push_read_answers(lines, pid, read_replies)
 }
 
 /// Adds the lines of what clients are answered.
@@ -55,8 +38,22 @@ fn push_answers(lines: &mut Lines, pid: Pid, replies: Replies) -> Result<(), NoM
         ++ map (λ r. answer_line pid r.client r.seq r.answer) replies) }
 {
     'replies: for reply in replies.into_vec() {
-        lines.push(answer_line(pid, reply))?;
+        push_answer(lines, pid, reply)?;
     }
+    Ok(())
+}
+
+/// Adds the line of what a client is answered at a node.
+#[inline(always)]
+fn push_answer(lines: &mut Lines, pid: Pid, reply: Reply) -> Result<(), NoMemory>
+    ensures { OnOk result
+        (lines.new ≡ lines.old ++ answer_line pid reply.client reply.seq reply.answer ∷ []) }
+{
+    if let Answer::Dropped(cause) = &reply.answer {
+        lines.push(Line::Dropped(pid, reply.client, reply.seq, *cause))?;
+        return Ok(());
+    }
+    lines.push(Line::Reply(pid, reply.client, reply.seq, reply.answer))?;
     Ok(())
 }
 

@@ -10,11 +10,14 @@ use crate::fail::RunFail;
 use crate::ids::node_ids;
 use crate::possible::{is_possible, proposals_of};
 use crate::sent::{Sent, send_all};
-use crate::server::{Done, Server};
-use crate::telling::tell_all;
+use crate::server::Server;
 use op_runs::{Event, Lines};
 use op_types::{Members, NoMemory, Pid};
 use std::alloc::Global;
+use std::mem::replace;
+
+/// How many lines most events give: a proposal gives what it is answered at once, and what its client is answered then.
+const LINES_OF_EVENT: usize = 2;
 
 /// One to nine members and spares, all messages that were sent, and what the events gave to be reported.
 #[derive(Drop)]
@@ -61,6 +64,15 @@ impl<S: Server> ServerWorld<S> {
         })
     }
 
+    /// Makes room for the lines of so many events more, if memory is found.
+    pub fn make_room(&mut self, events: usize)
+        ensures { self.new ≡ self.old }
+    {
+        let mut lines = replace(&mut self.lines, Lines::new(self.alloc)).into_vec();
+        let _is_made = lines.reserve(events.saturating_mul(LINES_OF_EVENT));
+        self.lines = Lines::from_vec(lines);
+    }
+
     /// One event, with what is said of it beforehand. It is refused, as the event of number 0, exactly where it names a server
     /// that is absent or a message that wasn't sent. Gives the place of the server where something was done; a stop or a failure
     /// in a call of a disk does nothing by itself. There is no memory for more proposals than eight bytes count.
@@ -90,9 +102,15 @@ impl<S: Server> ServerWorld<S> {
         };
         let place = place_of(&self.ids, pid);
         let server = &mut self.servers[place];
-        let Done { sends, told } = server.happens(self.alloc, &self.members, doing, fate, line)?;
+        let sends = server.happens(
+            self.alloc,
+            &self.members,
+            doing,
+            fate,
+            line,
+            &mut self.lines,
+        )?;
         send_all(&mut self.messages, pid, sends)?;
-        tell_all(&mut self.lines, told)?;
         self.proposed = proposed;
         Ok(Some(place))
     }

@@ -6,14 +6,14 @@ ghost use Rattle.op_server.specs.Servers.{state_of, Admits, IsSame};
 ghost use Rattle.op_protocol.specs.Rows.{step_plan};
 ghost use Rattle.op_runs.specs.World as runs;
 ghost use Rattle.op_executions.specs.Deeds.{told_of, doing_of};
-ghost use Rattle.op_executions.specs.Servers.{CanDo};
+ghost use Rattle.op_executions.specs.Servers.{CanDo, IsDoneAt};
 ghost use Rattle.op_pure.specs.Happenings.{fate_of};
 ghost use Rattle.op_pure.specs.Nodes.{pure_nodes, up_node, HasDone, IsFailed, IsStopped, IsUp};
 
 mod opening;
 
 use crate::happening::{Fate, Foretold};
-use op_executions::{Doing, Done, Told, ballot_lines, pair_lines, step_lines};
+use op_executions::{Doing, Done, Told, ballot_lines, pair_lines, push_step_lines};
 use op_runs::{Line, Lines};
 use op_server::{Given, Server, empty_durable, first_durable};
 use op_types::{Batch, Durable, Input, Members, NoMemory, Outcome, Pid, Refusal, Sends, is_among};
@@ -63,7 +63,25 @@ impl op_executions::Server for PureNode {
         doing: Doing,
         fate: Foretold,
         line: u64,
-    ) -> Result<Done, NoMemory> {
+        lines: &mut Lines,
+    ) -> Result<Sends, NoMemory> {
+        self.does(alloc, doing, fate, line)?.tell(lines)
+    }
+}
+
+impl PureNode {
+    /// Does this here.
+    fn does(
+        &mut self,
+        alloc: Global,
+        doing: Doing,
+        fate: Foretold,
+        line: u64,
+    ) -> Result<Done, NoMemory>
+        requires { CanDo pure_nodes self.old (doing_of doing) }
+        ensures { IfOk result (λ r.
+            IsDoneAt pure_nodes fate self.old (doing_of doing) line self.new r.sends r.told) }
+    {
         match doing {
             Doing::Steps(input) => self.step(alloc, input, fate.fate, line),
             Doing::Stops => {
@@ -74,9 +92,7 @@ impl op_executions::Server for PureNode {
             Doing::Tells(told) => self.tell(alloc, told),
         }
     }
-}
 
-impl PureNode {
     /// A step of this fate, if it is up. Where the node stops in it, what it was to store is kept, and all memory is lost; where a
     /// disk fails, it keeps what it has, and what is proposed is refused.
     fn step(&mut self, alloc: Global, input: Input, fate: Fate, line: u64) -> Result<Done, NoMemory>
@@ -185,7 +201,8 @@ fn step_whole(
         read_replies,
         outcome,
     } = server.adopt(plan);
-    let told = step_lines(alloc, line, pid, outcome, replies, read_replies)?;
+    let mut told = Lines::new(alloc);
+    push_step_lines(&mut told, line, pid, outcome, replies, read_replies)?;
     Ok(Done { sends, told })
 }
 

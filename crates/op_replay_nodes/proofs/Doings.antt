@@ -14,7 +14,7 @@ use Rattle.op_node.specs.Nodes.{node_of, gives, stores, after_input, Stepped, Is
 use Rattle.op_node.specs.Steps as steps
 use Rattle.op_node.specs.declared.node.Node as nodes
 use Rattle.op_executions.specs.Deeds.{doing_of}
-use Rattle.op_executions.specs.Servers.{CanDo, IsDoneAt}
+use Rattle.op_executions.specs.Servers.{CanDo, IsDoneAt, IsToldAt}
 use Rattle.op_executions.specs.declared.deed.Doing as deed
 use Rattle.op_executions.specs.declared.server.Done as given
 use Rattle.op_replay_nodes.specs.Plans.{awaited_of, is_quiet, lost_in}
@@ -178,15 +178,14 @@ module _ {D C : Type 0} (M : Medium D C) where
   }
 
   -- what is done of these is done of a server where these are what it is to do
-  pub handed : {E : Type 0} (r : Result given.Done E) (old new : WorldNode D C) (x y : deed.Doing) (line : ℕ) → x ≡ y → IfOk r (λ d. IsDoneAt (area_nodes M) tt (not_due old) (doing_of y) line new d.sends d.told)
-      → IfOk r (λ d. IsDoneAt (area_nodes M) tt old (doing_of x) line new d.sends d.told)
-  handed (Ok d) old new x y line is did =
-      subst (λ (z : deed.Doing). IsDoneAt (area_nodes M) tt old (doing_of z) line new d.sends d.told) (sym is) (done_before old new (doing_of y) line d.sends d.told did)
-  handed (Err e) old new x y line is did = tt
-
-  pub any_line : {E : Type 0} (r : Result given.Done E) (old new : WorldNode D C) (x : Doing) (line : ℕ) → IfOk r (λ d. (at : ℕ) → IsDoneAt (area_nodes M) tt old x at new d.sends d.told) → IfOk r (λ d. IsDoneAt (area_nodes M) tt old x line new d.sends d.told)
-  any_line (Ok d) old new x line did = did line
-  any_line (Err e) old new x line did = tt
+  pub handed_on : {E : Type 0} (r : Result (List (ℕ × Msg)) E) (old new : WorldNode D C) (x y : deed.Doing) (line : ℕ) (before lines : List Line) → x ≡ y → IfOk r (λ sends. IsToldAt (area_nodes M) tt (not_due old) (doing_of y) line new sends before lines)
+      → IfOk r (λ sends. IsToldAt (area_nodes M) tt old (doing_of x) line new sends before lines)
+  handed_on (Ok sends) old new x y line before lines is did = record {
+    told = did.told;
+    done = subst (λ (z : deed.Doing). IsDoneAt (area_nodes M) tt old (doing_of z) line new sends did.told) (sym is) (done_before old new (doing_of y) line sends did.told did.done);
+    added = did.added;
+  }
+  handed_on (Err e) old new x y line before lines is did = tt
 
   -- nothing was sent or told
   pub only : (r : given.Done) (old new : WorldNode D C) (x : Doing) (line : ℕ) → r ≡ record { sends = []; told = [] } → IsDoneAt (area_nodes M) tt old x line new [] [] → IsDoneAt (area_nodes M) tt old x line new r.sends r.told

@@ -13,12 +13,13 @@ ghost use Rattle.op_replay_nodes.specs.declared.node_state.NodeState.TheVariants
 use crate::disks::{
     Areas, armed_down, armed_node, closed_node, left_of, open_areas, told_down, told_node,
 };
+use crate::given::done_by;
 use crate::letting_go::{let_go, starved};
 use crate::node_state::{DownNode, NodeState};
 use crate::plan::Plan;
 use crate::told::Told;
 use op_areas::{Area, Arming};
-use op_executions::step_lines;
+use op_executions::Done;
 use op_node::{Given, Node, StepFail};
 use op_runs::{Line, Lines};
 use op_store::{Returned, StoreFail};
@@ -109,13 +110,7 @@ fn stepped<A: Area>(
     ensures { IfOk result (GoesOnUp (medium A.state A.holds A.IS_MIRRORED) node
         given.sends (given_lines pid line given) (is_stop plan.awaited)) }
 {
-    let Given {
-        outcome,
-        replies,
-        read_replies,
-        sends,
-    } = given;
-    let Ok(told) = step_lines(alloc, line, pid, outcome, replies, read_replies) else {
+    let Ok(Done { sends, told }) = done_by(alloc, pid, line, given) else {
         return Err(starved(node));
     };
     Ok(Became {

@@ -5,7 +5,7 @@ ghost use Rattle.op_areas.specs.Media.{medium};
 ghost use Rattle.op_node.specs.Nodes.{node_of};
 ghost use Rattle.op_runs.specs.World as runs;
 ghost use Rattle.op_executions.specs.Deeds.{told_of};
-ghost use Rattle.op_executions.specs.Servers.{CanDo, IsDoneAt};
+ghost use Rattle.op_executions.specs.Servers.{CanDo, IsDoneAt, IsToldAt};
 ghost use Rattle.op_replay_nodes.specs.Became.{GoesOnKilled, GoesOnPlanned, HasAdopted, IsLeftDown, IsNotUp, TellsIn};
 ghost use Rattle.op_replay_nodes.specs.Disks.{IsClosedAs};
 ghost use Rattle.op_replay_nodes.specs.Plans.{is_quiet};
@@ -14,7 +14,7 @@ ghost use Rattle.op_replay_nodes.specs.Nodes.{area_nodes, GoesOn, IsKept};
 use crate::awaited::{Awaited, Planned};
 use crate::became::{Became, opened_any, step_told};
 use crate::disks::{Areas, armed_state, closed_node, left_of, open_areas};
-use crate::given::done_by;
+use crate::given::{done_by, tell_given};
 use crate::letting_go::{let_go, put, starved};
 use crate::node_state::{DownNode, NodeState, WorldNode};
 use crate::plan::Plan;
@@ -29,7 +29,7 @@ use std::alloc::Global;
 use std::mem::replace;
 
 /// How many steps the disks of a node that is up keep the calls of: they forget them all at once, so that most steps move no disk.
-const MOST_KEPT_STEPS: u8 = 64;
+const MOST_KEPT_STEPS: u8 = 250;
 
 impl<A: Area> Server for WorldNode<A, A::Copies> {
     /// What becomes of a step or an opening is said by what awaits the node.
@@ -66,53 +66,69 @@ impl<A: Area> Server for WorldNode<A, A::Copies> {
         doing: Doing,
         _fate: (),
         line: u64,
-    ) -> Result<Done, NoMemory> {
+        lines: &mut Lines,
+    ) -> Result<Sends, NoMemory> {
         self.is_due = false;
         match doing {
-            Doing::Steps(input) => self.step(alloc, input, line),
-            Doing::Stops => self.stop(alloc),
-            Doing::Opens => self.open(alloc, members),
-            Doing::Tells(told) => self.tell(alloc, told),
+            Doing::Steps(input) => self.step(alloc, input, line, lines),
+            Doing::Stops => self.stop(alloc)?.tell(lines),
+            Doing::Opens => self.open(alloc, members)?.tell(lines),
+            Doing::Tells(told) => self.tell(alloc, told)?.tell(lines),
         }
     }
 }
 
 impl<A: Area> WorldNode<A, A::Copies> {
     /// A step, if it is up.
-    fn step(&mut self, alloc: Global, input: Input, line: u64) -> Result<Done, NoMemory>
+    #[inline(always)]
+    fn step(
+        &mut self,
+        alloc: Global,
+        input: Input,
+        line: u64,
+        lines: &mut Lines,
+    ) -> Result<Sends, NoMemory>
         requires can { CanDo (area_nodes (medium A.state A.holds A.IS_MIRRORED)) self.old (runs.Steps input) }
         requires due { self.old.is_due ≡ false }
-        ensures { IfOk result (λ r.
-            IsDoneAt (area_nodes (medium A.state A.holds A.IS_MIRRORED)) tt self.old (runs.Steps input) line
-            self.new r.sends r.told) }
+        ensures { IfOk result (λ sends.
+            IsToldAt (area_nodes (medium A.state A.holds A.IS_MIRRORED)) tt self.old (runs.Steps input) line
+            self.new sends lines.old lines.new) }
     {
         if self.plan.is_quiet(A::IS_MIRRORED) {
-            return self.step_plainly(alloc, input, line);
+            return self.step_plainly(alloc, input, line, lines);
         }
-        self.step_awaited(alloc, input, line)
+        self.step_awaited(alloc, input, line)?.tell(lines)
     }
 
     /// A step that nothing awaits, of a node none of whose areas is lost. One that fails found no memory.
-    fn step_plainly(&mut self, alloc: Global, input: Input, line: u64) -> Result<Done, NoMemory>
+    #[inline(always)]
+    fn step_plainly(
+        &mut self,
+        alloc: Global,
+        input: Input,
+        line: u64,
+        lines: &mut Lines,
+    ) -> Result<Sends, NoMemory>
         requires can { CanDo (area_nodes (medium A.state A.holds A.IS_MIRRORED)) self.old (runs.Steps input) }
         requires due { self.old.is_due ≡ false }
         requires plain { is_quiet A.IS_MIRRORED self.old.plan ≡ true }
-        ensures { IfOk result (λ r.
-            IsDoneAt (area_nodes (medium A.state A.holds A.IS_MIRRORED)) tt self.old (runs.Steps input) line
-            self.new r.sends r.told) }
+        ensures { IfOk result (λ sends.
+            IsToldAt (area_nodes (medium A.state A.holds A.IS_MIRRORED)) tt self.old (runs.Steps input) line
+            self.new sends lines.old lines.new) }
     {
         let NodeState::Up(node) = &mut self.state else {
-            return self.refuse(alloc, input, line);
+            return self.refuse(alloc, input, line)?.tell(lines);
         };
         let Ok(given) = node.step(input) else {
             return Err(NoMemory);
         };
-        let done = done_by(alloc, self.pid, line, given)?;
+        let sends = tell_given(self.pid, line, given, lines)?;
         self.forget_in_time(alloc)?;
-        Ok(done)
+        Ok(sends)
     }
 
     /// A step in which the node may stop, or a call may fail, if it is up.
+    #[inline(never)]
     fn step_awaited(&mut self, alloc: Global, input: Input, line: u64) -> Result<Done, NoMemory>
         requires can { CanDo (area_nodes (medium A.state A.holds A.IS_MIRRORED)) self.old (runs.Steps input) }
         requires due { self.old.is_due ≡ false }
@@ -136,6 +152,7 @@ impl<A: Area> WorldNode<A, A::Copies> {
     }
 
     /// A step of one that isn't up: it refuses what is proposed, if it failed.
+    #[inline(never)]
     fn refuse(&mut self, alloc: Global, input: Input, line: u64) -> Result<Done, NoMemory>
         requires can { CanDo (area_nodes (medium A.state A.holds A.IS_MIRRORED)) self.old (runs.Steps input) }
         requires due { self.old.is_due ≡ false }
@@ -155,6 +172,7 @@ impl<A: Area> WorldNode<A, A::Copies> {
     }
 
     /// Goes on as it became by a step or an opening that was awaited.
+    #[inline(never)]
     fn adopt(&mut self, alloc: Global, became: Became<A, A::Copies>) -> Result<Done, NoMemory>
         ensures { IfOk result (HasAdopted (medium A.state A.holds A.IS_MIRRORED) became self.old self.new) }
     {
@@ -172,6 +190,7 @@ impl<A: Area> WorldNode<A, A::Copies> {
     }
 
     /// Counts a step, and lets the disks of a node that is up forget their calls once they keep those of so many.
+    #[inline(always)]
     fn forget_in_time(&mut self, alloc: Global) -> Result<(), NoMemory>
         ensures { OnOk result (GoesOn (medium A.state A.holds A.IS_MIRRORED) self.old self.new) }
     {
@@ -187,6 +206,7 @@ impl<A: Area> WorldNode<A, A::Copies> {
     }
 
     /// Stops between two steps: what a crash leaves of its disks is left, and nothing awaits it any more.
+    #[inline(never)]
     fn stop(&mut self, alloc: Global) -> Result<Done, NoMemory>
         requires kept { IsKept (medium A.state A.holds A.IS_MIRRORED) self.old.pid self.old.state }
         requires due { self.old.is_due ≡ false }
@@ -202,6 +222,7 @@ impl<A: Area> WorldNode<A, A::Copies> {
     }
 
     /// Is opened, if it isn't up.
+    #[inline(never)]
     fn open(&mut self, alloc: Global, members: &Members) -> Result<Done, NoMemory>
         requires members { MembersInRange members.now }
         requires can { CanDo (area_nodes (medium A.state A.holds A.IS_MIRRORED)) self.old runs.Opens }
@@ -219,6 +240,7 @@ impl<A: Area> WorldNode<A, A::Copies> {
     }
 
     /// From now on this is planned for its disks.
+    #[inline(never)]
     pub fn plan_on(&mut self, alloc: Global, planned: Planned) -> Result<(), NoMemory>
         ensures { OnOk result
             (GoesOnPlanned (medium A.state A.holds A.IS_MIRRORED) planned self.old self.new) }
@@ -244,6 +266,7 @@ impl<A: Area> WorldNode<A, A::Copies> {
     }
 
     /// Arms its areas so, or their copies.
+    #[inline(never)]
     fn arm(&mut self, alloc: Global, first: Arming, second: Arming) -> Result<(), NoMemory>
         ensures { OnOk result (GoesOn (medium A.state A.holds A.IS_MIRRORED) self.old self.new) }
     {
@@ -254,6 +277,7 @@ impl<A: Area> WorldNode<A, A::Copies> {
     }
 
     /// Tells this, if it isn't down.
+    #[inline(never)]
     fn tell(&self, alloc: Global, told: Told) -> Result<Done, NoMemory>
         requires kept { IsKept (medium A.state A.holds A.IS_MIRRORED) self.now.pid self.now.state }
         requires due { self.now.is_due ≡ false }

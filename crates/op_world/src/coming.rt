@@ -5,8 +5,11 @@ use op_runs::Event;
 use std::collections::VecDeque;
 use std::marker::Model;
 
-/// Events that are still to come. Their memory is given back as they happen: once fewer than half are left, what is left moves
-/// to a block of its own size, so that an event is moved once on average.
+/// Room for so many events is kept until all happened.
+const MOST_KEPT_EVENTS: usize = 1 << 15;
+
+/// Events that are still to come. Their memory is given back as they happen, where there are many: once fewer than half are left,
+/// what is left moves to a block of its own size, so that an event is moved once on average.
 #[derive(Drop)]
 pub(crate) struct Coming {
     events: VecDeque<Event>,
@@ -36,9 +39,18 @@ impl Coming {
         ensures { MatchOption result (self.old ≡ []) (λ event. self.old ≡ event ∷ self.new) }
     {
         let next = self.events.pop_front();
-        if self.events.len() < self.events.capacity() / 2 {
-            self.events.shrink_to_fit();
+        let room = self.events.capacity();
+        if room > MOST_KEPT_EVENTS && self.events.len() < room / 2 {
+            self.shrink();
         }
         next
+    }
+
+    /// Moves what is left to a block of its own size.
+    #[inline(never)]
+    fn shrink(&mut self)
+        ensures { self.new ≡ self.old }
+    {
+        self.events.shrink_to_fit();
     }
 }

@@ -20,6 +20,7 @@ use op_runs::{Event, What};
 use op_types::{NoMemory, Pid};
 
 /// An event comes: it happens, and where a stop is due then the node stops; or it awaits a node from now on.
+#[inline(always)]
 pub fn come<A: Area>(
     world: &mut ServerWorld<WorldNode<A, A::Copies>>,
     ledger: &mut Ledger,
@@ -58,6 +59,7 @@ pub fn come<A: Area>(
 }
 
 /// An event happens: where something is done at a node, that shows what it has stored then. Gives the node's place.
+#[inline(always)]
 fn happen<A: Area>(
     world: &mut ServerWorld<WorldNode<A, A::Copies>>,
     ledger: &mut Ledger,
@@ -87,6 +89,7 @@ fn happen<A: Area>(
 }
 
 /// The node at this place stops, as this line of the schedule says.
+#[inline(never)]
 fn stop_at<A: Area>(
     world: &mut ServerWorld<WorldNode<A, A::Copies>>,
     ledger: &mut Ledger,
@@ -112,6 +115,7 @@ fn stop_at<A: Area>(
 }
 
 /// From now on this is planned for the disks of a node.
+#[inline(never)]
 fn plan_at<A: Area>(
     world: &mut ServerWorld<WorldNode<A, A::Copies>>,
     pid: Pid,

@@ -31,14 +31,14 @@ returns-clause-happened g c x show =
     let placed = has_place g.S.Server.kind w c.requires.run e can c.requires.range _ c.deref-2.ensures.value _ c.in_ok-pid.ensures d c.in-Some-2.is _ c.deref-3.ensures.value c.place_of-place.result c.place_of-place.ensures.place in
     let s = c.index_mut-server.result.now in
     let m = c.happens.new.self in
-    deed_happened g.S.Server.kind w c.requires.run.run.servers d c.args.fate e.line s m c.in_ok-sends.field-0.sends c.in_ok-sends.field-0.told _
+    deed_happened g.S.Server.kind w c.requires.run.run.servers d c.args.fate e.line s m c.in_ok-sends.sends c.in_ok-sends.ensures.told _
     (record {
       member = placed.deed.pid;
       at = placed.at s c.index_mut-server.ensures.value;
-      done = c.in_ok-sends.ensures;
+      done = c.in_ok-sends.ensures.done;
       servers_are = ap (λ (k : ℕ). set w.servers.items k m) placed.place;
       messages_are = c.in_ok-send_all.ensures;
-      lines_are = c.in_ok-tell_all.ensures;
+      lines_are = c.in_ok-sends.ensures.added;
       ids_are = refl;
     })
     e refl (does w e _ c.deref-2.ensures.value _ c.in_ok-pid.ensures d c.in-Some-2.is) c.place_of-place.result placed.place x show
@@ -62,14 +62,14 @@ returns-clause-goes_on g c =
     let s = c.index_mut-server.result.now in
     let m = c.happens.new.self in
     record {
-      servers = deed_keeps g.S.Server.kind w c.requires.run.run.servers d c.args.fate e.line s m c.in_ok-sends.field-0.sends c.in_ok-sends.field-0.told _
+      servers = deed_keeps g.S.Server.kind w c.requires.run.run.servers d c.args.fate e.line s m c.in_ok-sends.sends c.in_ok-sends.ensures.told _
           (record {
             member = placed.deed.pid;
             at = placed.at s c.index_mut-server.ensures.value;
-            done = c.in_ok-sends.ensures;
+            done = c.in_ok-sends.ensures.done;
             servers_are = ap (λ (k : ℕ). set w.servers.items k m) placed.place;
             messages_are = c.in_ok-send_all.ensures;
-            lines_are = c.in_ok-tell_all.ensures;
+            lines_are = c.in_ok-sends.ensures.added;
             ids_are = refl;
           });
       members = refl;

@@ -1,10 +1,11 @@
-use Rattle.std.proofs.Common.{◌≡◌, ℕ, refl}
+use Rattle.std.proofs.Common.{◌≡◌, ◌∷◌, ◌++◌, [], ℕ, refl, ap, ◌∙◌}
 use Rattle.op_types.specs.declared.answers.Answer.{Answer}
 use Rattle.op_types.specs.declared.answers.Answer.TheVariants as answer
 use Rattle.op_types.specs.declared.answers.Cause.{Cause}
+use Rattle.op_runs.specs.declared.summary.Line.{Line}
 use Rattle.op_runs.specs.declared.summary.Line.TheVariants as line
 use Rattle.op_runs.specs.World.{answer_line}
-use Rattle.op_executions.proofs.telling.answer_line.Goals as goal
+use Rattle.op_executions.proofs.telling.push_answer.Goals as goal
 
 -- what isn't given up is replied
 replied : (pid client seq : ℕ) (a : Answer) → ((cause : Cause) → a ≡ answer.Dropped cause → ⊥) → line.Reply pid client seq a ≡ answer_line pid client seq a
@@ -14,5 +15,7 @@ replied pid client seq answer.Absent kept = refl
 replied pid client seq answer.Stale kept = refl
 replied pid client seq (answer.Dropped cause) kept = absurd (kept cause refl)
 
-pub returns-in_default : goal.returns-in_default
-returns-in_default c = replied c.args.pid c.args.reply.client c.args.reply.seq c.args.reply.answer c.in_default.not-Dropped
+pub returns : goal.returns
+returns c =
+    let r = c.args.reply in
+    c.in_ok-push-2.ensures.ok ∙ ap (λ (l : Line). c.args.lines.now ++ l ∷ []) (replied c.args.pid r.client r.seq r.answer c.in_default.not-Dropped)
