@@ -1,5 +1,5 @@
 -- What stands at the front of a session is dealt with.
-use Rattle.std.proofs.Common.{◌≡◌, ◌<◌, ◌≤◌, ◌+◌, ◌++◌, ◌∷◌, ◌⊎◌, [], ℕ, zero, suc, add-one, Bool, true, false, List, length, Option, Some, None, is_some, option_map, Result, Ok, Err, nat_lt, if◌then◌else◌, refl, sym, ◌∙◌, ap, subst, inl, inr, arith}
+use Rattle.std.proofs.Common.{◌≡◌, ◌<◌, ◌+◌, ◌++◌, ◌∷◌, ◌⊎◌, [], ℕ, zero, suc, add-one, Bool, true, false, List, length, Option, Some, None, is_some, option_map, Result, Ok, nat_lt, if◌then◌else◌, refl, sym, ◌∙◌, ap, subst, inl, inr, arith}
 use Rattle.std.specs.declared.alloc.AllocError.{AllocError}
 use Rattle.op_types.specs.declared.events.Input.TheVariants as input
 use Rattle.op_queues.specs.declared.front.Front.{Front}
@@ -7,41 +7,32 @@ use Rattle.op_queues.specs.declared.front.Front.TheVariants as found
 use Rattle.op_serving.specs.declared.hearing.Heard.{Heard}
 use Rattle.op_serving.specs.declared.kind.Kind.{Kind}
 use Rattle.op_serving.specs.declared.kind.Kind.TheVariants.{Unknown, Peer}
-use Rattle.op_serving.specs.declared.mark.Mark.{Mark}
 use Rattle.op_serving.specs.declared.session.Session.{Session}
 use Rattle.op_serving.specs.Cores.{Standing}
 use Rattle.op_serving.specs.State.{Table, Loop, find, set, changed, changed_at, is_open, is_overfull, most_waiting, down_of, left_at, left_by}
-use Rattle.op_serving.specs.Losses.{most_marks, mark_at, noted as noted_mark, stopped_if, lost_by, settled, IsCalm, IsFrom, Foretells, Grew, Stays}
+use Rattle.op_serving.specs.Losses.{most_marks, mark_at, noted as noted_mark, stopped_if, lost_by, settled, IsCalm, Foretells, Grew, Stays}
 use Rattle.op_serving.specs.Inputs.{Deed, hears, State, Luck, noting, give, over, drained, rest}
 use Rattle.op_serving.specs.Reading.{on_heard, of_kind, holding, links, linked, is_peer, frames_at, at_frame, held_in, feeding, feeds, counted_if, up_if_open, met, dealt_front, dealt_at, dealt, read}
 use Rattle.op_queues.specs.Hearing.{Alike, TakesOut}
-use Rattle.op_driver.specs.Driver.{Served, Stores, with_deeds, Acts, Does, FromCalm, Gives, Drained, Loses, IsDrained, Rests}
-use Rattle.op_driver.specs.Dealing.{TakesOn, makes_way, Handles, Next, Ends, CountsTo, Taken, framed, greeted, fronted, Deals, DealsAll}
+use Rattle.op_driver.specs.Driver.{Served, Chance, Any, Stores, Run, with_deeds, Acts, Does, Gives, Drained, Loses, IsDrained, Rests}
+use Rattle.op_driver.specs.Dealing.{TakesOn, makes_way, Handles, Next, Ends, Taken, framed, greeted, fronted, Deals, DealsAll}
 use Rattle.op_queues.proofs.Tables.{same_or_not, find_set, find_set_apart, without_set, found_changed}
 use Rattle.op_queues.proofs.Settling.{grew_still, lost_first}
 use Rattle.op_driver.proofs.Calm.{grew_on, calm_same, calm_frame}
-use Rattle.op_driver.proofs.Stepping.{Any, Chance, Run, run_then, run_as, run_any, at_once, noted}
-use Rattle.op_driver.proofs.Draining.{does_run, gives_run, drained_run, run_acts, rest_still}
-use Rattle.op_driver.proofs.Handling.{rests_stays, rests_then, loses_run}
+use Rattle.op_driver.proofs.Stepping.{run_then, run_as, run_any, run_from, run_still, at_once, noted}
+use Rattle.op_driver.proofs.Draining.{rest_still}
+use Rattle.op_driver.proofs.Handling.{rests_stays, rests_then}
 
 -- ---- what was found was dealt with
 
-module _ {K : Type 0} {stores : Stores K} {f : Luck → Next → State → State} {c n : ℕ} where
-  taken_some : {k : ℕ} {d e : Served K} → Run stores IsCalm Any (λ l s t. (more : Next) → f l more s ≡ more k (rest l t)) d e → Rests d.loop e.loop → CountsTo n (Some k) e → Taken stores f c n (Some k) d e
-  taken_some r rests counts = record { deeds = r.deeds; grew = r.grew; went = r.went; rests = rests; counts = counts; is = (λ marks f. r.sure marks f tt, λ l before more k. r.is l before k tt more) }
-
-  -- it was the last
-  pub taken_none : {d e : Served K} → Run stores IsCalm IsCalm (λ l s t. (more : Next) → f l more s ≡ t) d e → Rests d.loop e.loop → Taken stores f c n None d e
-  taken_none r rests = record { deeds = r.deeds; grew = r.grew; went = r.went; rests = rests; counts = tt; is = inr (r.sure, λ l before more k end. r.is l before k end more) }
-
+module _ {K : Type 0} {stores : Stores K} {c n : ℕ} {d e : Served K} where
   -- its session was lost
-  pub taken_lost : {d e : Served K} → Loses stores c d e → Taken stores f c n None d e
-  taken_lost h = record { deeds = h.deeds; grew = h.grew; went = h.went; rests = rests_stays h.stays h.none; counts = tt; is = inl h }
+  pub taken_lost : {f : Luck → Next → State → State} → Loses stores c d e → Taken stores f c n None d e
+  taken_lost h = record { is = inl h; rests = rests_stays h.stays h.none; counts = tt }
 
-module _ {K : Type 0} {stores : Stores K} {c n : ℕ} where
   -- it was refused
-  pub taken_over : {d e : Served K} → Does stores (λ l s. over l c s) d e → Rests d.loop e.loop → Taken stores (λ l more s. over l c s) c n None d e
-  taken_over a rests = taken_none (run_as (λ l s t. (more : Next) → over l c s ≡ t) (does_run a) (λ l before zs k end x more. x)) rests
+  pub taken_over : Does stores (λ l s. over l c s) d e → Rests d.loop e.loop → Taken stores (λ l more s. over l c s) c n None d e
+  taken_over a rests = record { is = inr (run_as (λ l s t. (more : Next) → over l c s ≡ t) a (λ l before zs k end x more. x)); rests = rests; counts = tt }
 
 module _ {K : Type 0} {stores : Stores K} {line : Standing → List ℕ} {c n : ℕ} {heard : Heard} where
   -- a frame was dealt with, and its session is still there: it is counted, and what is overfull then ends
@@ -52,12 +43,15 @@ module _ {K : Type 0} {stores : Stores K} {line : Standing → List ℕ} {c n : 
       let frames : m.loop.place.frames ≡ n = h.stays.frames ∙ at in
       let up : m.loop.place.frames < n + 1 = omega (arith, frames) in
       let grew : Grew m.loop s = grew_on m.loop s refl (inr (refl, inr (refl, omega arith, omega (arith, up)))) (omega arith) in
-      let behind = run_then (λ l v t. rest l (at_frame (n + 1) v) ≡ rest l t) (at_once IsCalm Any (at_frame (n + 1)) {d = m} is grew (λ marks f h. calm_frame marks (n + 1) m.loop up f) (λ before. refl)) (drained_run b)
+      let behind = run_then (λ l v t. rest l (at_frame (n + 1) v) ≡ rest l t) (at_once IsCalm Any (at_frame (n + 1)) {d = m} is grew (λ marks f h. calm_frame marks (n + 1) m.loop up f) (λ before. refl)) b.run
       (λ l before xs zs k mid end x y. ap (rest l) x ∙ y) in
       let still : Stays s e.loop = subst (λ (x : Served K). Stays x.loop e.loop) is stays in
-      taken_some (run_then (λ l v t. (more : Next) → framed line c heard n l more v ≡ more (n + 1) (rest l t)) (does_run h.does) behind (λ l before xs zs k mid end x y more.
-      ap (counted_if l line c more n) x ∙ ap (λ o. if o then more (n + 1) (rest l (at_frame (n + 1) (with_deeds xs m))) else with_deeds xs m) there ∙ ap (more (n + 1)) y))
-      (record { turn = still.turn ∙ h.stays.turn; at = still.at ∙ h.stays.at; none = none }) (still.frames, omega arith)
+      record {
+        is = run_then (λ l v t. (more : Next) → framed line c heard n l more v ≡ more (n + 1) (rest l t)) h.does behind (λ l before xs zs k mid end x y more.
+            ap (counted_if l line c more n) x ∙ ap (λ o. if o then more (n + 1) (rest l (at_frame (n + 1) (with_deeds xs m))) else with_deeds xs m) there ∙ ap (more (n + 1)) y);
+        rests = record { turn = still.turn ∙ h.stays.turn; at = still.at ∙ h.stays.at; none = none };
+        counts = (still.frames, omega arith);
+      }
 
 -- ---- a hello
 
@@ -66,19 +60,26 @@ module _ {K : Type 0} {stores : Stores K} (line : Standing → List ℕ) (c n q 
   greets l more s t is x = ap (λ b. if b then met l line c more n q s else over l c s) (ap (is_peer q) is ∙ peer) ∙ ap (up_if_open l line c more n q) x
 
   pub greet_closed : IsDrained m.loop → is_open c m.loop ≡ false → Taken stores (greeted line c q n) c n None d m
-  greet_closed none closed = taken_none (run_as (λ l s t. (more : Next) → greeted line c q n l more s ≡ t) (does_run a) (λ l before zs k end x more.
-      greets l more (with_deeds before d) (with_deeds zs m) refl x ∙ ap (λ b. if b then more n (give l [] (input.Up q) (linked q c (with_deeds zs m))) else with_deeds zs m) closed)) (rests_stays stays none)
+  greet_closed none closed = record {
+    is = inr (run_as (λ l s t. (more : Next) → greeted line c q n l more s ≡ t) a (λ l before zs k end x more.
+        greets l more (with_deeds before d) (with_deeds zs m) refl x ∙ ap (λ b. if b then more n (give l [] (input.Up q) (linked q c (with_deeds zs m))) else with_deeds zs m) closed));
+    rests = rests_stays stays none;
+    counts = tt;
+  }
 
   pub greet_goes : {u e : Served K} → d.loop.place.frames ≡ n → is_open c m.loop ≡ true → u ≡ record m { loop = links q c m.loop } → Gives stores (λ l s. give l [] (input.Up q) s) u e → Taken stores (greeted line c q n) c n (Some n) d e
   greet_goes {u} {e} at there is g =
       let s : Loop = links q c m.loop in
       let opens : (x : ℕ) → is_open x s ≡ is_open x m.loop = λ x. found_changed (λ (z : Session). record z { kind = Peer q 0 }) c x m.loop.sessions in
-      let behind = run_then (λ l v t. give l [] (input.Up q) (linked q c v) ≡ rest l t) (at_once IsCalm IsCalm (linked q c) {d = m} is (grew_still refl refl) (λ marks f h. calm_same marks m.loop s refl refl opens h) (λ before. refl)) (gives_run g)
+      let behind = run_then (λ l v t. give l [] (input.Up q) (linked q c v) ≡ rest l t) (at_once IsCalm IsCalm (linked q c) {d = m} is (grew_still refl refl) (λ marks f h. calm_same marks m.loop s refl refl opens h) (λ before. refl)) g.run
       (λ l before xs zs k mid end x y. ap (give l [] (input.Up q)) x ∙ y) in
       let still : Stays s e.loop = subst (λ (x : Served K). Stays x.loop e.loop) is g.stays in
-      taken_some (run_then (λ l v t. (more : Next) → greeted line c q n l more v ≡ more n (rest l t)) (does_run a) behind (λ l before xs zs k mid end x y more.
-      greets l more (with_deeds before d) (with_deeds xs m) refl x ∙ ap (λ b. if b then more n (give l [] (input.Up q) (linked q c (with_deeds xs m))) else with_deeds xs m) there ∙ ap (more n) y))
-      (record { turn = still.turn ∙ stays.turn; at = still.at ∙ stays.at; none = g.none }) (still.frames ∙ stays.frames ∙ at, omega arith)
+      record {
+        is = run_then (λ l v t. (more : Next) → greeted line c q n l more v ≡ more n (rest l t)) a behind (λ l before xs zs k mid end x y more.
+            greets l more (with_deeds before d) (with_deeds xs m) refl x ∙ ap (λ b. if b then more n (give l [] (input.Up q) (linked q c (with_deeds xs m))) else with_deeds xs m) there ∙ ap (more n) y);
+        rests = record { turn = still.turn ∙ stays.turn; at = still.at ∙ stays.at; none = g.none };
+        counts = (still.frames ∙ stays.frames ∙ at, omega arith);
+      }
 
 -- ---- what a session has read, and whose it is, matters to no loss
 
@@ -205,7 +206,7 @@ module _ {K : Type 0} {c : ℕ} {r : Result Front AllocError} {v m : Served K} (
 
 module _ {K : Type 0} {stores : Stores K} {line : Standing → List ℕ} {c n : ℕ} {v e : Served K} where
   deals_last : {A : Chance} → Run stores A IsCalm (λ l s u. (more : Next) → fronted line c n l more s ≡ u) v e → Rests v.loop e.loop → Deals stores line c n None v e
-  deals_last r rests = record { deeds = r.deeds; grew = r.grew; went = r.went; rests = rests; counts = tt; is = λ l before more k end. r.is l before k end more }
+  deals_last r rests = record { is = run_from r; rests = rests; counts = tt }
 
 module _ {K : Type 0} (line : Standing → List ℕ) (n : ℕ) {c : ℕ} {v m : Served K} where
   fronts : {f : Front} (t : TakesOn c v (Ok f) m) → IsDrained v.loop → (l : Luck) (before : List Deed) (more : Next) → IsCalm l.marks m.loop → fronted line c n l more (with_deeds before v) ≡ found_goes line c n f l more (take t (with_deeds before v))
@@ -218,7 +219,7 @@ module _ {K : Type 0} {stores : Stores K} {line : Standing → List ℕ} {c n : 
   -- what finds no memory
   pub deals_lost : {r : Result Front AllocError} → TakesOn c v r m → Loses stores c m e → Deals stores line c n None v e
   deals_lost t a =
-      deals_last (run_then (λ l s u. (more : Next) → fronted line c n l more s ≡ u) (at_once Any Any (take t) (whole_of t) (grew_still refl refl) (λ marks f h. tt) (λ before. refl)) (run_any (loses_run a)) (λ l before xs zs k mid end x y more.
+      deals_last (run_then (λ l s u. (more : Next) → fronted line c n l more s ≡ u) (at_once Any Any (take t) (whole_of t) (grew_still refl refl) (λ marks f h. tt) (λ before. refl)) (run_any a.run) (λ l before xs zs k mid end x y more.
       let s : State = rest l (with_deeds before v) in
       let whole : record { loop = m.loop; node = v.node; deeds = before } ≡ with_deeds xs m = ap (λ (z : Loop). record { loop = z; node = v.node; deeds = before }) t.takes.rest ∙ x in
       let first : s ≡ rest l (with_deeds xs m) = lost_rest a v.loop (ap (lost_by c) t.takes.rest ∙ (same_of t).lost) ((same_of t).opens c) (ap (λ (z : Loop). z.lost) t.takes.rest) l v.node before k.marks ∙ ap (rest l) whole in
@@ -229,16 +230,16 @@ module _ {K : Type 0} {stores : Stores K} {line : Standing → List ℕ} {c n : 
   pub deals : {f : Front} {k : Option ℕ} → TakesOn c v (Ok f) m → IsDrained v.loop → Taken stores (found_goes line c n f) c n k m e → Deals stores line c n k v e
   deals {f} {k = None} t none b = by_end b.is
     where
-      by_end : Loses stores c m e ⊎ (FromCalm m e × Ends (found_goes line c n f) m e b.deeds) → Deals stores line c n None v e
+      by_end : Loses stores c m e ⊎ Ends stores IsCalm (found_goes line c n f) m e → Deals stores line c n None v e
       by_end (inl a) = deals_lost t a
-      by_end (inr a) =
-          let behind : Run stores IsCalm IsCalm (λ l s u. (more : Next) → found_goes line c n f l more s ≡ u) m e = record { deeds = b.deeds; grew = b.grew; went = b.went; sure = a.0; is = λ l before k end more. a.1 l before more k end } in
-          deals_last (run_then (λ l s u. (more : Next) → fronted line c n l more s ≡ u) (take_run t) behind (λ l before xs zs k mid end x y more.
+      by_end (inr a) = deals_last (run_then (λ l s u. (more : Next) → fronted line c n l more s ≡ u) (take_run t) a (λ l before xs zs k mid end x y more.
           fronts line n t none l before more mid ∙ ap (found_goes line c n f l more) x ∙ y more)) (rests_of t e.loop b.rests)
-  deals {f} {k = Some k} t none b =
-      let behind : Run stores IsCalm Any (λ l s u. (more : Next) → found_goes line c n f l more s ≡ more k (rest l u)) m e = record { deeds = b.deeds; grew = b.grew; went = b.went; sure = λ marks f h. b.is.0 marks f; is = λ l before kn end more. b.is.1 l before more kn } in
-      let r = run_then (λ l s u. (more : Next) → fronted line c n l more s ≡ more k (rest l u)) (take_run t) behind (λ l before xs zs kn mid end x y more. fronts line n t none l before more mid ∙ ap (found_goes line c n f l more) x ∙ y more) in
-      record { deeds = r.deeds; grew = r.grew; went = r.went; rests = rests_of t e.loop b.rests; counts = b.counts; is = λ l before more kn. r.is l before kn tt more }
+  deals {f} {k = Some k} t none b = record {
+    is = run_from (run_then (λ l s u. (more : Next) → fronted line c n l more s ≡ more k (rest l u)) (take_run t) b.is (λ l before xs zs kn mid end x y more.
+        fronts line n t none l before more mid ∙ ap (found_goes line c n f l more) x ∙ y more));
+    rests = rests_of t e.loop b.rests;
+    counts = b.counts;
+  }
 
 module _ {K : Type 0} {stores : Stores K} {line : Standing → List ℕ} {c n : ℕ} {v m : Served K} where
   -- it waits for more
@@ -257,35 +258,34 @@ dealt_more l line c k n left t e = ap (λ j. dealt l line c j n t) (e ∙ add-on
 
 module _ {K : Type 0} {stores : Stores K} (line : Standing → List ℕ) (c most : ℕ) where
   pub reached_start : (d : Served K) → Run stores Any Any (Reached line c most most 0) d d
-  reached_start d = run_as (Reached line c most most 0) (at_once Any Any (λ s. s) {d = d} {s = d.loop} refl (grew_still refl refl) (λ marks f h. h) (λ before. refl)) (λ l before zs k h x. ap (λ s. dealt l line c most 0 (rest l s)) x)
+  reached_start d = run_still d (λ marks h. h) (λ l before. refl)
 
 module _ {K : Type 0} {stores : Stores K} {line : Standing → List ℕ} {c : ℕ} (most : ℕ) where
   pub reached_more : (k : ℕ) {left n m : ℕ} {d v e : Served K} → left ≡ k + 1 → Run stores Any Any (Reached line c most left n) d v → Deals stores line c n (Some m) v e → Run stores Any Any (Reached line c most k m) d e
   reached_more k {left} {n} {m} {d} {v} {e} back a b =
-      let behind : Run stores Any Any (λ l s u. (more : Next) → fronted line c n l more s ≡ more m (rest l u)) v e = record { deeds = b.deeds; grew = b.grew; went = b.went; sure = λ marks f h. tt; is = λ l before k h more. b.is l before more k } in
-      run_then (Reached line c most k m) a behind (λ l before xs zs kn mid end x y. x ∙ dealt_more l line c k n left (rest l (with_deeds xs v)) back ∙ y (dealt l line c k))
+      run_then (Reached line c most k m) a b.is (λ l before xs zs kn mid end x y. x ∙ dealt_more l line c k n left (rest l (with_deeds xs v)) back ∙ y (dealt l line c k))
 
 module _ {K : Type 0} {stores : Stores K} {line : Standing → List ℕ} {c most : ℕ} where
-  deals_all : {d e : Served K} → Run stores Any IsCalm (λ l s t. dealt l line c most 0 (rest l s) ≡ t) d e → Rests d.loop e.loop → DealsAll stores line c most d e
-  deals_all r rests = record { deeds = r.deeds; grew = r.grew; went = r.went; rests = rests; is = λ l before k end. r.is l before k end }
-
   pub reached_end : (k : ℕ) {left n : ℕ} {d v e : Served K} → left ≡ k + 1 → Run stores Any Any (Reached line c most left n) d v → Rests d.loop v.loop → Deals stores line c n None v e → DealsAll stores line c most d e
-  reached_end k {left} {n} {d} {v} {e} back a rests b =
-      let behind : Run stores Any IsCalm (λ l s u. (more : Next) → fronted line c n l more s ≡ u) v e = record { deeds = b.deeds; grew = b.grew; went = b.went; sure = λ marks f h. tt; is = λ l before k end more. b.is l before more k end } in
-      deals_all (run_then (λ l s t. dealt l line c most 0 (rest l s) ≡ t) a behind (λ l before xs zs kn mid end x y. x ∙ dealt_more l line c k n left (rest l (with_deeds xs v)) back ∙ y (dealt l line c k))) (rests_then rests b.rests)
+  reached_end k {left} {n} {d} {v} {e} back a rests b = record {
+    run = run_then (λ l s t. dealt l line c most 0 (rest l s) ≡ t) a b.is (λ l before xs zs kn mid end x y. x ∙ dealt_more l line c k n left (rest l (with_deeds xs v)) back ∙ y (dealt l line c k));
+    rests = rests_then rests b.rests;
+  }
 
   pub reached_all : (n : ℕ) {left : ℕ} {d v : Served K} → left ≡ 0 → Run stores Any Any (Reached line c most left n) d v → Rests d.loop v.loop → DealsAll stores line c most d v
-  reached_all n {left} {d} {v} none a rests = deals_all (run_as (λ l s t. dealt l line c most 0 (rest l s) ≡ t) (run_any a) (λ l before zs k end x.
-      x ∙ ap (λ j. dealt l line c j n (rest l (with_deeds zs v))) none ∙ rest_still l (with_deeds zs v) end rests.none)) rests
+  reached_all n {left} {d} {v} none a rests = record {
+    run = run_as (λ l s t. dealt l line c most 0 (rest l s) ≡ t) (run_any a) (λ l before zs k end x.
+        x ∙ ap (λ j. dealt l line c j n (rest l (with_deeds zs v))) none ∙ rest_still l (with_deeds zs v) end rests.none);
+    rests = rests;
+  }
 
   -- ---- a read
 
   pub reads_all : {bytes : List ℕ} {d m e : Served K} → m ≡ record d { loop = feeds c bytes d.loop } → most ≡ held_in (find c m.loop.sessions) → DealsAll stores line c most m e → Acts stores (λ l s. read l line c bytes s) d e
   reads_all {bytes} {d} {m} {e} is count a =
       let fed : State → State = λ s. noting (hears c bytes) (record s { loop = feeds c bytes s.loop }) in
-      let behind : Run stores Any IsCalm (λ l s t. dealt l line c most 0 (rest l s) ≡ t) m e = record { deeds = a.deeds; grew = a.grew; went = a.went; sure = λ marks f h. tt; is = a.is } in
-      run_acts (run_then (λ l s t. read l line c bytes s ≡ t) (noted Any Any fed (hears c bytes) refl is (grew_still refl refl) (λ marks f h. tt) (λ before. refl)) behind (λ l before xs zs k mid end x y.
-      ap (λ t. dealt l line c (held_in (find c t.loop.sessions)) 0 (rest l t)) x ∙ ap (λ n. dealt l line c n 0 (rest l (with_deeds xs m))) (sym count) ∙ y))
+      run_then (λ l s t. read l line c bytes s ≡ t) (noted Any Any fed (hears c bytes) refl is (grew_still refl refl) (λ marks f h. tt) (λ before. refl)) a.run (λ l before xs zs k mid end x y.
+      ap (λ t. dealt l line c (held_in (find c t.loop.sessions)) 0 (rest l t)) x ∙ ap (λ n. dealt l line c n 0 (rest l (with_deeds xs m))) (sym count) ∙ y)
 
 dealt_closed : (l : Luck) (line : Standing → List ℕ) (c k n : ℕ) (t : State) → find c t.loop.sessions ≡ None → dealt l line c k n t ≡ t
 dealt_closed l line c zero n t e = refl
@@ -297,7 +297,7 @@ module _ {K : Type 0} {stores : Stores K} where
   reads_none line c bytes d e a =
       let fed : Loop = feeds c bytes d.loop in
       let same : Same c d.loop fed.sessions = same_fed c bytes d.loop (find c d.loop.sessions) refl in
-      run_acts (run_then (λ l s t. read l line c bytes s ≡ t) (noted Any Any (noting (hears c bytes)) (hears c bytes) refl {d = d} {s = d.loop} refl (grew_still refl refl) (λ marks f h. tt) (λ before. refl)) (run_any (loses_run a)) (λ l before xs zs k mid end x y.
+      run_then (λ l s t. read l line c bytes s ≡ t) (noted Any Any (noting (hears c bytes)) (hears c bytes) refl {d = d} {s = d.loop} refl (grew_still refl refl) (λ marks f h. tt) (λ before. refl)) (run_any a.run) (λ l before xs zs k mid end x y.
       let u : State = record { loop = fed; node = d.node; deeds = before ++ hears c bytes ∷ [] } in
       let as_lost : rest l u ≡ rest l (with_deeds xs d) = lost_rest a fed (sym same.lost) (sym (same.opens c)) refl l d.node (before ++ hears c bytes ∷ []) k.marks ∙ ap (rest l) x in
-      dealt_closed l line c (held_in (find c fed.sessions)) 0 (rest l u) (ap (λ (z : State). find c z.loop.sessions) as_lost ∙ y.1) ∙ as_lost ∙ y.0 ∙ rest_still l (with_deeds zs e) end a.none))
+      dealt_closed l line c (held_in (find c fed.sessions)) 0 (rest l u) (ap (λ (z : State). find c z.loop.sessions) as_lost ∙ y.1) ∙ as_lost ∙ y.0 ∙ rest_still l (with_deeds zs e) end a.none)

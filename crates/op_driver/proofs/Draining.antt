@@ -1,20 +1,20 @@
 -- Sessions that are over, and their Downs: each is given, and then none is left.
-use Rattle.std.proofs.Common.{◌≡◌, ◌<◌, ◌≤◌, ◌+◌, ◌++◌, ◌∷◌, ◌⊎◌, [], ℕ, zero, suc, Bool, true, false, List, length, drop, Option, Some, None, is_some, inl, inr, nat_lt, if◌then◌else◌, refl, sym, ◌∙◌, ap, subst, arith}
+use Rattle.std.proofs.Common.{◌≡◌, ◌<◌, ◌≤◌, ◌+◌, ◌∷◌, ◌⊎◌, [], ℕ, zero, suc, Bool, true, false, List, length, drop, Option, Some, None, is_some, inl, inr, nat_lt, if◌then◌else◌, refl, sym, ◌∙◌, ap, subst, arith}
 use Rattle.std.proofs.lemmas.Bool.{cases_Bool}
 use Rattle.std.proofs.lemmas.List.{append-nil}
 use Rattle.op_types.specs.declared.events.Input.{Input}
 use Rattle.op_types.specs.declared.events.Input.TheVariants as input
 use Rattle.op_serving.specs.declared.mark.Mark.{Mark}
 use Rattle.op_serving.specs.State.{Loop, find, is_open, is_overfull, kind_at, left_by, next, counted, shed}
-use Rattle.op_serving.specs.Losses.{most_marks, mark_at, noted, stopped_if, lost_by, lost_one, is_here, is_due, is_open_one, settle, settled, size, IsCalm, Foretells, Grew, KeepsKinds, Stays}
-use Rattle.op_serving.specs.Inputs.{Deed, State, Luck, asked_by, calm, loop_taking, loop_after, next_fate, entered_with, handing, enter, leaves, first_down, shedding, drained_in, drained, rest}
+use Rattle.op_serving.specs.Losses.{most_marks, mark_at, noted, stopped_if, lost_by, lost_one, is_here, is_due, is_open_one, settle, settled, size, IsCalm, Foretells, Grew, Stays}
+use Rattle.op_serving.specs.Inputs.{State, Luck, asked_by, calm, loop_taking, loop_after, next_fate, entered_with, handing, enter, leaves, first_down, shedding, drained_in, drained, rest}
 use Rattle.op_serving.specs.Fates.{Fate, lost}
-use Rattle.op_driver.specs.Driver.{Served, Stores, with_deeds, IsShed, IsDrained, Knows, Acts, FromCalm, Does, Enters, Gives, Drained, Loses}
-use Rattle.op_queues.proofs.Settling.{settled_before, found_lost, kinds_then, gone, grew_trans, grew_still, foretold, lost_first, lost_grew, left_lost, left_place}
+use Rattle.op_driver.specs.Driver.{Served, Any, Stores, with_deeds, IsShed, IsDrained, Does, Enters, Gives, Drained, Loses}
+use Rattle.op_queues.proofs.Settling.{settled_before, found_lost, kinds_then, gone, grew_still, foretold, lost_first, lost_grew, left_lost, left_place}
 use Rattle.op_queues.proofs.Sizes.{size_settle, size_marked, size_loop_after}
 use Rattle.op_queues.proofs.Shedding.{Sheds, sheds, size_shed, shed_closed, thin_shed, shed_thin}
 use Rattle.op_driver.proofs.Calm.{no_right, calm_before, calm_same, calm_past, calm_settled}
-use Rattle.op_driver.proofs.Stepping.{Any, Run, run_then, run_as, run_any, went_none, went_still, at_once}
+use Rattle.op_driver.proofs.Stepping.{run_then, run_as, run_any, run_sure, run_still, at_once}
 use Rattle.op_driver.proofs.Telling.{blind_same, blind_after}
 
 pub no_items : {X : Type 0} (xs : List X) → length xs ≤ 0 → xs ≡ []
@@ -222,59 +222,35 @@ closed_drained l c s e = closed_in (size s.loop) l c s e
 -- ---- one thing behind the other
 
 module _ {K : Type 0} {stores : Stores K} where
-  pub acts_run : {f : Luck → State → State} {d e : Served K} → Acts stores f d e → Run stores Any IsCalm (λ l s t. f l s ≡ t) d e
-  acts_run a = record { deeds = a.deeds; grew = a.grew; went = a.went; sure = λ marks f c. tt; is = a.is }
-
-  pub run_acts : {A : List Mark → Loop → Type 0} {f : Luck → State → State} {d e : Served K} → Run stores A IsCalm (λ l s t. f l s ≡ t) d e → Acts stores f d e
-  run_acts a = record { deeds = a.deeds; grew = a.grew; went = a.went; is = a.is }
-
-  pub does_run : {f : Luck → State → State} {d e : Served K} → Does stores f d e → Run stores IsCalm IsCalm (λ l s t. f l s ≡ t) d e
-  does_run a = record { deeds = a.acts.deeds; grew = a.acts.grew; went = a.acts.went; sure = a.calm; is = a.acts.is }
-
-  pub run_does : {f : Luck → State → State} {d e : Served K} → Run stores IsCalm IsCalm (λ l s t. f l s ≡ t) d e → Does stores f d e
-  run_does a = record { acts = run_acts a; calm = a.sure }
-
-  pub gives_run : {f : Luck → State → State} {d e : Served K} → Gives stores f d e → Run stores IsCalm Any (λ l s t. f l s ≡ rest l t) d e
-  gives_run a = record { deeds = a.deeds; grew = a.grew; went = a.went; sure = λ marks f c. a.sure marks f; is = λ l before k c. a.is l before k }
-
-  pub run_gives : {f : Luck → State → State} {d e : Served K} → Run stores IsCalm Any (λ l s t. f l s ≡ rest l t) d e → KeepsKinds d.loop e.loop → Stays d.loop e.loop → IsDrained e.loop → Gives stores f d e
-  run_gives r kinds stays none = record { deeds = r.deeds; grew = r.grew; went = r.went; kinds = kinds; sure = λ marks f. r.sure marks f tt; stays = stays; none = none; is = λ l before k. r.is l before k tt }
-
-  pub drained_run : {d e : Served K} → Drained stores d e → Run stores Any Any (λ l s t. rest l s ≡ rest l t) d e
-  drained_run a = record { deeds = a.deeds; grew = a.grew; went = a.went; sure = λ marks f c. tt; is = λ l before k c. a.is l before k }
-
-  pub run_drained : {A : List Mark → Loop → Type 0} {d e : Served K} → Run stores A Any (λ l s t. rest l s ≡ rest l t) d e → KeepsKinds d.loop e.loop → FromCalm d e → Drained stores d e
-  run_drained a kinds calm = record { deeds = a.deeds; grew = a.grew; went = a.went; kinds = kinds; calm = calm; is = λ l before k. a.is l before k tt }
-
   pub does_then : (f g : Luck → State → State) {d m e : Served K} → Does stores f d m → Does stores g m e → Does stores (λ l s. g l (f l s)) d e
-  does_then f g a b = run_does (run_then (λ l s t. g l (f l s) ≡ t) (does_run a) (does_run b) (λ l before xs zs k mid end x y. ap (g l) x ∙ y))
+  does_then f g a b = run_then (λ l s t. g l (f l s) ≡ t) a b (λ l before xs zs k mid end x y. ap (g l) x ∙ y)
 
   -- where no session is lost behind it, it has come to rest
   pub gives_does : (f : Luck → State → State) {d e : Served K} → Gives stores f d e → Does stores f d e
-  gives_does f {d} {e} a = run_does (run_as (λ l s t. f l s ≡ t) (run_any (gives_run a)) (λ l before zs k end x. x ∙ rest_still l (with_deeds zs e) end a.none))
+  gives_does f {d} {e} a = run_as (λ l s t. f l s ≡ t) (run_any a.run) (λ l before zs k end x. x ∙ rest_still l (with_deeds zs e) end a.none)
 
   -- ---- Downs
 
   drained_none : (d : Served K) → Drained stores d d
-  drained_none d = record { deeds = []; grew = grew_still refl refl; went = went_none; kinds = λ c. inl refl; calm = λ marks f c. c; is = λ l before k. ap (λ b. rest l (with_deeds b d)) (sym (append-nil before)) }
+  drained_none d = record { run = run_still d (λ marks h. tt) (λ l before. refl); kinds = λ c. inl refl; calm = λ marks f c. c }
 
   pub drained_then : {d m e : Served K} → Drained stores d m → Drained stores m e → Drained stores d e
-  drained_then {d} {m} {e} a b = run_drained (run_then (λ l s t. rest l s ≡ rest l t) (drained_run a) (drained_run b) (λ l before xs zs k mid end x y. x ∙ y))
-      (kinds_then d.loop m.loop e.loop a.kinds b.kinds) (λ marks f c. a.calm marks (foretold b.grew f) (b.calm marks f c))
+  drained_then {d} {m} {e} a b = record {
+    run = run_then (λ l s t. rest l s ≡ rest l t) a.run b.run (λ l before xs zs k mid end x y. x ∙ y);
+    kinds = kinds_then d.loop m.loop e.loop a.kinds b.kinds;
+    calm = λ marks f c. a.calm marks (foretold b.run.grew f) (b.calm marks f c);
+  }
 
   -- sessions for which too many bytes wait end, and what is lost then is of a later place
   shed_later : (d : Served K) → Sheds d.loop (shed d.loop) → Grew (counted d.loop) (shed d.loop) → Drained stores d (record d { loop = shed d.loop })
   unfolding rest
   shed_later d a later = record {
-    deeds = [];
-    grew = a.grew;
-    went = went_still refl refl;
-    kinds = a.kinds;
-    calm = λ marks f c. calm_before marks d.loop (shed d.loop) later f;
-    is = λ l before k.
+    run = run_as (λ l s t. rest l s ≡ rest l t) (at_once Any Any (λ s. record s { loop = shed s.loop }) {d = d} {s = shed d.loop} refl a.grew (λ marks f h. tt) (λ before. refl)) (λ l before zs k h x.
         ap (drained l) (calm_is l (with_deeds before d) (calm_before l.marks d.loop (shed d.loop) later k.marks))
         ∙ drained_shedding l (with_deeds before d)
-        ∙ ap (λ b. drained l (calm l (with_deeds b (record d { loop = shed d.loop })))) (sym (append-nil before));
+        ∙ ap (λ (u : State). drained l (calm l u)) x);
+    kinds = a.kinds;
+    calm = λ marks f c. calm_before marks d.loop (shed d.loop) later f;
   }
 
   pub drained_shed : (d e : Served K) → e ≡ record d { loop = shed d.loop } → d.loop.place.inputs ≤ next d.loop.place.inputs → Drained stores d e
@@ -289,58 +265,55 @@ module _ {K : Type 0} {stores : Stores K} where
   pub drained_one : (q : ℕ) (qs : List ℕ) (d e : Served K) → d.loop.downs ≡ q ∷ qs → IsShed d.loop → Enters stores (λ l s. enter l [] (input.Down q) s) (record d { loop = record d.loop { downs = qs } }) e → Drained stores d e
   unfolding rest
   drained_one q qs d e downs thin does =
-      let calm_d : (marks : List Mark) → Foretells marks e.loop → IsCalm marks d.loop = λ marks f. calm_same marks d.loop (record d.loop { downs = qs }) refl refl (λ c. refl) (does.sure marks f) in
+      let m : Loop = record d.loop { downs = qs } in
+      let calm_d : (marks : List Mark) → IsCalm marks m → IsCalm marks d.loop = λ marks h. calm_same marks d.loop m refl refl (λ c. refl) h in
       record {
-        deeds = does.deeds;
-        grew = record { added = does.grew.added; lost = does.grew.lost; from = does.grew.from; place = does.grew.place; counts = does.grew.counts };
-        went = record { steps = does.went.steps; walks = does.went.walks };
-        kinds = does.kinds;
-        calm = λ marks f c. calm_d marks f;
-        is = λ l before k.
+        run = run_then (λ l s t. rest l s ≡ rest l t) (at_once Any IsCalm (λ s. record s { loop = record s.loop { downs = qs } }) {d = d} {s = m} refl (grew_still refl refl) (λ marks f h. tt) (λ before. refl)) does.run (λ l before xs zs k mid end x y.
             let s : State = with_deeds before d in
-            let calm_now : calm l s ≡ s = calm_is l s (calm_d l.marks k.marks) in
+            let calm_now : calm l s ≡ s = calm_is l s (calm_d l.marks mid) in
             ap (drained l) calm_now
             ∙ drained_more l s
             ∙ ap (λ (t : State). drained l (first_down l t.loop.downs t)) (shedding_still l s thin calm_now)
-            ∙ ap (λ x. drained l (first_down l x s)) downs
-            ∙ ap (drained l) (does.is l before k);
+            ∙ ap (λ ds. drained l (first_down l ds s)) downs
+            ∙ ap (drained l) (ap (enter l [] (input.Down q)) x ∙ y));
+        kinds = does.kinds;
+        calm = λ marks f c. calm_d marks (does.run.sure marks f tt);
       }
 
   -- an input, and then the Downs
   pub gives : (f : Luck → State → State) {d m e : Served K} → Enters stores f d m → Drained stores m e → Stays d.loop e.loop → IsDrained e.loop → Gives stores (λ l s. drained l (f l s)) d e
   unfolding rest
-  gives f {d} {m} {e} a b stays none =
-      let first : Run stores IsCalm Any (λ l s t. f l s ≡ calm l t) d m = record { deeds = a.deeds; grew = a.grew; went = a.went; sure = λ marks f c. a.sure marks f; is = λ l before k c. a.is l before k } in
-      run_gives (run_then (λ l s t. drained l (f l s) ≡ rest l t) first (drained_run b) (λ l before xs zs k mid end x y. ap (drained l) x ∙ y)) (kinds_then d.loop m.loop e.loop a.kinds b.kinds) stays none
+  gives f {d} {m} {e} a b stays none = record {
+    run = run_then (λ l s t. drained l (f l s) ≡ rest l t) a.run b.run (λ l before xs zs k mid end x y. ap (drained l) x ∙ y);
+    kinds = kinds_then d.loop m.loop e.loop a.kinds b.kinds;
+    stays = stays;
+    none = none;
+  }
 
   -- a session ends
   pub ends : (c : ℕ) (d m e : Served K) → m ≡ record d { loop = left_by c d.loop } → Drained stores m e → IsDrained e.loop → (d.loop.place.at ≡ 0 → ⊥) → Does stores (λ l s. leaves l c s) d e
   ends c d m e is b none past =
       let same_lost : (left_by c d.loop).lost ≡ d.loop.lost = left_lost c (kind_at c d.loop) d.loop in
       let same_place : (left_by c d.loop).place ≡ d.loop.place = left_place c (kind_at c d.loop) d.loop in
-      let then_drained : Run stores IsCalm IsCalm (λ l s t. rest l s ≡ rest l t) m e = record { deeds = b.deeds; grew = b.grew; went = b.went; sure = b.calm; is = λ l before k h. b.is l before k } in
-      run_does (run_then (λ l s t. leaves l c s ≡ t) (at_once IsCalm IsCalm (λ s. record s { loop = left_by c s.loop }) is (grew_still same_lost same_place) (λ marks f h. calm_past marks d.loop (left_by c d.loop) same_lost same_place past h) (λ before. refl)) then_drained
-      (λ l before xs zs k mid end x y. ap (drained l) x ∙ sym (rest_drained l (with_deeds xs m) mid) ∙ y ∙ rest_still l (with_deeds zs e) end none))
+      run_then (λ l s t. leaves l c s ≡ t) (at_once IsCalm IsCalm (λ s. record s { loop = left_by c s.loop }) is (grew_still same_lost same_place) (λ marks f h. calm_past marks d.loop (left_by c d.loop) same_lost same_place past h) (λ before. refl)) (run_sure (run_any b.run) b.calm)
+      (λ l before xs zs k mid end x y. ap (drained l) x ∙ sym (rest_drained l (with_deeds xs m) mid) ∙ y ∙ rest_still l (with_deeds zs e) end none)
 
   -- a session is lost
   pub loses : (c : ℕ) (d m e : Served K) → is_open c d.loop ≡ true → length d.loop.lost < most_marks → m ≡ record d { loop = lost_by c d.loop } → Drained stores m e → Stays d.loop e.loop → IsDrained e.loop → Loses stores c d e
   unfolding rest
   loses c d m e there few is b stays none =
       let s : Loop = lost_by c d.loop in
-      let r = run_then (λ l u t. rest l (record u { loop = lost_by c u.loop }) ≡ rest l t) (at_once Any Any (λ u. record u { loop = lost_by c u.loop }) {d = d} is (lost_grew c d.loop) (λ marks f h. tt) (λ before. refl)) (drained_run b) (λ l before xs zs k mid end x y. ap (rest l) x ∙ y) in
-      let marked_is : (marks : List Mark) → Foretells marks e.loop → Foretells marks s = λ marks f. subst (λ (x : Served K). Foretells marks x.loop) is (foretold b.grew f) in
+      let marked_is : (marks : List Mark) → Foretells marks e.loop → Foretells marks s = λ marks f. subst (λ (x : Served K). Foretells marks x.loop) is (foretold b.run.grew f) in
       let first : (marks : List Mark) → Foretells marks e.loop → settled marks d.loop ≡ settled marks s = λ marks f. lost_first c d.loop marks there few (marked_is marks f) in
       record {
-        deeds = r.deeds;
         there = there;
         few = few;
-        grew = r.grew;
-        went = r.went;
         stays = stays;
         none = none;
         marked = marked_is;
-        closed = λ l before k.
-            let now : find c (settled l.marks d.loop).sessions ≡ None = ap (λ (x : Loop). find c x.sessions) (first l.marks k.marks) ∙ closed_settle c (drop (length s.lost) l.marks) s (gone c d.loop) in
-            closed_drained l c (calm l (with_deeds before d)) now;
-        is = λ l before k. ap (λ (x : Loop). drained l (record { loop = x; node = d.node; deeds = before })) (first l.marks k.marks) ∙ r.is l before k tt;
+        run = run_then (λ l u t. (rest l u ≡ rest l t) × (find c (rest l u).loop.sessions ≡ None)) (at_once Any Any (λ u. record u { loop = lost_by c u.loop }) {d = d} is (lost_grew c d.loop) (λ marks f h. tt) (λ before. refl)) b.run (λ l before xs zs k mid end x y.
+            let now : find c (settled l.marks d.loop).sessions ≡ None = ap (λ (z : Loop). find c z.sessions) (first l.marks k.marks) ∙ closed_settle c (drop (length s.lost) l.marks) s (gone c d.loop) in (
+              ap (λ (z : Loop). drained l (record { loop = z; node = d.node; deeds = before })) (first l.marks k.marks) ∙ ap (rest l) x ∙ y,
+              closed_drained l c (calm l (with_deeds before d)) now,
+            ));
       }

@@ -1,7 +1,6 @@
 -- What a frame says is done, behind what was gathered.
-use Rattle.std.proofs.Common.{All, map, ◌≡◌, ◌++◌, ◌∷◌, [], ℕ, Bool, true, false, List, length, is_some, Result, Ok, Err, OnOk, nat_lt, nat_le, if◌then◌else◌, None, refl, sym, ◌∙◌, ap, subst, inl, inr}
+use Rattle.std.proofs.Common.{All, map, ◌≡◌, ◌++◌, ◌∷◌, [], ℕ, Bool, true, false, List, is_some, Result, Ok, Err, OnOk, nat_lt, nat_le, if◌then◌else◌, refl, sym, ◌∙◌, ap, subst, inl, inr}
 use Rattle.std.proofs.lemmas.Bool.{cases_Bool, lt-ltb, le-ltb, leb-true, leb-false}
-use Rattle.std.proofs.lemmas.List.{append-nil}
 use Rattle.std.proofs.lemmas.List.Elements.{All-append, All-cons, All-nil}
 use Rattle.op_types.specs.declared.events.Input.TheVariants as input
 use Rattle.op_types.specs.declared.log.Command.{Command}
@@ -22,8 +21,8 @@ use Rattle.op_driver.specs.Ungiven.{Ungiven, AreUngiven, GivesAll}
 use Rattle.op_queues.proofs.Tables.{found_changed}
 use Rattle.op_queues.proofs.Settling.{stays_same, stays_then, grew_still}
 use Rattle.op_driver.proofs.Calm.{calm_same}
-use Rattle.op_driver.proofs.Stepping.{Any, Run, run_then, run_as, run_any, at_once, noted, went_none}
-use Rattle.op_driver.proofs.Draining.{does_run, run_does, gives_run, run_gives, gives_does, rest_still}
+use Rattle.op_driver.proofs.Stepping.{run_then, run_as, run_any, run_still, at_once, noted}
+use Rattle.op_driver.proofs.Draining.{gives_does, rest_still}
 
 -- ---- it comes to rest
 
@@ -39,13 +38,10 @@ drains_at c s h = (h.0, λ closed. h.1)
 
 module _ {K : Type 0} {stores : Stores K} where
   pub does_as : (f g : Luck → State → State) {d e : Served K} → ((l : Luck) (before : List Deed) → g l (with_deeds before d) ≡ f l (with_deeds before d)) → Does stores f d e → Does stores g d e
-  does_as f g same a = run_does (run_as (λ l s t. g l s ≡ t) (does_run a) (λ l before zs k end x. same l before ∙ x))
+  does_as f g same a = run_as (λ l s t. g l s ≡ t) a (λ l before zs k end x. same l before ∙ x)
 
   pub nothing_does : (f : Luck → State → State) (d : Served K) → ((l : Luck) (before : List Deed) → f l (with_deeds before d) ≡ with_deeds before d) → Does stores f d d
-  nothing_does f d same = record {
-    acts = record { deeds = []; grew = grew_still refl refl; went = went_none; is = λ l before k end. same l before ∙ ap (λ b. with_deeds b d) (sym (append-nil before)) };
-    calm = λ marks f end. end;
-  }
+  nothing_does f d same = run_still d (λ marks h. h) same
 
 pub on_ok_as : {A E P Q : Type 0} (r : Result A E) → (P → Q) → OnOk r P → OnOk r Q
 on_ok_as (Ok x) f h = f h
@@ -68,8 +64,8 @@ module _ {K : Type 0} {stores : Stores K} {line : Standing → List ℕ} {c : �
       let opens : (n : ℕ) → is_open n s ≡ is_open n d.loop = λ n. found_changed _ c n d.loop.sessions in
       let tells_it : State → State = λ u. record (tells c what u) { loop = record (told c (no_command what) u.loop) { ending = ending } } in
       subst (λ (x : Served K). HandlesAlone stores line c heard d x) (sym is) (record {
-        does = run_does (run_as (λ l u t. on_frame l line c heard u ≡ t) (noted IsCalm IsCalm tells_it (says (c, client_frame (no_command what))) refl {s = s} refl
-            (grew_still refl refl) (λ marks f h. calm_same marks d.loop s refl refl opens h) (λ before. refl)) (λ l before zs k end x. same l before ∙ x));
+        does = run_as (λ l u t. on_frame l line c heard u ≡ t) (noted IsCalm IsCalm tells_it (says (c, client_frame (no_command what))) refl {s = s} refl
+            (grew_still refl refl) (λ marks f h. calm_same marks d.loop s refl refl opens h) (λ before. refl)) (λ l before zs k end x. same l before ∙ x);
         stays = stays_same refl;
         none = (none.0, λ closed. absurd (let bad : true ≡ false = sym (opens c ∙ there) ∙ closed in cc));
       })
@@ -111,28 +107,29 @@ module _ {K : Type 0} {stores : Stores K} where
       let bs = all_gathered d.loop in
       let s : Loop = releases d.loop in
       let g = subst (λ (x : Served K). GivesAll stores u x e) is given bs are in
-      run_gives (run_then (λ l s t. flushed l s ≡ rest l t) (at_once IsCalm IsCalm released {d = d} {s = s} refl (grew_still refl refl) (λ marks f h. calm_same marks d.loop s refl refl (λ c. refl) h) (λ before. refl)) (gives_run g)
-      (λ l before xs zs k mid end x y. ap (given_together l bs) x ∙ y)) g.kinds (record { turn = g.stays.turn; at = g.stays.at; frames = g.stays.frames }) g.none
+      record {
+        run = run_then (λ l s t. flushed l s ≡ rest l t) (at_once IsCalm IsCalm released {d = d} {s = s} refl (grew_still refl refl) (λ marks f h. calm_same marks d.loop s refl refl (λ c. refl) h) (λ before. refl)) g.run (λ l before xs zs k mid end x y. ap (given_together l bs) x ∙ y);
+        kinds = g.kinds;
+        stays = record { turn = g.stays.turn; at = g.stays.at; frames = g.stays.frames };
+        none = g.none;
+      }
 
   -- ---- and then this is done, if the connection still has a session
 
-  pub loses_run : {c : ℕ} {d e : Served K} → Loses stores c d e → Run stores Any Any (λ l s t. (rest l s ≡ rest l t) × (find c (rest l s).loop.sessions ≡ None)) d e
-  loses_run a = record { deeds = a.deeds; grew = a.grew; went = a.went; sure = λ marks f h. tt; is = λ l before k h. (a.is l before k, a.closed l before k) }
-
   module _ (c : ℕ) (f : Luck → State → State) where
     pub behind_closed : {d m : Served K} → Does stores (λ l s. flushed l s) d m → is_open c m.loop ≡ false → Does stores (λ l s. behind l c (f l) s) d m
-    behind_closed {d} {m} a closed = run_does (run_as (λ l s t. behind l c (f l) s ≡ t) (does_run a) (λ l before zs k end x.
-        ap (if_there c f l) x ∙ ap (λ b. if b then f l (with_deeds zs m) else with_deeds zs m) closed))
+    behind_closed {d} {m} a closed = run_as (λ l s t. behind l c (f l) s ≡ t) a (λ l before zs k end x.
+        ap (if_there c f l) x ∙ ap (λ b. if b then f l (with_deeds zs m) else with_deeds zs m) closed)
 
     pub behind_goes : {d m e : Served K} → Does stores (λ l s. flushed l s) d m → is_open c m.loop ≡ true → Does stores f m e → Does stores (λ l s. behind l c (f l) s) d e
-    behind_goes {d} {m} {e} a there b = run_does (run_then (λ l s t. behind l c (f l) s ≡ t) (does_run a) (does_run b) (λ l before xs zs k mid end x y.
-        ap (if_there c f l) x ∙ ap (λ o. if o then f l (with_deeds xs m) else with_deeds xs m) there ∙ y))
+    behind_goes {d} {m} {e} a there b = run_then (λ l s t. behind l c (f l) s ≡ t) a b (λ l before xs zs k mid end x y.
+        ap (if_there c f l) x ∙ ap (λ o. if o then f l (with_deeds xs m) else with_deeds xs m) there ∙ y)
 
     -- what was to be done found no memory: its session was lost behind what was given
     pub behind_lost : {d m e : Served K} → Gives stores (λ l s. flushed l s) d m → Loses stores c m e → Does stores (λ l s. behind l c (f l) s) d e
-    behind_lost {d} {m} {e} g a = run_does (run_then (λ l s t. behind l c (f l) s ≡ t) (gives_run g) (run_any (loses_run a)) (λ l before xs zs k mid end x y.
+    behind_lost {d} {m} {e} g a = run_then (λ l s t. behind l c (f l) s ≡ t) g.run (run_any a.run) (λ l before xs zs k mid end x y.
         let s : State = rest l (with_deeds xs m) in
-        ap (if_there c f l) x ∙ ap (λ o. if o then f l s else s) (ap is_some y.1) ∙ y.0 ∙ rest_still l (with_deeds zs e) end a.none))
+        ap (if_there c f l) x ∙ ap (λ o. if o then f l s else s) (ap is_some y.1) ∙ y.0 ∙ rest_still l (with_deeds zs e) end a.none)
 
 module _ {K : Type 0} {stores : Stores K} {line : Standing → List ℕ} {c : ℕ} {heard : Heard} where
   -- a frame, behind what was gathered
@@ -163,13 +160,13 @@ module _ {K : Type 0} {stores : Stores K} {line : Standing → List ℕ} {c : �
       let opens : (n : ℕ) → is_open n s ≡ is_open n d.loop = λ n. ap (λ t. is_some (find n t)) sessions in
       let full_now : full ≡ nat_le most (count s) = full_is ∙ ap (λ (x : Served K). nat_le most (count x.loop)) is in
       record {
-        does = run_does (run_then (λ l u t. on_frame l line c heard u ≡ t) (at_once IsCalm IsCalm (λ u. record u { loop = s }) is (grew_still lost place) (λ marks f h. calm_same marks d.loop s lost place opens h) (λ before. refl)) (does_run a) (λ l before xs zs k mid end x y.
+        does = run_then (λ l u t. on_frame l line c heard u ≡ t) (at_once IsCalm IsCalm (λ u. record u { loop = s }) is (grew_still lost place) (λ marks f h. calm_same marks d.loop s lost place opens h) (λ before. refl)) a (λ l before xs zs k mid end x y.
             let t : State = record { loop = s; node = d.node; deeds = before } in
             same l before
             ∙ if_full (count s) most t (flushed l t)
             ∙ ap (λ b. if b then flushed l t else t) (sym full_now)
             ∙ ap (λ u. if full then flushed l u else u) x
-            ∙ y));
+            ∙ y);
         stays = stays_then (subst (λ (x : Served K). Stays d.loop x.loop) (sym is) (stays_same place)) stays;
         none = drains_at c e.loop none;
       }

@@ -11,8 +11,8 @@ use Rattle.op_serving.specs.Room.{Frame}
 use Rattle.op_serving.specs.Inputs.{State, Luck, Deed, enters, says, kept, kept_of}
 use Rattle.op_serving.specs.Losses.{Foretells, Grew}
 use Rattle.op_serving.specs.State.{Loop}
-use Rattle.op_driver.specs.Driver.{Served, Stores, Went, with_deeds, Knows}
-use Rattle.op_queues.proofs.Settling.{foretold, grew_trans}
+use Rattle.op_driver.specs.Driver.{Served, Chance, Any, Way, Stores, Went, Run, with_deeds, Knows}
+use Rattle.op_queues.proofs.Settling.{foretold, grew_still, grew_trans}
 
 -- ---- some deeds, and then others
 
@@ -80,18 +80,6 @@ module _ {K : Type 0} {stores : Stores K} where
 
 -- ---- one thing behind the other
 
--- what may be said of the marks at a place
-abbrev pub Chance : Type 1
-Chance = List Mark → Loop → Type 0
-
--- no more than that they come
-abbrev pub Any : List Mark → Loop → Type 0
-Any marks s = Unit {0}
-
--- what it is to go from one state to another
-abbrev pub Way : Type 1
-Way = Luck → State → State → Type 0
-
 -- deeds told apart otherwise
 pub split_deeds : (before xs ys : List Deed) → before ++ (xs ++ ys) ≡ (before ++ xs) ++ ys
 split_deeds before xs ys = sym (append_assoc before xs ys)
@@ -133,16 +121,6 @@ module _ {K : Type 0} {stores : Stores K} where
     walks = subst (λ (k : K). Walks stores d.core ds k) (sym u.core) a.walks;
   }
 
-module _ {K : Type 0} (stores : Stores K) where
-  -- By these deeds one goes this way, whatever was done before and is lost behind. Of the marks behind it `C` is said,
-  -- and of those before it that gives `A`.
-  pub record Run (A C : Chance) (W : Way) (d e : Served K) : Type 0 where
-    pub deeds : List Deed
-    pub grew : Grew d.loop e.loop
-    pub went : Went stores d deeds e
-    pub sure : (marks : List Mark) → Foretells marks e.loop → C marks e.loop → A marks d.loop
-    pub is : (l : Luck) (before : List Deed) → Knows l (with_deeds (before ++ deeds) e) → C l.marks e.loop → W l (with_deeds before d) (with_deeds (before ++ deeds) e)
-
 module _ {K : Type 0} {stores : Stores K} where
   pub run_then : {A B C : Chance} {W V : Way} (U : Way) {d m e : Served K} → Run stores A B W d m → Run stores B C V m e
       → ((l : Luck) (before xs zs : List Deed) → Knows l (with_deeds zs e) → B l.marks m.loop → C l.marks e.loop
@@ -172,6 +150,26 @@ module _ {K : Type 0} {stores : Stores K} where
     went = a.went;
     sure = a.sure;
     is = λ l before k c. join l before (before ++ a.deeds) k c (a.is l before k c);
+  }
+
+  -- of the marks before something else is said
+  pub run_sure : {A B C : Chance} {W : Way} {d e : Served K} → Run stores A C W d e
+      → ((marks : List Mark) → Foretells marks e.loop → C marks e.loop → B marks d.loop) → Run stores B C W d e
+  run_sure a sure = record { deeds = a.deeds; grew = a.grew; went = a.went; sure = sure; is = a.is }
+
+  -- or nothing
+  pub run_from : {A C : Chance} {W : Way} {d e : Served K} → Run stores A C W d e → Run stores Any C W d e
+  run_from a = run_sure a (λ marks f c. tt)
+
+  -- nothing is done
+  pub run_still : {A C : Chance} {W : Way} (d : Served K) → ((marks : List Mark) → C marks d.loop → A marks d.loop)
+      → ((l : Luck) (before : List Deed) → W l (with_deeds before d) (with_deeds before d)) → Run stores A C W d d
+  run_still {W = W} d sure is = record {
+    deeds = [];
+    grew = grew_still refl refl;
+    went = went_none;
+    sure = λ marks f c. sure marks c;
+    is = λ l before k c. subst (λ b. W l (with_deeds before d) (with_deeds b d)) (sym (append-nil before)) (is l before);
   }
 
   -- what holds of any marks holds of these

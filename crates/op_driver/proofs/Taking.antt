@@ -8,12 +8,12 @@ use Rattle.op_types.specs.declared.events.Input.{Input}
 use Rattle.op_serving.specs.declared.mark.Mark.{Mark}
 use Rattle.op_serving.specs.declared.mark.Place.{Place}
 use Rattle.op_serving.specs.Cores.{Standing}
-use Rattle.op_serving.specs.Fates.{Came, Fate, done, finds, faults, shares, damaged, lost, broke_by, after_fate, after_all, is_lost, MayCome, MayFail, IsTogether, MayComeAll}
+use Rattle.op_serving.specs.Fates.{Came, Fate, done, finds, faults, shares, lost, broke_by, after_fate, after_all, is_lost, MayCome, MayFail, IsTogether, MayComeAll}
 use Rattle.op_serving.specs.Faults.{Stepped, came_in}
 use Rattle.op_serving.specs.Room.{Frame}
 use Rattle.op_serving.specs.State.{Loop, next, counted}
 use Rattle.op_serving.specs.Losses.{most_marks, last_count, mark_at, noted, marked, is_here, IsCalm, IsFrom, Foretells, Grew, KeepsKinds}
-use Rattle.op_serving.specs.Inputs.{Brought, Taken, Deed, enters, says, State, Luck, asked_by, loop_taking, kept_fate, kept_of, kept, is_lost_here, broke, fate_with, next_fate}
+use Rattle.op_serving.specs.Inputs.{Brought, Taken, Deed, enters, says, State, Luck, asked_by, loop_taking, kept_fate, kept, is_lost_here, broke, fate_with, next_fate}
 use Rattle.op_queues.proofs.Settling.{foretold, kinds_then, marked_kinds, grew_trans, grew_still, stopped_lost, stopped_place, from_own, here_own, from_counted, counted_grew}
 use Rattle.op_driver.proofs.Calm.{no_left, not_here, past_inputs, calm_before, calm_lost}
 use Rattle.op_driver.proofs.Stepping.{kept_both, steps_says}

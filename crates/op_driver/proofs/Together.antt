@@ -14,14 +14,14 @@ use Rattle.op_serving.specs.Losses as losses
 use Rattle.op_serving.specs.Losses.{most_marks, is_due, settle, settled, IsCalm, Foretells, KeepsKinds, Stays}
 use Rattle.op_serving.specs.Inputs.{Brought, Taken, Deed, enters, says, State, Luck, asked_by, kept_fate, kept, calm, loop_taking, loop_after, loop_after_all, frames_after_all, broke, next_fate, takes_in, taken_as, handing, entered_with, enter, drained, rest, together, given_together}
 use Rattle.op_driver.specs.Answering.{Answer, counting, answered}
-use Rattle.op_driver.specs.Driver.{Served, Stores, served_at, with_deeds, Enters, Gives, Drained, IsDrained}
+use Rattle.op_driver.specs.Driver.{Served, Any, Stores, Run, served_at, with_deeds, Enters, Gives, Drained, IsDrained}
 use Rattle.op_driver.specs.Ungiven.{GivesSome}
-use Rattle.op_queues.proofs.Settling.{kinds_then, foretold, grew_trans, grew_still, does_as}
+use Rattle.op_queues.proofs.Settling.{kinds_then, foretold, grew_trans, does_as}
 use Rattle.op_driver.proofs.Calm.{no_left, calm_full}
-use Rattle.op_driver.proofs.Stepping.{kept_both, walks_group, went_none, Any, Run, run_then, run_as, run_any}
+use Rattle.op_driver.proofs.Stepping.{kept_both, walks_group, run_then, run_as, run_any, run_still}
 use Rattle.op_driver.proofs.Taking.{Entry, FailAll, brought_of, came_of, taken_of, enters_of, loop_taken, state_at, kept_more, next_is, InCount, in_count, grew_taken, kinds_taken, calm_taking, came_enters, steps_all, broke_more}
 use Rattle.op_driver.proofs.Telling.{counting_is, answered_is}
-use Rattle.op_driver.proofs.Draining.{rest_still, drained_again, drained_run}
+use Rattle.op_driver.proofs.Draining.{rest_still, drained_again}
 
 -- ---- those that one call deals with
 
@@ -163,18 +163,11 @@ settle_full (m ∷ ms) s h = let no : is_due m s ≡ false = no_left (nat_lt (le
 
 module _ {K : Type 0} {stores : Stores K} where
   enters_one : {z : Entry} {d e : Served K} → ComesAll stores (z ∷ []) d e → Enters stores (λ l s. enter l z.0.0 z.0.1 s) d e
-  enters_one {z} {d} {e} c =
-      let r = comes_run c in
-      record {
-        deeds = r.deeds;
-        grew = r.grew;
-        went = r.went;
-        kinds = comes_kinds c;
-        sure = λ marks f. r.sure marks f tt;
-        is = λ l before k.
-            let h = r.is l before k tt in
-            enter_is l z.0.0 z.0.1 z.1 (with_deeds before d) c.few (next_is l [] z.0.1 d.loop d.node before z.1 h.more c.may.0 c.fails.0 c.may.1 h.marks (fates_first l before z [] h.more h.fates)) ∙ h.handed;
-      }
+  enters_one {z} {d} {e} c = record {
+    run = run_as (λ l s t. enter l z.0.0 z.0.1 s ≡ calm l t) (comes_run c) (λ l before zs k end h.
+        enter_is l z.0.0 z.0.1 z.1 (with_deeds before d) c.few (next_is l [] z.0.1 d.loop d.node before z.1 h.more c.may.0 c.fails.0 c.may.1 h.marks (fates_first l before z [] h.more h.fates)) ∙ h.handed);
+    kinds = comes_kinds c;
+  }
 
   -- by what a step answered
   pub entered : {standing : K → Standing} (from : List ℕ) {i : Input} {r : Answer} {w : Option Wanted} {s u t : Loop} {k m : K} → Steps standing stores k i r m → length s.lost < most_marks → InCount s → w ≡ asked_by from i → u ≡ counting r s
@@ -196,15 +189,10 @@ module _ {K : Type 0} {stores : Stores K} where
 
   pub entered_full : (from : List ℕ) (i : Input) (d : Served K) → most_marks ≤ length d.loop.lost → Enters stores (λ l s. enter l from i s) d d
   entered_full from i d h = record {
-    deeds = [];
-    grew = grew_still refl refl;
-    went = went_none;
-    kinds = λ c. inl refl;
-    sure = λ marks f. calm_full marks d.loop h;
-    is = λ l before k.
+    run = run_still d (λ marks c. calm_full marks d.loop h) (λ l before.
         ap (λ b. if b then entered_with l from i (next_fate l [] i (with_deeds before d)) (with_deeds before d) else with_deeds before d) (le-ltb (length d.loop.lost) most_marks h)
-        ∙ ap (λ b. with_deeds b d) (sym (append-nil before))
-        ∙ ap (λ r. record { loop = r; node = d.node; deeds = before ++ [] }) (sym (settle_full (drop (length d.loop.lost) l.marks) d.loop h));
+        ∙ ap (λ r. record { loop = r; node = d.node; deeds = before }) (sym (settle_full (drop (length d.loop.lost) l.marks) d.loop h)));
+    kinds = λ c. inl refl;
   }
 
 -- ---- several
@@ -214,55 +202,48 @@ abbrev Goes : List Brought → List Brought → Luck → State → State → Typ
 Goes bs left l s t = drained l (together l [] bs s) ≡ drained l (together l [] left (rest l t))
 
 module _ {K : Type 0} {stores : Stores K} where
-  some_run : {bs left : List Brought} {d e : Served K} → GivesSome stores bs left d e → Run stores IsCalm Any (Goes bs left) d e
-  some_run a = record { deeds = a.deeds; grew = a.grew; went = a.went; sure = λ marks f h. a.sure marks f; is = λ l before k h. a.is l before k }
-
-  run_some : {bs left : List Brought} {d e : Served K} → Run stores IsCalm Any (Goes bs left) d e → KeepsKinds d.loop e.loop → GivesSome stores bs left d e
-  run_some r kinds = record { deeds = r.deeds; grew = r.grew; went = r.went; kinds = kinds; sure = λ marks f. r.sure marks f tt; is = λ l before k. r.is l before k tt }
-
   -- some were dealt with, and these are left
   pub gives_group : {z : Entry} {zs : List Entry} (left : List Brought) {d e : Served K} → ComesAll stores (z ∷ zs) d e → (left ≡ []) ⊎ (ends_lost (came_of (z ∷ zs)) ≡ true) → GivesSome stores (brought_of (z ∷ zs) ++ left) left d e
   unfolding rest
-  gives_group {z} {zs} left {d} {e} c ends = run_some (run_as (Goes (brought_of (z ∷ zs) ++ left) left) (comes_run c) (λ l before xs k h x.
-      together_so l left x.more z zs [] d.loop d.node before c.few c.short c.may c.fails x.marks x.fates ends ∙ ap (λ t. drained l (together l [] left (drained l t))) x.handed)) (comes_kinds c)
+  gives_group {z} {zs} left {d} {e} c ends = record {
+    run = run_as (Goes (brought_of (z ∷ zs) ++ left) left) (comes_run c) (λ l before xs k h x.
+        together_so l left x.more z zs [] d.loop d.node before c.few c.short c.may c.fails x.marks x.fates ends ∙ ap (λ t. drained l (together l [] left (drained l t))) x.handed);
+    kinds = comes_kinds c;
+  }
 
   -- and then the Downs
   pub some_drained : {bs left : List Brought} {d m e : Served K} → GivesSome stores bs left d m → Drained stores m e → GivesSome stores bs left d e
-  some_drained {bs} {left} {d} {m} {e} a b = run_some (run_then (Goes bs left) (some_run a) (drained_run b) (λ l before xs zs k mid end x y. x ∙ ap (λ t. drained l (together l [] left t)) y)) (kinds_then d.loop m.loop e.loop a.kinds b.kinds)
+  some_drained {bs} {left} {d} {m} {e} a b = record {
+    run = run_then (Goes bs left) a.run b.run (λ l before xs zs k mid end x y. x ∙ ap (λ t. drained l (together l [] left t)) y);
+    kinds = kinds_then d.loop m.loop e.loop a.kinds b.kinds;
+  }
 
   -- one group behind the other
   pub some_then : {bs cs left : List Brought} {d m e : Served K} → GivesSome stores bs cs d m → IsDrained m.loop → GivesSome stores cs left m e → GivesSome stores bs left d e
-  some_then {bs} {cs} {left} {d} {m} {e} a none b =
-      run_some (run_then (Goes bs left) (run_any (some_run a)) (some_run b) (λ l before xs zs k mid end x y. x ∙ ap (λ t. drained l (together l [] cs t)) (rest_still l (with_deeds xs m) mid none) ∙ y)) (kinds_then d.loop m.loop e.loop a.kinds b.kinds)
+  some_then {bs} {cs} {left} {d} {m} {e} a none b = record {
+    run = run_then (Goes bs left) (run_any a.run) b.run (λ l before xs zs k mid end x y. x ∙ ap (λ t. drained l (together l [] cs t)) (rest_still l (with_deeds xs m) mid none) ∙ y);
+    kinds = kinds_then d.loop m.loop e.loop a.kinds b.kinds;
+  }
 
   -- where none is left, it comes to rest so
   pub some_gives : {bs : List Brought} {d e : Served K} → 0 < length bs → GivesSome stores bs [] d e → Stays d.loop e.loop → IsDrained e.loop → Gives stores (λ l s. given_together l bs s) d e
   unfolding rest
   some_gives {bs = []} some a stays none = absurd (omega (arith, some))
   some_gives {bs = b ∷ bs} {d} {e} some a stays none = record {
-    deeds = a.deeds;
-    grew = a.grew;
-    went = a.went;
+    run = run_as (λ l s t. given_together l (b ∷ bs) s ≡ rest l t) a.run (λ l before zs k h x. x ∙ drained_again l (calm l (with_deeds zs e)));
     kinds = a.kinds;
-    sure = a.sure;
     stays = stays;
     none = none;
-    is = λ l before k. a.is l before k ∙ drained_again l (calm l (with_deeds (before ++ a.deeds) e));
   }
 
   -- serving has stopped: nothing of them is given
   pub some_full : (bs : List Brought) (d : Served K) → most_marks ≤ length d.loop.lost → GivesSome stores bs [] d d
   unfolding rest
   some_full bs d h = record {
-    deeds = [];
-    grew = grew_still refl refl;
-    went = went_none;
-    kinds = λ c. inl refl;
-    sure = λ marks f. calm_full marks d.loop h;
-    is = λ l before k.
+    run = run_still d (λ marks c. calm_full marks d.loop h) (λ l before.
         let s : State = with_deeds before d in
-        ap (drained l) (none_full l bs s h ∙ ap (λ ds. record (calm l s) { deeds = ds }) (append-nil s.deeds))
-        ∙ sym (drained_again l (calm l s)) ∙ ap (λ b. drained l (handing l [] (drained l (calm l (with_deeds b d))))) (sym (append-nil before));
+        ap (drained l) (none_full l bs s h ∙ ap (λ ds. record (calm l s) { deeds = ds }) (append-nil s.deeds)) ∙ sym (drained_again l (calm l s)));
+    kinds = λ c. inl refl;
   }
     where
       none_full : (l : Luck) (bs : List Brought) (s : State) → most_marks ≤ length s.loop.lost → together l [] bs s ≡ handing l [] s

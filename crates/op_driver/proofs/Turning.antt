@@ -1,5 +1,5 @@
 -- Connections that begin, and bytes that were written.
-use Rattle.std.proofs.Common.{◌≡◌, ◌<◌, ◌≤◌, ◌-◌, ◌+◌, ◌++◌, ◌∷◌, ◌⊎◌, [], ℕ, Bool, true, false, not, List, length, drop, take, Option, Some, None, is_some, option_map, arith, ◌||◌, ◌==◌, nat_lt, refl, sym, ◌∙◌, ap, subst, inl, inr, append_assoc}
+use Rattle.std.proofs.Common.{◌≡◌, ◌<◌, ◌≤◌, ◌-◌, ◌+◌, ◌++◌, ◌∷◌, ◌⊎◌, [], ℕ, Bool, true, false, not, length, drop, take, Option, Some, None, is_some, option_map, arith, ◌||◌, ◌==◌, nat_lt, refl, sym, ◌∙◌, ap, subst, inl, inr, append_assoc}
 use Rattle.std.proofs.lemmas.Bool.{cases_Bool, eq-eqb, le-ltb, ltb-false}
 use Rattle.std.proofs.lemmas.List.{length-drop}
 use Rattle.std.proofs.Math.Seq.{drop-nil}
@@ -14,14 +14,14 @@ use Rattle.op_serving.specs.State.{Table, Loop, find, changed_at, is_open, is_ov
 use Rattle.op_serving.specs.Losses.{most_marks, mark_at, noted as noted_mark, stopped_if, is_here, lost_by, IsCalm, Foretells, Grew, KeepsKinds}
 use Rattle.op_serving.specs.Inputs.{State, Deed, begins, takes, calm, noting, give}
 use Rattle.op_serving.specs.Turns.{hello_less, first_bytes, made_session, joining, joined, queue_in, without_bytes, taken_of, taken_by, up_peer, up_at, wrote}
-use Rattle.op_driver.specs.Driver.{Served, Stores, with_deeds, Acts, FromCalm, Does, Gives, IsShed, IsDrained, Rests, hello_of, hello_left}
+use Rattle.op_driver.specs.Driver.{Served, Any, Stores, Run, with_deeds, Acts, FromCalm, Does, Gives, IsShed, IsDrained, Rests, hello_of, hello_left}
 use Rattle.op_queues.proofs.Tables.{same_or_not, find_set, find_set_apart, found_changed}
 use Rattle.op_queues.proofs.Settling.{grew_still, grew_trans, lost_first, lost_grew, lost_lost, lost_place}
 use Rattle.op_queues.proofs.Joining.{order_cases, find_put}
 use Rattle.op_queues.proofs.Filling.{made_thin}
 use Rattle.op_driver.proofs.Calm.{no_right, calm_less, calm_same, calm_next, calm_settled}
-use Rattle.op_driver.proofs.Stepping.{Any, Run, run_then, run_as, run_any, noted}
-use Rattle.op_driver.proofs.Draining.{run_acts, run_does, gives_run, calm_is, shed_one, rest_still}
+use Rattle.op_driver.proofs.Stepping.{run_then, run_as, run_any, noted}
+use Rattle.op_driver.proofs.Draining.{calm_is, shed_one, rest_still}
 
 -- ---- a table with a new entry
 
@@ -84,8 +84,8 @@ module _ {K : Type 0} {stores : Stores K} {c : ℕ} {kind : Kind} {d e : Served 
       let j : Loop = joining c kind d.loop in
       let begun : State → State = λ s. noting (begins c (first_bytes kind s.loop.me)) (record s { loop = joining c kind s.loop }) in
       let opens : (n : ℕ) → is_open n d.loop ≡ true → (is_open n j || not (d.loop.place.at == 0)) ≡ true = λ n o. let there : is_open n j ≡ true = opens_joined c n kind d.loop o in rw there refl in
-      run_does (run_as (λ l s t. joined l c kind s ≡ t) (noted IsCalm IsCalm begun (begins c (first_bytes kind d.loop.me)) refl is (grew_still refl refl) (λ marks f h. calm_less marks d.loop j refl refl opens h) (λ before. refl))
-      (λ l before zs k end x. ap (calm l) x ∙ calm_is l (with_deeds zs e) end))
+      run_as (λ l s t. joined l c kind s ≡ t) (noted IsCalm IsCalm begun (begins c (first_bytes kind d.loop.me)) refl is (grew_still refl refl) (λ marks f h. calm_less marks d.loop j refl refl opens h) (λ before. refl))
+      (λ l before zs k end x. ap (calm l) x ∙ calm_is l (with_deeds zs e) end)
 
   pub joins_lost : is_open c d.loop ≡ false → e ≡ record d { loop = lost_by c (joining c kind d.loop) } → length d.loop.lost < most_marks → Acts stores (λ l s. joined l c kind s) d e
   joins_lost new is few =
@@ -94,10 +94,10 @@ module _ {K : Type 0} {stores : Stores K} {c : ℕ} {kind : Kind} {d e : Served 
       let lost_at : State → State = λ s. noting (begins c (first_bytes kind s.loop.me)) (record s { loop = lost_by c (joining c kind s.loop) }) in
       let grew : Grew d.loop (lost_by c j) = grew_trans (grew_still {s = d.loop} {t = j} refl refl) (lost_grew c j) in
       let there : is_open c j ≡ true = ap is_some (find_put c (made_session kind d.loop.me) d.loop.sessions new) in
-      run_acts (run_as (λ l s t. joined l c kind s ≡ t) (noted Any IsCalm lost_at deed refl is grew (λ marks f h. tt) (λ before. refl)) (λ l before zs k end x.
+      run_as (λ l s t. joined l c kind s ≡ t) (noted Any IsCalm lost_at deed refl is grew (λ marks f h. tt) (λ before. refl)) (λ l before zs k end x.
       let f : Foretells l.marks (lost_by c j) = subst (λ (y : Served K). Foretells l.marks y.loop) is k.marks in
       let calm_j : IsCalm l.marks (lost_by c j) = subst (λ (y : Served K). IsCalm l.marks y.loop) is end in
-      ap (λ (r : Loop). record { loop = r; node = d.node; deeds = before ++ deed ∷ [] }) (lost_first c j l.marks there few f ∙ calm_settled l.marks (lost_by c j) calm_j) ∙ x))
+      ap (λ (r : Loop). record { loop = r; node = d.node; deeds = before ++ deed ∷ [] }) (lost_first c j l.marks there few f ∙ calm_settled l.marks (lost_by c j) calm_j) ∙ x)
 
 -- ---- bytes that were written
 
@@ -110,12 +110,12 @@ module _ {K : Type 0} {stores : Stores K} (c n : ℕ) {d m : Served K} (is : m �
 
   -- no peer goes up by it
   pub wrote_some : up_peer (kind_at c d.loop) (kind_at c m.loop) ≡ None → Does stores (λ l s. wrote l c n s) d m
-  wrote_some none = run_does (run_as (λ l s t. wrote l c n s ≡ t) took_run (λ l before zs k end x. ap (λ t. up_at l (up_peer (kind_at c d.loop) (kind_at c t.loop)) t) x ∙ ap (λ o. up_at l o (with_deeds zs m)) none))
+  wrote_some none = run_as (λ l s t. wrote l c n s ≡ t) took_run (λ l before zs k end x. ap (λ t. up_at l (up_peer (kind_at c d.loop) (kind_at c t.loop)) t) x ∙ ap (λ o. up_at l o (with_deeds zs m)) none)
 
   -- or its hello went out whole
   pub wrote_hello : {q : ℕ} {e : Served K} → up_peer (kind_at c d.loop) (kind_at c m.loop) ≡ Some q → Gives stores (λ l s. give l [] (input.Up q) s) m e → Does stores (λ l s. wrote l c n s) d e
-  wrote_hello {q} {e} up g = run_does (run_then (λ l s t. wrote l c n s ≡ t) took_run (run_any (gives_run g)) (λ l before xs zs k mid end x y.
-      ap (λ t. up_at l (up_peer (kind_at c d.loop) (kind_at c t.loop)) t) x ∙ ap (λ o. up_at l o (with_deeds xs m)) up ∙ y ∙ rest_still l (with_deeds zs e) end g.none))
+  wrote_hello {q} {e} up g = run_then (λ l s t. wrote l c n s ≡ t) took_run (run_any g.run) (λ l before xs zs k mid end x y.
+      ap (λ t. up_at l (up_peer (kind_at c d.loop) (kind_at c t.loop)) t) x ∙ ap (λ o. up_at l o (with_deeds xs m)) up ∙ y ∙ rest_still l (with_deeds zs e) end g.none)
 
 -- ---- what is left of a hello, and of what waits
 

@@ -1,15 +1,15 @@
 -- What the driver does with what stands at the front of a session.
-use Rattle.std.specs.Prelude.{◌≡◌, ◌≤◌, ◌+◌, ◌++◌, ◌⊎◌, if◌then◌else◌, [], ℕ, List, false, Option, Some, None, Result}
+use Rattle.std.specs.Prelude.{◌≡◌, ◌≤◌, ◌+◌, ◌⊎◌, if◌then◌else◌, [], ℕ, List, false, Option, Some, None, Result}
 use Rattle.std.specs.declared.alloc.AllocError.{AllocError}
 use Rattle.op_queues.specs.declared.front.Front.{Front}
 use Rattle.op_serving.specs.declared.hearing.Heard.{Heard}
 use Rattle.op_serving.specs.Cores.{Standing}
 use Rattle.op_serving.specs.State.{Loop, find, is_open, session_of}
-use Rattle.op_serving.specs.Losses.{IsCalm, Grew, Stays}
-use Rattle.op_serving.specs.Inputs.{State, Deed, Luck, behind, over, rest}
+use Rattle.op_serving.specs.Losses.{IsCalm, Stays}
+use Rattle.op_serving.specs.Inputs.{State, Luck, behind, over, rest}
 use Rattle.op_serving.specs.Reading.{on_frame, on_heard, counted_if, is_peer, met, replaced, dealt_at, dealt}
 use Rattle.op_queues.specs.Hearing.{TakesAt}
-use Rattle.op_driver.specs.Driver.{Served, with_deeds, Knows, FromCalm, Sure, Stores, Went, Does, Loses, IsShed, Rests}
+use Rattle.op_driver.specs.Driver.{Served, Chance, Any, Stores, Run, Does, Loses, IsShed, Rests}
 use Rattle.op_command.specs.declared.said.Said.{Said}
 use Rattle.op_serving.specs.Handing.{told, no_command}
 
@@ -49,17 +49,15 @@ module _ {K : Type 0} (stores : Stores K) where
 abbrev pub Next : Type 0
 Next = ℕ → State → State
 
-module _ {K : Type 0} where
-  abbrev pub GoesOn : (Luck → Next → State → State) → ℕ → Served K → Served K → List Deed → Type 0
-  GoesOn f m d e deeds = (l : Luck) (before : List Deed) (more : Next)
-      → Knows l (with_deeds (before ++ deeds) e)
-      → f l more (with_deeds before d) ≡ more m (rest l (with_deeds (before ++ deeds) e))
+module _ {K : Type 0} (stores : Stores K) where
+  abbrev pub GoesOn : Chance → (Luck → Next → State → State) → ℕ → Served K → Served K → Type 0
+  GoesOn A f m d e = Run stores A Any (λ l s t. (more : Next) → f l more s ≡ more m (rest l t)) d e
 
   -- or it was the last
-  abbrev pub Ends : (Luck → Next → State → State) → Served K → Served K → List Deed → Type 0
-  Ends f d e deeds = (l : Luck) (before : List Deed) (more : Next) → Knows l (with_deeds (before ++ deeds) e)
-      → IsCalm l.marks e.loop → f l more (with_deeds before d) ≡ with_deeds (before ++ deeds) e
+  abbrev pub Ends : Chance → (Luck → Next → State → State) → Served K → Served K → Type 0
+  Ends A f d e = Run stores A IsCalm (λ l s t. (more : Next) → f l more s ≡ t) d e
 
+module _ {K : Type 0} where
   -- how many frames of this read are then dealt with
   abbrev pub CountsTo : ℕ → Option ℕ → Served K → Type 0
   CountsTo n (Some m) e = (e.loop.place.frames ≡ m) × (m ≤ n + 1)
@@ -67,17 +65,14 @@ module _ {K : Type 0} where
 
 module _ {K : Type 0} (stores : Stores K) where
   -- what was found was dealt with, or its session was lost for want of memory
-  abbrev pub TakenTo : (Luck → Next → State → State) → ℕ → Option ℕ → Served K → Served K → List Deed → Type 0
-  TakenTo f c (Some m) d e deeds = Sure d e × GoesOn f m d e deeds
-  TakenTo f c None d e deeds = Loses stores c d e ⊎ (FromCalm d e × Ends f d e deeds)
+  abbrev pub TakenTo : (Luck → Next → State → State) → ℕ → Option ℕ → Served K → Served K → Type 0
+  TakenTo f c (Some m) d e = GoesOn stores IsCalm f m d e
+  TakenTo f c None d e = Loses stores c d e ⊎ Ends stores IsCalm f d e
 
   pub record Taken (f : Luck → Next → State → State) (c n : ℕ) (r : Option ℕ) (d e : Served K) : Type 0 where
-    pub deeds : List Deed
-    pub grew : Grew d.loop e.loop
-    pub went : Went stores d deeds e
+    pub is : TakenTo f c r d e
     pub rests : Rests d.loop e.loop
     pub counts : CountsTo n r e
-    pub is : TakenTo f c r d e deeds
 
 -- a frame that says this
 abbrev pub framed : (Standing → List ℕ) → ℕ → Heard → ℕ → Luck → Next → State → State
@@ -91,27 +86,18 @@ greeted line c q n l more s = if is_peer q s.loop then met l line c more n q s e
 abbrev pub fronted : (Standing → List ℕ) → ℕ → ℕ → Luck → Next → State → State
 fronted line c n l more s = let t : State = rest l s in dealt_at l line c more n (find c t.loop.sessions) t
 
-module _ {K : Type 0} where
-  abbrev pub DealsTo : (Luck → Next → State → State) → Option ℕ → Served K → Served K → List Deed → Type 0
-  DealsTo f (Some m) d e deeds = GoesOn f m d e deeds
-  DealsTo f None d e deeds = Ends f d e deeds
-
 module _ {K : Type 0} (stores : Stores K) where
+  abbrev pub DealsTo : (Luck → Next → State → State) → Option ℕ → Served K → Served K → Type 0
+  DealsTo f (Some m) d e = GoesOn stores Any f m d e
+  DealsTo f None d e = Ends stores Any f d e
+
   -- what stands at the front was dealt with
   pub record Deals (line : Standing → List ℕ) (c n : ℕ) (r : Option ℕ) (d e : Served K) : Type 0 where
-    pub deeds : List Deed
-    pub grew : Grew d.loop e.loop
-    pub went : Went stores d deeds e
+    pub is : DealsTo (fronted line c n) r d e
     pub rests : Rests d.loop e.loop
     pub counts : CountsTo n r e
-    pub is : DealsTo (fronted line c n) r d e deeds
 
   -- all that stands there was dealt with, at most so often
   pub record DealsAll (line : Standing → List ℕ) (c most : ℕ) (d e : Served K) : Type 0 where
-    pub deeds : List Deed
-    pub grew : Grew d.loop e.loop
-    pub went : Went stores d deeds e
+    pub run : Run stores Any IsCalm (λ l s t. dealt l line c most 0 (rest l s) ≡ t) d e
     pub rests : Rests d.loop e.loop
-    pub is : (l : Luck) (before : List Deed) → Knows l (with_deeds (before ++ deeds) e)
-        → IsCalm l.marks e.loop
-        → dealt l line c most 0 (rest l (with_deeds before d)) ≡ with_deeds (before ++ deeds) e

@@ -53,9 +53,17 @@ module _ {K : Type 0} where
   abbrev pub FromCalm : Served K → Served K → Type 0
   FromCalm d e = (marks : List Mark) → Foretells marks e.loop → IsCalm marks e.loop → IsCalm marks d.loop
 
-  -- whatever is lost behind it, none was to be lost before it
-  abbrev pub Sure : Served K → Served K → Type 0
-  Sure d e = (marks : List Mark) → Foretells marks e.loop → IsCalm marks d.loop
+-- what may be said of the marks at a place
+abbrev pub Chance : Type 1
+Chance = List Mark → Loop → Type 0
+
+-- no more than that they come
+abbrev pub Any : List Mark → Loop → Type 0
+Any marks s = Unit {0}
+
+-- what it is to go from one state to another
+abbrev pub Way : Type 1
+Way = Luck → State → State → Type 0
 
 -- what inputs that are stored together are to a node's disks, by what came of them
 abbrev pub Stores : Type 0 → Type 1
@@ -67,65 +75,51 @@ module _ {K : Type 0} (stores : Stores K) where
     pub steps : Stepped d.node deeds e.node
     pub walks : Walks stores d.core deeds e.core
 
-  -- deeds were done, and what was done is this, where no session is lost here behind it
-  pub record Acts (f : Luck → State → State) (d e : Served K) : Type 0 where
+  -- By these deeds one goes this way, whatever was done before and is lost behind. Of the marks behind it `C`
+  -- is said, and of those before it that gives `A`.
+  pub record Run (A C : Chance) (W : Way) (d e : Served K) : Type 0 where
     pub deeds : List Deed
     pub grew : Grew d.loop e.loop
     pub went : Went d deeds e
-    pub is : (l : Luck) (before : List Deed) → Knows l (with_deeds (before ++ deeds) e)
-        → IsCalm l.marks e.loop → f l (with_deeds before d) ≡ with_deeds (before ++ deeds) e
+    pub sure : (marks : List Mark) → Foretells marks e.loop → C marks e.loop → A marks d.loop
+    pub is : (l : Luck) (before : List Deed) → Knows l (with_deeds (before ++ deeds) e) → C l.marks e.loop
+        → W l (with_deeds before d) (with_deeds (before ++ deeds) e)
+
+  -- what was done is this, where no session is lost here behind it
+  abbrev pub Acts : (Luck → State → State) → Served K → Served K → Type 0
+  Acts f d e = Run Any IsCalm (λ l s t. f l s ≡ t) d e
 
   -- the same of what may come behind something else
-  pub record Does (f : Luck → State → State) (d e : Served K) : Type 0 where
-    pub acts : Acts f d e
-    pub calm : FromCalm d e
+  abbrev pub Does : (Luck → State → State) → Served K → Served K → Type 0
+  Does f d e = Run IsCalm IsCalm (λ l s t. f l s ≡ t) d e
 
   -- an input was given, and what was done at once is this
   pub record Enters (f : Luck → State → State) (d e : Served K) : Type 0 where
-    pub deeds : List Deed
-    pub grew : Grew d.loop e.loop
-    pub went : Went d deeds e
+    pub run : Run IsCalm Any (λ l s t. f l s ≡ calm l t) d e
     pub kinds : KeepsKinds d.loop e.loop
-    pub sure : Sure d e
-    pub is : (l : Luck) (before : List Deed) → Knows l (with_deeds (before ++ deeds) e)
-        → f l (with_deeds before d) ≡ calm l (with_deeds (before ++ deeds) e)
 
   -- an input and the Downs behind it were given, and it comes to rest so
   pub record Gives (f : Luck → State → State) (d e : Served K) : Type 0 where
-    pub deeds : List Deed
-    pub grew : Grew d.loop e.loop
-    pub went : Went d deeds e
+    pub run : Run IsCalm Any (λ l s t. f l s ≡ rest l t) d e
     pub kinds : KeepsKinds d.loop e.loop
-    pub sure : Sure d e
     pub stays : Stays d.loop e.loop
     pub none : IsDrained e.loop
-    pub is : (l : Luck) (before : List Deed) → Knows l (with_deeds (before ++ deeds) e)
-        → f l (with_deeds before d) ≡ rest l (with_deeds (before ++ deeds) e)
 
   -- sessions ended and Downs were given, and it comes to rest where it did
   pub record Drained (d e : Served K) : Type 0 where
-    pub deeds : List Deed
-    pub grew : Grew d.loop e.loop
-    pub went : Went d deeds e
+    pub run : Run Any Any (λ l s t. rest l s ≡ rest l t) d e
     pub kinds : KeepsKinds d.loop e.loop
     pub calm : FromCalm d e
-    pub is : (l : Luck) (before : List Deed) → Knows l (with_deeds (before ++ deeds) e)
-        → rest l (with_deeds before d) ≡ rest l (with_deeds (before ++ deeds) e)
 
   -- a session was lost for want of memory, and its peer went down
   pub record Loses (c : ℕ) (d e : Served K) : Type 0 where
-    pub deeds : List Deed
     pub there : is_open c d.loop ≡ true
     pub few : length d.loop.lost < most_marks
-    pub grew : Grew d.loop e.loop
-    pub went : Went d deeds e
     pub stays : Stays d.loop e.loop
     pub none : IsDrained e.loop
     pub marked : (marks : List Mark) → Foretells marks e.loop → Foretells marks (lost_by c d.loop)
-    pub closed : (l : Luck) (before : List Deed) → Knows l (with_deeds (before ++ deeds) e)
-        → find c (rest l (with_deeds before d)).loop.sessions ≡ None
-    pub is : (l : Luck) (before : List Deed) → Knows l (with_deeds (before ++ deeds) e)
-        → rest l (with_deeds before d) ≡ rest l (with_deeds (before ++ deeds) e)
+    pub run : Run Any Any
+        (λ l s t. (rest l s ≡ rest l t) × (find c (rest l s).loop.sessions ≡ None)) d e
 
 -- a call is over: it is the same turn and happening, and nothing is left to be given or to end
 pub record Rests (s t : Loop) : Type 0 where

@@ -145,19 +145,20 @@ module _ {K : Type 0} {standing : K → Standing} {stores : Stores K} where
       → ServesNode standing stores o line end marks d.core e.core net0 net1 clock0 clock2
   unfolding own_luck
   serves o line end marks start u d e net0 net1 clock0 clock1 clock2 loop_is node_is last_is lost_is most short first g =
-      let y = g.goes.on in
+      let y = g.goes in
+      let ds : List Deed = y.run.deeds in
       let n : Standing = standing d.core in
-      let went : Stepped n y.deeds e.node = subst (λ x. Stepped x y.deeds e.node) node_is y.went.steps in
+      let went : Stepped n ds e.node = subst (λ x. Stepped x ds e.node) node_is y.run.went.steps in
       record {
         serves = record {
           start = start;
           answers = y.answers;
           made = y.made;
-          last = pump_of y.deeds (moment (stop end) u e);
-          run = runs o line end marks n start y.answers y.made (pump_of y.deeds (moment (stop end) u e)) refl
-              (rw lost_is (subst (λ p. Leads (set_of o) (own_luck y.deeds e.loop) line y.answers p y.made (pump_of y.deeds (moment (stop end) u e)))
+          last = pump_of ds (moment (stop end) u e);
+          run = runs o line end marks n start y.answers y.made (pump_of ds (moment (stop end) u e)) refl
+              (rw lost_is (subst (λ p. Leads (set_of o) (own_luck ds e.loop) line y.answers p y.made (pump_of ds (moment (stop end) u e)))
               (ap₂ (λ r s. pump_at turn (set_out o.turns start o.tick_ms) (record { loop = r; node = s; deeds = [] })) loop_is node_is)
-              (y.leads (own_luck y.deeds e.loop) [] (own_known y.deeds e short) (own_calm e))));
+              (y.run.is (own_luck ds e.loop) [] (own_known ds e short) (own_calm e))));
           net = y.told;
           clock = subst (λ ts. Grows clock0 (start ∷ ts) clock2) (sym y.times) (grows_both clock0 (start ∷ []) g.times first g.clock);
           ends = refl;
@@ -165,11 +166,11 @@ module _ {K : Type 0} {standing : K → Standing} {stores : Stores K} where
           lost_is = lost_is;
           marks = subst (λ xs. Marks end (length xs)) (sym lost_is) (marks_so end e.loop most y.marks);
           node = sym last_is;
-          fold = sym last_is ∙ folded_so y.deeds n e.node went;
-          steps = subst (λ (m : Standing). Stepped n y.deeds m) last_is went;
-          few = subst (λ (m : Standing). FaultsWithin n.faults (faulted_steps y.deeds) m.faults) last_is (few_faults y.deeds n e.node went);
+          fold = sym last_is ∙ folded_so ds n e.node went;
+          steps = subst (λ (m : Standing). Stepped n ds m) last_is went;
+          few = subst (λ (m : Standing). FaultsWithin n.faults (faulted_steps ds) m.faults) last_is (few_faults ds n e.node went);
         };
-        walks = y.went.walks;
+        walks = y.run.went.walks;
       }
 
 -- ---- the start

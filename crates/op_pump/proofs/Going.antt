@@ -18,12 +18,12 @@ use Rattle.op_serving.specs.Losses.{most_marks, IsCalm}
 use Rattle.op_serving.specs.Inputs.{State, Deed, Luck}
 use Rattle.op_serving.specs.Pump.{Settings, Stage, stop, Pump, Ask, nothing, Answer, no_answer, call_of, ask, answered, shut, after, calls}
 use Rattle.op_serving.specs.Answers.{IsAnswer, Answers, time_of}
-use Rattle.op_driver.specs.Driver.{Served, Stores, with_deeds, emptied, Knows, Acts, FromCalm, IsIdle}
+use Rattle.op_driver.specs.Driver.{Served, Chance, Stores, Run, with_deeds, emptied, IsIdle}
 use Rattle.op_pump.specs.declared.timer.Timer.{Timer}
-use Rattle.op_pump.specs.Moments.{Moment, moment, pump_at, pump_of, reached, unless_full, is_broken, is_starved, MarksAt, Leads, times_in, On, Goes, TurnGoes, IsIdleAt, Settles}
+use Rattle.op_pump.specs.Moments.{Moment, moment, pump_at, pump_of, reached, unless_full, is_broken, is_starved, MarksAt, Leads, times_in, GoesBy, On, Goes, TurnGoes, IsIdleAt, Settles}
 use Rattle.op_queues.proofs.Settling.{grew_still}
-use Rattle.op_driver.proofs.Stepping.{Any, Run, run_then, went_none}
-use Rattle.op_pump.proofs.Knowing.{calm_emptied, foretells_emptied, grew_emptied, acts_still}
+use Rattle.op_driver.proofs.Stepping.{run_then, run_from, run_still, at_once}
+use Rattle.op_pump.proofs.Knowing.{calm_emptied}
 
 -- ---- answers after answers
 
@@ -59,37 +59,24 @@ times_both (x ∷ xs) ys = ap (λ r. time_of x ++ r) (times_both xs ys) ∙ sym 
 -- ---- moments after moments
 
 module _ {K : Type 0} {stores : Stores K} {o : Settings} {line : Standing → List ℕ} where
-  -- what it is to go on, by the deeds that were done
-  pub on_run : {ts : List ℕ} {a b : Moment K} {n0 n1 : NetSeen} (x : On stores o line ts a b n0 n1)
-      → Run stores Any IsCalm (λ l s t. Leads o l line x.answers (pump_at a.at a.timer s) x.made (pump_at b.at b.timer t)) a.served b.served
-  on_run x = record { deeds = x.deeds; grew = x.grew; went = x.went; sure = λ marks f h. tt; is = x.leads }
-
-  goes_run : {ts : List ℕ} {a b : Moment K} {n0 n1 : NetSeen} (x : Goes stores o line ts a b n0 n1)
-      → Run stores IsCalm IsCalm (λ l s t. Leads o l line x.on.answers (pump_at a.at a.timer s) x.on.made (pump_at b.at b.timer t)) a.served b.served
-  goes_run x = record { deeds = x.on.deeds; grew = x.on.grew; went = x.on.went; sure = x.calm; is = x.on.leads }
-
-  pub goes_then : {ts us : List ℕ} {a b c : Moment K} {n0 n1 n2 : NetSeen} → Goes stores o line ts a b n0 n1 → is_broken b.at ≡ false
-      → Goes stores o line us b c n1 n2 → Goes stores o line (ts ++ us) a c n0 n2
+  pub goes_then : {A : Chance} {ts us : List ℕ} {a b c : Moment K} {n0 n1 n2 : NetSeen} → GoesBy stores A o line ts a b n0 n1 → is_broken b.at ≡ false
+      → Goes stores o line us b c n1 n2 → GoesBy stores A o line (ts ++ us) a c n0 n2
   goes_then {a = a} {b = b} {c = c} {n0 = n0} {n1 = n1} {n2 = n2} x whole y =
-      let w : Luck → State → State
-      → Type 0 = λ l s t. Leads o l line (x.on.answers ++ y.on.answers) (pump_at a.at a.timer s) (x.on.made ++ y.on.made) (pump_at c.at c.timer t) in
-      let r = run_then w (goes_run x) (goes_run y) (λ l before xs zs k mid end u v. leads_then u v) in
-      let same : n1.1 ≡ n0.1 = subst (λ z. RisesIf z n0.1 n1.1) whole x.on.counts in
+      let same : n1.1 ≡ n0.1 = subst (λ z. RisesIf z n0.1 n1.1) whole x.counts in
       record {
-        on = record {
-          answers = x.on.answers ++ y.on.answers;
-          made = x.on.made ++ y.on.made;
-          deeds = r.deeds;
-          grew = r.grew;
-          went = r.went;
-          told = grows_both n0.0 x.on.made y.on.made x.on.told y.on.told;
-          counts = subst (λ n. RisesIf (is_broken c.at) n n2.1) same y.on.counts;
-          marks = y.on.marks;
-          times = times_both x.on.answers y.on.answers ∙ ap₂ (λ p q. p ++ q) x.on.times y.on.times;
-          leads = r.is;
-        };
-        calm = r.sure;
+        answers = x.answers ++ y.answers;
+        made = x.made ++ y.made;
+        run = run_then (λ l s t. Leads o l line (x.answers ++ y.answers) (pump_at a.at a.timer s) (x.made ++ y.made) (pump_at c.at c.timer t)) x.run y.run
+            (λ l before xs zs k mid end u v. leads_then u v);
+        told = grows_both n0.0 x.made y.made x.told y.told;
+        counts = subst (λ n. RisesIf (is_broken c.at) n n2.1) same y.counts;
+        marks = y.marks;
+        times = times_both x.answers y.answers ∙ ap₂ (λ p q. p ++ q) x.times y.times;
       }
+
+  -- where nothing need come before it
+  pub on_goes : {ts : List ℕ} {a b : Moment K} {n0 n1 : NetSeen} → Goes stores o line ts a b n0 n1 → On stores o line ts a b n0 n1
+  on_goes x = record { answers = x.answers; made = x.made; run = run_from x.run; told = x.told; counts = x.counts; marks = x.marks; times = x.times }
 
   -- to the same stage, spelled otherwise
   pub goes_to : {X : Type 0} {ts : List ℕ} {a : Moment K} {t : Timer} {d : Served K} {n0 n1 : NetSeen} (stage : X → Stage) {x y : X} → x ≡ y
@@ -105,29 +92,23 @@ module _ {K : Type 0} {stores : Stores K} {o : Settings} {line : Standing → Li
   -- nothing happens
   pub goes_still : {a : Moment K} {n : NetSeen} → IsIdle a.served.loop → is_broken a.at ≡ false → is_starved a.at ≡ false → Goes stores o line [] a a n n
   goes_still {a} {n} idle whole goes_on = record {
-    on = record {
-      answers = [];
-      made = [];
-      deeds = [];
-      grew = grew_still refl refl;
-      went = went_none;
-      told = grows_none n.0;
-      counts = rw whole refl;
-      marks = rw goes_on idle.few;
-      times = refl;
-      leads = λ l before k calm. record { fit = tt; after = ap (λ ds. pump_of ds a) (sym (append-nil before)); calls = refl };
-    };
-    calm = λ marks f h. h;
+    answers = [];
+    made = [];
+    run = run_still a.served (λ marks h. h) (λ l before. record { fit = tt; after = refl; calls = refl });
+    told = grows_none n.0;
+    counts = rw whole refl;
+    marks = rw goes_on idle.few;
+    times = refl;
   }
 
 -- ---- one answer
 
 -- an answer leads to a stage, and to what the driver did; what is to be closed is not closed yet
-pub record Done {K : Type 0} (stores : Stores K) (o : Settings) (line : Standing → List ℕ) (x : Answer) (q : Ask) (a : Moment K) (stage : Stage) (t : Timer)
+pub record Done {K : Type 0} (stores : Stores K) (A : Chance) (o : Settings) (line : Standing → List ℕ) (x : Answer) (q : Ask) (a : Moment K) (stage : Stage) (t : Timer)
     (m : Served K) : Type 0 where
   pub goes_on : is_starved stage ≡ false
   pub f : Luck → State → State
-  pub acts : Acts stores f a.served m
+  pub does : Run stores A IsCalm (λ l s u. f l s ≡ u) a.served m
   pub asks : (l : Luck) (before : List Deed) → ask o l line (pump_of before a) ≡ q
   pub fits : IsAnswer q x
   pub is : (l : Luck) (before : List Deed) → answered o l line x (pump_of before a) ≡ pump_at stage t (f l (with_deeds before a.served))
@@ -149,66 +130,52 @@ pub few_is : (s : Loop) (stage : Stage) → IsIdle s → unless_full s stage ≡
 few_is s stage i = let few : nat_lt (length s.lost) most_marks ≡ true = lt-ltb (length s.lost) most_marks i.few in rw few refl
 
 module _ {K : Type 0} {stores : Stores K} {o : Settings} {line : Standing → List ℕ} where
-  one_emptied : {x : Answer} {q : Ask} {a : Moment K} {stage : Stage} {t : Timer} {m : Served K} {n0 n1 n2 : NetSeen} → Done stores o line x q a stage t m
-      → Grows n0.0 (call_of q x) n1.0 → RisesIf (is_broken (unless_full m.loop stage)) n0.1 n1.1
-      → Grows n1.0 (map Closed m.loop.closes) n2.0 → n2.1 ≡ n1.1 → On stores o line (time_of x ++ []) a (moment (unless_full m.loop stage) t (emptied m)) n0 n2
-  one_emptied {x} {q} {a} {stage} {t} {m} {n0} d told counts closed same =
+  one_emptied : {A : Chance} {x : Answer} {q : Ask} {a : Moment K} {stage : Stage} {t : Timer} {m : Served K} {n0 n1 n2 : NetSeen}
+      → Done stores A o line x q a stage t m → Grows n0.0 (call_of q x) n1.0 → RisesIf (is_broken (unless_full m.loop stage)) n0.1 n1.1
+      → Grows n1.0 (map Closed m.loop.closes) n2.0 → n2.1 ≡ n1.1
+      → GoesBy stores A o line (time_of x ++ []) a (moment (unless_full m.loop stage) t (emptied m)) n0 n2
+  one_emptied {x = x} {q = q} {a = a} {stage = stage} {t = t} {m = m} {n0 = n0} d told counts closed same =
       let call : List Call = call_of q x in
       let closes : List Call = map Closed m.loop.closes in
       record {
         answers = x ∷ [];
         made = call ++ closes;
-        deeds = d.acts.deeds;
-        grew = grew_emptied a.served m d.acts.grew;
-        went = record { steps = d.acts.went.steps; walks = d.acts.went.walks };
+        run = run_then (λ l s u. Leads o l line (x ∷ []) (pump_at a.at a.timer s) (call ++ closes) (pump_at (unless_full m.loop stage) t u)) d.does
+            (at_once IsCalm IsCalm (λ s. record s { loop = record s.loop { closes = [] } }) {d = m} {s = (emptied m).loop} refl (grew_still refl refl)
+            (λ marks f h. calm_emptied marks m h) (λ before. refl)) (λ l before xs zs k mid end u v.
+            let e : answered o l line x (pump_of before a) ≡ pump_at stage t (with_deeds xs m) = d.is l before ∙ ap (pump_at stage t) u in
+            record {
+              fit = (subst (λ r. IsAnswer r x) (sym (d.asks l before)) d.fits, tt);
+              after = ap (shut o l line) e ∙ ap (pump_at (unless_full m.loop stage) t) v;
+              calls = ap₂ (λ r v. (call_of r x ++ map Closed v) ++ []) (d.asks l before) (ap (λ (p : Pump). p.driver.loop.closes) e)
+                  ∙ append-nil (call ++ closes);
+            });
         told = grows_both n0.0 call closes told closed;
         counts = subst (λ n. RisesIf (is_broken (unless_full m.loop stage)) n0.1 n) (sym same) counts;
         marks = marks_if (nat_lt (length m.loop.lost) most_marks) stage (emptied m).loop refl d.goes_on;
         times = refl;
-        leads = λ l before k calm.
-            let known : Knows l (with_deeds (before ++ d.acts.deeds) m) =
-            record { marks = foretells_emptied l.marks m k.marks; rest = k.rest; fates = k.fates } in
-            let e : answered o l line x (pump_of before a) ≡ pump_at stage t (with_deeds (before ++ d.acts.deeds) m) = d.is l before
-            ∙ ap (pump_at stage t) (d.acts.is l before known (calm_emptied l.marks m calm)) in
-            record {
-              fit = (subst (λ r. IsAnswer r x) (sym (d.asks l before)) d.fits, tt);
-              after = ap (shut o l line) e;
-              calls = ap₂ (λ r v. (call_of r x ++ map Closed v) ++ []) (d.asks l before) (ap (λ (p : Pump). p.driver.loop.closes) e)
-                  ∙ append-nil (call ++ closes);
-            };
       }
 
-  pub on_one : (x : Answer) (q : Ask) (stage : Stage) {a : Moment K} {t u : Timer} {m e : Served K} {r : Result (Unit {0}) ServeEnd} {n0 n1 n2 : NetSeen}
-      → u ≡ t → Settles m r e n1 n2 → Done stores o line x q a stage t m → is_broken stage ≡ false → Grows n0.0 (call_of q x) n1.0
-      → n1.1 ≡ n0.1 → On stores o line (time_of x ++ []) a (moment (reached r stage) u e) n0 n2
-  on_one x q stage {a} {t} {u} {m} {e} {r} {n0} {n1} {n2} later s d whole told same =
+  pub goes_one : {A : Chance} (x : Answer) (q : Ask) (stage : Stage) {a : Moment K} {t u : Timer} {m e : Served K} {r : Result (Unit {0}) ServeEnd}
+      {n0 n1 n2 : NetSeen} → u ≡ t → Settles m r e n1 n2 → Done stores A o line x q a stage t m → is_broken stage ≡ false
+      → Grows n0.0 (call_of q x) n1.0 → n1.1 ≡ n0.1 → GoesBy stores A o line (time_of x ++ []) a (moment (reached r stage) u e) n0 n2
+  goes_one {A = A} x q stage {a = a} {t = t} {m = m} {e = e} {r = r} {n0 = n0} {n2 = n2} later s d whole told same =
       let one = one_emptied d told (unbroken m.loop stage whole same) s.closes.told s.closes.counts in
-      subst (λ y. On stores o line (time_of x ++ []) a (moment (reached r stage) y e) n0 n2) (sym later)
-      (subst (λ y. On stores o line (time_of x ++ []) a (moment (reached r stage) t y) n0 n2) (sym s.closes.is)
-      (subst (λ y. On stores o line (time_of x ++ []) a (moment y t (emptied m)) n0 n2) (sym (s.stage stage)) one))
-
-  pub goes_one : (x : Answer) (q : Ask) (stage : Stage) {a : Moment K} {t u : Timer} {m e : Served K} {r : Result (Unit {0}) ServeEnd} {n0 n1 n2 : NetSeen}
-      → u ≡ t → Settles m r e n1 n2 → Done stores o line x q a stage t m → FromCalm a.served m → is_broken stage ≡ false
-      → Grows n0.0 (call_of q x) n1.0 → n1.1 ≡ n0.1 → Goes stores o line (time_of x ++ []) a (moment (reached r stage) u e) n0 n2
-  goes_one x q stage {a = a} {m = m} later s d calm whole told same = record {
-    on = on_one x q stage later s d whole told same;
-    calm = subst (λ y. FromCalm a.served y) (sym s.closes.is) (λ marks f h. calm marks (foretells_emptied marks m f) (calm_emptied marks m h));
-  }
+      subst (λ y. GoesBy stores A o line (time_of x ++ []) a (moment (reached r stage) y e) n0 n2) (sym later)
+      (subst (λ y. GoesBy stores A o line (time_of x ++ []) a (moment (reached r stage) t y) n0 n2) (sym s.closes.is)
+      (subst (λ y. GoesBy stores A o line (time_of x ++ []) a (moment y t (emptied m)) n0 n2) (sym (s.stage stage)) one))
 
   -- an answer with which nothing is to be closed
-  pub goes_idle : (x : Answer) (q : Ask) {a : Moment K} {stage : Stage} {t : Timer} {m : Served K} {n0 n1 : NetSeen} → Done stores o line x q a stage t m
-      → FromCalm a.served m → IsIdle m.loop → Grows n0.0 (call_of q x) n1.0 → RisesIf (is_broken stage) n0.1 n1.1
-      → Goes stores o line (time_of x ++ []) a (moment stage t m) n0 n1
-  goes_idle x q {a} {stage} {t} {m} {n0} {n1} d calm i told counts =
+  pub goes_idle : {A : Chance} (x : Answer) (q : Ask) {a : Moment K} {stage : Stage} {t : Timer} {m : Served K} {n0 n1 : NetSeen}
+      → Done stores A o line x q a stage t m → IsIdle m.loop → Grows n0.0 (call_of q x) n1.0 → RisesIf (is_broken stage) n0.1 n1.1
+      → GoesBy stores A o line (time_of x ++ []) a (moment stage t m) n0 n1
+  goes_idle {A = A} x q {a = a} {stage = stage} {t = t} {m = m} {n0 = n0} {n1 = n1} d i told counts =
       let few : unless_full m.loop stage ≡ stage = few_is m.loop stage i in
       let none : Grows n1.0 (map Closed m.loop.closes) n1.0 = rw i.closes (grows_none n1.0) in
       let one = one_emptied d told (subst (λ y. RisesIf (is_broken y) n0.1 n1.1) (sym few) counts) none refl in
       let same : emptied m ≡ m = ap (λ cs. record m { loop = record m.loop { closes = cs } }) (sym i.closes) in
-      record {
-        on = subst (λ y. On stores o line (time_of x ++ []) a (moment stage t y) n0 n1) same
-            (subst (λ y. On stores o line (time_of x ++ []) a (moment y t (emptied m)) n0 n1) few one);
-        calm = calm;
-      }
+      subst (λ y. GoesBy stores A o line (time_of x ++ []) a (moment stage t y) n0 n1) same
+      (subst (λ y. GoesBy stores A o line (time_of x ++ []) a (moment y t (emptied m)) n0 n1) few one)
 
   -- an answer that changes nothing of the driver
   pub goes_same : (x : Answer) (q : Ask) {s stage : Stage} {t u : Timer} {d : Served K} {n0 n1 : NetSeen} → is_starved stage ≡ false → IsIdle d.loop
@@ -217,7 +184,7 @@ module _ {K : Type 0} {stores : Stores K} {o : Settings} {line : Standing → Li
       → Grows n0.0 (call_of q x) n1.0 → RisesIf (is_broken stage) n0.1 n1.1
       → Goes stores o line (time_of x ++ []) (moment s t d) (moment stage u d) n0 n1
   goes_same x q {d = d} goes_on idle asks fits is told counts =
-      goes_idle x q (record { goes_on = goes_on; f = λ l s. s; acts = acts_still d; asks = asks; fits = fits; is = is }) (λ marks f h. h) idle told counts
+      goes_idle x q (record { goes_on = goes_on; f = λ l s. s; does = run_still d (λ marks h. h) (λ l before. refl); asks = asks; fits = fits; is = is }) idle told counts
 
   -- nothing is asked, and so it goes on
   pub goes_by : {s stage : Stage} {t : Timer} {d : Served K} {n : NetSeen} → is_starved stage ≡ false → RisesIf (is_broken stage) n.1 n.1 → IsIdle d.loop

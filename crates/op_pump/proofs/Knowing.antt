@@ -1,28 +1,19 @@
 -- What is known of marks where connections were closed, and at a later place.
-use Rattle.std.proofs.Common.{◌≡◌, ◌<◌, ◌≤◌, ◌⊎◌, [], List, None, refl, sym, ◌∙◌, ap, inl, inr, arith}
-use Rattle.std.proofs.lemmas.List.{append-nil}
+use Rattle.std.proofs.Common.{◌≡◌, ◌<◌, ◌≤◌, ◌⊎◌, List, None, refl, ◌∙◌, ap, inl, inr, arith}
 use Rattle.op_serving.specs.declared.mark.Mark.{Mark}
 use Rattle.op_serving.specs.declared.mark.Place.{Place}
 use Rattle.op_serving.specs.State.{Loop}
-use Rattle.op_serving.specs.Losses.{mark_at, IsCalm, IsFrom, Foretells, Grew}
+use Rattle.op_serving.specs.Losses.{mark_at, IsCalm, IsFrom}
 use Rattle.op_serving.specs.Inputs.{State, Deed, Luck}
-use Rattle.op_queues.proofs.Settling.{grew_still}
-use Rattle.op_driver.specs.Driver.{Served, Stores, with_deeds, emptied, Acts, Does}
+use Rattle.op_driver.specs.Driver.{Served, Any, Stores, Run, with_deeds, emptied, Acts, Does}
 use Rattle.op_driver.proofs.Calm.{Past, grew_on, calm_at, calm_same}
-use Rattle.op_driver.proofs.Stepping.{Any, Run, run_then, at_once, went_none}
-use Rattle.op_driver.proofs.Draining.{acts_run, run_does}
+use Rattle.op_driver.proofs.Stepping.{run_then, at_once}
 
 -- ---- the same with no connection to be closed
 
 module _ {K : Type 0} where
   pub calm_emptied : (marks : List Mark) (m : Served K) → IsCalm marks (emptied m).loop → IsCalm marks m.loop
   calm_emptied marks m h = calm_same marks m.loop (emptied m).loop refl refl (λ c. refl) h
-
-  pub foretells_emptied : (marks : List Mark) (m : Served K) → Foretells marks (emptied m).loop → Foretells marks m.loop
-  foretells_emptied marks m f = record { rest = f.rest; split = f.split; later = f.later; short = f.short }
-
-  pub grew_emptied : (d m : Served K) → Grew d.loop m.loop → Grew d.loop (emptied m).loop
-  grew_emptied d m g = record { added = g.added; lost = g.lost; from = g.from; place = g.place; counts = g.counts }
 
 -- ---- a later place
 
@@ -39,9 +30,6 @@ from_later p q (inr t) = inr (t.0, inl t.1)
 
 -- ---- what is done at once
 
-pub acts_still : {K : Type 0} {stores : Stores K} (d : Served K) → Acts stores (λ l s. s) d d
-acts_still d = record { deeds = []; grew = grew_still refl refl; went = went_none; is = λ l before k c. ap (λ b. with_deeds b d) (sym (append-nil before)) }
-
 -- it goes on to a later place
 pub moved_run : {K : Type 0} {stores : Stores K} (move : State → State) {d : Served K} {s : Loop} → s.lost ≡ d.loop.lost → Later d.loop.place s.place
     → d.loop.place.inputs ≤ s.place.inputs
@@ -57,4 +45,4 @@ pub does_moved : {K : Type 0} {stores : Stores K} (f : Luck → State → State)
     → ((before : List Deed) → move (with_deeds before d) ≡ record { loop = s; node = d.node; deeds = before }) → Acts stores f (record d { loop = s }) e
     → Does stores (λ l u. f l (move u)) d e
 does_moved f move lost later up same a =
-    run_does (run_then (λ l u t. f l (move u) ≡ t) (moved_run move lost later up same) (acts_run a) (λ l before xs zs k mid end x y. ap (f l) x ∙ y))
+    run_then (λ l u t. f l (move u) ≡ t) (moved_run move lost later up same) a (λ l before xs zs k mid end x y. ap (f l) x ∙ y)

@@ -23,9 +23,9 @@ use Rattle.op_serving.specs.Answers.{IsAnswer, time_of}
 use Rattle.op_driver.specs.Driver.{Served, Stores, with_deeds, Acts, Does, IsIdle}
 use Rattle.op_pump.specs.declared.timer.Timer.{Timer}
 use Rattle.op_pump.specs.Moments.{moment, pump_at, pump_of, reached, is_broken, is_starved, Leads, On, Goes, Settles, admitted, read_at, happened}
-use Rattle.op_driver.proofs.Stepping.{run_then}
-use Rattle.op_pump.proofs.Knowing.{moved_run, does_moved, acts_still}
-use Rattle.op_pump.proofs.Going.{on_run, goes_one, goes_idle, goes_by, few_is, leads_then}
+use Rattle.op_driver.proofs.Stepping.{run_then, run_as, run_any, run_from, run_still}
+use Rattle.op_pump.proofs.Knowing.{moved_run, does_moved}
+use Rattle.op_pump.proofs.Going.{goes_one, goes_idle, goes_by, few_is, leads_then}
 
 -- ---- a turn begins
 
@@ -39,13 +39,12 @@ module _ {K : Type 0} {stores : Stores K} {o : Settings} {line : Standing → Li
       → Grows n0.0 (call_of (wait (t.due - t.last)) x) n1.0 → RisesIf (is_broken stage) n0.1 n1.1
       → Goes stores o line (time_of x ++ []) (moment turn t d) (moment stage u e) n0 n1
   turn_goes x {stage} {t} {u} {v} {d} {e} {n0} {n1} goes_on left ending before_last idle e_is later fits is told counts =
-      let does = does_moved (λ l s. s) turn_begun {d = d} {s = turn_begins d.loop} refl (inl (omega (arith, before_last))) (omega arith) (λ before. refl)
-      (acts_still {stores = stores} (turned d)) in
+      let does = run_any (moved_run {stores = stores} turn_begun {d = d} {s = turn_begins d.loop} refl (inl (omega (arith, before_last))) (omega arith) (λ before. refl)) in
       let few : nat_lt 0 t.left ≡ true = lt-ltb 0 t.left left in
       subst (λ y. Goes stores o line (time_of x ++ []) (moment turn t d) (moment stage u y) n0 n1) (sym e_is)
       (subst (λ y. Goes stores o line (time_of x ++ []) (moment turn t d) (moment stage y (turned d)) n0 n1) (sym later)
       (goes_idle x (wait (t.due - t.last))
-      (record { goes_on = goes_on; f = λ l s. turn_begun s; acts = does.acts; asks = λ l before. rw (few, ending) refl; fits = fits; is = is }) does.calm
+      (record { goes_on = goes_on; f = λ l s. turn_begun s; does = does; asks = λ l before. rw (few, ending) refl; fits = fits; is = is })
       (record { closes = idle.closes; none = idle.none; few = idle.few }) told counts))
 
   -- the end of the turns
@@ -143,28 +142,28 @@ module _ {K : Type 0} {stores : Stores K} {o : Settings} {line : Standing → Li
       (record {
         goes_on = refl;
         f = λ l s. happened l h (at_happening (i + 1) s);
-        acts = does.acts;
+        does = does;
         asks = ready_asks o line t d i k less;
         fits = tt;
         is = happens_is o line t d i k h none;
-      }) does.calm refl told same
+      }) refl told same
 
   -- behind the last one what was gathered is given
   pub happenings_end : {t u : Timer} {d m e : Served K} {r : Result (Unit {0}) ServeEnd} {k : ℕ} {n0 n1 : NetSeen} → d.loop.place.at < writes_place
       → Does stores (λ l s. flushed l s) (moved_to writes_place d) m → u ≡ t → Settles m r e n0 n1
       → Goes stores o line [] (moment (asks k k) t d) (moment (reached r (writes 0)) u e) n0 n1
   happenings_end {d = d} {k = k} {n0 = n0} before_it flushes later s =
-      let does = does_happen (λ l s. flushed l s) writes_place {d = d} before_it flushes.acts in
+      let does = does_happen (λ l s. flushed l s) writes_place {d = d} before_it (run_from flushes) in
       let no_more : nat_lt k k ≡ false = le-ltb k k (omega arith) in
       goes_one no_answer nothing (writes 0) later s
       (record {
         goes_on = refl;
         f = λ l s. flushed l (at_happening writes_place s);
-        acts = does.acts;
+        does = does;
         asks = λ l before. rw no_more refl;
         fits = tt;
         is = λ l before. refl;
-      }) does.calm refl (grows_none n0.0) refl
+      }) refl (grows_none n0.0) refl
 
   -- a connection that can be read is read
   pub then_read : {t u : Timer} {d e : Served K} {stage : Stage} {i k c : ℕ} {n0 n1 n2 : NetSeen} (h : Happening) → i < k → d.loop.place.at ≡ i
@@ -190,41 +189,33 @@ module _ {K : Type 0} {stores : Stores K} {o : Settings} {line : Standing → Li
             ∙ ap (λ cs. pump_at (reads c i k) t (with_deeds before (record m { loop = record m.loop { closes = cs } }))) (sym idle.closes);
         calls = ap₂ (λ q v. (call_of q x ++ map Closed v) ++ []) asked (ap (λ (p : pump.Pump). p.driver.loop.closes) to_read ∙ idle.closes);
       } in
-      let w : Luck → State → State → Type 0 = λ l s z. Leads o l line (x ∷ y.answers) (pump_at (asks i k) t s) (Readied i h ∷ y.made) (pump_at stage u z) in
-      let r = run_then w (moved_run (at_happening (i + 1)) {d = d} {s = m.loop} refl (inr (refl, omega (arith, at))) (omega arith) (λ before. refl)) (on_run y)
-      (λ l before xs zs kn mid end p q.
-      leads_then (subst (λ z. Leads o l line (x ∷ []) (pump_of before (moment (asks i k) t d)) (Readied i h ∷ []) (pump_at (reads c i k) t z)) p (led l before))
-      q) in
       record {
-        on = record {
-          answers = x ∷ y.answers;
-          made = Readied i h ∷ y.made;
-          deeds = r.deeds;
-          grew = r.grew;
-          went = r.went;
-          told = grows_both n0.0 (Readied i h ∷ []) y.made told y.told;
-          counts = subst (λ n. RisesIf (is_broken stage) n n2.1) same y.counts;
-          marks = y.marks;
-          times = y.times;
-          leads = r.is;
-        };
-        calm = r.sure;
+        answers = x ∷ y.answers;
+        made = Readied i h ∷ y.made;
+        run = run_then (λ l s z. Leads o l line (x ∷ y.answers) (pump_at (asks i k) t s) (Readied i h ∷ y.made) (pump_at stage u z))
+            (moved_run (at_happening (i + 1)) {d = d} {s = m.loop} refl (inr (refl, omega (arith, at))) (omega arith) (λ before. refl)) y.run
+            (λ l before xs zs kn mid end p q.
+            leads_then (subst (λ z. Leads o l line (x ∷ []) (pump_of before (moment (asks i k) t d)) (Readied i h ∷ []) (pump_at (reads c i k) t z)) p (led l before))
+            q);
+        told = grows_both n0.0 (Readied i h ∷ []) y.made told y.told;
+        counts = subst (λ n. RisesIf (is_broken stage) n n2.1) same y.counts;
+        marks = y.marks;
+        times = y.times;
       }
 
 -- ---- what the driver does with what is told
 
 module _ {K : Type 0} {stores : Stores K} where
   pub admit_open : (c : ℕ) (kind : Kind) {d : Served K} → is_open c d.loop ≡ true → Acts stores (λ l s. admitted l c kind s) d d
-  admit_open c kind {d} e = let a =
-      acts_still d in record { deeds = a.deeds; grew = a.grew; went = a.went; is = λ l before k calm. rw e (a.is l before k calm) }
+  admit_open c kind {d} e = run_still d (λ marks h. tt) (λ l before. rw e refl)
 
   pub admit_new : {c : ℕ} {kind : Kind} {d m : Served K} → is_open c d.loop ≡ false → Acts stores (λ l s. joined l c kind s) d m
       → Acts stores (λ l s. admitted l c kind s) d m
-  admit_new e a = record { deeds = a.deeds; grew = a.grew; went = a.went; is = λ l before k calm. rw e (a.is l before k calm) }
+  admit_new {c} {kind} e a = run_as (λ l s t. admitted l c kind s ≡ t) a (λ l before zs k end x. rw e x)
 
   pub still_happened : (c : ℕ) (h : Happening) (d : Served K) → (h ≡ Readable c) ⊎ (h ≡ Writable c) → Acts stores (λ l s. happened l h s) d d
-  still_happened c h d (inl e) = subst (λ x. Acts stores (λ l s. happened l x s) d d) (sym e) (acts_still d)
-  still_happened c h d (inr e) = subst (λ x. Acts stores (λ l s. happened l x s) d d) (sym e) (acts_still d)
+  still_happened c h d (inl e) = run_still d (λ marks g. tt) (λ l before. ap (λ x. happened l x (with_deeds before d)) e)
+  still_happened c h d (inr e) = run_still d (λ marks g. tt) (λ l before. ap (λ x. happened l x (with_deeds before d)) e)
 
 pub frames_moved : {K : Type 0} {x : Served K} (i : ℕ) (d : Served K) → x ≡ moved_to i d
     → (x.loop.place.at ≡ i) × (x.loop.place.frames ≡ 0) × (x.loop.place.turn ≡ d.loop.place.turn)

@@ -11,12 +11,12 @@ use Rattle.op_setup.specs.declared.config.Settings.{Settings as Set}
 use Rattle.op_serving.specs.declared.kind.Kind.{Kind}
 use Rattle.op_serving.specs.Cores.{Standing}
 use Rattle.op_serving.specs.State.{Loop, find, is_open}
-use Rattle.op_serving.specs.Losses.{most_marks, IsCalm, Grew}
+use Rattle.op_serving.specs.Losses.{most_marks, IsCalm}
 use Rattle.op_serving.specs.Inputs.{State, Deed, Luck, over}
 use Rattle.op_serving.specs.Turns.{joined, accepted, queue_in, waiting_from}
 use Rattle.op_serving.specs.Pump.{last_time, Settings, Stage, turn, writes, stop, Pump, Answer, after, calls}
 use Rattle.op_serving.specs.Answers.{Answers, time_of}
-use Rattle.op_driver.specs.Driver.{Served, with_deeds, Knows, FromCalm, Stores, Went, IsIdle, hello_left}
+use Rattle.op_driver.specs.Driver.{Served, with_deeds, Chance, Any, Stores, Run, IsIdle, hello_left}
 use Rattle.op_serving.specs.declared.serve_end.ServeEnd.{ServeEnd}
 use Rattle.op_serving.specs.declared.serve_end.ServeEnd.TheVariants as ends
 use Rattle.op_pump.specs.declared.timer.Timer.{Timer}
@@ -97,27 +97,27 @@ times_in [] = []
 times_in (a ∷ more) = time_of a ++ times_in more
 
 -- It went on from one moment to another by what net and clock answered, where no session is lost here behind
--- it.
-pub record On {K : Type 0} (stores : Stores K) (o : Settings) (line : Standing → List ℕ) (ts : List ℕ)
-    (a b : Moment K) (net0 net1 : NetSeen) : Type 0 where
+-- it; of the marks before it that gives `A`.
+pub record GoesBy {K : Type 0} (stores : Stores K) (A : Chance) (o : Settings) (line : Standing → List ℕ)
+    (ts : List ℕ) (a b : Moment K) (net0 net1 : NetSeen) : Type 0 where
   pub answers : List Answer
   pub made : List Call
-  pub deeds : List Deed
-  pub grew : Grew a.served.loop b.served.loop
-  pub went : Went stores a.served deeds b.served
+  pub run : Run stores A IsCalm
+      (λ l s t. Leads o l line answers (pump_at a.at a.timer s) made (pump_at b.at b.timer t)) a.served b.served
   pub told : Grows net0.0 made net1.0
   pub counts : RisesIf (is_broken b.at) net0.1 net1.1
   pub marks : MarksAt (is_starved b.at) b.served.loop
   pub times : times_in answers ≡ ts
-  pub leads : (l : Luck) (before : List Deed) → Knows l (with_deeds (before ++ deeds) b.served)
-      → IsCalm l.marks b.served.loop
-      → Leads o l line answers (pump_of before a) made (pump_of (before ++ deeds) b)
 
--- the same of what may come behind something else
-pub record Goes {K : Type 0} (stores : Stores K) (o : Settings) (line : Standing → List ℕ) (ts : List ℕ)
-    (a b : Moment K) (net0 net1 : NetSeen) : Type 0 where
-  pub on : On stores o line ts a b net0 net1
-  pub calm : FromCalm a.served b.served
+-- where nothing need come before it
+abbrev pub On : {K : Type 0} → Stores K → Settings → (Standing → List ℕ) → List ℕ → Moment K → Moment K → NetSeen
+    → NetSeen → Type 0
+On stores o line ts a b net0 net1 = GoesBy stores Any o line ts a b net0 net1
+
+-- where it may come behind something else
+abbrev pub Goes : {K : Type 0} → Stores K → Settings → (Standing → List ℕ) → List ℕ → Moment K → Moment K → NetSeen
+    → NetSeen → Type 0
+Goes stores o line ts a b net0 net1 = GoesBy stores IsCalm o line ts a b net0 net1
 
 -- the same, with what the clock told
 pub record TurnGoes {K : Type 0} (stores : Stores K) (o : Settings) (line : Standing → List ℕ)

@@ -1,4 +1,4 @@
-use Rattle.std.proofs.Common.{◌≡◌, ◌≤◌, ◌-◌, ◌||◌, ◌==◌, ◌++◌, ◌∷◌, [], Bool, length, All, IfOk, None, if◌then◌else◌, vec_len, subst, sym, ap, ◌∙◌, rules}
+use Rattle.std.proofs.Common.{◌≡◌, ◌-◌, ◌||◌, ◌==◌, ◌++◌, ◌∷◌, [], Bool, length, All, IfOk, None, if◌then◌else◌, vec_len, subst, sym, ap, ◌∙◌, rules}
 use Rattle.std.proofs.lemmas.List.Elements.{All-take}
 use Rattle.std.proofs.lemmas.List.Sorted.{All-permutation}
 use Rattle.op_serving.specs.Ranges.{GivenInRange}

@@ -1,5 +1,4 @@
-use Rattle.std.proofs.Common.{ap, subst, sym, ◌≡◌, refl, false, true, arith}
-use Rattle.op_types.specs.declared.events.Request.TheVariants as request
+use Rattle.std.proofs.Common.{ap, subst, ◌≡◌, refl, true, arith}
 use Rattle.op_command.specs.declared.said.Said.TheVariants as said
 use Rattle.op_serving.specs.declared.hearing.Heard.TheVariants.{Asks}
 use Rattle.op_serving.specs.Counts.{most_inputs}

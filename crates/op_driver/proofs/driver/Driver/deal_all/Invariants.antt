@@ -1,7 +1,7 @@
 use Rattle.std.proofs.Common.{◌≡◌, ◌≤◌, ◌+◌}
 use Rattle.op_serving.specs.Counts.{most_inputs}
 use Rattle.op_driver.specs.Driver.{Rests}
-use Rattle.op_driver.proofs.Stepping.{Any, Run}
+use Rattle.op_driver.specs.Driver.{Any, Run}
 use Rattle.op_driver.proofs.Dealing.{Reached}
 use Rattle.op_driver.proofs.driver.Driver.deal_all.Given as goal
 

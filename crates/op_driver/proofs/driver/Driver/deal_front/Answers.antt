@@ -1,5 +1,3 @@
-use Rattle.std.proofs.Common.{Ok, Err}
-use Rattle.op_queues.specs.declared.front.Front.TheVariants as found
 use Rattle.op_driver.proofs.Dealing.{deals, deals_waits, deals_lost, taken_over, open_taken, drained_taken}
 use Rattle.op_driver.proofs.driver.Driver.deal_front.Goals as goal
 

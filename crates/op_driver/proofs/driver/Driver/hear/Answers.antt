@@ -1,6 +1,6 @@
 use Rattle.std.proofs.Common.{rules, ◌≡◌, true, false}
 use Rattle.op_serving.specs.Inputs.{flushed}
-use Rattle.op_serving.specs.Reading.{goes_first, on_frame}
+use Rattle.op_serving.specs.Reading.{on_frame}
 use Rattle.op_serving.specs.State.{is_open}
 use Rattle.op_queues.proofs.Settling.{stays_then}
 use Rattle.op_driver.proofs.Draining.{gives_does}

@@ -1,6 +1,5 @@
-use Rattle.std.proofs.Common.{refl, ap}
+use Rattle.std.proofs.Common.{refl}
 use Rattle.op_command.specs.declared.said.Said.TheVariants as said
-use Rattle.op_serving.specs.Reading.{on_frame}
 use Rattle.op_queues.proofs.Settling.{stays_same}
 use Rattle.op_driver.proofs.Handling.{nothing_does, on_ok_as, handles_as, told_handles, drains_at}
 use Rattle.op_driver.proofs.driver.Driver.hear_alone.Goals as goal

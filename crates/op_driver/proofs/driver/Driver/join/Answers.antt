@@ -3,14 +3,15 @@ use Rattle.op_serving.specs.Counts.{most_inputs}
 use Rattle.op_serving.specs.Turns.{joining}
 use Rattle.op_driver.specs.Driver.{Served}
 use Rattle.op_queues.proofs.Counting.{most_joining, most_lost}
+use Rattle.op_driver.proofs.Stepping.{run_from}
 use Rattle.op_driver.proofs.Turning.{joins, joins_rests, joins_lost, joins_lost_calm, joins_lost_rests}
 use Rattle.op_driver.proofs.driver.Driver.join.Goals as goal
 
 pub returns-in-Ok-clause-acts : goal.returns-in-Ok-clause-acts
-returns-in-Ok-clause-acts g c = (joins c.in-Ok.ensures.ok).acts
+returns-in-Ok-clause-acts g c = run_from (joins c.in-Ok.ensures.ok)
 
 pub returns-in-Ok-clause-calm : goal.returns-in-Ok-clause-calm
-returns-in-Ok-clause-calm g c = λ dials. (joins {stores = g.K.Core.stores} c.in-Ok.ensures.ok).calm
+returns-in-Ok-clause-calm g c = λ dials. (joins {stores = g.K.Core.stores} c.in-Ok.ensures.ok).sure
 
 pub returns-in-Err-clause-acts : goal.returns-in-Err-clause-acts
 returns-in-Err-clause-acts g c = joins_lost c.requires.new c.in-Err.ensures.err c.requires.idle.few

@@ -1,4 +1,4 @@
-use Rattle.std.proofs.Common.{rules, ◌≡◌, None, Some, ap, sym, ◌∙◌, arith}
+use Rattle.std.proofs.Common.{rules, ◌≡◌, Some, ap, sym, ◌∙◌, arith}
 use Rattle.op_serving.specs.State.{kind_at}
 use Rattle.op_serving.specs.Turns.{up_peer}
 use Rattle.op_driver.proofs.Turning.{wrote_some, wrote_rests, wrote_hello, wrote_less, wrote_less_then, wrote_pours, wrote_no_up}

@@ -5,6 +5,7 @@ use Rattle.op_serving.specs.declared.kind.Kind.TheVariants.{Peer}
 use Rattle.op_serving.specs.Reading.{hello_len}
 use Rattle.op_serving.specs.Pump.{dials, dial, was_dialled}
 use Rattle.op_driver.specs.Driver.{Served}
+use Rattle.op_driver.proofs.Stepping.{run_sure}
 use Rattle.op_pump.specs.Moments.{admitted}
 use Rattle.op_pump.proofs.Going.{goes_one, goes_same}
 use Rattle.op_pump.proofs.Steps.{not_dialled, dial_asks}
@@ -28,12 +29,11 @@ returns-in-Ok-Some-clause-goes g c o more k =
     (record {
       goes_on = refl;
       f = λ l s. admitted l conn (Peer p.0 hello_len) s;
-      acts = c.admit.ensures.acts;
+      does = run_sure c.admit.ensures.acts (c.admit.ensures.calm c.requires.idle.at);
       asks = dial_asks o g.K.Core.line c.args.self.now.timer c.args.self.now.driver p more k smaller (search rules);
       fits = tt;
       is = λ l before. refl;
-    })
-    (c.admit.ensures.calm c.requires.idle.at) refl (search rules) (search rules)
+    }) refl (search rules) (search rules)
 
 pub returns-in-Ok-Some-clause-core : goal.returns-in-Ok-Some-clause-core
 returns-in-Ok-Some-clause-core g c = ap (λ (x : Served _). x.core) c.settle.ensures.settles.closes.is ∙ c.admit.ensures.core

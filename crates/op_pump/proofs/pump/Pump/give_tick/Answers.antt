@@ -12,7 +12,7 @@ returns-clause-goes g c k =
     let does = gives_does (λ l s. ticked l s) c.tick-2.ensures.gives in
     let at_due : nat_lt c.args.now c.args.self.now.timer.due ≡ false = le-ltb c.args.now c.args.self.now.timer.due c.requires.due in
     goes_one (was_told c.args.now) clock (dials c.args.settings.now.peers k) (c.settle.ensures.timer ∙ c.tick.ensures) c.settle.ensures.settles
-    (record { goes_on = refl; f = λ l s. ticked l s; acts = does.acts; asks = λ l before. refl; fits = tt; is = λ l before. rw at_due refl }) does.calm refl
+    (record { goes_on = refl; f = λ l s. ticked l s; does = does; asks = λ l before. refl; fits = tt; is = λ l before. rw at_due refl }) refl
     (grows_none _) refl
 
 pub returns-clause-idle : goal.returns-clause-idle

@@ -21,11 +21,11 @@ returns-in_err-settle-in-Ok-Bytes-clause-writes g c o low first =
     (record {
       goes_on = refl;
       f = λ l s. wrote l conn c.in-Ok-Bytes.n s;
-      acts = does.acts;
+      does = does;
       asks = write_asks o g.K.Core.line c.args.self.now.timer c.args.self.now.driver low first;
       fits = search rules;
       is = written o g.K.Core.line c.args.self.now.timer c.args.self.now.driver low x first;
-    }) does.calm refl (search rules) (search rules))
+    }) refl (search rules) (search rules))
 
 pub returns-in_err-settle-in-Ok-Ended-clause-writes : goal.returns-in_err-settle-in-Ok-Ended-clause-writes
 returns-in_err-settle-in-Ok-Ended-clause-writes g c o low first =
@@ -38,11 +38,11 @@ returns-in_err-settle-in-Ok-Ended-clause-writes g c o low first =
     (record {
       goes_on = refl;
       f = λ l s. over l conn s;
-      acts = does.acts;
+      does = does;
       asks = write_asks o g.K.Core.line c.args.self.now.timer c.args.self.now.driver low first;
       fits = tt;
       is = written o g.K.Core.line c.args.self.now.timer c.args.self.now.driver low x first;
-    }) does.calm refl (search rules) (search rules))
+    }) refl (search rules) (search rules))
 
 pub returns-in_ok-settle-in-Ok-Bytes-clause-writes : goal.returns-in_ok-settle-in-Ok-Bytes-clause-writes
 returns-in_ok-settle-in-Ok-Bytes-clause-writes g c o low first =
@@ -54,11 +54,11 @@ returns-in_ok-settle-in-Ok-Bytes-clause-writes g c o low first =
           (record {
             goes_on = refl;
             f = λ l s. wrote l conn c.in-Ok-Bytes.n s;
-            acts = does.acts;
+            does = does;
             asks = write_asks o g.K.Core.line c.args.self.now.timer c.args.self.now.driver low first;
             fits = search rules;
             is = written o g.K.Core.line c.args.self.now.timer c.args.self.now.driver low x first;
-          }) does.calm refl (search rules) (search rules),
+          }) refl (search rules) (search rules),
       c.next_to_write.ensures.next,
     )
 
@@ -92,11 +92,11 @@ returns-in_ok-settle-in-Ok-Ended-clause-writes g c o low first =
           (record {
             goes_on = refl;
             f = λ l s. over l conn s;
-            acts = does.acts;
+            does = does;
             asks = write_asks o g.K.Core.line c.args.self.now.timer c.args.self.now.driver low first;
             fits = tt;
             is = written o g.K.Core.line c.args.self.now.timer c.args.self.now.driver low x first;
-          }) does.calm refl (search rules) (search rules),
+          }) refl (search rules) (search rules),
       c.next_behind-in-Ok-Ended.ensures.next,
     )
 
