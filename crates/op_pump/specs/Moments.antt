@@ -103,21 +103,23 @@ pub record GoesBy {K : Type 0} (stores : Stores K) (A : Chance) (o : Settings) (
   pub answers : List Answer
   pub made : List Call
   pub run : Run stores A IsCalm
-      (λ l s t. Leads o l line answers (pump_at a.at a.timer s) made (pump_at b.at b.timer t)) a.served b.served
+      (λ l s t. Leads o l line answers (pump_at a.at a.timer s) made (pump_at b.at b.timer t))
+      a.served b.served
   pub told : Grows net0.0 made net1.0
   pub counts : RisesIf (is_broken b.at) net0.1 net1.1
   pub marks : MarksAt (is_starved b.at) b.served.loop
   pub times : times_in answers ≡ ts
 
--- where nothing need come before it
-abbrev pub On : {K : Type 0} → Stores K → Settings → (Standing → List ℕ) → List ℕ → Moment K → Moment K → NetSeen
-    → NetSeen → Type 0
-On stores o line ts a b net0 net1 = GoesBy stores Any o line ts a b net0 net1
+module _ {K : Type 0} (stores : Stores K) where
+  -- where nothing need come before it
+  abbrev pub On : Settings → (Standing → List ℕ) → List ℕ → Moment K → Moment K → NetSeen → NetSeen
+      → Type 0
+  On o line ts a b net0 net1 = GoesBy stores Any o line ts a b net0 net1
 
--- where it may come behind something else
-abbrev pub Goes : {K : Type 0} → Stores K → Settings → (Standing → List ℕ) → List ℕ → Moment K → Moment K → NetSeen
-    → NetSeen → Type 0
-Goes stores o line ts a b net0 net1 = GoesBy stores IsCalm o line ts a b net0 net1
+  -- where it may come behind something else
+  abbrev pub Goes : Settings → (Standing → List ℕ) → List ℕ → Moment K → Moment K → NetSeen → NetSeen
+      → Type 0
+  Goes o line ts a b net0 net1 = GoesBy stores IsCalm o line ts a b net0 net1
 
 -- the same, with what the clock told
 pub record TurnGoes {K : Type 0} (stores : Stores K) (o : Settings) (line : Standing → List ℕ)
