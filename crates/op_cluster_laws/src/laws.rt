@@ -5,9 +5,9 @@ ghost use Rattle.op_cluster_laws.specs.Worlds.{OfClusters, ClustersAreRuns, Deli
 
 /// Each deed of a node that serves by the loop's rules comes from those before it: a message that it takes was read whole from a
 /// peer's connection, a request from a client's; a frame that it says is that of a message that it gave out, and that is no longer
-/// than a peer reads, or of what a client is told, at a client's connection; what a connection took is the first part of its
-/// greeting and of the frames for it; and a node takes what its disks store only where it had failed. Of such a node are the deeds
-/// of each run that `serve` promises.
+/// than a peer reads, or of what a client is told, at a client's connection, and a command or a read that is answered there was
+/// asked for there; what a connection took is the first part of its greeting and of the frames for it; and a node takes what its
+/// disks store only where it had failed. Of such a node are the deeds of each run that `serve` promises.
 pub fn deeds_have_causes()
     ensures causes { DeedsAreCaused }
     ensures serving { RunsServe }
@@ -26,7 +26,7 @@ pub fn clusters_are_executions()
 {}
 
 /// What clients of a cluster are answered is of one order: what a client's connection took is the first part of frames of which
-/// each answer is one that the node had given out, to a command or to a read that was asked for at that connection, and what is read
+/// each answer is one that the node had given out, to a command or a read that was asked for at that connection, and what is read
 /// whole of it is one of them; each answer to a command is the service's to a command of the run's history, after all that stands
 /// before it; and that command stands before each other one for which no node had read a request by then.
 pub fn answers_are_of_one_order()
