@@ -1,11 +1,12 @@
 #!/usr/bin/env python3
 """A client of a cluster's key-value service.
 
-    client.py HOST:PORT[,HOST:PORT..] put KEY VALUE | del KEY | get KEY | cas KEY OLD NEW | read KEY
+    client.py HOST:PORT[,HOST:PORT..] [CLIENT] put KEY VALUE | del KEY | get KEY | cas KEY OLD NEW | read KEY
 
 It asks one node after the other until a node answers, each time under the same number, so that a command takes effect
 once at most, however often it is sent. A `get` stands in the log, and any node takes it; a `read` doesn't, and only the node
-that leads answers it: the others say that they don't lead. Written from docs/FORMATS.md alone.
+that leads answers it: the others say that they don't lead. Without CLIENT each run is a client of a new random id, of which every
+node keeps a small place for good: who runs it often gives one, 1 to 2^62 - 1, to one run at a time. Written from docs/FORMATS.md alone.
 """
 import random
 import socket
@@ -15,20 +16,15 @@ import time
 
 COMMAND, READ = 1, 6  # a request's tag
 TAGS = {"put": 1, "del": 2, "get": 3, "cas": 4}
-DONE, VALUE, ABSENT, STALE = 1, 2, 3, 4  # a reply's tag
+DONE, VALUE, ABSENT, STALE, BAD = 1, 2, 3, 4, 14  # a reply's tag
 SILENCE, PAUSE = 3.0, 0.1  # seconds: that an answer is waited for, and between two tries
-
-
-def entry(client, number, operation, key, *values):
-    texts = b"".join(struct.pack(">H", len(value)) + value for value in values)
-    return struct.pack(">BQQBB", COMMAND, client, number, TAGS[operation], len(key)) + key + texts
 
 
 def request(client, number, operation, key, *values):
     """The body of a read, or of a command."""
-    if operation == "read":
-        return struct.pack(">BQQB", READ, client, number, len(key)) + key
-    return entry(client, number, operation, key, *values)
+    tag, kind = (READ, b"") if operation == "read" else (COMMAND, bytes([TAGS[operation]]))
+    texts = b"".join(struct.pack(">H", len(value)) + value for value in values)
+    return struct.pack(">BQQ", tag, client, number) + kind + bytes([len(key)]) + key + texts
 
 
 def exactly(connection, count):
@@ -42,10 +38,10 @@ def exactly(connection, count):
 
 
 class Client:
-    def __init__(self, addresses, number=None):
+    def __init__(self, addresses, client=None):
         self.addresses = addresses
-        self.client = number or random.randrange(1, 2**62)
-        self.number = 0
+        self.client = client or random.randrange(1, 2**62)
+        self.number = time.time_ns()  # above those of the client's earlier runs
         self.connection = None
 
     def connect(self):
@@ -63,11 +59,15 @@ class Client:
             rest = exactly(self.connection, length - 17)
             if (client, number) == (self.client, self.number):
                 return tag, rest
+            if tag == BAD:
+                raise ValueError(f"the node calls the request bad at byte {int.from_bytes(rest, 'big')}")
 
-    def ask(self, operation, *texts):
-        """The value, True for done, or None for absent; it tries until a node answers."""
+    def ask(self, operation, key, *values):
+        """The value, True for done, None for absent, or False for stale; it tries until a node answers."""
+        if not 1 <= len(key) <= 64 or any(len(value) > 4096 for value in values):
+            raise ValueError("a key has 1 to 64 bytes, and a value 4,096 at most")
         self.number += 1
-        body = request(self.client, self.number, operation, *texts)
+        body = request(self.client, self.number, operation, key, *values)
         while True:
             try:
                 tag, rest = self.once(body)
@@ -85,5 +85,9 @@ class Client:
 
 if __name__ == "__main__":
     nodes = [tuple(address.split(":")) for address in sys.argv[1].split(",")]
-    answer = Client(nodes).ask(sys.argv[2], *(word.encode() for word in sys.argv[3:]))
+    client = int(sys.argv.pop(2)) if sys.argv[2].isdigit() else None
+    try:
+        answer = Client(nodes, client).ask(sys.argv[2], *(word.encode() for word in sys.argv[3:]))
+    except ValueError as error:
+        sys.exit(f"client.py: {error}")
     print(answer.decode() if isinstance(answer, bytes) else {True: "done", None: "absent", False: "stale"}[answer])

@@ -4,7 +4,7 @@
     watch.py SETTINGS [TIMES]
 
 SETTINGS is a file such as examples/cluster.toml, whose peers are asked for their status. On a terminal each table takes the
-place of the one before; after TIMES tables it ends. Written from docs/FORMATS.md alone.
+place of the one before; after TIMES tables it ends. Written from docs/FORMATS.md alone. Needs Python 3.11.
 """
 import concurrent.futures
 import socket
@@ -49,11 +49,15 @@ def told(words):
 
 
 def row(node, pairs, state, first, before):
-    """A line of the table: how far a node is behind the first one, and how much it decided since the table before."""
-    decided = pairs.get("decided")
-    behind = "" if decided is None else first - decided
-    rate = "" if decided is None or before is None else f"{(decided - before) / PERIOD:.0f}"
-    texts = [node, pairs.get("config", ""), decided, behind, pairs.get("trimmed", ""), rate, state]
+    """A line of the table: how far a node is behind the first one, and how much it decided since the table before. Positions of two
+    configurations are not compared: `-` stands at a node that is not in the latest one, or wasn't at the table before."""
+    config, decided = pairs.get("config"), pairs.get("decided")
+    behind = rate = "" if decided is None else "-"
+    if config == first[0]:
+        behind = first[1] - decided
+        if before is None or before[0] == config:
+            rate = "" if before is None else f"{(decided - before[1]) / PERIOD:.0f}"
+    texts = [node, config, decided, behind, pairs.get("trimmed"), rate, state]
     return "{:>5} {:>7} {:>10} {:>8} {:>10} {:>10}   {}".format(*("" if it is None else it for it in texts))
 
 
@@ -65,11 +69,12 @@ def main(settings, times):
         for _ in range(times):
             started = time.monotonic()
             found = dict(zip(peers, map(told, pool.map(status, peers.values()))))
-            first = max((pairs.get("decided", 0) for pairs, _ in found.values()), default=0)
+            places = {node: (pairs["config"], pairs["decided"]) for node, (pairs, _) in found.items() if "decided" in pairs}
+            first = max(places.values(), default=(0, 0))
             print(f"{CLEAR} node  config    decided   behind    trimmed   decided/s   state")
             for node, (pairs, state) in found.items():
                 print(row(node, pairs, state, first, before.get(node)))
-            before = {node: pairs.get("decided") for node, (pairs, _) in found.items()}
+            before = places
             sys.stdout.flush()
             time.sleep(max(0, PERIOD - (time.monotonic() - started)))
 

@@ -68,14 +68,46 @@ const EACH_ALONE: &[Conduct] = &[
     (10, Wrote::Any, 1),
 ];
 
-const ROWS: [Row<'static>; 1] = [Row {
-    server: Server::Alone,
-    steps: MALFORMED,
-    turns: 3,
-    conns: EACH_ALONE,
-    end: ServeEnd::TurnsOver,
-    lost: 0,
-}];
+/// Session 4 is a peer's, 3 the other one's, which sends the greatest head of a frame, and 5 a client's.
+const GREATEST_HEAD: &[Step] = &[
+    Step::Happens(&[
+        Happening::Accepted(3),
+        Happening::Accepted(4),
+        Happening::Accepted(5),
+        Happening::Readable(4),
+        Happening::Readable(3),
+        Happening::Readable(5),
+    ]),
+    Step::Comes(b"P\0\0\0\x02"),
+    Step::Comes(b"P\0\0\0\x03\xff\xff\xff\xff\xff\xff\xff\xff"),
+    Step::Comes(STATUS),
+];
+
+/// Session 3 is closed, and nothing is written to it; the others go on.
+const IT_ALONE: &[Conduct] = &[
+    (3, Wrote::Bytes(b""), 1),
+    (4, Wrote::Any, 0),
+    (5, Wrote::Reply(LINE), 0),
+];
+
+const ROWS: [Row<'static>; 2] = [
+    Row {
+        server: Server::Alone,
+        steps: MALFORMED,
+        turns: 3,
+        conns: EACH_ALONE,
+        end: ServeEnd::TurnsOver,
+        lost: 0,
+    },
+    Row {
+        server: Server::Alone,
+        steps: GREATEST_HEAD,
+        turns: 2,
+        conns: IT_ALONE,
+        end: ServeEnd::TurnsOver,
+        lost: 0,
+    },
+];
 
 #[test]
 fn each_malformed_session_is_closed_or_waits_alone(rt: HostRuntime) -> Result<(), Fail> {
