@@ -4,20 +4,25 @@ ghost use Rattle.op_outside.specs.Disks.{untold};
 use crate::faults::counted;
 use crate::lazy_file::LazyFile;
 use op_outside::{Disk, DiskFail};
+use std::alloc::Global;
 use std::fs::File;
 use std::path::PathBuf;
 use std::rt::Files;
 
 /// A file as a disk. It is opened at the first call, and made where there is none. It tells nothing of its content.
 ///
+/// The file is locked (`flock`) when it is opened, before anything is read or written, until the disk is dropped or its process
+/// has ended, in whatever way. While another disk has it, of this process or of another one, each call fails, and nothing is
+/// changed. The lock keeps no program away that doesn't ask for one.
+///
 /// After a sync that failed every call fails: what was written before may be gone.
 #[derive(Drop)]
-pub struct FileDisk<R: Files<File = File> + Drop> {
+pub struct FileDisk<R: Files<File = File> + Alloc<A = Global> + Drop> {
     file: LazyFile<R>,
     faults: u64,
 }
 
-impl<R: Files<File = File> + Drop> FileDisk<R> {
+impl<R: Files<File = File> + Alloc<A = Global> + Drop> FileDisk<R> {
     /// The file at this path. Nothing is opened yet.
     pub fn new(rt: R, path: PathBuf) -> Self
         ensures { (⟦<FileDisk<R> as Disk>⟧.state result).faults ≡ 0 }
@@ -29,7 +34,7 @@ impl<R: Files<File = File> + Drop> FileDisk<R> {
     }
 }
 
-impl<R: Files<File = File> + Drop> Disk for FileDisk<R> {
+impl<R: Files<File = File> + Alloc<A = Global> + Drop> Disk for FileDisk<R> {
     ghost state = { λ d. untold d.faults };
 
     fn faults(&self) -> u64 {

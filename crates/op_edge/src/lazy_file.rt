@@ -1,16 +1,18 @@
 ghost use Rattle.std.specs.Prelude.{◌≤◌, ◌+◌, ◌↔◌, IsTrue, IfOk, OnOk, length};
 ghost use Rattle.op_outside.specs.Disks.{disk_end};
 
+use crate::folders::sync_folder_of;
 use op_outside::DISK_END;
-use std::fs::{File, OpenOptions};
+use std::alloc::Global;
+use std::fs::{self, File, OpenOptions};
 use std::io::{self, ErrorKind};
 use std::os::unix::fs::FileExt;
 use std::path::PathBuf;
 use std::rt::Files;
 
-/// A file that is opened at its first use, and made where there is none.
+/// A file that is opened and locked at its first use, and made where there is none.
 #[derive(Drop)]
-pub(crate) struct LazyFile<R: Files<File = File> + Drop> {
+pub(crate) struct LazyFile<R: Files<File = File> + Alloc<A = Global> + Drop> {
     rt: R,
     path: PathBuf,
     file: Option<File>,
@@ -20,7 +22,7 @@ pub(crate) struct LazyFile<R: Files<File = File> + Drop> {
     lost: bool,
 }
 
-impl<R: Files<File = File> + Drop> LazyFile<R> {
+impl<R: Files<File = File> + Alloc<A = Global> + Drop> LazyFile<R> {
     pub(crate) fn new(rt: R, path: PathBuf) -> Self {
         LazyFile {
             rt,
@@ -42,22 +44,26 @@ impl<R: Files<File = File> + Drop> LazyFile<R> {
         self.file.as_ref().ok_or(ErrorKind::NotFound.into())
     }
 
-    /// Opens the file. Its name is made last too, so that a crash leaves a file that was synced.
+    /// Opens the file, and locks it before anything else. Its name is made last too, so that a crash leaves a file that was
+    /// synced.
     fn open(&self) -> io::Result<File> {
         let mut how = OpenOptions::new();
         how.read(true).write(true).create(true);
         let file = how.open(&self.rt, self.path.as_path())?;
+        file.try_lock()?;
         self.sync_folder()?;
         Ok(file)
     }
 
-    /// Syncs the folder of the file.
+    /// Syncs the folder that holds the file, which isn't the link's where the path is a symbolic link. Memory is taken for a link
+    /// alone.
     fn sync_folder(&self) -> io::Result<()> {
-        let folder = match self.path.parent() {
-            Some(folder) if !folder.as_str().is_empty() => folder.as_str(),
-            _ => ".",
-        };
-        File::open(&self.rt, folder)?.sync_all()
+        let path = self.path.as_path();
+        if !fs::symlink_metadata(&self.rt, path)?.is_symlink() {
+            return sync_folder_of(&self.rt, path);
+        }
+        let real = fs::canonicalize(&self.rt, path)?;
+        sync_folder_of(&self.rt, real.as_path())
     }
 
     /// Its length in bytes. It fails where that is past 2^62.

@@ -5,6 +5,7 @@
 mod arguments;
 mod faults;
 mod file_disk;
+mod folders;
 mod input;
 mod lazy_file;
 mod mio_net;

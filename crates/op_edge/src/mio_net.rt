@@ -9,7 +9,8 @@ use std::net;
 /// Sockets. They tell none of their calls.
 ///
 /// A connection has ended where the other end closed it, where a dial has no answer for 1 s, or where written bytes haven't
-/// moved for 2 s. That is told until it is closed here. A connection that was dialled tells by `Writable` that it is open.
+/// moved for 2 s. That is told until it is closed here. A connection that was dialled tells by `Writable` that its dial has an
+/// answer: it is open, or it was refused, and then it ends too.
 #[derive(Drop)]
 pub struct MioNet<R: net::Net + Drop, C: Clock + Drop> {
     sockets: Sockets<R, C>,

@@ -1,13 +1,14 @@
 ghost use Rattle.std.specs.Prelude.{◌≡◌, None};
 
 use crate::faults::counted;
+use crate::folders::sync_folder_of;
 use op_outside::{ChildFail, Spawner};
 use std::alloc::Global;
 use std::collections::BTreeMap;
 use std::collections::btree_map::Entry;
 use std::fs;
 use std::io::{self, ErrorKind, Write};
-use std::path::PathBuf;
+use std::path::{Path, PathBuf};
 use std::process::{Child, Command, OpenProcess, Processes, Stdio};
 use std::rt::Files;
 
@@ -97,10 +98,11 @@ fn spawn<R: Processes + Files + Alloc<A = Global>>(
     command.spawn(rt)
 }
 
+/// Makes a folder where it is absent, and makes its name last.
 fn make_folder<R: Files>(rt: &R, folder: &str) -> io::Result<()> {
     match fs::create_dir(rt, folder) {
         Err(error) if error.kind() != ErrorKind::AlreadyExists => Err(error),
-        _ => Ok(()),
+        _ => sync_folder_of(rt, Path::new(folder)),
     }
 }
 

@@ -19,6 +19,9 @@ const UNANSWERED_MILLIS: u64 = 1000;
 /// How many connections a wait accepts at most.
 const MOST_ACCEPTED: u32 = 16;
 
+/// How long after an error of the listener it is tried again, in milliseconds.
+const ACCEPT_AGAIN_MILLIS: u64 = 100;
+
 /// A listener and connections. Each connection has a number that none had before.
 #[derive(Drop)]
 pub(crate) struct Sockets<R: Net + Drop, C: Clock + Drop> {
@@ -29,6 +32,9 @@ pub(crate) struct Sockets<R: Net + Drop, C: Clock + Drop> {
     listener: Option<TcpListener>,
     /// Whether connections may wait at the listener.
     acceptable: bool,
+    /// When they may again, after an error of the listener, in milliseconds of the clock: the system then tells of none that
+    /// waits already.
+    accept_at: Option<u64>,
     peers: BTreeMap<Conn, Peer>,
     /// The number of the next connection.
     next: Conn,
@@ -45,6 +51,7 @@ impl<R: Net + Drop, C: Clock + Drop> Sockets<R, C> {
             poller,
             listener: None,
             acceptable: false,
+            accept_at: None,
             peers: BTreeMap::new(alloc),
             next: 0,
             turn: 0,
@@ -62,15 +69,20 @@ impl<R: Net + Drop, C: Clock + Drop> Sockets<R, C> {
         Ok(())
     }
 
-    /// Begins a connection to this address. There is none where the system refuses it at once, as where no way leads there.
+    /// Begins a connection to this address. There is none where the system refuses it at once, as where no way leads there, and
+    /// where it can't be kept, as for want of memory. It fails where the system gave no means to wait for sockets.
     pub(crate) fn dial(&mut self, addr: &Addr) -> io::Result<Option<Conn>> {
+        if self.poller.is_none() {
+            return Err(ErrorKind::Other.into());
+        }
         let deadline = self.clock.millis().saturating_add(UNANSWERED_MILLIS);
         match TcpStream::connect(&self.rt, socket_addr(addr)) {
-            Ok(stream) => self.keep(stream, Some(deadline)).map(Some),
+            Ok(stream) => Ok(self.keep(stream, Some(deadline)).ok()),
             Err(_) => Ok(None),
         }
     }
 
+    /// Keeps a connection under the next number. One that can't be kept is closed.
     fn keep(&mut self, mut stream: TcpStream, deadline: Option<u64>) -> io::Result<Conn> {
         let conn = self.next;
         let Some(next) = conn.checked_add(1) else {
@@ -93,7 +105,7 @@ impl<R: Net + Drop, C: Clock + Drop> Sockets<R, C> {
     {
         given.reserve(MOST_HAPPENINGS)?;
         self.poll(ms)?;
-        self.accept(given)?;
+        self.accept(given);
         give_in_turn(&self.peers, self.turn, given);
         Ok(())
     }
@@ -118,25 +130,31 @@ impl<R: Net + Drop, C: Clock + Drop> Sockets<R, C> {
 
     fn note_time(&mut self) {
         let now = self.clock.millis();
+        if self.accept_at.is_some_and(|time| time <= now) {
+            self.accept_at = None;
+            self.acceptable = true;
+        }
         for peer in self.peers.values_mut() {
             peer.note_time(now);
         }
     }
 
-    /// How long to wait, in milliseconds: not where there is something to tell, and not past a deadline.
+    /// How long to wait, in milliseconds: not where there is something to tell, and not past a deadline or the listener's next
+    /// try.
     fn patience(&mut self, ms: u64) -> u64 {
         if self.acceptable || self.peers.values().any(|peer| peer.has_news()) {
             return 0;
         }
         let now = self.clock.millis();
+        let until_accept = self.accept_at.map_or(ms, |time| time.saturating_sub(now));
         self.peers.values().filter_map(|peer| peer.deadline).fold(
-            ms,
+            ms.min(until_accept),
             |least, deadline| least.min(deadline.saturating_sub(now)),
         )
     }
 
-    /// Takes what waits at the listener. An error comes only where nothing was taken before it.
-    fn accept(&mut self, given: &mut Vec<Happening>) -> io::Result<()>
+    /// Takes what waits at the listener.
+    fn accept(&mut self, given: &mut Vec<Happening>)
         requires { vec_len given.old ≤ most_happenings }
         ensures { vec_len given.new ≤ most_happenings }
     {
@@ -144,29 +162,28 @@ impl<R: Net + Drop, C: Clock + Drop> Sockets<R, C> {
             if !self.acceptable {
                 break;
             }
-            match self.accept_one() {
-                Ok(conn) => put(given, conn.map(Happening::Accepted)),
-                Err(error) if given.is_empty() => return Err(error),
-                Err(_) => break,
-            }
+            put(given, self.accept_one().map(Happening::Accepted));
         }
-        Ok(())
     }
 
-    /// The next connection at the listener. One that has ended already, or that can't be kept, is closed.
-    fn accept_one(&mut self) -> io::Result<Option<Conn>> {
+    /// The next connection at the listener. One that has ended already, or that can't be kept, is closed. Any other error
+    /// passes, as where files have run out: none is there then, and the listener is tried again after a while.
+    fn accept_one(&mut self) -> Option<Conn> {
         let Some(listener) = &self.listener else {
             self.acceptable = false;
-            return Ok(None);
+            return None;
         };
         match listener.accept() {
-            Ok((stream, _)) => Ok(self.keep(stream, None).ok()),
-            Err(error) if error.kind() == ErrorKind::WouldBlock => {
+            Ok((stream, _)) => self.keep(stream, None).ok(),
+            Err(error) if error.kind() == ErrorKind::ConnectionAborted => None,
+            Err(error) => {
                 self.acceptable = false;
-                Ok(None)
+                if error.kind() != ErrorKind::WouldBlock {
+                    let again = self.clock.millis().saturating_add(ACCEPT_AGAIN_MILLIS);
+                    self.accept_at = Some(again);
+                }
+                None
             }
-            Err(error) if error.kind() == ErrorKind::ConnectionAborted => Ok(None),
-            Err(error) => Err(error),
         }
     }
 

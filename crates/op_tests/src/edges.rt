@@ -6,6 +6,7 @@ use std::alloc::AllocError;
 use std::collections::VecDeque;
 use std::net::{Ipv4Addr, SocketAddr, TcpListener};
 use std::os::fd::AsRawFd;
+use std::os::unix::fs::symlink;
 use std::path::PathBuf;
 use std::test::Fail;
 use std::{fs, io};
@@ -64,6 +65,83 @@ fn a_file_is_a_disk(rt: HostRuntime) -> Result<(), Fail> {
     assert_eq!(rt; length_at(&rt, name)?, (Ok(4), 0));
     fs::remove_file(&rt, name)?;
     assert_eq!(rt; length_at(&rt, "absent/edges.disk")?, (Err(DiskFail), 1));
+    Ok(())
+}
+
+/// A link to a file that is absent yet, in another folder.
+#[test]
+fn a_disk_may_be_a_link(rt: HostRuntime) -> Result<(), Fail> {
+    let (folder, name, link) = ("linked", "linked/edges.disk", "edges.link");
+    fs::create_dir(&rt, folder)?;
+    symlink(&rt, name, link)?;
+    assert!(rt; is_used_at(&rt, link)?);
+    assert_eq!(rt; length_at(&rt, name)?, (Ok(4), 0));
+    fs::remove_file(&rt, link)?;
+    fs::remove_file(&rt, name)?;
+    fs::remove_dir(&rt, folder)?;
+    Ok(())
+}
+
+/// A call of a disk, which holds some bytes.
+#[derive(Clone, Copy)]
+enum DiskCall {
+    Len,
+    Read,
+    Write,
+    Cut,
+    Sync,
+}
+
+const DISK_CALLS: [DiskCall; 5] = [
+    DiskCall::Len,
+    DiskCall::Read,
+    DiskCall::Write,
+    DiskCall::Cut,
+    DiskCall::Sync,
+];
+
+/// Whether a call of a disk is answered.
+fn is_answered<D: Disk>(disk: &mut D, call: DiskCall) -> bool {
+    match call {
+        DiskCall::Len => disk.len().is_ok(),
+        DiskCall::Read => disk.read(0, &mut [0u8; 1]).is_ok(),
+        DiskCall::Write => disk.write_at(0, b"x").is_ok(),
+        DiskCall::Cut => disk.cut(0).is_ok(),
+        DiskCall::Sync => disk.sync().is_ok(),
+    }
+}
+
+/// The first call that is answered, or that is no fault.
+fn first_answered<D: Disk>(disk: &mut D) -> Option<usize> {
+    for (place, call) in DISK_CALLS.iter().enumerate() {
+        let faults = disk.faults();
+        if is_answered(disk, *call) || disk.faults() <= faults {
+            return Some(place);
+        }
+    }
+    None
+}
+
+/// Whether the file at this path, which is absent, is used as a disk, and another disk on it then answers no call.
+fn is_held_at(rt: &HostRuntime, path: &str) -> Result<bool, AllocError> {
+    let mut first = FileDisk::new(rt, PathBuf::from_str(rt.alloc(), path)?);
+    let mut second = FileDisk::new(rt, PathBuf::from_str(rt.alloc(), path)?);
+    Ok(is_used(&mut first) && first_answered(&mut second).is_none() && first.len() == Ok(4))
+}
+
+/// Bytes 1 to 3 of the file at this path, as a disk.
+fn bytes_at(rt: &HostRuntime, path: &str) -> Result<Result<[u8; 3], DiskFail>, AllocError> {
+    let mut disk = FileDisk::new(rt, PathBuf::from_str(rt.alloc(), path)?);
+    let mut bytes = [0u8; 3];
+    Ok(disk.read(1, &mut bytes).map(|()| bytes))
+}
+
+#[test]
+fn a_file_is_one_disk_at_a_time(rt: HostRuntime) -> Result<(), Fail> {
+    let name = "edges.held";
+    assert!(rt; is_held_at(&rt, name)?);
+    assert_eq!(rt; bytes_at(&rt, name)?, Ok(*b"bXY"));
+    fs::remove_file(&rt, name)?;
     Ok(())
 }
 
