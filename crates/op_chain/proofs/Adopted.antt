@@ -5,9 +5,15 @@ use Rattle.std.proofs.lemmas.Bool.{cases_Bool}
 use Rattle.op_types.specs.Changes.{durable_after}
 use Rattle.op_types.specs.Roomed.{Roomed}
 use Rattle.op_types.specs.Rooms.{no_needs, with_room}
+use Rattle.op_types.specs.declared.answers.Outcome.{Outcome}
 use Rattle.op_types.specs.declared.answers.Reply.{Reply}
+use Rattle.op_types.specs.declared.changes.Change.{Change}
 use Rattle.op_types.specs.declared.durable.Durable.{Durable}
 use Rattle.op_types.specs.declared.durable.Part.{Part}
+use Rattle.op_types.specs.declared.messages.Msg.{Msg}
+use Rattle.op_types.specs.declared.plan.Plan.{Plan}
+use Rattle.op_types.specs.declared.plan.PlanParts.{PlanParts}
+use Rattle.op_types.specs.declared.turn.Turn.{Turn}
 use Rattle.op_spec.specs.Service.{Service}
 use Rattle.op_protocol.specs.State as step
 use Rattle.op_protocol.specs.State.{State, Planned, Waiting}
@@ -86,6 +92,18 @@ part_node me (Some p) (Some q) v w node sound same a b c d =
     }
 
 -- ---- adopting a plan
+
+-- a plan by what it was taken apart into
+abbrev pub of_parts : PlanParts → Plan
+of_parts r = record { batch = r.batch; turn = r.turn; sends = r.sends; replies = r.replies; outcome = r.outcome }
+
+pub parts_of : (x : Plan) (r : PlanParts) → r.batch ≡ x.batch → r.turn ≡ x.turn → r.sends ≡ x.sends → r.replies ≡ x.replies → r.outcome ≡ x.outcome → of_parts r ≡ x
+parts_of x r batch turn sends replies outcome =
+    ap (λ (b : List Change). let y : Plan = record (of_parts r) { batch = b } in y) batch
+    ∙ ap (λ (t : Turn). let y : Plan = record (of_parts r) { batch = x.batch; turn = t } in y) turn
+    ∙ ap (λ (m : List (ℕ × Msg)). let y : Plan = record (of_parts r) { batch = x.batch; turn = x.turn; sends = m } in y) sends
+    ∙ ap (λ (t : List Reply). let y : Plan = record (of_parts r) { batch = x.batch; turn = x.turn; sends = x.sends; replies = t } in y) replies
+    ∙ ap (λ (o : Option Outcome). let y : Plan = record (of_parts r) { batch = x.batch; turn = x.turn; sends = x.sends; replies = x.replies; outcome = o } in y) outcome
 
 -- what is known when a plan was adopted, with what is kept of the part after its turn
 pub record Made (old : Chain) (plan : ChainPlan) (kept : Volatile) (new : Chain) (g : Given) : Type 0 where

@@ -1,22 +1,19 @@
 -- Those that wait are answered as the step table says.
 use Rattle.std.proofs.Common.{◌≡◌, ℕ, ◌≤◌, ◌+◌, inl, inr, ◌∷◌, ◌++◌, List, [], length, refl, ap, ◌∙◌, Bool, true, false, arith}
-use Rattle.std.specs.Prelude.{Option, None, Result, Ok, Err, OnOk, fold}
+use Rattle.std.specs.Prelude.{fold}
 use Rattle.std.specs.List.{list_any}
 use Rattle.std.specs.Set.{remove_key}
 use Rattle.std.proofs.lemmas.Bool.{cases_Bool}
 use Rattle.std.proofs.lemmas.List.{length-append}
-use Rattle.op_types.specs.Stops.{stop_of, stop_at_end}
 use Rattle.op_types.specs.declared.answers.Reply.{Reply}
 use Rattle.op_types.specs.declared.log.Command.{Command}
 use Rattle.op_types.specs.declared.log.Entry.{Entry}
 use Rattle.op_types.specs.declared.log.Entry.TheVariants as entry
-use Rattle.op_types.specs.declared.log.StopSign.{StopSign}
 use Rattle.op_spec.specs.Service.{Service, service_with, all_after}
 use Rattle.op_protocol.specs.State.{Waiting}
 use Rattle.op_protocol.specs.Serving.{Served, Dropping, serving_command, serving_entry, reply_of, dropping_reply, is_of_stop, waits, without_waiting}
-use Rattle.op_kv.specs.Over.{service_over}
-use Rattle.op_chain.specs.Answering.{replies_to, giving_reply, stop_after, ServesNothing, Continues, IsServed}
-use Rattle.op_chain.specs.declared.served.Served as own
+use Rattle.op_deciding.specs.Deciding.{replies_to}
+use Rattle.op_chain.specs.Answering.{giving_reply}
 
 -- ---- who doesn't wait
 
@@ -47,38 +44,6 @@ served_all [] s d = refl
 served_all (entry.Command c ∷ es) s d =
     ap (λ (t : Served). fold serving_entry t es) (one_by s d c (waits d.waiting c.client c.seq) refl) ∙ served_all es (service_with s c) (giving_reply d (reply_of s c))
 served_all (entry.Stop stop ∷ es) s d = served_all es s d
-
--- ---- what a plan comes to
-
-ends_after : (o : Option StopSign) (e : Entry) (es : List Entry) → stop_after o (e ∷ es) ≡ stop_at_end (e ∷ es)
-ends_after o e [] = refl
-ends_after o e (f ∷ es) = ends_after (stop_of e) f es
-
--- the stop-sign that ends entries, after none
-ends_as : (es : List Entry) → stop_after None es ≡ stop_at_end es
-ends_as [] = refl
-ends_as (e ∷ es) = ends_after None e es
-
--- these entries are served and no others
-pub served_is : (s : Service) (a x : own.Served) (es : List Entry) → ServesNothing s a → Continues s a x es → IsServed s es x
-served_is s a x es none more =
-    record {
-      change = more.change ∙ ap (λ (t : Service). all_after t es) none.change;
-      replies =
-          more.replies
-          ∙ ap (λ (given : List Reply). given ++ replies_to (service_over s a.change) es) none.replies
-          ∙ ap (λ (t : Service). replies_to t es) none.change;
-      stop = more.stop ∙ ap (λ (o : Option StopSign). stop_after o es) none.stop ∙ ends_as es;
-    }
-
--- the same, where it succeeds
-pub ok_served : {X E : Type 0} (r : Result X E) (s : Service) (a x : own.Served) (es : List Entry) → ServesNothing s a → OnOk r (Continues s a x es) → OnOk r (IsServed s es x)
-ok_served (Ok v) s a x es none more = served_is s a x es none more
-ok_served (Err e) s a x es none more = tt
-
--- no entries are served
-pub none_served : (s : Service) (a : own.Served) → ServesNothing s a → IsServed s [] a
-none_served s a none = record { change = none.change; replies = none.replies; stop = none.stop }
 
 -- ---- what is given up
 

@@ -38,7 +38,7 @@ use Rattle.op_follower.specs.Staging.{StagedIsAdmitted}
 use Rattle.op_instance.specs.Sound.{IsSound, IsSoundPart, IfSound, IsSoundStep, ListFits, IsNodeOf, IfNodeOf, IsNode}
 use Rattle.op_instance.specs.declared.volatile.Volatile.{Volatile}
 use Rattle.op_instance.proofs.Batches.{conf_after}
-use Rattle.op_instance.proofs.Batches.{after_both as parts_after_both}
+use Rattle.op_plans.proofs.Batches.{after_both as parts_after_both}
 use Rattle.op_instance.proofs.Ends.{ended}
 use Rattle.op_chain.specs.Leads.{why_closed, why_anew}
 use Rattle.op_chain.specs.Plans.{BeginsAnew, BeginsIn, MayClose, IfMayClose, closed_plan, Closes, IfCloses}

@@ -5,7 +5,6 @@ pub mod Bases
 pub mod Beside
 pub mod Closes
 pub mod Coming
-pub mod Decided
 pub mod Inputs
 pub mod Joined
 pub mod Leads
@@ -15,7 +14,6 @@ pub mod Opened
 pub mod Prepared
 pub mod Ready
 pub mod Rooms
-pub mod Slices
 pub mod Steps
 pub mod Stored
 pub mod Takes

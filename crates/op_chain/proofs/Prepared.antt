@@ -36,7 +36,7 @@ use Rattle.op_instance.specs.Memory.{volatile_of, adopted_in, part_step_of, HasR
 use Rattle.op_instance.specs.Sound.{IsSound, IfSound, IsSoundNode, IsSoundStep, IfNodeOf, IsNode}
 use Rattle.op_instance.specs.declared.volatile.Volatile.{Volatile}
 use Rattle.op_instance.proofs.StepsApply.{sound_step}
-use Rattle.op_chain.specs.Answering.{IsServed}
+use Rattle.op_deciding.specs.Deciding.{IsServed}
 use Rattle.op_chain.specs.Bringing.{joining_after, joined, IfJoined, turn_beside, turn_holding}
 use Rattle.op_chain.specs.Chains.{state_of, HaveBases, IsSoundChain, IsSame, Admits}
 use Rattle.op_chain.specs.Plans.{renewed, planned_by, made_by, IsPartAfter, Stays, BeginsIn, LeavesWith, HasRoomToTell, Prepares, waiters_of, waiting_by, based_step, IfMayClose, IfCloses, IfGoesOn}
@@ -44,7 +44,7 @@ use Rattle.op_chain.specs.declared.chain.Chain.{Chain}
 use Rattle.op_chain.specs.declared.chain_plan.ChainPlan.{ChainPlan}
 use Rattle.op_chain.specs.declared.renewal.Renewal.{Renewal}
 use Rattle.op_chain.specs.declared.room.Room.{Room}
-use Rattle.op_chain.specs.declared.served.Served.{Served}
+use Rattle.op_deciding.specs.declared.served.Served.{Served}
 use Rattle.op_chain.specs.Waiting.{WaitingSet}
 use Rattle.op_chain.proofs.Adopted.{state_with, state_is}
 use Rattle.op_chain.proofs.Based.{begins_fit, bases_after, based_sound}

@@ -39,14 +39,15 @@ use Rattle.op_protocol.specs.Starting.{first_volatile}
 use Rattle.op_protocol.proofs.Based.{based_decides}
 use Rattle.op_kv.specs.Over.{Written, MapState, service_over}
 use Rattle.op_instance.specs.Memory.{turned_in, adopted_in, part_step_of}
-use Rattle.op_chain.specs.Answering.{replies_to, giving}
+use Rattle.op_deciding.specs.Deciding.{replies_to}
+use Rattle.op_chain.specs.Answering.{giving}
 use Rattle.op_chain.specs.Bringing.{joining_after, joined, IfJoined, turn_beside, turn_holding}
 use Rattle.op_chain.specs.Plans.{service_anew, made_by, waiters_of, waiting_by, based_step, closed_plan, Closes, IfCloses, joined_plan, GoesOn, IfGoesOn}
 use Rattle.op_chain.specs.Waiting.{with_waiters}
 use Rattle.op_chain.specs.declared.chain_plan.ChainPlan.{ChainPlan}
 use Rattle.op_chain.specs.declared.renewal.Renewal.{Renewal}
 use Rattle.op_chain.specs.declared.room.Room.{Room}
-use Rattle.op_chain.specs.declared.served.Served.{Served}
+use Rattle.op_deciding.specs.declared.served.Served.{Served}
 use Rattle.op_chain.proofs.Answered.{served_all}
 
 -- a plan of these

@@ -37,6 +37,7 @@ use Rattle.op_kv.specs.Over.{MapState, nothing_written, service_over}
 use Rattle.op_instance.specs.Memory.{volatile_of, adopted_in, part_step_of, IsKeptBy, HasRoomIn}
 use Rattle.op_instance.specs.Sound.{IsNode, IsSoundStep}
 use Rattle.op_instance.specs.declared.volatile.Volatile.{Volatile}
+use Rattle.op_deciding.specs.Deciding.{IsServed}
 use Rattle.op_chain.specs.Answering as answering
 use Rattle.op_chain.specs.Answering.{giving}
 use Rattle.op_chain.specs.Waiting.{with_waiters}
@@ -278,7 +279,7 @@ IfGoesOn me j s r old new x = (new ≡ old) × (x ≡ None)
 pub record Serves (a : Chain) (old : Plan) (waiters : List (ℕ × ℕ))
     (c : Chain) (new : ChainPlan) : Type 0 where
   pub settled : c.service.waiting ≡ 0
-  pub served : answering.IsServed a.service.service (newly_decided a.durable.part old.batch) new.served
+  pub served : IsServed a.service.service (newly_decided a.durable.part old.batch) new.served
   pub closes :
       IfCloses a.me a.durable.part (service_over a.service.service new.served.change)
       (role_of a.volatile.role) old new.plan new.renewal

@@ -30,26 +30,24 @@ use crate::answering::{give, give_up};
 use crate::brought::Brought;
 use crate::chain_plan::ChainPlan;
 use crate::closing::{given_up_after, push_news};
-use crate::deciding::{decided_after, serve_decided};
 use crate::given::Given;
 use crate::joining::{bringing, turn_holding};
-use crate::letting_go::starved;
 use crate::ready_plan::ReadyPlan;
 use crate::renewal::{Anew, Renewal, begin, push_requests};
 use crate::room::Room;
-use crate::served::Served;
 use crate::trimming::{add_bases, service_at};
 use crate::waiting_set::WaitingSet;
+use op_deciding::{Served, decided_after, serve_decided};
 use op_instance::{Stored, Volatile, first_volatile, spare_volatile, volatile_after_restart};
 use op_kv::Map;
+use op_plans::{put, starved};
 use op_types::{
     Ballot, Batch, Cause, Change, Command, Durable, Input, NoMemory, Outcome, Part, Pid, Plan,
-    Reply, Reserved, StopSign, is_among,
+    PlanParts, Reply, Reserved, StopSign, is_among,
 };
 use std::alloc::Global;
 
 /// A node over its configurations: what is stored, and what it keeps in memory.
-#[derive(Drop)]
 pub struct Chain {
     alloc: Global,
     me: Pid,
@@ -59,6 +57,20 @@ pub struct Chain {
     service: Map,
     /// Who waits for a reply here.
     waiting: WaitingSet,
+}
+
+/// Letting go of it is one call for whoever holds it.
+impl Drop for Chain {
+    fn drop(self) {
+        let Chain {
+            alloc: _,
+            me: _,
+            durable: _,
+            volatile: _,
+            service: _,
+            waiting: _,
+        } = self;
+    }
 }
 
 impl Chain {
@@ -247,10 +259,11 @@ impl Chain {
         self.service.settle()?;
         let mut boxed = ChainPlan::nothing(self.alloc)?;
         let plan = &mut *boxed;
-        plan.plan.turn = turn_holding(&self.durable.joining, batch.as_slice());
+        plan.plan
+            .set_turn(turn_holding(&self.durable.joining, batch.as_slice()));
         plan.plan.batch = batch;
         let renewal = self.go_on(&mut plan.plan, service)?;
-        plan.renewal = renewal;
+        put(&mut plan.renewal, renewal);
         self.waiting.give_up_room();
         plan.make_room()?;
         Ok(ReadyPlan::new(boxed))
@@ -405,13 +418,13 @@ impl Chain {
             replies,
             ..
         } = served;
-        let Plan {
+        let PlanParts {
             batch,
             turn,
             sends,
             replies: given_up,
             outcome,
-        } = plan;
+        } = plan.into_parts();
         let Room {
             replies: mut given,
             mut told,
@@ -471,9 +484,9 @@ impl Chain {
         else {
             return;
         };
-        self.volatile = volatile;
+        put(&mut self.volatile, volatile);
         if let Some(service) = service {
-            self.service = service;
+            put(&mut self.service, service);
         }
         give_up(&mut self.waiting, given, dropped);
     }
@@ -496,7 +509,14 @@ impl Chain {
     pub fn into_durable(self) -> Durable
         ensures { result ≡ (state_of self).durable }
     {
-        let mut durable = self.durable;
+        let Chain {
+            alloc: _,
+            me: _,
+            mut durable,
+            volatile: _,
+            service: _,
+            waiting: _,
+        } = self;
         durable.leave_room();
         durable
     }
@@ -549,12 +569,4 @@ fn service_of(alloc: Global, part: &Option<Part>) -> Result<Map, NoMemory>
         Some(part) => service_at(alloc, part, part.decided),
         None => Ok(Map::new(alloc)),
     }
-}
-
-/// This takes the place of what begins anew.
-#[inline(never)]
-fn put(place: &mut Anew, anew: Anew)
-    ensures { place.new ≡ anew }
-{
-    *place = anew;
 }

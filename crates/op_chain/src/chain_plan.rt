@@ -2,10 +2,10 @@ ghost use Rattle.std.specs.Prelude.{◌≡◌, OnOk, IfOk};
 ghost use Rattle.op_chain.specs.Answering.{no_room};
 ghost use Rattle.op_chain.specs.Plans.{nothing_ready, HasRoomToTell};
 
-use crate::letting_go::starved;
 use crate::renewal::Anew;
 use crate::room::Room;
-use crate::served::Served;
+use op_deciding::Served;
+use op_plans::starved;
 use op_types::{NoMemory, Plan};
 use std::alloc::Global;
 

@@ -10,7 +10,7 @@ ghost use Rattle.op_protocol.specs.Parts.{part_after, decided_since};
 ghost use Rattle.op_protocol.specs.Leader.{given_up_by};
 ghost use Rattle.op_protocol.specs.Configurations.{news_of};
 
-use crate::deciding::{decided_after, trimmed_after};
+use op_deciding::{decided_after, trimmed_after};
 use op_plans::{given_up, push_dropped};
 use op_types::{
     Body, Buffered, Cause, Change, Msg, NoMemory, Part, Replies, Role, Sends, Shared, StopSign,

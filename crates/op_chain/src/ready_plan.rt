@@ -5,9 +5,15 @@ use op_types::{Batch, Sends};
 use std::marker::Model;
 
 /// A plan that is ready: it can be adopted, or dropped. It lies on the heap, so that it is handed on without being moved.
-#[derive(Drop)]
 pub struct ReadyPlan {
     plan: Box<ChainPlan>,
+}
+
+/// Letting go of it is one call for whoever holds it.
+impl Drop for ReadyPlan {
+    fn drop(self) {
+        let ReadyPlan { plan: _ } = self;
+    }
 }
 
 impl Model for ReadyPlan {
@@ -37,7 +43,8 @@ impl ReadyPlan {
     pub(crate) fn into_plan(self) -> ChainPlan
         ensures { result ≡ self }
     {
-        Box::into_inner(self.plan)
+        let ReadyPlan { plan } = self;
+        Box::into_inner(plan)
     }
 
     /// What is to be stored before the plan is adopted.
@@ -58,7 +65,6 @@ impl ReadyPlan {
     pub fn into_batch(self) -> Batch
         ensures { result ≡ self.plan.batch }
     {
-        let plan = self.into_plan().plan;
-        plan.batch
+        self.into_plan().plan.into_parts().batch
     }
 }

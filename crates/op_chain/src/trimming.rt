@@ -6,7 +6,7 @@ ghost use Rattle.op_protocol.specs.Bases.{service_from, service_at};
 ghost use Rattle.op_protocol.specs.Rows.{based, based_batch};
 ghost use Rattle.op_chain.specs.Trimming.{is_trim, trims};
 
-use crate::deciding::{between, index};
+use op_deciding::{between, index};
 use op_kv::Map;
 use op_types::{Batch, Blob, Change, Entry, NoMemory, Part};
 use std::alloc::Global;

@@ -73,7 +73,7 @@ fn promise_higher(member: &Member, role: &Role, ballot: Ballot) -> Result<Plan, 
     let mut plan = member.nothing();
     if member.part.promised.is_below(ballot) {
         plan.batch.push(Change::Promise(ballot))?;
-        plan.turn = Turn::Become(Role::Idle);
+        plan.set_turn(Turn::Become(Role::Idle));
         plan.replies = given_up(member.alloc, role, Cause::Ballot(ballot))?;
     }
     Ok(plan)

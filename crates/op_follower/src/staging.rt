@@ -10,8 +10,8 @@ ghost use Rattle.op_protocol.specs.Follower.{synced_changes, on_first_part, appe
 ghost use Rattle.op_plans.specs.Positions.{FitsPositions};
 ghost use Rattle.op_follower.specs.Staging.{StagedIsAdmitted, DoesStep, HasRoomToStage, telling, appended_body};
 
-use crate::accepting::synced_batch;
 use crate::fronts::{front, whole_sync};
+use op_accepting::synced_batch;
 use op_plans::{Member, push_append};
 use op_types::{Ballot, Body, Entries, Entry, Held, POSITIONS_END, Pid, Plan, SyncRun, Turn};
 use std::alloc::AllocError as NoMemory;
@@ -152,11 +152,5 @@ fn staging(staged: &mut Held, plan: Plan, part: SyncRun, from: u64) -> Result<Pl
     ensures room { IfOk result (λ plan. HasRoomToStage plan.turn staged.new) }
 {
     staged.make_room(part.run.len())?;
-    Ok(Plan {
-        batch: plan.batch,
-        turn: Turn::Stage(part.at, part.run, from),
-        sends: plan.sends,
-        replies: plan.replies,
-        outcome: plan.outcome,
-    })
+    Ok(plan.with_turn(Turn::Stage(part.at, part.run, from)))
 }

@@ -18,7 +18,7 @@ use Rattle.op_protocol.specs.Parts.{nothing}
 use Rattle.op_protocol.specs.Promises.{has_quorum, is_above, is_usable}
 use Rattle.op_protocol.specs.Leader.{adopt, prepares, on_promise, promised_once}
 use Rattle.op_leader.proofs.Adopts.{adopts_for}
-use Rattle.op_leader.proofs.Offers.{promise_of_with}
+use Rattle.op_choosing.proofs.Promises.{promise_of_with}
 
 -- ---- the promise that a part completes
 

@@ -13,7 +13,8 @@ use Rattle.op_types.specs.RoleStates.{stage_of, stages_without, with_stage, with
 use Rattle.op_types.proofs.Elements.{none_some}
 use Rattle.op_types.proofs.Stages.{EachHeld, with_each}
 use Rattle.op_protocol.specs.Parts.{is_run_to}
-use Rattle.op_leader.specs.Adopting.{IsAdmitted, AreStagedWithin}
+use Rattle.op_choosing.specs.Choosing.{IsAdmitted}
+use Rattle.op_leader.specs.Adopting.{AreStagedWithin}
 use Rattle.op_leader.specs.Completing.{IsRun, whole_with}
 use Rattle.op_leader.proofs.Gaps.{run_has, whole_len}
 

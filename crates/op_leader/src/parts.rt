@@ -10,13 +10,14 @@ ghost use Rattle.op_protocol.specs.Parts.{is_run_to};
 ghost use Rattle.op_protocol.specs.Promises.{is_usable, has_quorum};
 ghost use Rattle.op_protocol.specs.Leader.{on_promise_part};
 ghost use Rattle.op_plans.specs.Positions.{FitsPositions};
-ghost use Rattle.op_leader.specs.Adopting.{AreAdmitted, PromisesAreAdmitted, AreStagedWithin, StagesAreAdmitted};
+ghost use Rattle.op_choosing.specs.Choosing.{AreAdmitted};
+ghost use Rattle.op_leader.specs.Adopting.{PromisesAreAdmitted, AreStagedWithin, StagesAreAdmitted};
 ghost use Rattle.op_leader.specs.Completing.{IsRun, takes_part, keeps_part};
 
 use crate::adopting::adopt;
-use crate::choosing::{Offers, is_above};
 use crate::promised::sync_again;
 use crate::staged::{completes, make_stage_room, told_by, whole_promise};
+use op_choosing::{Offers, is_above};
 use op_plans::Member;
 use op_types::{Ballot, Entries, Pid, Plan, Preparing, Promised, PromisedRun, Role, Turn};
 use std::alloc::AllocError as NoMemory;
@@ -100,7 +101,7 @@ fn take_part(
     }
     if !is_usable_whole(member, &part) {
         let mut plan = member.nothing();
-        plan.turn = Turn::DropParts(from);
+        plan.set_turn(Turn::DropParts(from));
         return Ok(plan);
     }
     let told = told_by(from, &part, Entries::new(member.alloc));
@@ -138,7 +139,7 @@ fn keep_part(
     preparing.stages.make_room(1)?;
     preparing.promises.make_room(1)?;
     let mut plan = member.nothing();
-    plan.turn = Turn::KeepPart(from, part, fresh);
+    plan.set_turn(Turn::KeepPart(from, part, fresh));
     Ok(plan)
 }
 

@@ -12,7 +12,7 @@ ghost use Rattle.op_protocol.specs.Parts.{message, to_each};
 ghost use Rattle.op_protocol.specs.Leader.{synced_others, extends, propose, on_forward, forward_body, waiting_as};
 ghost use Rattle.op_plans.specs.Positions.{FitsPositions};
 
-use crate::counting::{count_behind, synced_others};
+use op_counting::{count_behind, synced_others};
 use op_plans::Member;
 use op_types::{
     Ballot, Body, Buffer, Buffered, Change, Entries, Leading, Outcome, POSITIONS_END, Pid, Plan,
@@ -125,7 +125,7 @@ fn buffers(
     ensures room { OnOk result (length entries ≤ preparing.new.buffer.room) }
 {
     preparing.buffer.make_room(entries.len())?;
-    plan.turn = Turn::Buffer(waiting(member.alloc, entries, is_own)?);
+    plan.set_turn(Turn::Buffer(waiting(member.alloc, entries, is_own)?));
     Ok(())
 }
 

@@ -1,18 +1,8 @@
-ghost use Rattle.std.specs.Prelude.{◌≡◌, ◌++◌, ◌∷◌, [], IfOk};
+ghost use Rattle.std.specs.Prelude.{◌≡◌, ◌∷◌, [], IfOk};
 ghost use Rattle.op_plans.specs.Plans.{plan_after};
 
 use op_types::{Batch, Plan, Replies, Sends, Seq};
 use std::alloc::{AllocError as NoMemory, Global};
-
-/// One list after another. Nothing is copied.
-pub fn joined<T: Drop>(prefix: Seq<T>, rest: Seq<T>) -> Result<Seq<T>, NoMemory>
-    ensures { IfOk result (λ all. all ≡ prefix ++ rest) }
-{
-    let mut all = prefix.into_vec();
-    let mut rest = rest.into_vec();
-    all.append(&mut rest)?;
-    Ok(Seq::from_vec(all))
-}
 
 /// A list of one item.
 pub fn one<T: Drop>(alloc: Global, item: T) -> Result<Seq<T>, NoMemory>
@@ -27,11 +17,5 @@ pub fn one<T: Drop>(alloc: Global, item: T) -> Result<Seq<T>, NoMemory>
 pub fn first(batch: Batch, sends: Sends, replies: Replies, plan: Plan) -> Result<Plan, NoMemory>
     ensures { IfOk result (λ x. x ≡ plan_after batch sends replies plan) }
 {
-    Ok(Plan {
-        batch: joined(batch, plan.batch)?,
-        turn: plan.turn,
-        sends: joined(sends, plan.sends)?,
-        replies: joined(replies, plan.replies)?,
-        outcome: plan.outcome,
-    })
+    plan.behind(batch, sends, replies)
 }

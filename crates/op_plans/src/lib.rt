@@ -4,6 +4,7 @@
 mod dropping;
 mod head;
 mod joining;
+mod letting_go;
 mod log;
 mod member;
 mod parts;
@@ -11,6 +12,7 @@ mod sends;
 
 pub use dropping::{given_up, push_dropped};
 pub use head::Head;
-pub use joining::{first, joined, one};
+pub use joining::{first, one};
+pub use letting_go::{let_go, put, starved};
 pub use log::{ends_with_stop, is_stop, push_append, suffix, without_prefix};
 pub use member::Member;

@@ -14,6 +14,7 @@ mod opening;
 
 use crate::happening::{Fate, Foretold};
 use op_executions::{Doing, Done, Told, ballot_lines, pair_lines, push_step_lines};
+use op_plans::put;
 use op_runs::{Line, Lines};
 use op_server::{Given, Server, empty_durable, first_durable};
 use op_types::{Batch, Durable, Input, Members, NoMemory, Outcome, Pid, Refusal, Sends, is_among};
@@ -138,11 +139,12 @@ impl PureNode {
         ensures { IsStopped self.old batch self.new }
     {
         let nothing = Status::Down(empty_durable(), Batch::new(alloc));
-        self.status = match replace(&mut self.status, nothing) {
+        let status = match replace(&mut self.status, nothing) {
             Status::Up(server) => Status::Down(server.into_durable(), batch),
             Status::Down(durable, kept) => Status::Down(durable, kept),
             Status::Failed(server, _, kept) => Status::Down(server.into_durable(), kept),
         };
+        put(&mut self.status, status);
     }
 
     /// Fails, if it is up, with this count of faults, and this batch that it was to store.
@@ -150,10 +152,11 @@ impl PureNode {
         ensures { IsFailed self.old count batch self.new }
     {
         let nothing = Status::Down(empty_durable(), Batch::new(alloc));
-        self.status = match replace(&mut self.status, nothing) {
+        let status = match replace(&mut self.status, nothing) {
             Status::Up(server) => Status::Failed(server, count, batch),
             status => status,
         };
+        put(&mut self.status, status);
     }
 
     /// Tells this, if it isn't down; one that has failed tells its state of before.

@@ -14,13 +14,13 @@ use crate::disks::{
     Areas, armed_down, armed_node, closed_node, left_of, open_areas, told_down, told_node,
 };
 use crate::given::done_by;
-use crate::letting_go::{let_go, starved};
 use crate::node_state::{DownNode, NodeState};
 use crate::plan::Plan;
 use crate::told::Told;
 use op_areas::{Area, Arming};
 use op_executions::Done;
 use op_node::{Given, Node, StepFail};
+use op_plans::{let_go, starved};
 use op_runs::{Line, Lines};
 use op_store::{Returned, StoreFail};
 use op_types::{Durable, Input, Members, NoMemory, Outcome, Pid, Refusal, Sends};

@@ -5,12 +5,12 @@ ghost use Rattle.op_node.specs.Nodes.{node_of};
 ghost use Rattle.op_replay_nodes.specs.Disks.{AreOpened, IsClosedAs, StaysDown, StaysNode};
 ghost use Rattle.op_replay_nodes.specs.Nodes.{StaysSame};
 
-use crate::letting_go::starved;
 use crate::node_state::{DownNode, NodeState};
 use crate::plan::Plan;
 use crate::told::{Faults, Told};
 use op_areas::{Area, Arming, Opening, Stop};
 use op_node::Node;
+use op_plans::starved;
 use op_types::NoMemory;
 use std::alloc::Global;
 

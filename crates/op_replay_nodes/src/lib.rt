@@ -6,7 +6,6 @@ mod became;
 mod disks;
 mod given;
 mod happening;
-mod letting_go;
 mod node_state;
 mod plan;
 mod told;

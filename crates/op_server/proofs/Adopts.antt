@@ -29,6 +29,12 @@ use Rattle.op_server.proofs.Sound.{kept_sound}
 
 -- ---- plans
 
+-- a plan is made of what it is taken apart into
+pub made_of : (plan : ServerPlan) (chain : ChainPlan) (reading : Option Reading) → chain ≡ plan.chain → reading ≡ plan.reading → (let q : ServerPlan = record { chain = chain; reading = reading } in q ≡ plan)
+made_of plan chain reading a b =
+    ap (λ (c : ChainPlan). let q : ServerPlan = record { chain = c; reading = reading } in q) a
+    ∙ ap (λ (r : Option Reading). let q : ServerPlan = record { chain = plan.chain; reading = r } in q) b
+
 -- a plan of a step in which no read waits and none comes
 pub plans_alone : (s : Server) (x : Input) (chain : ChainPlan) (o : Option Reading) → o ≡ None → IsSoundServer s → s.reads ≡ None → is_read x ≡ false → chain_plans.Plans s.chain x chain
     → (let plan : ServerPlan = record { chain = chain; reading = o } in Plans s x plan)

@@ -18,12 +18,22 @@ use op_types::{Ballot, Durable, Given, Input, NoMemory, Pid, Replies};
 use std::alloc::Global;
 
 /// A node over its configurations, with the reads that wait at it.
-#[derive(Drop)]
 pub struct Server {
     pub(crate) alloc: Global,
     pub(crate) chain: Chain,
     /// Those of the ballot that it leads, from the first one on.
     pub(crate) reads: Option<Reads>,
+}
+
+/// Letting go of it is one call for whoever holds it.
+impl Drop for Server {
+    fn drop(self) {
+        let Server {
+            alloc: _,
+            chain: _,
+            reads: _,
+        } = self;
+    }
 }
 
 impl Server {
@@ -119,7 +129,7 @@ impl Server {
         ensures { (x : input.Input) → Plans self.old x plan →
             Adopts self.old (step_plan self.old.chain.me (state_of self.old) x) self.new result }
     {
-        let ServerPlan { chain, reading } = plan;
+        let (chain, reading) = plan.into_parts();
         let given = self.chain.adopt(chain);
         if reading.is_some() {
             return self.adopt_reading(reading, given);
@@ -178,7 +188,12 @@ impl Server {
     pub fn into_durable(self) -> Durable
         ensures { result ≡ (state_of self).durable }
     {
-        self.chain.into_durable()
+        let Server {
+            alloc: _,
+            chain,
+            reads: _,
+        } = self;
+        chain.into_durable()
     }
 
     /// The service, after all that is decided.

@@ -5,7 +5,6 @@ use op_chain::ReadyPlan;
 use op_types::Batch;
 
 /// What a step is to do, with all its room made: it can be adopted, or dropped.
-#[derive(Drop)]
 pub struct ServerPlan {
     /// The step without its reads.
     pub(crate) chain: ReadyPlan,
@@ -13,7 +12,26 @@ pub struct ServerPlan {
     pub(crate) reading: Besides,
 }
 
+/// Letting go of it is one call for whoever holds it.
+impl Drop for ServerPlan {
+    fn drop(self) {
+        let ServerPlan {
+            chain: _,
+            reading: _,
+        } = self;
+    }
+}
+
 impl ServerPlan {
+    /// The step without its reads, and what comes of the reads.
+    pub(crate) fn into_parts(self) -> (ReadyPlan, Besides)
+        ensures chain { result.0 ≡ self.chain }
+        ensures reading { result.1 ≡ self.reading }
+    {
+        let ServerPlan { chain, reading } = self;
+        (chain, reading)
+    }
+
     /// What is to be stored before the plan is adopted.
     pub fn batch(&self) -> &Batch
         ensures { result.now ≡ self.now.chain.plan.batch }
@@ -25,6 +43,7 @@ impl ServerPlan {
     pub fn into_batch(self) -> Batch
         ensures { result ≡ self.chain.plan.batch }
     {
-        self.chain.into_batch()
+        let (chain, _) = self.into_parts();
+        chain.into_batch()
     }
 }

@@ -60,13 +60,9 @@ fn asks(member: &Member, ballot: Ballot) -> Result<Plan, NoMemory>
 fn asking(plan: Plan) -> Plan
     ensures { result ≡ record plan { turn = turn.ClearReports; outcome = Some outcome.Asked } }
 {
-    Plan {
-        batch: plan.batch,
-        turn: Turn::ClearReports,
-        sends: plan.sends,
-        replies: plan.replies,
-        outcome: Some(Outcome::Asked),
-    }
+    let mut plan = plan.with_turn(Turn::ClearReports);
+    plan.outcome = Some(Outcome::Asked);
+    plan
 }
 
 /// What is decided is trimmed at once, where there are no others.

@@ -71,7 +71,7 @@ fn keeps(member: &Member, leading: &mut Leading, report: Report) -> Result<Plan,
 {
     leading.reports.make_room(1)?;
     let mut plan = member.nothing();
-    plan.turn = Turn::KeepReport(report);
+    plan.set_turn(Turn::KeepReport(report));
     Ok(plan)
 }
 
@@ -81,7 +81,7 @@ fn trims_all(member: &Member, x: u64) -> Result<Plan, NoMemory>
         ≡ record (trims_plan member.now.me member.now.part.now x) { turn = turn.ClearReports }) }
 {
     let mut plan = trims(member, x)?;
-    plan.turn = Turn::ClearReports;
+    plan.set_turn(Turn::ClearReports);
     Ok(plan)
 }
 

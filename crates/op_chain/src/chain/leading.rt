@@ -11,9 +11,9 @@ ghost use Rattle.op_chain.specs.Leads.{lead_of, why_closed, why_joined, why_anew
 ghost use Rattle.op_chain.specs.Plans.{planned_by, Plans, service_in};
 
 use super::Chain;
-use crate::deciding::{decided_after, promised_after};
 use crate::lead::{Lead, lead_after, lead_of};
 use crate::ready_plan::ReadyPlan;
+use op_deciding::{decided_after, promised_after};
 use op_types::{Ballot, Blob, Cause, Change};
 
 impl Chain {

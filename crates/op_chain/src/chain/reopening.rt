@@ -5,6 +5,7 @@ ghost use Rattle.op_chain.specs.Chains.{state_of, IsSoundChain, CanOpen};
 
 use super::Chain;
 use op_types::{Durable, NoMemory};
+use std::mem::swap;
 
 impl Chain {
     /// Opens the node again in place, which has stored this: all that it keeps in memory begins anew, but for the clients
@@ -17,15 +18,10 @@ impl Chain {
         ensures sound { OnOk result (IsSoundChain self.new) }
         ensures unchanged { OnErr result (self.new ≡ self.old) }
     {
-        let Chain {
-            durable,
-            volatile,
-            service,
-            ..
-        } = Chain::again(self.alloc, self.me, durable)?;
-        self.durable = durable;
-        self.volatile = volatile;
-        self.service = service;
+        let mut again = Chain::again(self.alloc, self.me, durable)?;
+        swap(&mut self.durable, &mut again.durable);
+        swap(&mut self.volatile, &mut again.volatile);
+        swap(&mut self.service, &mut again.service);
         Ok(())
     }
 }

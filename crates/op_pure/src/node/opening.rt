@@ -12,6 +12,7 @@ ghost use Rattle.op_pure.specs.Nodes.{pure_nodes, found_by, CanFind, HasDone, Is
 use super::{PureNode, Status};
 use crate::happening::{Fate, Foretold};
 use op_executions::Done;
+use op_plans::{put, starved};
 use op_server::{Server, empty_durable, sends_after_restart};
 use op_types::{Batch, Durable, NoMemory, Pid, Sends};
 use std::alloc::Global;
@@ -58,7 +59,7 @@ impl PureNode {
                 server
             }
         };
-        self.status = Status::Up(server);
+        put(&mut self.status, Status::Up(server));
         Ok(done)
     }
 
@@ -98,7 +99,9 @@ fn opened(
         IsOpened pid (starts.state_after_restart pid (found_by finds_after durable batch)) o.0 o.1) }
 {
     let durable = found(durable, batch, finds_after)?;
-    let sends = sends_after_restart(alloc, pid, &durable)?;
+    let Ok(sends) = sends_after_restart(alloc, pid, &durable) else {
+        return Err(starved(durable));
+    };
     let server = Server::again(alloc, pid, durable)?;
     Ok((server, sends))
 }
@@ -114,9 +117,18 @@ fn reopened(
     ensures { IfOk result (λ o. let d = found_by finds_after (state_of server).durable batch in
         IsOpened server.chain.me (runs.state_after_reopening server.chain.me (state_of server) d) o.0 o.1) }
 {
-    let durable = found(server.durable().copy(alloc)?, batch, finds_after)?;
-    let sends = sends_after_restart(alloc, server.me(), &durable)?;
-    server.reopen(durable)?;
+    let Ok(copy) = server.durable().copy(alloc) else {
+        return Err(starved((server, batch)));
+    };
+    let Ok(durable) = found(copy, batch, finds_after) else {
+        return Err(starved(server));
+    };
+    let Ok(sends) = sends_after_restart(alloc, server.me(), &durable) else {
+        return Err(starved((server, durable)));
+    };
+    let Ok(()) = server.reopen(durable) else {
+        return Err(starved((server, sends)));
+    };
     Ok((server, sends))
 }
 
@@ -139,7 +151,9 @@ fn adopted(mut durable: Durable, batch: Batch) -> Result<Durable, NoMemory>
     requires rest { IsAtRest durable }
     ensures { IfOk result (λ d. d ≡ durable_after durable batch) }
 {
-    durable.room_for(&batch)?;
+    let Ok(()) = durable.room_for(&batch) else {
+        return Err(starved((durable, batch)));
+    };
     durable.adopt(batch);
     Ok(durable)
 }

@@ -10,7 +10,7 @@ use Rattle.op_types.specs.declared.role.Stage.{Stage}
 use Rattle.op_types.specs.declared.role.Role.TheVariants as role
 use Rattle.op_types.specs.declared.turn.Turn.TheVariants as turn
 use Rattle.op_protocol.specs.Promises.{has_quorum}
-use Rattle.op_leader.specs.Adopting.{IsAdmitted, AreAdmitted}
+use Rattle.op_choosing.specs.Choosing.{IsAdmitted, AreAdmitted}
 use Rattle.op_leader.specs.Completing.{staged_of, whole_with, takes_part}
 use Rattle.op_leader.proofs.Admitted.{admitted_with}
 use Rattle.op_leader.proofs.Gaps.{whole_len}
@@ -28,7 +28,8 @@ returns-then-not-is_usable_whole-clause-row c =
     let all : is_some o ≡ true =
     ap (λ (l : List Stage). is_some (whole_with (staged_of l q) part)) (sym c.as_slice.ensures) ∙ sym c.completes.ensures ∙ c.if-not-completes.false in
     let unusable : c.is_usable_whole.result ≡ false = c.if-not-is_usable_whole.true in
-    ap (λ (x : Plan). effects_of (role.Preparing c.args.preparing.now) (record x { turn = turn.DropParts q })) c.nothing-plan.ensures
+    ap (λ (x : Plan). effects_of (role.Preparing c.args.preparing.now) x) c.set_turn.ensures
+    ∙ ap (λ (x : Plan). effects_of (role.Preparing c.args.preparing.now) (record x { turn = turn.DropParts q })) c.nothing-plan.ensures
     ∙ is_dropped c.args.member.now.me c.args.member.now.part.now r q part (staged_with r q part) o all
     (λ es is. sym (c.is_usable_whole.ensures q es (whole_len staged part es c.requires.run is)) ∙ unusable)
 

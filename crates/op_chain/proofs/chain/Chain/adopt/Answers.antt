@@ -1,19 +1,22 @@
 use Rattle.std.proofs.Common.{◌≡◌, ◌≤◌, ◌+◌, length, refl, sym, ap, subst, ◌∙◌, arith}
 use Rattle.op_types.specs.Roomed.{Roomed}
 use Rattle.op_types.specs.declared.answers.Reply.{Reply}
+use Rattle.op_types.specs.declared.plan.Plan.{Plan}
 use Rattle.op_spec.specs.Service.{Service}
 use Rattle.op_protocol.specs.State.{Planned}
 use Rattle.op_chain.specs.Plans.{told_anew, service_by, Plans, HasRoomToTell, Adopts}
 use Rattle.op_chain.specs.declared.chain.Chain.{Chain}
 use Rattle.op_chain.specs.declared.chain_plan.ChainPlan.{ChainPlan}
 use Rattle.op_chain.specs.declared.given.Given.{Given}
-use Rattle.op_chain.proofs.Adopted.{rows_few, all_told, Made, plan_adopted}
+use Rattle.op_chain.proofs.Adopted.{of_parts, parts_of, rows_few, all_told, Made, plan_adopted}
 use Rattle.op_chain.proofs.chain.Chain.adopt.Goals as goal
 
 pub add_all-requires : goal.add_all-requires
 add_all-requires c =
-    let plan = c.into_plan-plan.result in
-    let room : HasRoomToTell plan = subst HasRoomToTell (sym c.into_plan-plan.ensures) c.requires.1.room in
+    let is : of_parts c.into_parts-batch.result ≡ c.into_plan-plan.result.plan = parts_of _ _ c.into_parts-batch.ensures.batch c.into_parts-batch.ensures.turn c.into_parts-batch.ensures.sends c.into_parts-batch.ensures.replies c.into_parts-batch.ensures.outcome in
+    let plan : ChainPlan = record c.into_plan-plan.result { plan = of_parts c.into_parts-batch.result } in
+    let whole : plan ≡ c.args.plan = ap (λ (x : Plan). let q : ChainPlan = record c.into_plan-plan.result { plan = x } in q) is ∙ c.into_plan-plan.ensures in
+    let room : HasRoomToTell plan = subst HasRoomToTell (sym whole) c.requires.1.room in
     let few : length c.give_up.new.told.items ≤ length plan.plan.replies =
     rows_few c.let_wait.new.self c.give_up.new.waiting plan.room.told c.give_up.new.told c.args.self.now.waiting.next plan.plan.replies c.let_wait.ensures.waiting room.nobody_told c.give_up.ensures.told in
     let same : length c.into_seq.result ≡ length c.give_up.new.told.items = ap length c.into_seq.ensures in
@@ -23,8 +26,10 @@ add_all-requires c =
 
 pub renew-requires : goal.renew-requires
 renew-requires c =
-    let plan = c.into_plan-plan.result in
-    let room : HasRoomToTell plan = subst HasRoomToTell (sym c.into_plan-plan.ensures) c.requires.1.room in
+    let is : of_parts c.into_parts-batch.result ≡ c.into_plan-plan.result.plan = parts_of _ _ c.into_parts-batch.ensures.batch c.into_parts-batch.ensures.turn c.into_parts-batch.ensures.sends c.into_parts-batch.ensures.replies c.into_parts-batch.ensures.outcome in
+    let plan : ChainPlan = record c.into_plan-plan.result { plan = of_parts c.into_parts-batch.result } in
+    let whole : plan ≡ c.args.plan = ap (λ (x : Plan). let q : ChainPlan = record c.into_plan-plan.result { plan = x } in q) is ∙ c.into_plan-plan.ensures in
+    let room : HasRoomToTell plan = subst HasRoomToTell (sym whole) c.requires.1.room in
     let few : length c.give_up.new.told.items ≤ length plan.plan.replies =
     rows_few c.let_wait.new.self c.give_up.new.waiting plan.room.told c.give_up.new.told c.args.self.now.waiting.next plan.plan.replies c.let_wait.ensures.waiting room.nobody_told c.give_up.ensures.told in
     let same : length c.into_seq.result ≡ length c.give_up.new.told.items = ap length c.into_seq.ensures in
@@ -36,8 +41,10 @@ renew-requires c =
 pub returns : goal.returns
 returns c x before =
     let old = c.args.self.now in
-    let plan = c.into_plan-plan.result in
-    let p : Plans old x plan = subst (λ (q : ChainPlan). Plans old x q) (sym c.into_plan-plan.ensures) before in
+    let is : of_parts c.into_parts-batch.result ≡ c.into_plan-plan.result.plan = parts_of _ _ c.into_parts-batch.ensures.batch c.into_parts-batch.ensures.turn c.into_parts-batch.ensures.sends c.into_parts-batch.ensures.replies c.into_parts-batch.ensures.outcome in
+    let plan : ChainPlan = record c.into_plan-plan.result { plan = of_parts c.into_parts-batch.result } in
+    let whole : plan ≡ c.args.plan = ap (λ (x : Plan). let q : ChainPlan = record c.into_plan-plan.result { plan = x } in q) is ∙ c.into_plan-plan.ensures in
+    let p : Plans old x plan = subst (λ (q : ChainPlan). Plans old x q) (sym whole) before in
     let new = c.renew.new.self in
     let given : Given = record { sends = plan.plan.sends; replies = c.into_seq-2.result; outcome = plan.plan.outcome } in
     let made : Made old plan c.adopt.new.self new given = record {

@@ -6,7 +6,7 @@ use Rattle.op_protocol.specs.State.{Waiting}
 use Rattle.op_protocol.specs.Rows.{based_batch, newly_decided}
 use Rattle.op_spec.specs.Service.{Service}
 use Rattle.op_instance.specs.Memory.{volatile_of, HasRoomIn}
-use Rattle.op_chain.specs.Answering.{IsServed}
+use Rattle.op_deciding.specs.Deciding.{IsServed}
 use Rattle.op_chain.specs.Waiting.{with_waiters}
 use Rattle.op_chain.specs.Plans.{waiters_of, waiting_by, IfMayClose, Serves}
 use Rattle.op_chain.specs.declared.chain.Chain.{Chain}

@@ -6,11 +6,11 @@ use Rattle.op_types.specs.declared.changes.Change.{Change}
 use Rattle.op_spec.specs.Service.{Service}
 use Rattle.op_protocol.specs.Rows.{newly_decided}
 use Rattle.op_kv.specs.Over.{nothing_written, service_over}
-use Rattle.op_chain.specs.Answering.{ServesNothing, IsServed}
+use Rattle.op_deciding.specs.Deciding.{ServesNothing, IsServed}
 use Rattle.op_chain.specs.Plans.{HasRoomToTell, IfCloses, Serves}
 use Rattle.op_chain.specs.declared.chain.Chain.{Chain}
 use Rattle.op_chain.specs.declared.chain_plan.ChainPlan.{ChainPlan}
-use Rattle.op_chain.specs.declared.served.Served.{Served}
+use Rattle.op_deciding.specs.declared.served.Served.{Served}
 use Rattle.op_chain.proofs.Steps.{chain_plan}
 use Rattle.op_chain.proofs.chain.Chain.serve.Goals as goal
 

@@ -7,15 +7,15 @@ use Rattle.op_pure.proofs.node.opening.adopted.Goals as goal
 
 pub adopt-requires-clause-applies : goal.adopt-requires-clause-applies
 adopt-requires-clause-applies c =
-    let serves = room_serves c.args.durable c.args.batch c.requires.applies c.in_ok-room_for.ensures.plain c.requires.rest in
-    subst (λ (d : Durable). Applies d c.args.batch) (sym c.in_ok-room_for.ensures.ok) serves.applies
+    let serves = room_serves c.args.durable c.args.batch c.requires.applies c.in-Ok.ensures.plain c.requires.rest in
+    subst (λ (d : Durable). Applies d c.args.batch) (sym c.in-Ok.ensures.ok) serves.applies
 
 pub adopt-requires-clause-room : goal.adopt-requires-clause-room
 adopt-requires-clause-room c =
-    let serves = room_serves c.args.durable c.args.batch c.requires.applies c.in_ok-room_for.ensures.plain c.requires.rest in
-    subst (λ (d : Durable). HasRoomFor c.args.batch d) (sym c.in_ok-room_for.ensures.ok) serves.room
+    let serves = room_serves c.args.durable c.args.batch c.requires.applies c.in-Ok.ensures.plain c.requires.rest in
+    subst (λ (d : Durable). HasRoomFor c.args.batch d) (sym c.in-Ok.ensures.ok) serves.room
 
 pub returns : goal.returns
 returns c =
-    let serves = room_serves c.args.durable c.args.batch c.requires.applies c.in_ok-room_for.ensures.plain c.requires.rest in
-    c.adopt.ensures ∙ ap (λ (d : Durable). with_room no_needs (durable_after d c.args.batch)) c.in_ok-room_for.ensures.ok ∙ serves.same
+    let serves = room_serves c.args.durable c.args.batch c.requires.applies c.in-Ok.ensures.plain c.requires.rest in
+    c.adopt.ensures ∙ ap (λ (d : Durable). with_room no_needs (durable_after d c.args.batch)) c.in-Ok.ensures.ok ∙ serves.same

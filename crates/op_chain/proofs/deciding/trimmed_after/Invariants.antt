@@ -1,6 +1,0 @@
-use Rattle.std.proofs.Common.{◌≡◌, take}
-use Rattle.op_protocol.specs.Parts.{part_after}
-use Rattle.op_chain.proofs.deciding.trimmed_after.Given as goal
-
-abbrev pub invariant-changes : goal.invariant-changes
-invariant-changes l = l.trimmed ≡ (part_after l.part (take l.change-index l.batch)).trimmed

@@ -1,6 +1,0 @@
-use Rattle.std.proofs.Common.{take}
-use Rattle.op_chain.specs.Answering.{Continues}
-use Rattle.op_chain.proofs.served.Served.serve.Given as goal
-
-abbrev pub invariant-entries : goal.invariant-entries
-invariant-entries l = Continues l.service.service l.initial.self l.self (take l.entry-index l.entries)

@@ -1,0 +1,6 @@
+use Rattle.std.proofs.Common.{◌≡◌, take}
+use Rattle.op_protocol.specs.Parts.{part_after}
+use Rattle.op_deciding.proofs.deciding.decided_after.Given as goal
+
+abbrev pub invariant-changes : goal.invariant-changes
+invariant-changes l = l.decided ≡ (part_after l.part (take l.change-index l.batch)).decided
