@@ -1,5 +1,5 @@
 -- Each step of a node is in range.
-use Rattle.std.proofs.Common.{◌≡◌, ◌≤◌, ◌<◌, ◌⊎◌, inl, inr, ℕ, true, false, not, cond, ltb, eqb, nat_eq, ◌&&◌, ◌||◌, is_some, List, [], ◌∷◌, Option, Some, None, refl, sym, subst, arith, All}
+use Rattle.std.proofs.Common.{◌≡◌, ◌≤◌, ◌<◌, ◌⊎◌, inl, inr, ℕ, true, false, not, cond, ltb, eqb, nat_eq, ◌&&◌, ◌||◌, is_some, List, [], ◌∷◌, Option, Some, None, refl, sym, subst, arith, All, ap, ◌∙◌}
 use Rattle.std.specs.Prelude.{IfSome}
 use Rattle.std.specs.Set.{is_member}
 use Rattle.std.proofs.lemmas.Bool.{cond_both, ltb-true, and_parts, cases_lt, true≢false}
@@ -41,6 +41,7 @@ use Rattle.op_bounds.specs.Messages.{AreIds, MembersOf, BodyInRange, least_conf_
 use Rattle.op_bounds.specs.States.{ClosedOf, DurableOf, IsNamed, RoleInRange, VolatileInRange, VolatileEndsNowhere, StateInRange}
 use Rattle.op_bounds.specs.Laws.{StepsStayInRange}
 use Rattle.op_record.specs.Ranges.{ClosedInRange}
+use Rattle.op_bounds.proofs.Effects.{all_at}
 use Rattle.op_bounds.proofs.ReadBases.{ServiceIn}
 use Rattle.op_bounds.proofs.Entries.{AreProposed, proposed_commands, proposed_one, admitted_stops}
 use Rattle.op_bounds.proofs.Batches.{PartIn, part_in}
@@ -316,8 +317,22 @@ module _ (Known : ℕ → Type 0) (ids : AreIds Known) (me : ℕ) (one : Known m
   trimmed None d stops = answered None (Some outcome.NotLeading) d stops tt
   trimmed (Some p) d stops = trim_here Known ids me one p l j v t w d in_volatile stops in_service others
 
-  begun : (o : Option Part) (x : Option Joining) (q : ℕ) → Stored o → Stops o → Plan o (up_at me o x v q)
-  begun None x q d stops = still None d stops
+  -- the news where a session begins
+  told_at_up : (q : ℕ) → Stored None → All (SendInRange Known) (on_older (stored None l j) l q)
+  told_at_up q d = by l refl
+    where
+      by : (x : Option Closed) → l ≡ x → All (SendInRange Known) (on_older (stored None l j) x q)
+      by None e = All-nil (SendInRange Known)
+      by (Some x) e =
+          let list : ClosedIn Known x = closed_here x None d.range.closed d.closed e in
+          cond_both (is_member nat_eq (latest_members (stored None l j)) q) (next_conf_message x q ∷ []) [] (All (SendInRange Known))
+          (λ h. All-cons (SendInRange Known) (next_conf_message x q) []
+          (news_in Known x list q (all_at Known x.next q list.of.next (sym (ap (λ (c : Option Closed). is_member nat_eq (latest_members (stored None c j)) q) e) ∙ h))) (All-nil (SendInRange Known)))
+          (λ _. All-nil (SendInRange Known))
+
+  begun : (o : Option Part) (x : Option Joining) (q : ℕ) → Stored o → Stops o → Plan o (up_at me (stored o l j) o x v q)
+  begun None None q d stops = quiet None (on_older (stored None l j) l q) d stops (told_at_up q d)
+  begun None (Some x) q d stops = still None d stops
   begun (Some p) (Some x) q d stops = still (Some p) d stops
   begun (Some p) None q d stops = up_here Known ids me one p l j v t w d in_volatile stops in_service others q
 

@@ -1,5 +1,5 @@
 -- A tick, heartbeats and refusals are in range.
-use Rattle.std.proofs.Common.{◌≤◌, ◌+◌, ℕ, Bool, true, false, not, cond, ltb, eqb, ◌&&◌, List, [], ◌∷◌, length, Option, Some, None, arith, All}
+use Rattle.std.proofs.Common.{◌≤◌, ◌+◌, ℕ, Bool, true, false, not, cond, ltb, eqb, ◌&&◌, List, [], ◌∷◌, ◌++◌, filter, length, Option, Some, None, arith, All}
 use Rattle.std.specs.Prelude.{IfSome}
 use Rattle.std.proofs.lemmas.Bool.{cond_both, ltb-true}
 use Rattle.std.proofs.lemmas.List.Elements.{All-nil, All-cons, All-append, All-filter}
@@ -19,12 +19,13 @@ use Rattle.op_types.specs.declared.messages.Heard.{Heard}
 use Rattle.op_types.specs.declared.messages.Msg.{Msg}
 use Rattle.op_types.specs.declared.verdict.Verdict.{Verdict}
 use Rattle.op_types.specs.declared.verdict.Verdict.TheVariants as verdict
-use Rattle.op_protocol.specs.Heartbeats.{next_round, without, heard_with, heard_in, is_other}
+use Rattle.op_protocol.specs.Heartbeats.{next_round, has_replied, without, heard_with, heard_in, is_other}
 use Rattle.op_protocol.specs.Election.{Candidate, Ended, winner, least, raised_ballot, hears_majority, too_low, decided_by, round_end}
 use Rattle.op_protocol.specs.State.{Volatile, PartStep, raises_promise, staged_after, with_effects}
 use Rattle.op_protocol.specs.Parts.{message, others, first}
 use Rattle.op_protocol.specs.Leader.{lead}
-use Rattle.op_protocol.specs.Tick.{candidate_of, next_round_state, requests, remembering, with_floor_at, only_asks, elected, by_verdict, on_tick, on_heartbeat_request, on_heartbeat_reply, on_refuse}
+use Rattle.op_protocol.specs.Tick.{candidate_of, next_round_state, requests, remembering, with_floor_at, only_asks, elected, by_verdict, asks_heard, on_tick, on_heartbeat_request, on_heartbeat_reply, on_refuse}
+use Rattle.op_protocol.proofs.TickCases.{begun_at, tick_cases}
 use Rattle.op_bounds.specs.Messages.{AreIds, BallotOf, SendInRange, ReplyInRange, OutcomeInRange}
 use Rattle.op_bounds.specs.States.{HeardInRange, StagedInRange, VolatileInRange, VolatileEndsNowhere}
 use Rattle.op_bounds.proofs.Batches.{PartIn, BatchFits}
@@ -179,16 +180,21 @@ module _ (Known : ℕ → Type 0) (ids : AreIds Known) (me : ℕ) (one : Known m
   requests_said : (round : ℕ) → round ≤ greatest_number → All (SendInRange Known) (requests me p round)
   requests_said round small = send_each Known p.conf (others me p.members) (body.HeartbeatRequest round) k.range.conf (omega arith) (omega arith) (others_all Known me p k) small
 
+  heard_asked : (heard : List Heard) → All (SendInRange Known) (asks_heard me p heard)
+  heard_asked heard =
+      send_each Known p.conf (filter (λ q. has_replied heard q) (others me p.members)) body.PrepareReq k.range.conf (omega arith) (omega arith)
+      (All-filter (λ q. has_replied heard q) Known (others me p.members) (others_all Known me p k)) tt
+
   asks_in : (v : Volatile) → VolatileIn Known p.conf v → PartStepInRange Known p (only_asks me p v)
   asks_in v in_volatile = remembering_in Known p v (requests me p v.round) in_volatile (requests_said v.round in_volatile.range.round)
 
   elected_in : (v : Volatile) (n : Ballot) → VolatileIn Known p.conf v → BallotOf Known n → PartStepInRange Known p (elected me p v n)
   elected_in v n in_volatile of =
-      cond_both (is_below p.promised n) (with_effects v (first [] (requests me p v.round) [] (lead me p v.role n))) (only_asks me p (with_floor_at v p.promised)) (PartStepInRange Known p)
+      cond_both (is_below p.promised n) (with_effects v (first [] (requests me p v.round) [] (lead me p v.role n))) (only_asks me p v) (PartStepInRange Known p)
       (λ _. effects_in Known p 6 v (first [] (requests me p v.round) [] (lead me p v.role n)) (omega arith) in_volatile
       (row_first Known p.conf p 6 6 [] (requests me p v.round) [] (lead me p v.role n) tt (omega arith) (requests_said v.round in_volatile.range.round) (All-nil (ReplyInRange Known))
       (lead_in Known me p k v.role n (role_of Known p.conf v in_volatile) of)))
-      (λ _. asks_in (with_floor_at v p.promised) (floor_in Known p.conf v p.promised in_volatile k.promised))
+      (λ _. asks_in v in_volatile)
 
   verdict_in : (v : Volatile) (o : Verdict) → VolatileIn Known p.conf v → VerdictIn Known o → PartStepInRange Known p (by_verdict me p v o)
   verdict_in v verdict.Nobody in_volatile of = asks_in v in_volatile
@@ -200,7 +206,8 @@ module _ (Known : ℕ → Type 0) (ids : AreIds Known) (me : ℕ) (one : Known m
   tick_in v in_volatile =
       let e : Ended = round_end (candidate_of me p v) v.heard in
       let ended : EndedIn Known e = round_end_in Known (candidate_of me p v) v.heard ids (record { me = one; own = in_volatile.range.own; leader = in_volatile.range.leader; floor = in_volatile.range.floor }) in_volatile.range.heard in
-      verdict_in (next_round_state v e.after) e.verdict
+      let begun : VolatileIn Known p.conf (begun_at me p v) =
+      floor_in Known p.conf (next_round_state v e.after) p.promised
       (record {
         range = record {
           own = ended.after.own;
@@ -214,7 +221,10 @@ module _ (Known : ℕ → Type 0) (ids : AreIds Known) (me : ℕ) (one : Known m
         };
         stops = record { role = in_volatile.stops.role; staged = in_volatile.stops.staged };
       })
-      ended.verdict
+      k.promised in
+      tick_cases (PartStepInRange Known p) me p v (λ _. verdict_in (begun_at me p v) e.verdict begun ended.verdict)
+      (λ _. remembering_in Known p (begun_at me p v) (requests me p (begun_at me p v).round ++ asks_heard me p v.heard) begun
+      (All-append (SendInRange Known) (requests me p (begun_at me p v).round) (asks_heard me p v.heard) (requests_said (begun_at me p v).round begun.range.round) (heard_asked v.heard)))
 
   -- ---- messages
   pub request_in : (v : Volatile) (q round : ℕ) → VolatileIn Known p.conf v → Known q → round ≤ greatest_number → PartStepInRange Known p (on_heartbeat_request p v q round)

@@ -10,7 +10,7 @@ use Rattle.op_paxos.specs.Worlds as paxos
 use Rattle.op_configurations.proofs.Among.{In}
 use Rattle.op_paxos.specs.Nodes.{Node}
 use Rattle.op_paxos.specs.Messages.{Effect}
-use Rattle.op_paxos.specs.Worlds.{Input, Elected, Proposal, Comes, Up, Down, Starts, TrimNow}
+use Rattle.op_paxos.specs.Worlds.{Input, Elected, Proposal, Comes, Up, CutOff, Down, Starts, TrimNow}
 use Rattle.op_paxos.specs.Agreement.{decided_log}
 use Rattle.op_paxos.proofs.Membership.{in_append}
 use Rattle.op_paxos.proofs.TrimBound.{trims}

@@ -11,7 +11,7 @@ use Rattle.op_paxos.specs.Worlds as paxos
 use Rattle.op_configurations.proofs.Among.{In}
 use Rattle.op_paxos.specs.Agreement.{IsPrefix, decided_log}
 use Rattle.op_paxos.proofs.Updates.{upd_at, upd_both}
-use Rattle.op_configurations.specs.Servers.{Part, State, Fate, Ticks, Proposes, Trims, Links, Unlinks, Reads, may_propose, ReadsLong}
+use Rattle.op_configurations.specs.Servers.{Part, State, Fate, Ticks, TicksAlone, Proposes, Trims, Links, Unlinks, Reads, may_propose, ReadsLong}
 use Rattle.op_configurations.specs.Worlds.{Life, Running, Down, World, Happening, At, Delivers, Stops, Opens, happens, run, start, entries_in, decided_in, actor, proposed_in, proposed_at, proposed_by, shown_by, machine_showing, machine_with, machine_after, machine_of, DeliversLong}
 use Rattle.op_configurations.proofs.Fronts.{none_some, some_same, front_refl, front_trans, front_nil, front_same, either_shorter}
 use Rattle.op_configurations.proofs.Runs.{told_here, told_fronts, decided_length}
@@ -102,6 +102,7 @@ module _ (m : Machine) (t : Tale) (w : World) where
 
   proposing : (h : Happening) → Proposed m (proposed_by m w h) t w h
   proposing (At f p (Ticks n)) = (same_machine m, tt)
+  proposing (At f p (TicksAlone heard)) = (same_machine m, tt)
   proposing (At f p (Proposes e)) = proposes f p e (w.servers p).life ((w.servers p).state).part refl refl
   proposing (At f p Trims) = (same_machine m, tt)
   proposing (At f p (Links q)) = (same_machine m, tt)

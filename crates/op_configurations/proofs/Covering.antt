@@ -7,7 +7,7 @@ use Rattle.std.proofs.lemmas.Bool.{cond_both, cases_eq, cases_Bool, eq-eqb, ne_e
 use Rattle.op_types.specs.declared.log.Entry.{Entry}
 use Rattle.op_spec.specs.Machine.{Machine, IsSame, first_machine, with_at}
 use Rattle.op_paxos.proofs.Updates.{upd_other}
-use Rattle.op_configurations.specs.Servers.{Part, State, Letter, Fate, Done, Stopped, Event, Reads, new_part, may_propose, Proposes, Ticks, Trims, Links, Unlinks, ReadsLong}
+use Rattle.op_configurations.specs.Servers.{Part, State, Letter, Fate, Done, Stopped, Event, Reads, new_part, may_propose, Proposes, Ticks, TicksAlone, Trims, Links, Unlinks, ReadsLong}
 use Rattle.op_configurations.specs.Worlds.{Life, Running, Down, Server, World, Happening, At, Delivers, Stops, Opens, is_letter, stepped, at_server, delivered, stops, opened, opens, happens, run, start, decided_in, entries_in, has_part, machine_showing, reader, actor, proposed_in, proposed_at, proposed_by, shown_by, machine_with, machine_after, machine_of, DeliversLong}
 use Rattle.op_configurations.proofs.Fronts.{none_some, some_same, front_length}
 use Rattle.op_configurations.proofs.Rising.{entries_told}
@@ -83,6 +83,7 @@ proposed_known m w (At f p e) P a b = at_event e (w.servers p).life
     at_event (Proposes e) Running = cond_both (may_propose p (w.servers p).state (w.servers p).state.part e) (proposed_in m (w.servers p).state.part e) m P (λ _. in_part e (w.servers p).state.part) (λ _. a)
     at_event (Proposes e) (Down o) = a
     at_event (Ticks n) l = a
+    at_event (TicksAlone heard) l = a
     at_event Trims l = a
     at_event (Links r) l = a
     at_event (Unlinks r) l = a

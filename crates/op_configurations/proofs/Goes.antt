@@ -13,7 +13,7 @@ use Rattle.op_paxos.specs.Agreement.{decided_log}
 use Rattle.op_paxos.proofs.Updates.{upd_both}
 use Rattle.op_paxos.proofs.Membership.{in_append}
 use Rattle.op_paxos.proofs.Membership.{in_from_get}
-use Rattle.op_configurations.specs.Servers.{fresh, Part, State, Letter, Stepped, unchanged, Fate, Done, Stopped, Event, Ticks, Proposes, Trims, Links, Unlinks, Reads, new_part, restarted, step, decided_list, latest, ReadsLong, without_stage, without_pieces, Joining}
+use Rattle.op_configurations.specs.Servers.{fresh, Part, State, Letter, Stepped, unchanged, Fate, Done, Stopped, Event, Ticks, TicksAlone, Proposes, Trims, Links, Unlinks, Reads, new_part, restarted, step, decided_list, latest, ReadsLong, without_stage, without_pieces, Joining}
 use Rattle.op_configurations.specs.Worlds.{Life, Running, Down, Server, World, Happening, At, Delivers, Stops, Opens, with_server, stepped, at_server, delivered, stops, found, opening_fate, opened, opens, happens, start, entries_in, reader, actor, inner_of, events_in, DeliversLong}
 use Rattle.op_configurations.proofs.Fronts.{none_some, some_same}
 use Rattle.op_configurations.proofs.Tale.{Tale, inst, TaleOk, PartOk, Before, StateOk, LetterOk, EventOk, Onward, same_onward, onward_on, letter_on, event_on, state_on, JoiningOk}
@@ -245,6 +245,7 @@ module _ (first : List ℕ) (pr : ℕ → List Entry) (t : Tale) (w : World) (go
   pub happens_goes : (h : Happening) → FairAt pr t w h → Goes first pr t w (happens w h) (actor w h)
   unfolding happens
   happens_goes (At f p (Ticks n)) k = at_goes f p (w.servers p).life (Ticks n) refl (λ x. tt)
+  happens_goes (At f p (TicksAlone heard)) k = at_goes f p (w.servers p).life (TicksAlone heard) refl (λ x. tt)
   happens_goes (At f p (Proposes e)) k = at_goes f p (w.servers p).life (Proposes e) refl k
   happens_goes (At f p Trims) k = at_goes f p (w.servers p).life Trims refl (λ x. tt)
   happens_goes (At f p (Links q)) k = at_goes f p (w.servers p).life (Links q) refl (λ x. tt)
@@ -273,6 +274,7 @@ widened first pr pr' t w up good =
     event_up p st (ReadsLong n total m) h = h
     event_up p st (Proposes es) h = λ pt has b e i. up pt.conf e (h pt has b e i)
     event_up p st (Ticks n) h = tt
+    event_up p st (TicksAlone heard) h = tt
     event_up p st Trims h = tt
     event_up p st (Links q) h = tt
     event_up p st (Unlinks q) h = tt

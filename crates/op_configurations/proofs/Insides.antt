@@ -6,8 +6,8 @@ use Rattle.std.proofs.lemmas.Bool.{cond_both, eqb-true}
 use Rattle.op_types.specs.declared.log.Entry.{Entry}
 use Rattle.op_paxos.specs.Worlds as paxos
 use Rattle.op_paxos.specs.Messages.{Msg, Packet, packet}
-use Rattle.op_paxos.specs.Worlds.{Input, Elected, Proposal, Comes, Up, Down, Starts, TrimNow}
-use Rattle.op_configurations.specs.Servers.{Part, Closed, Joining, State, Letter, Body, Inner, HeartbeatRequest, HeartbeatReply, NextConf, AskBase, BasePart, BasePiece, AskSegment, Segment, Fate, Done as ServerDone, Stopped as ServerStopped, Stepped, Inside, Event, Ticks, Proposes, Trims, Links, Unlinks, Reads, acted, acted_in, restarted, started, based, got_segment, inner, answers_beat, takes, is_request, sought, seeks, reads, is_for_joining, is_ahead, latest, latest_in, led, ticks_in, links_in, step, may_propose, ReadsLong, BaseStage, has_all, completed, is_piece, pieced, asks_base, answers_long}
+use Rattle.op_paxos.specs.Worlds.{Input, Elected, Proposal, Comes, Up, CutOff, Down, Starts, TrimNow}
+use Rattle.op_configurations.specs.Servers.{Part, Closed, Joining, State, Letter, Body, Inner, HeartbeatRequest, HeartbeatReply, NextConf, AskBase, BasePart, BasePiece, AskSegment, Segment, Fate, Done as ServerDone, Stopped as ServerStopped, Stepped, Inside, Event, Ticks, TicksAlone, Proposes, Trims, Links, Unlinks, Reads, acted, acted_in, restarted, started, based, got_segment, inner, answers_beat, takes, is_request, sought, seeks, reads, is_for_joining, is_ahead, latest, latest_in, led, ticks_in, ticks_alone_in, links_in, step, may_propose, ReadsLong, BaseStage, has_all, completed, is_piece, pieced, asks_base, answers_long}
 use Rattle.op_configurations.specs.Worlds.{inner_of, place_in, with_fate, plain_event, event_in}
 use Rattle.op_configurations.proofs.Inside.{inner_place}
 
@@ -42,6 +42,9 @@ comes_starts q m e = cc
 
 up_starts : (q : ℕ) → Up q ≡ Starts → ⊥
 up_starts q e = cc
+
+cut_off_starts : (heard : ℕ → Bool) → CutOff heard ≡ Starts → ⊥
+cut_off_starts heard e = cc
 
 down_starts : (q : ℕ) → Down q ≡ Starts → ⊥
 down_starts q e = cc
@@ -167,6 +170,11 @@ module _ (f : Fate) (p : ℕ) (st : State) (above : (j : Joining) → st.joining
   ticks_shape e None None has n = nothing e
   ticks_shape e None (Some pt) has n = led_shape e pt has n
 
+  ticks_alone_shape : (e : Event) (j : Option Joining) (o : Option Part) → st.part ≡ o → (heard : ℕ → Bool) → Shape f st e (ticks_alone_in f p st j o heard).inside
+  ticks_alone_shape e (Some j) o has heard = nothing e
+  ticks_alone_shape e None None has heard = nothing e
+  ticks_alone_shape e None (Some pt) has heard = acted_shape e f pt has 0 (CutOff heard) (cut_off_starts heard) tt
+
   links_shape : (e : Event) (j : Option Joining) (q : ℕ) (o : Option Part) → st.part ≡ o → Shape f st e (links_in f p st j q o).inside
   links_shape e (Some j) q o has = nothing e
   links_shape e None q None has = nothing e
@@ -176,6 +184,7 @@ module _ (f : Fate) (p : ℕ) (st : State) (above : (j : Joining) → st.joining
   pub step_shape : (e : Event) → Shape f st e (step f p st e).inside
   unfolding step
   step_shape (Ticks n) = ticks_shape (Ticks n) st.joining st.part refl n
+  step_shape (TicksAlone heard) = ticks_alone_shape (TicksAlone heard) st.joining st.part refl heard
   step_shape (Proposes es) = either (Proposes es) (may_propose p st st.part es) _ _ (acted_in_shape (Proposes es) st.part refl (Proposal es) (proposal_starts es) (λ c. tt)) (nothing (Proposes es))
   step_shape Trims = acted_in_shape Trims st.part refl TrimNow trim_starts (λ c. tt)
   step_shape (Links q) = links_shape (Links q) st.joining q st.part refl
@@ -211,6 +220,7 @@ taken_as soup p e sent c x here caused V packets = same_input x.fate V (plain_ev
     by (Elected n) k = refl
     by (Proposal es) k = refl
     by (Up q) k = refl
+    by (CutOff heard) k = refl
     by (Down q) k = refl
     by Starts k = refl
     by TrimNow k = refl

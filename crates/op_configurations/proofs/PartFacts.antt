@@ -5,7 +5,7 @@ use Rattle.op_spec.specs.Machine.{stop_at_end}
 use Rattle.op_paxos.specs.Nodes.{Node}
 use Rattle.op_paxos.specs.Messages.{Packet, packet}
 use Rattle.op_paxos.specs.Worlds as paxos
-use Rattle.op_paxos.specs.Worlds.{Input, Elected, Proposal, Comes, Up, Down, Starts, TrimNow, stepped, step}
+use Rattle.op_paxos.specs.Worlds.{Input, Elected, Proposal, Comes, Up, CutOff, Down, Starts, TrimNow, stepped, step}
 use Rattle.op_paxos.proofs.Updates.{upd_at}
 use Rattle.op_paxos.proofs.Tidy.{Tidy}
 use Rattle.op_paxos.proofs.Agreeing.{log_tidy, decided_in_log}
@@ -52,6 +52,7 @@ module _ (members : List ℕ) (es : List paxos.Event) (p : ℕ) where
   by_input (Elected n) c = after_event 0 (Elected n) tt
   by_input (Proposal e) c = after_event 0 (Proposal e) tt
   by_input (Up q) c = after_event 0 (Up q) tt
+  by_input (CutOff heard) c = after_event 0 (CutOff heard) tt
   by_input (Down q) c = after_event 0 (Down q) tt
   by_input Starts c = after_event 0 Starts tt
   by_input TrimNow c = after_event 0 TrimNow tt

@@ -6,7 +6,7 @@ use Rattle.op_types.specs.declared.log.Entry.{Entry}
 use Rattle.op_configurations.proofs.Among.{In}
 use Rattle.op_paxos.proofs.Tidy.{Tidy}
 use Rattle.op_paxos.specs.Messages.{Packet, Effect}
-use Rattle.op_paxos.specs.Worlds.{Input, Elected, Proposal, Comes, Up, Down, Starts, TrimNow, World, Event, Delivers, stepped, step, input_of, taken_by, applied, stopped, happens, run, start}
+use Rattle.op_paxos.specs.Worlds.{Input, Elected, Proposal, Comes, Up, CutOff, Down, Starts, TrimNow, World, Event, Delivers, stepped, step, input_of, taken_by, applied, stopped, happens, run, start}
 use Rattle.op_paxos.specs.Agreement.{IsPrefix, decided_log, proposed_by, proposals}
 use Rattle.op_paxos.proofs.Agreeing.{run_append, agree, decided_tidy}
 use Rattle.op_paxos.proofs.TrimBound.{trims, never_falls}
@@ -104,6 +104,7 @@ acts ms w p i Done (Elected n) k = refl
 acts ms w p i Done (Proposal e) k = refl
 acts ms w p i Done (Comes q m) k = ap (λ (o : Option Packet). applied ms w (λ (o : Effect). o) (taken_by w (Delivers i) o)) k
 acts ms w p i Done (Up q) k = refl
+acts ms w p i Done (CutOff heard) k = refl
 acts ms w p i Done (Down q) k = refl
 acts ms w p i Done Starts k = refl
 acts ms w p i Done TrimNow k = refl
@@ -111,6 +112,7 @@ acts ms w p i Stopped (Elected n) k = refl
 acts ms w p i Stopped (Proposal e) k = refl
 acts ms w p i Stopped (Comes q m) k = ap (λ (o : Option Packet). applied ms w stopped (taken_by w (Delivers i) o)) k
 acts ms w p i Stopped (Up q) k = refl
+acts ms w p i Stopped (CutOff heard) k = refl
 acts ms w p i Stopped (Down q) k = refl
 acts ms w p i Stopped Starts k = refl
 acts ms w p i Stopped TrimNow k = refl
@@ -120,6 +122,7 @@ acts_proposed p i Done (Elected n) = refl
 acts_proposed p i Done (Proposal e) = refl
 acts_proposed p i Done (Comes q m) = refl
 acts_proposed p i Done (Up q) = refl
+acts_proposed p i Done (CutOff heard) = refl
 acts_proposed p i Done (Down q) = refl
 acts_proposed p i Done Starts = refl
 acts_proposed p i Done TrimNow = refl
@@ -127,6 +130,7 @@ acts_proposed p i Stopped (Elected n) = refl
 acts_proposed p i Stopped (Proposal e) = refl
 acts_proposed p i Stopped (Comes q m) = refl
 acts_proposed p i Stopped (Up q) = refl
+acts_proposed p i Stopped (CutOff heard) = refl
 acts_proposed p i Stopped (Down q) = refl
 acts_proposed p i Stopped Starts = refl
 acts_proposed p i Stopped TrimNow = refl

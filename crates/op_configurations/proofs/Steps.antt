@@ -11,9 +11,9 @@ use Rattle.op_paxos.specs.Messages.{Msg, packet}
 use Rattle.op_paxos.specs.Worlds as paxos
 use Rattle.op_configurations.proofs.Among.{In}
 use Rattle.op_paxos.specs.Messages.{Packet}
-use Rattle.op_paxos.specs.Worlds.{Input, Elected, Proposal, Comes, Up, Down, Starts, TrimNow}
+use Rattle.op_paxos.specs.Worlds.{Input, Elected, Proposal, Comes, Up, CutOff, Down, Starts, TrimNow}
 use Rattle.op_paxos.specs.Agreement.{decided_log}
-use Rattle.op_configurations.specs.Servers.{Part, Closed, Base, Joining, State, Letter, Body, Inner, HeartbeatRequest, HeartbeatReply, NextConf, AskBase, BasePart, BasePiece, AskSegment, Segment, letter, Fate, latest, latest_members, to_all, new_part, next_conf, acted, acted_in, restarted, with_joining, invited, covered, base_place, joined_list, started, start_if_whole, based, held_with, got_segment, BaseStage, staged_piece, has_all, completed, is_piece, pieced, pieces_from, gives_pieces, asks_base, answers_long, donors_at, ask_parts, best_donor, asks_of, asks, gives_base, gives_segment, refers, is_for_joining, is_ahead, inner, answers_beat, takes, is_request, sought, seeks, Done, Stopped, reads, held_run, Event, Ticks, Proposes, Trims, Links, Unlinks, Reads, ReadsLong, may_propose, led, ticks_in, links_in, step, may_propose_in}
+use Rattle.op_configurations.specs.Servers.{Part, Closed, Base, Joining, State, Letter, Body, Inner, HeartbeatRequest, HeartbeatReply, NextConf, AskBase, BasePart, BasePiece, AskSegment, Segment, letter, Fate, latest, latest_members, to_all, new_part, next_conf, acted, acted_in, restarted, with_joining, invited, covered, base_place, joined_list, started, start_if_whole, based, held_with, got_segment, BaseStage, staged_piece, has_all, completed, is_piece, pieced, pieces_from, gives_pieces, asks_base, answers_long, donors_at, ask_parts, best_donor, asks_of, asks, gives_base, gives_segment, refers, is_for_joining, is_ahead, inner, answers_beat, takes, is_request, sought, seeks, Done, Stopped, reads, held_run, Event, Ticks, TicksAlone, Proposes, Trims, Links, Unlinks, Reads, ReadsLong, may_propose, led, ticks_in, ticks_alone_in, links_in, step, may_propose_in}
 use Rattle.op_configurations.specs.Worlds.{inner_of, place_in, events_in, entries_in, decided_in}
 use Rattle.op_configurations.specs.Laws.{BaseStands, SegmentStands}
 use Rattle.op_configurations.proofs.Fronts.{some_same}
@@ -355,6 +355,13 @@ module _ (first : List ℕ) (pr : ℕ → List Entry) (t : Tale) (ok : TaleOk fi
   led_good out pt has (Some n) =
       more_sent first pr t ok soup p f st (acted f p st pt 0 (Elected n)) (to_all p pt.conf HeartbeatRequest pt.members) (λ u. beats_ok u pt) (λ r. inner_beats r p pt.conf pt.members) (acted_good first pr t ok soup p f st h pt has 0 (Elected n) tt (λ x i. absurd i) (λ y. absurd (out y)))
 
+  ticks_alone_good : (o : Option Joining) → st.joining ≡ o → (k : Option Part) → st.part ≡ k → (heard : ℕ → Bool) → StepGood first pr t soup p f st (ticks_alone_in f p st o k heard)
+  ticks_alone_good (Some j) at k has heard = still_good first pr t ok soup p f st h
+  ticks_alone_good None at None has heard = still_good first pr t ok soup p f st h
+  ticks_alone_good None at (Some pt) has heard =
+      more_sent first pr t ok soup p f st (acted f p st pt 0 (CutOff heard)) (to_all p pt.conf HeartbeatRequest pt.members) (λ u. beats_ok u pt) (λ r. inner_beats r p pt.conf pt.members)
+      (acted_good first pr t ok soup p f st h pt has 0 (CutOff heard) tt (λ x i. absurd i) (λ y. absurd (not_joining at y)))
+
   ticks_good : (o : Option Joining) → st.joining ≡ o → (k : Option Part) → st.part ≡ k → (n : Option ℕ) → StepGood first pr t soup p f st (ticks_in f p st o k n)
   ticks_good (Some j) at k has n = here_good first pr t ok soup p f st (asks p j) h (asks_ok j) (asks_plain j)
   ticks_good None at None has n = still_good first pr t ok soup p f st h
@@ -362,7 +369,7 @@ module _ (first : List ℕ) (pr : ℕ → List Entry) (t : Tale) (ok : TaleOk fi
 
   links_good : (o : Option Joining) → st.joining ≡ o → (q : ℕ) (k : Option Part) → st.part ≡ k → StepGood first pr t soup p f st (links_in f p st o q k)
   links_good (Some j) at q k has = still_good first pr t ok soup p f st h
-  links_good None at q None has = still_good first pr t ok soup p f st h
+  links_good None at q None has = here_good first pr t ok soup p f st (refers p st st.closed q) h (referred st.closed refl q) (refers_plain st.closed q)
   links_good None at q (Some pt) has =
       cond_both (is_member nat_eq pt.members q && not (q == p)) _ _ (StepGood first pr t soup p f st) (λ e. acted_good first pr t ok soup p f st h pt has 0 (Up q) tt (λ x i. absurd i) (λ y. absurd (not_joining at y))) (λ e. still_good first pr t ok soup p f st h)
 
@@ -382,6 +389,7 @@ module _ (first : List ℕ) (pr : ℕ → List Entry) (t : Tale) (ok : TaleOk fi
   pub step_good : (e : Event) → EventOk pr t soup p st e → StepGood first pr t soup p f st (step f p st e)
   unfolding step
   step_good (Ticks n) k = ticks_good st.joining refl st.part refl n
+  step_good (TicksAlone heard) k = ticks_alone_good st.joining refl st.part refl heard
   step_good (Proposes es) k = cond_both (may_propose p st st.part es) _ _ (StepGood first pr t soup p f st) (λ b. proposes_good es k st.part refl b) (λ b. still_good first pr t ok soup p f st h)
   step_good Trims k = plain_good TrimNow tt (λ w n. tt) refl st.part refl
   step_good (Links q) k = links_good st.joining refl q st.part refl

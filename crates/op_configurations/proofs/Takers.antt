@@ -7,7 +7,7 @@ use Rattle.op_paxos.specs.Worlds as paxos
 use Rattle.op_paxos.specs.Messages.{Packet}
 use Rattle.op_paxos.specs.Exchange.{is_stopped}
 use Rattle.op_paxos.specs.Worlds.{Input, Starts}
-use Rattle.op_configurations.specs.Servers.{Part, State, Letter, Stepped, Inside, Fate, Done, Stopped, Event, Ticks, Proposes, Trims, Links, Unlinks, Reads, restarted, step, ReadsLong, without_pieces}
+use Rattle.op_configurations.specs.Servers.{Part, State, Letter, Stepped, Inside, Fate, Done, Stopped, Event, Ticks, TicksAlone, Proposes, Trims, Links, Unlinks, Reads, restarted, step, ReadsLong, without_pieces}
 use Rattle.op_configurations.specs.Worlds.{Life, Running, Down, Server, World, Happening, At, Delivers, Stops, Opens, is_letter, inner_of, events_in, event_in, with_fate, with_server, stepped, at_server, delivered, stops, found, opening_fate, opened, opens, happens, run, start, reader, actor, machine_of, DeliversLong}
 use Rattle.op_configurations.proofs.Fronts.{some_same}
 use Rattle.op_configurations.proofs.Inside.{events_append}
@@ -167,6 +167,7 @@ module _ (first : List ℕ) (ks : List Happening) (c : ℕ) where
   plain_sent p (Reads n l) k = absurd (Rattle.std.proofs.lemmas.Bool.true≢false k)
   plain_sent p (ReadsLong n total l) k = absurd (Rattle.std.proofs.lemmas.Bool.true≢false k)
   plain_sent p (Ticks n) k = tt
+  plain_sent p (TicksAlone heard) k = tt
   plain_sent p (Proposes es) k = tt
   plain_sent p Trims k = tt
   plain_sent p (Links q) k = tt
@@ -180,6 +181,7 @@ module _ (first : List ℕ) (ks : List Happening) (c : ℕ) where
       by pr t (Reads n l) k = (k.2, k.1)
       by pr t (ReadsLong n total l) k = (k.2, k.1)
       by pr t (Ticks n) k = tt
+      by pr t (TicksAlone heard) k = tt
       by pr t (Proposes es) k = tt
       by pr t Trims k = tt
       by pr t (Links q) k = tt

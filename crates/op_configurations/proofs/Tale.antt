@@ -8,7 +8,7 @@ use Rattle.op_paxos.specs.Worlds as paxos
 use Rattle.op_configurations.proofs.Among.{In}
 use Rattle.op_paxos.specs.Agreement.{proposals}
 use Rattle.op_paxos.proofs.TrimBound.{never_falls}
-use Rattle.op_configurations.specs.Servers.{fresh, Part, Closed, Base, Joining, State, Letter, Body, Inner, HeartbeatRequest, HeartbeatReply, NextConf, AskBase, BasePart, BasePiece, AskSegment, Segment, Event, Ticks, Proposes, Trims, Links, Unlinks, Reads, ReadsLong, latest, may_propose}
+use Rattle.op_configurations.specs.Servers.{fresh, Part, Closed, Base, Joining, State, Letter, Body, Inner, HeartbeatRequest, HeartbeatReply, NextConf, AskBase, BasePart, BasePiece, AskSegment, Segment, Event, Ticks, TicksAlone, Proposes, Trims, Links, Unlinks, Reads, ReadsLong, latest, may_propose}
 use Rattle.op_configurations.specs.Laws.{BaseStands, SegmentStands}
 use Rattle.op_configurations.proofs.Fronts.{none_some, whole_same}
 use Rattle.op_configurations.proofs.Runs.{Told, told_later, told_tidy, told_fronts}
@@ -205,6 +205,7 @@ module _ (t t' : Tale) (o : Onward t t') where
   event_on pr soup more p st (ReadsLong n total m) h = (letter_on m h.0, h.1, slice_more soup more n m h.2)
   event_on pr soup more p st (Proposes e) h = h
   event_on pr soup more p st (Ticks n) h = tt
+  event_on pr soup more p st (TicksAlone heard) h = tt
   event_on pr soup more p st Trims h = tt
   event_on pr soup more p st (Links q) h = tt
   event_on pr soup more p st (Unlinks q) h = tt

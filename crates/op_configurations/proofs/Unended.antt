@@ -8,9 +8,9 @@ use Rattle.op_types.specs.declared.log.StopSign.{StopSign}
 use Rattle.op_spec.specs.Machine.{stop_at_end, with_at}
 use Rattle.op_paxos.specs.Messages.{Msg, Effect}
 use Rattle.op_paxos.specs.Worlds as paxos
-use Rattle.op_paxos.specs.Worlds.{Input, Elected, Proposal, Comes, Up, Down, Starts, TrimNow}
+use Rattle.op_paxos.specs.Worlds.{Input, Elected, Proposal, Comes, Up, CutOff, Down, Starts, TrimNow}
 use Rattle.op_paxos.proofs.Updates.{upd_both}
-use Rattle.op_configurations.specs.Servers.{Part, Closed, Joining, State, Letter, Body, Inner, HeartbeatRequest, HeartbeatReply, NextConf, AskBase, BasePart, BasePiece, AskSegment, Segment, Fate, Done as ServerDone, Stopped as ServerStopped, Stepped, Event, Ticks, Proposes, Trims, Links, Unlinks, Reads, new_part, closed_of, close_with, acted, acted_in, restarted, with_joining, invited, joined_list, started, based, got_segment, inner, answers_beat, takes, is_request, sought, seeks, reads, is_for_joining, is_ahead, latest, fated, decided_list, led, ticks_in, links_in, step, may_propose, ReadsLong, staged_piece, has_all, completed, is_piece, pieced, asks_base, answers_long, without_pieces}
+use Rattle.op_configurations.specs.Servers.{Part, Closed, Joining, State, Letter, Body, Inner, HeartbeatRequest, HeartbeatReply, NextConf, AskBase, BasePart, BasePiece, AskSegment, Segment, Fate, Done as ServerDone, Stopped as ServerStopped, Stepped, Event, Ticks, TicksAlone, Proposes, Trims, Links, Unlinks, Reads, new_part, closed_of, close_with, acted, acted_in, restarted, with_joining, invited, joined_list, started, based, got_segment, inner, answers_beat, takes, is_request, sought, seeks, reads, is_for_joining, is_ahead, latest, fated, decided_list, led, ticks_in, ticks_alone_in, links_in, step, may_propose, ReadsLong, staged_piece, has_all, completed, is_piece, pieced, asks_base, answers_long, without_pieces}
 use Rattle.op_configurations.specs.Worlds.{Life, Running, Down as IsDown, Server, World, Happening, At, Delivers, Stops, Opens, is_letter, stepped, at_server, delivered, stops, found, opening_fate, opened, opens, happens, run, start, DeliversLong}
 use Rattle.op_configurations.proofs.Fronts.{none_some, some_same}
 use Rattle.op_configurations.proofs.Keeping.{quiet_vote}
@@ -143,6 +143,11 @@ module _ (f : Fate) (p : ℕ) (st : State) (h : Unended st) where
   ticks_unended None None n = h
   ticks_unended None (Some pt) n = led_unended pt n
 
+  ticks_alone_unended : (j : Option Joining) (o : Option Part) (heard : ℕ → Bool) → Unended (ticks_alone_in f p st j o heard).state
+  ticks_alone_unended (Some j) o heard = h
+  ticks_alone_unended None None heard = h
+  ticks_alone_unended None (Some pt) heard = acted_unended f p st pt 0 (CutOff heard)
+
   links_unended : (j : Option Joining) (q : ℕ) (o : Option Part) → Unended (links_in f p st j q o).state
   links_unended (Some j) q o = h
   links_unended None q None = h
@@ -152,6 +157,7 @@ module _ (f : Fate) (p : ℕ) (st : State) (h : Unended st) where
   pub step_unended : (e : Event) → Unended (step f p st e).state
   unfolding step
   step_unended (Ticks n) = ticks_unended st.joining st.part n
+  step_unended (TicksAlone heard) = ticks_alone_unended st.joining st.part heard
   step_unended (Proposes e) = cond_both (may_propose p st st.part e) _ _ (λ (x : Stepped). Unended x.state) (λ _. acted_in_unended f p st h st.part (Proposal e)) (λ _. h)
   step_unended Trims = acted_in_unended f p st h st.part TrimNow
   step_unended (Links q) = links_unended st.joining q st.part

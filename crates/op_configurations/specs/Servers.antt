@@ -9,7 +9,7 @@ use Rattle.op_spec.specs.Machine.{stop_at_end}
 use Rattle.op_paxos.specs.Worlds as paxos
 use Rattle.op_paxos.specs.Nodes.{Node, Idle, Role, owner}
 use Rattle.op_paxos.specs.Messages.{Msg, PrepareReq, Packet, Effect}
-use Rattle.op_paxos.specs.Worlds.{Input, Elected, Proposal, Comes, Up, Down, Starts, TrimNow}
+use Rattle.op_paxos.specs.Worlds.{Input, Elected, Proposal, Comes, Up, CutOff, Down, Starts, TrimNow}
 use Rattle.op_paxos.specs.Logs.{overflows}
 
 -- a member that has promised and accepted nothing
@@ -450,7 +450,7 @@ gives_segment p (Some k) q c a b =
     else []
 
 -- a message of an older configuration is answered with the news of the next one, if its sender is a member of
--- the latest
+-- the latest; so is a new session, where the server has left the closed configuration
 unfoldable pub refers : ℕ → State → Option Closed → ℕ → List Letter
 refers p st None q = []
 refers p st (Some k) q =
@@ -548,6 +548,8 @@ answers_long p st total m =
 pub data Event : Type 0 where
   -- a tick, and the ballot that its round elected, if it is the server's own
   Ticks : Option ℕ → Event
+  -- a tick whose round heard no majority: these members, which it heard, are asked for a Prepare
+  TicksAlone : (heard : ℕ → Bool) → Event
   -- these are proposed together
   Proposes : List Entry → Event
   Trims : Event
@@ -571,29 +573,39 @@ abbrev pub may_propose : ℕ → State → Option Part → List Entry → Bool
 may_propose p st None es = false
 may_propose p st (Some pt) es = not (is_some st.joining) && may_propose_in p pt.node es
 
-unfoldable pub led : Fate → ℕ → State → Part → Option ℕ → Stepped
-led f p st pt None = says st (to_all p pt.conf HeartbeatRequest pt.members)
-led f p st pt (Some n) =
-    let k = acted f p st pt 0 (Elected n) in
+-- a tick that is this inside the configuration asks for heartbeats first
+abbrev pub ticked : Fate → ℕ → State → Part → Input → Stepped
+ticked f p st pt i =
+    let k = acted f p st pt 0 i in
     record {
       state = k.state;
       sends = to_all p pt.conf HeartbeatRequest pt.members ++ k.sends;
       inside = k.inside;
     }
 
+unfoldable pub led : Fate → ℕ → State → Part → Option ℕ → Stepped
+led f p st pt None = says st (to_all p pt.conf HeartbeatRequest pt.members)
+led f p st pt (Some n) = ticked f p st pt (Elected n)
+
 abbrev pub ticks_in : Fate → ℕ → State → Option Joining → Option Part → Option ℕ → Stepped
 ticks_in f p st (Some j) pt n = says st (asks p j)
 ticks_in f p st None None n = unchanged st
 ticks_in f p st None (Some pt) n = led f p st pt n
 
+abbrev pub ticks_alone_in : Fate → ℕ → State → Option Joining → Option Part → (ℕ → Bool) → Stepped
+ticks_alone_in f p st (Some j) pt heard = unchanged st
+ticks_alone_in f p st None None heard = unchanged st
+ticks_alone_in f p st None (Some pt) heard = ticked f p st pt (CutOff heard)
+
 abbrev pub links_in : Fate → ℕ → State → Option Joining → ℕ → Option Part → Stepped
 links_in f p st (Some j) q pt = unchanged st
-links_in f p st None q None = unchanged st
+links_in f p st None q None = says st (refers p st st.closed q)
 links_in f p st None q (Some pt) =
     if is_member nat_eq pt.members q && not (q == p) then acted f p st pt 0 (Up q) else unchanged st
 
 unfoldable pub step : Fate → ℕ → State → Event → Stepped
 step f p st (Ticks n) = ticks_in f p st st.joining st.part n
+step f p st (TicksAlone heard) = ticks_alone_in f p st st.joining st.part heard
 step f p st (Proposes es) =
     if may_propose p st st.part es then acted_in f p st st.part (Proposal es) else unchanged st
 step f p st Trims = acted_in f p st st.part TrimNow

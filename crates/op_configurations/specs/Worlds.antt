@@ -8,7 +8,7 @@ use Rattle.op_paxos.specs.Messages.{packet}
 use Rattle.op_paxos.specs.Worlds as paxos
 use Rattle.op_spec.specs.Machine.{with_at}
 use Rattle.op_paxos.specs.Messages.{Packet}
-use Rattle.op_paxos.specs.Worlds.{Input, Elected, Proposal, Comes, Up, Starts, TrimNow}
+use Rattle.op_paxos.specs.Worlds.{Input, Elected, Proposal, Comes, Up, CutOff, Starts, TrimNow}
 use Rattle.op_configurations.specs.Servers.{Part, Closed, Joining, State, Letter, Body, Inner, Inside, Stepped, unchanged, Fate, Done, Stopped, Event, Proposes, Reads, ReadsLong, decided_list, new_part, restarted, without_pieces, may_propose, step}
 
 -- a server runs, or it is down: then the event in which it stopped is kept, if it stopped inside one
@@ -70,6 +70,7 @@ plain_event i p (Elected n) = paxos.Leads p n
 plain_event i p (Proposal es) = paxos.Proposes p es
 plain_event i p (Comes q m) = paxos.Delivers i
 plain_event i p (Up q) = paxos.Links p q
+plain_event i p (CutOff heard) = paxos.Asks p heard
 plain_event i p (paxos.Down q) = paxos.Unlinks p q
 plain_event i p Starts = paxos.Restarts p
 plain_event i p TrimNow = paxos.Trims p

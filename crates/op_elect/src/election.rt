@@ -126,8 +126,8 @@ impl Election {
     }
 }
 
-/// The greatest of the own ballot and of those of servers that heard a majority.
-fn greatest(own: Ballot, replies: &[Heard]) -> Ballot
+/// The greatest of this ballot and of those of servers that heard a majority.
+pub fn greatest(own: Ballot, replies: &[Heard]) -> Ballot
     ensures { result ≡ greatest own replies.now }
 {
     let mut ballot = own;

@@ -4,6 +4,6 @@
 mod election;
 mod laws;
 
-pub use election::Election;
+pub use election::{Election, greatest};
 pub use laws::{elected_ballots_rise, rounds_end_in_one_way};
 pub use op_types::Verdict;

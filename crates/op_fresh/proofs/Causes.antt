@@ -13,7 +13,7 @@ use Rattle.op_types.specs.Joinings.{Held}
 use Rattle.op_paxos.specs.Parts.{is_run_to, told_by}
 use Rattle.op_spec.specs.Machine.{with_at}
 use Rattle.op_paxos.specs.Trimming.{on_trim_ask, on_trim, trim_all, on_progress_in, on_trim_now_in}
-use Rattle.op_paxos.specs.Worlds.{on_msg, Input, Elected, Proposal, Comes, Up, Down, Starts, TrimNow, step}
+use Rattle.op_paxos.specs.Worlds.{on_msg, Input, Elected, Proposal, Comes, Up, CutOff, Down, Starts, TrimNow, step}
 
 -- it was told
 pub record Heard (i : Input) (o : Effect) : Type 0 where
@@ -176,6 +176,7 @@ step_cause ms p nd (Elected n) = elected_why ms p nd (Elected n) n
 step_cause ms p nd (Proposal es) = propose_why ms p nd (Proposal es) nd.role es
 step_cause ms p nd (Comes q m) = msg_why ms p nd (Comes q m) q m refl
 step_cause ms p nd (Up q) = inl refl
+step_cause ms p nd (CutOff heard) = inl refl
 step_cause ms p nd (Down q) = inl refl
 step_cause ms p nd TrimNow = trim_now_why ms p nd TrimNow nd.role
 step_cause ms p nd Starts = inl refl

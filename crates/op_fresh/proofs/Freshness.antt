@@ -8,7 +8,7 @@ use Rattle.op_spec.specs.Machine.{Machine}
 use Rattle.op_spec.specs.Ledger.{machine_proposing}
 use Rattle.op_quorum.specs.Quorums.{passing}
 use Rattle.op_paxos.specs.Nodes.{Node, owner}
-use Rattle.op_paxos.specs.Worlds.{Input, World, Event, Leads, Proposes, Delivers, Restarts, Trims, Links, Unlinks, Stops, input_of, happens, start}
+use Rattle.op_paxos.specs.Worlds.{Input, World, Event, Leads, Proposes, Delivers, Restarts, Trims, Links, Asks, Unlinks, Stops, input_of, happens, start}
 use Rattle.op_paxos.specs.Ledger.{refuses, proposing_each, Execution, showing, proposing, showing_at, execution_with, execution_of, first_execution, ledger}
 use Rattle.op_paxos.specs.Exchange.{world_before, node_before}
 use Rattle.op_paxos.proofs.Majorities.{shared}
@@ -46,6 +46,7 @@ proposing_lists m conf w (Delivers i) = refl
 proposing_lists m conf w (Restarts p) = refl
 proposing_lists m conf w (Trims p) = refl
 proposing_lists m conf w (Links p q) = refl
+proposing_lists m conf w (Asks p heard) = refl
 proposing_lists m conf w (Unlinks p q) = refl
 
 -- a node shows what is backed

@@ -32,8 +32,9 @@ use Rattle.op_protocol.specs.Trimming.{lesser, least_reported, trims, trims_repo
 use Rattle.op_plans.specs.Positions.{FitsPositions}
 use Rattle.op_follower.specs.Staging.{StagedIsAdmitted}
 use Rattle.op_follower.proofs.Gaps.{admitted_with, run_small, run_commands, none_admitted}
-use Rattle.op_leader.specs.Adopting.{PromisesAreAdmitted, AreStagedWithin, StagesAreAdmitted, ChoiceFits}
-use Rattle.op_leader.proofs.Fits.{best_fits}
+use Rattle.op_choosing.specs.Choosing.{ChoiceFits}
+use Rattle.op_leader.specs.Adopting.{PromisesAreAdmitted, AreStagedWithin, StagesAreAdmitted}
+use Rattle.op_choosing.proofs.Fits.{best_fits}
 use Rattle.op_leader.proofs.Admitted as promised
 use Rattle.op_instance.specs.Sound.{StopsFit, StagesFit, IsSound}
 use Rattle.op_instance.proofs.Batches.{BatchApplies, joined, conf_after, choice_part, adopted_part, appending_applies, replaced_applies}

@@ -30,7 +30,6 @@ use Rattle.op_types.specs.declared.messages.Msg.{Msg}
 use Rattle.op_types.specs.declared.verdict.Verdict.{Verdict}
 use Rattle.op_types.specs.declared.verdict.Verdict.TheVariants as verdict
 use Rattle.op_spec.specs.Machine.{stop_of}
-use Rattle.op_protocol.specs.Election.{round_end}
 use Rattle.op_types.specs.Effects.{Effects}
 use Rattle.op_types.specs.Joinings.{Held, held_with, held_run}
 use Rattle.op_types.specs.Stages.{Pieces, front_from, staged_from, with_piece, whole_bytes}
@@ -42,7 +41,8 @@ use Rattle.op_protocol.specs.Leader.{lead, propose, session_down, on_promise, on
 use Rattle.op_protocol.specs.Follower.{on_prepare, on_accept, sync_entries, on_accept_sync, unstaged, synced_once, on_first_part, accept_front, appended_staged, on_later_part, on_accept_sync_part, on_decide}
 use Rattle.op_protocol.specs.Reading.{on_confirm}
 use Rattle.op_protocol.specs.Trimming.{trim_now, on_progress, on_trim_ask, on_trim}
-use Rattle.op_protocol.specs.Tick.{candidate_of, next_round_state, requests, remembering, with_floor_at, only_asks, elected, by_verdict, on_tick, on_heartbeat_request, on_heartbeat_reply, on_refuse}
+use Rattle.op_protocol.specs.Tick.{requests, remembering, only_asks, elected, by_verdict, asks_heard, also_sending, on_tick, on_heartbeat_request, on_heartbeat_reply, on_refuse}
+use Rattle.op_protocol.proofs.TickCases.{ended_at, begun_at, tick_cases}
 use Rattle.op_protocol.specs.Configurations.{latest_of}
 use Rattle.op_protocol.specs.Joining.{storing, begins, is_new_donor, joins, begins_joining, storing_news, on_next_conf, asks, gives_base, gives_segment, takes_piece, pieces_once, on_base_piece}
 use Rattle.op_protocol.specs.Rows.{on_body, on_message, message_at, is_of_joining, may_be_above, on_older, on_newer, on_latest, message_step, knows_no_leader, entries_of, open_refusal, part_refusal, refusal_after, refusal_of, stop_for, answering, proposal_at, proposal_step, tick_at, trim_at, session_up, up_at, step_at}
@@ -220,10 +220,10 @@ proposal_is_of me p v es None = (propose_of me p v.role es).changes
 
 elected_leaves : (me : ℕ) (p : Part) (v : Volatile) (n : Ballot) → IsSoundPart p v → StepLeaves p (elected me p v n)
 elected_leaves me p v n sound =
-    by_step p (is_below p.promised n) (with_effects v (first [] (requests me p v.round) [] (lead me p v.role n))) (only_asks me p (with_floor_at v p.promised))
+    by_step p (is_below p.promised n) (with_effects v (first [] (requests me p v.round) [] (lead me p v.role n))) (only_asks me p v)
     (λ above. let row = lead_leaves me p v.role n sound.sound in
     by_row p v (first [] (requests me p v.round) [] (lead me p v.role n)) sound.staged (record { applies = row.applies; promises = row.promises; stops = row.stops; stages = row.stages }))
-    (λ below. quiet p v (only_asks me p (with_floor_at v p.promised)) sound refl refl refl)
+    (λ below. quiet p v (only_asks me p v) sound refl refl refl)
 
 verdict_leaves : (me : ℕ) (p : Part) (v : Volatile) (w : Verdict) → IsSoundPart p v → StepLeaves p (by_verdict me p v w)
 verdict_leaves me p v verdict.Nobody sound = quiet p v (only_asks me p v) sound refl refl refl
@@ -435,8 +435,11 @@ tick_sound me o k (Some j) v sound = let d : Durable = record { part = o; closed
 tick_sound me None k None v sound = let d : Durable = record { part = None; closed = k; joining = None } in still me d v (remembering v []) sound refl refl refl
 tick_sound me (Some p) k None v sound =
     let d : Durable = record { part = Some p; closed = k; joining = None } in
-    let e = round_end (candidate_of me p v) v.heard in
-    at_part me d p v (on_tick me p v) sound (tick_of me p v).changes (verdict_leaves me p (next_round_state v e.after) e.verdict (record { sound = sound.part.sound; staged = sound.part.staged }))
+    let u : Volatile = begun_at me p v in
+    let still_sound : IsSoundPart p u = record { sound = sound.part.sound; staged = sound.part.staged } in
+    at_part me d p v (on_tick me p v) sound (tick_of me p v).changes
+    (tick_cases (StepLeaves p) me p v (λ _. verdict_leaves me p u (ended_at me p v).verdict still_sound)
+    (λ _. quiet p u (also_sending (only_asks me p u) (asks_heard me p v.heard)) still_sound refl refl refl))
 
 trim_sound : (me : ℕ) (o : Option Part) (k : Option Closed) (j : Option Joining) (v : Volatile)
     → (let d : Durable = record { part = o; closed = k; joining = j } in IsSoundNode me d v → IsSoundStep me d (trim_at me o v))
@@ -446,8 +449,9 @@ trim_sound me (Some p) k j v sound =
     at_part me d p v (with_effects v (trim_now me p v.role)) sound (trim_now_of me p v.role).changes (by_row p v (trim_now me p v.role) sound.part.staged (trim_now_leaves me p v.role sound.part.sound))
 
 up_sound : (me : ℕ) (o : Option Part) (k : Option Closed) (j : Option Joining) (v : Volatile) (q : ℕ)
-    → (let d : Durable = record { part = o; closed = k; joining = j } in IsSoundNode me d v → IsSoundStep me d (up_at me o j v q))
-up_sound me None k j v q sound = let d : Durable = record { part = None; closed = k; joining = j } in still me d v (remembering v []) sound refl refl refl
+    → (let d : Durable = record { part = o; closed = k; joining = j } in IsSoundNode me d v → IsSoundStep me d (up_at me d o j v q))
+up_sound me None k None v q sound = let d : Durable = record { part = None; closed = k; joining = None } in still me d v (remembering v (on_older d k q)) sound refl refl refl
+up_sound me None k (Some j) v q sound = let d : Durable = record { part = None; closed = k; joining = Some j } in still me d v (remembering v []) sound refl refl refl
 up_sound me (Some p) k (Some j) v q sound = let d : Durable = record { part = Some p; closed = k; joining = Some j } in still me d v (remembering v []) sound refl refl refl
 up_sound me (Some p) k None v q sound =
     let d : Durable = record { part = Some p; closed = k; joining = None } in

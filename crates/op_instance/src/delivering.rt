@@ -16,12 +16,11 @@ use crate::joining::News;
 use crate::routing::{is_of_joining, is_prepare_req, may_be_above};
 use crate::stored::Stored;
 use crate::volatile::Volatile;
-use op_follower::{
-    Accept, Prepare, on_accept, on_accept_sync, on_accept_sync_part, on_confirm, on_decide,
-    on_prepare,
-};
+use op_accepting::{Accept, on_accept, on_accept_sync};
+use op_counting::on_accepted;
+use op_follower::{Prepare, on_accept_sync_part, on_confirm, on_decide, on_prepare};
 use op_heartbeat::Rounds;
-use op_leader::{on_accepted, on_forward, on_prepare_req, on_promise, on_promise_part};
+use op_leader::{on_forward, on_prepare_req, on_promise, on_promise_part};
 use op_plans::{Member, one};
 use op_trim::{on_progress, on_trim, on_trim_ask};
 use op_types::{Ballot, Body, Heard, Msg, Pid, Plan, Promised, Role, Sends, Turn};
@@ -204,7 +203,7 @@ fn hear(alloc: Global, volatile: &Volatile, round: u64, heard: Heard) -> Plan
 {
     let mut plan = Plan::nothing(alloc);
     if round == volatile.rounds.round() && volatile.rounds.is_other(heard.from) {
-        plan.turn = Turn::Hear(heard);
+        plan.set_turn(Turn::Hear(heard));
     }
     plan
 }
@@ -214,7 +213,7 @@ fn raise_floor(alloc: Global, ballot: Ballot) -> Plan
     ensures { result ≡ record nothing_plan { turn = RaiseFloor ballot } }
 {
     let mut plan = Plan::nothing(alloc);
-    plan.turn = Turn::RaiseFloor(ballot);
+    plan.set_turn(Turn::RaiseFloor(ballot));
     plan
 }
 

@@ -50,7 +50,7 @@ impl Stored<'_> {
         }
         let batch = join_batch(self.alloc, &self.durable.joining, from, news)?;
         let mut plan = self.nothing();
-        plan.turn = news_turn(batch.as_slice());
+        plan.set_turn(news_turn(batch.as_slice()));
         plan.batch = batch;
         Ok(plan)
     }
@@ -69,12 +69,13 @@ impl Stored<'_> {
         let Some(joining) = &self.durable.joining else {
             return Ok(self.nothing());
         };
+        let turn = stage_piece(self.alloc, joining, pieces, conf, piece)?;
         let mut plan = self.nothing();
-        plan.turn = stage_piece(self.alloc, joining, pieces, conf, piece)?;
+        plan.set_turn(turn);
         Ok(plan)
     }
 
-    /// A server of the latest configuration that is still in an older one is told of the latest.
+    /// A server of the latest configuration that may still be in an older one is told of the latest.
     pub(crate) fn answer_older(&self, to: Pid) -> Result<Sends, NoMemory>
         requires { IfListFits self.now.durable.now.closed }
         ensures { IfOk result (λ sends. sends

@@ -7,7 +7,7 @@ ghost use Rattle.op_types.specs.Effects.{effects_of, nothing_plan};
 ghost use Rattle.op_types.specs.Roles.{role_of, HasRoom};
 ghost use Rattle.op_instance.specs.Memory.{volatile_of, part_step_of, HasRoomIn};
 ghost use Rattle.op_instance.specs.Proposals.{proposes};
-ghost use Rattle.op_instance.specs.Sound.{IfNodeOf, IsNode};
+ghost use Rattle.op_instance.specs.Sound.{IfListFits, IfNodeOf, IsNode};
 
 use crate::delivering::deliver;
 use crate::stored::Stored;
@@ -121,11 +121,13 @@ impl Stored<'_> {
         }
     }
 
-    /// A session with another server begins. A node that joins asks nobody.
+    /// A session with another server begins. A node that has left its configuration tells a member of the next one of it, and
+    /// one that joins asks nobody.
     fn up(&self, volatile: &Volatile, peer: Pid) -> Result<Plan, NoMemory>
+        requires { IfListFits self.now.durable.now.closed }
         ensures step { IfOk result (λ plan. part_step_of plan (volatile_of volatile.now)
-            ≡ up_at self.now.me self.now.durable.now.part self.now.durable.now.joining
-            (volatile_of volatile.now) peer) }
+            ≡ up_at self.now.me self.now.durable.now self.now.durable.now.part
+            self.now.durable.now.joining (volatile_of volatile.now) peer) }
         ensures room { IfOk result (λ plan. HasRoomIn plan.turn volatile.now) }
     {
         if self.durable.joining.is_some() {
@@ -133,7 +135,7 @@ impl Stored<'_> {
         }
         match &self.durable.part {
             Some(part) => session_up(&self.at(part), &volatile.role, peer),
-            None => Ok(self.nothing()),
+            None => Ok(self.sending(self.answer_older(peer)?)),
         }
     }
 }

@@ -13,7 +13,7 @@ use Rattle.op_paxos.specs.Messages.{PromisedRun, SyncRun, Msg, Prepare, Promise,
 use Rattle.op_paxos.specs.Follower.{suffix_at, promise_of, on_prepare, appended, on_accept, synced_to, on_accept_sync, unstaged, synced_once, on_first_part, appended_staged, on_later_part, on_accept_sync_part, on_decide}
 use Rattle.op_paxos.specs.Leader.{is_usable, own_candidate, best, sync_at, sync_sends, all_sends, majority_length, recount, adopted_node, new_leading, adopt_with, adopt, has_quorum, prepared, on_elected, on_promise_in, promised_once, on_promise_part_in, on_accepted_in, extended, on_propose_in, on_forward_in, on_prepare_req_in, without}
 use Rattle.op_paxos.specs.Trimming.{on_trim_ask, on_trim, trim_all, on_progress_in, on_trim_now_in}
-use Rattle.op_paxos.specs.Worlds.{on_msg, Input, Elected, Proposal, Comes, Up, Down, Starts, TrimNow, step, World, Event, Leads, Proposes, Delivers, Restarts, Trims, Links, Unlinks, Stops, stepped, taken_by, input_of, fate_of, applied, happens, run, start}
+use Rattle.op_paxos.specs.Worlds.{on_msg, Input, Elected, Proposal, Comes, Up, CutOff, Down, Starts, TrimNow, step, World, Event, Leads, Proposes, Delivers, Restarts, Trims, Links, Asks, Unlinks, Stops, stepped, taken_by, input_of, fate_of, applied, happens, run, start}
 use Rattle.op_paxos.proofs.Membership.{single, in_append, in_from_get}
 use Rattle.op_paxos.proofs.LeaderSteps.{in_spread}
 use Rattle.op_paxos.proofs.SentParts.{promise_packets, sync_packets}
@@ -264,6 +264,7 @@ module _ (ms : List ℕ) (p : ℕ) where
     step_ours (Proposal es) k = propose_ours nd.role ours.role es
     step_ours (Comes q m) k = msg_ours q m k
     step_ours (Up q) k = says q PrepareReq tt
+    step_ours (CutOff heard) k = gives _ _ ours.promised ours.role (spread_ours heard PrepareReq tt)
     step_ours (Down q) k = gives _ [] ours.promised (down_ours nd.role ours.role q) none_ours
     step_ours TrimNow k = now_ours nd.role ours.role
     step_ours Starts k = gives _ _ ours.promised tt (spread_ours (λ q. true) PrepareReq tt)
@@ -287,6 +288,7 @@ module _ (ms : List ℕ) (w : World) (ours : WorldOurs ms w) where
   input_ours (Restarts p) k = tt
   input_ours (Trims p) k = tt
   input_ours (Links p q) k = tt
+  input_ours (Asks p heard) k = tt
   input_ours (Unlinks p q) k = tt
   input_ours (Stops e) k = input_ours e k
 
@@ -298,6 +300,7 @@ module _ (ms : List ℕ) (w : World) (ours : WorldOurs ms w) where
   fated_ours (Restarts p) o k = k
   fated_ours (Trims p) o k = k
   fated_ours (Links p q) o k = k
+  fated_ours (Asks p heard) o k = k
   fated_ours (Unlinks p q) o k = k
 
   stepped_ours : (p : ℕ) (o : Effect) → Out ms o → WorldOurs ms (stepped w p o)

@@ -7,8 +7,8 @@ use Rattle.op_types.specs.declared.log.Entry.{Entry}
 use Rattle.op_spec.specs.Machine.{Machine, IsAmong, first_machine}
 use Rattle.op_paxos.specs.Worlds as paxos
 use Rattle.op_paxos.specs.Messages.{Msg}
-use Rattle.op_paxos.specs.Worlds.{Input, Elected, Proposal, Comes, Up, Down, Starts, TrimNow}
-use Rattle.op_configurations.specs.Servers.{Part, Closed, Joining, BaseStage, State, Letter, Body, Inner, HeartbeatRequest, HeartbeatReply, NextConf, AskBase, BasePart, BasePiece, AskSegment, Segment, Fate, Done as ServerDone, Stopped as ServerStopped, Stepped, Inside, Event, Ticks, Proposes, Trims, Links, Unlinks, Reads, ReadsLong, acted, acted_in, restarted, started, based, has_all, completed, is_piece, pieced, without_pieces, got_segment, inner, answers_beat, takes, is_request, sought, seeks, reads, asks_base, answers_long, is_for_joining, is_ahead, latest, led, ticks_in, links_in, step, may_propose}
+use Rattle.op_paxos.specs.Worlds.{Input, Elected, Proposal, Comes, Up, CutOff, Down, Starts, TrimNow}
+use Rattle.op_configurations.specs.Servers.{Part, Closed, Joining, BaseStage, State, Letter, Body, Inner, HeartbeatRequest, HeartbeatReply, NextConf, AskBase, BasePart, BasePiece, AskSegment, Segment, Fate, Done as ServerDone, Stopped as ServerStopped, Stepped, Inside, Event, Ticks, TicksAlone, Proposes, Trims, Links, Unlinks, Reads, ReadsLong, acted, acted_in, restarted, started, based, has_all, completed, is_piece, pieced, without_pieces, got_segment, inner, answers_beat, takes, is_request, sought, seeks, reads, asks_base, answers_long, is_for_joining, is_ahead, latest, led, ticks_in, ticks_alone_in, links_in, step, may_propose}
 use Rattle.op_configurations.specs.Worlds as worlds
 use Rattle.op_configurations.specs.Worlds.{Life, Running, World, Happening, At, Delivers, DeliversLong, Stops, Opens, is_letter, with_fate, plain_event, place_in, event_in, events_in, stepped, at_server, delivered, stops, found, opening_fate, opened, opens, happens, run, start, machine_with, machine_after, machine_of}
 use Rattle.op_configurations.proofs.Tale.{Tale, StateOk, Onward}
@@ -30,6 +30,7 @@ own_input o pt has (Elected n) = (pt, has, refl)
 own_input o pt has (Proposal es) = tt
 own_input o pt has (Comes q m) = tt
 own_input o pt has (Up q) = tt
+own_input o pt has (CutOff heard) = tt
 own_input o pt has (Down q) = tt
 own_input o pt has Starts = tt
 own_input o pt has TrimNow = tt
@@ -134,6 +135,11 @@ module _ (f : Fate) (p : ℕ) (st : State) where
   ticks_own None None has n = tt
   ticks_own None (Some pt) has n = led_own pt has n
 
+  ticks_alone_own : (j : Option Joining) (o : Option Part) → st.part ≡ o → (heard : ℕ → Bool) → AllOwn st.part (ticks_alone_in f p st j o heard).inside
+  ticks_alone_own (Some j) o has heard = tt
+  ticks_alone_own None None has heard = tt
+  ticks_alone_own None (Some pt) has heard = acted_own f pt has 0 (CutOff heard)
+
   links_own : (j : Option Joining) (q : ℕ) (o : Option Part) → st.part ≡ o → AllOwn st.part (links_in f p st j q o).inside
   links_own (Some j) q o has = tt
   links_own None q None has = tt
@@ -142,6 +148,7 @@ module _ (f : Fate) (p : ℕ) (st : State) where
   step_own : (e : Event) → AllOwn st.part (step f p st e).inside
   unfolding step
   step_own (Ticks n) = ticks_own st.joining st.part refl n
+  step_own (TicksAlone heard) = ticks_alone_own st.joining st.part refl heard
   step_own (Proposes es) = both (may_propose p st st.part es) _ _ (acted_in_own st.part refl (Proposal es)) tt
   step_own Trims = acted_in_own st.part refl TrimNow
   step_own (Links q) = links_own st.joining q st.part refl
@@ -172,6 +179,7 @@ module _ (t t' : Tale) (on : Onward t t') (soup : List Letter) (p : ℕ) (st : S
   input_led c i (Proposal es) k = tt
   input_led c i (Comes q m) k = tt
   input_led c i (Up q) k = tt
+  input_led c i (CutOff heard) k = tt
   input_led c i (Down q) k = tt
   input_led c i Starts k = tt
   input_led c i TrimNow k = tt

@@ -37,7 +37,8 @@ use Rattle.op_protocol.specs.Election.{Candidate, Ended, winner, least, too_low,
 use Rattle.op_protocol.specs.Follower.{synced_once, on_accept_sync_part}
 use Rattle.op_protocol.specs.Joining.{storing, begins_joining, storing_news, new_entries, takes_base, takes_entries, takes_piece, base_brought, base_once, brought_to, on_base_piece, joins, stores_beside, goes_on_if, holding, holds_more}
 use Rattle.op_protocol.specs.Parts.{is_run_to, is_admitted_body, part_after, decided_since}
-use Rattle.op_protocol.specs.Tick.{candidate_of, next_round_state, by_verdict}
+use Rattle.op_protocol.specs.Tick.{candidate_of, by_verdict}
+use Rattle.op_protocol.proofs.TickCases.{begun_at}
 use Rattle.op_protocol.specs.Rows.{refusal_of, stop_for, entries_of, on_body, message_at, is_of_joining, may_be_above, on_older, on_newer, on_latest, message_step, brought_by, proposal_at, tick_at, trim_at, up_at, step_at, waiting_at, based, planned, plan_of, step_bringing, table_plan, step_plan}
 use Rattle.op_protocol.proofs.Plans.{after_both}
 use Rattle.op_protocol.proofs.StepBatches.{IsInside, inside_after, inside_closed, inside_none, inside_all_based, step_inside, Rises, above_after, step_above}
@@ -159,10 +160,11 @@ trim_stays : (me : ℕ) (o : Option Part) (v : Volatile) → Stays v (trim_at me
 trim_stays me None v = refl
 trim_stays me (Some p) v = refl
 
-up_stays : (me : ℕ) (o : Option Part) (j : Option Joining) (v : Volatile) (q : ℕ) → Stays v (up_at me o j v q)
-up_stays me None j v q = refl
-up_stays me (Some p) (Some j) v q = refl
-up_stays me (Some p) None v q = refl
+up_stays : (me : ℕ) (d : Durable) (o : Option Part) (j : Option Joining) (v : Volatile) (q : ℕ) → Stays v (up_at me d o j v q)
+up_stays me d None None v q = refl
+up_stays me d None (Some j) v q = refl
+up_stays me d (Some p) (Some j) v q = refl
+up_stays me d (Some p) None v q = refl
 
 -- ---- the end of a round
 
@@ -195,7 +197,7 @@ tick_ok me v None (Some j) = inl (refl, refl)
 tick_ok me v (Some p) (Some j) = inl (refl, refl)
 tick_ok me v (Some p) None =
     let e : Ended = round_end (candidate_of me p v) v.heard in
-    subst (λ (b : Ballot). StepOk v.leader b (elected_by me v (Some p) None)) (sym (verdict_stays me p (next_round_state v e.after) e.verdict))
+    subst (λ (b : Ballot). StepOk v.leader b (elected_by me v (Some p) None)) (sym (verdict_stays me p (begun_at me p v) e.verdict))
     (Rattle.std.proofs.Common.⊎_elim (λ (k : (e.after.leader ≡ v.leader) × (elected_of p.conf e.verdict ≡ None)). let r : StepOk v.leader e.after.leader (elected_of p.conf e.verdict) = inl k in r)
     (λ (k : (is_below v.leader e.after.leader ≡ true) × (elected_of p.conf e.verdict ≡ Some (p.conf, e.after.leader))). let r : StepOk v.leader e.after.leader (elected_of p.conf e.verdict) = inr (k.0, p.conf, k.1) in r)
     (end_ok p.conf (candidate_of me p v) v.heard))
@@ -218,7 +220,7 @@ row_ok me v d (input.Stop members) =
     inl (proposal_stays me d.part v (entry.Stop (stop_for d.part members) ∷ []) (refusal_of me v.role d (entry.Stop (stop_for d.part members) ∷ [])), refl)
 row_ok me v d input.TrimNow = inl (trim_stays me d.part v, refl)
 row_ok me v d (input.Read r) = inl (refl, refl)
-row_ok me v d (input.Up q) = inl (up_stays me d.part d.joining v q, refl)
+row_ok me v d (input.Up q) = inl (up_stays me d d.part d.joining v q, refl)
 row_ok me v d (input.Down q) = inl (refl, refl)
 
 -- ---- a whole step

@@ -35,12 +35,12 @@ use Rattle.op_types.specs.declared.runs.SyncRun.{SyncRun}
 use Rattle.op_types.specs.declared.verdict.Verdict.{Verdict}
 use Rattle.op_types.specs.declared.verdict.Verdict.TheVariants as verdict
 use Rattle.op_protocol.specs.State.{State, Volatile, Waiting, PartStep}
-use Rattle.op_protocol.specs.Election.{Ended, round_end}
 use Rattle.op_protocol.specs.Parts.{pending, is_run_to, is_admitted_body, part_after, part_in_round, cutting, appending, others, messages, promise_bodies, nothing, first}
 use Rattle.op_protocol.specs.Promises.{has_quorum, is_usable, Choice, own_choice, best, chosen_stop, chosen_len, chosen_log, fitting}
 use Rattle.op_protocol.specs.Leader.{counted, count, first_leading, leading_with, adopt, on_promise, promised_once, on_promise_part, on_accepted, on_prepare_req, waiting_as, propose, on_forward_leading, on_forward, session_down, lead}
 use Rattle.op_protocol.specs.Follower.{suffix_start, on_prepare, sync_entries, on_accept_sync, synced_once, on_accept_sync_part, on_accept, on_decide}
-use Rattle.op_protocol.specs.Tick.{candidate_of, next_round_state, by_verdict}
+use Rattle.op_protocol.specs.Tick.{by_verdict}
+use Rattle.op_protocol.proofs.TickCases.{ended_at, begun_at, tick_cases}
 use Rattle.op_protocol.specs.Serving.{serving, dropping}
 use Rattle.op_protocol.specs.Rows.{entries_of, refusal_of, stop_for, on_body, message_at, may_be_above, on_latest, proposal_at, step_at, newly_decided, planned}
 use Rattle.op_protocol.specs.Configurations.{latest_of}
@@ -353,7 +353,8 @@ module _ (me : ℕ) (p : Part) (c : Option Closed) (v : Volatile) where
 
   -- a step
   pub step_quiet : (x : Input) → StepIsQuiet p v (step_at me here v x)
-  step_quiet input.Tick = let e : Ended = round_end (candidate_of me p v) v.heard in verdict_quiet me p (next_round_state v e.after) e.verdict
+  step_quiet input.Tick =
+      tick_cases (λ (x : PartStep). StepIsQuiet p v x) me p v (λ _. verdict_quiet me p (begun_at me p v) (ended_at me p v).verdict) (λ _. same_role p v.role _ refl refl tt)
   step_quiet (input.Deliver q m) =
       cond_both (ltb m.conf (latest_of here)) _ _ (λ (x : PartStep). StepIsQuiet p v x) (λ _. same_role p v.role _ refl refl tt)
       (λ _. cond_both (ltb (latest_of here) m.conf && not (may_be_above m.body)) _ _ (λ (x : PartStep). StepIsQuiet p v x) (λ _. same_role p v.role _ refl refl tt) (λ _. latest_quiet q m.conf m.body))

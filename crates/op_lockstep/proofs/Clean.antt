@@ -46,8 +46,9 @@ use Rattle.op_protocol.specs.Promises.{has_quorum, is_usable, is_above, Choice, 
 use Rattle.op_protocol.specs.Leader.{counted, count, synced_others, sync_start, sync_sends, sends_by, is_synced, first_leading, leading_with, begin_leading, adopt, prepares, given_up_by, first_preparing, lead, on_promise, promised_once, on_promise_part, decided_again, on_accepted, on_prepare_req, extends, waiting_as, forward_body, propose, on_forward_leading, on_forward, session_down}
 use Rattle.op_protocol.specs.Follower.{suffix_start, promise_higher, on_prepare, added_changes, accepts, accept_entries, on_accept, synced_changes, sync_entries, on_accept_sync, unstaged, synced_once, on_first_part, accept_front, appended_staged, on_later_part, on_accept_sync_part, on_decide}
 use Rattle.op_protocol.specs.Trimming.{least_reported, trims, trims_reported, trims_if_all, trim_now, on_progress, on_trim_ask, on_trim}
-use Rattle.op_protocol.specs.Election.{round_end}
-use Rattle.op_protocol.specs.Tick.{candidate_of, next_round_state, requests, remembering, by_verdict, on_tick}
+use Rattle.op_protocol.specs.Tick.{requests, remembering, by_verdict, asks_heard, on_tick}
+use Rattle.op_protocol.specs.Heartbeats.{has_replied}
+use Rattle.op_protocol.proofs.TickCases.{ended_at, begun_at, tick_cases}
 use Rattle.op_protocol.specs.Configurations.{latest_of}
 use Rattle.op_protocol.specs.Joining.{on_base_piece, gives_base, gives_segment}
 use Rattle.op_protocol.specs.Reading.{on_confirm}
@@ -443,7 +444,13 @@ confirm_row p r q n number c = cond_both (is_same_ballot p.promised n) _ _ IsCle
 
 -- ---- a tick
 tick_step : (me : ℕ) (p : Part) (v : Volatile) → NoStops p.tail.items → IsCleanMemory v → IsCleanStep (on_tick me p v)
-tick_step me p v c k = let e = round_end (candidate_of me p v) v.heard in by_verdict_clean (next_round_state v e.after) e.verdict (record { role = k.role; staged = k.staged })
+tick_step me p v c k =
+    let u : Volatile = begun_at me p v in
+    let r : IsCleanMemory u = record { role = k.role; staged = k.staged } in
+    tick_cases IsCleanStep me p v (λ _. by_verdict_clean u (ended_at me p v).verdict r)
+    (λ _. clean_remembering u (requests me p u.round ++ asks_heard me p v.heard) r
+    (Each-append IsCleanSend (requests me p u.round) (asks_heard me p v.heard) (to_each_clean p.conf (others me p.members) (body.HeartbeatRequest u.round) tt)
+    (to_each_clean p.conf (filter (λ q. has_replied v.heard q) (others me p.members)) body.PrepareReq tt)))
   where
     asks : (u : Volatile) → IsCleanMemory u → IsCleanStep (remembering u (requests me p u.round))
     asks u r = clean_remembering u (requests me p u.round) r (to_each_clean p.conf (others me p.members) (body.HeartbeatRequest u.round) tt)
@@ -535,8 +542,9 @@ module _ (me : ℕ) (d : Durable) (v : Volatile) (stays : d.joining ≡ None) (f
   trim_clean None = record { batch = tt; memory = k; sends = tt }
   trim_clean (Some p) = clean_with v (trim_now me p v.role) k.staged (trim_now_row me p v.role k.role)
 
-  up_clean : (o : Option Part) (j : Option Joining) (q : ℕ) → IsCleanStep (up_at me o j v q)
-  up_clean None j q = clean_remembering v [] k tt
+  up_clean : (o : Option Part) (j : Option Joining) (q : ℕ) → IsCleanStep (up_at me d o j v q)
+  up_clean None None q = clean_remembering v (on_older d d.closed q) k (subst (λ (l : Option Closed). Each IsCleanSend (on_older d l q)) (sym first_of_all) tt)
+  up_clean None (Some j) q = clean_remembering v [] k tt
   up_clean (Some p) (Some j) q = clean_remembering v [] k tt
   up_clean (Some p) None q =
       clean_with v (session_up me p v.role q) k.staged

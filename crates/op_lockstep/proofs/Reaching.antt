@@ -17,7 +17,7 @@ use Rattle.op_lockstep.specs.Lockstep.{after_events, ticks, round, after_round, 
 use Rattle.op_lockstep.specs.Reach.{HasRoom, IsOneOf, AreReady, HearsAlone, ElectsItself, ElectsItselfAfter, RoundsReach}
 use Rattle.op_lockstep.proofs.Lists.{Each, Each-map, Each-more, each_of_all, Distinct}
 use Rattle.op_lockstep.proofs.Ends.{Under, greater_under, tick_unheard, tick_own, tick_leader, tick_floor, Settled, Ahead, lonely, ahead_wins}
-use Rattle.op_lockstep.proofs.Changes.{tick_promised}
+use Rattle.op_lockstep.proofs.Changes.{tick_promised, tick_covers}
 use Rattle.op_lockstep.proofs.Seats.{Sits, AllSit, found_id}
 use Rattle.op_lockstep.proofs.Ticking.{Unstopped, tick_part, tick_volatile, ticks_run}
 use Rattle.op_lockstep.proofs.Counting.{told}
@@ -146,7 +146,7 @@ module _ (conf : ℕ) (members : List ℕ) (distinct : Distinct members) (links 
       (λ (settled : Settled (tick_volatile a2 v2 p)). inl (λ some rest is m. subst (λ (t : World). ElectsItself (node_at (after_events t (ticks some)).nodes p)) (sym after2) (settles members distinct w2 a2 v2 parts2.unstopped sit2 p settled some rest is m)))
       (λ (ahead : Ahead (tick_volatile a2 v2 p)). inr (λ some rest is m. subst (λ (t : World). ElectsItself (node_at (after_events t (ticks some)).nodes p)) (sym after3)
       (settles members distinct w3 a3 v3 parts3.unstopped sit3 p (ahead_wins p (a3 p) (v3 p) majority3 (quiet a1 v1 parts1) ahead) some rest is m)))
-      (lonely p (a2 p) (v2 p) majority2 (quiet a0 v0 parts0) fits)
+      (lonely p (a2 p) (v2 p) majority2 (quiet a0 v0 parts0) (tick_covers p (a1 p) (v1 p)) fits)
 
 -- ---- from worlds in which all members are ready
 module _ (conf : ℕ) (members : List ℕ) (distinct : Distinct members) (links : Links) (w : World) (p : ℕ) (ready : AreReady conf members w) (hears : HearsAlone members links p) where

@@ -4,7 +4,7 @@ use Rattle.op_types.specs.declared.log.Entry.{Entry}
 use Rattle.op_spec.specs.Machine.{IsAmong}
 use Rattle.op_paxos.specs.Nodes.{Role, Idle, Preparing, Leading}
 use Rattle.op_paxos.specs.Messages.{Msg, Prepare, Promise, PromisePart, AcceptSync, AcceptSyncPart, Accept, Accepted, Decide, PrepareReq, Refuse, Forward, TrimAsk, Progress, Trim}
-use Rattle.op_paxos.specs.Worlds.{World, Event, Leads, Proposes, Delivers, Restarts, Trims, Links, Unlinks, Stops, run, start}
+use Rattle.op_paxos.specs.Worlds.{World, Event, Leads, Proposes, Delivers, Restarts, Trims, Links, Asks, Unlinks, Stops, run, start}
 use Rattle.op_paxos.specs.Agreement.{proposed_by, proposals, Proposed}
 use Rattle.op_paxos.proofs.Membership.{in_right}
 use Rattle.op_spec.proofs.Safety.{IsAmong-append}
@@ -45,6 +45,7 @@ mine (Delivers a) P h = tt
 mine (Restarts a) P h = tt
 mine (Trims a) P h = tt
 mine (Links a b) P h = tt
+mine (Asks a heard) P h = tt
 mine (Unlinks a b) P h = tt
 
 pub all_mine : (es : List Event) (P : Entry → Type 0) → ((x : Entry) → IsAmong (proposals es) x → P x) → (e : Event) → IsAmong es e → EventV P e

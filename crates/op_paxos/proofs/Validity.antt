@@ -14,7 +14,7 @@ use Rattle.op_paxos.specs.Messages.{PromisedRun, SyncRun, Msg, Prepare, Promise,
 use Rattle.op_paxos.specs.Follower.{suffix_at, promise_of, on_prepare, appended, on_accept, synced_to, on_accept_sync, unstaged, synced_once, on_first_part, appended_staged, on_later_part, on_accept_sync_part, on_decide}
 use Rattle.op_paxos.specs.Leader.{is_above, is_usable, CandidateLog, own_candidate, candidate_of, better, best, sync_at, sync_sends, all_sends, majority_length, recount, adopted_node, new_leading, adopt_with, adopt, has_quorum, prepared, on_elected, on_promise_in, promised_once, on_promise_part_in, on_accepted_in, extended, on_propose_in, on_forward_in, on_prepare_req_in, without}
 use Rattle.op_paxos.specs.Trimming.{on_trim_ask, on_trim, least_report, trim_all, on_progress_in, on_trim_now_in}
-use Rattle.op_paxos.specs.Worlds.{on_msg, Input, Elected, Proposal, Comes, Up, Down, Starts, TrimNow, step, World, Event, Leads, Proposes, Delivers, Restarts, Trims, Links, Unlinks, Stops, taken_by, input_of, fate_of, applied, happens, run, start}
+use Rattle.op_paxos.specs.Worlds.{on_msg, Input, Elected, Proposal, Comes, Up, CutOff, Down, Starts, TrimNow, step, World, Event, Leads, Proposes, Delivers, Restarts, Trims, Links, Asks, Unlinks, Stops, taken_by, input_of, fate_of, applied, happens, run, start}
 use Rattle.op_paxos.specs.Ledger.{refuses_as, refuses}
 use Rattle.op_paxos.proofs.Updates.{upd_both}
 use Rattle.op_paxos.proofs.LeaderSteps.{in_spread}
@@ -319,6 +319,7 @@ module _ (P : Entry → Type 0) where
     step_v nd (Proposal es) h k = propose_v nd nd.role es h h.role k
     step_v nd (Comes q m) h k = msg_v nd q m h k
     step_v nd (Up q) h k = record { node = h; sends = one (packet p q PrepareReq) tt }
+    step_v nd (CutOff heard) h k = record { node = h; sends = spread_v heard PrepareReq tt }
     step_v nd (Down q) h k = still_v _ (record { log = h.log; staged = h.staged; role = without_v q nd.role h.role })
     step_v nd TrimNow h k = trim_now_v nd nd.role h
     step_v nd Starts h k = record { node = record { log = h.log; staged = λ i e k. none_some e k; role = tt }; sends = spread_v (λ q. true) PrepareReq tt }
@@ -331,6 +332,7 @@ module _ (P : Entry → Type 0) where
     fate_v (Restarts a) o h = h
     fate_v (Trims a) o h = h
     fate_v (Links a b) o h = h
+    fate_v (Asks a heard) o h = h
     fate_v (Unlinks a b) o h = h
 
   -- every entry of a world
@@ -367,6 +369,7 @@ module _ (P : Entry → Type 0) where
     inputs_v (Restarts p) k = tt
     inputs_v (Trims p) k = tt
     inputs_v (Links p q) k = tt
+    inputs_v (Asks p heard) k = tt
     inputs_v (Unlinks p q) k = tt
     inputs_v (Stops e) k = inputs_v e k
 
@@ -389,6 +392,7 @@ module _ (P : Entry → Type 0) where
   all_taken w (Restarts a) k = tt
   all_taken w (Trims a) k = tt
   all_taken w (Links a b) k = tt
+  all_taken w (Asks a heard) k = tt
   all_taken w (Unlinks a b) k = tt
 
   pub run_v : (ms : List ℕ) (es : List Event) (w : World) → ((e : Event) → IsAmong es e → EventV e) → WorldV w → WorldV (run ms es w)

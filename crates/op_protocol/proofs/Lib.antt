@@ -1,4 +1,5 @@
 pub mod Bases
+pub mod TickCases
 pub mod PartBatches
 pub mod Based
 pub mod Plans

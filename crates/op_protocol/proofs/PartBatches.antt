@@ -38,6 +38,7 @@ use Rattle.op_protocol.specs.Follower.{suffix_start, promise_higher, on_prepare,
 use Rattle.op_protocol.specs.Trimming.{lesser, least_reported, trims, trims_reported, trim_now, on_progress, on_trim_ask, on_trim}
 use Rattle.op_protocol.specs.Reading.{on_confirm}
 use Rattle.op_protocol.specs.Tick.{elected, by_verdict, on_tick}
+use Rattle.op_protocol.proofs.TickCases.{tick_cases}
 use Rattle.op_protocol.specs.Rows.{on_body, on_message, session_up}
 
 -- ---- what such changes do
@@ -298,7 +299,7 @@ module _ (P : Change → Type 0) (limit : ℕ) (promised : Ballot) (may : RowsHa
   by_verdict_of me p v (verdict.Elected n) same = either (n.pid == me) _ _ (elected_of me p v n same) (quiet none)
 
   pub tick_is : (me : ℕ) (p : Part) (v : Volatile) → p.promised ≡ promised → StepIs P (on_tick me p v)
-  tick_is me p v same = by_verdict_of me p _ _ same
+  tick_is me p v same = tick_cases (StepIs P) me p v (λ _. by_verdict_of me p _ _ same) (λ _. quiet none)
 
   body_of : (me : ℕ) (p : Part) (v : Volatile) (q : ℕ) (b : Body) → p.decided ≤ limit → p.promised ≡ promised → StepIs P (on_body me p v q b)
   body_of me p v q (body.HeartbeatRequest round) low same = quiet none

@@ -223,10 +223,11 @@ module _ (P : Change → Type 0) (limit : ℕ) (promised : Ballot) (has : StepsH
   trim_has me None v k = quiet none
   trim_has me (Some p) v k = quiet (trim_now_is P limit promised has.rows me p v.role k.0).changes
 
-  up_has : (me : ℕ) (o : Option Part) (j : Option Joining) (v : Volatile) (q : ℕ) → StepIs P (up_at me o j v q)
-  up_has me None j v q = quiet none
-  up_has me (Some p) (Some j) v q = quiet none
-  up_has me (Some p) None v q = quiet (session_up_is P limit promised has.rows me p v.role q).changes
+  up_has : (me : ℕ) (d : Durable) (o : Option Part) (j : Option Joining) (v : Volatile) (q : ℕ) → StepIs P (up_at me d o j v q)
+  up_has me d None None v q = quiet none
+  up_has me d None (Some j) v q = quiet none
+  up_has me d (Some p) (Some j) v q = quiet none
+  up_has me d (Some p) None v q = quiet (session_up_is P limit promised has.rows me p v.role q).changes
 
   -- whatever comes
   step_has : (me : ℕ) (d : Durable) (v : Volatile) (x : Input) → IfWithin limit promised d.part → StepIs P (step_at me d v x)
@@ -240,7 +241,7 @@ module _ (P : Change → Type 0) (limit : ℕ) (promised : Ballot) (has : StepsH
       proposal_has me d.part v (entry.Stop (stop_for d.part members) ∷ []) (refusal_of me v.role d (entry.Stop (stop_for d.part members) ∷ []))
   step_has me d v input.TrimNow k = trim_has me d.part v k
   step_has me d v (input.Read r) k = quiet none
-  step_has me d v (input.Up q) k = up_has me d.part d.joining v q
+  step_has me d v (input.Up q) k = up_has me d d.part d.joining v q
   step_has me d v (input.Down q) k = quiet (session_down_is P limit promised has.rows v.role q).changes
 
 -- ---- what every batch has

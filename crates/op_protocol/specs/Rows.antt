@@ -218,10 +218,12 @@ session_up me p r q =
     if is_member nat_eq (others me p.members) q then saying r (message p.conf q body.PrepareReq ∷ [])
     else nothing r
 
--- the same at a node; one that joins asks nobody
-abbrev pub up_at : ℕ → Option Part → Option Joining → Volatile → ℕ → PartStep
-up_at me (Some p) None v q = with_effects v (session_up me p v.role q)
-up_at me p j v q = remembering v []
+-- The same at a node. One that joins asks nobody. By a rule of our own, one that has left its configuration
+-- tells a member of the next one of it again: where no new member was reached before, nobody else tells it.
+abbrev pub up_at : ℕ → Durable → Option Part → Option Joining → Volatile → ℕ → PartStep
+up_at me d (Some p) None v q = with_effects v (session_up me p v.role q)
+up_at me d None None v q = remembering v (on_older d d.closed q)
+up_at me d p (Some j) v q = remembering v []
 
 -- what a step does, but for the base of what it trims, what it decides, what it brings of a closed list, and
 -- what comes of reads
@@ -232,7 +234,7 @@ step_at me d v (input.Commands cs) = proposal_step me d v (entries_of cs)
 step_at me d v (input.Stop members) = proposal_step me d v (entry.Stop (stop_for d.part members) ∷ [])
 step_at me d v input.TrimNow = trim_at me d.part v
 step_at me d v (input.Read r) = remembering v []
-step_at me d v (input.Up q) = up_at me d.part d.joining v q
+step_at me d v (input.Up q) = up_at me d d.part d.joining v q
 step_at me d v (input.Down q) = with_effects v (session_down v.role q)
 
 -- ---- the whole step

@@ -1,5 +1,5 @@
 -- What a step of the table sends: it asks nobody to confirm a ballot, and confirms one only to whom asks for the promise.
-use Rattle.std.proofs.Common.{◌≡◌, ℕ, zero, suc, ◌-◌, ◌+◌, Bool, true, false, not, cond, eqb, is_some, List, [], ◌∷◌, ◌++◌, length, flat_map, Option, Some, None, refl, subst, ◌⊎◌, inl, inr}
+use Rattle.std.proofs.Common.{◌≡◌, ℕ, zero, suc, ◌-◌, ◌+◌, Bool, true, false, not, cond, eqb, is_some, List, [], ◌∷◌, ◌++◌, length, flat_map, Option, Some, None, refl, subst, ◌⊎◌, inl, inr, filter}
 use Rattle.std.specs.Prelude.{◌==◌, ◌&&◌, nat_lt, nat_le, nat_eq, min, ◌||◌}
 use Rattle.std.proofs.lemmas.Bool.{and_parts, eqb-true}
 use Rattle.std.specs.Set.{is_member}
@@ -35,12 +35,13 @@ use Rattle.op_types.specs.declared.runs.SyncRun.{SyncRun}
 use Rattle.op_types.specs.declared.verdict.Verdict.{Verdict}
 use Rattle.op_types.specs.declared.verdict.Verdict.TheVariants as verdict
 use Rattle.op_protocol.specs.State.{State, Volatile, PartStep, Planned, with_effects}
-use Rattle.op_protocol.specs.Election.{round_end}
 use Rattle.op_protocol.specs.Parts.{log_from, pending, is_run_to, is_admitted_body, part_after, part_in_round, appending, decided_since, others, message, messages, sync_run, sync_bodies, promised_run, promise_bodies, to_each, prepare_body, saying, nothing, first}
 use Rattle.op_protocol.specs.Promises.{has_quorum, is_usable, Choice, chosen_log}
 use Rattle.op_protocol.specs.Leader.{counted, count, decides, decided_again, synced_others, sync_start, sync_sends, sends_by, first_leading, leading_with, adopt_with, adopt, prepares, first_preparing, lead, on_promise, promised_once, on_promise_part, on_accepted, on_prepare_req, extends, forward_body, on_forward_leading, on_forward, session_down, propose}
 use Rattle.op_protocol.specs.Follower.{suffix_start, promise_higher, on_prepare, accepts, added_changes, accept_entries, on_accept, synced_changes, sync_entries, on_accept_sync, synced_once, on_first_part, accept_front, appended_staged, on_later_part, on_accept_sync_part, on_decide}
-use Rattle.op_protocol.specs.Tick.{candidate_of, next_round_state, requests, remembering, with_floor_at, only_asks, elected, by_verdict}
+use Rattle.op_protocol.specs.Tick.{requests, remembering, only_asks, elected, by_verdict, asks_heard}
+use Rattle.op_protocol.specs.Heartbeats.{has_replied}
+use Rattle.op_protocol.proofs.TickCases.{ended_at, begun_at, tick_cases}
 use Rattle.op_protocol.specs.Trimming.{least_reported, trims, trims_reported, trims_if_all, trim_now, on_progress, on_trim_ask, on_trim}
 use Rattle.op_protocol.specs.Configurations.{latest_of, latest_members, next_conf_message, new_members, next_conf_body, closing_part, closing}
 use Rattle.op_protocol.specs.Joining.{storing, storing_news, joins, takes_piece, on_base_piece, base_pieces, piece_count, base_bodies, closed_entries, asks_with, part_start, ask_segment, ask_parts, base_donor, gives_base, gives_segment, is_within, goes_on_if, holding}
@@ -317,6 +318,11 @@ plain_answers : (d : Durable) (q : ℕ) (m : Msg) (sends : List (ℕ × Msg)) �
 plain_answers d q m [] k = tt
 plain_answers d q m (s ∷ sends) k = (inl k.0, plain_answers d q m sends k.1)
 
+-- the news of the next configuration
+older_plain : (d : Durable) (q : ℕ) (o : Option Closed) → ArePlain (on_older d o q)
+older_plain d q None = tt
+older_plain d q (Some l) = either ArePlain (is_member nat_eq (latest_members d) q) (next_conf_message l q ∷ []) [] (tt, tt) tt
+
 module _ (me : ℕ) (d : Durable) (v : Volatile) (q : ℕ) where
   -- the same of a step that a message makes
   abbrev Replies : Msg → PartStep → Type 0
@@ -406,10 +412,6 @@ module _ (me : ℕ) (d : Durable) (v : Volatile) (q : ℕ) where
   latest_replies m (body.Confirm z r) says = of_body m (body.Confirm z r) says
   latest_replies m (body.Confirmed z r) says = of_body m (body.Confirmed z r) says
 
-  older_plain : (o : Option Closed) → ArePlain (on_older d o q)
-  older_plain None = tt
-  older_plain (Some l) = either ArePlain (is_member nat_eq (latest_members d) q) (next_conf_message l q ∷ []) [] (tt, tt) tt
-
   newer_plain : (b : Body) → ArePlain (on_newer d q b)
   newer_plain b = either ArePlain (is_some d.joining || (is_of_joining b || is_prepare_req b)) [] (message (latest_of d) q body.PrepareReq ∷ []) tt (tt, tt)
 
@@ -420,7 +422,7 @@ module _ (me : ℕ) (d : Durable) (v : Volatile) (q : ℕ) where
       let older : PartStep = remembering v (on_older d d.closed q) in
       let rest : PartStep = cond (nat_lt (latest_of d) m.conf && not (may_be_above m.body)) newer latest in
       either (Replies m) (is_some d.joining && not (is_of_joining m.body)) (remembering v []) (cond (nat_lt m.conf (latest_of d)) older rest) tt
-      (either (Replies m) (nat_lt m.conf (latest_of d)) older rest (plain_answers d q m _ (older_plain d.closed))
+      (either (Replies m) (nat_lt m.conf (latest_of d)) older rest (plain_answers d q m _ (older_plain d q d.closed))
       (either (Replies m) (nat_lt (latest_of d) m.conf && not (may_be_above m.body)) newer latest (plain_answers d q m _ (newer_plain m.body)) (latest_replies m m.body refl)))
 
 -- ---- the other inputs
@@ -434,7 +436,7 @@ verdict_plain me p v (verdict.Raised b) = requests_plain me p v.round
 verdict_plain me p v (verdict.Elected n) =
     let leads = with_effects v (first [] (requests me p v.round) [] (lead me p v.role n)) in
     either StepIsPlain (n.pid == me) (elected me p v n) (only_asks me p v)
-    (either StepIsPlain (is_below p.promised n) leads (only_asks me p (with_floor_at v p.promised))
+    (either StepIsPlain (is_below p.promised n) leads (only_asks me p v)
     (both_plain (requests me p v.round) _ (requests_plain me p v.round) (leading_plain me p v.role n)) (requests_plain me p v.round)) (requests_plain me p v.round)
 
 segment_asked : (j : Joining) (q from to : ℕ) → ArePlain (ask_segment j q from to)
@@ -453,7 +455,10 @@ tick_plain : (me : ℕ) (o : Option Part) (j : Option Joining) (v : Volatile) �
 tick_plain me None (Some j) v = asks_plain j j.base j.donors
 tick_plain me (Some p) (Some j) v = asks_plain j j.base j.donors
 tick_plain me None None v = tt
-tick_plain me (Some p) None v = let e = round_end (candidate_of me p v) v.heard in verdict_plain me p (next_round_state v e.after) e.verdict
+tick_plain me (Some p) None v =
+    tick_cases StepIsPlain me p v (λ _. verdict_plain me p (begun_at me p v) (ended_at me p v).verdict)
+    (λ _. both_plain (requests me p (begun_at me p v).round) (asks_heard me p v.heard) (requests_plain me p (begun_at me p v).round)
+    (each_plain p.conf (filter (λ q. has_replied v.heard q) (others me p.members)) body.PrepareReq tt))
 
 proposal_plain : (me : ℕ) (o : Option Part) (v : Volatile) (e : List Entry) (r : Option Refusal) → StepIsPlain (proposal_at me o v e r)
 proposal_plain me o v e (Some r) = tt
@@ -464,10 +469,11 @@ trim_now_plain : (me : ℕ) (o : Option Part) (v : Volatile) → StepIsPlain (tr
 trim_now_plain me None v = tt
 trim_now_plain me (Some p) v = asked_plain me p v.role
 
-up_plain : (me : ℕ) (o : Option Part) (j : Option Joining) (v : Volatile) (q : ℕ) → StepIsPlain (up_at me o j v q)
-up_plain me None j v q = tt
-up_plain me (Some p) (Some j) v q = tt
-up_plain me (Some p) None v q = either Plain (is_member nat_eq (others me p.members) q) (saying v.role (message p.conf q body.PrepareReq ∷ [])) (nothing v.role) (tt, tt) tt
+up_plain : (me : ℕ) (d : Durable) (o : Option Part) (j : Option Joining) (v : Volatile) (q : ℕ) → StepIsPlain (up_at me d o j v q)
+up_plain me d None None v q = older_plain d q d.closed
+up_plain me d None (Some j) v q = tt
+up_plain me d (Some p) (Some j) v q = tt
+up_plain me d (Some p) None v q = either Plain (is_member nat_eq (others me p.members) q) (saying v.role (message p.conf q body.PrepareReq ∷ [])) (nothing v.role) (tt, tt) tt
 
 -- what a step sends: where a message comes, a confirmation of what it asks perhaps
 abbrev pub Says : Durable → Input → List (ℕ × Msg) → Type 0
@@ -501,7 +507,7 @@ row_says me d v (input.Commands cs) = proposal_plain me d.part v (entries_of cs)
 row_says me d v (input.Stop members) = proposal_plain me d.part v (entry.Stop (stop_for d.part members) ∷ []) (refusal_of me v.role d (entry.Stop (stop_for d.part members) ∷ []))
 row_says me d v input.TrimNow = trim_now_plain me d.part v
 row_says me d v (input.Read r) = tt
-row_says me d v (input.Up q) = up_plain me d.part d.joining v q
+row_says me d v (input.Up q) = up_plain me d d.part d.joining v q
 row_says me d v (input.Down q) = session_plain v.role q
 
 module _ (me : ℕ) (s : State) (x : Input) where

@@ -1,5 +1,5 @@
 -- The step of a node is the step of the server: input by input.
-use Rattle.std.proofs.Common.{◌≡◌, inl, inr, ℕ, Bool, true, false, not, cond, ◌&&◌, eqb, nat_eq, List, [], ◌∷◌, Option, Some, None, refl, sym, ap, ◌∙◌, subst}
+use Rattle.std.proofs.Common.{◌≡◌, ◌≤◌, inl, inr, ℕ, Bool, true, false, not, cond, ◌&&◌, eqb, nat_eq, List, [], ◌∷◌, length, Option, Some, None, refl, sym, ap, ◌∙◌, subst}
 use Rattle.std.specs.Set.{is_member}
 use Rattle.std.proofs.lemmas.Bool.{both_ways}
 use Rattle.op_types.specs.Roles.{Role}
@@ -23,6 +23,7 @@ use Rattle.op_refinement.proofs.Lookups.{is_member-filtered}
 use Rattle.op_refinement.proofs.TrimRows.{row_matches}
 use Rattle.op_refinement.proofs.PartRows.{propose_goes, up_goes, down_goes}
 use Rattle.op_refinement.proofs.Relation.{PartRel, all_before, IfPartRel, AreLetters, StepRel}
+use Rattle.op_refinement.proofs.Others.{older_rel}
 use Rattle.op_refinement.proofs.Inputs.{NodeFacts, step_by, proposal_event, WholeAfter, rest_rel, rest_partless, known_there, acted_there, quiet_calm, trim_now_there}
 use Rattle.op_refinement.proofs.Proposing.{unrefused}
 use Rattle.op_refinement.proofs.Proposals.{Taken, taken, partless_refuses}
@@ -103,8 +104,9 @@ module _ (lists : ℕ → List Entry) (soup : List Letter) (me : ℕ) (f : Fate)
   member_same : (p : StoredPart) (pt : Part) → p.members ≡ pt.members → (q : ℕ) → is_member nat_eq (others me p.members) q ≡ (is_member nat_eq pt.members q && not (eqb q me))
   member_same p pt e q = is_member-filtered (λ r. not (eqb r me)) p.members q ∙ ap (λ (xs : List ℕ). is_member nat_eq xs q && not (eqb q me)) e
 
-  pub up_rel : (q : ℕ) → WholeAfter lists (server.links_in f me st st.joining q st.part) → StepRel lists me f s.durable (plan_of me s s.waiting (up_at me s.durable.part s.durable.joining s.volatile q)) (server.links_in f me st st.joining q st.part)
-  up_rel q w = joins s.durable.joining refl st.joining refl (k.rel).joining w
+  pub up_rel : (q : ℕ) → ((x : Closed) → st.closed ≡ Some x → x.trimmed ≤ length x.list) → WholeAfter lists (server.links_in f me st st.joining q st.part)
+      → StepRel lists me f s.durable (plan_of me s s.waiting (up_at me s.durable s.durable.part s.durable.joining s.volatile q)) (server.links_in f me st st.joining q st.part)
+  up_rel q low w = joins s.durable.joining refl st.joining refl (k.rel).joining w
     where
       at_part : (p : StoredPart) (pt : Part) → s.durable.part ≡ Some p → st.part ≡ Some pt → (r : PartRel (all_before lists pt.conf) p s.volatile pt) → s.durable.joining ≡ None → st.joining ≡ None → (b c : Bool) → b ≡ c → WholeAfter lists (cond c (acted f me st pt 0 (pure.Up q)) (unchanged st))
           → StepRel lists me f s.durable (plan_of me s s.waiting (with_effects s.volatile (cond b (saying s.volatile.role (message p.conf q body.PrepareReq ∷ [])) (nothing s.volatile.role)))) (cond c (acted f me st pt 0 (pure.Up q)) (unchanged st))
@@ -116,19 +118,19 @@ module _ (lists : ℕ → List Entry) (soup : List Letter) (me : ℕ) (f : Fate)
       at_part p pt hs ht r hj tj false true e w = absurd (both_ways false refl e)
 
       parts : s.durable.joining ≡ None → st.joining ≡ None → (d : Option StoredPart) → s.durable.part ≡ d → (o : Option Part) → st.part ≡ o → IfPartRel lists d s.volatile o → WholeAfter lists (server.links_in f me st None q o)
-          → StepRel lists me f s.durable (plan_of me s s.waiting (up_at me d None s.volatile q)) (server.links_in f me st None q o)
-      parts hj tj None hs None ht r w = rest_rel lists soup me f s st k s.waiting (up_at me None None s.volatile q) refl [] refl tt
+          → StepRel lists me f s.durable (plan_of me s s.waiting (up_at me s.durable d None s.volatile q)) (server.links_in f me st None q o)
+      parts hj tj None hs None ht r w = older_rel lists soup me f s st k q low
       parts hj tj None hs (Some pt) ht r w = absurd r
       parts hj tj (Some p) hs None ht r w = absurd r
       parts hj tj (Some p) hs (Some pt) ht r w = at_part p pt hs ht r hj tj _ _ (member_same p pt r.members q) w
 
       joins : (d : Option StoredJoining) → s.durable.joining ≡ d → (j : Option Joining) → st.joining ≡ j → HoldsIfJoining lists d j → WholeAfter lists (server.links_in f me st j q st.part)
-          → StepRel lists me f s.durable (plan_of me s s.waiting (up_at me s.durable.part d s.volatile q)) (server.links_in f me st j q st.part)
+          → StepRel lists me f s.durable (plan_of me s s.waiting (up_at me s.durable s.durable.part d s.volatile q)) (server.links_in f me st j q st.part)
       joins None hj None tj y w = parts hj tj s.durable.part refl st.part refl (k.rel).part w
       joins None hj (Some j) tj y w = absurd y
       joins (Some d) hj None tj y w = absurd y
       joins (Some d) hj (Some j) tj y w = by s.durable.part
         where
-          by : (p : Option StoredPart) → StepRel lists me f s.durable (plan_of me s s.waiting (up_at me p (Some d) s.volatile q)) (unchanged st)
-          by None = rest_rel lists soup me f s st k s.waiting (up_at me None (Some d) s.volatile q) refl [] refl tt
-          by (Some p) = rest_rel lists soup me f s st k s.waiting (up_at me (Some p) (Some d) s.volatile q) refl [] refl tt
+          by : (p : Option StoredPart) → StepRel lists me f s.durable (plan_of me s s.waiting (up_at me s.durable p (Some d) s.volatile q)) (unchanged st)
+          by None = rest_rel lists soup me f s st k s.waiting (up_at me s.durable None (Some d) s.volatile q) refl [] refl tt
+          by (Some p) = rest_rel lists soup me f s st k s.waiting (up_at me s.durable (Some p) (Some d) s.volatile q) refl [] refl tt

@@ -29,7 +29,7 @@ use Rattle.op_refinement.proofs.Relation.{StateRel, IfServes, AreLetters}
 use Rattle.op_refinement.proofs.Letters.{IfLetter, letter_at}
 use Rattle.op_protocol.specs.Reading.{leading_at}
 use Rattle.op_protocol.proofs.Asked.{takes_read}
-use Rattle.op_refinement.proofs.Inputs.{event_of, is_past, long_in, read_as, proposal_event}
+use Rattle.op_refinement.proofs.Inputs.{event_of, ballot_at, asks_some_at, tick_event, is_past, long_in, read_as, proposal_event}
 use Rattle.op_refinement.proofs.Steps.{AllRead, StepsGo}
 use Rattle.op_refinement.proofs.Worlds.{lists_of, world_of, state_of, state_on, serves_on, facts_of}
 use Rattle.op_refinement.proofs.Beside.{IfSent, IfStatus, StoppedAs, Between, NodeRel, IsBeside, Goes, beside_moved}
@@ -297,12 +297,16 @@ module _ (go : StepsGo) (Fine : Entry → Type 0) (reads : FineRuns Fine) (first
           delivered false None = tt
           delivered false (Some total) = tt
 
+          ticking : (c : Bool) → IfFine (Some (tick_event c (ballot_at p n.state.durable.part n.state.durable.joining n.state.volatile) n.state.volatile.heard))
+          ticking true = tt
+          ticking false = tt
+
           asking : (c : Bool) → IfFine (cond c (Some (server.Ticks None)) None)
           asking true = tt
           asking false = tt
 
           by : (y : Input) → InputIsFine Fine size y → IfFine (event_of p n.state i l y)
-          by input.Tick f = tt
+          by input.Tick f = ticking (asks_some_at p n.state.durable.part n.state.durable.joining n.state.volatile)
           by (input.Deliver q msg) f = delivered (is_past n.state.durable.part n.state.durable.joining msg) (long_in n.state.durable msg)
           by (input.Commands cs) f = proposed (entries_of cs) (refusal_of p n.state.volatile.role n.state.durable (entries_of cs)) f
           by (input.Stop members) f = proposed (entry.Stop (stop_for n.state.durable.part members) ∷ []) (refusal_of p n.state.volatile.role n.state.durable (entry.Stop (stop_for n.state.durable.part members) ∷ [])) ((f.0 (stop_for n.state.durable.part members), tt), f.1)
@@ -316,6 +320,7 @@ module _ (go : StepsGo) (Fine : Entry → Type 0) (reads : FineRuns Fine) (first
       one_event f (server.ReadsLong j total y) r k = (ap worlds.reader r.0 ∙ ap Some r.1, tt, omega arith)
       one_event f (server.Proposes e) r k = (refl, k.0, k.1)
       one_event f (server.Ticks o) r k = (refl, tt, omega arith)
+      one_event f (server.TicksAlone heard) r k = (refl, tt, omega arith)
       one_event f server.Trims r k = (refl, tt, omega arith)
       one_event f (server.Links q) r k = (refl, tt, omega arith)
       one_event f (server.Unlinks q) r k = (refl, tt, omega arith)

@@ -19,6 +19,7 @@ use Rattle.op_types.specs.declared.events.Input.TheVariants as input
 use Rattle.op_types.specs.declared.log.Entry.{Entry}
 use Rattle.op_types.specs.declared.log.Entry.TheVariants as entry
 use Rattle.op_types.specs.declared.log.StopSign.{StopSign}
+use Rattle.op_types.specs.declared.messages.Heard.{Heard}
 use Rattle.op_types.specs.declared.messages.Msg.{Msg}
 use Rattle.op_types.specs.declared.messages.Body.{Body}
 use Rattle.op_types.specs.declared.messages.Body.TheVariants as body
@@ -31,7 +32,9 @@ use Rattle.op_protocol.specs.Parts.{is_admitted_body, part_after, decided_since}
 use Rattle.op_protocol.specs.Configurations.{closing_from, closing}
 use Rattle.op_protocol.specs.Rows.{refusal_of, stop_for, entries_of, planned, plan_of, newly_decided, step_plan, trim_at, step_at, waiting_at}
 use Rattle.op_protocol.specs.Reading.{leading_at}
+use Rattle.op_protocol.specs.Heartbeats.{has_replied}
 use Rattle.op_protocol.proofs.Asked.{takes_read}
+use Rattle.op_protocol.proofs.TickCases.{asks_some}
 use Rattle.op_runs.specs.World.{sent_by}
 use Rattle.op_paxos.specs.Steps.{IsQuiet}
 use Rattle.op_paxos.proofs.StepKeeping.{quiet_keeps_vote}
@@ -53,6 +56,16 @@ use Rattle.op_refinement.proofs.AtParts.{AtPart, known, part_rel}
 abbrev pub ballot_at : ℕ → Option StoredPart → Option StoredJoining → Volatile → Option ℕ
 ballot_at me (Some p) None v = tick_ballot me p v
 ballot_at me p j v = None
+
+-- whether a tick asks those that it heard to prepare the node
+abbrev pub asks_some_at : ℕ → Option StoredPart → Option StoredJoining → Volatile → Bool
+asks_some_at me (Some p) None v = asks_some me p v
+asks_some_at me p j v = false
+
+-- the event that a tick is, by whether it does
+abbrev pub tick_event : Bool → Option ℕ → List Heard → Event
+tick_event true o heard = server.TicksAlone (has_replied heard)
+tick_event false o heard = server.Ticks o
 
 -- a message is within the limits; a leader's question counts where its ballot is promised
 abbrev pub counts_at : StoredPart → Body → Bool
@@ -99,7 +112,8 @@ delivery_event s n m msg o = cond (is_past s.durable.part s.durable.joining msg)
 -- The event that an input is, where a message is this letter, of this number. A leader that takes a read asks its
 -- members as a tick does.
 abbrev pub event_of : ℕ → table.State → ℕ → Letter → Input → Option Event
-event_of me s n m input.Tick = Some (server.Ticks (ballot_at me s.durable.part s.durable.joining s.volatile))
+event_of me s n m input.Tick =
+    Some (tick_event (asks_some_at me s.durable.part s.durable.joining s.volatile) (ballot_at me s.durable.part s.durable.joining s.volatile) s.volatile.heard)
 event_of me s n m (input.Deliver q msg) = delivery_event s n m msg (long_in s.durable msg)
 event_of me s n m (input.Commands cs) = proposal_event (entries_of cs) (refusal_of me s.volatile.role s.durable (entries_of cs))
 event_of me s n m (input.Stop members) = proposal_event (entry.Stop (stop_for s.durable.part members) ∷ []) (refusal_of me s.volatile.role s.durable (entry.Stop (stop_for s.durable.part members) ∷ []))

@@ -21,7 +21,7 @@ use Rattle.op_refinement.proofs.Relation.{StateRel, IfServes, IsLetter, AreLette
 use Rattle.op_refinement.proofs.Letters.{IfLetter, letter_at}
 use Rattle.op_protocol.specs.Reading.{leading_at}
 use Rattle.op_protocol.proofs.Asked.{takes_read}
-use Rattle.op_refinement.proofs.Inputs.{event_of, step_by, is_past, long_in, read_as, proposal_event}
+use Rattle.op_refinement.proofs.Inputs.{event_of, ballot_at, asks_some_at, tick_event, step_by, is_past, long_in, read_as, proposal_event}
 use Rattle.op_refinement.proofs.Steps.{IfComes, AllRead, StepsGo}
 use Rattle.op_refinement.proofs.Worlds.{lists_of, world_of, state_of, grows_of, letters_on, facts_of}
 use Rattle.op_refinement.proofs.Beside.{IfSent, IfStatus, StoppedAs, Inside, NodeRel}
@@ -96,12 +96,16 @@ module _ (go : StepsGo) (first : List ℕ) (ks : List Happening) (messages : Lis
       proposed e None = tt
       proposed e (Some r) = tt
 
+      ticking : (b : Bool) → IfReads first ks own running (Some (tick_event b (ballot_at own n.state.durable.part n.state.durable.joining n.state.volatile) n.state.volatile.heard))
+      ticking true = tt
+      ticking false = tt
+
       asking : (b : Bool) → IfReads first ks own running (cond b (Some (server.Ticks None)) None)
       asking true = tt
       asking false = tt
 
       by : (y : Input) → IfSent messages (world_of first ks).soup own i m y → IfReads first ks own running (event_of own n.state i m y)
-      by input.Tick s = tt
+      by input.Tick s = ticking (asks_some_at own n.state.durable.part n.state.durable.joining n.state.volatile)
       by (input.Deliver q msg) s = delivered q msg s (is_past n.state.durable.part n.state.durable.joining msg) (long_in n.state.durable msg)
       by (input.Commands cs) s = proposed _ (refusal_of own n.state.volatile.role n.state.durable (Rattle.op_protocol.specs.Rows.entries_of cs))
       by (input.Stop members) s = proposed _ (refusal_of own n.state.volatile.role n.state.durable (Rattle.op_types.specs.declared.log.Entry.TheVariants.Stop (stop_for n.state.durable.part members) ∷ []))

@@ -1,7 +1,7 @@
 -- What a node does at its part is a step of the pure machine inside the configuration.
-use Rattle.std.proofs.Common.{◌≡◌, ◌<◌, inl, ℕ, ◌+◌, Bool, true, false, not, ◌||◌, cond, eqb, ltb, leb, is_some, List, [], ◌∷◌, length, Option, Some, None, refl, sym, ap, ◌∙◌, arith}
+use Rattle.std.proofs.Common.{◌≡◌, ◌<◌, inl, ℕ, ◌+◌, Bool, true, false, not, ◌||◌, cond, eqb, ltb, leb, is_some, List, [], ◌∷◌, ◌++◌, length, Option, Some, None, refl, sym, ap, ◌∙◌, arith}
 use Rattle.std.specs.Prelude.{IfSome}
-use Rattle.std.proofs.lemmas.Bool.{cond_both, eqb-true, or_left, or_right, lt-ltb, leb-false}
+use Rattle.std.proofs.lemmas.Bool.{cond_both, eqb-true, or_left, or_right, both_ways, lt-ltb, leb-false}
 use Rattle.op_types.specs.Ballots.{is_below}
 use Rattle.op_types.specs.Changes.{len_of}
 use Rattle.op_types.specs.Effects.{Effects}
@@ -21,7 +21,9 @@ use Rattle.op_protocol.specs.State.{Volatile, PartStep, with_effects, staged_aft
 use Rattle.op_protocol.specs.Election.{Ended, round_end}
 use Rattle.op_protocol.specs.Parts.{pending, is_admitted_body, message, nothing, saying, first, has_stop as parts_has_stop}
 use Rattle.op_protocol.specs.Leader.{lead, on_forward, on_forward_leading, session_down, propose, extends}
-use Rattle.op_protocol.specs.Tick.{candidate_of, next_round_state, requests, with_floor_at, only_asks, elected, by_verdict, on_tick}
+use Rattle.op_protocol.specs.Tick.{candidate_of, requests, only_asks, elected, by_verdict, asks_heard, also_sending, on_tick}
+use Rattle.op_protocol.specs.Heartbeats.{has_replied}
+use Rattle.op_protocol.proofs.TickCases.{ended_at, begun_at, asks_some, tick_cases}
 use Rattle.op_protocol.specs.Rows.{on_body, entries_of}
 use Rattle.op_paxos.proofs.Tidy.{Tidy}
 use Rattle.op_spec.specs.Machine.{stop_of}
@@ -30,7 +32,7 @@ use Rattle.op_paxos.specs.Leader.{on_forward_in as pure_forward_in, on_propose_i
 use Rattle.op_paxos.specs.Worlds.{step as pure_step, on_msg as pure_on_msg}
 use Rattle.op_configurations.proofs.PartFacts.{Comable}
 use Rattle.op_refinement.proofs.Pure as pure
-use Rattle.op_refinement.proofs.View.{rank, whole_log, view, view_role, view_promised_run, view_leading, view_body, Fits, PartIsSmall, RoleIsSmall, BodyIsSmall, said_one}
+use Rattle.op_refinement.proofs.View.{rank, whole_log, view, view_role, view_promised_run, view_leading, view_body, Fits, PartIsSmall, RoleIsSmall, BodyIsSmall, said_one, said_broadcast}
 use Rattle.op_refinement.proofs.Logs.{len_of-whole, IsOpen, pending-whole}
 use Rattle.op_refinement.proofs.Matching.{Matches, effects_in, match_saying, match_nothing}
 use Rattle.op_refinement.proofs.FollowerRows.{prepare_matches, accept_matches, accept_sync_matches, decide_matches}
@@ -67,6 +69,13 @@ pub record Asked (me : ℕ) (p : Part) (v : Volatile) (x : PartStep) : Type 0 wh
 pub record LedBy (front : List Entry) (me : ℕ) (p : Part) (v : Volatile) (b : ℕ) (x : PartStep) : Type 0 where
   pub led : Led front me p v x
   pub ballot_is : rank led.ballot ≡ b
+
+-- or it asks for heartbeats, and those that it heard are asked for a Prepare
+pub record AskedToo (me : ℕ) (p : Part) (v : Volatile) (x : PartStep) : Type 0 where
+  pub round : ℕ
+  pub is : effects_in x ≡ saying v.role (requests me p round ++ asks_heard me p v.heard)
+  pub staged : x.volatile.staged ≡ v.staged
+  pub pieces : x.volatile.pieces ≡ v.pieces
 
 -- a tick, by the ballot that it leads, if it leads one
 abbrev pub TickIs : List Entry → ℕ → Part → Volatile → Option ℕ → PartStep → Type 0
@@ -207,7 +216,7 @@ module _ (packets : List pure.Packet) (me : ℕ) (front : List Entry) (p : Part)
   elected_goes : (w : Volatile) → IsSame w → (n : Ballot) → n.pid ≡ me → TickIs front me p v (elected_ballot p n) (elected me p w n)
   unfolding pure_step
   elected_goes w e n own =
-      of_conds (TickIs front me p v) (is_below p.promised n) (Some (rank n)) None (with_effects w (first [] (requests me p w.round) [] (lead me p w.role n))) (only_asks me p (with_floor_at w p.promised))
+      of_conds (TickIs front me p v) (is_below p.promised n) (Some (rank n)) None (with_effects w (first [] (requests me p w.round) [] (lead me p w.role n))) (only_asks me p w)
       (λ h. record {
         led = record {
           ballot = n;
@@ -219,7 +228,7 @@ module _ (packets : List pure.Packet) (me : ℕ) (front : List Entry) (p : Part)
         };
         ballot_is = refl;
       })
-      (λ _. asked (with_floor_at w p.promised) e)
+      (λ _. asked w e)
 
   verdict_goes : (w : Volatile) → IsSame w → (x : Verdict) → TickIs front me p v (verdict_ballot me p x) (by_verdict me p w x)
   verdict_goes w e verdict.Nobody = asked w e
@@ -228,7 +237,18 @@ module _ (packets : List pure.Packet) (me : ℕ) (front : List Entry) (p : Part)
       of_conds (TickIs front me p v) (eqb n.pid me) (elected_ballot p n) None (elected me p w n) (only_asks me p w)
       (λ h. elected_goes w e n (eqb-true n.pid me h)) (λ _. asked w e)
 
-  pub tick_goes : TickIs front me p v (tick_ballot me p v) (on_tick me p v)
-  tick_goes =
-      let e : Ended = round_end (candidate_of me p v) v.heard in
-      verdict_goes (next_round_state v e.after) (refl, refl, refl) e.verdict
+  pub tick_goes : asks_some me p v ≡ false → TickIs front me p v (tick_ballot me p v) (on_tick me p v)
+  tick_goes none =
+      tick_cases (TickIs front me p v (tick_ballot me p v)) me p v (λ _. verdict_goes (begun_at me p v) (refl, refl, refl) (ended_at me p v).verdict)
+      (λ some. absurd (both_ways (asks_some me p v) none some))
+
+  -- ---- a tick that heard no majority
+  asked_too : AskedToo me p v (also_sending (only_asks me p (begun_at me p v)) (asks_heard me p v.heard))
+  asked_too = record { round = (begun_at me p v).round; is = refl; staged = refl; pieces = refl }
+
+  pub alone_goes : asks_some me p v ≡ true → AskedToo me p v (on_tick me p v)
+  alone_goes some = tick_cases (AskedToo me p v) me p v (λ none. absurd (both_ways (asks_some me p v) none some)) (λ _. asked_too)
+
+  pub cut_off_goes : Matches front me p v.staged (saying v.role (asks_heard me p v.heard)) (pure.step p.members me node (pure.CutOff (has_replied v.heard)))
+  unfolding pure_step
+  cut_off_goes = match_saying front me p v.staged v.role _ _ k.small k.small_role (said_broadcast me p.conf (has_replied v.heard) body.PrepareReq pure.PrepareReq refl tt p.members)

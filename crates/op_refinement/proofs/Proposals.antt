@@ -7,9 +7,11 @@ use Rattle.op_types.specs.declared.events.Input.{Input}
 use Rattle.op_types.specs.declared.events.Input.TheVariants as input
 use Rattle.op_types.specs.declared.log.Entry.{Entry}
 use Rattle.op_types.specs.declared.log.Entry.TheVariants as entry
+use Rattle.op_types.specs.declared.messages.Heard.{Heard}
 use Rattle.op_spec.specs.Machine.{Machine}
 use Rattle.op_spec.specs.Ledger.{machine_proposing}
 use Rattle.op_protocol.specs.State as table
+use Rattle.op_protocol.specs.Heartbeats.{has_replied}
 use Rattle.op_protocol.specs.Rows.{refusal_of, stop_for, entries_of}
 use Rattle.op_runs.specs.Run.{machine_proposing_in, machine_proposing_entries, machine_proposing_input}
 use Rattle.op_configurations.specs.Servers as server
@@ -23,7 +25,7 @@ use Rattle.op_refinement.proofs.Relation.{PartRel, all_before, IfPartRel}
 use Rattle.op_refinement.proofs.Proposing.{unrefused, may_propose}
 use Rattle.op_protocol.specs.Reading.{leading_at}
 use Rattle.op_protocol.proofs.Asked.{takes_read}
-use Rattle.op_refinement.proofs.Inputs.{NodeFacts, event_of, ballot_at, is_past, long_in, read_as, proposal_event, known_there}
+use Rattle.op_refinement.proofs.Inputs.{NodeFacts, event_of, ballot_at, asks_some_at, tick_event, is_past, long_in, read_as, proposal_event, known_there}
 use Rattle.op_refinement.proofs.Worlds.{world_of, state_of}
 use Rattle.op_refinement.proofs.PureMoves.{late_of}
 
@@ -32,6 +34,13 @@ some_none a e = cc
 
 ticks_differ : (o : Option ℕ) (p : List Entry) → server.Ticks o ≡ server.Proposes p → ⊥
 ticks_differ o p e = cc
+
+alone_differs : (heard : ℕ → Bool) (p : List Entry) → server.TicksAlone heard ≡ server.Proposes p → ⊥
+alone_differs heard p e = cc
+
+tick_differs : (b : Bool) (o : Option ℕ) (heard : List Heard) (p : List Entry) → tick_event b o heard ≡ server.Proposes p → ⊥
+tick_differs true o heard p = alone_differs (has_replied heard) p
+tick_differs false o heard p = ticks_differ o p
 
 -- what the first of these happenings proposes
 abbrev pub proposed_first : Machine → World → List Happening → Machine
@@ -120,6 +129,8 @@ module _ (lists : ℕ → List Entry) (first : List ℕ) (ks : List Happening) (
   plain_late Stopped (server.Proposes p) d = absurd (d p refl)
   plain_late Done (server.Ticks o) d = refl
   plain_late Stopped (server.Ticks o) d = refl
+  plain_late Done (server.TicksAlone heard) d = refl
+  plain_late Stopped (server.TicksAlone heard) d = refl
   plain_late Done server.Trims d = refl
   plain_late Stopped server.Trims d = refl
   plain_late Done (server.Links q) d = refl
@@ -134,8 +145,9 @@ module _ (lists : ℕ → List Entry) (first : List ℕ) (ks : List Happening) (
   -- the same is proposed
   pub proposals_late : (x : Input) (n : ℕ) (l : Letter) → machine_proposing_input m me s x ≡ proposed_first m w (late_of first ks me running f (event_of me s n l x))
   proposals_late input.Tick n l =
+      let b : Bool = asks_some_at me s.durable.part s.durable.joining s.volatile in
       let o : Option ℕ = ballot_at me s.durable.part s.durable.joining s.volatile in
-      plain_late f (server.Ticks o) (λ p e. ticks_differ o p e)
+      plain_late f (tick_event b o s.volatile.heard) (λ p e. tick_differs b o s.volatile.heard p e)
   proposals_late (input.Deliver q msg) n l = deliver_late f n l (is_past s.durable.part s.durable.joining msg) (long_in s.durable msg)
   proposals_late (input.Commands cs) n l = entry_late (entries_of cs) (commands_end cs) (refusal_of me s.volatile.role s.durable (entries_of cs)) refl
   proposals_late (input.Stop members) n l = entry_late (entry.Stop (stop_for s.durable.part members) ∷ []) refl (refusal_of me s.volatile.role s.durable (entry.Stop (stop_for s.durable.part members) ∷ [])) refl

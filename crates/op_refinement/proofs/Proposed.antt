@@ -10,6 +10,7 @@ use Rattle.op_configurations.specs.Worlds.{Happening}
 abbrev pub event_proposal : Event → List Entry
 event_proposal (server.Proposes es) = es
 event_proposal (server.Ticks o) = []
+event_proposal (server.TicksAlone heard) = []
 event_proposal server.Trims = []
 event_proposal (server.Links q) = []
 event_proposal (server.Unlinks q) = []

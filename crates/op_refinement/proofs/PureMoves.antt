@@ -109,6 +109,7 @@ module _ (first : List ℕ) (ks : List Happening) (p : ℕ) (running : ((world_o
   event_goes f (server.Reads n m) k = goes_with first ks (Delivers f n) p _ _ _ (delivery_is f n m k.0 k.1)
   event_goes f (server.ReadsLong n total m) k = goes_with first ks (worlds.DeliversLong f n total) p _ _ _ (long_is f n total m k.0 k.1)
   event_goes f (server.Ticks o) k = goes_with first ks (At f p (server.Ticks o)) p _ _ _ (event_is f (server.Ticks o) refl)
+  event_goes f (server.TicksAlone heard) k = goes_with first ks (At f p (server.TicksAlone heard)) p _ _ _ (event_is f (server.TicksAlone heard) refl)
   event_goes f (server.Proposes e) k = goes_with first ks (At f p (server.Proposes e)) p _ _ _ (event_is f (server.Proposes e) refl)
   event_goes f server.Trims k = goes_with first ks (At f p server.Trims) p _ _ _ (event_is f server.Trims refl)
   event_goes f (server.Links q) k = goes_with first ks (At f p (server.Links q)) p _ _ _ (event_is f (server.Links q) refl)
@@ -119,6 +120,7 @@ module _ (first : List ℕ) (ks : List Happening) (p : ℕ) (running : ((world_o
   event_world f (server.Reads n m) k = delivery_is f n m k.0 k.1
   event_world f (server.ReadsLong n total m) k = long_is f n total m k.0 k.1
   event_world f (server.Ticks o) k = event_is f (server.Ticks o) refl
+  event_world f (server.TicksAlone heard) k = event_is f (server.TicksAlone heard) refl
   event_world f (server.Proposes e) k = event_is f (server.Proposes e) refl
   event_world f server.Trims k = event_is f server.Trims refl
   event_world f (server.Links q) k = event_is f (server.Links q) refl

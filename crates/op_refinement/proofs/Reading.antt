@@ -50,6 +50,7 @@ proposing_was m sv p es x (worlds.Down o) c i = inl (c, i)
 event_was : (m : Machine) (sv : Server) (p : ℕ) (e : Event) (l : Life) (x : Entry) (c : ℕ) → IsAmong ((proposed_at m sv p e l).proposed c) x → Was m (event_proposal e) x
 event_was m sv p (server.Proposes e) l x c i = proposing_was m sv p e x l c i
 event_was m sv p (server.Ticks o) l x c i = inl (c, i)
+event_was m sv p (server.TicksAlone heard) l x c i = inl (c, i)
 event_was m sv p server.Trims l x c i = inl (c, i)
 event_was m sv p (server.Links q) l x c i = inl (c, i)
 event_was m sv p (server.Unlinks q) l x c i = inl (c, i)
@@ -101,6 +102,7 @@ among_each P (y ∷ xs) k x (inr i) = among_each P xs k.1 x i
 event_fit : (f : Fate) (p : ℕ) (e : Event) → IsFine IsFit (worlds.At f p e) → (x : Entry) → IsAmong (event_proposal e) x → IsFit x
 event_fit f p (server.Proposes es) k x i = among_each IsFit es k x i
 event_fit f p (server.Ticks o) k x i = absurd i
+event_fit f p (server.TicksAlone heard) k x i = absurd i
 event_fit f p server.Trims k x i = absurd i
 event_fit f p (server.Links q) k x i = absurd i
 event_fit f p (server.Unlinks q) k x i = absurd i

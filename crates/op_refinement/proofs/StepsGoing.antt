@@ -152,7 +152,7 @@ module _ (first : List ℕ) (lists : ℕ → List Entry) (soup : List Letter) (m
   step_rel (input.Stop members) c a = reads_rel lists me f s (input.Stop members) _ refl (proposal_rel lists soup me f s st k (entry.Stop (stop_for s.durable.part members) ∷ []) refl s.waiting (refusal_of me s.volatile.role s.durable (entry.Stop (stop_for s.durable.part members) ∷ [])) refl (whole (step_by f me st (event_of me s n m (input.Stop members))) a))
   step_rel input.TrimNow c a = reads_rel lists me f s input.TrimNow _ refl (trim_now_rel lists soup me f s st k (whole (step_by f me st (event_of me s n m input.TrimNow)) a))
   step_rel (input.Read r) c a = read_rel lists soup me f s st k r n m
-  step_rel (input.Up q) c a = reads_rel lists me f s (input.Up q) _ refl (up_rel lists soup me f s st k q (whole (step_by f me st (event_of me s n m (input.Up q))) a))
+  step_rel (input.Up q) c a = reads_rel lists me f s (input.Up q) _ refl (up_rel lists soup me f s st k q (λ c e. (before.closed c e).trimmed) (whole (step_by f me st (event_of me s n m (input.Up q))) a))
   step_rel (input.Down q) c a = reads_rel lists me f s (input.Down q) _ refl (down_rel lists soup me f s st k q (whole (step_by f me st (event_of me s n m (input.Down q))) a))
 
 -- each step of a node is the step of the server
