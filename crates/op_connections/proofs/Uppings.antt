@@ -1,6 +1,7 @@
 -- What an Up and a Down give out: an Up at most messages to its peer, a Down nothing.
-use Rattle.std.proofs.Common.{nat_eq, ◌≡◌, ◌∷◌, ◌⊎◌, inl, inr, [], ℕ, Bool, true, false, List, Option, Some, None, refl, sym, ap, ◌∙◌, if◌then◌else◌}
+use Rattle.std.proofs.Common.{nat_eq, ◌≡◌, ◌∷◌, ◌⊎◌, inl, inr, [], ℕ, ◌+◌, Bool, true, false, List, Option, Some, None, refl, sym, ap, ◌∙◌, if◌then◌else◌}
 use Rattle.op_types.specs.declared.durable.Part.{Part}
+use Rattle.op_types.specs.declared.durable.Closed.{Closed}
 use Rattle.op_types.specs.declared.durable.Joining.{Joining}
 use Rattle.op_types.specs.declared.events.Input.{Input}
 use Rattle.op_types.specs.declared.events.Input.TheVariants as input
@@ -13,7 +14,9 @@ use Rattle.op_protocol.specs.State.{State, Volatile, with_effects}
 use Rattle.op_protocol.specs.Parts.{others, message, nothing, saying}
 use Rattle.op_protocol.specs.Leader.{session_down}
 use Rattle.op_protocol.specs.Reading.{adopted_of, asking_by, leads_on, reading}
-use Rattle.op_protocol.specs.Rows.{plan_of, step_plan, up_at}
+use Rattle.op_protocol.specs.Configurations.{latest_members, next_conf_body, next_conf_message}
+use Rattle.op_protocol.specs.Tick.{remembering}
+use Rattle.op_protocol.specs.Rows.{plan_of, step_plan, on_older, up_at}
 use Rattle.op_serving.proofs.Sessions.{nothing_decided, quietly, plan_with, stored_with}
 use Rattle.op_types.specs.declared.given.Given.{Given}
 use Rattle.op_serving.specs.Cores.{Failure, Standing, gives, given_of, refused_with}
@@ -62,10 +65,18 @@ up_plan me q s = let u = by_part s.durable.part s.durable.joining in record { se
     by_member p true = upping_one me q s (record v { role = v.role }) (record { conf = p.conf; body = body.PrepareReq })
     by_member p false = upping_none me q s (record v { role = v.role })
 
-    by_part : (o : Option Part) (j : Option Joining) → Upping q (given_of (plan_of me s s.waiting (up_at me o j v q)))
+    by_new : (l : Closed) (b : Bool) → Upping q (given_of (plan_of me s s.waiting (remembering v (if b then next_conf_message l q ∷ [] else []))))
+    by_new l true = upping_one me q s v (record { conf = l.conf + 1; body = next_conf_body l })
+    by_new l false = upping_none me q s v
+
+    by_closed : (l : Option Closed) → Upping q (given_of (plan_of me s s.waiting (remembering v (on_older s.durable l q))))
+    by_closed None = upping_none me q s v
+    by_closed (Some l) = by_new l (is_member nat_eq (latest_members s.durable) q)
+
+    by_part : (o : Option Part) (j : Option Joining) → Upping q (given_of (plan_of me s s.waiting (up_at me s.durable o j v q)))
     by_part (Some p) None = by_member p (is_member nat_eq (others me p.members) q)
     by_part (Some p) (Some j) = upping_none me q s v
-    by_part None None = upping_none me q s v
+    by_part None None = by_closed s.durable.closed
     by_part None (Some j) = upping_none me q s v
 
 up_reads : (me q : ℕ) (s : State) → ReadsAreSettled s → (step_plan me s (input.Up q)).read_replies ≡ []
@@ -78,10 +89,10 @@ up_reads me q s settled = by_part s.durable.part s.durable.joining
     by_member p true = quiet_reads me s (record v { role = v.role }) (message p.conf q body.PrepareReq ∷ []) (input.Up q) refl refl refl settled
     by_member p false = quiet_reads me s (record v { role = v.role }) [] (input.Up q) refl refl refl settled
 
-    by_part : (o : Option Part) (j : Option Joining) → (reading me s (input.Up q) (plan_of me s s.waiting (up_at me o j v q))).read_replies ≡ []
+    by_part : (o : Option Part) (j : Option Joining) → (reading me s (input.Up q) (plan_of me s s.waiting (up_at me s.durable o j v q))).read_replies ≡ []
     by_part (Some p) None = by_member p (is_member nat_eq (others me p.members) q)
     by_part (Some p) (Some j) = quiet_reads me s v [] (input.Up q) refl refl refl settled
-    by_part None None = quiet_reads me s v [] (input.Up q) refl refl refl settled
+    by_part None None = quiet_reads me s v (on_older s.durable s.durable.closed q) (input.Up q) refl refl refl settled
     by_part None (Some j) = quiet_reads me s v [] (input.Up q) refl refl refl settled
 
 -- a Down gives out nothing

@@ -3,6 +3,7 @@ ghost use Rattle.op_types.specs.Changes.{closed_len};
 ghost use Rattle.op_types.specs.Limits.{positions_end};
 ghost use Rattle.op_command.specs.Ranges.{most_line_bytes};
 ghost use Rattle.op_runs.specs.Summary.{closed_at, joining_conf, stands_at};
+ghost use Rattle.op_serving.specs.Cores.{untrimmed_in};
 ghost use Rattle.op_core.specs.NodeCores.{line_text};
 
 use op_runs::NodeLine;
@@ -47,6 +48,16 @@ fn closed_place(closed: &Option<Closed>) -> Option<(ConfNo, u64, u64)>
     let closed = closed.as_ref()?;
     let len = closed.trimmed + closed.tail.len() as u64;
     Some((closed.conf, len, closed.trimmed))
+}
+
+/// How many of the entries that are decided in the node's part are not trimmed.
+pub fn untrimmed(durable: &Durable) -> u64
+    ensures { result ≡ untrimmed_in durable.now.part }
+{
+    match &durable.part {
+        Some(part) => part.decided.saturating_sub(part.trimmed),
+        None => 0,
+    }
 }
 
 /// The configuration that the node joins.

@@ -1,11 +1,12 @@
 ghost use Rattle.std.specs.Prelude.{◌≡◌, ◌≢◌, ◌↔◌, ◌<◌, ◌≤◌, ◌+◌, ◌-◌, ◌∷◌, [], length, drop, map, true, false, IsTrue, None, IfOk, IfSome, IfNone, OnOk, OnErr};
 ghost use Rattle.op_types.specs.Ranges.{IsPid};
+ghost use Rattle.op_serving.specs.Cores.{wants_trim};
 ghost use Rattle.op_serving.specs.State.{down_of, find, is_open, kind_at, left_by, next, session_of, shed};
 ghost use Rattle.op_serving.specs.Ranges.{InputInRange, KindInRange};
 ghost use Rattle.op_serving.specs.Losses.{most_marks, lost_by, size, Stays};
 ghost use Rattle.op_serving.specs.Counts.{hello_in, most_inputs};
 ghost use Rattle.op_serving.specs.Inputs.{all_gathered, enter, give, flushed, leaves, over, releases};
-ghost use Rattle.op_serving.specs.Turns.{happens_at, joined, joining, queue_in, taken_of, ticked, turn_begins, waiting_from, wrote};
+ghost use Rattle.op_serving.specs.Turns.{happens_at, joined, joining, queue_in, taken_of, ticked, trimmed, turn_begins, waiting_from, wrote};
 ghost use Rattle.op_queues.specs.Hearing.{FoundInRange, least_taken};
 ghost use Rattle.op_driver.specs.Driver.{Acts, Does, FromCalm, Drained, Enters, Gives, IsIdle, Loses, MayBegin, Rests, IsDrained, IsShed, hello_left};
 ghost use Rattle.op_driver.specs.Dealing.{TakesOn};
@@ -127,6 +128,29 @@ impl<K: Core> Driver<K> {
         ensures most { most_inputs self.new.loop ≤ most_inputs self.old.loop + 1 }
     {
         self.give(&[], Input::Tick);
+    }
+
+    /// The node gives itself a wish to trim, where so many entries that it has decided are not trimmed.
+    pub fn trim(&mut self, every: Option<u64>)
+        requires none { IsDrained self.old.loop }
+        ensures does { Does K.stores (λ l s. trimmed l every s) self.old self.new }
+        ensures stays { Stays self.old.loop self.new.loop }
+        ensures none { IsDrained self.new.loop }
+        ensures most { most_inputs self.new.loop ≤ most_inputs self.old.loop + 1 }
+    {
+        if self.wants_trim(every) {
+            self.give(&[], Input::TrimNow);
+        }
+    }
+
+    /// Whether so many entries that the node has decided are not trimmed.
+    fn wants_trim(&self, every: Option<u64>) -> bool
+        ensures { result ≡ wants_trim every self.now.node }
+    {
+        match every {
+            Some(count) => count <= self.core.untrimmed(),
+            None => false,
+        }
     }
 
     /// All that was gathered is given together.

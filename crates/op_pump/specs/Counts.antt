@@ -10,9 +10,10 @@ use Rattle.op_serving.specs.Reading.{hello_len}
 abbrev pub most_of_dial : ℕ
 most_of_dial = 2 + hello_len
 
--- of a turn: a tick, a dial of each of so many peers, and no more frames than its reads give bytes
+-- of a turn: a tick, the node's own wish to trim, a dial of each of so many peers, and no more frames than
+-- its reads give bytes
 abbrev pub most_in_turn : ℕ → ℕ
-most_in_turn peers = 1 + most_of_dial * peers + most_happenings * piece_len
+most_in_turn peers = 2 + most_of_dial * peers + most_happenings * piece_len
 
 -- there are no more turns and peers than settings may have
 pub record IsLimited (o : Settings) : Type 0 where

@@ -2,6 +2,9 @@ ghost use Rattle.std.specs.Prelude.{◌≡◌, ◌≤◌, ◌<◌, ◌-◌, true
 ghost use Rattle.op_serving.specs.Pump.{last_time, next_due};
 ghost use Rattle.op_pump.specs.Moments.{set_out};
 
+/// By how many ticks the round behind a late tick is longer at most.
+const MOST_TICKS_LONGER: u64 = 10;
+
 /// How many turns are left, and when the next tick is due.
 #[derive(Clone, Copy, Debug, PartialEq, Eq)]
 pub struct Timer {
@@ -41,17 +44,17 @@ impl Timer {
         self.due <= now
     }
 
-    /// The tick that is due is given at this time. The round behind a late one is longer, by twice what it
-    /// was late.
+    /// The tick that is due is given at this time. The round behind a late one is longer by twice what it
+    /// was late, and by ten ticks at most: a node that was paused for an hour is soon back.
     pub fn tick(&mut self, now: u64, tick_ms: u64)
         requires { self.old.due ≤ now }
         ensures { self.new ≡ record self.old { last = now; due = next_due tick_ms self.old.due now } }
     {
         let late = now - self.due;
         self.last = now;
-        self.due = now
-            .saturating_add(tick_ms)
+        let longer = late
             .saturating_add(late)
-            .saturating_add(late);
+            .min(tick_ms.saturating_mul(MOST_TICKS_LONGER));
+        self.due = now.saturating_add(tick_ms).saturating_add(longer);
     }
 }

@@ -16,7 +16,7 @@ use Rattle.op_protocol.specs.Parts.{decided_since, others, message, nothing, say
 use Rattle.op_protocol.specs.Leader.{session_down}
 use Rattle.op_protocol.specs.Serving.{Served, serving}
 use Rattle.op_protocol.specs.Configurations.{closing}
-use Rattle.op_protocol.specs.Rows.{based_batch, newly_decided, plan_of, step_plan, up_at}
+use Rattle.op_protocol.specs.Rows.{based_batch, newly_decided, plan_of, step_plan, on_older, up_at}
 use Rattle.op_serving.specs.Fates.{is_session}
 
 -- ---- a plan that changes nothing that is stored, and answers nobody
@@ -65,10 +65,10 @@ up_stores me q s = by_part s.durable.part s.durable.joining
     by_member p true = none_stored me s (record v { role = v.role }) (message p.conf q body.PrepareReq ∷ [])
     by_member p false = none_stored me s (record v { role = v.role }) []
 
-    by_part : (o : Option Part) (j : Option Joining) → (plan_of me s s.waiting (up_at me o j v q)).batch ≡ []
+    by_part : (o : Option Part) (j : Option Joining) → (plan_of me s s.waiting (up_at me s.durable o j v q)).batch ≡ []
     by_part (Some p) None = by_member p (is_member nat_eq (others me p.members) q)
     by_part (Some p) (Some j) = none_stored me s v []
-    by_part None None = none_stored me s v []
+    by_part None None = none_stored me s v (on_older s.durable s.durable.closed q)
     by_part None (Some j) = none_stored me s v []
 
 down_stores : (me q : ℕ) (s : State) → (step_plan me s (input.Down q)).batch ≡ []

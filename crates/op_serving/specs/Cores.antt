@@ -1,8 +1,9 @@
 -- A node that is served: its state, how often its disks have failed, what an input makes of it, what is left
 -- of it where one of them failed, and its opening after that.
-use Rattle.std.specs.Prelude.{ℕ, [], Bool, false, is_some, Option, Some, None}
+use Rattle.std.specs.Prelude.{◌-◌, ℕ, [], Bool, false, is_some, nat_le, Option, Some, None}
 use Rattle.op_types.specs.Changes.{empty_durable}
 use Rattle.op_types.specs.declared.durable.Durable.{Durable}
+use Rattle.op_types.specs.declared.durable.Part.{Part}
 use Rattle.op_types.specs.declared.answers.Outcome.{Outcome}
 use Rattle.op_types.specs.declared.events.Input.{Input}
 use Rattle.op_types.specs.declared.events.Input.TheVariants as input
@@ -49,6 +50,22 @@ unfoldable pub after_input : Standing → Input → Standing
 after_input n x =
     elim n.failed
     [ None ↦ record n { state = state_after n.state (step_plan n.me n.state x) } | Some f ↦ n ]
+
+-- ---- trimming by itself
+
+-- how many of the entries that are decided in the node's part are not trimmed
+abbrev pub untrimmed_in : Option Part → ℕ
+untrimmed_in None = 0
+untrimmed_in (Some p) = p.decided - p.trimmed
+
+-- so many of a node's are not: none of one that has failed, which has no part
+abbrev pub untrimmed : Standing → ℕ
+untrimmed n = untrimmed_in n.state.durable.part
+
+-- a node is to trim where so many are not trimmed, or more; where no number is set it never is
+abbrev pub wants_trim : Option ℕ → Standing → Bool
+wants_trim None n = false
+wants_trim (Some every) n = nat_le every (untrimmed n)
 
 -- ---- a disk failed
 

@@ -15,7 +15,7 @@ use Rattle.op_serving.specs.declared.kind.Kind.TheVariants.{Unknown, Peer, Clien
 use Rattle.op_serving.specs.declared.session.Session.{Session}
 use Rattle.op_serving.specs.Cores.{Standing}
 use Rattle.op_serving.specs.Wire.{peer_head, client_head}
-use Rattle.op_serving.specs.State.{Table, Loop, find}
+use Rattle.op_serving.specs.State.{Table, Loop, Roster, find, roster_of, stranger_in}
 use Rattle.op_serving.specs.Fates.{after_fate}
 use Rattle.op_serving.specs.Inputs.{Deed, begins, hears, enters, says, takes, State}
 use Rattle.op_serving.specs.Reading.{client_byte, client_limit, peer_limit, heard_in, joins_others}
@@ -68,34 +68,40 @@ life c ds = fold (and_then c) (newborn []) ds
 
 -- ---- the inputs that the bytes of a connection are
 
--- the inputs that a frame is
-abbrev pub inputs_of : Heard → List Input
-inputs_of (Message q m) = input.Deliver q m ∷ []
-inputs_of (Asks (request.Command x)) = alone x ∷ []
-inputs_of (Asks (request.Stop members)) = input.Stop members ∷ []
-inputs_of (Asks request.Trim) = input.TrimNow ∷ []
-inputs_of (Asks (request.Read r)) = input.Read r ∷ []
-inputs_of _ = []
+-- a stop-sign is one, but where it names a server that the node doesn't know
+abbrev pub stop_of : List ℕ → Option ℕ → List Input
+stop_of members None = input.Stop members ∷ []
+stop_of members (Some q) = []
+
+-- the inputs that a frame is, at a node that knows these servers
+abbrev pub inputs_of : List ℕ → Heard → List Input
+inputs_of ids (Message q m) = input.Deliver q m ∷ []
+inputs_of ids (Asks (request.Command x)) = alone x ∷ []
+inputs_of ids (Asks (request.Stop members)) = stop_of members (stranger_in ids members)
+inputs_of ids (Asks request.Trim) = input.TrimNow ∷ []
+inputs_of ids (Asks (request.Read r)) = input.Read r ∷ []
+inputs_of ids _ = []
 
 -- bytes are whole frames, of which these are the inputs
-pub record Frames (me : ℕ) (kind : Kind) (head limit : ℕ) (text : List ℕ) (inputs : List Input) : Type 0 where
-  pub bodies : List (List ℕ)
-  pub frames : IsFrames head limit text bodies []
-  pub are : inputs ≡ flat_map (λ body. inputs_of (heard_in me kind body)) bodies
-
--- bytes are whole frames that join others, of which these are the inputs
-pub record JoiningFrames (me : ℕ) (kind : Kind) (head limit : ℕ) (text : List ℕ) (inputs : List Input)
+pub record Frames (roster : Roster) (kind : Kind) (head limit : ℕ) (text : List ℕ) (inputs : List Input)
     : Type 0 where
   pub bodies : List (List ℕ)
   pub frames : IsFrames head limit text bodies []
-  pub join : All (λ body. joins_others (heard_in me kind body) ≡ true) bodies
-  pub are : inputs ≡ flat_map (λ body. inputs_of (heard_in me kind body)) bodies
+  pub are : inputs ≡ flat_map (λ body. inputs_of roster.ids (heard_in roster.me kind body)) bodies
+
+-- bytes are whole frames that join others, of which these are the inputs
+pub record JoiningFrames (roster : Roster) (kind : Kind) (head limit : ℕ) (text : List ℕ)
+    (inputs : List Input) : Type 0 where
+  pub bodies : List (List ℕ)
+  pub frames : IsFrames head limit text bodies []
+  pub join : All (λ body. joins_others (heard_in roster.me kind body) ≡ true) bodies
+  pub are : inputs ≡ flat_map (λ body. inputs_of roster.ids (heard_in roster.me kind body)) bodies
 
 -- So are these bytes of a session: none of one that hasn't said who it is.
-abbrev pub Gathers : ℕ → Kind → List ℕ → List Input → Type 0
-Gathers me Unknown bytes inputs = (bytes ≡ []) × (inputs ≡ [])
-Gathers me (Peer q h) bytes inputs = JoiningFrames me (Peer q 0) peer_head peer_limit bytes inputs
-Gathers me Client bytes inputs = JoiningFrames me Client client_head client_limit bytes inputs
+abbrev pub Gathers : Roster → Kind → List ℕ → List Input → Type 0
+Gathers roster Unknown bytes inputs = (bytes ≡ []) × (inputs ≡ [])
+Gathers roster (Peer q h) bytes inputs = JoiningFrames roster (Peer q 0) peer_head peer_limit bytes inputs
+Gathers roster Client bytes inputs = JoiningFrames roster Client client_head client_limit bytes inputs
 
 -- what a connection brought that is not given yet, as inputs
 abbrev pub pending_at : ℕ → Loop → List Input
@@ -108,40 +114,40 @@ OfPeer q bytes rest = (bytes ≡ hello q ++ rest) ⊎ (bytes ≡ rest)
 
 -- These bytes of a session are dealt with, and these are their inputs: none of one that hasn't said who
 -- it is; a client's are `C` and frames, a peer's its hello and frames.
-abbrev pub Hears : ℕ → Kind → List ℕ → List Input → Type 0
-Hears me Unknown bytes inputs = (bytes ≡ []) × (inputs ≡ [])
-Hears me (Peer q h) bytes inputs =
-    (rest : List ℕ) × OfPeer q bytes rest × Frames me (Peer q 0) peer_head peer_limit rest inputs
-Hears me Client bytes inputs = (rest : List ℕ) × (bytes ≡ client_byte ∷ rest)
-    × Frames me Client client_head client_limit rest inputs
+abbrev pub Hears : Roster → Kind → List ℕ → List Input → Type 0
+Hears roster Unknown bytes inputs = (bytes ≡ []) × (inputs ≡ [])
+Hears roster (Peer q h) bytes inputs =
+    (rest : List ℕ) × OfPeer q bytes rest × Frames roster (Peer q 0) peer_head peer_limit rest inputs
+Hears roster Client bytes inputs = (rest : List ℕ) × (bytes ≡ client_byte ∷ rest)
+    × Frames roster Client client_head client_limit rest inputs
 
 -- ---- what each connection is promised
 
 -- What an open connection read is dealt with, but for the frames that are to be given together with others,
 -- and for what is held. What was said for it was taken, but for what waits.
-pub record KeepsOpen (me : ℕ) (x : Life) (waiting : List Input) (y : Session) : Type 0 where
+pub record KeepsOpen (roster : Roster) (x : Life) (waiting : List Input) (y : Session) : Type 0 where
   pub dealt : List ℕ
   pub pending : List ℕ
   pub split : x.heard ≡ dealt ++ (pending ++ y.frames.held)
-  pub hears : Hears me y.kind dealt x.inputs
-  pub gathered : Gathers me y.kind pending waiting
+  pub hears : Hears roster y.kind dealt x.inputs
+  pub gathered : Gathers roster y.kind pending waiting
   pub said : x.said ≡ x.taken ++ y.queue
 
 -- Of a closed one the first part of what it read was dealt with, and it took the first part of what was said.
-pub record KeepsClosed (me : ℕ) (x : Life) (waiting : List Input) : Type 0 where
+pub record KeepsClosed (roster : Roster) (x : Life) (waiting : List Input) : Type 0 where
   pub kind : Kind
   pub dealt : List ℕ
   pub rest : List ℕ
   pub split : x.heard ≡ dealt ++ rest
-  pub hears : Hears me kind dealt x.inputs
+  pub hears : Hears roster kind dealt x.inputs
   pub none : waiting ≡ []
   pub waits : List ℕ
   pub said : x.said ≡ x.taken ++ waits
 
-abbrev pub KeepsAt : ℕ → Life → List Input → Option Session → Type 0
-KeepsAt me x waiting None = KeepsClosed me x waiting
-KeepsAt me x waiting (Some y) = KeepsOpen me x waiting y
+abbrev pub KeepsAt : Roster → Life → List Input → Option Session → Type 0
+KeepsAt roster x waiting None = KeepsClosed roster x waiting
+KeepsAt roster x waiting (Some y) = KeepsOpen roster x waiting y
 
 abbrev pub Keeps : State → Type 0
 Keeps s = (c : ℕ) →
-    KeepsAt s.loop.me (life c s.deeds) (pending_at c s.loop) (find c s.loop.sessions)
+    KeepsAt (roster_of s.loop) (life c s.deeds) (pending_at c s.loop) (find c s.loop.sessions)

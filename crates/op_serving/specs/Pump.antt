@@ -15,7 +15,7 @@ use Rattle.op_serving.specs.Losses.{most_marks}
 use Rattle.op_serving.specs.State.{is_open, session_of}
 use Rattle.op_serving.specs.Inputs.{State, Luck, flushed, over}
 use Rattle.op_serving.specs.Reading.{read}
-use Rattle.op_serving.specs.Turns.{at_happening, turn_begun, accepted, dialled, ticked, waiting, waiting_from, wrote}
+use Rattle.op_serving.specs.Turns.{at_happening, turn_begun, accepted, dialled, ticked, trimmed, waiting, waiting_from, wrote}
 
 -- how many bytes a read asks for
 abbrev pub piece_len : ℕ
@@ -28,16 +28,21 @@ writes_place = 65
 abbrev pub last_time : ℕ
 last_time = 18446744073709551615
 
+-- by how many ticks the round behind a late tick is longer at most
+abbrev pub most_ticks_longer : ℕ
+most_ticks_longer = 10
+
 -- When the next tick is due, behind one that was due at one time and is given at another: a tick that
--- comes late makes the round behind it longer, by twice what it was late.
+-- comes late makes the round behind it longer by twice what it was late, and by so many ticks at most.
 abbrev pub next_due : ℕ → ℕ → ℕ → ℕ
-next_due tick_ms due now = min (now + tick_ms + 2 * (now - due)) last_time
+next_due tick_ms due now = min (now + tick_ms + min (2 * (now - due)) (most_ticks_longer * tick_ms)) last_time
 
 -- what is set
 pub record Settings : Type 0 where
   pub tick_ms : ℕ
   pub turns : ℕ
   pub peers : List (ℕ × Addr)
+  pub trim_every : Option ℕ
 
 -- where the loop is
 pub data Stage : Type 0 where
@@ -124,7 +129,7 @@ module _ (o : Settings) (l : Luck) (line : Standing → List ℕ) where
   abbrev pub has_told : ℕ → Answer → Pump → Pump
   has_told k (was_told t) p = if nat_lt t p.due
       then record (to (asks 0 k) p.driver p) { last = t }
-      else record (to (dials o.peers k) (ticked l p.driver) p)
+      else record (to (dials o.peers k) (trimmed l o.trim_every (ticked l p.driver)) p)
       { last = t; due = next_due o.tick_ms p.due t }
   has_told k _ p = p
 

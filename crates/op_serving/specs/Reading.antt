@@ -1,6 +1,7 @@
 -- What a connection reads: its first bytes, its frames, and the inputs that they are.
 use Rattle.std.specs.Prelude.{◌+◌, ◌∷◌, [], ℕ, zero, suc, List, length, take, drop, true, false, ◌==◌, ◌&&◌, ◌||◌, not, nat_lt, is_some, Bool, if◌then◌else◌, Option, Some, None, Result, Ok, Err}
 use Rattle.std.specs.Int.{w32, from_be_bytes}
+use Rattle.std.specs.Map.{keys_of}
 use Rattle.op_types.specs.Limits.{most_peer_body}
 use Rattle.op_types.specs.declared.events.Input.TheVariants as input
 use Rattle.op_types.specs.declared.events.Request.{Request}
@@ -18,7 +19,7 @@ use Rattle.op_serving.specs.declared.kind.Kind.TheVariants.{Unknown, Peer, Clien
 use Rattle.op_serving.specs.declared.session.Session.{Session}
 use Rattle.op_serving.specs.Cores.{Standing}
 use Rattle.op_serving.specs.Wire.{peer_head, client_head, message_in, request_in, client_frame}
-use Rattle.op_serving.specs.State.{Loop, find, changed, is_open, session_of}
+use Rattle.op_serving.specs.State.{Loop, find, changed, is_open, session_of, stranger_in}
 use Rattle.op_serving.specs.Handing.{told, no_command}
 use Rattle.op_serving.specs.Inputs.{hears, says, State, Luck, noting, give, has_brought, proposes, delivers, behind, over, rest}
 
@@ -113,10 +114,17 @@ tells c what s =
 abbrev pub ending : State → State
 ending s = record s { loop = record s.loop { ending = true } }
 
+-- A client asks to end the configuration. Where it names a server that the node doesn't know, it is told the
+-- first such one, and nothing is proposed.
+abbrev pub stops : Luck → ℕ → List ℕ → Option ℕ → State → State
+stops l c members None s = give l (c ∷ []) (input.Stop members) s
+stops l c members (Some q) s = tells c (said.Stranger q) s
+
 -- what a client asks; `line` is where a node stands, as its client is told
 abbrev pub on_request : Luck → (Standing → List ℕ) → ℕ → Request → State → State
 on_request l line c (request.Command x) s = proposes l c x s
-on_request l line c (request.Stop members) s = give l (c ∷ []) (input.Stop members) s
+on_request l line c (request.Stop members) s =
+    stops l c members (stranger_in (keys_of s.loop.peers) members) s
 on_request l line c request.Trim s = give l (c ∷ []) input.TrimNow s
 on_request l line c request.Status s = tells c (said.Status (line s.node)) s
 on_request l line c (request.Read r) s = give l (c ∷ []) (input.Read r) s

@@ -1,5 +1,6 @@
 -- What is kept beside a node that is served, and what each thing that is done makes of it in ample memory.
 use Rattle.std.specs.Prelude.{◌+◌, ◌++◌, ◌∷◌, [], ℕ, min, List, length, flat_map, Bool, false, not, ◌==◌, nat_lt, if◌then◌else◌, Option, Some, None, is_some, option_map}
+use Rattle.std.specs.List.{list_any}
 use Rattle.std.specs.Map.{lookup, set_value, keys_of}
 use Rattle.std.specs.BTreeMap.{is_at}
 use Rattle.std.specs.Ordering.{nat_cmp, bool_cmp, ordering_then}
@@ -85,6 +86,23 @@ pub record Loop : Type 0 where
   pub closes : List ℕ  -- the connections that are to be closed, in order
   pub downs : List ℕ  -- the peers whose Down is to be given, in order
   pub ending : Bool  -- whether an end request was read
+
+-- which node it is, and the servers that it knows: its peers and itself
+pub record Roster : Type 0 where
+  pub me : ℕ
+  pub ids : List ℕ
+
+abbrev pub roster_of : Loop → Roster
+roster_of s = record { me = s.me; ids = keys_of s.peers }
+
+-- whether a server is one of these
+abbrev pub is_known : List ℕ → ℕ → Bool
+is_known ids q = list_any (is_at (nat_cmp q)) ids
+
+-- the first of these members that is none of the servers
+abbrev pub stranger_in : List ℕ → List ℕ → Option ℕ
+stranger_in ids [] = None
+stranger_in ids (m ∷ ms) = if is_known ids m then stranger_in ids ms else Some m
 
 -- whose session a connection is
 abbrev pub kind_at : ℕ → Loop → Option Kind

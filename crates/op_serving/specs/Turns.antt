@@ -13,6 +13,7 @@ use Rattle.op_frame.specs.Framing.{Stream, stream_of}
 use Rattle.op_serving.specs.declared.kind.Kind.{Kind}
 use Rattle.op_serving.specs.declared.kind.Kind.TheVariants.{Unknown, Peer, Client}
 use Rattle.op_serving.specs.declared.session.Session.{Session}
+use Rattle.op_serving.specs.Cores.{wants_trim}
 use Rattle.op_serving.specs.Wire.{peer_head, client_head}
 use Rattle.op_serving.specs.State.{Loop, Table, without, without_asker, find, changed, is_open, kind_at, next}
 use Rattle.op_serving.specs.Inputs.{State, Luck, begins, takes, noting, calm, give}
@@ -104,6 +105,11 @@ dialled l q c s = if is_open c s.loop then s else joined l c (Peer q hello_len) 
 -- a tick is due
 abbrev pub ticked : Luck → State → State
 ticked l s = give l [] input.Tick s
+
+-- Right behind it the node gives itself a wish to trim, where so many entries that it has decided are not
+-- trimmed. It is no client's, so that nobody is told what becomes of it; one that doesn't lead refuses it.
+abbrev pub trimmed : Luck → Option ℕ → State → State
+trimmed l every s = if wants_trim every s.node then give l [] input.TrimNow s else s
 
 -- ---- writes
 

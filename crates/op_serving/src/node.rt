@@ -1,7 +1,7 @@
 ghost use Rattle.std.specs.Prelude.{◌≡◌, ◌≤◌, ℕ, List, [], length, vec_capacity, All, IfOk};
 ghost use Rattle.op_command.specs.Ranges.{most_line_bytes};
 ghost use Rattle.op_types.specs.Ranges.{IsPid};
-ghost use Rattle.op_serving.specs.Cores.{Standing};
+ghost use Rattle.op_serving.specs.Cores.{Standing, untrimmed};
 ghost use Rattle.op_serving.specs.Fates.{Came, Steps, StepsAll};
 ghost use Rattle.op_serving.specs.Ranges.{InputInRange, GivenInRange};
 
@@ -65,6 +65,11 @@ pub trait Core {
         requires { ready self.now }
         ensures me { result ≡ (standing self.now).me }
         ensures range { IsPid result };
+
+    /// How many of the entries that it has decided in its part are not trimmed: none where it has failed.
+    fn untrimmed(&self) -> u64
+        requires { ready self.now }
+        ensures { result ≡ untrimmed (standing self.now) };
 
     /// Where it stands, as a client is told.
     fn status(&self, alloc: Global) -> Result<Blob, NoMemory>

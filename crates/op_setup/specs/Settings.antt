@@ -18,6 +18,10 @@ most_tick_ms = 60000
 abbrev pub most_turns : ℕ
 most_turns = 10 ^ 12
 
+-- the most untrimmed entries at which a leader may be set to trim by itself
+abbrev pub most_trim_every : ℕ
+most_trim_every = 10 ^ 12
+
 -- the most nodes of a cluster
 abbrev pub most_peers : ℕ
 most_peers = 31
@@ -93,6 +97,11 @@ SetsMirror table b =
     let value = get_member (codes "mirror") table in
     (value ≡ Some (boolean b)) ⊎ ((value ≡ None) × (b ≡ false))
 
+-- at how many untrimmed entries a leader trims by itself; absent, it never does
+abbrev pub SetsTrimEvery : Table → Option ℕ → Type 0
+SetsTrimEvery table None = get_member (codes "trim_every") table ≡ None
+SetsTrimEvery table (Some n) = HasNumber table (codes "trim_every") most_trim_every n
+
 -- the own id, where there is one, is a peer's
 abbrev pub IsAmong : List Peer → Option ℕ → Type 0
 IsAmong peers None = Unit {0}
@@ -105,6 +114,7 @@ pub record AreSettings (table : Table) (id : Option ℕ) (s : Settings) : Type 0
   pub members : SetsMembers table s.members
   pub peers : SetsPeers table s.members s.peers
   pub mirror : SetsMirror table s.is_mirrored
+  pub trim_every : SetsTrimEvery table s.trim_every
   pub own : IsAmong s.peers id
 
 -- the text sets these; other keys are ignored

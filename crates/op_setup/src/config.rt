@@ -9,6 +9,9 @@ pub const MOST_TICK_MS: u64 = 60_000;
 /// The most turns of the serving loop.
 pub const MOST_TURNS: u64 = 1_000_000_000_000;
 
+/// The most untrimmed entries at which a leader may be set to trim by itself.
+pub const MOST_TRIM_EVERY: u64 = 1_000_000_000_000;
+
 /// The most nodes of a cluster.
 pub const MOST_PEERS: usize = 31;
 
@@ -28,4 +31,7 @@ pub struct Settings {
     pub peers: Peers,
     /// Each of the node's two areas is kept twice, on disks of their own.
     pub is_mirrored: bool,
+    /// At how many decided entries that are not trimmed, from 1 to 10^12, the leader trims by itself, behind
+    /// a tick. None: it trims only where it is asked to.
+    pub trim_every: Option<u64>,
 }

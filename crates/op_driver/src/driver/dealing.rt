@@ -1,13 +1,14 @@
 //! What a connection read is dealt with: its frames, one after the other, and what each says.
 ghost use Rattle.std.specs.Prelude.{◌≡◌, ◌≢◌, ◌<◌, ◌≤◌, ◌+◌, ◌-◌, [], length, nat_le, true, false, IsTrue, if◌then◌else◌, None, IfOk, IfSome, IfNone, OnOk, OnErr};
+ghost use Rattle.std.specs.Map.{keys_of};
 ghost use Rattle.op_types.specs.Limits.{most_commands};
-ghost use Rattle.op_types.specs.Ranges.{IsPid, CommandInRange};
+ghost use Rattle.op_types.specs.Ranges.{AreRising, IsPid, CommandInRange, MembersInRange};
 ghost use Rattle.op_msg.specs.Ranges.{MsgInRange};
 ghost use Rattle.op_types.specs.declared.events.Request.TheVariants as request;
 ghost use Rattle.op_command.specs.Ranges.{RequestInRange, SaidInRange};
 ghost use Rattle.op_command.specs.declared.said.Said.TheVariants.{Status};
 ghost use Rattle.op_serving.specs.declared.hearing.Heard.TheVariants.{Asks, Message};
-ghost use Rattle.op_serving.specs.State.{find, is_open, session_of};
+ghost use Rattle.op_serving.specs.State.{find, is_open, session_of, stranger_in};
 ghost use Rattle.op_serving.specs.Losses.{Stays};
 ghost use Rattle.op_serving.specs.Counts.{most_inputs};
 ghost use Rattle.op_serving.specs.Inputs.{brings, flushed, gathers, give, most_brought};
@@ -21,7 +22,7 @@ use op_command::Said;
 use op_outside::Conn;
 use op_queues::{Front, of_no_command};
 use op_serving::{Core, Heard};
-use op_types::{Command, Input, Msg, NoMemory, Pid, Request};
+use op_types::{Command, Input, Members, Msg, NoMemory, Pid, Request};
 
 impl<K: Core> Driver<K> {
     /// Bytes that a connection read, and all that they complete. Where they find no memory, its session is
@@ -272,10 +273,7 @@ impl<K: Core> Driver<K> {
     {
         match request {
             Request::Command(command) => self.propose(conn, command),
-            Request::Stop(members) => {
-                self.give(&[conn], Input::Stop(members));
-                Ok(())
-            }
+            Request::Stop(members) => self.stop(conn, members),
             Request::Trim => {
                 self.give(&[conn], Input::TrimNow);
                 Ok(())
@@ -291,6 +289,35 @@ impl<K: Core> Driver<K> {
                 Ok(())
             }
         }
+    }
+
+    /// A client asks to end the configuration. Where it names a server that the node doesn't know, it is
+    /// told the first such one, and nothing is proposed.
+    fn stop(&mut self, conn: Conn, members: Members) -> Result<(), NoMemory>
+        requires open { is_open conn self.old.loop ≡ true }
+        requires none { IsDrained self.old.loop }
+        requires range { MembersInRange members }
+        ensures ok { OnOk result
+            (HandlesAlone K.stores K.line conn (Asks (request.Stop members)) self.old self.new) }
+        ensures err { OnErr result (Loses K.stores conn self.old self.new) }
+        ensures most { most_inputs self.new.loop ≤ most_inputs self.old.loop + 1 }
+    {
+        match self.stranger_among(members.as_slice()) {
+            Some(id) => self.tell(conn, Said::Stranger(id)),
+            None => {
+                self.give(&[conn], Input::Stop(members));
+                Ok(())
+            }
+        }
+    }
+
+    /// The first of these servers that the node doesn't know, if there is one.
+    fn stranger_among(&self, members: &[Pid]) -> Option<Pid>
+        requires { AreRising 0 members.now }
+        ensures is { result ≡ stranger_in (keys_of self.now.loop.peers) members.now }
+        ensures range { IfSome result IsPid }
+    {
+        self.sessions.stranger_among(members)
     }
 
     /// An end request was read.

@@ -2,9 +2,9 @@
 ghost use Rattle.std.specs.Prelude.{◌≡◌, ◌≤◌, pos};
 ghost use Rattle.toml.specs.View.{table_view};
 ghost use Rattle.op_text.specs.Found.{IsFound};
-ghost use Rattle.op_setup.specs.Settings.{HasNumber, SetsTickMs, SetsTurns};
+ghost use Rattle.op_setup.specs.Settings.{HasNumber, SetsTickMs, SetsTrimEvery, SetsTurns};
 
-use crate::config::{MOST_TICK_MS, MOST_TURNS};
+use crate::config::{MOST_TICK_MS, MOST_TRIM_EVERY, MOST_TURNS};
 use crate::toml_keys::values::integer_at;
 use toml::Table;
 
@@ -20,6 +20,20 @@ pub fn turns(table: &Table) -> Option<u64>
     ensures { IsFound (SetsTurns (table_view table.now)) result }
 {
     number_at(table, "turns", MOST_TURNS)
+}
+
+/// At how many untrimmed entries a leader trims by itself: never where the key is absent. None where what
+/// stands there is no such number.
+pub fn trim_every(table: &Table) -> Option<Option<u64>>
+    ensures { IsFound (SetsTrimEvery (table_view table.now)) result }
+{
+    match table.get("trim_every") {
+        Some(_) => match number_at(table, "trim_every", MOST_TRIM_EVERY) {
+            Some(n) => Some(Some(n)),
+            None => None,
+        },
+        None => Some(None),
+    }
 }
 
 /// The number from 1 to `most` at a key.
