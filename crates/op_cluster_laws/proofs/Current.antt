@@ -10,6 +10,7 @@ use Rattle.op_types.specs.declared.events.Request.TheVariants as request
 use Rattle.op_types.specs.declared.read.Read.{Read}
 use Rattle.op_types.specs.Stops.{stop_at_end}
 use Rattle.op_record.specs.Ranges.{PartInRange}
+use Rattle.op_types.specs.declared.log.Entry.{Entry}
 use Rattle.op_spec.specs.Machine.{Machine, IsAmong}
 use Rattle.op_spec.specs.Service.{service_of, value_at, told_value}
 use Rattle.op_spec.specs.Stands.{prefix_of}
@@ -39,11 +40,11 @@ use Rattle.op_cluster_laws.proofs.Answering.{all_found}
 use Rattle.op_cluster_laws.proofs.Currency.{reads_of, reads_in, reads_more, ComesAt, comes_at}
 use Rattle.op_cluster_laws.proofs.Lasting.{history_before, place_before, place_stays}
 use Rattle.op_cluster_laws.proofs.Opened.{HasOpen, PartIsOpen, parts_open, start_open, open_stays, none_decided, ended_below}
-use Rattle.op_cluster_laws.proofs.Running.{sound_behind, meets_behind, lists_grow, Reached, ReachedAlways, always_reached}
+use Rattle.op_cluster_laws.proofs.Reaching.{sound_behind, meets_behind, lists_grow, Reached, ReachedAlways, always_reached}
 
 -- ---- lists
 
-contains_among : {A : Type 0} (xs : List A) (x : A) → Contains xs x → IsAmong xs x
+pub contains_among : {A : Type 0} (xs : List A) (x : A) → Contains xs x → IsAmong xs x
 contains_among [] x c = absurd (omega (arith, c.1))
 contains_among (y ∷ xs) x (zero, lt, e) = inl e
 contains_among (y ∷ xs) x (suc k, lt, e) = inr (contains_among xs x (k, omega (arith, lt), e))
@@ -55,7 +56,7 @@ tail_is : {A : Type 0} (x y : A) (xs ys : List A) → x ∷ xs ≡ y ∷ ys → 
 tail_is x y xs ys e = cc
 
 -- an element stands behind a first part of a list, or in it
-before_or_in : {A : Type 0} (xs ys zs : List A) (w : A) (vs : List A) → xs ++ ys ≡ zs ++ w ∷ vs → ((us : List A) × (zs ≡ xs ++ us)) ⊎ ((us : List A) × (xs ≡ zs ++ w ∷ us))
+pub before_or_in : {A : Type 0} (xs ys zs : List A) (w : A) (vs : List A) → xs ++ ys ≡ zs ++ w ∷ vs → ((us : List A) × (zs ≡ xs ++ us)) ⊎ ((us : List A) × (xs ≡ zs ++ w ∷ us))
 before_or_in [] ys zs w vs e = inl (zs, refl)
 before_or_in (x ∷ xs) ys [] w vs e = inr (xs, ap (λ z. z ∷ xs) (head_is x w (xs ++ ys) vs e))
 before_or_in (x ∷ xs) ys (z ∷ zs) w vs e = elim (before_or_in xs ys zs w vs (tail_is x z (xs ++ ys) (zs ++ w ∷ vs) e)) [
@@ -63,7 +64,7 @@ before_or_in (x ∷ xs) ys (z ∷ zs) w vs e = elim (before_or_in xs ys zs w vs 
   | inr k ↦ inr (k.0, ap (λ y. y ∷ xs) (head_is x z (xs ++ ys) (zs ++ w ∷ vs) e) ∙ ap (λ l. z ∷ l) k.1)
 ]
 
-reads_here : (before : List Happening) (h : Happening) (after : List Happening) (r : Read) → IsAmong (reads_of h.event.what) r → IsAmong (reads_in (before ++ h ∷ after)) r
+pub reads_here : (before : List Happening) (h : Happening) (after : List Happening) (r : Read) → IsAmong (reads_of h.event.what) r → IsAmong (reads_in (before ++ h ∷ after)) r
 reads_here before h after r k =
     subst (λ l. IsAmong l r) (sym (reads_more before (h ∷ after))) (in_right r (reads_in before) (reads_in (h ∷ after)) (in_left r (reads_of h.event.what) (reads_in after) k))
 
@@ -103,7 +104,7 @@ module _ (members spares : List ℕ) (ms : MembersInRange members) (ss : SparesI
 
   -- of the first part of it
   module _ (first later : List Happening) (split : hs ≡ first ++ later) where
-    in_run : RunInRange members spares first
+    pub in_run : RunInRange members spares first
     in_run = front_in_range members spares first later (subst (λ l. RunInRange members spares l) split (record { first = ms; others = ss; happenings = range }))
 
     meets_both : MeetsFrom members t0 first × MeetsFrom members (run_at first) later
@@ -216,26 +217,46 @@ module _ (members spares : List ℕ) (ms : MembersInRange members) (ss : SparesI
           let all = f.has_all in
           omega (arith, long, both, all)
 
+      -- a place of a list that still stands is below the last configuration
+      abbrev own : (k : ℕ) × (r.conf ≡ suc k)
+      own = above_zero r.conf low
+
+      ended_whole : (n : ℕ) → 0 < n → n < suc own.0 → is_some (stop_at_end (W.lists n)) ≡ true
+      ended_whole n pos lt = ended_then hs [] (sym (append-nil hs)) r.conf whole_open n pos (omega (arith, lt, own.1))
+
+      -- what the read sees is a first part of the whole history
+      pub seen_place : (rest : List Entry) × (history_after members spares hs ≡ prefix_of W.lists r.conf f.len ++ rest)
+      seen_place =
+          let small : own.0 < greatest_conf (run_at hs).world.nodes = (let e = own.1 in let le = few in omega (arith, e, le)) in
+          let place = place_before W.lists own.0 f.len (greatest_conf (run_at hs).world.nodes) members small ended_whole in
+          (place.0, place.1 ∙ ap (λ z. prefix_of W.lists z f.len ++ place.0) (sym own.1))
+
+      -- its answer is the value of its key there
+      pub seen_value : a ≡ told_value (value_at r.asked.read.key (service_of (prefix_of W.lists r.conf f.len)).pairs)
+      seen_value =
+          let ended_told = λ (n : ℕ) (pos : 0 < n) (lt : n < suc own.0). ended_then told tail told_split r.conf told_open n pos (omega (arith, lt, own.1)) in
+          let stays = place_stays T.lists W.lists own.0 f.len told_whole (subst (λ z. f.len ≤ length (T.lists z)) own.1 f.is_decided) ended_told in
+          f.value ∙ ap (λ l. told_value (value_at r.asked.read.key (service_of l).pairs))
+          (ap (λ z. prefix_of T.lists z f.len) own.1 ∙ sym stays ∙ ap (λ z. prefix_of W.lists z f.len) (sym own.1))
+
+      -- it has the whole history of the early moment
+      pub seen_past : (more : List Entry) × (prefix_of W.lists r.conf f.len ≡ history_after members spares first ++ more)
+      seen_past =
+          let past = history_before E.lists W.lists own.0 f.len (greatest_conf (run_at first).world.nodes) members early_whole
+          (subst (λ z. length (E.lists z) ≤ f.len) own.1 has_all) (λ n lt. none_later n (omega (arith, lt, own.1))) ended_whole in
+          (past.0, ap (λ z. prefix_of W.lists z f.len) own.1 ∙ past.1)
+
       sees : SeesAll (history_after members spares first) (history_after members spares hs) r.asked.read (record { client = r.asked.read.client; seq = r.asked.read.seq; answer = a })
-      sees =
-          let k = above_zero r.conf low in
-          let small : k.0 < greatest_conf (run_at hs).world.nodes = (let e = k.1 in let le = few in omega (arith, e, le)) in
-          let ended = λ (n : ℕ) (pos : 0 < n) (lt : n < suc k.0). ended_then hs [] (sym (append-nil hs)) r.conf whole_open n pos (omega (arith, lt, k.1)) in
-          let ended_told = λ (n : ℕ) (pos : 0 < n) (lt : n < suc k.0). ended_then told tail told_split r.conf told_open n pos (omega (arith, lt, k.1)) in
-          let past = history_before E.lists W.lists k.0 f.len (greatest_conf (run_at first).world.nodes) members early_whole
-          (subst (λ z. length (E.lists z) ≤ f.len) k.1 has_all) (λ n lt. none_later n (omega (arith, lt, k.1))) ended in
-          let place = place_before W.lists k.0 f.len (greatest_conf (run_at hs).world.nodes) members small ended in
-          let stays = place_stays T.lists W.lists k.0 f.len told_whole (subst (λ z. f.len ≤ length (T.lists z)) k.1 f.is_decided) ended_told in
-          record {
-            more = past.0;
-            rest = place.0;
-            place = place.1 ∙ ap (λ l. l ++ place.0) past.1;
-            value = f.value ∙ ap (λ l. told_value (value_at r.asked.read.key (service_of l).pairs)) (ap (λ z. prefix_of T.lists z f.len) k.1 ∙ sym stays ∙ past.1);
-          }
+      sees = record {
+        more = seen_past.0;
+        rest = seen_place.0;
+        place = seen_place.1 ∙ ap (λ l. l ++ seen_place.0) seen_past.1;
+        value = seen_value ∙ ap (λ l. told_value (value_at r.asked.read.key (service_of l).pairs)) seen_past.1;
+      }
 
 -- ---- a cluster
 
-same_key : (r : Read) (key : Key) → r.client ≡ key.0 → r.seq ≡ key.1 → (r.client, r.seq) ≡ key
+pub same_key : (r : Read) (key : Key) → r.client ≡ key.0 → r.seq ≡ key.1 → (r.client, r.seq) ≡ key
 same_key r (c, s) e f = cc
 
 module _ (members spares : List ℕ) (ms : MembersInRange members) (ss : SparesInRange members spares) (counts : ℕ → ℕ) (trace : List Happened) (hs : List Happening)
@@ -257,7 +278,7 @@ module _ (members spares : List ℕ) (ms : MembersInRange members) (ss : SparesI
       f : ToldFresh (first_execution members spares) n.first p a.client a.seq a.answer
       f = every_line_is_fresh members spares n.first range_then p a.client a.seq a.answer given
           (contains_among (execution_of (first_execution members spares) n.first).world.lines (line.Read p a.client a.seq a.answer)
-          (subst (λ (w : World). Contains w.lines (line.Read p a.client a.seq a.answer)) (sym (world_of_run (first_execution members spares) n.first)) (n.lines p is a there)))
+          (subst (λ (w : World). Contains w.lines (line.Read p a.client a.seq a.answer)) (sym (world_of_run (first_execution members spares) n.first)) (n.lines true p is a there)))
 
       g : CameFresh (first_execution members spares) (f.before ++ f.tells ∷ []) (execution_of (first_execution members spares) (f.before ++ f.tells ∷ [])).machine f.read a.answer
       g = f.fresh

@@ -19,6 +19,7 @@ pub mod Joining
 pub mod Answering
 pub mod Proposing
 pub mod Running
+pub mod Reaching
 pub mod Reading
 pub mod Opened
 pub mod Lasting

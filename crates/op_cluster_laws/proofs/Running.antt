@@ -1,5 +1,5 @@
 -- A cluster is a run of the world: deed by deed, the messages that are taken are among those that were given out.
-use Rattle.std.proofs.Common.{◌⊎◌, ◌≡◌, ◌<◌, ◌≤◌, ◌+◌, ◌^◌, ℕ, zero, suc, Bool, true, false, List, [], ◌∷◌, ◌++◌, map, length, Option, Some, None, refl, sym, ◌∙◌, ap, subst, append_assoc, append-nil, nat_eq, inl, inr, arith}
+use Rattle.std.proofs.Common.{◌⊎◌, ◌≡◌, ◌<◌, ◌≤◌, ◌+◌, ◌^◌, ℕ, Bool, true, false, List, [], ◌∷◌, ◌++◌, map, length, Option, Some, None, refl, sym, ◌∙◌, ap, subst, append_assoc, append-nil, nat_eq, inl, inr, arith}
 use Rattle.std.specs.Prelude.{All, zip}
 use Rattle.std.specs.List.{Contains}
 use Rattle.std.specs.Set.{is_member}
@@ -14,12 +14,8 @@ use Rattle.op_types.specs.declared.events.Request.TheVariants as request
 use Rattle.op_types.specs.declared.read.Read.{Read}
 use Rattle.op_types.specs.declared.log.Command.{Command}
 use Rattle.op_types.specs.declared.log.Entry.{Entry}
-use Rattle.op_types.specs.declared.log.Entry.TheVariants as entry
 use Rattle.op_spec.specs.Machine.{IsAmong}
-use Rattle.op_runs.specs.Replies.{IsServed}
-use Rattle.op_runs.specs.Summary.{greatest_conf}
-use Rattle.op_laws.proofs.Drops.{in_left, from_both}
-use Rattle.op_laws.proofs.Histories.{history_from, history_none, next_of, history_grows}
+use Rattle.op_laws.proofs.Drops.{from_both}
 use Rattle.op_types.specs.declared.answers.Answer.{Answer}
 use Rattle.op_types.specs.declared.answers.Answer.TheVariants as answer
 use Rattle.op_types.specs.declared.answers.Reply.{Reply}
@@ -27,18 +23,16 @@ use Rattle.op_types.specs.declared.messages.Msg.{Msg}
 use Rattle.op_runs.specs.Replies.{IfReplyServed}
 use Rattle.op_laws.specs.Runs.{RunInRange}
 use Rattle.op_laws.proofs.RepliesServed.{every_reply_is_served}
-use Rattle.op_spec.specs.Stands.{Stands}
 use Rattle.op_runs.specs.declared.events.What.{What}
 use Rattle.op_runs.specs.declared.events.What.TheVariants as what
 use Rattle.op_runs.specs.Possible.{SparesInRange, WhatInRange, HappeningsInRange, proposals_of, proposals_in}
-use Rattle.op_runs.specs.Run.{Execution, first_execution, execution_of, execution_with, IsSound, MeetsFrom, ServesDecided}
+use Rattle.op_runs.specs.Run.{Execution, first_execution, execution_of}
 use Rattle.op_runs.specs.World.{World, Sent, Happening, first_node, first_world, node_ids, run_of, node_at, answer_line, Up}
 use Rattle.op_bounds.specs.Laws.{SentInRange, WorldInRange}
 use Rattle.op_bounds.specs.Messages as known
 use Rattle.op_bounds.proofs.Known.{nodes_are_ids, all_runs_stay}
 use Rattle.op_refinement.proofs.EveryRun.{every_run_meets}
-use Rattle.op_laws.proofs.Greatest.{greatest_stays}
-use Rattle.op_laws.proofs.Reached.{world_of_run, run_append, execution_append, front_in_range}
+use Rattle.op_laws.proofs.Reached.{world_of_run, run_append, front_in_range}
 use Rattle.op_protocol.specs.State.{State}
 use Rattle.op_protocol.specs.Starting.{state_after_restart, sends_after_restart}
 use Rattle.op_serving.specs.Cores.{Standing, saying, gives}
@@ -53,19 +47,18 @@ use Rattle.op_cluster_laws.specs.Lives.{Serves}
 use Rattle.op_cluster_laws.proofs.Serving.{deeds_are_caused}
 use Rattle.op_cluster_laws.specs.Clusters.{IsLife, MayOpen, IsCluster}
 use Rattle.op_cluster_laws.specs.Currency.{WasAskedOf}
-use Rattle.op_cluster_laws.specs.Worlds.{StandsAt, StandTogether, history_after, IsFrom, IsMoment, IsRun, DeliveriesWereGiven, AreFirst, NodesAgree, OfClusters, ClustersAreRuns}
+use Rattle.op_cluster_laws.specs.Worlds.{StandsAt, StandTogether, history_after, IsMoment, IsRun, DeliveriesWereGiven}
 use Rattle.op_cluster_laws.proofs.Causing.{replied_push, caused_at, heard_coming}
 use Rattle.op_cluster_laws.proofs.Tracing.{cut_last, lived_own, lived_other, folded_me, first_me, sent_push, unstored_deed, finds_at, Begun, begun_at, IsLinked, linked_alive, linked_ended}
-use Rattle.op_cluster_laws.proofs.Happenings.{sent, Says, ticks, delivers, proposes, stops, trims, looks_up, goes_up, goes_down}
-use Rattle.op_cluster_laws.proofs.Executions.{told_line, nobody, silent, Numbered, says_of, said_numbered, numbered_longer, Longer, NodeIs, Moves, rests, forgets, Tells, tells_longer, opened, proposals_more, stored_of, quiet, InputMoves, by_fate}
+use Rattle.op_cluster_laws.specs.Becoming.{sent, told_line, Numbered, Says, ticks, delivers, proposes, stops, trims, looks_up, goes_up, goes_down, IsNone, Reopens, Becomes, BecomeBehind}
+use Rattle.op_cluster_laws.proofs.Executions.{nobody, silent, says_of, said_numbered, numbered_longer, Longer, NodeIs, Moves, rests, forgets, such, Tells, tells_longer, opened, proposals_more, stored_of, quiet, InputMoves, by_fate}
 use Rattle.op_cluster_laws.proofs.Lists.{Each, each_map}
 use Rattle.op_cluster_laws.proofs.Pending.{InputsSo, pending_event, stored_push, stored_ended, stored_up, link_failed}
-use Rattle.op_cluster_laws.proofs.Answering.{all_found, input_fits, again_none, answers_fit}
+use Rattle.op_cluster_laws.proofs.Answering.{input_fits, again_none, answers_fit}
 use Rattle.op_cluster_laws.proofs.Ranges.{numbered_all, numbered_within, can_be_read, request_fits, commands_fit}
-use Rattle.op_cluster_laws.specs.Orders.{ClientsTakeReplies, IsAnswer, IsServedBefore, AnswersComeFirst}
-use Rattle.op_cluster_laws.proofs.Proposing.{commands_of, commands_in, commands_more, proposed_run}
+use Rattle.op_cluster_laws.proofs.Proposing.{commands_of, commands_in, commands_more}
 use Rattle.op_cluster_laws.proofs.Currency.{reads_of, reads_in, reads_more}
-use Rattle.op_cluster_laws.proofs.Joining.{CanBeRead, read_was_given, takes_replies}
+use Rattle.op_cluster_laws.proofs.Joining.{CanBeRead, read_was_given}
 
 -- ---- lists
 
@@ -158,28 +151,28 @@ first_found all (m ∷ ids) p h = elim (cases_eq m p) [
 -- ---- all that is so beside a world
 
 module _ (members spares : List ℕ) (counts : ℕ → ℕ) (ms : MembersInRange members) (ss : SparesInRange members spares) where
-  abbrev IsNode : ℕ → Type 0
+  abbrev pub IsNode : ℕ → Type 0
   IsNode p = IsMember (node_ids members spares) p
 
   -- the life of a node at a moment
-  abbrev L : ℕ → List Happened → Lived
+  abbrev pub L : ℕ → List Happened → Lived
   L p now = lived_at members counts p now
 
-  abbrev world : List Happening → World
+  abbrev pub world : List Happening → World
   world hs = run_of (first_world members spares) hs
 
   -- a node has read this request, in one of its lives
-  abbrev AskedBy : List Happened → Request → Type 0
+  abbrev pub AskedBy : List Happened → Request → Type 0
   AskedBy now r = WasAskedOf members spares counts now r
 
   asked_later : (now xs : List Happened) (r : Request) → AskedBy now r → AskedBy (now ++ xs) r
   asked_later now xs r a = (a.0, a.1 ++ xs, ap (λ l. l ++ xs) a.2 ∙ append_assoc a.0 a.1 xs, a.3, a.4, a.5, a.6)
 
   -- an event that may be told of by then: it is in range, and each command and read of it was asked for
-  record Fits (now : List Happened) (w : What) : Type 0 where
-    range : WhatInRange w
-    asked : (c : Command) → IsAmong (commands_of w) c → AskedBy now (request.Command c)
-    read : (r : Read) → IsAmong (reads_of w) r → AskedBy now (request.Read r)
+  pub record Fits (now : List Happened) (w : What) : Type 0 where
+    pub range : WhatInRange w
+    pub asked : (c : Command) → IsAmong (commands_of w) c → AskedBy now (request.Command c)
+    pub read : (r : Read) → IsAmong (reads_of w) r → AskedBy now (request.Read r)
 
   fits_later : (now xs : List Happened) (w : What) → Fits now w → Fits (now ++ xs) w
   fits_later now xs w f = record {
@@ -189,7 +182,7 @@ module _ (members spares : List ℕ) (counts : ℕ → ℕ) (ms : MembersInRange
   }
 
   -- so are inputs, in a world in which these messages were sent
-  abbrev AreTold : List Happened → List Sent → ℕ → List Input → Type 0
+  abbrev pub AreTold : List Happened → List Sent → ℕ → List Input → Type 0
   AreTold now ms p is = Each (Tells p (Fits now) ms) is
 
   told_later : (now xs : List Happened) (old new : List Sent) (p : ℕ) (is : List Input) → Longer old new → AreTold now old p is → AreTold (now ++ xs) new p is
@@ -240,18 +233,18 @@ module _ (members spares : List ℕ) (counts : ℕ → ℕ) (ms : MembersInRange
   start_fits : (now : List Happened) (p : ℕ) → IsNode p → Fits now (what.Start p)
   start_fits now p node = record { range = nodes_are_ids members spares ms ss p node; asked = λ c k. absurd k; read = λ r k. absurd k }
 
-  record Beside (now : List Happened) (hs : List Happening) : Type 0 where
-    nodes : StandTogether members spares counts now hs
-    messages : (before since : List Happened) → now ≡ before ++ since → (p : ℕ) → IsNode p → (d : ℕ) (m : Msg) → Contains (sent_in (L p before).first (L p before).deeds) (d, m) → Numbered (world hs).messages (sent p d m)
-    replies : (read : Bool) (p : ℕ) → IsNode p → (r : Reply) → Contains (answered_in read (L p now).first (L p now).deeds) r → Contains (world hs).lines (told_line read p r)
-    answers : (read : Bool) (p : ℕ) → IsNode p → (r : Reply) → Contains (answered_in read (L p now).first (L p now).deeds) r → known.ReplyInRange IsPid r
-    pending : (p : ℕ) → IsNode p → AreTold now (world hs).messages p (pending_in (L p now))
-    linked : (p : ℕ) → IsNode p → IsLinked (L p now)
-    asked : (c : Command) → IsAmong (commands_in hs) c → AskedBy now (request.Command c)
-    read : (r : Read) → IsAmong (reads_in hs) r → AskedBy now (request.Read r)
-    count : length (world hs).messages ≤ messages_behind members counts [] now
-    range : All (λ h. WhatInRange h.event.what) hs
-    proposals : proposals_in hs ≤ proposed_behind members counts [] now
+  pub record Beside (now : List Happened) (hs : List Happening) : Type 0 where
+    pub nodes : StandTogether members spares counts now hs
+    pub messages : (before since : List Happened) → now ≡ before ++ since → (p : ℕ) → IsNode p → (d : ℕ) (m : Msg) → Contains (sent_in (L p before).first (L p before).deeds) (d, m) → Numbered (world hs).messages (sent p d m)
+    pub replies : (read : Bool) (p : ℕ) → IsNode p → (r : Reply) → Contains (answered_in read (L p now).first (L p now).deeds) r → Contains (world hs).lines (told_line read p r)
+    pub answers : (read : Bool) (p : ℕ) → IsNode p → (r : Reply) → Contains (answered_in read (L p now).first (L p now).deeds) r → known.ReplyInRange IsPid r
+    pub pending : (p : ℕ) → IsNode p → AreTold now (world hs).messages p (pending_in (L p now))
+    pub linked : (p : ℕ) → IsNode p → IsLinked (L p now)
+    pub asked : (c : Command) → IsAmong (commands_in hs) c → AskedBy now (request.Command c)
+    pub read : (r : Read) → IsAmong (reads_in hs) r → AskedBy now (request.Read r)
+    pub count : length (world hs).messages ≤ messages_behind members counts [] now
+    pub range : All (λ h. WhatInRange h.event.what) hs
+    pub proposals : proposals_in hs ≤ proposed_behind members counts [] now
 
   begins_beside : Beside [] []
   begins_beside = record {
@@ -294,7 +287,7 @@ module _ (members spares : List ℕ) (counts : ℕ → ℕ) (ms : MembersInRange
 
   -- what becomes of the world then
   abbrev Goes : List Happened → World → ℕ → Lived → Event → Type 0
-  Goes now w p l e = Moves w p (Fits now) (proposed_by_all (steps_then l e)) (messages_then l e) (sent_then l e) (answered_then l e) Up (stored_in (lived_by l e))
+  Goes now w p l e = Moves w p (Fits now) (proposed_by_all (steps_then l e)) (messages_then l e) (sent_then l e) (answered_then l e) Up (stored_in (lived_by l e)) (Becomes w p l e)
 
   -- what may come at a life
   abbrev MayCome : Lived → Event → Type 0
@@ -315,11 +308,13 @@ module _ (members spares : List ℕ) (counts : ℕ → ℕ) (ms : MembersInRange
       stored = subst (NodeIs w p Up) (sym stored_is) s
 
       abbrev Stored : Event → State → Type 0
-      Stored e t = Moves w p F (proposed_by_all (steps_then l e)) (messages_then l e) (sent_then l e) (answered_then l e) Up t
+      Stored e t = Moves w p F (proposed_by_all (steps_then l e)) (messages_then l e) (sent_then l e) (answered_then l e) Up t (Becomes w p l e)
 
-      goes_quiet : (d : Deed) → ((who : List ℕ) (i : Input) (fate : Fate) → d ≡ enters who i fate → ⊥) → Goes now w p l (does d)
-      goes_quiet d other = subst (Stored (does d)) (stored_push l d alive)
-          (quiet w p F (crash_fits now p node) (start_fits now p node) (stands l) (unstored_in l) me stored d other (proposed_by_all (steps_then l (does d))) (messages_then l (does d)))
+      goes_quiet : (d : Deed) → ((who : List ℕ) (i : Input) (fate : Fate) → d ≡ enters who i fate → ⊥) → ((gs : List Happening) → IsNone gs → Becomes w p l (does d) gs) → Goes now w p l (does d)
+      goes_quiet d other none = subst (Stored (does d)) (stored_push l d alive)
+          (such p F w (proposed_by_all (steps_then l (does d))) (messages_then l (does d)) (given_at (stands l) d).sends (λ read. answers_of read (given_at (stands l) d)) Up
+          (stored_of (after_deed (stands l) d) (unstored_deed (stands l) d (unstored_in l))) IsNone (Becomes w p l (does d)) none
+          (quiet w p F (crash_fits now p node) (start_fits now p node) (stands l) (unstored_in l) me stored d other (proposed_by_all (steps_then l (does d))) (messages_then l (does d))))
 
       abbrev By : List ℕ → Input → Fate → Type 0
       By who i fate = InputMoves w p F (crash_fits now p node) (start_fits now p node) (stands l) (unstored_in l) me stored (pending_in l) who i fate
@@ -331,7 +326,8 @@ module _ (members spares : List ℕ) (counts : ℕ → ℕ) (ms : MembersInRange
           let sends : List (ℕ × Msg) = (given_at n (enters who i (finds d))).sends in
           let t : State = stored_of (after_deed n (enters who i (finds d))) (unstored_deed n (enters who i (finds d)) (unstored_in l)) in
           subst (Stored (does (enters who i (finds d)))) (stored_push l (enters who i (finds d)) alive)
-          (subst (λ (z : State). Moves w p F (proposed_by_all (pending_in l)) (length (sent_stepping n.me z (pending_in l)) + length sends) sends (λ read. answers_of read (given_at n (enters who i (finds d)))) Up t) stored_is m)
+          (subst (λ (z : State). Moves w p F (proposed_by_all (pending_in l)) (length (sent_stepping n.me z (pending_in l)) + length sends) sends (λ read. answers_of read (given_at n (enters who i (finds d)))) Up t
+          (Reopens w p z (pending_in l) d)) stored_is m)
       goes_input who i (faults k) m = subst (Stored (does (enters who i (faults k)))) (stored_push l (enters who i (faults k)) alive) m
       goes_input who i (shares k) m = subst (Stored (does (enters who i (shares k)))) (stored_push l (enters who i (shares k)) alive) m
       goes_input who i damaged m = subst (Stored (does (enters who i damaged))) (stored_push l (enters who i damaged) alive) m
@@ -340,8 +336,8 @@ module _ (members spares : List ℕ) (counts : ℕ → ℕ) (ms : MembersInRange
       goes_enters : (who : List ℕ) (i : Input) (fate : Fate) → Tells p F w.messages i → MayFind (stands l) i fate → FindsOneOf (unstored_in l) fate → Goes now w p l (does (enters who i fate))
       goes_enters who i fate t may one = goes_input who i fate (by_fate w p F (crash_fits now p node) (start_fits now p node) (stands l) (unstored_in l) me stored (pending_in l) who i fate t may one pending (link_failed l alive linked))
 
-      goes_ended : (is : List Input) → Moves w p F 0 0 [] nobody Up (stored_in (ended_with is l))
-      goes_ended is = forgets p F w 0 0 [] (λ read. answers_of read (saying None)) Up (stored_in (ended_with is l))
+      goes_ended : (is : List Input) → Moves w p F 0 0 [] nobody Up (stored_in (ended_with is l)) IsNone
+      goes_ended is = forgets p F w 0 0 [] (λ read. answers_of read (saying None)) Up (stored_in (ended_with is l)) IsNone
           (rests p F w 0 0 (saying None) (stored_in l) (stored_in (ended_with is l)) refl (silent (saying None) refl refl) (stored_ended l is alive) s)
 
     -- it finds one of the two
@@ -351,21 +347,22 @@ module _ (members spares : List ℕ) (counts : ℕ → ℕ) (ms : MembersInRange
 
     goes_anew : (d : Durable) → MayOpen l.left d
         → Moves w p F (proposed_by_all (pending_in l)) (length (sent_stepping (stands l).me (stored_in l) (pending_in l)) + length (sends_after_restart (stands l).me d)) (sends_after_restart (stands l).me d) nobody Up
-        (state_after_restart (stands l).me d)
+        (state_after_restart (stands l).me d) (Reopens w p (stored_in l) (pending_in l) d)
     goes_anew d may =
         let either : (d ≡ (stored_in l).durable) ⊎ (d ≡ (stepped p (stored_in l) (pending_in l)).durable) = elim (one_of d l.left refl may) [
           | inl before ↦ inl before
           | inr after ↦ inr (after ∙ ap (λ z. z.durable) (linked ∙ ap (λ z. stepped z (stored_in l) (pending_in l)) me))
         ] in
-        subst (λ z. Moves w p F (proposed_by_all (pending_in l)) (length (sent_stepping z (stored_in l) (pending_in l)) + length (sends_after_restart z d)) (sends_after_restart z d) nobody Up (state_after_restart z d)) (sym me)
+        subst (λ z. Moves w p F (proposed_by_all (pending_in l)) (length (sent_stepping z (stored_in l) (pending_in l)) + length (sends_after_restart z d)) (sends_after_restart z d) nobody Up (state_after_restart z d)
+        (Reopens w p (stored_in l) (pending_in l) d)) (sym me)
         (opened p F (crash_fits now p node) (start_fits now p node) w (stored_in l) (pending_in l) d s pending either)
 
     goes : (e : Event) → InputsSo (Tells p F w.messages) e → MayCome l e → Goes now w p l e
-    goes (does (begins c bytes)) t may = goes_quiet may (begins c bytes) (λ who i fate e. absurd cc)
-    goes (does (hears c bytes)) t may = goes_quiet may (hears c bytes) (λ who i fate e. absurd cc)
+    goes (does (begins c bytes)) t may = goes_quiet may (begins c bytes) (λ who i fate e. absurd cc) (λ gs e. e)
+    goes (does (hears c bytes)) t may = goes_quiet may (hears c bytes) (λ who i fate e. absurd cc) (λ gs e. e)
     goes (does (enters who i fate)) t may = goes_enters may.0 who i fate t may.1 may.2
-    goes (does (says f)) t may = goes_quiet may (says f) (λ who i fate e. absurd cc)
-    goes (does (takes c bytes)) t may = goes_quiet may (takes c bytes) (λ who i fate e. absurd cc)
+    goes (does (says f)) t may = goes_quiet may (says f) (λ who i fate e. absurd cc) (λ gs e. e)
+    goes (does (takes c bytes)) t may = goes_quiet may (takes c bytes) (λ who i fate e. absurd cc) (λ gs e. e)
     goes ends t may = goes_ended may []
     goes (killed bs) t may = goes_ended may (inputs_of bs)
     goes (opens d count) t may = goes_anew d may
@@ -529,7 +526,7 @@ module _ (members spares : List ℕ) (counts : ℕ → ℕ) (ms : MembersInRange
       | inr new ↦ all_read now m.happenings r m.are new
     ])
 
-    one_more : (gs : List Happening) × Beside (now ++ x ∷ []) (hs ++ gs)
+    one_more : (gs : List Happening) × Beside (now ++ x ∷ []) (hs ++ gs) × Becomes (world hs) x.pid (L x.pid now) x.event gs
     one_more = (
       m.happenings,
       record {
@@ -545,6 +542,7 @@ module _ (members spares : List ℕ) (counts : ℕ → ℕ) (ms : MembersInRange
         range = All-append (λ h. WhatInRange h.event.what) hs m.happenings b.range (all_range now m.happenings m.are);
         proposals = (let e = proposals_more hs m.happenings in let k = proposals_behind [] now x in let n = m.proposed in let o = b.proposals in omega (arith, e, k, n, o));
       },
+      m.is,
     )
 
   -- ---- a cluster
@@ -638,33 +636,42 @@ module _ (members spares : List ℕ) (counts : ℕ → ℕ) (ms : MembersInRange
     may_next now later p (killed bs) split is = (c.may now later (record { pid = p; event = killed bs }) split).0
     may_next now later p (opens d count) split is = c.may now later (record { pid = p; event = opens d count }) split
 
-    -- at each moment of these
-    abbrev Moments : List Happened → List Happening → List Happened → List Happening → Type 0
-    Moments before hs mid gs = (now rest : List Happened) → mid ≡ now ++ rest → (first last : List Happening) × (gs ≡ first ++ last) × Beside (before ++ now) (hs ++ first)
+    -- behind these, events have become happenings
+    abbrev pub Become : List Happened → List Happening → List Happened → List Happening → Type 0
+    Become before hs mid gs = BecomeBehind members spares counts before hs mid gs
 
-    record Run (before : List Happened) (hs : List Happening) (mid : List Happened) : Type 0 where
-      more : List Happening
-      moments : Moments before hs mid more
-      end : Beside (before ++ mid) (hs ++ more)
+    -- at each moment of these
+    abbrev pub Moments : List Happened → List Happening → List Happened → List Happening → Type 0
+    Moments before hs mid gs = (now rest : List Happened) → mid ≡ now ++ rest → (first last : List Happening) × (gs ≡ first ++ last) × Beside (before ++ now) (hs ++ first) × Become before hs now first
+
+    pub record Run (before : List Happened) (hs : List Happening) (mid : List Happened) : Type 0 where
+      pub more : List Happening
+      pub events : Become before hs mid more
+      pub moments : Moments before hs mid more
+      pub end : Beside (before ++ mid) (hs ++ more)
 
     here_beside : (now : List Happened) (hs : List Happening) → Beside now hs → Beside (now ++ []) (hs ++ [])
     here_beside now hs b = subst (λ l. Beside l (hs ++ [])) (sym (append-nil now)) (subst (λ l. Beside now l) (sym (append-nil hs)) b)
 
-    later_moments : (before mid : List Happened) (hs : List Happening) (x : Happened) → Beside before hs → (one gs : List Happening) → Moments (before ++ x ∷ []) (hs ++ one) mid gs → Moments before hs (x ∷ mid) (one ++ gs)
-    later_moments before mid hs x b one gs k [] rest e = ([], one ++ gs, refl, here_beside before hs b)
-    later_moments before mid hs x b one gs k (y ∷ now) rest e =
+    later_moments : (before mid : List Happened) (hs : List Happening) (x : Happened) → Beside before hs → (one gs : List Happening) → Becomes (world hs) x.pid (L x.pid before) x.event one
+        → Moments (before ++ x ∷ []) (hs ++ one) mid gs → Moments before hs (x ∷ mid) (one ++ gs)
+    later_moments before mid hs x b one gs made k [] rest e = ([], one ++ gs, refl, here_beside before hs b, refl)
+    later_moments before mid hs x b one gs made k (y ∷ now) rest e =
         let j = k now rest (tail_is x y mid (now ++ rest) e) in (
           one ++ j.0,
           j.1,
           ap (λ l. one ++ l) j.2 ∙ sym (append_assoc one j.0 j.1),
           subst (λ z. Beside (before ++ z ∷ now) (hs ++ (one ++ j.0))) (head_is x y mid (now ++ rest) e)
               (subst (λ l. Beside l (hs ++ (one ++ j.0))) (append_assoc before (x ∷ []) now) (subst (λ l. Beside ((before ++ x ∷ []) ++ now) l) (append_assoc hs one j.0) j.3)),
+          subst (λ z. Become before hs (z ∷ now) (one ++ j.0)) (head_is x y mid (now ++ rest) e) (one, j.0, refl, made, j.4),
         )
 
-    run_behind : (before mid : List Happened) (hs : List Happening) (x : Happened) → Beside before hs → (one : List Happening) → Run (before ++ x ∷ []) (hs ++ one) mid → Run before hs (x ∷ mid)
-    run_behind before mid hs x b one rest = record {
+    run_behind : (before mid : List Happened) (hs : List Happening) (x : Happened) → Beside before hs → (one : List Happening) → Becomes (world hs) x.pid (L x.pid before) x.event one → Run (before ++ x ∷ []) (hs ++ one) mid
+        → Run before hs (x ∷ mid)
+    run_behind before mid hs x b one made rest = record {
       more = one ++ rest.more;
-      moments = later_moments before mid hs x b one rest.more rest.moments;
+      events = (one, rest.more, refl, made, rest.events);
+      moments = later_moments before mid hs x b one rest.more made rest.moments;
       end = subst (λ l. Beside l (hs ++ (one ++ rest.more))) (append_assoc before (x ∷ []) mid)
           (subst (λ l. Beside ((before ++ x ∷ []) ++ mid) l) (append_assoc hs one rest.more) rest.end);
     }
@@ -672,22 +679,29 @@ module _ (members spares : List ℕ) (counts : ℕ → ℕ) (ms : MembersInRange
     run_from : (before mid : List Happened) (hs : List Happening) → trace ≡ before ++ mid → Beside before hs → Run before hs mid
     run_from before [] hs split b = record {
       more = [];
-      moments = λ now rest e. ([], [], refl, subst (λ l. Beside (before ++ l) (hs ++ [])) (sym (none_left now rest e)) (here_beside before hs b));
+      events = refl;
+      moments = λ now rest e. (
+        [],
+        [],
+        refl,
+        subst (λ l. Beside (before ++ l) (hs ++ [])) (sym (none_left now rest e)) (here_beside before hs b),
+        subst (λ l. Become before hs l []) (sym (none_left now rest e)) refl,
+      );
       end = here_beside before hs b;
     }
     run_from before (x ∷ mid) hs split b =
         let is : IsNode x.pid = all_at (λ y. IsNode y.pid) before x mid (subst (λ l. All (λ y. IsNode y.pid) l) split c.nodes) in
         let heard = heard_next before mid x.pid x.event split is in
         let one = one_more before hs b x is (may_next before mid x.pid x.event split is) heard (told_next before (x ∷ mid) hs x.pid x.event split b is heard) in
-        run_behind before mid hs x b one.0 (run_from (before ++ x ∷ []) mid (hs ++ one.0) (split ∙ sym (append_assoc before (x ∷ []) mid)) one.1)
+        run_behind before mid hs x b one.0 one.2 (run_from (before ++ x ∷ []) mid (hs ++ one.0) (split ∙ sym (append_assoc before (x ∷ []) mid)) one.1)
 
-    whole : Run [] [] trace
+    pub whole : Run [] [] trace
     whole = run_from [] trace [] refl begins_beside
 
     in_range : HappeningsInRange whole.more
     in_range = record { few = (let a = whole.end.proposals in let b = c.proposals in omega (arith, a, b)); each = whole.end.range }
 
-    moment_of : (now : List Happened) (first last : List Happening) → whole.more ≡ first ++ last → Beside now first → IsMoment members spares counts now first
+    pub moment_of : (now : List Happened) (first last : List Happening) → whole.more ≡ first ++ last → Beside now first → IsMoment members spares counts now first
     moment_of now first last e b =
         let t : Execution = execution_of (first_execution members spares) first in
         let run : RunInRange members spares first = front_in_range members spares first last (subst (λ l. RunInRange members spares l) e (record { first = ms; others = ss; happenings = in_range })) in
@@ -699,179 +713,16 @@ module _ (members spares : List ℕ) (counts : ℕ → ℕ) (ms : MembersInRange
               (subst (λ v. Contains v.lines (answer_line p r.client r.seq r.answer)) (sym (world_of_run (first_execution members spares) first)) (b.replies false p is r c)));
         }
 
-    is_run : IsRun members spares counts trace whole.more
+    pub is_run : IsRun members spares counts trace whole.more
     is_run = record {
       moments = λ now later e. let j = whole.moments now later e in (j.0, j.1, j.2, moment_of now j.0 j.1 j.2 j.3);
       range = in_range;
       meets = every_run_meets members spares ms ss whole.more in_range;
     }
 
-    deliveries_were_given : DeliveriesWereGiven members spares counts trace
+    pub deliveries_were_given : DeliveriesWereGiven members spares counts trace
     deliveries_were_given early later p q msg who fate split =
         let x : Happened = record { pid = p; event = does (enters who (input.Deliver q msg) fate) } in
         let j = whole.moments early (x ∷ later) split in
         let is : IsNode p = all_at (λ y. IsNode y.pid) early x later (subst (λ l. All (λ y. IsNode y.pid) l) split c.nodes) in
         read_then early (x ∷ later) j.0 split j.3 p q msg is (cause_next early later p (enters who (input.Deliver q msg) fate) split is).0
-
-pub clusters_are_runs : ClustersAreRuns
-clusters_are_runs members spares ms ss counts trace c = ((whole members spares counts ms ss trace c).more, is_run members spares counts ms ss trace c)
-
-pub every_delivery_was_given : OfClusters DeliveriesWereGiven
-every_delivery_was_given members spares ms ss counts trace c = deliveries_were_given members spares counts ms ss trace c
-
--- ---- agreement
-
-module _ (members : List ℕ) where
-  pub sound_behind : (t : Execution) (hs : List Happening) → IsSound members t → MeetsFrom members t hs → IsSound members (execution_of t hs)
-  sound_behind t [] s m = s
-  sound_behind t (h ∷ hs) s m = sound_behind (execution_with t h) hs m.0.sound m.1
-
-  pub meets_behind : (t : Execution) (hs gs : List Happening) → MeetsFrom members t (hs ++ gs) → MeetsFrom members t hs × MeetsFrom members (execution_of t hs) gs
-  meets_behind t [] gs m = (tt, m)
-  meets_behind t (h ∷ hs) gs m = let k = meets_behind (execution_with t h) hs gs m.1 in ((m.0, k.0), k.1)
-
-  pub lists_grow : (t : Execution) (hs : List Happening) → MeetsFrom members t hs → AreFirst t.machine.lists (execution_of t hs).machine.lists
-  lists_grow t [] m conf = ([], sym (append-nil (t.machine.lists conf)))
-  lists_grow t (h ∷ hs) m conf =
-      let one = m.0.grows.lists conf in
-      let more = lists_grow (execution_with t h) hs m.1 conf in
-      (one.0 ++ more.0, more.1 ∙ ap (λ l. l ++ more.0) one.1 ∙ append_assoc (t.machine.lists conf) one.0 more.0)
-
-pub nodes_agree : OfClusters NodesAgree
-nodes_agree members spares ms ss counts trace c =
-    let hs : List Happening = (whole members spares counts ms ss trace c).more in
-    let run = is_run members spares counts ms ss trace c in
-    let t0 : Execution = first_execution members spares in (
-      (execution_of t0 hs).machine.lists,
-      λ now later split.
-          let j = run.moments now later split in
-          let first : List Happening = j.0 in
-          let t : Execution = execution_of t0 first in
-          let two = meets_behind members t0 first j.1 (subst (λ l. MeetsFrom members t0 l) j.2 run.meets.1) in
-          let sound = sound_behind members t0 first run.meets.0 two.0 in
-          let all : execution_of t0 hs ≡ execution_of t j.1 = ap (execution_of t0) j.2 ∙ execution_append t0 first j.1 in (
-            t.machine.lists,
-            subst (λ (e : Execution). AreFirst t.machine.lists e.machine.lists) (sym all) (lists_grow members t j.1 two.1),
-            λ p is.
-                let s = j.3.nodes p is in
-                let there : node_at t.world.nodes p ≡ Some s.found = ap (λ w. node_at w.nodes p) (world_of_run t0 first) ∙ s.there in (
-                  subst (λ z. Stands members t.machine.lists z.durable) s.state (all_found (λ k. Stands members t.machine.lists k.state.durable) t.world.nodes p s.found sound.stand there),
-                  subst (λ z. ServesDecided t.machine.lists z.durable.part z.service) s.state (all_found (λ k. ServesDecided t.machine.lists k.state.durable.part k.state.service) t.world.nodes p s.found sound.serve there),
-                ),
-          ),
-    )
-
--- ---- one order
-
--- what stands in a history stands in a list
-among_lists : (lists : ℕ → List Entry) (count conf : ℕ) (o : Option (List ℕ)) (e : Entry) → IsAmong (history_from lists count conf o) e → (c : ℕ) × IsAmong (lists c) e
-among_lists lists count conf None e k = absurd (subst (λ l. IsAmong l e) (history_none lists count conf) k)
-among_lists lists zero conf (Some ids) e k = absurd k
-among_lists lists (suc count) conf (Some ids) e k = elim (from_both e (lists conf) (history_from lists count (conf + 1) (next_of (lists conf))) k) [
-  | inl here ↦ (conf, here)
-  | inr later ↦ among_lists lists count (conf + 1) (next_of (lists conf)) e later
-]
-
--- an answer is served
-served_answer : (history : List Entry) (r : Reply) → IsFrom history r → IsAnswer r.answer → IsServed history r.client r.seq r.answer
-served_answer history r h is = by_answer r.answer h is
-  where
-    by_answer : (a : Answer) → IfReplyServed history (answer_line 0 r.client r.seq a) → IsAnswer a → IsServed history r.client r.seq a
-    by_answer answer.Done k n = k
-    by_answer (answer.Value value) k n = k
-    by_answer answer.Absent k n = k
-    by_answer answer.Stale k n = k
-    by_answer (answer.Dropped why) k n = absurd n
-
--- in a history that goes on it is served still, and stands before what isn't there yet
-served_before : (history more : List Entry) (r : Reply) (c : Command) → (IsAmong history (entry.Command c) → ⊥) → IsServed history r.client r.seq r.answer → IsServedBefore (history ++ more) r c
-served_before history more r c none s = record {
-  served = record {
-    before = s.before;
-    command = s.command;
-    after = s.after ++ more;
-    place = ap (λ l. l ++ more) s.place ∙ append_assoc s.before (entry.Command s.command ∷ s.after) more;
-    client_is = s.client_is;
-    seq_is = s.seq_is;
-    answer_is = s.answer_is;
-  };
-  before = λ k. none (subst (λ l. IsAmong l (entry.Command c)) (sym (s.place ∙ sym (append_assoc s.before (entry.Command s.command ∷ []) s.after)))
-      (in_left (entry.Command c) (s.before ++ entry.Command s.command ∷ []) s.after k));
-}
-
-pub answers_come_first : OfClusters AnswersComeFirst
-answers_come_first members spares ms ss counts trace c =
-    let hs : List Happening = (whole members spares counts ms ss trace c).more in
-    let run = is_run members spares counts ms ss trace c in
-    let t0 : Execution = first_execution members spares in
-    let end : Execution = execution_of t0 hs in
-    let end_sound = sound_behind members t0 hs run.meets.0 run.meets.1 in (
-      hs,
-      run,
-      λ now later split.
-          let j = (whole members spares counts ms ss trace c).moments now later split in
-          let first : List Happening = j.0 in
-          let t : Execution = execution_of t0 first in
-          let known : ℕ = greatest_conf t.world.nodes in
-          let two = meets_behind members t0 first j.1 (subst (λ l. MeetsFrom members t0 l) j.2 run.meets.1) in
-          let sound = sound_behind members t0 first run.meets.0 two.0 in
-          let all : end ≡ execution_of t j.1 = ap (execution_of t0) j.2 ∙ execution_append t0 first j.1 in
-          let grown : AreFirst t.machine.lists end.machine.lists = subst (λ (e : Execution). AreFirst t.machine.lists e.machine.lists) (sym all) (lists_grow members t j.1 two.1) in
-          let most : known ≤ greatest_conf end.world.nodes = subst (λ l. known ≤ greatest_conf (execution_of t0 l).world.nodes) (sym j.2)
-          (greatest_stays members spares ms ss first j.1 (subst HappeningsInRange j.2 run.range)) in
-          let moment = moment_of members spares counts ms ss trace c now first j.1 j.2 j.3 in (
-            known,
-            λ p is r there answered x none.
-                let history : List Entry = history_from t.machine.lists known 1 (Some members) in
-                let absent : IsAmong history (entry.Command x) → ⊥ = λ k.
-                (let a = among_lists t.machine.lists known 1 (Some members) (entry.Command x) k in
-                elim (proposed_run x t0 first a.0 (sound.safe.proposed a.0 (entry.Command x) a.1)) [
-                  | inl before ↦ before
-                  | inr asked ↦ (let q = j.3.asked x asked in none q.0 q.1 q.2 q.3 q.4 q.5 q.6)
-                ]) in
-                let served : (count : ℕ) → known ≤ count → IsServedBefore (history_from end.machine.lists count 1 (Some members)) r x = λ count le.
-                (let on = history_grows t.machine.lists end.machine.lists (record { grown = grown; ends = end_sound.safe.after_stop }) known count 1 (Some members) le in
-                subst (λ l. IsServedBefore l r x) (sym on.1) (served_before history on.0 r x absent (served_answer history r (moment.replies p is r there) answered))) in
-                record { run = served (greatest_conf end.world.nodes) most; lists = served },
-          ),
-    )
-
--- What stands beside the world at a moment: the lines of answers to reads, and who asked for the reads.
-pub record Reached (members spares : List ℕ) (counts : ℕ → ℕ) (now : List Happened) (happenings : List Happening) : Type 0 where
-  pub first : List Happening
-  pub later : List Happening
-  pub split : happenings ≡ first ++ later
-  pub moment : IsMoment members spares counts now first
-  pub lines : (p : ℕ) → IsMember (node_ids members spares) p → (r : Reply) → Contains (answered_in true (lived_at members counts p now).first (lived_at members counts p now).deeds) r
-      → Contains (run_of (first_world members spares) first).lines (told_line true p r)
-  pub read : (r : Read) → IsAmong (reads_in first) r → WasAskedOf members spares counts now (request.Read r)
-
--- so it is at each moment of a run
-abbrev pub ReachedAlways : List ℕ → List ℕ → (ℕ → ℕ) → List Happened → List Happening → Type 0
-ReachedAlways members spares counts trace happenings = (now later : List Happened) → trace ≡ now ++ later → Reached members spares counts now happenings
-
-pub always_reached : OfClusters (λ members spares counts trace. (happenings : List Happening) × IsRun members spares counts trace happenings × ReachedAlways members spares counts trace happenings)
-always_reached members spares ms ss counts trace c = (
-  (whole members spares counts ms ss trace c).more,
-  is_run members spares counts ms ss trace c,
-  λ now later split.
-      let j = (whole members spares counts ms ss trace c).moments now later split in
-      record {
-        first = j.0;
-        later = j.1;
-        split = j.2;
-        moment = moment_of members spares counts ms ss trace c now j.0 j.1 j.2 j.3;
-        lines = λ p is r there. (j.3).replies true p is r there;
-        read = (j.3).read;
-      },
-)
-
--- what a node has answered has an encoding
-pub answers_in_range : (members spares : List ℕ) (counts : ℕ → ℕ) → MembersInRange members → SparesInRange members spares → (trace : List Happened) → IsCluster members spares counts trace
-    → (now later : List Happened) → trace ≡ now ++ later → (p : ℕ) → IsMember (node_ids members spares) p → (read : Bool) (r : Reply)
-    → Contains (answered_in read (lived_at members counts p now).first (lived_at members counts p now).deeds) r → known.ReplyInRange IsPid r
-answers_in_range members spares counts ms ss trace c now later split p is read r there =
-    let j = (whole members spares counts ms ss trace c).moments now later split in (j.3).answers read p is r there
-
-pub clients_take_replies : OfClusters ClientsTakeReplies
-clients_take_replies members spares ms ss counts trace c = takes_replies members spares counts trace c

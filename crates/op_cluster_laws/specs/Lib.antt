@@ -6,5 +6,6 @@ pub mod Nets
 pub mod Lives
 pub mod Clusters
 pub mod Worlds
+pub mod Becoming
 pub mod Orders
 pub mod Currency

@@ -1,0 +1,9 @@
+pub mod Effects
+pub mod Maps
+pub mod Weaving
+pub mod Linearizing
+pub mod Linear
+pub mod Calls
+pub mod Seen
+pub mod Tracks
+pub mod Worked

@@ -1,0 +1,5 @@
+use Rattle.op_linear.proofs.Worked.{some_cluster_answers}
+use Rattle.op_linear.proofs.laws.clusters_exist.Goals as goal
+
+pub returns : goal.returns
+returns c = record { answers = some_cluster_answers }

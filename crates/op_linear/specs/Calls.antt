@@ -1,0 +1,45 @@
+-- What the clients of a cluster call and are answered is linearizable.
+use Rattle.std.specs.Prelude.{◌≡◌, ◌≤◌, ℕ, List, take, Contains}
+use Rattle.op_types.specs.Ranges.{IsMember}
+use Rattle.op_types.specs.declared.answers.Answer.{Answer}
+use Rattle.op_types.specs.declared.answers.Reply.{Reply}
+use Rattle.op_types.specs.declared.events.Request.{Request}
+use Rattle.op_types.specs.declared.events.Request.TheVariants as request
+use Rattle.op_runs.specs.World.{node_ids}
+use Rattle.op_cluster_laws.specs.Currency.{WasAskedOf}
+use Rattle.op_cluster_laws.specs.Outputs.{answered_in}
+use Rattle.op_cluster_laws.specs.Traces.{Happened, Lived, lived_at}
+use Rattle.op_cluster_laws.specs.Worlds.{OfClusters}
+use Rattle.op_linear.specs.Linearizable.{Call, commands, reads, IsResult, History, Linearizable}
+use Rattle.op_linear.specs.Histories.{key_of, is_read, IsHistory}
+
+-- what a client sends for a call, once or several times, to any nodes
+abbrev pub request_of : Call → Request
+request_of (commands c) = request.Command c
+request_of (reads r) = request.Read r
+
+-- by the moment behind the first k things that happened, a node has read a request for it in one of its lives
+abbrev pub IsRequested : List ℕ → List ℕ → (ℕ → ℕ) → List Happened → ℕ → Call → Type 0
+IsRequested members spares faulted trace k x =
+    WasAskedOf members spares faulted (take k trace) (request_of x)
+
+-- by then a node has given out this result to it in one of its lives
+pub record IsAnswered (members spares : List ℕ) (faulted : ℕ → ℕ) (trace : List Happened)
+    (k : ℕ) (x : Call) (a : Answer) : Type 0 where
+  pub moment : ℕ
+  pub by_then : moment ≤ k
+  pub pid : ℕ
+  pub member : IsMember (node_ids members spares) pid
+  pub reply : Reply
+  pub given : let l : Lived = lived_at members faulted pid (take moment trace) in
+      Contains (answered_in (is_read x) l.first l.deeds) reply
+  pub key : (reply.client, reply.seq) ≡ key_of x
+  pub is : reply.answer ≡ a
+  pub result : IsResult a
+
+-- each history of a cluster's clients is linearizable
+abbrev pub ClustersAreLinearizable : Type 0
+ClustersAreLinearizable = OfClusters (λ members spares faulted trace.
+    (h : History)
+    → IsHistory (IsRequested members spares faulted trace) (IsAnswered members spares faulted trace) h
+    → Linearizable h)
