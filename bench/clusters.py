@@ -12,7 +12,7 @@ sys.path[:0] = [os.path.join(TOP, "examples"), os.path.join(TOP, "bench")]
 from ballots import promised  # noqa: E402
 from client import Client  # noqa: E402
 
-PROGRAM = os.environ.get("OMNI", os.path.join(TOP, "crates/omni/out/omni"))
+PROGRAM = os.path.abspath(os.environ.get("OMNI", os.path.join(TOP, "crates/omni/out/omni")))
 IDS = (1, 2, 3)
 TICK_MS = 100
 STARTING = 30.0  # seconds that a node may take to answer after its start

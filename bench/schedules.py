@@ -1,10 +1,15 @@
 """Schedules that the benches run, and how a run is timed."""
 import os
+import shutil
 import subprocess
 import sys
 import tempfile
 
 TOP = os.path.dirname(os.path.dirname(os.path.abspath(__file__)))
+
+# The sources of the program that runs single libraries, and the libraries that it names, as crates.txt lists those of a crate.
+SINGLE = os.path.join(TOP, 'bench', 'single')
+SINGLE_USES = 'op_types op_outside op_memory op_edge op_frame op_kv op_setup op_node op_core op_pump'
 
 
 def built_program():
@@ -12,12 +17,53 @@ def built_program():
     return os.environ.get('OMNI', os.path.join(TOP, 'crates', 'omni', 'out', 'omni'))
 
 
-def built_bench():
-    """The program that runs single libraries."""
-    crate = os.path.join(TOP, 'crates', 'op_bench')
-    program = os.path.join(crate, 'out', 'op_bench')
+def is_older(program, *folders):
+    """Whether the program is absent, or older than a source in these folders."""
     if not os.path.exists(program):
-        subprocess.run(['rt', 'run', '--', 'frames', '1', '1'], cwd=crate, stdout=subprocess.DEVNULL, stderr=subprocess.DEVNULL)
+        return True
+    built = os.path.getmtime(program)
+    for folder in folders:
+        for at, below, names in os.walk(folder):
+            below[:] = [it for it in below if it != 'out']
+            if any(os.path.getmtime(os.path.join(at, it)) > built for it in names if it.endswith(('.rt', '.antt', '.txt'))):
+                return True
+    return False
+
+
+def link_or_copy(one, other):
+    try:
+        os.link(one, other)
+    except OSError:
+        shutil.copy2(one, other)
+
+
+def make_single(copy):
+    """Makes the crate op_bench of bench/single beside this checkout's crates and what is built of these, and gives its folder."""
+    shutil.copytree(os.path.join(TOP, 'crates'), os.path.join(copy, 'crates'), copy_function=link_or_copy,
+                    ignore=shutil.ignore_patterns('incremental', 'must-fail'))
+    shutil.copy(os.path.join(TOP, 'HANDLES'), copy)
+    with open(os.path.join(TOP, 'crates.txt')) as listed, open(os.path.join(copy, 'crates.txt'), 'w') as file:
+        file.write(listed.read() + 'op_bench: %s\n' % SINGLE_USES)
+    crate = os.path.join(copy, 'crates', 'op_bench')
+    shutil.copytree(SINGLE, crate)
+    for at, _, names in os.walk(crate):
+        for name in names:
+            if name.endswith('.txt'):
+                os.rename(os.path.join(at, name), os.path.join(at, name[:-len('.txt')]))
+    return crate
+
+
+def built_bench():
+    """The program that runs single libraries. It is no crate of the gate, so its sources have names that the toolchain doesn't read:
+    it is proved and built in a folder of its own, over the libraries that are built here, and kept in bench/out."""
+    kept = os.path.join(TOP, 'bench', 'out')
+    program = os.path.join(kept, 'op_bench')
+    if is_older(program, SINGLE, os.path.join(TOP, 'crates')):
+        os.makedirs(kept, exist_ok=True)
+        with tempfile.TemporaryDirectory(dir=kept) as copy:
+            crate = make_single(copy)
+            subprocess.run(['rt', 'run', '--', 'frames', '1', '1'], cwd=crate, stdout=subprocess.DEVNULL, stderr=subprocess.DEVNULL)
+            shutil.copy2(os.path.join(crate, 'out', 'op_bench'), program)
     return program
 
 

@@ -1,8 +1,10 @@
-//! Crashes and damage of stored records, run over the disk in memory.
+//! Crashes and damage of stored records, run over the disk in memory, and bytes that are read and written again.
 #![tactic(auto)]
 
 #[cfg(test)]
 mod areas;
+#[cfg(test)]
+mod bytes;
 #[cfg(test)]
 mod damage;
 #[cfg(test)]

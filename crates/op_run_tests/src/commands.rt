@@ -3,7 +3,6 @@
 use crate::runs::{Sinks, Things, ended, sink, source, words_of};
 use op_memory::{Incoming, MemSource, NetScript};
 use op_outside::Happening;
-use op_setup::ConfigCause;
 use op_top::Status;
 use std::alloc::{AllocError, Global};
 use std::test::Fail;
@@ -21,7 +20,7 @@ type Row = (
     &'static str,
 );
 
-const ROWS: [Row; 18] = [
+const ROWS: [Row; 8] = [
     (
         &["node", "1"],
         SOLE,
@@ -30,39 +29,6 @@ const ROWS: [Row; 18] = [
         Status::TurnsOver,
         "ready 1\n",
         "turns over\n",
-    ),
-    (
-        &["node", "2"],
-        SOLE,
-        &[],
-        &[],
-        Status::BadConfig {
-            cause: ConfigCause::Id,
-        },
-        "",
-        "bad config id\n",
-    ),
-    (
-        &["node", "1"],
-        "turns = 3\n",
-        &[],
-        &[],
-        Status::BadConfig {
-            cause: ConfigCause::TickMs,
-        },
-        "",
-        "bad config tick_ms\n",
-    ),
-    (
-        &["node", "1"],
-        "tick_ms = 10\nturns = 3\nmembers = [1]\nmirror = 1\n[peers]\n1 = '127.0.0.1:7101'\n",
-        &[],
-        &[],
-        Status::BadConfig {
-            cause: ConfigCause::Mirror,
-        },
-        "",
-        "bad config mirror\n",
     ),
     // Damage of a mirrored area is told as that of one without a second copy.
     (
@@ -129,73 +95,6 @@ const ROWS: [Row; 18] = [
         &[],
         Status::Ended,
         "child 1 status 0\n",
-        "",
-    ),
-    (
-        &["cluster"],
-        "tick_ms = 0\n",
-        &[],
-        &[],
-        Status::BadConfig {
-            cause: ConfigCause::TickMs,
-        },
-        "",
-        "bad config tick_ms\n",
-    ),
-    (
-        &["drill", "42", "1"],
-        "",
-        &[],
-        &[],
-        Status::Ended,
-        "drill 42 1\nconfig 1 length 0\nnode 1 config 1 decided 0 trimmed 0\nnode 2 config 1 decided 0 trimmed 0\nnode 3 config 1 decided 0 trimmed 0\nnode 4 spare\nnode 5 spare\nsent 2\n",
-        "",
-    ),
-    // The events are `tick 1`, `trim 5` and `deliver 0`.
-    (
-        &["drill", "42", "3"],
-        "",
-        &[],
-        &[],
-        Status::Ended,
-        "drill 42 3\nconfig 1 length 0\nnode 1 config 1 decided 0 trimmed 0\nnode 2 config 1 decided 0 trimmed 0\nnode 3 config 1 decided 0 trimmed 0\nnode 4 spare\nnode 5 spare\nsent 3\n",
-        "",
-    ),
-    // Who alone hears a majority raises its ballot, and takes itself for the leader after the third round.
-    (
-        &["drill", "--links", "quorum", "3"],
-        "",
-        &[],
-        &[],
-        Status::Ended,
-        "links quorum 3\nballots 1 own 2 1 leader 2 1 promised 2 1\nballots 2 own 1 2 leader 1 5 promised 1 2\nballots 3 own 1 3 leader 1 5 promised 1 3\nballots 4 own 1 4 leader 1 5 promised 1 4\nballots 5 own 1 5 leader 1 5 promised 1 5\n",
-        "",
-    ),
-    (
-        &["drill", "--links", "quorum", "2"],
-        "",
-        &[],
-        &[],
-        Status::Ended,
-        "links quorum 2\nballots 1 own 2 1 leader 1 5 promised 1 1\nballots 2 own 1 2 leader 1 5 promised 1 2\nballots 3 own 1 3 leader 1 5 promised 1 3\nballots 4 own 1 4 leader 1 5 promised 1 4\nballots 5 own 1 5 leader 1 5 promised 1 5\n",
-        "",
-    ),
-    (
-        &["drill", "--links", "constrained", "3"],
-        "",
-        &[],
-        &[],
-        Status::Ended,
-        "links constrained 3\nballots 1 own 2 1 leader 2 1 promised 2 1\nballots 2 own 1 2 leader 1 5 promised 1 2\nballots 3 own 1 3 leader 1 5 promised 1 3\nballots 4 own 1 4 leader 1 5 promised 1 4\nballots 5 own 1 5 leader 1 5 promised 1 5\n",
-        "",
-    ),
-    (
-        &["drill", "--links", "chained", "3"],
-        "",
-        &[],
-        &[],
-        Status::Ended,
-        "links chained 3\nballots 1 own 2 1 leader 2 1 promised 2 1\nballots 2 own 1 2 leader 2 1 promised 1 2\nballots 3 own 1 3 leader 1 3 promised 1 3\n",
         "",
     ),
 ];
@@ -280,22 +179,6 @@ fn one_visitor(alloc: Global, bytes: &[u8]) -> Result<NetScript, AllocError> {
     add_wait(alloc, &mut script, Happening::Accepted(5))?;
     add_read(alloc, &mut script, bytes)?;
     Ok(script)
-}
-
-/// A drill draws the same events again, and writes the same.
-#[test]
-fn a_drill_goes_as_before(rt: HostRuntime) -> Result<(), Fail> {
-    let alloc = rt.alloc();
-    let words: &[&str] = &["drill", "1", "1000"];
-    let mut sinks = Sinks::new(alloc, 100, 100)?;
-    let mut again = Sinks::new(alloc, 100, 100)?;
-    let things = failing(alloc, &[], &[])?;
-    let status = ended_as(alloc, words, things, source(alloc, "", 1, &[])?, &mut sinks)?;
-    assert!(rt; status == Status::Ended && !sinks.out.bytes.is_empty());
-    let things = failing(alloc, &[], &[])?;
-    let status = ended_as(alloc, words, things, source(alloc, "", 1, &[])?, &mut again)?;
-    assert!(rt; status == Status::Ended && again.hold(&sinks.out.bytes, b""));
-    Ok(())
 }
 
 /// A drill whose write fails ends so, and leaves what was written.

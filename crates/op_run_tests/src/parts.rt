@@ -2,7 +2,7 @@
 ghost use Rattle.std.specs.Prelude.{All};
 ghost use Rattle.op_runs.specs.Possible.{WhatInRange};
 
-use crate::crashes::replayed;
+use crate::runs::{Sinks, ended_over, source};
 use op_memory::MemDisk;
 use op_runs::Events;
 use op_sched::read;
@@ -132,6 +132,14 @@ fn puts_behind(
         text.push('\n')?;
     }
     Ok(text)
+}
+
+/// How a replay of this text ends, and what it writes.
+fn replayed(alloc: Global, text: &str) -> Result<(Status, Vec<u8>), AllocError> {
+    let mut input = source(alloc, text, 4096, &[])?;
+    let mut sinks = Sinks::new(alloc, 4096, 100)?;
+    let status = ended_over(alloc, &["replay"], &mut input, &mut sinks)?;
+    Ok((status, sinks.out.bytes))
 }
 
 /// A world after these events.

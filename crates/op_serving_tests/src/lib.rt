@@ -1,4 +1,5 @@
-//! Serving over a net and a clock in memory, the client's call over a net, and a cluster over a spawner: tests.
+//! A node over two disks in memory, serving over a net and a clock in memory, the client's call over a net, and a cluster over a
+//! spawner: tests.
 #![tactic(auto)]
 
 mod failed_node;
@@ -7,6 +8,8 @@ pub use failed_node::FailedNode;
 
 #[cfg(test)]
 mod alone;
+#[cfg(test)]
+mod checkpoints;
 #[cfg(test)]
 mod client;
 #[cfg(test)]
@@ -30,10 +33,16 @@ mod queues;
 #[cfg(test)]
 mod reads;
 #[cfg(test)]
+mod reopenings;
+#[cfg(test)]
 mod requests;
 #[cfg(test)]
 mod room;
 #[cfg(test)]
 mod scripts;
 #[cfg(test)]
+mod sole;
+#[cfg(test)]
 mod strangers;
+#[cfg(test)]
+mod trimming;

@@ -81,8 +81,9 @@ fn dones(alloc: Global, count: u64) -> Result<Vec<u8>, NoMemory> {
     Ok(bytes)
 }
 
-/// Nodes 1 to 3, of which 1 is the only member, and so many turns.
-fn settings(alloc: Global, turns: u64) -> Result<Settings, NoMemory>
+/// Nodes 1 to 3, of which 1 is the only member, so many turns, and at how many untrimmed entries the leader
+/// trims by itself.
+fn settings(alloc: Global, turns: u64, trim_every: Option<u64>) -> Result<Settings, NoMemory>
     ensures peers { IfOk result PeersInRange }
     ensures limits { IfOk result IsLimited }
 {
@@ -97,6 +98,7 @@ fn settings(alloc: Global, turns: u64) -> Result<Settings, NoMemory>
         members: sole()?,
         peers: Peers::from_vec(peers),
         is_mirrored: false,
+        trim_every,
     })
 }
 
@@ -199,6 +201,8 @@ pub enum Server {
     Scarce,
     /// Node 1, the only member.
     Alone,
+    /// The same, which trims by itself at so many untrimmed entries.
+    Trimming(u64),
     /// Node 1, where 2 is the other member.
     Beside,
     /// Node 1, the only member, where this call of its first disk fails.
@@ -224,10 +228,11 @@ fn served(alloc: Global, server: Server, steps: &[Step], turns: u64) -> Result<R
         Server::Failed => served_as(alloc, 1, false, steps, turns),
         Server::FailedSecond => served_as(alloc, 2, false, steps, turns),
         Server::Scarce => served_as(alloc, 1, true, steps, turns),
-        Server::Alone => served_over(alloc, &sole()?, None, steps, turns),
-        Server::Beside => served_over(alloc, &pair()?, None, steps, turns),
-        Server::Failing(call) => served_over(alloc, &sole()?, Some(call), steps, turns),
-        Server::FailingBeside(call) => served_over(alloc, &pair()?, Some(call), steps, turns),
+        Server::Alone => served_over(alloc, &sole()?, None, None, steps, turns),
+        Server::Trimming(every) => served_over(alloc, &sole()?, None, Some(every), steps, turns),
+        Server::Beside => served_over(alloc, &pair()?, None, None, steps, turns),
+        Server::Failing(call) => served_over(alloc, &sole()?, Some(call), None, steps, turns),
+        Server::FailingBeside(call) => served_over(alloc, &pair()?, Some(call), None, steps, turns),
     }
 }
 
@@ -262,7 +267,7 @@ fn served_as(
 ) -> Result<Run, Fail>
     requires { IsPid me }
 {
-    let settings = settings(alloc, turns)?;
+    let settings = settings(alloc, turns, None)?;
     let mut net = ScriptNet::new(alloc, script_of(alloc, steps)?);
     let mut clock = FakeClock::new(alloc, VecDeque::new(alloc), 1);
     let node = FailedNode {
@@ -303,12 +308,13 @@ fn served_over(
     alloc: Global,
     members: &Members,
     fails: Option<u64>,
+    trim_every: Option<u64>,
     steps: &[Step],
     turns: u64,
 ) -> Result<Run, Fail>
     requires { MembersInRange members.now }
 {
-    let settings = settings(alloc, turns)?;
+    let settings = settings(alloc, turns, trim_every)?;
     let mut net = ScriptNet::new(alloc, script_of(alloc, steps)?);
     let mut clock = FakeClock::new(alloc, VecDeque::new(alloc), 1);
     let node = opened(alloc, members, fails)?;

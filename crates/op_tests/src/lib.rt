@@ -1,23 +1,9 @@
-//! Examples of what the crates below answer: rows from outside, real things of the system, and what is only tested.
+//! The adapters of op_edge over real things of the system, and the fakes of op_memory that stand for them elsewhere.
 #![tactic(auto)]
 
 #[cfg(test)]
 mod connections;
 #[cfg(test)]
-mod draws;
-#[cfg(test)]
 mod edges;
 #[cfg(test)]
-mod elections;
-#[cfg(test)]
-mod heartbeats;
-#[cfg(test)]
-mod majorities;
-#[cfg(test)]
-mod refusals;
-#[cfg(test)]
-mod settings;
-#[cfg(test)]
 mod streams;
-#[cfg(test)]
-mod words;

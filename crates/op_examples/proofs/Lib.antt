@@ -1,0 +1,10 @@
+mod Draws
+mod Elections
+pub mod Entries
+mod Heartbeats
+mod Majorities
+mod Messages
+mod Records
+mod Requests
+mod Services
+mod Steps
