@@ -6,7 +6,11 @@
 It asks one node after the other until a node answers, each time under the same number, so that a command takes effect
 once at most, however often it is sent. A `get` stands in the log, and any node takes it; a `read` doesn't, and only the node
 that leads answers it: the others say that they don't lead. Without CLIENT each run is a client of a new random id, of which every
-node keeps a small place for good: who runs it often gives one, 1 to 2^62 - 1, to one run at a time. Written from docs/FORMATS.md alone.
+node keeps a small place for good: who runs it often gives one, 1 to 2^62 - 1, to one run at a time. No number is used twice.
+
+It ends with status 0 where it was done, or a value was found; 1 where it was answered and not so: `absent`, `stale`, or a `cas` that
+found another value, which it prints; 2 where the words are wrong; 3 where no node has answered for some seconds: what was asked may yet
+take effect. Written from docs/FORMATS.md alone.
 """
 import random
 import socket
@@ -17,7 +21,13 @@ import time
 COMMAND, READ = 1, 6  # a request's tag
 TAGS = {"put": 1, "del": 2, "get": 3, "cas": 4}
 DONE, VALUE, ABSENT, STALE, BAD = 1, 2, 3, 4, 14  # a reply's tag
-SILENCE, PAUSE = 3.0, 0.1  # seconds: that an answer is waited for, and between two tries
+OPERANDS = {"put": 2, "del": 1, "get": 1, "cas": 3, "read": 1}
+SILENCE, PAUSE = 0.4, 0.1  # seconds: that a node's answer is waited for, and between two tries
+PATIENCE = 10.0  # seconds: that a run of this file goes on asking
+
+
+class NoAnswer(Exception):
+    """No node has answered in time. What was asked may yet take effect, once."""
 
 
 def request(client, number, operation, key, *values):
@@ -38,10 +48,13 @@ def exactly(connection, count):
 
 
 class Client:
-    def __init__(self, addresses, client=None):
+    """With `patience` it gives up after so many seconds without an answer; without, it asks for ever."""
+
+    def __init__(self, addresses, client=None, patience=None):
         self.addresses = addresses
         self.client = client or random.randrange(1, 2**62)
         self.number = time.time_ns()  # above those of the client's earlier runs
+        self.patience = patience
         self.connection = None
 
     def connect(self):
@@ -68,7 +81,8 @@ class Client:
             raise ValueError("a key has 1 to 64 bytes, and a value 4,096 at most")
         self.number += 1
         body = request(self.client, self.number, operation, key, *values)
-        while True:
+        end = None if self.patience is None else time.monotonic() + self.patience
+        while end is None or time.monotonic() < end:
             try:
                 tag, rest = self.once(body)
                 if tag <= STALE:
@@ -81,13 +95,30 @@ class Client:
                 self.connection.close()
             self.connection = None
             time.sleep(PAUSE)
+        raise NoAnswer(f"no node has answered for {self.patience:.0f} s; what was asked may yet take effect")
+
+
+def main(addresses, *words):
+    """Asks what the words say, and gives the line to print and the status."""
+    client = int(words[0]) if words and words[0].isdigit() else None
+    operation, *operands = words if client is None else words[1:]
+    if len(operands) != OPERANDS[operation]:
+        raise ValueError(f"{operation} takes {OPERANDS[operation]} words")
+    nodes = [tuple(address.rsplit(":", 1)) for address in addresses.split(",")]
+    answer = Client(nodes, client, PATIENCE).ask(operation, *(word.encode() for word in operands))
+    if isinstance(answer, bytes):
+        return answer.decode(errors="replace"), 1 if operation == "cas" else 0
+    return {True: ("done", 0), None: ("absent", 1), False: ("stale", 1)}[answer]
 
 
 if __name__ == "__main__":
-    nodes = [tuple(address.split(":")) for address in sys.argv[1].split(",")]
-    client = int(sys.argv.pop(2)) if sys.argv[2].isdigit() else None
     try:
-        answer = Client(nodes, client).ask(sys.argv[2], *(word.encode() for word in sys.argv[3:]))
-    except ValueError as error:
-        sys.exit(f"client.py: {error}")
-    print(answer.decode() if isinstance(answer, bytes) else {True: "done", None: "absent", False: "stale"}[answer])
+        line, status = main(*sys.argv[1:])
+    except (KeyError, TypeError, ValueError) as error:
+        print(f"client.py: {error}" if isinstance(error, ValueError) and len(sys.argv) > 3 else __doc__, file=sys.stderr)
+        sys.exit(2)
+    except NoAnswer as error:
+        print(f"client.py: {error}", file=sys.stderr)
+        sys.exit(3)
+    print(line)
+    sys.exit(status)

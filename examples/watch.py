@@ -4,7 +4,8 @@
     watch.py SETTINGS [TIMES]
 
 SETTINGS is a file such as examples/cluster.toml, whose peers are asked for their status. On a terminal each table takes the
-place of the one before; after TIMES tables it ends. Written from docs/FORMATS.md alone. Needs Python 3.11.
+place of the one before; after TIMES tables it ends. `leads` stands at a node that answers a read, which the leader alone does. Written
+from docs/FORMATS.md alone. Needs Python 3.11.
 """
 import concurrent.futures
 import socket
@@ -14,6 +15,8 @@ import time
 import tomllib
 
 STATUS_REQUEST, STATUS_REPLY = 4, 12  # tags
+READ_REQUEST, READ_REPLIES = 6, (2, 3)  # of a read, and of one that is answered: the value, or that there is none
+READ = struct.pack(">BQQB", READ_REQUEST, 1, 1, 1) + b"-"  # client 1's read 1 of the key `-`
 WAIT, PERIOD = 0.5, 1.0  # seconds: that a node has to answer, and between two tables
 CLEAR = "\x1b[H\x1b[J" if sys.stdout.isatty() else ""
 
@@ -28,17 +31,33 @@ def exactly(connection, count):
     return parts
 
 
-def status(address):
-    """The words of a node's status line behind its id, or none where it doesn't answer."""
+def peers_in(settings):
+    """Each node's address by its id, both as text."""
+    with open(settings, "rb") as file:
+        return {node: address.split(":") for node, address in tomllib.load(file)["peers"].items()}
+
+
+def asked(address, body):
+    """A reply's tag and what follows it, or 0 and nothing where the node doesn't answer in time."""
     try:
         with socket.create_connection(address, WAIT) as connection:
             connection.settimeout(WAIT)
-            connection.sendall(b"C" + struct.pack(">IB", 1, STATUS_REQUEST))
+            connection.sendall(b"C" + struct.pack(">I", len(body)) + body)
             length, _client, _number, tag = struct.unpack(">IQQB", exactly(connection, 21))
-            text = exactly(connection, length - 17)[2:].decode()
-            return text.split()[2:] if tag == STATUS_REPLY else []
+            return tag, exactly(connection, length - 17)
     except (OSError, struct.error):
-        return []
+        return 0, b""
+
+
+def status(address):
+    """The words of a node's status line behind its id, or none where it doesn't answer."""
+    tag, rest = asked(address, bytes([STATUS_REQUEST]))
+    return rest[2:].decode().split()[2:] if tag == STATUS_REPLY else []
+
+
+def leads(address):
+    """Whether the node answers a read."""
+    return asked(address, READ)[0] in READ_REPLIES
 
 
 def told(words):
@@ -62,18 +81,17 @@ def row(node, pairs, state, first, before):
 
 
 def main(settings, times):
-    with open(settings, "rb") as file:
-        peers = {node: address.split(":") for node, address in tomllib.load(file)["peers"].items()}
-    before = {}
+    peers, before = peers_in(settings), {}
     with concurrent.futures.ThreadPoolExecutor(len(peers)) as pool:
         for _ in range(times):
             started = time.monotonic()
             found = dict(zip(peers, map(told, pool.map(status, peers.values()))))
+            leading = dict(zip(peers, pool.map(leads, peers.values())))
             places = {node: (pairs["config"], pairs["decided"]) for node, (pairs, _) in found.items() if "decided" in pairs}
             first = max(places.values(), default=(0, 0))
             print(f"{CLEAR} node  config    decided   behind    trimmed   decided/s   state")
             for node, (pairs, state) in found.items():
-                print(row(node, pairs, state, first, before.get(node)))
+                print(row(node, pairs, "leads" if leading[node] else state, first, before.get(node)))
             before = places
             sys.stdout.flush()
             time.sleep(max(0, PERIOD - (time.monotonic() - started)))
