@@ -18,7 +18,6 @@ use Rattle.op_types.specs.declared.answers.Reply.{Reply}
 use Rattle.op_types.specs.declared.messages.Msg.{Msg}
 use Rattle.op_runs.specs.Replies.{IfReplyServed}
 use Rattle.op_spec.specs.Stands.{Stands}
-use Rattle.op_runs.specs.declared.events.What.{What}
 use Rattle.op_runs.specs.Possible.{SparesInRange, HappeningsInRange}
 use Rattle.op_runs.specs.Run.{Execution, first_execution, execution_of, execution_with, IsSound, MeetsFrom, ServesDecided}
 use Rattle.op_runs.specs.World.{Happening, first_world, node_ids, run_of, node_at, answer_line}
@@ -26,7 +25,7 @@ use Rattle.op_bounds.specs.Messages as known
 use Rattle.op_laws.proofs.Greatest.{greatest_stays}
 use Rattle.op_laws.proofs.Reached.{world_of_run, execution_append}
 use Rattle.op_cluster_laws.specs.Outputs.{sent_in, answered_in}
-use Rattle.op_cluster_laws.specs.Traces.{ends, Happened, stands, lived_at}
+use Rattle.op_cluster_laws.specs.Traces.{Happened, lived_at}
 use Rattle.op_cluster_laws.specs.Clusters.{IsCluster}
 use Rattle.op_cluster_laws.specs.Currency.{WasAskedOf}
 use Rattle.op_cluster_laws.specs.Worlds.{IsFrom, IsMoment, IsRun, DeliveriesWereGiven, AreFirst, NodesAgree, OfClusters, ClustersAreRuns}
@@ -36,7 +35,7 @@ use Rattle.op_cluster_laws.specs.Orders.{ClientsTakeReplies, IsAnswer, IsServedB
 use Rattle.op_cluster_laws.proofs.Proposing.{commands_in, proposed_run}
 use Rattle.op_cluster_laws.proofs.Currency.{reads_in}
 use Rattle.op_cluster_laws.proofs.Joining.{takes_replies}
-use Rattle.op_cluster_laws.proofs.Running.{Beside, Run, whole, is_run, moment_of, deliveries_were_given}
+use Rattle.op_cluster_laws.proofs.Running.{whole, is_run, moment_of, deliveries_were_given}
 
 pub clusters_are_runs : ClustersAreRuns
 clusters_are_runs members spares ms ss counts trace c = ((whole members spares counts ms ss trace c).more, is_run members spares counts ms ss trace c)

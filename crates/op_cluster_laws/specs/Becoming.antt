@@ -1,5 +1,5 @@
 -- A trace as happenings of the world: what each event at a node becomes.
-use Rattle.std.specs.Prelude.{◌≡◌, ◌⊎◌, ◌++◌, ◌∷◌, [], ℕ, List, slice_get, Bool, true, false, Option, Some, None}
+use Rattle.std.specs.Prelude.{◌≡◌, ◌⊎◌, ◌++◌, ◌∷◌, [], ℕ, List, slice_get, Bool, true, false, Some, None}
 use Rattle.op_types.specs.declared.durable.Durable.{Durable}
 use Rattle.op_types.specs.declared.events.Input.{Input}
 use Rattle.op_types.specs.declared.events.Input.TheVariants as input
@@ -95,5 +95,6 @@ abbrev pub BecomeBehind : List ℕ → List ℕ → (ℕ → ℕ) → List Happe
 BecomeBehind members spares faulted before hs [] gs = IsNone gs
 BecomeBehind members spares faulted before hs (x ∷ xs) gs =
     (first rest : List Happening) × (gs ≡ first ++ rest)
-    × Becomes (run_of (first_world members spares) hs) x.pid (lived_at members faulted x.pid before) x.event first
+    × Becomes (run_of (first_world members spares) hs) x.pid (lived_at members faulted x.pid before)
+    x.event first
     × BecomeBehind members spares faulted (before ++ x ∷ []) (hs ++ first) xs rest
