@@ -2,7 +2,8 @@
 -- what is none at its first bad field. The texts are `a` (97), `x` (120), `y` (121) and `z` (122).
 use Rattle.std.proofs.Common.{◌≡◌, ◌++◌, ◌+◌, ℕ, List, [], ◌∷◌, take, drop, Ok, Err, refl}
 use Rattle.op_types.specs.declared.log.Op.{Op}
-use Rattle.op_types.specs.declared.log.Op.TheVariants.{Put, Del, Get, Cas}
+use Rattle.op_types.specs.declared.log.Op.TheVariants.{Put, Del, Get, Cas, Many, Forget}
+use Rattle.op_types.specs.declared.writes.Write.TheVariants as write
 use Rattle.op_types.specs.declared.log.Entry.{Entry}
 use Rattle.op_types.specs.declared.log.Entry.TheVariants as variant
 use Rattle.op_fields.specs.Form.{Form, whole, encoded, items_read}
@@ -60,6 +61,27 @@ a_replacement :
 unfolding encoded items_read
 a_replacement = (refl, refl)
 
+-- one write, which takes out `a`
+a_many :
+    IsEncoded entry (asked (Many (write.Del (97 ∷ []) ∷ []))) (1 ∷ 0 ∷ 0 ∷ 0 ∷ 0 ∷ 0 ∷ 0 ∷ 0 ∷ 7 ∷ 0 ∷ 0 ∷ 0
+    ∷ 0 ∷ 0 ∷ 0 ∷ 0 ∷ 1 ∷ 5 ∷ 1 ∷ 2 ∷ 1 ∷ 97 ∷ [])
+unfolding encoded items_read
+a_many = (refl, refl)
+
+-- `x` at `a`, and then `b` is taken out
+two_writes :
+    IsEncoded entry (asked (Many (write.Put (97 ∷ []) (120 ∷ []) ∷ write.Del (98 ∷ []) ∷ []))) (1 ∷ 0 ∷ 0 ∷ 0
+    ∷ 0 ∷ 0 ∷ 0 ∷ 0 ∷ 7 ∷ 0 ∷ 0 ∷ 0 ∷ 0 ∷ 0 ∷ 0 ∷ 0 ∷ 1 ∷ 5 ∷ 2 ∷ 1 ∷ 1 ∷ 97 ∷ 0 ∷ 1 ∷ 120 ∷ 2 ∷ 1 ∷ 98 ∷ [])
+unfolding encoded items_read
+two_writes = (refl, refl)
+
+-- client 8 is forgotten
+a_forget :
+    IsEncoded entry (asked (Forget 8)) (1 ∷ 0 ∷ 0 ∷ 0 ∷ 0 ∷ 0 ∷ 0 ∷ 0 ∷ 7 ∷ 0 ∷ 0 ∷ 0 ∷ 0 ∷ 0 ∷ 0 ∷ 0 ∷ 1 ∷ 6
+    ∷ 0 ∷ 0 ∷ 0 ∷ 0 ∷ 0 ∷ 0 ∷ 0 ∷ 8 ∷ [])
+unfolding encoded items_read
+a_forget = (refl, refl)
+
 -- the stop-sign of configuration 1: servers 1 and 999 are the members of the next one
 a_stop :
     IsEncoded entry (variant.Stop (record { next = 2; members = 1 ∷ 999 ∷ [] })) (2 ∷ 0 ∷ 0 ∷ 0 ∷ 2 ∷ 2 ∷
@@ -80,10 +102,10 @@ no_entries :
 unfolding encoded items_read
 no_entries = (refl, refl)
 
--- no members; ten of them; the same one twice
+-- no members; 32 of them; the same one twice
 no_stops :
     (IsRefused entry (2 ∷ 0 ∷ 0 ∷ 0 ∷ 2 ∷ 0 ∷ []) 5) ×
-    (IsRefused entry (2 ∷ 0 ∷ 0 ∷ 0 ∷ 2 ∷ 10 ∷ 0 ∷ 0 ∷ 0 ∷ 1 ∷ []) 5) ×
+    (IsRefused entry (2 ∷ 0 ∷ 0 ∷ 0 ∷ 2 ∷ 32 ∷ 0 ∷ 0 ∷ 0 ∷ 1 ∷ []) 5) ×
     (IsRefused entry (2 ∷ 0 ∷ 0 ∷ 0 ∷ 2 ∷ 2 ∷ 0 ∷ 0 ∷ 0 ∷ 1 ∷ 0 ∷ 0 ∷ 0 ∷ 1 ∷ []) 10)
 unfolding encoded items_read
 no_stops = (refl, refl, refl)
@@ -91,7 +113,7 @@ no_stops = (refl, refl, refl)
 -- a client that is cut; an operation that is none; a cas without its last value; a key that is cut
 no_commands :
     (IsRefused entry (1 ∷ 0 ∷ 0 ∷ 0 ∷ 0 ∷ 0 ∷ 0 ∷ 0 ∷ 0 ∷ 0 ∷ []) 1) ×
-    (IsRefused entry (1 ∷ 0 ∷ 0 ∷ 0 ∷ 0 ∷ 0 ∷ 0 ∷ 0 ∷ 7 ∷ 0 ∷ 0 ∷ 0 ∷ 0 ∷ 0 ∷ 0 ∷ 0 ∷ 1 ∷ 5 ∷ 1 ∷ 97 ∷ [])
+    (IsRefused entry (1 ∷ 0 ∷ 0 ∷ 0 ∷ 0 ∷ 0 ∷ 0 ∷ 0 ∷ 7 ∷ 0 ∷ 0 ∷ 0 ∷ 0 ∷ 0 ∷ 0 ∷ 0 ∷ 1 ∷ 7 ∷ 1 ∷ 97 ∷ [])
     17) ×
     (IsRefused entry (1 ∷ 0 ∷ 0 ∷ 0 ∷ 0 ∷ 0 ∷ 0 ∷ 0 ∷ 7 ∷ 0 ∷ 0 ∷ 0 ∷ 0 ∷ 0 ∷ 0 ∷ 0 ∷ 1 ∷ 4 ∷ 1 ∷ 97 ∷ 0 ∷
     0 ∷ 0 ∷ 1 ∷ []) 22) ×
@@ -99,3 +121,15 @@ no_commands :
     18)
 unfolding encoded items_read
 no_commands = (refl, refl, refl, refl)
+
+-- no writes; 17 of them; one that is none; a client that is forgotten and is none
+no_later_commands :
+    (IsRefused entry (1 ∷ 0 ∷ 0 ∷ 0 ∷ 0 ∷ 0 ∷ 0 ∷ 0 ∷ 7 ∷ 0 ∷ 0 ∷ 0 ∷ 0 ∷ 0 ∷ 0 ∷ 0 ∷ 1 ∷ 5 ∷ 0 ∷ []) 18) ×
+    (IsRefused entry (1 ∷ 0 ∷ 0 ∷ 0 ∷ 0 ∷ 0 ∷ 0 ∷ 0 ∷ 7 ∷ 0 ∷ 0 ∷ 0 ∷ 0 ∷ 0 ∷ 0 ∷ 0 ∷ 1 ∷ 5 ∷ 17 ∷ 2 ∷ 1 ∷ 97
+    ∷ []) 18) ×
+    (IsRefused entry (1 ∷ 0 ∷ 0 ∷ 0 ∷ 0 ∷ 0 ∷ 0 ∷ 0 ∷ 7 ∷ 0 ∷ 0 ∷ 0 ∷ 0 ∷ 0 ∷ 0 ∷ 0 ∷ 1 ∷ 5 ∷ 1 ∷ 3 ∷ 1 ∷ 97 ∷
+    []) 19) ×
+    (IsRefused entry (1 ∷ 0 ∷ 0 ∷ 0 ∷ 0 ∷ 0 ∷ 0 ∷ 0 ∷ 7 ∷ 0 ∷ 0 ∷ 0 ∷ 0 ∷ 0 ∷ 0 ∷ 0 ∷ 1 ∷ 6 ∷ 0 ∷ 0 ∷ 0 ∷ 0 ∷
+    0 ∷ 0 ∷ 0 ∷ 0 ∷ []) 18)
+unfolding encoded items_read
+no_later_commands = (refl, refl, refl, refl)

@@ -4,10 +4,12 @@ use Rattle.op_types.specs.declared.changes.Change.TheVariants as variant
 use Rattle.op_types.specs.declared.log.Entry.TheVariants as entries
 use Rattle.op_fields.specs.Form.{encoded, items_read}
 use Rattle.op_kv.specs.Rising.{rising_read}
-use Rattle.op_examples.proofs.Entries.{IsEncoded, IsRefused, with_byte, one_put, put_bytes}
+use Rattle.op_types.specs.declared.log.Op.TheVariants.{Forget}
+use Rattle.op_examples.proofs.Entries.{IsEncoded, IsRefused, with_byte, asked, one_put, put_bytes}
 use Rattle.op_record.specs.declared.body.Rec.{Rec}
 use Rattle.op_record.specs.declared.body.Rec.TheVariants.{Whole, Step}
 use Rattle.op_record.specs.Forms.{body}
+use Rattle.op_record.specs.Versions.{first_body}
 
 -- the base of a service with no pairs and no clients
 abbrev no_pairs : List ℕ
@@ -183,3 +185,25 @@ no_batches :
     (IsRefused body ((2 ∷ 1 ∷ 12 ∷ []) ++ put_bytes) 3)
 unfolding encoded items_read rising_read
 no_batches = (refl, refl, refl, refl, refl)
+
+-- ---- the first version of areas
+
+-- a step with one change, which appends an entry
+abbrev appending : List ℕ → List ℕ
+appending bytes =
+    (2 ∷ 1 ∷ 4 ∷ 0 ∷ 0 ∷ 0 ∷ 0 ∷ 0 ∷ 0 ∷ 0 ∷ 1 ∷ []) ++ bytes
+
+-- command 1 of client 7 forgets client 8
+abbrev forget_bytes : List ℕ
+forget_bytes =
+    1 ∷ 0 ∷ 0 ∷ 0 ∷ 0 ∷ 0 ∷ 0 ∷ 0 ∷ 7 ∷ 0 ∷ 0 ∷ 0 ∷ 0 ∷ 0 ∷ 0 ∷ 0 ∷ 1 ∷ 6 ∷ 0 ∷ 0 ∷ 0 ∷ 0 ∷ 0 ∷ 0 ∷ 0 ∷ 8 ∷
+    []
+
+-- it has the same bytes for what it can hold, as a put, and has no forget
+first_steps :
+    (IsEncoded first_body first first_bytes) ×
+    (IsEncoded first_body (Step (variant.Append (one_put ∷ []) ∷ [])) (appending put_bytes)) ×
+    (IsEncoded body (Step (variant.Append (asked (Forget 8) ∷ []) ∷ [])) (appending forget_bytes)) ×
+    (IsRefused first_body (appending forget_bytes) 0)
+unfolding encoded items_read rising_read
+first_steps = ((refl, refl), (refl, refl), (refl, refl), refl)

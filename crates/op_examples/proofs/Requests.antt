@@ -106,10 +106,10 @@ no_reads :
 unfolding encoded items_read
 no_reads = (refl, refl, refl)
 
--- no members; ten of them; the same one twice; a byte left over
+-- no members; 32 of them; the same one twice; a byte left over
 no_stops :
     (IsRefused request_form (2 ∷ 0 ∷ []) 1) ×
-    (IsRefused request_form (2 ∷ 10 ∷ 0 ∷ 0 ∷ 0 ∷ 1 ∷ []) 1) ×
+    (IsRefused request_form (2 ∷ 32 ∷ 0 ∷ 0 ∷ 0 ∷ 1 ∷ []) 1) ×
     (IsRefused request_form (2 ∷ 2 ∷ 0 ∷ 0 ∷ 0 ∷ 5 ∷ 0 ∷ 0 ∷ 0 ∷ 5 ∷ []) 6) ×
     (IsRefused request_form (2 ∷ 1 ∷ 0 ∷ 0 ∷ 0 ∷ 1 ∷ 0 ∷ []) 6)
 unfolding encoded items_read

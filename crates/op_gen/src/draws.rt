@@ -7,7 +7,7 @@ ghost use Rattle.op_gen.specs.Draws.{crash_drawn, delivery_drawn, drawn_as, dril
 
 use crate::kind::Kind;
 use op_runs::What;
-use op_types::{Blob, Command, Commands, Members, NoMemory, Op, Pid};
+use op_types::{Blob, Command, Commands, Members, NoMemory, Op, Pid, Shared};
 use rand_core::utils::NextWord;
 use rand_pcg::Lcg64Xsh32;
 use std::alloc::Global;
@@ -53,7 +53,7 @@ pub fn drawn_as(
         Kind::Failure => Ok(failure(words)),
         Kind::Trim => Ok(What::Trim(server(words))),
         Kind::Session => Ok(session(words)),
-        Kind::Stop => stop(words),
+        Kind::Stop => stop(alloc, words),
     }
 }
 
@@ -128,7 +128,7 @@ fn session(words: &mut Lcg64Xsh32) -> What
 }
 
 /// A stop-sign.
-fn stop(words: &mut Lcg64Xsh32) -> Result<What, NoMemory>
+fn stop(alloc: Global, words: &mut Lcg64Xsh32) -> Result<What, NoMemory>
     ensures what { IfOk result (λ w. w ≡ (stop_drawn words.old).0) }
     ensures words { words.new ≡ (stop_drawn words.old).1 }
     ensures range { IfOk result WhatInRange }
@@ -136,7 +136,8 @@ fn stop(words: &mut Lcg64Xsh32) -> Result<What, NoMemory>
 {
     let pid = server(words);
     let first = below(words, SERVERS);
-    Ok(What::Stop(pid, Members::from_slice(three_from(first))?))
+    let members = Members::from_slice(three_from(first))?;
+    Ok(What::Stop(pid, Shared::new(alloc, members)?))
 }
 
 /// A server, 1 to 5.

@@ -3,25 +3,41 @@ ghost use Rattle.std.specs.Ordering.{nat_cmp};
 ghost use Rattle.std.specs.Cmp.Lexicographic.{slice_cmp};
 ghost use Rattle.std.specs.Map.{remove_entry};
 ghost use Rattle.std.specs.BTreeMap.{insert_entry, is_at};
-ghost use Rattle.op_spec.specs.Service.{value_at, is_value, told_value, pairs_after, effect_answer};
-ghost use Rattle.op_spec.specs.Service.{last_of, answer_of, service_with, service_with_effect, all_after};
+ghost use Rattle.op_spec.specs.Service.{
+  value_at,
+  is_value,
+  told_value,
+  pairs_written,
+  all_written,
+  pairs_after,
+  effect_answer,
+  forgotten_by,
+  clients_without,
+  last_of,
+  answer_of,
+  service_with,
+  service_with_effect,
+  all_after,
+};
 ghost use Rattle.op_kv.specs.Over.{nothing_written, pairs_over, clients_over, service_over, answers_of, told_again};
 
 use crate::Answers;
 use crate::overlay::Overlay;
 use crate::tables::Tables;
-use op_types::{Answer, Applied, Blob, Command, Entry, NoMemory, Op};
+use op_types::{Answer, Applied, Blob, Command, Entry, NoMemory, Op, Write};
 use std::alloc::Global;
 use std::collections::BTreeSet;
 use std::marker::Model;
 
-/// What commands wrote that a map has not taken in: pairs, keys that were taken out, and the clients' last commands. A
-/// key's pair stands over its being taken out.
+/// What commands wrote that a map has not taken in: pairs, keys that were taken out, the clients' last commands, and
+/// clients that were forgotten. A key's pair stands over its being taken out, and a client's command over its being
+/// forgotten.
 #[derive(Drop)]
 pub struct KvChange {
     pub(crate) pairs: Overlay<Blob, Blob>,
     pub(crate) gone: BTreeSet<Blob>,
     pub(crate) clients: Overlay<u64, Applied>,
+    pub(crate) forgotten: BTreeSet<u64>,
 }
 
 impl Model for KvChange {
@@ -33,7 +49,12 @@ impl Model for KvChange {
 
     ghost Value = { Written };
 
-    ghost view = { λ t. record { pairs = t.pairs; gone = t.gone.keys; clients = t.clients } };
+    ghost view = { λ t. record {
+      pairs = t.pairs;
+      gone = t.gone.keys;
+      clients = t.clients;
+      forgotten = t.forgotten.keys;
+    } };
 
     ghost invariant = { λ t.
         IsStrictlySortedBy (slice_cmp nat_cmp) (keys_of t.pairs) × IsStrictlySortedBy nat_cmp (keys_of t.clients) };
@@ -48,6 +69,7 @@ impl KvChange {
             pairs: Overlay::new(alloc),
             gone: BTreeSet::new(alloc),
             clients: Overlay::new(alloc),
+            forgotten: BTreeSet::new(alloc),
         }
     }
 
@@ -127,12 +149,13 @@ impl KvChange {
         Ok(answer)
     }
 
-    /// The operation takes its effect on the pairs.
+    /// The operation takes its effect on the pairs, or on what is kept of a client.
     fn apply(&mut self, alloc: Global, below: &Tables, op: &Op) -> Result<Answer, NoMemory>
         ensures answer { IfOk result (λ a. a ≡ effect_answer op.now (pairs_over below.now.pairs self.old)) }
         ensures pairs { OnOk result (pairs_over below.now.pairs self.new
             ≡ pairs_after op.now (pairs_over below.now.pairs self.old)) }
-        ensures clients { OnOk result (self.new.clients ≡ self.old.clients) }
+        ensures clients { OnOk result (clients_over below.now.clients self.new
+            ≡ clients_without (forgotten_by op.now) (clients_over below.now.clients self.old)) }
     {
         match op {
             Op::Put(key, value) => self.put(alloc, below, key, value),
@@ -145,6 +168,43 @@ impl KvChange {
                     self.tell(alloc, below, key)
                 }
             }
+            Op::Many(writes) => self.write_all(alloc, below, writes.as_slice()),
+            Op::Forget(client) => self.forget(below, *client),
+        }
+    }
+
+    /// These are written, from the left.
+    fn write_all(
+        &mut self,
+        alloc: Global,
+        below: &Tables,
+        writes: &[Write],
+    ) -> Result<Answer, NoMemory>
+        ensures answer { IfOk result (λ a. a ≡ Answer.Done) }
+        ensures pairs { OnOk result (pairs_over below.now.pairs self.new
+            ≡ all_written (pairs_over below.now.pairs self.old) writes.now) }
+        ensures clients { OnOk result
+            (clients_over below.now.clients self.new ≡ clients_over below.now.clients self.old) }
+    {
+        let mut left = writes;
+        'writes: while let Some((write, rest)) = left.split_first() {
+            self.write(alloc, below, write)?;
+            left = rest;
+        }
+        Ok(Answer::Done)
+    }
+
+    /// The key gets the value, or is taken out.
+    fn write(&mut self, alloc: Global, below: &Tables, write: &Write) -> Result<Answer, NoMemory>
+        ensures answer { IfOk result (λ a. a ≡ Answer.Done) }
+        ensures pairs { OnOk result (pairs_over below.now.pairs self.new
+            ≡ pairs_written (pairs_over below.now.pairs self.old) write.now) }
+        ensures clients { OnOk result
+            (clients_over below.now.clients self.new ≡ clients_over below.now.clients self.old) }
+    {
+        match write {
+            Write::Put(key, value) => self.put(alloc, below, key, value),
+            Write::Del(key) => self.delete(alloc, below, key),
         }
     }
 
@@ -159,7 +219,8 @@ impl KvChange {
         ensures answer { IfOk result (λ a. a ≡ Answer.Done) }
         ensures pairs { OnOk result (pairs_over below.now.pairs self.new
             ≡ insert_entry (slice_cmp nat_cmp) (pairs_over below.now.pairs self.old) key.now value.now) }
-        ensures clients { OnOk result (self.new.clients ≡ self.old.clients) }
+        ensures clients { OnOk result
+            (clients_over below.now.clients self.new ≡ clients_over below.now.clients self.old) }
     {
         let _ = &below.pairs;
         self.pairs.insert(key.copy()?, value.copy()?)?;
@@ -171,11 +232,26 @@ impl KvChange {
         ensures answer { IfOk result (λ a. a ≡ Answer.Done) }
         ensures pairs { OnOk result (pairs_over below.now.pairs self.new
             ≡ remove_entry (is_at (slice_cmp nat_cmp key.now)) (pairs_over below.now.pairs self.old)) }
-        ensures clients { OnOk result (self.new.clients ≡ self.old.clients) }
+        ensures clients { OnOk result
+            (clients_over below.now.clients self.new ≡ clients_over below.now.clients self.old) }
     {
         let _ = &below.pairs;
         self.gone.insert(key.copy()?)?;
         self.pairs.remove(key)?;
+        Ok(Answer::Done)
+    }
+
+    /// What is kept of the client's last command goes.
+    fn forget(&mut self, below: &Tables, client: u64) -> Result<Answer, NoMemory>
+        ensures answer { IfOk result (λ a. a ≡ Answer.Done) }
+        ensures pairs { OnOk result
+            (pairs_over below.now.pairs self.new ≡ pairs_over below.now.pairs self.old) }
+        ensures clients { OnOk result (clients_over below.now.clients self.new
+            ≡ remove_entry (is_at (nat_cmp client)) (clients_over below.now.clients self.old)) }
+    {
+        let _ = &below.clients;
+        self.forgotten.insert(client)?;
+        self.clients.remove(&client)?;
         Ok(Answer::Done)
     }
 
@@ -222,12 +298,14 @@ impl KvChange {
         Ok(())
     }
 
-    /// A client's last command, as it is kept here or else below.
+    /// A client's last command, as it is kept here or else below, where it isn't forgotten.
     fn last_of<'a>(&'a self, below: &'a Tables, client: u64) -> Option<&'a Applied>
         ensures { option_copied result ≡ last_of (service_over below.now self.now) client }
     {
+        let _ = &below.clients;
         match self.clients.get(&client) {
             Some(last) => Some(last),
+            None if self.forgotten.contains(&client) => None,
             None => below.clients.get(&client),
         }
     }

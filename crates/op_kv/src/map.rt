@@ -34,7 +34,8 @@ impl Model for Map {
 
     ghost view = { λ m. record {
       service = service_over m.kept m.newer;
-      waiting = length m.newer.pairs + length m.newer.gone + length m.newer.clients;
+      waiting = length m.newer.pairs + length m.newer.gone + length m.newer.clients
+          + length m.newer.forgotten;
     } };
 }
 

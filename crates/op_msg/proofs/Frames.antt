@@ -3,11 +3,13 @@ use Rattle.std.proofs.Common.{◌≡◌, ℕ, ◌+◌, ◌*◌, ◌≤◌, Bool,
 use Rattle.std.proofs.lemmas.List.Elements.{All-head, All-tail}
 use Rattle.std.specs.List.{flat_map}
 use Rattle.std.specs.Int.{w8, w32, w64}
-use Rattle.op_types.specs.Limits.{most_commands, most_part_bytes, most_peer_body}
-use Rattle.op_types.specs.Ranges.{MembersInRange, OpInRange, EntryInRange}
-use Rattle.op_types.specs.Cutting.{op_size, entry_size, entries_size}
+use Rattle.op_types.specs.Limits.{most_part_bytes, most_peer_body}
+use Rattle.op_types.specs.Ranges.{MembersInRange, WriteInRange, OpInRange, EntryInRange}
+use Rattle.op_types.specs.Cutting.{write_size, writes_size, op_size, entry_size, entries_size}
 use Rattle.op_types.specs.declared.log.Op.{Op}
-use Rattle.op_types.specs.declared.log.Op.TheVariants.{Put, Del, Get, Cas}
+use Rattle.op_types.specs.declared.log.Op.TheVariants.{Put, Del, Get, Cas, Many, Forget}
+use Rattle.op_types.specs.declared.writes.Write.{Write}
+use Rattle.op_types.specs.declared.writes.Write.TheVariants as write
 use Rattle.op_types.specs.declared.log.Entry.{Entry}
 use Rattle.op_types.specs.declared.log.Entry.TheVariants as entry_of
 use Rattle.op_types.specs.declared.ballot.Ballot.{Ballot}
@@ -24,27 +26,6 @@ use Rattle.op_msg.specs.Ranges.{BodyInRange, AddressedInRange}
 use Rattle.op_msg.specs.Forms.{flag, told, told_run, promised_run, sync_run, forwarded, body_tag, body_text, msg, addressed}
 use Rattle.op_msg.specs.Sizes.{carried_size}
 
--- ---- entries that are few
-
--- a key and up to two values are the most that an entry has
-op_small : (o : Op) → OpInRange o → op_size o ≤ 8262
-op_small (Put k v) fit = omega (arith, fit.0.1, fit.1)
-op_small (Del k) fit = omega (arith, fit.1)
-op_small (Get k) fit = omega (arith, fit.1)
-op_small (Cas k old new) fit = omega (arith, fit.0.1, fit.1, fit.2)
-
-entry_small : (e : Entry) → EntryInRange e → entry_size e ≤ 8279
-entry_small (entry_of.Command c) fit = omega (arith, op_small c.op fit.op)
-entry_small (entry_of.Stop s) fit = omega (arith, fit.members.few)
-
-each_small : (es : List Entry) → All EntryInRange es → entries_size es ≤ 8279 * length es
-each_small [] all = omega arith
-each_small (e ∷ es) all = omega (arith, entry_small e (All-head EntryInRange e es all), each_small es (All-tail EntryInRange e es all))
-
--- as many as are proposed together fit into a part
-pub few_fit : (es : List Entry) → All EntryInRange es → length es ≤ most_commands → entries_size es ≤ most_part_bytes
-few_fit es all few = omega (arith, each_small es all)
-
 -- ---- what stands beside them
 
 -- a field, and what follows it
@@ -60,7 +41,7 @@ after8 n rest = omega (arith, length-append (encoded w8 n) rest, wide8.len n)
 after_ballot : (b : Ballot) (rest : List ℕ) → length (ballot.text b ++ rest) ≡ 12 + length rest
 after_ballot b rest = omega (arith, length-append (ballot.text b) rest, ballot_len b)
 
-after_members : (ids : List ℕ) (rest : List ℕ) → MembersInRange ids → length (members.text ids ++ rest) ≤ 37 + length rest
+after_members : (ids : List ℕ) (rest : List ℕ) → MembersInRange ids → length (members.text ids ++ rest) ≤ 125 + length rest
 after_members ids rest fit = omega (arith, length-append (members.text ids) rest, members_len ids, fit.few)
 
 -- a position in a ballot
@@ -85,7 +66,7 @@ counted_len : (b : List ℕ) → length (encoded w64 (length b) ++ b) ≡ 8 + le
 counted_len b = after64 (length b) b
 
 -- whatever is said takes little more than what it carries
-body_len : (b : Body) → BodyInRange b → length (body_text b) ≤ 100 + carried_size b
+body_len : (b : Body) → BodyInRange b → length (body_text b) ≤ 300 + carried_size b
 body_len (variant.HeartbeatRequest r) fit = omega (arith, wide64.len r)
 body_len (variant.HeartbeatReply r own heard) fit = omega (arith, after64 r (ballot.text own ++ flag.text heard), after_ballot own (flag.text heard), flag_len heard)
   where

@@ -7,7 +7,7 @@ greatest_pid = 999
 
 -- how many members a configuration has at most
 abbrev pub most_members : ℕ
-most_members = 9
+most_members = 31
 
 -- the greatest number of a ballot, a client, a command or a round
 abbrev pub greatest_number : ℕ
@@ -32,6 +32,10 @@ most_key_bytes = 64
 -- how many bytes a value has at most
 abbrev pub most_value_bytes : ℕ
 most_value_bytes = 4096
+
+-- how many writes a command has at most
+abbrev pub most_writes : ℕ
+most_writes = 16
 
 -- so many commands are proposed together at most
 abbrev pub most_commands : ℕ

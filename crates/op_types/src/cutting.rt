@@ -1,9 +1,10 @@
 //! How many bytes entries take in a message, and how a list of them is cut into runs.
-ghost use Rattle.std.specs.Prelude.{◌≡◌, ◌<◌, ◌≤◌, ◌^◌, ◌∷◌, ◌++◌, [], length, take, drop, nat_le, IfSome, IfNone};
-ghost use Rattle.op_types.specs.Limits.{most_part_bytes};
-ghost use Rattle.op_types.specs.Cutting.{key_size, value_size, op_size, entry_size, entries_size, cut};
+ghost use Rattle.std.specs.Prelude.{◌≡◌, ◌<◌, ◌≤◌, ◌*◌, ◌^◌, ◌∷◌, ◌++◌, [], length, take, drop, nat_le, IfSome, IfNone};
+ghost use Rattle.op_types.specs.Limits.{most_writes, most_part_bytes};
+ghost use Rattle.op_types.specs.Cutting.{key_size, value_size, write_size, writes_size, op_size, entry_size, entries_size, cut};
+ghost use Rattle.op_types.specs.declared.log.Entry.TheVariants as logged;
 
-use crate::{Blob, Entry, MOST_PART_BYTES, Op};
+use crate::{Blob, Command, Entry, MOST_PART_BYTES, Op, Write, Writes};
 
 /// How many bytes a part takes at most, as sizes are counted.
 const MOST_BYTES: u128 = MOST_PART_BYTES as u128;
@@ -26,17 +27,56 @@ impl Blob {
     }
 }
 
+impl Write {
+    /// How many bytes it takes.
+    fn size(&self) -> u128
+        ensures size { result ≡ write_size self.now }
+        ensures small { result < 2 ^ 66 }
+    {
+        match self {
+            Write::Put(key, value) => 1 + key.key_size() + value.value_size(),
+            Write::Del(key) => 1 + key.key_size(),
+        }
+    }
+}
+
+impl Writes {
+    /// How many bytes they take, one behind the other.
+    fn size(&self) -> u128
+        ensures size { result ≡ writes_size self.now }
+        ensures small { result ≤ most_writes * 2 ^ 66 }
+    {
+        let mut size = 0;
+        'writes: for write in self.as_slice() {
+            size += write.size();
+        }
+        size
+    }
+}
+
 impl Op {
     /// How many bytes it takes.
     fn size(&self) -> u128
         ensures size { result ≡ op_size self.now }
-        ensures small { result < 2 ^ 66 }
+        ensures small { result < 2 ^ 71 }
     {
         match self {
             Op::Put(key, value) => 1 + key.key_size() + value.value_size(),
             Op::Del(key) | Op::Get(key) => 1 + key.key_size(),
             Op::Cas(key, old, new) => 1 + key.key_size() + old.value_size() + new.value_size(),
+            Op::Many(writes) => 1 + 1 + writes.size(),
+            Op::Forget(_) => 1 + 8,
         }
+    }
+}
+
+impl Command {
+    /// How many bytes it takes in a message, as an entry.
+    pub fn size(&self) -> u128
+        ensures size { result ≡ entry_size (logged.Command self.now) }
+        ensures small { result < 2 ^ 72 }
+    {
+        1 + 8 + 8 + self.op.size()
     }
 }
 
@@ -44,10 +84,10 @@ impl Entry {
     /// How many bytes it takes in a message.
     pub fn size(&self) -> u128
         ensures size { result ≡ entry_size self.now }
-        ensures small { result < 2 ^ 67 }
+        ensures small { result < 2 ^ 72 }
     {
         match self {
-            Entry::Command(command) => 1 + 8 + 8 + command.op.size(),
+            Entry::Command(command) => command.size(),
             Entry::Stop(stop) => 1 + 4 + 1 + 4 * stop.get().members.len() as u128,
         }
     }
