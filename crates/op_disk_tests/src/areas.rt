@@ -4,7 +4,7 @@ use std::alloc::{AllocError, Global};
 
 /// The header of generation 7, up to the place of the first gate.
 pub const HEADER: [u8; 17] = [
-    0xA5, b'O', b'M', b'N', b'I', b'P', b'A', b'X', 1, 0, 0, 0, 0, 0, 0, 0, 7,
+    0xA5, b'O', b'M', b'N', b'I', b'P', b'A', b'X', 2, 0, 0, 0, 0, 0, 0, 0, 7,
 ];
 
 /// The open gate of a record with a body of 5 bytes, and its length.

@@ -10,6 +10,16 @@ const ONE_PUT: [u8; 23] = [
     1, 0, 0, 0, 0, 0, 0, 0, 7, 0, 0, 0, 0, 0, 0, 0, 1, 1, 1, b'a', 0, 1, b'x',
 ];
 
+/// The entry `many 7 1 del a`.
+const ONE_MANY: [u8; 22] = [
+    1, 0, 0, 0, 0, 0, 0, 0, 7, 0, 0, 0, 0, 0, 0, 0, 1, 5, 1, 2, 1, b'a',
+];
+
+/// The entry `forget 7 1 8`.
+const ONE_FORGET: [u8; 26] = [
+    1, 0, 0, 0, 0, 0, 0, 0, 7, 0, 0, 0, 0, 0, 0, 0, 1, 6, 0, 0, 0, 0, 0, 0, 0, 8,
+];
+
 /// The frame in which server 2 asks server 1 for a prepare in configuration 1, behind its length.
 const PREPARE_REQ: [u8; 21] = [
     0, 0, 0, 0, 0, 0, 0, 13, 0, 0, 0, 2, 0, 0, 0, 1, 9, 0, 0, 0, 1,
@@ -81,7 +91,10 @@ fn keeps_a_record(alloc: Global, bytes: &[u8]) -> bool {
 
 #[test]
 fn what_is_read_is_written_again(rt: HostRuntime) -> Result<(), Fail> {
-    assert!(rt; keeps_an_entry(rt.alloc(), &ONE_PUT));
+    let entries: [&[u8]; 3] = [&ONE_PUT, &ONE_MANY, &ONE_FORGET];
+    for entry in entries {
+        assert!(rt; keeps_an_entry(rt.alloc(), entry));
+    }
     assert!(rt; keeps_a_message(rt.alloc(), &PREPARE_REQ[HEAD as usize..]));
     assert!(rt; keeps_a_request(rt.alloc(), &ONE_PUT));
     assert!(rt; keeps_a_reply(rt.alloc(), &DONE));

@@ -6,6 +6,8 @@ mod areas;
 #[cfg(test)]
 mod bytes;
 #[cfg(test)]
+mod carried;
+#[cfg(test)]
 mod damage;
 #[cfg(test)]
 mod memory;

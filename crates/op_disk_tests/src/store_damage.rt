@@ -92,8 +92,8 @@ fn damage_is_told_at_its_place(rt: HostRuntime) -> Result<(), Fail> {
         (&[header, record, record, &[0]], 111),
         // The first record is a batch.
         (&[header, step, &[0]], 17),
-        // Version 9.
-        (&[&header[..8], &[9], &header[9..], record, step, &[0]], 0),
+        // Version 0.
+        (&[&header[..8], &[0], &header[9..], record, step, &[0]], 0),
         // No gate stands after the record.
         (&[header, record], 111),
     ];

@@ -9,7 +9,7 @@ use std::test::Fail;
 
 /// The header of its area at first.
 pub const FIRST_HEADER: [u8; 17] = [
-    0xA5, b'O', b'M', b'N', b'I', b'P', b'A', b'X', 1, // an open gate, the magic, and version 1
+    0xA5, b'O', b'M', b'N', b'I', b'P', b'A', b'X', 2, // an open gate, the magic, and version 2
     0, 0, 0, 0, 0, 0, 0, 1, // generation 1
 ];
 

@@ -81,6 +81,12 @@ pub fn refused(alloc: Global, disks: (MemDisk, MemDisk)) -> Result<Returned<MemD
     }
 }
 
+/// Whether an opening of these disks answers a store.
+pub fn is_opened(alloc: Global, disks: (MemDisk, MemDisk)) -> Result<bool, Fail> {
+    let fresh = first_durable(alloc)?;
+    Ok(Store::open(alloc, fresh, disks.0, disks.1).is_ok())
+}
+
 /// Whether a disk has these parts, one after the other.
 pub fn has(disk: &MemDisk, parts: &[&[u8]]) -> bool {
     let mut at = 0;

@@ -8,12 +8,12 @@ use std::test::Fail;
 
 /// A header of generation 2.
 const LATER: [u8; 17] = [
-    0xA5, b'O', b'M', b'N', b'I', b'P', b'A', b'X', 1, 0, 0, 0, 0, 0, 0, 0, 2,
+    0xA5, b'O', b'M', b'N', b'I', b'P', b'A', b'X', 2, 0, 0, 0, 0, 0, 0, 0, 2,
 ];
 
-/// A header of version 9, which is none.
+/// A header of version 0, which is none.
 const UNKNOWN: [u8; 17] = [
-    0xA5, b'O', b'M', b'N', b'I', b'P', b'A', b'X', 9, 0, 0, 0, 0, 0, 0, 0, 1,
+    0xA5, b'O', b'M', b'N', b'I', b'P', b'A', b'X', 0, 0, 0, 0, 0, 0, 0, 0, 1,
 ];
 
 /// A closed gate.

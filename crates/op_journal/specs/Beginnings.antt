@@ -4,7 +4,7 @@ use Rattle.std.specs.Prelude.{codes}
 use Rattle.std.specs.Int.{w64}
 use Rattle.op_fields.specs.Form.{encoded}
 use Rattle.op_outside.specs.Disks.{DiskState, IsAtRest, LeavesOnly}
-use Rattle.op_journal.specs.Areas.{open_gate, closed_gate, format_version, record_text, HoldsRecords, IsSettled}
+use Rattle.op_journal.specs.Areas.{open_gate, closed_gate, format_version, number_of, new_head, record_text, HoldsRecords, IsSettled}
 use Rattle.op_journal.specs.Readings.{IsNew}
 
 -- the generation of the first area of a disk
@@ -33,7 +33,7 @@ pub record IsAfterClosed (text bytes : List ℕ) : Type 0 where
 
 -- a header after its gate: the magic, the version and the generation
 abbrev pub header_after_gate : ℕ → List ℕ
-header_after_gate generation = codes "OMNIPAX" ++ format_version ∷ encoded w64 generation
+header_after_gate generation = codes "OMNIPAX" ++ number_of format_version ∷ encoded w64 generation
 
 -- an area of one record after its gate, up to the closed gate
 abbrev pub area_after_gate : ℕ → List ℕ → List ℕ
@@ -52,12 +52,12 @@ pub record OpensGate {T E : Type 0} (P : List ℕ → Type 0) (text : List ℕ) 
   pub rests : old.obeys → OnOk result (IsAtRest new)
   pub crash : IsAtRest old → LeavesOnly (λ image. P image ⊎ (image ≡ open_gate ∷ text)) old new
 
--- What a format does to a disk: where it answers Ok the disk holds the area of this record and nothing
--- more, and each image then is that. A crash at any moment leaves the bytes from before, no area, or the
--- whole new one.
+-- What a format, in the version of now, does to a disk: where it answers Ok the disk holds the area of this
+-- record and nothing more, and each image then is that. A crash at any moment leaves the bytes from before,
+-- no area, or the whole new one.
 pub record Formats {E : Type 0} (generation : ℕ) (body : List ℕ) (old new : DiskState)
     (result : Result ℕ E) : Type 0 where
   pub written : old.obeys → IfOk result (λ _. new.content ≡ new_area generation body)
-  pub begun : IsAtRest old → IfOk result (λ end. IsSettled generation (body ∷ []) end new)
-  pub crash : IsAtRest old →
-      LeavesOnly (λ image. IsOldOrNone old.content image ⊎ HoldsRecords generation (body ∷ []) image) old new
+  pub begun : IsAtRest old → IfOk result (λ end. IsSettled (new_head generation) (body ∷ []) end new)
+  pub crash : IsAtRest old → LeavesOnly (λ image. IsOldOrNone old.content image
+      ⊎ HoldsRecords (new_head generation) (body ∷ []) image) old new

@@ -1,10 +1,11 @@
 //! Two areas are opened: what they stand for, or a fresh durable state.
 ghost use Rattle.std.specs.Prelude.{◌≡◌, ◌<◌, ◌≤◌, ◌+◌, ℕ, List, length, IfOk, IfErr};
-ghost use Rattle.op_outside.specs.Disks.{disk_end, IsAtRest, Kept, Costs};
-ghost use Rattle.op_journal.specs.Areas.{header_len, record_head, IsArea};
+ghost use Rattle.op_outside.specs.Disks.{disk_end, IsAtRest, Called, Kept, Costs};
+ghost use Rattle.op_journal.specs.Areas.{header_len, record_head, IsGeneration, IsArea};
+ghost use Rattle.op_journal.specs.declared.head.Head.{Head};
 ghost use Rattle.op_journal.specs.Appends.{Trims};
 ghost use Rattle.op_journal.specs.Beginnings.{IsFormattable};
-ghost use Rattle.op_journal.specs.Calls.{synced_calls};
+ghost use Rattle.op_journal.specs.Calls.{synced_calls, format_calls};
 ghost use Rattle.op_journal.specs.Openings.{IsReadFrom};
 ghost use Rattle.op_record.specs.Ranges.{DurableInRange};
 ghost use Rattle.op_record.specs.Forms.{body};
@@ -13,14 +14,18 @@ ghost use Rattle.op_store.specs.Stored.{
   Disks,
   disks_with,
   chosen_disk,
+  other_disk,
   chosen,
   other,
+  rival_end,
+  IsBelow,
   Obey,
   HaveImages,
   KeepBoth,
   LeaveStill,
 };
-ghost use Rattle.op_store.specs.Failing.{IsUndamaged, IsFault, TellsOpening, TellsFaultOf};
+ghost use Rattle.op_store.specs.Records.{IsBodyOf};
+ghost use Rattle.op_store.specs.Failing.{IsFaultOrNoMemory, IsFault, TellsOpening, TellsFaultOf};
 ghost use Rattle.op_store.specs.Openings.{
   OpensAreas,
   FindsAreas,
@@ -28,6 +33,11 @@ ghost use Rattle.op_store.specs.Openings.{
   BeginsArea,
   CountsReading,
   CountsBeginning,
+  CountsCarrying,
+  CarriesOver,
+  Carries,
+  HasNext,
+  IsCarried,
   IsFit,
   IsFitArea,
   begun_area,
@@ -37,7 +47,8 @@ ghost use Rattle.op_store.specs.Openings.{
 use crate::fail::{StoreFail, cause_of, faults};
 use crate::framing::framed_whole;
 use crate::reading::{Reading, read};
-use op_journal::{DiskFault, Journal};
+use crate::writing::format;
+use op_journal::{DiskFault, Framed, Journal, Version};
 use op_outside::Disk;
 use op_types::Durable;
 use std::alloc::Global;
@@ -85,7 +96,7 @@ pub fn open_areas<D: Disk>(
     match found {
         Reading::Area {
             is_second,
-            generation,
+            head,
             durable,
             end,
             base,
@@ -93,14 +104,17 @@ pub fn open_areas<D: Disk>(
         } => {
             let area = OpenArea {
                 is_second,
-                generation,
+                generation: head.generation,
                 end,
                 base,
                 is_closed,
                 durable,
                 is_new: false,
             };
-            resume(first, second, area, len)
+            match head.version {
+                Version::One => carry_over(alloc, first, second, area, len),
+                Version::Two => resume(first, second, area, len),
+            }
         }
         Reading::New {
             is_closed,
@@ -164,7 +178,7 @@ fn read_both<D: Disk>(
         HaveImages (disks_with D.state first.new second.new) }
     ensures calls { let old : Disks = disks_with D.state first.old second.old in Obey old →
         CountsReading old (disks_with D.state first.new second.new) result }
-    ensures undamaged { IfErr result IsUndamaged }
+    ensures stops { IfErr result IsFaultOrNoMemory }
     ensures told { TellsOpening (disks_with D.state first.old second.old)
         (disks_with D.state first.new second.new) result }
     ensures kept { KeepBoth (disks_with D.state first.old second.old)
@@ -187,10 +201,10 @@ fn resume<D: Disk>(
     len: usize,
 ) -> Result<OpenArea, StoreFail>
     requires { area.end < disk_end }
-    ensures trims { (bodies : List (List ℕ)) →
+    ensures trims { (head : Head) (bodies : List (List ℕ)) →
         let old = chosen_disk area.is_second (disks_with D.state first.old second.old) in
-        IsArea area.generation bodies area.end old.content → IsAtRest old → length old.content ≡ len →
-        Trims area.generation bodies area.end old
+        IsArea head bodies area.end old.content → IsAtRest old → length old.content ≡ len →
+        Trims head bodies area.end old
         (chosen_disk area.is_second (disks_with D.state first.new second.new)) result }
     ensures calls { area.end + 1 < len →
         Costs synced_calls (chosen_disk area.is_second (disks_with D.state first.old second.old))
@@ -222,10 +236,10 @@ fn trim<D: Disk>(
     len: usize,
 ) -> Result<(), DiskFault>
     requires { end < disk_end }
-    ensures trims { (generation : ℕ) (bodies : List (List ℕ)) →
+    ensures trims { (head : Head) (bodies : List (List ℕ)) →
         let old = chosen_disk is_second (disks_with D.state first.old second.old) in
-        IsArea generation bodies end old.content → IsAtRest old → length old.content ≡ len →
-        Trims generation bodies end old
+        IsArea head bodies end old.content → IsAtRest old → length old.content ≡ len →
+        Trims head bodies end old
         (chosen_disk is_second (disks_with D.state first.new second.new)) result }
     ensures calls { end + 1 < len →
         Costs synced_calls (chosen_disk is_second (disks_with D.state first.old second.old))
@@ -242,6 +256,89 @@ fn trim<D: Disk>(
         return Journal::trim_after(second, end, len);
     }
     Journal::trim_after(first, end, len)
+}
+
+/// Carries an area of the first version over: cuts what lies after its closed gate, of a disk that holds so many
+/// bytes, and begins the other area with its durable state, of the next generation.
+fn carry_over<D: Disk>(
+    alloc: Global,
+    first: &mut D,
+    second: &mut D,
+    area: OpenArea,
+    len: usize,
+) -> Result<OpenArea, StoreFail>
+    requires { HasNext area }
+    ensures carries { Carries area len (disks_with D.state first.old second.old)
+        (disks_with D.state first.new second.new) result }
+    ensures calls { let old : Disks = disks_with D.state first.old second.old in Obey old →
+        CountsCarrying area.is_second area.is_closed area.end len old
+        (disks_with D.state first.new second.new) result }
+    ensures area { IfOk result (IsCarried area) }
+    ensures stops { IfErr result IsFaultOrNoMemory }
+    ensures told { TellsOpening (disks_with D.state first.old second.old)
+        (disks_with D.state first.new second.new) result }
+    ensures kept { KeepBoth (disks_with D.state first.old second.old)
+        (disks_with D.state first.new second.new) }
+    ensures images { let old : Disks = disks_with D.state first.old second.old in Obey old →
+        HaveImages old → HaveImages (disks_with D.state first.new second.new) }
+{
+    let Ok(framed) = framed_whole(alloc, &area.durable) else {
+        return Err(StoreFail::NoMemory);
+    };
+    let Ok(()) = trim(first, second, area.is_second, area.end, len) else {
+        return Err(StoreFail::DiskFault {
+            count: faults(first, second),
+        });
+    };
+    begin_next(first, second, area, framed)
+}
+
+/// Begins the other area with this record of the durable state of this one, of the next generation.
+fn begin_next<D: Disk>(
+    first: &mut D,
+    second: &mut D,
+    area: OpenArea,
+    framed: Framed,
+) -> Result<OpenArea, StoreFail>
+    requires { IsGeneration (area.generation + 1) }
+    ensures begins { let old = other_disk area.is_second (disks_with D.state first.old second.old) in
+        IsBodyOf (Whole area.durable) framed →
+        IsBelow (rival_end area.is_second area.generation) old.content →
+        IsFormattable old.content area.is_closed → IsAtRest old →
+        CarriesOver area old (other_disk area.is_second (disks_with D.state first.new second.new)) result }
+    ensures calls { Costs (format_calls area.is_closed)
+        (other_disk area.is_second (disks_with D.state first.old second.old))
+        (other_disk area.is_second (disks_with D.state first.new second.new)) result }
+    ensures area { IfOk result (IsCarried area) }
+    ensures fault { IfErr result IsFault }
+    ensures told { TellsOpening (disks_with D.state first.old second.old)
+        (disks_with D.state first.new second.new) result }
+    ensures called { Called (other_disk area.is_second (disks_with D.state first.old second.old))
+        (other_disk area.is_second (disks_with D.state first.new second.new)) }
+    ensures uncalled { chosen area.is_second first.new second.new
+        ≡ chosen area.is_second first.old second.old }
+{
+    match format(
+        first,
+        second,
+        area.is_second,
+        area.is_closed,
+        area.generation + 1,
+        framed,
+    ) {
+        Ok(end) => Ok(OpenArea {
+            is_second: !area.is_second,
+            generation: area.generation + 1,
+            end,
+            base: end + 1,
+            is_closed: false,
+            durable: area.durable,
+            is_new: area.is_new,
+        }),
+        Err(_) => Err(StoreFail::DiskFault {
+            count: faults(first, second),
+        }),
+    }
 }
 
 /// Begins the first area, of the fresh durable state.
@@ -261,7 +358,7 @@ fn begin<D: Disk>(
     ensures area { IfOk result (λ a. a ≡ begun_area fresh is_other_closed a.end) }
     ensures end { IfOk result (λ a. a.end ≡ header_len + record_head + length (body.text (Whole fresh))) }
     ensures room { IfOk result (λ a. a.end < disk_end) }
-    ensures undamaged { IfErr result IsUndamaged }
+    ensures stops { IfErr result IsFaultOrNoMemory }
     ensures told { TellsOpening (disks_with D.state first.old second.now)
         (disks_with D.state first.new second.now) result }
     ensures kept { Kept (D.state first.old) (D.state first.new) }

@@ -1,7 +1,7 @@
 use Rattle.std.proofs.Common.{List, ℕ, sym, subst, rules}
 use Rattle.std.specs.Prelude.{IfErr}
 use Rattle.op_journal.specs.Openings.{IsReadFrom}
-use Rattle.op_store.specs.Failing.{IsDamageOrNoMemory}
+use Rattle.op_store.specs.Failing.{IsToldOrNoMemory}
 use Rattle.op_store.specs.Stored.{Disks, disks_with}
 use Rattle.op_store.specs.Openings.{FindsNone}
 use Rattle.op_store.proofs.OpeningOutcomes.{finds_damage, fit_in, if_err_map}
@@ -17,9 +17,9 @@ returns-in_err-found-clause-refused g c obey =
     let one = subst (λ (l : List ℕ). IsReadFrom old.first mid.first l) (sym c.deref.ensures.value) c.in_ok-bytes.ensures.first in
     let two = subst (λ (l : List ℕ). IsReadFrom old.second mid.second l) (sym c.deref-2.ensures.value) c.in_ok-bytes.ensures.second in
     let r = c.from_residual-in_err-found.result in
-    let said : IfErr r (IsDamageOrNoMemory a b) = search rules in
+    let said : IfErr r (IsToldOrNoMemory a b) = search rules in
     let reads = c.in_ok-bytes.ensures.calls obey in
-    if_err_map r (IsDamageOrNoMemory a b) (FindsNone old mid) (λ e h. finds_damage old mid obey a b one two e h reads) said
+    if_err_map r (IsToldOrNoMemory a b) (FindsNone old mid) (λ e h. finds_damage old mid obey a b one two e h reads) said
 
 pub returns-clause-fit : goal.returns-clause-fit
 returns-clause-fit g c =
