@@ -48,7 +48,7 @@ IsFine Fine _ = Unit {0}
 
 -- A run that proposes fewer than 2^64 entries, each of them fine, has lists of which every front is read back.
 abbrev pub FineRuns : (Entry → Type 0) → Type 0
-FineRuns Fine = (first : List ℕ) (ks : List Happening) → Each (IsFine Fine) ks → length (proposals ks) < 2 ^ 64 → AllRead (lists_of first ks)
+FineRuns Fine = (first : List ℕ) (ks : List Happening) → Each (IsFine Fine) ks → length (proposals ks) < 2 ^ 60 → AllRead (lists_of first ks)
 
 -- the same of an input, which proposes no more entries than that
 abbrev pub InputIsFine : (Entry → Type 0) → ℕ → Input → Type 0
@@ -164,7 +164,7 @@ pub record BesideAfter (Fine : Entry → Type 0) (first : List ℕ) (ks : List H
   pub kept : (pid : ℕ) → is_some (node_at w.nodes pid) ≡ true → is_some (node_at t.world.nodes pid) ≡ true
   pub by : LateIs first ks w h late
 
-module _ (go : StepsGo) (Fine : Entry → Type 0) (reads : FineRuns Fine) (first : List ℕ) (count size : ℕ) (few : count + size < 2 ^ 64) (t : Execution) (b : Beside Fine first count t) where
+module _ (go : StepsGo) (Fine : Entry → Type 0) (reads : FineRuns Fine) (first : List ℕ) (count size : ℕ) (few : count + size < 2 ^ 60) (t : Execution) (b : Beside Fine first count t) where
   abbrev ks : List Happening
   ks = b.happenings
 

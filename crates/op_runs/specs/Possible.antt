@@ -82,13 +82,8 @@ WhatInRange (what.Start p) = IsPid p
 WhatInRange (what.Show p) = IsPid p
 WhatInRange (what.Ballots p) = IsPid p
 
--- how many spares a world has at most
-abbrev pub most_spares : ℕ
-most_spares = 22
-
 -- spares are rising, and none of them is a member
 pub record SparesInRange (members spares : List ℕ) : Type 0 where
-  pub few : length spares ≤ most_spares
   pub rising : AreRising 0 spares
   pub apart : (q : ℕ) → IsMember spares q → IsMember members q → ⊥
 
@@ -103,8 +98,12 @@ abbrev pub proposals_in : List Happening → ℕ
 proposals_in [] = 0
 proposals_in (h ∷ hs) = proposals_of h.event.what + proposals_in hs
 
--- Happenings in range. They propose so few entries that eight bytes count the keys and the clients of every
--- service that they leave: so each base stands for its service.
+-- fewer entries than this are proposed
+abbrev pub most_proposals : ℕ
+most_proposals = 2 ^ 60
+
+-- Happenings in range. They propose so few entries, of which each puts sixteen keys at most, that eight bytes
+-- count the keys and the clients of every service that they leave: so each base stands for its service.
 pub record HappeningsInRange (hs : List Happening) : Type 0 where
-  pub few : proposals_in hs < 2 ^ 64
+  pub few : proposals_in hs < most_proposals
   pub each : All (λ h. WhatInRange h.event.what) hs

@@ -1,4 +1,4 @@
-use op_types::{Commands, Members, Pid, Read, Seq};
+use op_types::{Commands, Members, Pid, Read, Seq, Shared};
 
 /// What happens.
 #[derive(Drop)]
@@ -7,8 +7,8 @@ pub enum What {
     Tick(Pid),
     /// Clients propose commands together, 1 to 64.
     Commands(Pid, Commands),
-    /// A client proposes to end the configuration, with these members in the next one.
-    Stop(Pid, Members),
+    /// A client proposes to end the configuration, with these members in the next one. They are rare, and lie apart.
+    Stop(Pid, Shared<Members>),
     /// A client asks for trimming.
     Trim(Pid),
     /// A client reads.
