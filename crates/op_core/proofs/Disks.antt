@@ -364,6 +364,7 @@ module _ {D : Type 0} (state : D → DiskState) where
       still_failed : (c : StoreFail) → count_kept (node_of n.node).failed c ≢ None
       still_failed (store_fails.DiskFault count) = λ e. absurd cc
       still_failed (store_fails.Damaged area at) = failed_before
+      still_failed (store_fails.NewerVersion area version) = failed_before
       still_failed store_fails.NoMemory = failed_before
 
       refused_stores : (u : Unstored) → Stores state u n → Stores state u m
@@ -421,6 +422,22 @@ module _ {D : Type 0} (state : D → DiskState) where
             node = is;
             found = λ u s. absurd ((finds_none state u.before.durable u.ahead.durable n.node m.node (store_fails.Damaged area at) r (s.failed failed_before)).undamaged area at refl);
             stored = refused_stores (store_fails.Damaged area at) r;
+          };
+        }
+    did_not (store_fails.NewerVersion area version) r =
+        let is : standing_of state m ≡ standing_of state n = placed ∙ ap₂ (λ (k : NodeState) (j : ℕ). standing_at k n.stood j) r.node (refused_tells (store_fails.NewerVersion area version) r) in
+        record {
+          fate = fates.damaged;
+          alone = tt;
+          fails = tt;
+          may = down;
+          tells = tt;
+          node = is;
+          stored = record {
+            kept = refused_kept (store_fails.NewerVersion area version) r;
+            node = is;
+            found = λ u s. absurd ((finds_none state u.before.durable u.ahead.durable n.node m.node (store_fails.NewerVersion area version) r (s.failed failed_before)).not_newer area version refl);
+            stored = refused_stores (store_fails.NewerVersion area version) r;
           };
         }
     did_not store_fails.NoMemory r =

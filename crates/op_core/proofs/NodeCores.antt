@@ -57,6 +57,7 @@ forwards_of es r =
     record {
       several = r.several;
       few = r.few;
+      small = r.small;
       each = All-weaker ForwardedInRange (EntryOf IsPid) (λ e f. entry_any e f.0) es r.each;
       commands = All-weaker ForwardedInRange IsCommand (λ e f. f.1) es r.each;
     }
@@ -336,4 +337,5 @@ pub gave_again : {D : Type 0} (state : D → DiskState) (n m : Node D) (result :
 gave_again state n m (Ok sends) o s = given_again_in state o.0 o.1 n m sends o.2 s
 gave_again state n m (Err (store_fails.DiskFault count)) o s = tt
 gave_again state n m (Err (store_fails.Damaged area at)) o s = tt
+gave_again state n m (Err (store_fails.NewerVersion area version)) o s = tt
 gave_again state n m (Err store_fails.NoMemory) o s = tt

@@ -54,11 +54,12 @@ handed (Ok g) = Ok g
 handed (Err (node_fails.DiskFail count)) = Err (fails.DiskFail count)
 handed (Err node_fails.NoMemory) = Err fails.NoMemory
 
--- what an opening of a node that failed did
+-- what an opening of a node that failed did: a newer version is damage, too, to a node that runs
 abbrev pub handed_again : Result (List (ℕ × Msg)) StoreFail → Result Given StepFail
 handed_again (Ok sends) = Ok (record { sends = sends; replies = []; read_replies = []; outcome = None })
 handed_again (Err (store_fails.DiskFault count)) = Err (fails.DiskFail count)
 handed_again (Err (store_fails.Damaged area at)) = Err fails.Damaged
+handed_again (Err (store_fails.NewerVersion area version)) = Err fails.Damaged
 handed_again (Err store_fails.NoMemory) = Err fails.NoMemory
 
 -- ---- where it stands

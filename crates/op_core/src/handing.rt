@@ -37,7 +37,7 @@ pub fn hand_on_again(done: Result<Sends, StoreFail>) -> Result<Given, StepFail>
             })
         }
         Err(StoreFail::DiskFault { count }) => Err(StepFail::DiskFail { count }),
-        Err(StoreFail::Damaged { .. }) => Err(StepFail::Damaged),
+        Err(StoreFail::Damaged { .. } | StoreFail::NewerVersion { .. }) => Err(StepFail::Damaged),
         Err(StoreFail::NoMemory) => Err(StepFail::NoMemory),
     }
 }

@@ -1,5 +1,5 @@
 -- A world at its start, and after an event: it is of a run of one happening more.
-use Rattle.std.proofs.Common.{◌≡◌, ◌<◌, ◌+◌, ◌^◌, ℕ, zero, suc, true, nat_eq, List, [], ◌∷◌, ◌++◌, length, map, get_or, set, Option, Some, None, option_map, All, IfSome, refl, sym, ap, subst, ◌∙◌, arith}
+use Rattle.std.proofs.Common.{◌≡◌, ◌<◌, ◌+◌, ℕ, zero, suc, true, nat_eq, List, [], ◌∷◌, ◌++◌, length, map, get_or, set, Option, Some, None, option_map, All, IfSome, refl, sym, ap, subst, ◌∙◌, arith}
 use Rattle.std.proofs.lemmas.List.{length-map}
 use Rattle.std.proofs.lemmas.List.Elements.{All-nil, All-push}
 use Rattle.std.specs.Set.{is_member}
@@ -7,7 +7,7 @@ use Rattle.op_types.specs.Ranges.{IsMember, MembersInRange}
 use Rattle.op_types.specs.declared.messages.Msg.{Msg}
 use Rattle.op_runs.specs.declared.events.Event.{Event}
 use Rattle.op_runs.specs.declared.summary.Line.{Line}
-use Rattle.op_runs.specs.Possible.{is_possible, proposals_of, proposals_in, SparesInRange, WhatInRange}
+use Rattle.op_runs.specs.Possible.{is_possible, most_proposals, proposals_of, proposals_in, SparesInRange, WhatInRange}
 use Rattle.op_runs.specs.World.{World, Node, Sent, Happening, Deed, first_world, first_node, node_ids, run_of, deed_of, node_at, with_node, sent_by, world_after, world_with, world_at_node}
 use Rattle.op_bounds.specs.Messages.{AreIds}
 use Rattle.op_bounds.specs.Laws.{SentInRange, NodeInRange, WorldInRange, HappeningInRange, WhatNamesKnown}
@@ -222,7 +222,7 @@ module _ {S F : Type 0} (K : Kind S F) where
   -- ---- a run of one happening more
 
   pub run_on : (w new : ServerWorld S) (spares : List ℕ) (hs : List Happening) (e : Event) (f : F) (k : ℕ) → HasRun K w spares hs → WhatInRange e.what → is_possible w.ids.items (length w.messages.items) e.what ≡ true
-      → (h : Happened K (run_of (first_world w.members spares) hs) e f k w new) → KeepsServers K new → new.members ≡ w.members → new.ids ≡ w.ids → new.proposed ≡ w.proposed + proposals_of e.what → new.proposed < 2 ^ 64
+      → (h : Happened K (run_of (first_world w.members spares) hs) e f k w new) → KeepsServers K new → new.members ≡ w.members → new.ids ≡ w.ids → new.proposed ≡ w.proposed + proposals_of e.what → new.proposed < most_proposals
       → HasRun K new spares (hs ++ h.happening ∷ [])
   run_on w new spares hs e f k run fit can h keeps members ids counted few =
       let g : Happening = h.happening in
@@ -235,7 +235,7 @@ module _ {S F : Type 0} (K : Kind S F) where
         first = (run.range).first;
         others = (run.range).others;
         happenings = record {
-          few = subst (λ (q : ℕ). q < 2 ^ 64) sum few;
+          few = subst (λ (q : ℕ). q < most_proposals) sum few;
           each = All-push (λ z. WhatInRange z.event.what) hs g ((run.range).happenings).each in_range.0;
         };
       } in
@@ -250,7 +250,7 @@ module _ {S F : Type 0} (K : Kind S F) where
       }
 
   pub runs_on : (w new : ServerWorld S) (e : Event) (f : F) (at : Option ℕ) → IsRun K w → WhatInRange e.what → is_possible w.ids.items (length w.messages.items) e.what ≡ true
-      → ((x : World) → Shows K w x → HappenedAt K x e f at w new) → KeepsServers K new → new.members ≡ w.members → new.ids ≡ w.ids → new.proposed ≡ w.proposed + proposals_of e.what → new.proposed < 2 ^ 64 → IsRun K new
+      → ((x : World) → Shows K w x → HappenedAt K x e f at w new) → KeepsServers K new → new.members ≡ w.members → new.ids ≡ w.ids → new.proposed ≡ w.proposed + proposals_of e.what → new.proposed < most_proposals → IsRun K new
   runs_on w new e f None r fit can happened keeps members ids counted few = subst (IsRun K) (sym (happened (run_of (first_world w.members r.spares) r.happenings) r.run.shows).1) r
   runs_on w new e f (Some k) r fit can happened keeps members ids counted few =
       let h = happened (run_of (first_world w.members r.spares) r.happenings) r.run.shows in

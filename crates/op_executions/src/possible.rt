@@ -22,7 +22,7 @@ pub fn is_possible(nodes: &[Pid], sent: u64, what: &What) -> bool
         | What::Show(pid)
         | What::Ballots(pid) => is_among(nodes, *pid),
         What::Stop(pid, members) => {
-            is_among(nodes, *pid) && are_nodes(nodes, members.as_slice())
+            is_among(nodes, *pid) && are_nodes(nodes, members.get().as_slice())
         }
         What::Deliver(number) => *number < sent,
         What::Up(pid, peer) | What::Down(pid, peer) => {

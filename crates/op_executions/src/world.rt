@@ -1,6 +1,6 @@
-ghost use Rattle.std.specs.Prelude.{◌≡◌, ◌+◌, ◌<◌, ◌≤◌, ◌^◌, [], map, true, false, length, All, IfOk, IfSome, OnOk};
+ghost use Rattle.std.specs.Prelude.{◌≡◌, ◌+◌, ◌<◌, ◌≤◌, [], map, true, false, length, All, IfOk, IfNone, IfSome, OnOk};
 ghost use Rattle.op_types.specs.Ranges.{MembersInRange};
-ghost use Rattle.op_runs.specs.Possible.{is_possible, proposals_of, SparesInRange, WhatInRange};
+ghost use Rattle.op_runs.specs.Possible.{is_possible, most_proposals, proposals_of, SparesInRange, WhatInRange};
 ghost use Rattle.op_runs.specs.World as runs;
 ghost use Rattle.op_executions.specs.Failing.{IfBadEvent};
 ghost use Rattle.op_executions.specs.Worlds.{place_of, GoesOn, HappenedAt, HasRun, IsRun, Shows, ShowNodes};
@@ -19,7 +19,10 @@ use std::mem::replace;
 /// How many lines most events give: a proposal gives what it is answered at once, and what its client is answered then.
 const LINES_OF_EVENT: usize = 2;
 
-/// One to nine members and spares, all messages that were sent, and what the events gave to be reported.
+/// So many entries are not proposed: of fewer, each of which puts sixteen keys at most, eight bytes count the keys of every service.
+const MOST_PROPOSALS: u64 = 1 << 60;
+
+/// Members and spares, all messages that were sent, and what the events gave to be reported.
 #[derive(Drop)]
 pub struct ServerWorld<S> {
     /// The allocator.
@@ -75,7 +78,7 @@ impl<S: Server> ServerWorld<S> {
 
     /// One event, with what is said of it beforehand. It is refused, as the event of number 0, exactly where it names a server
     /// that is absent or a message that wasn't sent. Gives the place of the server where something was done; a stop or a failure
-    /// in a call of a disk does nothing by itself. There is no memory for more proposals than eight bytes count.
+    /// in a call of a disk does nothing by itself. There is no memory for 2^60 proposals or more.
     pub fn event(&mut self, event: Event, fate: S::Fate) -> Result<Option<usize>, RunFail>
         requires range { WhatInRange event.what }
         requires run { IsRun S.kind self.old }
@@ -84,7 +87,7 @@ impl<S: Server> ServerWorld<S> {
         ensures place { IfOk result (λ at. IfSome at (λ place. place < length self.new.servers.items)) }
         ensures goes_on { OnOk result (GoesOn S.kind self.old self.new) }
         ensures proposed { OnOk result ((self.new.proposed ≡ self.old.proposed + proposals_of event.what)
-            × (self.new.proposed < 2 ^ 64)) }
+            × (self.new.proposed < most_proposals)) }
         ensures possible { OnOk result
             (is_possible self.old.ids.items (length self.old.messages.items) event.what ≡ true) }
         ensures bad { IfBadEvent result (λ index. (index ≡ 0)
@@ -93,7 +96,7 @@ impl<S: Server> ServerWorld<S> {
         if !is_possible(&self.ids, self.messages.len() as u64, &event.what) {
             return Err(RunFail::BadEvent { index: 0 });
         }
-        let Some(proposed) = self.proposed.checked_add(proposals_of(&event.what)) else {
+        let Some(proposed) = proposed_after(self.proposed, proposals_of(&event.what)) else {
             return Err(RunFail::NoMemory);
         };
         let Event { line, what } = event;
@@ -113,6 +116,17 @@ impl<S: Server> ServerWorld<S> {
         send_all(&mut self.messages, pid, sends)?;
         self.proposed = proposed;
         Ok(Some(place))
+    }
+}
+
+/// How many entries are proposed with so many more, if that are few enough.
+fn proposed_after(proposed: u64, more: u64) -> Option<u64>
+    ensures sum { IfSome result (λ sum. (sum ≡ proposed + more) × (sum < most_proposals)) }
+    ensures full { IfNone result (most_proposals ≤ proposed + more) }
+{
+    match proposed.checked_add(more) {
+        Some(sum) if sum < MOST_PROPOSALS => Some(sum),
+        _ => None,
     }
 }
 

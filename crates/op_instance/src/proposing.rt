@@ -104,7 +104,7 @@ impl Stored<'_> {
     pub(crate) fn propose_stop(
         &self,
         volatile: &mut Volatile,
-        members: Members,
+        members: Shared<Members>,
         plan: &mut Plan,
     ) -> Result<(), NoMemory>
         requires node { IsNode self.now.me self.now.durable.now volatile.old }
@@ -129,7 +129,7 @@ impl Stored<'_> {
                 Ok(())
             }
             None => {
-                let stop = self.stop_entry(members)?;
+                let stop = self.stop_entry(members.get())?;
                 self.propose(volatile, one(self.alloc, stop)?, plan)
             }
         }
@@ -166,14 +166,15 @@ impl Stored<'_> {
     }
 
     /// The stop-sign that ends the part's configuration, with these members in the next one.
-    fn stop_entry(&self, members: Members) -> Result<Entry, NoMemory>
+    fn stop_entry(&self, members: &Members) -> Result<Entry, NoMemory>
         requires { IfNumberLeft self.now.durable.now.part }
-        ensures { IfOk result (λ e. e ≡ entry.Stop (stop_for self.now.durable.now.part members)) }
+        ensures { IfOk result (λ e. e ≡ entry.Stop (stop_for self.now.durable.now.part members.now)) }
     {
         let next = match &self.durable.part {
             Some(part) => part.conf + 1,
             None => 1,
         };
+        let members = members.copy();
         let stop = Shared::new(self.alloc, StopSign { next, members })?;
         Ok(Entry::Stop(stop))
     }

@@ -11,12 +11,12 @@ use Rattle.op_outside.specs.Disks.{DiskState, MayLeave}
 use Rattle.op_store.specs.Stored.{Disks, IsStored, StoreNothing, Obey, HaveImages, KeepBoth}
 use Rattle.op_store.specs.Stores.{Represents, disks_of}
 use Rattle.op_store.specs.Openings.{IsOpenedAs, Remains, Keeps, Opened, Refused, refused_by}
-use Rattle.op_store.specs.Readings.{IsDamageOf}
+use Rattle.op_store.specs.Readings.{IsDamageOf, IsNewerOf}
 use Rattle.op_store.specs.declared.store.Store.{Store}
 use Rattle.op_store.specs.declared.fail.StoreFail.{StoreFail}
-use Rattle.op_store.specs.declared.fail.StoreFail.TheVariants.{DiskFault, Damaged, NoMemory}
+use Rattle.op_store.specs.declared.fail.StoreFail.TheVariants.{DiskFault, Damaged, NewerVersion, NoMemory}
 use Rattle.op_store.proofs.CommitCrashes.{image_stored, rests_first, rests_second}
-use Rattle.op_store.proofs.UniquePairs.{one_stored, nothing_or_stored, stored_or_damage}
+use Rattle.op_store.proofs.UniquePairs.{one_stored, nothing_or_stored, stored_or_damage, stored_or_newer}
 use Rattle.op_server.specs.Servers.{state_of}
 use Rattle.op_server.specs.declared.server.Server.{Server}
 use Rattle.op_node.specs.Nodes.{node_of}
@@ -36,6 +36,9 @@ module _ (d e : Durable) (x y : List ℕ) (one : IsOneOf d e x y) where
 
   not_damaged : (area at : ℕ) → IsDamageOf x y area at → ⊥
   not_damaged area at damage = ⊎_elim (λ s. stored_or_damage x y d area at s damage) (λ s. stored_or_damage x y e area at s damage) one
+
+  none_newer : (area version : ℕ) → IsNewerOf x y area version → ⊥
+  none_newer area version newer = ⊎_elim (λ s. stored_or_newer x y d area version s newer) (λ s. stored_or_newer x y e area version s newer) one
 
   -- what is stored there is one of them
   is_one : (f : Durable) → IsStored f x y → (f ≡ d) ⊎ (f ≡ e)
@@ -93,6 +96,7 @@ module _ {D : Type 0} (state : D → DiskState) where
   refused_damage : (fresh : Durable) (first second : D) (s : Store D) (cause : StoreFail) (area at : ℕ) → RefusesNode state fresh first second (refused_by s cause) → cause ≡ Damaged area at
       → Obey (record { first = state first; second = state second }) → IsDamageOf (state first).content (state second).content area at
   refused_damage fresh first second s (DiskFault n) area at refused is obey = absurd (cc)
+  refused_damage fresh first second s (NewerVersion a v) area at refused is obey = absurd (cc)
   refused_damage fresh first second s NoMemory area at refused is obey = absurd (cc)
   refused_damage fresh first second s (Damaged a m) area at (inl r) is obey =
       let damage = (r.refusal obey).0 in
@@ -100,6 +104,19 @@ module _ {D : Type 0} (state : D → DiskState) where
       let two : m ≡ at = cc in
       subst (λ (k : ℕ). IsDamageOf (state first).content (state second).content area k) two (subst (λ (k : ℕ). IsDamageOf (state first).content (state second).content k m) one damage)
   refused_damage fresh first second s (Damaged a m) area at (inr starves) is obey = let none = starves.cause in absurd (cc)
+
+  -- one for a newer version tells it
+  refused_newer : (fresh : Durable) (first second : D) (s : Store D) (cause : StoreFail) (area version : ℕ) → RefusesNode state fresh first second (refused_by s cause) → cause ≡ NewerVersion area version
+      → Obey (record { first = state first; second = state second }) → IsNewerOf (state first).content (state second).content area version
+  refused_newer fresh first second s (DiskFault n) area version refused is obey = absurd (cc)
+  refused_newer fresh first second s (Damaged a m) area version refused is obey = absurd (cc)
+  refused_newer fresh first second s NoMemory area version refused is obey = absurd (cc)
+  refused_newer fresh first second s (NewerVersion a v) area version (inl r) is obey =
+      let newer = (r.refusal obey).0 in
+      let one : a ≡ area = cc in
+      let two : v ≡ version = cc in
+      subst (λ (k : ℕ). IsNewerOf (state first).content (state second).content area k) two (subst (λ (k : ℕ). IsNewerOf (state first).content (state second).content k v) one newer)
+  refused_newer fresh first second s (NewerVersion a v) area version (inr starves) is obey = let none = starves.cause in absurd (cc)
 
   -- a refused opening leaves them so
   pub refused_leaves : (fresh d e : Durable) (old : Store D) (s : Store D) (cause : StoreFail) → RefusesNode state fresh old.first old.second (refused_by s cause) → StoreOneOf d e (disks_of state old) → StoreOneOf d e (disks_of state s)
@@ -127,6 +144,7 @@ module _ {D : Type 0} (state : D → DiskState) where
         found = ⊎_elim (λ is. inl (reopens_as d e f is_new old new sends r found.0 is)) (λ is. inr (reopens_as e d f is_new old new sends r found.0 is)) found.1;
         left = tt;
         undamaged = λ area at err. absurd (cc);
+        not_newer = λ area version err. absurd (cc);
       }
 
   pub finds_none : (d e : Durable) (old new : Node D) (cause : StoreFail) → RefusesAgain state old new cause → StoreOneOf d e (disks_of state old.store)
@@ -138,6 +156,8 @@ module _ {D : Type 0} (state : D → DiskState) where
         left = refused_leaves (node_of old).state.durable d e old.store new.store cause r.disks one;
         undamaged = λ area at err. not_damaged d e disks.first.content disks.second.content one.read area at
             (let same : cause ≡ Damaged area at = cc in refused_damage (node_of old).state.durable old.store.first old.store.second new.store cause area at r.disks same one.obey);
+        not_newer = λ area version err. none_newer d e disks.first.content disks.second.content one.read area version
+            (let same : cause ≡ NewerVersion area version = cc in refused_newer (node_of old).state.durable old.store.first old.store.second new.store cause area version r.disks same one.obey);
       }
 
   -- it is opened again

@@ -10,7 +10,7 @@ use Rattle.op_store.specs.Stored.{Disks, IsStored, Obey}
 use Rattle.op_store.specs.Stores.{disks_of}
 use Rattle.op_store.specs.Openings.{Opened, refused_by}
 use Rattle.op_store.specs.declared.fail.StoreFail.{StoreFail}
-use Rattle.op_store.specs.declared.fail.StoreFail.TheVariants.{DiskFault, Damaged, NoMemory}
+use Rattle.op_store.specs.declared.fail.StoreFail.TheVariants.{DiskFault, Damaged, NewerVersion, NoMemory}
 use Rattle.op_node.specs.Nodes.{NodeState, node_of}
 use Rattle.op_node.specs.Openings.{durable_for, RefusesNode}
 use Rattle.op_node.specs.declared.node.Node.{Node}
@@ -44,6 +44,7 @@ restarted_with d n =
 abbrev pub count_kept : Option ℕ → StoreFail → Option ℕ
 count_kept failed (DiskFault count) = Some count
 count_kept failed (Damaged area at) = failed
+count_kept failed (NewerVersion area version) = failed
 count_kept failed NoMemory = failed
 
 module _ {D : Type 0} (state : D → DiskState) where
@@ -68,11 +69,12 @@ module _ {D : Type 0} (state : D → DiskState) where
         (refused_by new.store cause)
     pub node : node_of new ≡ record (node_of old) { failed = count_kept (node_of old).failed cause }
 
-  -- Of disks that store one of two durable states an opening finds one, and no damage. Where it is refused
-  -- the next one does so.
+  -- Of disks that store one of two durable states an opening finds one, no damage and no newer version. Where
+  -- it is refused the next one does so.
   pub record FindsOneOf (before after : Durable) (old new : Node D)
       (result : Result (List (ℕ × Msg)) StoreFail) : Type 0 where
     pub found : IfOk result (λ sends.
         Reopens before false old new sends ⊎ Reopens after false old new sends)
     pub left : OnErr result (StoreOneOf before after (disks_of state new.store))
     pub undamaged : (area at : ℕ) → IsErrOf result (Damaged area at) → ⊥
+    pub not_newer : (area version : ℕ) → IsErrOf result (NewerVersion area version) → ⊥

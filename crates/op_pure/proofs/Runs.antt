@@ -1,9 +1,9 @@
 -- A run of happenings, one after the other.
-use Rattle.std.proofs.Common.{◌≡◌, ℕ, suc, Bool, true, false, ◌+◌, ◌<◌, ◌^◌, List, [], ◌∷◌, length, Option, Some, None, All, sym, ap, subst, ◌∙◌, refl, inl, inr, arith}
+use Rattle.std.proofs.Common.{◌≡◌, ℕ, suc, Bool, true, false, ◌+◌, ◌<◌, List, [], ◌∷◌, length, Option, Some, None, All, sym, ap, subst, ◌∙◌, refl, inl, inr, arith}
 use Rattle.std.proofs.lemmas.List.Elements.{All-nil, All-cons, All-head, All-tail}
 use Rattle.op_types.specs.Ranges.{MembersInRange}
 use Rattle.op_runs.specs.declared.events.Event.{Event}
-use Rattle.op_runs.specs.Possible.{is_possible, is_possible_in, proposals_in, proposals_of, SparesInRange, WhatInRange}
+use Rattle.op_runs.specs.Possible.{is_possible, is_possible_in, most_proposals, proposals_in, proposals_of, SparesInRange, WhatInRange}
 use Rattle.op_runs.specs.World.{World, Sent, Fate, Deed, node_ids, first_world, world_after, world_with, run_of}
 use Rattle.op_runs.specs.World as runs
 use Rattle.op_laws.specs.Runs.{RunInRange}
@@ -30,7 +30,7 @@ pub record Continues (members spares : List ℕ) (w : World) (left all : List Ha
   pub range : All (λ h. WhatInRange h.event.what) left
   pub size : index + length left ≡ length all
   pub counted : proposed + proposals_in (happenings_of left) ≡ proposals_in (happenings_of all)
-  pub few : proposed < 2 ^ 64
+  pub few : proposed < most_proposals
 
 pub continues_first : (members spares : List ℕ) (left all : List Happening) (proposed : ℕ) → left ≡ all → All (λ h. WhatInRange h.event.what) all → proposed ≡ 0 → Continues members spares (first_world members spares) left all 0 proposed
 continues_first members spares left all proposed same range none =
@@ -46,7 +46,7 @@ continues_first members spares left all proposed same range none =
     }
 
 pub continues_next : (members spares : List ℕ) (w : World) (left rest all : List Happening) (h : Happening) (index proposed more : ℕ) → Continues members spares w left all index proposed → left ≡ h ∷ rest
-    → is_possible_in (node_ids members spares) w h.event ≡ true → more ≡ proposed + proposals_of h.event.what → more < 2 ^ 64 → Continues members spares (world_after w (happening_of h)) rest all (index + 1) more
+    → is_possible_in (node_ids members spares) w h.event ≡ true → more ≡ proposed + proposals_of h.event.what → more < most_proposals → Continues members spares (world_after w (happening_of h)) rest all (index + 1) more
 continues_next members spares w left rest all h index proposed more c first can sum few =
     record {
       ran = ap (λ (hs : List Happening). run_of w (happenings_of hs)) (sym first) ∙ c.ran;

@@ -15,7 +15,7 @@ use op_types::Members;
 use std::alloc::Global;
 use std::marker::Model;
 
-/// One to nine members and spares without disks, all messages that were sent, and what the happenings gave to be reported.
+/// Members and spares without disks, all messages that were sent, and what the happenings gave to be reported.
 #[derive(Drop)]
 pub struct PureWorld {
     world: ServerWorld<PureNode>,

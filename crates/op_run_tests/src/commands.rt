@@ -20,7 +20,7 @@ type Row = (
     &'static str,
 );
 
-const ROWS: [Row; 8] = [
+const ROWS: [Row; 9] = [
     (
         &["node", "1"],
         SOLE,
@@ -69,6 +69,19 @@ const ROWS: [Row; 8] = [
         Status::Damaged { area: 0, at: 0 },
         "",
         "damaged a 0\n",
+    ),
+    // Its area is of a version that isn't read.
+    (
+        &["node", "1"],
+        SOLE,
+        b"\xA5OMNIPAX\x09",
+        &[],
+        Status::NewerVersion {
+            area: 0,
+            version: 9,
+        },
+        "",
+        "newer version a 9\n",
     ),
     (
         &["call", "127.0.0.1:7101", "status"],

@@ -43,7 +43,7 @@ use Rattle.op_status.specs.declared.status.Status.{Status}
 use Rattle.op_status.specs.declared.status.Status.TheVariants as status
 use Rattle.op_serve.proofs.Living.{count_of, faults_at, up_at, served_lives, unserved_lives}
 use Rattle.op_serve.specs.Lives.{opened_at}
-use Rattle.op_serve.specs.Nodes.{Around, Goes, is_unheard, cannot_begin, has_served, Ends, cannot_open, is_damaged, has_no_memory, is_opened, IsHeard, IsNodeOf, IsOwn, IsReady, Holds, HoldsOf, HoldsOver, KeepsStored, around, status_of, status_of_refusal}
+use Rattle.op_serve.specs.Nodes.{Around, Goes, is_unheard, cannot_begin, has_served, Ends, cannot_open, is_damaged, is_newer, has_no_memory, is_opened, IsHeard, IsNodeOf, IsOwn, IsReady, Holds, HoldsOf, HoldsOver, KeepsStored, around, status_of, status_of_refusal}
 
 module _ {D : Type 0} (state : D → DiskState) where
   -- what stood for what was stored may be known by less
@@ -149,6 +149,8 @@ module _ {D : Type 0} (state : D → DiskState) where
   refused_by id o first second (refusals.DiskFault count) a b net clock out keeps fault refusal = cannot_open keeps fault.1
   refused_by id o first second (refusals.Damaged area at) a b net clock out keeps fault refusal =
       is_damaged keeps fault (λ obey. let r = refusal obey in record { damage = r.0; same_first = r.1; same_second = r.2 })
+  refused_by id o first second (refusals.NewerVersion area version) a b net clock out keeps fault refusal =
+      is_newer keeps fault (λ obey. let r = refusal obey in record { newer = r.0; same_first = r.1; same_second = r.2 })
   refused_by id o first second refusals.NoMemory a b net clock out keeps fault refusal = has_no_memory keeps fault
 
   refusal_of : (id : ℕ) (o : Settings) (first second : D) (e : Returned D) → RefusesNode state (fresh_for id o.members) first second e

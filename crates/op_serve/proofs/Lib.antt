@@ -4,3 +4,4 @@ pub mod Processes
 pub mod Endings
 pub mod Mirrors
 pub mod Between
+pub mod Told

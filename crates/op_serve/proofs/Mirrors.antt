@@ -25,7 +25,7 @@ use Rattle.op_serving.specs.declared.serve_end.ServeEnd.TheVariants as ends
 use Rattle.op_input.specs.Inputs.{IsMisconfigured, input_limit}
 use Rattle.op_status.specs.declared.status.Status.{Status}
 use Rattle.op_status.specs.declared.status.Status.TheVariants as status
-use Rattle.op_serve.specs.Nodes.{Around, around, Ends, cannot_open, is_damaged, has_no_memory, is_opened, Goes, is_unheard, cannot_begin, has_served, IsHeard, IsOwn, disks_in, faults_of, status_of}
+use Rattle.op_serve.specs.Nodes.{Around, around, Ends, cannot_open, is_damaged, is_newer, has_no_memory, is_opened, Goes, is_unheard, cannot_begin, has_served, IsHeard, IsOwn, disks_in, faults_of, status_of}
 use Rattle.op_serve.specs.Mirrored.{AreaFailed, EndsMirrored, Failed, HaveFailed, KeepCopies, Serves, environment, is_misconfigured, first_refused, second_refused, are_open, status_of_cause}
 use Rattle.op_serve.specs.declared.node_disks.NodeDisks.{NodeDisks}
 
@@ -56,6 +56,7 @@ module _ {T : Type 0} (known : T → DiskState) (id : ℕ) (o : Settings) where
   ends_keep : (old new : Around T) (s : Status) (lost : List Mark) → Ends known id o old new s lost → KeepBoth (disks_in known old) (disks_in known new)
   ends_keep old new s lost (cannot_open keeps rose) = keeps.kept
   ends_keep old new s lost (is_damaged keeps same damage) = keeps.kept
+  ends_keep old new s lost (is_newer keeps same newer) = keeps.kept
   ends_keep old new s lost (has_no_memory keeps same) = keeps.kept
   ends_keep old new s lost (is_opened {n = n} mid opened goes) =
       keep_both _ _ _ opened.keeps.kept (goes_keep n (IsOwn known id old opened.durable) mid new s lost goes)
@@ -64,6 +65,7 @@ module _ {T : Type 0} (known : T → DiskState) (id : ℕ) (o : Settings) where
   ends_fault : (old new : Around T) (s : Status) (lost : List Mark) → Ends known id o old new s lost → s ≡ status.DiskFault → FaultsRose (faults_of known old) (faults_of known new)
   ends_fault old new s lost (cannot_open keeps rose) is = rose
   ends_fault old new s lost (is_damaged keeps same damage) is = absurd cc
+  ends_fault old new s lost (is_newer keeps same newer) is = absurd cc
   ends_fault old new s lost (has_no_memory keeps same) is = absurd cc
   ends_fault old new s lost (is_opened {n = n} mid opened goes) is =
       absurd (goes_no_fault n (IsOwn known id old opened.durable) mid new s lost goes is)

@@ -16,7 +16,7 @@ use Rattle.op_cluster_laws.specs.Traces.{Event, does, ends, Lived, stands, first
 use Rattle.op_cluster_laws.specs.Clusters.{IsLife}
 use Rattle.op_cluster_laws.proofs.Tracing.{folded_me}
 use Rattle.op_serve.specs.Lives.{opened_at, life_of, life_ended, Leaves, Lives}
-use Rattle.op_serve.specs.Nodes.{Around, Ends, cannot_open, is_damaged, has_no_memory, is_opened, Goes, is_unheard, cannot_begin, has_served, IsOpened, IsOwn, KeepsStored, ObeyIn, disks_in, faults_of}
+use Rattle.op_serve.specs.Nodes.{Around, Ends, cannot_open, is_damaged, is_newer, has_no_memory, is_opened, Goes, is_unheard, cannot_begin, has_served, IsOpened, IsOwn, KeepsStored, ObeyIn, disks_in, faults_of}
 use Rattle.op_serve.specs.Processes.{Lasts, Process, Follow, events_of, events_then}
 use Rattle.op_serve.proofs.Living.{next_life, first_start}
 
@@ -74,6 +74,7 @@ pub process_of : {D : Type 0} (state : D → DiskState) (id : ℕ) (o : Settings
     → KeepsStored state id o.members old new ⊎ ((p : Process state id o.members) × (p.old ≡ old) × (p.new ≡ new))
 process_of state id o old new s lost (cannot_open keeps rose) obey = inl keeps
 process_of state id o old new s lost (is_damaged keeps same damage) obey = inl keeps
+process_of state id o old new s lost (is_newer keeps same newer) obey = inl keeps
 process_of state id o old new s lost (has_no_memory keeps same) obey = inl keeps
 process_of state id o old new s lost (is_opened {n = n} mid opened goes) obey = inr (opened_process state id o old obey mid new n s lost opened goes)
 

@@ -1,5 +1,5 @@
 -- How a node that serves ends, and what it leaves on its disks, its net and its output.
-use Rattle.std.specs.Prelude.{◌≡◌, ◌≢◌, ◌≤◌, ◌++◌, ◌∷◌, [], ℕ, Bool, List, codes, decimal, Option, Some, None, Result, Ok, Err, Contains}
+use Rattle.std.specs.Prelude.{◌≡◌, ◌≢◌, ◌⊎◌, ◌≤◌, ◌++◌, ◌∷◌, [], ℕ, Bool, List, codes, decimal, Option, Some, None, Result, Ok, Err, Contains}
 use Rattle.std.specs.Io.KnownBytes.{Appends}
 use Rattle.op_types.specs.Ranges.{IsPid, MembersInRange}
 use Rattle.op_types.specs.declared.durable.Durable.{Durable}
@@ -14,7 +14,7 @@ use Rattle.op_setup.specs.declared.config.Settings.{Settings}
 use Rattle.op_setup.specs.Settings.{IsAmong}
 use Rattle.op_store.specs.Failing.{faults}
 use Rattle.op_store.specs.Openings.{IsOpenedAs, Keeps}
-use Rattle.op_store.specs.Readings.{IsDamageOf}
+use Rattle.op_store.specs.Readings.{IsDamageOf, IsNewerOf}
 use Rattle.op_store.specs.Stored.{Disks, Obey, IsStored, HaveImages, KeepBoth}
 use Rattle.op_store.specs.declared.fail.StoreFail.{StoreFail}
 use Rattle.op_store.specs.declared.fail.StoreFail.TheVariants as refusals
@@ -85,7 +85,12 @@ status_of ends.Starved = status.NoMemory
 abbrev pub status_of_refusal : StoreFail → Status
 status_of_refusal (refusals.DiskFault count) = status.DiskFault
 status_of_refusal (refusals.Damaged area at) = status.Damaged area at
+status_of_refusal (refusals.NewerVersion area version) = status.NewerVersion area version
 status_of_refusal refusals.NoMemory = status.NoMemory
+
+-- this is told, or that a disk failed, or that there was no memory
+abbrev pub TellsOrStops : Status → Status → Type 0
+TellsOrStops told s = (s ≡ told) ⊎ (s ≡ status.DiskFault) ⊎ (s ≡ status.NoMemory)
 
 -- ---- all around a node
 
@@ -151,6 +156,12 @@ module _ {D : Type 0} (state : D → DiskState) where
     pub same_first : (state new.first).content ≡ (state old.first).content
     pub same_second : (state new.second).content ≡ (state old.second).content
 
+  -- an area has this version, above those that are read, and a read of each disk gives what it gave before
+  pub record IsNewer (old new : Around D) (area version : ℕ) : Type 0 where
+    pub newer : IsNewerOf (state old.first).content (state old.second).content area version
+    pub same_first : (state new.first).content ≡ (state old.first).content
+    pub same_second : (state new.second).content ≡ (state old.second).content
+
   -- A node was opened: it takes what the disks store, or begins with its first state, which they hold then,
   -- and no disk failed.
   pub record IsOpened (id : ℕ) (members : List ℕ) (old new : Around D) (n : NodeState) : Type 0 where
@@ -198,6 +209,9 @@ module _ {D : Type 0} (state : D → DiskState) where
     is_damaged : {area at : ℕ} → KeepsStored id o.members old new → faults_of new ≡ faults_of old
         → (ObeyIn old → IsDamaged old new area at)
         → Ends id o old new (status.Damaged area at) []
+    is_newer : {area version : ℕ} → KeepsStored id o.members old new → faults_of new ≡ faults_of old
+        → (ObeyIn old → IsNewer old new area version)
+        → Ends id o old new (status.NewerVersion area version) []
     has_no_memory : KeepsStored id o.members old new → faults_of new ≡ faults_of old
         → Ends id o old new status.NoMemory []
     is_opened : {n : NodeState} {s : Status} {lost : List Mark} (mid : Around D)

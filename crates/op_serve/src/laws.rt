@@ -6,9 +6,11 @@ ghost use Rattle.op_mirror.specs.Mirrors.{known_mirror};
 ghost use Rattle.op_mirror.specs.Opens.{LeavesBoth};
 ghost use Rattle.op_mirror.specs.declared.gone.Gone.{Gone};
 ghost use Rattle.op_mirror.specs.declared.mirror.Mirror.{Mirror};
+ghost use Rattle.op_store.specs.Readings.{IsDamageOf, IsNewerOf};
 ghost use Rattle.op_store.specs.Stored.{HaveImages, disks_with};
 ghost use Rattle.op_serving.specs.declared.mark.Mark.{Mark};
 ghost use Rattle.op_status.specs.declared.status.Status.{Status};
+ghost use Rattle.op_status.specs.declared.status.Status.TheVariants as status;
 ghost use Rattle.op_node.specs.Nodes.{NodeState};
 ghost use Rattle.op_cluster_laws.specs.Traces.{Lived, first_life, stands};
 ghost use Rattle.op_serve.specs.Lives.{IsFirst, IsNext, Leaves, MayFollow};
@@ -17,7 +19,7 @@ ghost use Rattle.op_serve.specs.Between.{AllObey, FailsAgain, HoldLeftOf, Leaves
 ghost use Rattle.op_serve.specs.Between.{PassesOn, StandAfter, StaysOut};
 ghost use Rattle.op_serve.specs.Mirrored.{EndsMirrored, Environment};
 ghost use Rattle.op_serve.specs.declared.node_disks.NodeDisks.{NodeDisks};
-ghost use Rattle.op_serve.specs.Nodes.{Around, Ends, IsOpened, KeepsStored, ObeyIn, disks_in, faults_of};
+ghost use Rattle.op_serve.specs.Nodes.{Around, Ends, IsDamaged, IsNewer, IsOpened, KeepsStored, ObeyIn, TellsOrStops, disks_in, faults_of};
 
 use op_outside::Disk;
 
@@ -49,6 +51,25 @@ pub fn processes_are_lives<D: Disk>()
         (ps : List (Process D.state id members)) (faulted : ℕ → ℕ) → p.opened.is_new ≡ true
         → faulted id ≡ faults_of D.state p.mid → Follow D.state (disks_in D.state p.new) ps
         → Lasts (first_life members faulted id) (events_of D.state p (events_then D.state ps)) }
+{}
+
+/// A node ends by telling a newer version exactly where an area of its disks has one, and by telling damage exactly where there is
+/// some, unless a disk failed in its opening, or there was no memory for it. What it tells is left as it was.
+pub fn what_is_not_read_is_told<D: Disk>()
+    ensures newer { (id : ℕ) (o : Settings) (old new : Around D) (s : Status) (lost : List Mark)
+        → Ends D.state id o old new s lost → ObeyIn D.state old → (area version : ℕ)
+        → IsNewerOf (D.state old.first).content (D.state old.second).content area version
+        → TellsOrStops (status.NewerVersion area version) s }
+    ensures damaged { (id : ℕ) (o : Settings) (old new : Around D) (s : Status) (lost : List Mark)
+        → Ends D.state id o old new s lost → ObeyIn D.state old → (area at : ℕ)
+        → IsDamageOf (D.state old.first).content (D.state old.second).content area at
+        → TellsOrStops (status.Damaged area at) s }
+    ensures only_newer { (id : ℕ) (o : Settings) (old new : Around D) (s : Status) (lost : List Mark)
+        → Ends D.state id o old new s lost → ObeyIn D.state old → (area version : ℕ)
+        → s ≡ status.NewerVersion area version → IsNewer D.state old new area version }
+    ensures only_damaged { (id : ℕ) (o : Settings) (old new : Around D) (s : Status) (lost : List Mark)
+        → Ends D.state id o old new s lost → ObeyIn D.state old → (area at : ℕ)
+        → s ≡ status.Damaged area at → IsDamaged D.state old new area at }
 {}
 
 /// From one process of a mirrored node to the next, where in each area one copy may have failed for good, in the process before, in

@@ -12,6 +12,8 @@ mod serving;
 
 pub use command::serve_as;
 pub use ending::Ending;
-pub use laws::{mirrors_follow, openings_begin_lives, processes_are_lives};
+pub use laws::{
+    mirrors_follow, openings_begin_lives, processes_are_lives, what_is_not_read_is_told,
+};
 pub use node_disks::NodeDisks;
 pub use seat::Seat;

@@ -155,6 +155,7 @@ fn status_of_refusal(cause: StoreFail) -> Status
     match cause {
         StoreFail::DiskFault { .. } => Status::DiskFault,
         StoreFail::Damaged { area, at } => Status::Damaged { area, at },
+        StoreFail::NewerVersion { area, version } => Status::NewerVersion { area, version },
         StoreFail::NoMemory => Status::NoMemory,
     }
 }

@@ -1,5 +1,5 @@
 -- What an event makes of a world with its lists.
-use Rattle.std.proofs.Common.{◌≡◌, ◌⊎◌, ◌&&◌, ◌<◌, ◌^◌, ◌+◌, ℕ, Bool, true, false, List, [], ◌∷◌, ◌++◌, length, get_or, Option, Some, All, IfSome, if◌then◌else◌, sym, ap, subst, ◌∙◌, arith, ⊎_elim}
+use Rattle.std.proofs.Common.{◌≡◌, ◌⊎◌, ◌&&◌, ◌<◌, ◌+◌, ℕ, Bool, true, false, List, [], ◌∷◌, ◌++◌, length, get_or, Option, Some, All, IfSome, if◌then◌else◌, sym, ap, subst, ◌∙◌, arith, ⊎_elim}
 use Rattle.std.proofs.lemmas.List.{append-nil}
 use Rattle.std.proofs.lemmas.List.Elements.{All-nil, All-cons, All-head, All-tail}
 use Rattle.std.proofs.Math.ListN.{length-set}
@@ -9,7 +9,7 @@ use Rattle.op_types.specs.declared.log.Entry.{Entry}
 use Rattle.op_runs.specs.declared.events.Event.{Event}
 use Rattle.op_runs.specs.World.{World, Node, Happening, Up, Down, Failed, Doing, Steps, Stops, Opens, Tells, first_world, run_of, deed_of, node_at, world_after}
 use Rattle.op_runs.specs.Run.{Execution, first_execution, execution_with, machine_proposing_by}
-use Rattle.op_runs.specs.Possible.{is_possible, proposals_of, WhatInRange}
+use Rattle.op_runs.specs.Possible.{is_possible, most_proposals, proposals_of, WhatInRange}
 use Rattle.op_runs.specs.Schedules.{Nothing, DiskPlan, DiskPlans, MayEnd, plan_for, plans_by, plans_with, awaiting, is_lost, is_awaited, drops, CallsDisks}
 use Rattle.op_spec.specs.Ledger.{decided_entries}
 use Rattle.op_spec.specs.Machine.{Machine}
@@ -144,7 +144,7 @@ module _ {D C : Type 0} (M : Medium D C) where
     pub lists_are : NodeShowsMore lists s.state more
     pub servers : KeepsServers (area_nodes M) new
     pub same : (new.members ≡ w.members) × (new.ids ≡ w.ids)
-    pub proposed : (new.proposed ≡ w.proposed + proposals_of e.what) × (new.proposed < 2 ^ 64)
+    pub proposed : (new.proposed ≡ w.proposed + proposals_of e.what) × (new.proposed < most_proposals)
     pub possible : is_possible w.ids.items (length w.messages.items) e.what ≡ true
 
   -- a step of a node that is shown calls its disks where it has something to store

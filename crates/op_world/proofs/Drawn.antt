@@ -1,5 +1,5 @@
 -- The events of a drill, drawn one at a time.
-use Rattle.std.proofs.Common.{◌≡◌, ◌⊎◌, ℕ, Bool, ◌+◌, ◌<◌, ◌^◌, true, List, [], ◌∷◌, ◌++◌, length, All, refl, sym, ap, subst, ◌∙◌, inl, inr, arith, append_assoc, length-append}
+use Rattle.std.proofs.Common.{◌≡◌, ◌⊎◌, ℕ, Bool, ◌+◌, ◌<◌, true, List, [], ◌∷◌, ◌++◌, length, All, refl, sym, ap, subst, ◌∙◌, inl, inr, arith, append_assoc, length-append}
 use Rattle.std.proofs.lemmas.Bool.{false≢true}
 use Rattle.std.proofs.lemmas.List.{append-nil, map-append}
 use Rattle.std.proofs.lemmas.List.Elements.{All-nil, All-cons, All-head, All-tail}
@@ -10,7 +10,7 @@ use Rattle.op_runs.specs.declared.events.Event.{Event}
 use Rattle.op_runs.specs.declared.summary.Summary.{Summary}
 use Rattle.op_runs.specs.World.{World, Sent, Happening, first_world, world_after, run_of, done_event, all_done, deed_of}
 use Rattle.op_runs.specs.Run.{Execution, first_execution, execution_of}
-use Rattle.op_runs.specs.Possible.{is_possible, is_possible_in, proposals_of, SparesInRange, WhatInRange}
+use Rattle.op_runs.specs.Possible.{is_possible, is_possible_in, most_proposals, proposals_of, SparesInRange, WhatInRange}
 use Rattle.op_areas.specs.Media.{Medium}
 use Rattle.op_runs.specs.Schedules.{DiskPlans, no_plans, plans_after, Becomes, TellsNoFault}
 use Rattle.op_runs.specs.Summary.{summary_of}
@@ -37,7 +37,6 @@ no_member q (inr (inr none)) member = none
 
 pub drill_beside : SparesInRange drill_members drill_spares
 drill_beside = record {
-  few = omega arith;
   rising = (omega arith, omega arith, (omega arith, omega arith, tt));
   apart = λ q spare. no_member q (IsAmong-is_member drill_spares q spare);
 }
@@ -144,7 +143,7 @@ module _ {D C : Type 0} (M : Medium D C) (unmirrored : M.is_mirrored ≡ drill_m
             (done_event e ∷ [], later, refl, drawn_there, is_done drill_mirrored drill_nodes t.world plans e p.nothing here possible, drawn_later w es later world rest))));
       }
 
-  pub drawn_next : WhatInRange e.what → more ≡ proposed + proposals_of e.what → more < 2 ^ 64 → IsDrawn seed (count + 1) next_gen (execution_of t now) (plans_after t.world plans e.what) more
+  pub drawn_next : WhatInRange e.what → more ≡ proposed + proposals_of e.what → more < most_proposals → IsDrawn seed (count + 1) next_gen (execution_of t now) (plans_after t.world plans e.what) more
   drawn_next fit sum few = record {
     events = d.events ++ e ∷ [];
     happenings = d.happenings ++ now;

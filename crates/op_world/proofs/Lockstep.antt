@@ -1,5 +1,5 @@
 -- Lockstep rounds of the code's world.
-use Rattle.std.proofs.Common.{◌≡◌, ℕ, suc, ◌+◌, ◌<◌, ◌^◌, Bool, true, false, List, [], ◌∷◌, ◌++◌, length, map, take, get_or, Option, Some, None, All, IfSome, Err, slice_get, refl, sym, ap, ◌∙◌, subst, arith}
+use Rattle.std.proofs.Common.{◌≡◌, ℕ, suc, ◌+◌, ◌<◌, Bool, true, false, List, [], ◌∷◌, ◌++◌, length, map, take, get_or, Option, Some, None, All, IfSome, Err, slice_get, refl, sym, ap, ◌∙◌, subst, arith}
 use Rattle.std.proofs.lemmas.List.{map-append, take_more}
 use Rattle.std.proofs.lemmas.List.Elements.{All-nil, All-cons, All-append, All-head, All-tail}
 use Rattle.op_types.specs.Ranges.{IsMember, IsPid, MembersInRange}
@@ -11,7 +11,7 @@ use Rattle.op_runs.specs.declared.summary.Summary.{Summary}
 use Rattle.op_gen.specs.Links.{Links, all_links}
 use Rattle.op_runs.specs.World.{World, Sent, Happening, Done, Steps, Stops, Opens, Tells, ThePairs, TheBallots, deed_of, delivery, first_world, world_after, done_event, all_done}
 use Rattle.op_runs.specs.Run.{Execution, first_execution, execution_with, execution_of}
-use Rattle.op_runs.specs.Possible.{is_possible, is_possible_in, ArePossibleFrom, WhatInRange, SparesInRange, proposals_in}
+use Rattle.op_runs.specs.Possible.{is_possible, is_possible_in, most_proposals, ArePossibleFrom, WhatInRange, SparesInRange, proposals_in}
 use Rattle.op_areas.specs.Media.{Medium}
 use Rattle.op_runs.specs.Schedules.{DiskPlan, DiskPlans, no_plans, plans_after, happening_of, RunsFrom, TellsNoFault}
 use Rattle.op_runs.specs.Summary.{run_summary, summary_of}
@@ -275,7 +275,7 @@ drill_report M members range links all rounds new linked late told s s0 m0 all_i
     All-append IsQuiet (fs ++ ls ++ ticks members) (ballots members)
     (All-append IsQuiet (fs ++ ls) (ticks members) (All-append IsQuiet fs ls d1.range (subst (All IsQuiet) ls_are d2.range)) (ids_mapped (λ p. event_of (what.Tick p)) members ids (λ p k. (k, tt))))
     (ids_mapped (λ p. event_of (what.Ballots p)) members ids (λ p k. (k, tt))) in
-    let few : proposals_in (all_done events) < 2 ^ 64 = omega (arith, drill_proposes_nothing members links rounds) in
+    let few : proposals_in (all_done events) < most_proposals = omega (arith, drill_proposes_nothing members links rounds) in
     record {
       run = done_report members [] range none_beside false events s (runs_done false members (first_world members []) no_plans events (λ pid. refl) each (drill_possible members links rounds)) (All-weaker events each) few left;
       reaches = every_lockstep_reaches members [] range (all_done events) (drill_quiet members links rounds);
@@ -289,4 +289,4 @@ drill_report M members range links all rounds new linked late told s s0 m0 all_i
     All-weaker (e ∷ es) each = All-cons (λ x. WhatInRange x.what) e es (All-head IsQuiet e es each).0 (All-weaker es (All-tail IsQuiet e es each))
 
     none_beside : SparesInRange members []
-    none_beside = record { few = omega arith; rising = tt; apart = λ q h. absurd (cc) }
+    none_beside = record { rising = tt; apart = λ q h. absurd (cc) }

@@ -1,5 +1,5 @@
 -- A run of events, one after the other, and what is reported of it.
-use Rattle.std.proofs.Common.{◌≡◌, ◌⊎◌, ℕ, suc, Bool, true, false, ◌+◌, ◌<◌, ◌^◌, List, [], ◌∷◌, ◌++◌, length, Option, Some, None, All, refl, sym, ap, subst, ◌∙◌, inl, inr, arith, append_assoc, length-append}
+use Rattle.std.proofs.Common.{◌≡◌, ◌⊎◌, ℕ, suc, Bool, true, false, ◌+◌, ◌<◌, List, [], ◌∷◌, ◌++◌, length, Option, Some, None, All, refl, sym, ap, subst, ◌∙◌, inl, inr, arith, append_assoc, length-append}
 use Rattle.std.proofs.lemmas.List.{append-nil, map-append}
 use Rattle.std.proofs.lemmas.List.Elements.{All-nil, All-cons, All-head, All-tail, All-append, All-push}
 use Rattle.op_types.specs.Ranges.{MembersInRange}
@@ -9,7 +9,7 @@ use Rattle.op_runs.specs.declared.events.What.TheVariants as what
 use Rattle.op_runs.specs.declared.summary.Summary.{Summary}
 use Rattle.op_runs.specs.World.{World, Sent, Node, Deed, Doing, Happening, Fate, Done, node_ids, node_at, deed_of, done_event, all_done}
 use Rattle.op_runs.specs.Run.{Execution, first_execution, execution_of}
-use Rattle.op_runs.specs.Possible.{is_possible, is_possible_in, WhatInRange, SparesInRange, proposals_in, proposals_of}
+use Rattle.op_runs.specs.Possible.{is_possible, is_possible_in, most_proposals, WhatInRange, SparesInRange, proposals_in, proposals_of}
 use Rattle.op_areas.specs.Media.{Medium}
 use Rattle.op_runs.specs.Schedules.{DiskPlan, DiskPlans, no_plans, plans_after, happening_of, happenings_of, BecomesAt, BecomesBy, Becomes, IsRunOf, IsFirstRefused, TellsNoFault}
 use Rattle.op_runs.specs.Summary.{summary_of}
@@ -63,7 +63,7 @@ pub record Ran (members spares : List ℕ) (mirrored : Bool) (t : Execution) (pl
   pub fit : All (λ h. WhatInRange h.event.what) hs
   pub events_counted : proposals_in (all_done events) ≡ proposed
   pub counted : proposals_in hs ≡ proposed
-  pub few : proposed < 2 ^ 64
+  pub few : proposed < most_proposals
 
 pub ran_first : (members spares : List ℕ) (mirrored : Bool) (proposed : ℕ) → proposed ≡ 0 → Ran members spares mirrored (first_execution members spares) no_plans [] [] proposed
 ran_first members spares mirrored proposed none = record {
@@ -78,7 +78,7 @@ ran_first members spares mirrored proposed none = record {
 
 -- one event more
 pub ran_next : {D C : Type 0} (M : Medium D C) (members spares : List ℕ) (old new : Parts D C) (t : Execution) (plans : DiskPlans) (events : List Event) (hs : List Happening) (e : Event) (proposed more : ℕ) → Ran members spares M.is_mirrored t plans events hs proposed
-    → (c : EventComes M old e t plans new) → is_possible_in (node_ids members spares) t.world e ≡ true → WhatInRange e.what → more ≡ proposed + proposals_of e.what → more < 2 ^ 64
+    → (c : EventComes M old e t plans new) → is_possible_in (node_ids members spares) t.world e ≡ true → WhatInRange e.what → more ≡ proposed + proposals_of e.what → more < most_proposals
     → Ran members spares M.is_mirrored (execution_of t c.happenings) (plans_after t.world plans e.what) (events ++ e ∷ []) (hs ++ c.happenings) more
 ran_next M members spares old new t plans events hs e proposed more r c can fit sum few =
     let now : List Happening = c.happenings in
@@ -123,11 +123,11 @@ all_in_range (e ∷ events) k =
     All-cons (λ h. WhatInRange h.event.what) (done_event e) (all_done events) (All-head (λ (x : Event). WhatInRange x.what) e events k) (all_in_range events (All-tail (λ (x : Event). WhatInRange x.what) e events k))
 
 module _ (members spares : List ℕ) (m : MembersInRange members) (sp : SparesInRange members spares) where
-  pub in_range : (hs : List Happening) → All (λ h. WhatInRange h.event.what) hs → proposals_in hs < 2 ^ 64 → RunInRange members spares hs
+  pub in_range : (hs : List Happening) → All (λ h. WhatInRange h.event.what) hs → proposals_in hs < most_proposals → RunInRange members spares hs
   in_range hs each few = record { first = m; others = sp; happenings = record { few = few; each = each } }
 
   -- where each event is done
-  abbrev pub done_report : (mirrored : Bool) (events : List Event) (s : Summary) → IsRunOf members spares mirrored events (all_done events) → All (λ e. WhatInRange e.what) events → proposals_in (all_done events) < 2 ^ 64 → s ≡ summary_of members (reached members spares (all_done events))
+  abbrev pub done_report : (mirrored : Bool) (events : List Event) (s : Summary) → IsRunOf members spares mirrored events (all_done events) → All (λ e. WhatInRange e.what) events → proposals_in (all_done events) < most_proposals → s ≡ summary_of members (reached members spares (all_done events))
       → IsReportOfRun members spares mirrored events s
   done_report mirrored events s run each few left = record {
     happenings = all_done events;
@@ -143,7 +143,7 @@ module _ (members spares : List ℕ) (m : MembersInRange members) (sp : SparesIn
 
     abbrev pub plain_report : ArePlain events → IsReportOfRun members spares mirrored events s
     plain_report plain =
-        let few : proposals_in (all_done events) < 2 ^ 64 = let is = r.events_counted in let small = r.few in omega (arith, is, small) in
+        let few : proposals_in (all_done events) < most_proposals = let is = r.events_counted in let small = r.few in omega (arith, is, small) in
         done_report mirrored events s (plain_events_can_be_done members spares mirrored events hs plain run) r.events_fit few
         (left ∙ ap (λ (x : Execution). summary_of members x) (r.is ∙ plain_runs_are_done members spares mirrored events hs plain run))
 
@@ -191,7 +191,7 @@ pub range_next : (members spares : List ℕ) (mirrored : Bool) (t : Execution) (
 range_next members spares mirrored t plans left rest events e index proposed c first = All-head (λ (f : Event). WhatInRange f.what) e rest (subst (λ (es : List Event). All (λ f. WhatInRange f.what) es) first c.range)
 
 pub continues_next : {D C : Type 0} (M : Medium D C) (members spares : List ℕ) (old new : Parts D C) (t : Execution) (plans : DiskPlans) (left rest events : List Event) (e : Event) (index proposed more : ℕ) → Continues members spares M.is_mirrored t plans left events index proposed → left ≡ e ∷ rest
-    → (c : EventComes M old e t plans new) → is_possible_in (node_ids members spares) t.world e ≡ true → more ≡ proposed + proposals_of e.what → more < 2 ^ 64
+    → (c : EventComes M old e t plans new) → is_possible_in (node_ids members spares) t.world e ≡ true → more ≡ proposed + proposals_of e.what → more < most_proposals
     → Continues members spares M.is_mirrored (execution_of t c.happenings) (plans_after t.world plans e.what) rest events (index + 1) more
 continues_next M members spares old new t plans left rest events e index proposed more c first comes can sum few = record {
   done = c.done ++ e ∷ [];

@@ -1,10 +1,10 @@
 -- What an event of a schedule makes of a world of nodes.
-use Rattle.std.specs.Prelude.{◌≡◌, ◌+◌, ◌<◌, ◌^◌, ℕ, Bool, true, false, List, length, All, Option, Some, None, get_or, set}
+use Rattle.std.specs.Prelude.{◌≡◌, ◌+◌, ◌<◌, ℕ, Bool, true, false, List, length, All, Option, Some, None, get_or, set}
 use Rattle.op_types.specs.declared.log.Entry.{Entry}
 use Rattle.op_runs.specs.declared.events.Event.{Event}
 use Rattle.op_runs.specs.declared.events.What.TheVariants as what
 use Rattle.op_runs.specs.World.{Node, Happening, Deed, deed_of, node_at, done_event}
-use Rattle.op_runs.specs.Possible.{is_possible, proposals_of, WhatInRange}
+use Rattle.op_runs.specs.Possible.{is_possible, most_proposals, proposals_of, WhatInRange}
 use Rattle.op_runs.specs.Run.{Execution, execution_with, execution_of}
 use Rattle.op_runs.specs.Schedules.{DiskPlan, DiskPlans, Nothing, Becomes, CallsDisks, MayEnd, awaiting, is_lost, plan_for, plans_after, plans_by, plans_with}
 use Rattle.op_executions.specs.Worlds.{place_of}
@@ -36,7 +36,7 @@ pub record IsCounted {D C : Type 0} (old : Parts D C) (more : ℕ) (new : Parts 
   pub members : new.members ≡ old.members
   pub ids : new.ids ≡ old.ids
   pub proposed : new.proposed ≡ old.proposed + more
-  pub few : new.proposed < 2 ^ 64
+  pub few : new.proposed < most_proposals
 
 -- the event can come, and is counted
 pub record CanCome {D C : Type 0} (old : Parts D C) (e : Event) (new : Parts D C) : Type 0 where

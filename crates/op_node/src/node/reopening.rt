@@ -58,7 +58,7 @@ pub(super) fn count_kept(failed: Option<u64>, cause: StoreFail) -> Option<u64>
 {
     match cause {
         StoreFail::DiskFault { count } => Some(count),
-        StoreFail::Damaged { .. } | StoreFail::NoMemory => failed,
+        StoreFail::Damaged { .. } | StoreFail::NewerVersion { .. } | StoreFail::NoMemory => failed,
     }
 }
 
