@@ -1,15 +1,20 @@
 -- What is said in words has a name, which comes first, and a session's servers differ.
-use Rattle.std.proofs.Common.{true, ◌≡◌, ℕ, List, [], ◌∷◌, get_or, length, take, drop, ◌-◌, ◌<◌, refl, sym, ap, subst, ◌∙◌, map, arith, length-drop}
+use Rattle.std.proofs.Common.{Bool, true, false, Result, ◌≡◌, ℕ, List, [], ◌∷◌, get_or, length, take, drop, ◌-◌, ◌<◌, ◌≤◌, refl, sym, ap, subst, ◌∙◌, map, arith, length-drop}
 use Rattle.std.proofs.lemmas.List.{length-map, drop-map, take_all}
 use Rattle.std.specs.Fmt.{decimal}
+use Rattle.op_types.proofs.Small.{one_command_fits}
 use Rattle.std.proofs.lemmas.Fmt.{decimal_injective}
 use Rattle.std.specs.Prelude.{codes}
+use Rattle.std.specs.Result.{IfOk}
 use Rattle.std.proofs.lemmas.Bool.{false≢true}
+use Rattle.std.proofs.lemmas.Result.{IfOk-weaker}
 use Rattle.std.proofs.lemmas.Slice.Eq.{bytes_eq-Decides}
 use Rattle.op_types.specs.declared.log.Op.{Op}
-use Rattle.op_types.specs.declared.log.Op.TheVariants.{Put, Del, Get, Cas}
+use Rattle.op_types.specs.declared.log.Op.TheVariants.{Put, Del, Get, Cas, Many, Forget}
 use Rattle.op_runs.specs.declared.events.What.{What}
 use Rattle.op_runs.specs.declared.events.What.TheVariants as what
+use Rattle.op_runs.specs.declared.events.Event.{Event}
+use Rattle.op_runs.specs.Possible.{WhatInRange}
 use Rattle.op_types.specs.declared.log.Command.{Command}
 use Rattle.op_types.specs.declared.read.Read.{Read}
 use Rattle.op_types.specs.Ranges.{IsPid, IsNumber, CommandInRange}
@@ -17,12 +22,13 @@ use Rattle.op_sched.specs.declared.reading.forms.Form.{Form}
 use Rattle.op_sched.specs.declared.reading.forms.Form.TheVariants as form
 use Rattle.op_sched.specs.declared.reading.operations.OpForm.{OpForm}
 use Rattle.op_sched.specs.declared.reading.operations.OpForm.TheVariants as op_form
-use Rattle.op_sched.specs.Forms.{op_form_name, form_name, ArePeers, AreCallOf, AreDiskOf, AreStopOf}
+use Rattle.op_sched.specs.Forms.{Adds, op_form_name, form_name, ArePeers, AreCallOf, AreDiskOf, AreStopOf}
 use Rattle.std.proofs.lemmas.List.Elements.{All-nil, All-cons}
 use Rattle.op_text.specs.Operations.{IsReadOf, OpIsOfBytes, AreOperandsOf, op_name, operands, read_words}
-use Rattle.op_text.proofs.Operations.{first, after_first, is_op_name, no_op}
-use Rattle.op_sched.specs.Grammar.{ProposesOne, AreWordsOf, IsMirrorLine, op_words, what_words, words_of}
-use Rattle.op_sched.proofs.WordLists.{word_at}
+use Rattle.op_text.proofs.Operations.{first, after_first, few_operands, is_op_name, no_op}
+use Rattle.op_sched.specs.Grammar.{ProposesOne, AreWordsOf, IsEventLine, IsMirrorLine, SuitsDisks, op_words, what_words, words_of}
+use Rattle.op_sched.specs.declared.reading.words.TheConstants.{MOST_WORDS}
+use Rattle.op_sched.proofs.WordLists.{said_by_all, said_by_first, word_at}
 
 -- ---- the name
 
@@ -32,6 +38,8 @@ op_form_by (Put k v) = op_form.Put
 op_form_by (Del k) = op_form.Del
 op_form_by (Get k) = op_form.Get
 op_form_by (Cas k v u) = op_form.Cas
+op_form_by (Many ws) = op_form.Many
+op_form_by (Forget client) = op_form.Forget
 
 -- the form of what happens
 abbrev pub form_by : What → Form
@@ -61,6 +69,8 @@ op_named (Put k v) = refl
 op_named (Del k) = refl
 op_named (Get k) = refl
 op_named (Cas k v u) = refl
+op_named (Many ws) = refl
+op_named (Forget client) = refl
 
 -- it is that of its form
 named : (w : What) → ProposesOne w → name_of w ≡ form_name (form_by w)
@@ -87,6 +97,8 @@ form_has_op_name op_form.Put = refl
 form_has_op_name op_form.Del = refl
 form_has_op_name op_form.Get = refl
 form_has_op_name op_form.Cas = refl
+form_has_op_name op_form.Many = refl
+form_has_op_name op_form.Forget = refl
 
 -- a word that names no form begins no event's line
 pub no_event : (name : List ℕ) (words : List (List ℕ)) → ((f : Form) → name ≡ form_name f → ⊥) → (w : What) → AreWordsOf (name ∷ words) w → ⊥
@@ -122,6 +134,43 @@ no_form_of_spares f e = absurd (false≢true ((bytes_eq-Decides (codes "spares")
 pub no_spares : (words ids : List (List ℕ)) (w : What) → words ≡ codes "spares" ∷ ids → AreWordsOf words w → ⊥
 no_spares words ids w e h = no_form_of_spares (form_by w) (ap first (sym e ∙ h.written) ∙ named w h.one)
 
+-- ---- how many words
+
+few_words : (w : What) → WhatInRange w → ProposesOne w → length (what_words w) < MOST_WORDS
+few_words (what.Commands p []) range one = absurd (omega (arith, one))
+few_words (what.Commands p (c ∷ [])) range one = omega (arith, few_operands c.op (range.1.each 0 c (omega arith)).op)
+few_words (what.Commands p (c ∷ (d ∷ cs))) range one = absurd (omega (arith, one))
+few_words (what.Stop p members) range one = omega (arith, length-map members decimal, range.1.few)
+few_words (what.Tick p) range one = omega arith
+few_words (what.Trim p) range one = omega arith
+few_words (what.Read p r) range one = omega arith
+few_words (what.Deliver i) range one = omega arith
+few_words (what.Up p q) range one = omega arith
+few_words (what.Down p q) range one = omega arith
+few_words (what.Crash p) range one = omega arith
+few_words (what.CrashAt p call image) range one = omega arith
+few_words (what.Fail p call) range one = omega arith
+few_words (what.Kill p disk) range one = omega arith
+few_words (what.Start p) range one = omega arith
+few_words (what.Show p) range one = omega arith
+few_words (what.Ballots p) range one = omega arith
+
+-- what words say has fewer words than are read of a line
+pub few_event_words : (words : List (List ℕ)) (w : What) → AreWordsOf words w → length words < MOST_WORDS
+few_event_words words w h = omega (arith, ap (length {A = List ℕ}) h.written, few_words w h.in_range h.one)
+
+-- the first words of a line add what all add
+pub line_adds : {E : Type 0} (mirrored : Bool) (line : List ℕ) (words : List (List ℕ)) (number : ℕ) (old new : List Event) → words ≡ take MOST_WORDS (words_of line) → (r : Result Bool E)
+    → IfOk r (Adds (λ w. AreWordsOf words w × SuitsDisks mirrored w) number old new) → IfOk r (Adds (IsEventLine mirrored line) number old new)
+line_adds mirrored line words number old new is r h =
+    let to : (w : What) → AreWordsOf words w → AreWordsOf (words_of line) w = λ w said. said_by_all MOST_WORDS AreWordsOf few_event_words (words_of line) w (rw is at said) in
+    let from : (w : What) → AreWordsOf (words_of line) w → AreWordsOf words w = λ w said. rw is (said_by_first MOST_WORDS AreWordsOf few_event_words (words_of line) w said) in
+    IfOk-weaker r _ _ (adds_alike (λ w. AreWordsOf words w × SuitsDisks mirrored w) (IsEventLine mirrored line) (λ w said. (to w said.0, said.1)) (λ w said. (from w said.0, said.1)) number old new) h
+  where
+    adds_alike : (P Q : What → Type 0) → ((w : What) → P w → Q w) → ((w : What) → Q w → P w) → (number : ℕ) (old new : List Event) (b : Bool) → Adds P number old new b → Adds Q number old new b
+    adds_alike P Q to from number old new true (w, h, is) = (w, to w h, is)
+    adds_alike P Q to from number old new false none = λ w q. none w (from w q)
+
 -- ---- a command
 
 -- a command alone is said by its words
@@ -129,13 +178,31 @@ pub says_one : (p : ℕ) (c : Command) (cs : List Command) (words : List (List �
 says_one p c cs words is at range bytes written =
     let one : AreWordsOf words (what.Commands p (c ∷ [])) =
     record {
-      in_range = (at, record { each = All-cons CommandInRange c [] range (All-nil CommandInRange); some = omega arith; few = omega arith });
+      in_range = (at, record { each = All-cons CommandInRange c [] range (All-nil CommandInRange); some = omega arith; few = omega arith; small = one_command_fits c range });
       of_bytes = All-cons (λ (d : Command). OpIsOfBytes d.op) c [] bytes (All-nil (λ (d : Command). OpIsOfBytes d.op));
       between = tt;
       one = refl;
       written = written;
     } in
     subst (λ (ds : List Command). AreWordsOf words (what.Commands p ds)) (sym is) one
+
+three_and_more : {A : Type 0} (now : A → List ℕ) (ws : List A) (d0 d1 d2 : A) (x0 x1 x2 : List ℕ) → 3 ≤ length ws → now (get_or ws 0 d0) ≡ x0 → now (get_or ws 1 d1) ≡ x1 → now (get_or ws 2 d2) ≡ x2
+    → map now ws ≡ x0 ∷ x1 ∷ x2 ∷ map now (drop 3 ws)
+three_and_more now [] d0 d1 d2 x0 x1 x2 long h0 h1 h2 = absurd (omega arith)
+three_and_more now (a ∷ []) d0 d1 d2 x0 x1 x2 long h0 h1 h2 = absurd (omega arith)
+three_and_more now (a ∷ b ∷ []) d0 d1 d2 x0 x1 x2 long h0 h1 h2 = absurd (omega arith)
+three_and_more now (a ∷ b ∷ d ∷ ws) d0 d1 d2 x0 x1 x2 long h0 h1 h2 = cc
+
+-- a server, a client, a number and an operation's words behind its name say a command
+pub says_command : {A : Type 0} (now : A → List ℕ) (words : List A) (f : OpForm) (d0 d1 d2 : A) (p : ℕ) (c : Command) (cs : List Command) → cs ≡ c ∷ [] → 3 ≤ length words → IsPid p → IsNumber c.client → IsNumber c.seq
+    → now (get_or words 0 d0) ≡ decimal p → now (get_or words 1 d1) ≡ decimal c.client → now (get_or words 2 d2) ≡ decimal c.seq → AreOperandsOf (op_form_name f) (map now (take (length words - 3) (drop 3 words))) c.op
+    → AreWordsOf (op_form_name f ∷ map now words) (what.Commands p cs)
+says_command now words f d0 d1 d2 p c cs is long at client seq e0 e1 e2 h =
+    let all = take_all (length words - 3) (drop 3 words) (omega (arith, length-drop 3 words)) in
+    let rest : map now (drop 3 words) ≡ operands c.op = sym (ap (map now) all) ∙ h.written in
+    let first = three_and_more now words d0 d1 d2 (decimal p) (decimal c.client) (decimal c.seq) long e0 e1 e2 in
+    let name = h.named in
+    says_one p c cs (op_form_name f ∷ map now words) is at (record { client = client; seq = seq; op = h.in_range }) h.of_bytes cc
 
 -- what words say that begin with an operation's name
 pub record SaysCommand (f : OpForm) (words : List (List ℕ)) : Type 0 where

@@ -1,10 +1,9 @@
 -- Ids that words name are spares exactly where none is a member.
-use Rattle.std.proofs.Common.{◌≡◌, ℕ, Bool, true, false, ◌&&◌, ◌⊎◌, ◌≤◌, List, [], ◌∷◌, Option, Result, Err, length, take, refl, sym, ap, ◌∙◌, subst, inl, inr, ⊎_elim, arith, length-take}
-use Rattle.std.proofs.lemmas.List.{take_all, length-map}
+use Rattle.std.proofs.Common.{◌≡◌, ℕ, Bool, true, false, ◌&&◌, ◌⊎◌, ◌<◌, List, [], ◌∷◌, Option, Result, Err, length, take, refl, sym, ap, ◌∙◌, subst, inl, inr, ⊎_elim, arith}
+use Rattle.std.proofs.lemmas.List.{length-map}
 use Rattle.std.specs.Fmt.{decimal}
 use Rattle.std.specs.Result.{IfOk}
 use Rattle.op_text.specs.Found.{IsFound}
-use Rattle.op_text.proofs.FoundAlike.{ok_found_as}
 use Rattle.op_sched.specs.declared.schedule.SchedFail.{SchedFail}
 use Rattle.op_sched.specs.declared.schedule.SchedFail.TheVariants.{BadLine, NoMemory}
 use Rattle.op_sched.specs.Failing.{IfBadLine}
@@ -14,7 +13,9 @@ use Rattle.std.proofs.lemmas.Bool.{false≢true, eqb-true, eq-eqb}
 use Rattle.op_types.specs.Ranges.{IsMember}
 use Rattle.op_sched.specs.Forms.{AreIdsOf, AreSparesOf, are_apart}
 use Rattle.op_text.proofs.Operations.{after_first}
-use Rattle.op_sched.specs.Grammar.{words_of, AreSpareWords, IsSpareLine}
+use Rattle.op_sched.specs.Grammar.{words_of, most_spares, AreHeaderWords, AreSpareWords, IsHeader, IsSpareLine}
+use Rattle.op_sched.specs.declared.reading.words.TheConstants.{MOST_WORDS}
+use Rattle.op_sched.proofs.WordLists.{line_found}
 use Rattle.op_sched.proofs.UnambiguousSchedules.{one_list}
 
 -- no id is both
@@ -62,18 +63,18 @@ are_apart_by members (id ∷ ids) h =
     (are_apart_by members ids (λ q is. h q (or_rest (nat_eq q id) (is_member nat_eq ids q) is)))
 
 -- words that are no rising ids name no spares
-pub no_ids : (members : List ℕ) (words : List (List ℕ)) → ((ids : List ℕ) → AreIdsOf 22 words ids → ⊥) → (ids : List ℕ) → AreSparesOf members words ids → ⊥
-no_ids members words none ids h = none ids (h.0, h.1.few, h.1.rising, h.2)
+pub no_ids : (members : List ℕ) (words : List (List ℕ)) → ((ids : List ℕ) → AreIdsOf most_spares words ids → ⊥) → (ids : List ℕ) → AreSparesOf members words ids → ⊥
+no_ids members words none ids h = none ids (h.0, h.1.few, h.1.in_range.rising, h.2)
 
 -- rising ids apart from the members are spares
-pub spares_by : (members ids : List ℕ) (words : List (List ℕ)) → AreIdsOf 22 words ids → are_apart members ids ≡ true → AreSparesOf members words ids
-spares_by members ids words h apart = (h.0, record { few = h.1; rising = h.2; apart = apart_are members ids apart }, h.3)
+pub spares_by : (members ids : List ℕ) (words : List (List ℕ)) → AreIdsOf most_spares words ids → are_apart members ids ≡ true → AreSparesOf members words ids
+spares_by members ids words h apart = (h.0, record { few = h.1; in_range = record { rising = h.2; apart = apart_are members ids apart } }, h.3)
 
 -- others aren't
-pub no_spares_by : (members ids : List ℕ) (words : List (List ℕ)) → AreIdsOf 22 words ids → are_apart members ids ≡ false → (others : List ℕ) → AreSparesOf members words others → ⊥
+pub no_spares_by : (members ids : List ℕ) (words : List (List ℕ)) → AreIdsOf most_spares words ids → are_apart members ids ≡ false → (others : List ℕ) → AreSparesOf members words others → ⊥
 no_spares_by members ids words h apart others s =
-    let same : others ≡ ids = one_list 0 others ids s.1.rising h.2 (sym s.2 ∙ h.3) in
-    false≢true (sym apart ∙ are_apart_by members ids (subst (NoneIsBoth members) same s.1.apart))
+    let same : others ≡ ids = one_list 0 others ids s.1.in_range.rising h.2 (sym s.2 ∙ h.3) in
+    false≢true (sym apart ∙ are_apart_by members ids (subst (NoneIsBoth members) same s.1.in_range.apart))
 
 -- words behind the name are those of a line of spares
 pub spare_words : (members ids : List ℕ) (words : List (List ℕ)) → AreSparesOf members words ids → AreSpareWords members (codes "spares" ∷ words) ids
@@ -88,18 +89,19 @@ not_false false h = absurd (false≢true (sym h))
 
 -- ---- the line
 
--- so many words of a line are all of them, where they are fewer
-few_words : (ws : List (List ℕ)) → length (take 24 ws) ≤ 23 → take 24 ws ≡ ws
-few_words ws few = take_all 24 ws (omega (arith, length-take 24 ws, few))
+few_spare_words : (members : List ℕ) (words : List (List ℕ)) (ids : List ℕ) → AreSpareWords members words ids → length words < MOST_WORDS
+few_spare_words members words ids h = omega (arith, ap length h.written, length-map ids decimal, h.in_range.few)
 
 -- the first words of a line are a line of spares' exactly where all are
-pub spare_line : {E : Type 0} (members line : List ℕ) (words : List (List ℕ)) → words ≡ take 24 (words_of line) → (r : Result (Option (List ℕ)) E) → IfOk r (IsFound (AreSpareWords members words)) → IfOk r (IsFound (IsSpareLine members line))
-spare_line members line words is r found =
-    let ws : List (List ℕ) = words_of line in
-    ok_found_as (AreSpareWords members (take 24 ws)) (IsSpareLine members line)
-    (λ ids h. subst (λ (l : List (List ℕ)). AreSpareWords members l ids) (few_words ws (omega (arith, ap length h.written, length-map ids decimal, h.in_range.few))) h)
-    (λ ids h. subst (λ (l : List (List ℕ)). AreSpareWords members l ids) (sym (take_all 24 ws (omega (arith, ap length h.written, length-map ids decimal, h.in_range.few)))) h)
-    r (subst (λ (l : List (List ℕ)). IfOk r (IsFound (AreSpareWords members l))) is found)
+pub spare_line : {E : Type 0} (members line : List ℕ) (words : List (List ℕ)) → words ≡ take MOST_WORDS (words_of line) → (r : Result (Option (List ℕ)) E) → IfOk r (IsFound (AreSpareWords members words)) → IfOk r (IsFound (IsSpareLine members line))
+spare_line members line words is r found = line_found MOST_WORDS (AreSpareWords members) (few_spare_words members) (words_of line) words is r found
+
+few_header_words : (words : List (List ℕ)) (ids : List ℕ) → AreHeaderWords words ids → length words < MOST_WORDS
+few_header_words words ids h = omega (arith, ap length h.written, length-map ids decimal, h.in_range.few)
+
+-- they are a header's exactly where all are
+pub header_line : {E : Type 0} (line : List ℕ) (words : List (List ℕ)) → words ≡ take MOST_WORDS (words_of line) → (r : Result (Option (List ℕ)) E) → IfOk r (IsFound (AreHeaderWords words)) → IfOk r (IsFound (IsHeader line))
+header_line line words is r found = line_found MOST_WORDS AreHeaderWords few_header_words (words_of line) words is r found
 
 -- ---- the first bad line
 

@@ -12,7 +12,7 @@ use Rattle.op_runs.specs.declared.events.Event.{Event}
 use Rattle.op_sched.specs.declared.schedule.Schedule.{Schedule}
 use Rattle.op_types.specs.Ranges.{IsPid, AreRising, MembersInRange}
 use Rattle.op_runs.specs.Possible.{WhatInRange, SparesInRange, IsCall, IsDisk}
-use Rattle.op_sched.specs.Grammar.{IsHeader, IsMirrorLine, IsEventLine, IsOfBytes, IsBetweenTwo, SuitsDisks, ProposesOne, NamesSpares, AreAfterSpares, AreAfterHeader, IsFirstBadAfterSpares, IsFirstBadAfter, AreInRange, AreOfBytes, AreBetweenTwo, EachSuitsDisks, AreEvents, AreLines, IsSchedule, IsFirstBadEvent, IsFirstBadOf, IsFirstBadLine, AreWordsOf, what_words, words_of, lines_of, numbered_lines}
+use Rattle.op_sched.specs.Grammar.{AreSpares, IsHeader, IsMirrorLine, IsEventLine, IsOfBytes, IsBetweenTwo, SuitsDisks, ProposesOne, NamesSpares, AreAfterSpares, AreAfterHeader, IsFirstBadAfterSpares, IsFirstBadAfter, AreInRange, AreOfBytes, AreBetweenTwo, EachSuitsDisks, AreEvents, AreLines, IsSchedule, IsFirstBadEvent, IsFirstBadOf, IsFirstBadLine, AreWordsOf, what_words, words_of, lines_of, numbered_lines}
 use Rattle.op_text.specs.Operations.{op_name, operands, read_words}
 use Rattle.op_text.proofs.Operations.{first, after_first, no_op, one_command, one_read}
 use Rattle.op_sched.proofs.EventWords.{name_of, no_mirror, no_mirror_of_spares, no_spares}
@@ -174,7 +174,7 @@ one_after members [] ps qs m k es fs (inl p) q = absurd p
 one_after members [] ps qs m k es fs p (inl q) = absurd q
 one_after members (line ∷ lines) ps qs m k es fs (inl p) (inl q) =
     let rest = one_after_spares lines m k es fs p.1 q.1 in
-    (one_list 0 ps qs p.0.in_range.rising q.0.in_range.rising (ap after_first (sym p.0.written ∙ q.0.written)), rest.0, rest.1)
+    (one_list 0 ps qs p.0.in_range.in_range.rising q.0.in_range.in_range.rising (ap after_first (sym p.0.written ∙ q.0.written)), rest.0, rest.1)
 one_after members (line ∷ lines) ps qs m k es fs (inl p) (inr q) = absurd (no_spares_there members line lines k fs (ps, p.0) q.1)
 one_after members (line ∷ lines) ps qs m k es fs (inr p) (inl q) = absurd (no_spares_there members line lines m es (qs, q.0) p.1)
 one_after members lines ps qs m k es fs (inr p) (inr q) =
@@ -240,21 +240,24 @@ members_of_header (header ∷ lines) s p = p.0.in_range
 pub members_in_range : (text : List ℕ) (s : Schedule) → IsSchedule text s → MembersInRange s.members
 members_in_range text s p = members_of_header (numbered_lines 1 text) s p
 
-no_ids_in_range : (members : List ℕ) → SparesInRange members []
-no_ids_in_range members = record { few = omega arith; rising = tt; apart = λ q here there. false≢true here }
+no_spares_are : (members : List ℕ) → AreSpares members []
+no_spares_are members = record { few = omega arith; in_range = record { rising = tt; apart = λ q here there. false≢true here } }
 
-spares_after : (members : List ℕ) (lines : List (ℕ × List ℕ)) (spares : List ℕ) (mirrored : Bool) (events : List Event) → AreAfterHeader members lines spares mirrored events → SparesInRange members spares
+spares_after : (members : List ℕ) (lines : List (ℕ × List ℕ)) (spares : List ℕ) (mirrored : Bool) (events : List Event) → AreAfterHeader members lines spares mirrored events → AreSpares members spares
 spares_after members [] spares mirrored events (inl p) = absurd p
 spares_after members (line ∷ lines) spares mirrored events (inl p) = p.0.in_range
-spares_after members lines spares mirrored events (inr p) = subst (SparesInRange members) (sym p.0) (no_ids_in_range members)
+spares_after members lines spares mirrored events (inr p) = subst (AreSpares members) (sym p.0) (no_spares_are members)
 
-spares_of_lines : (lines : List (ℕ × List ℕ)) (s : Schedule) → AreLines lines s → SparesInRange s.members s.spares
+spares_of_lines : (lines : List (ℕ × List ℕ)) (s : Schedule) → AreLines lines s → AreSpares s.members s.spares
 spares_of_lines [] s p = absurd p
 spares_of_lines (header ∷ lines) s p = spares_after s.members lines s.spares s.is_mirrored s.events p.1
 
--- a schedule's spares are in range
+-- a schedule's spares are so many at most, and in range
+pub are_spares : (text : List ℕ) (s : Schedule) → IsSchedule text s → AreSpares s.members s.spares
+are_spares text s p = spares_of_lines (numbered_lines 1 text) s p
+
 pub spares_in_range : (text : List ℕ) (s : Schedule) → IsSchedule text s → SparesInRange s.members s.spares
-spares_in_range text s p = spares_of_lines (numbered_lines 1 text) s p
+spares_in_range text s p = (are_spares text s p).in_range
 
 -- what each line promises of its event
 abbrev EachIs : (What → Type 0) → List Event → Type 0

@@ -1,8 +1,11 @@
 -- The words of a line: that at an index, and the first of them, which are put one after the other in places.
-use Rattle.std.proofs.Common.{◌≡◌, ℕ, suc, ◌+◌, ◌-◌, ◌<◌, ◌≤◌, eqb, Bool, Option, List, [], ◌∷◌, ◌++◌, length, take, set, get_or, map, sym, ap, ◌∙◌, arith, append-nil, append_assoc}
+use Rattle.std.proofs.Common.{◌≡◌, ℕ, suc, ◌+◌, ◌-◌, ◌<◌, ◌≤◌, eqb, Bool, Option, List, [], ◌∷◌, ◌++◌, length, take, set, get_or, map, sym, ap, ◌∙◌, subst, Result, arith, append-nil, append_assoc, length-take}
 use Rattle.std.proofs.Math.ListN.{get_or-map}
 use Rattle.std.proofs.Math.Seq.{take-nil}
-use Rattle.std.proofs.lemmas.List.{map-append, take_more_set}
+use Rattle.std.proofs.lemmas.List.{map-append, take_all, take_more_set}
+use Rattle.std.specs.Result.{IfOk}
+use Rattle.op_text.specs.Found.{IsFound}
+use Rattle.op_text.proofs.FoundAlike.{ok_found_as}
 use Rattle.op_sched.specs.Grammar.{space}
 use Rattle.op_sched.proofs.FirstParts.{first_place}
 
@@ -35,3 +38,20 @@ word_put now most words count word more after all place room is before =
 -- the last word is put
 pub all_put : {A : Type 0} (now : A → List ℕ) (most : ℕ) (words : List A) (count : ℕ) (all : List (List ℕ)) → AreSplitTo now most words count [] all → map now (take count words) ≡ all
 all_put now most words count all h = rw (take-nil, append-nil) at h
+
+-- ---- the first words of a line
+
+-- so many words are all, where they are fewer
+all_words : (most : ℕ) (ws : List (List ℕ)) → length (take most ws) < most → take most ws ≡ ws
+all_words most ws few = take_all most ws (omega (arith, length-take most ws, few))
+
+-- where whatever is said has fewer words than so many, the first so many words of a line say it exactly where all do
+module _ {T : Type 0} (most : ℕ) (P : List (List ℕ) → T → Type 0) (few : (words : List (List ℕ)) (x : T) → P words x → length words < most) (ws : List (List ℕ)) where
+  pub said_by_all : (x : T) → P (take most ws) x → P ws x
+  said_by_all x h = subst (λ (l : List (List ℕ)). P l x) (all_words most ws (few (take most ws) x h)) h
+
+  pub said_by_first : (x : T) → P ws x → P (take most ws) x
+  said_by_first x h = subst (λ (l : List (List ℕ)). P l x) (sym (take_all most ws (omega (arith, few ws x h)))) h
+
+  pub line_found : {E : Type 0} (words : List (List ℕ)) → words ≡ take most ws → (r : Result (Option T) E) → IfOk r (IsFound (P words)) → IfOk r (IsFound (P ws))
+  line_found words is r found = ok_found_as (P (take most ws)) (P ws) said_by_all said_by_first r (subst (λ (l : List (List ℕ)). IfOk r (IsFound (P l))) is found)

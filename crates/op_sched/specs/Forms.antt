@@ -3,13 +3,14 @@
 use Rattle.std.specs.Prelude.{◌≡◌, ◌≤◌, ◌<◌, ◌&&◌, ℕ, nat_eq, Bool, true, false, not, List, [], ◌∷◌, ◌++◌, length, codes, map, decimal}
 use Rattle.std.specs.Set.{is_member}
 use Rattle.op_types.specs.Ranges.{IsPid, AreRising, MembersInRange}
-use Rattle.op_runs.specs.Possible.{SparesInRange, IsCall, IsDisk, images}
+use Rattle.op_runs.specs.Possible.{IsCall, IsDisk, images}
 use Rattle.op_runs.specs.declared.events.What.{What}
 use Rattle.op_runs.specs.declared.events.Event.{Event}
 use Rattle.op_sched.specs.declared.reading.forms.Form.{Form}
 use Rattle.op_sched.specs.declared.reading.forms.Form.TheVariants as form
 use Rattle.op_sched.specs.declared.reading.operations.OpForm.{OpForm}
 use Rattle.op_sched.specs.declared.reading.operations.OpForm.TheVariants as op_form
+use Rattle.op_sched.specs.Grammar.{AreSpares}
 
 -- the name of an operation's form
 abbrev pub op_form_name : OpForm → List ℕ
@@ -17,6 +18,8 @@ op_form_name op_form.Put = codes "put"
 op_form_name op_form.Del = codes "del"
 op_form_name op_form.Get = codes "get"
 op_form_name op_form.Cas = codes "cas"
+op_form_name op_form.Many = codes "many"
+op_form_name op_form.Forget = codes "forget"
 
 -- the name of a form
 abbrev pub form_name : Form → List ℕ
@@ -67,7 +70,7 @@ are_apart members (id ∷ ids) = not (is_member nat_eq members id) && are_apart 
 
 -- the words are the ids of spares beside these members
 abbrev pub AreSparesOf : List ℕ → List (List ℕ) → List ℕ → Type 0
-AreSparesOf members words ids = (1 ≤ length ids) × SparesInRange members ids × (words ≡ map decimal ids)
+AreSparesOf members words ids = (1 ≤ length ids) × AreSpares members ids × (words ≡ map decimal ids)
 
 -- what happens by this line, of which P holds, was added to events, or P holds of nothing
 abbrev pub Adds : (What → Type 0) → ℕ → List Event → List Event → Bool → Type 0

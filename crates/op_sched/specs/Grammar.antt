@@ -69,10 +69,19 @@ pub record AreHeaderWords (words : List (List ℕ)) (members : List ℕ) : Type 
 abbrev pub IsHeader : List ℕ → List ℕ → Type 0
 IsHeader line members = AreHeaderWords (words_of line) members
 
+-- how many spares a schedule has at most
+abbrev pub most_spares : ℕ
+most_spares = 31
+
+-- these may be a schedule's spares beside these members
+pub record AreSpares (members spares : List ℕ) : Type 0 where
+  pub few : length spares ≤ most_spares
+  pub in_range : SparesInRange members spares
+
 -- the words name spares beside these members
 pub record AreSpareWords (members : List ℕ) (words : List (List ℕ)) (spares : List ℕ) : Type 0 where
   pub some : 1 ≤ length spares
-  pub in_range : SparesInRange members spares
+  pub in_range : AreSpares members spares
   pub written : words ≡ codes "spares" ∷ map decimal spares
 
 -- the line names spares beside these members

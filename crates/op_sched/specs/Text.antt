@@ -2,7 +2,9 @@
 use Rattle.std.specs.Prelude.{◌+◌, ℕ, List, [], ◌∷◌, ◌++◌, codes, decimal}
 use Rattle.std.specs.List.{flat_map}
 use Rattle.op_types.specs.declared.log.Op.{Op}
-use Rattle.op_types.specs.declared.log.Op.TheVariants.{Put, Del, Get, Cas}
+use Rattle.op_types.specs.declared.log.Op.TheVariants.{Put, Del, Get, Cas, Many, Forget}
+use Rattle.op_types.specs.declared.writes.Write.{Write}
+use Rattle.op_types.specs.declared.writes.Write.TheVariants as write
 use Rattle.op_types.specs.declared.log.Entry.{Entry}
 use Rattle.op_types.specs.declared.log.Entry.TheVariants as entry
 use Rattle.op_runs.specs.declared.summary.Line.{Line}
@@ -46,6 +48,11 @@ abbrev pub keyed_text : ℕ → ℕ → List ℕ → List ℕ
 keyed_text client seq key =
     codes " " ++ decimal client ++ codes " " ++ decimal seq ++ codes " " ++ encoded key
 
+-- one of several writes, each word after a space
+abbrev pub write_text : Write → List ℕ
+write_text (write.Put key value) = codes " put " ++ encoded key ++ codes " " ++ encoded value
+write_text (write.Del key) = codes " del " ++ encoded key
+
 -- a client's operation
 abbrev pub op_text : ℕ → ℕ → Op → List ℕ
 op_text client seq (Put key value) = codes "put" ++ keyed_text client seq key ++ codes " " ++ encoded value
@@ -53,6 +60,10 @@ op_text client seq (Del key) = codes "del" ++ keyed_text client seq key
 op_text client seq (Get key) = codes "get" ++ keyed_text client seq key
 op_text client seq (Cas key old new) =
     codes "cas" ++ keyed_text client seq key ++ codes " " ++ encoded old ++ codes " " ++ encoded new
+op_text client seq (Many writes) =
+    codes "many " ++ decimal client ++ codes " " ++ decimal seq ++ flat_map write_text writes
+op_text client seq (Forget other) =
+    codes "forget " ++ decimal client ++ codes " " ++ decimal seq ++ codes " " ++ decimal other
 
 -- what a log holds at a position
 abbrev pub entry_text : Entry → List ℕ

@@ -1,9 +1,8 @@
 //! What the schedule grammar promises of any text.
 ghost use Rattle.std.specs.Prelude.{◌≡◌, ℕ, List};
 ghost use Rattle.op_types.specs.Ranges.{MembersInRange};
-ghost use Rattle.op_runs.specs.Possible.{SparesInRange};
 ghost use Rattle.op_sched.specs.declared.schedule.Schedule.{Schedule};
-ghost use Rattle.op_sched.specs.Grammar.{IsSchedule, IsFirstBadLine, AreInRange, AreOfBytes, AreBetweenTwo, EachSuitsDisks};
+ghost use Rattle.op_sched.specs.Grammar.{IsSchedule, IsFirstBadLine, AreSpares, AreInRange, AreOfBytes, AreBetweenTwo, EachSuitsDisks};
 
 /// A text that is a schedule's has no bad line, and is no other schedule's. What a schedule says is in range, and
 /// its sessions are each between two servers.
@@ -12,7 +11,7 @@ pub fn schedule_is_unambiguous()
     ensures one { (text : List ℕ) (s t : Schedule) → IsSchedule text s → IsSchedule text t → s ≡ t }
     ensures first { (text : List ℕ) (m n : ℕ) → IsFirstBadLine text m → IsFirstBadLine text n → m ≡ n }
     ensures members { (text : List ℕ) (s : Schedule) → IsSchedule text s → MembersInRange s.members }
-    ensures spares { (text : List ℕ) (s : Schedule) → IsSchedule text s → SparesInRange s.members s.spares }
+    ensures spares { (text : List ℕ) (s : Schedule) → IsSchedule text s → AreSpares s.members s.spares }
     ensures in_range { (text : List ℕ) (s : Schedule) → IsSchedule text s → AreInRange s.events }
     ensures of_bytes { (text : List ℕ) (s : Schedule) → IsSchedule text s → AreOfBytes s.events }
     ensures between { (text : List ℕ) (s : Schedule) → IsSchedule text s → AreBetweenTwo s.events }

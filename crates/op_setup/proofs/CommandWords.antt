@@ -8,11 +8,12 @@ use Rattle.op_types.specs.declared.events.Request.TheVariants as request
 use Rattle.op_types.specs.declared.read.Read.{Read}
 use Rattle.op_text.specs.Operations.{op_name, operands}
 use Rattle.op_text.proofs.Operations.{after_first}
-use Rattle.op_text.specs.Operations.{AreOperandsOf, IsReadOf}
+use Rattle.op_text.specs.Operations.{AreOperands, AreOperandsOf, IsReadOf}
+use Rattle.op_text.proofs.WriteWords.{IsSomeKey, IsSomeValue}
 use Rattle.op_text.specs.Percent.{IsEncoded, encoded}
 use Rattle.op_setup.specs.Tasks.{IsRequest}
 use Rattle.op_setup.proofs.Words.{one_word}
-use Rattle.op_setup.specs.Requests.{AreMembers, AreOperands, AreSomeKeyOnly, IsCommand, IsCommandOf, IsRead}
+use Rattle.op_setup.specs.Requests.{AreMembers, AreSomeKeyOnly, IsCommand, IsCommandOf, IsRead}
 
 -- ---- operands
 
@@ -30,13 +31,6 @@ three_words now [] d0 d1 d2 x0 x1 x2 low high h0 h1 h2 = absurd (omega arith)
 three_words now (a ∷ []) d0 d1 d2 x0 x1 x2 low high h0 h1 h2 = absurd (omega arith)
 three_words now (a ∷ b ∷ []) d0 d1 d2 x0 x1 x2 low high h0 h1 h2 = absurd (omega arith)
 three_words now (a ∷ b ∷ c ∷ d ∷ more) d0 d1 d2 x0 x1 x2 low high h0 h1 h2 = absurd (omega arith)
-
--- the word encodes some key, or some value
-abbrev pub IsSomeKey : List ℕ → Type 0
-IsSomeKey word = (key : List ℕ) × IsKey key × IsEncoded word key
-
-abbrev pub IsSomeValue : List ℕ → Type 0
-IsSomeValue word = (value : List ℕ) × IsValue value × IsEncoded word value
 
 -- a key and a value are a put's operands
 pub put_operands : {A : Type 0} (now : A → List ℕ) (ws : List A) (d0 d1 : A) (w0 w1 : List ℕ) → 2 ≤ length ws → length ws < 3

@@ -10,7 +10,7 @@ use Rattle.std.specs.Str.Parse.{IsNumeral}
 use Rattle.clap.specs.Lexer.{long_of, short_of}
 use Rattle.op_outside.specs.declared.net.Addr.{Addr}
 use Rattle.op_types.specs.declared.log.Op.{Op}
-use Rattle.op_types.specs.declared.log.Op.TheVariants.{Put, Del, Get, Cas}
+use Rattle.op_types.specs.declared.log.Op.TheVariants.{Put, Del, Get, Cas, Many, Forget}
 use Rattle.op_text.specs.Operations.{op_name}
 use Rattle.op_text.specs.Percent.{encoded, encoded_byte, escaped, is_plain}
 use Rattle.op_setup.specs.Addresses.{addr_text}
@@ -84,3 +84,5 @@ plain_op_name (Put key value) = plain_from (codes "put") refl
 plain_op_name (Del key) = plain_from (codes "del") refl
 plain_op_name (Get key) = plain_from (codes "get") refl
 plain_op_name (Cas key old new) = plain_from (codes "cas") refl
+plain_op_name (Many writes) = plain_from (codes "many") refl
+plain_op_name (Forget client) = plain_from (codes "forget") refl

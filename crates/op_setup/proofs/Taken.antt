@@ -1,21 +1,28 @@
 -- What clap makes of the words of a task.
-use Rattle.std.proofs.Common.{refl, sym, ap, ap₂, ◌∙◌, List, [], ◌∷◌, length, map, ℕ, ◌≤◌, ◌≡◌, true, Option, None, Some, option_map, codes, decimal, arith}
-use Rattle.std.specs.Prelude.{slice_get}
+use Rattle.std.proofs.Common.{◌&&◌, ◌+◌, ◌*◌, false, length-append, subst, refl, sym, ap, ap₂, ◌∙◌, List, [], ◌∷◌, ◌++◌, append-nil, append_assoc, length, map, ℕ, ◌≤◌, ◌≡◌, true, Option, None, Some, option_map, codes, decimal, arith}
+use Rattle.std.specs.Prelude.{slice_get, fold, find}
+use Rattle.std.specs.Option.{unwrap_or, is_some}
+use Rattle.std.specs.List.{list_all}
+use Rattle.std.proofs.lemmas.Bool.{le-leb, and_from, and_parts}
+use Rattle.op_setup.specs.Commands.{several}
 use Rattle.std.proofs.lemmas.List.{length-map}
-use Rattle.clap.specs.Words.{App, HasMatchesOf, takes, is_simple, subcommand_of, subcommand_name_of, subcommand_rows_of}
+use Rattle.clap.specs.Words.{App, HasMatchesOf, Rule, takes, is_simple, subcommand_of, subcommand_name_of, subcommand_rows_of}
+use Rattle.clap.specs.Walk.{Walk, Names, Row, walk, walk_from, walked, nothing_held, idle, positional, answers_to, arg_by_id, most_values, finished}
+use Rattle.clap.specs.Takes.{value_passes, settle_passes, turn_passes, walk_passes, default_passes, is_valid, level_passes, entered_passes}
+use Rattle.clap.specs.Simple.{Shape, built, entered, label_of, names_of}
 use Rattle.clap.specs.declared.parser.matches.ArgMatches.{ArgMatches}
 use Rattle.clap.specs.declared.parser.matches.ArgMatches.TheViews.{out-ArgMatches}
 use Rattle.clap.proofs.OnLiterals.{clap_on_literals}
 use Rattle.op_setup.specs.declared.tasks.Task.{Task}
 use Rattle.op_setup.specs.declared.tasks.Task.TheVariants.{Node, Replay, Call, Cluster, Drill, DrillLinks}
-use Rattle.op_types.specs.declared.log.Op.{Op}
-use Rattle.op_types.specs.declared.log.Op.TheVariants.{Put, Del, Get, Cas}
+use Rattle.op_types.specs.Limits.{most_writes}
 use Rattle.op_types.specs.declared.events.Request.{Request}
 use Rattle.op_types.specs.declared.events.Request.TheVariants as request
 use Rattle.op_gen.specs.Scenarios.{name_of}
 use Rattle.op_gen.specs.declared.scenario.Scenario.{Scenario}
 use Rattle.op_gen.specs.declared.scenario.Scenario.TheVariants.{Quorum, Constrained, Chained}
 use Rattle.op_text.specs.Operations.{op_name, operands, read_words}
+use Rattle.op_text.proofs.Operations.{few_operands}
 use Rattle.op_setup.specs.Addresses.{addr_text}
 use Rattle.op_setup.specs.Tasks.{request_words, task_words, IsTask, RequestInRange, TaskInRange}
 use Rattle.op_setup.proofs.Flags.{IsPlainWord, plain_addr, plain_decimal, plain_op_name}
@@ -43,20 +50,110 @@ numbers_taken : (seed events : List ℕ) → IsPlainWord seed → IsPlainWord ev
 unfolding clap_on_literals
 numbers_taken seed events h k = rw (h.long, h.short, h.bare, k.long, k.short, k.bare) refl
 
--- a call of a plain name and up to nine words more, of which clap reads none
-words_taken : (addr name : List ℕ) (more : List (List ℕ)) → IsPlainWord addr → IsPlainWord name → length more ≤ 9 → takes omni_app (codes "call" ∷ addr ∷ name ∷ more) ≡ true
+-- ---- a call: of the words behind a request's name clap reads none
+
+-- how many words stand behind it at most: a client, a number, and what an operation is done with
+abbrev most_after : ℕ
+most_after = 2 + 3 * most_writes
+
+-- the program's commands, as clap has them
+abbrev program : App
+program = built omni_app
+
+-- where the walk over the program's words stands once a command was met
+abbrev stopped_at : List ℕ → List (List ℕ) → Walk
+stopped_at name words = record { held = nothing_held; waiting = idle; position = 1; is_trailing = false; stopped = Some (name, words) }
+
+gathers : (c : List Rule) (names : Names) (name : List ℕ) (words more : List (List ℕ)) → fold (walked c names) (stopped_at name words) more ≡ stopped_at name (words ++ more)
+unfolding walked
+gathers c names name words [] = ap (stopped_at name) (sym (append-nil words))
+gathers c names name words (w ∷ more) = gathers c names name (words ++ w ∷ []) more ∙ ap (stopped_at name) (append_assoc words (w ∷ []) more)
+
+stopped_passes : (s : Shape) (names : Names) (name : List ℕ) (words more : List (List ℕ)) → walk_passes s names (stopped_at name words) more ≡ true
+unfolding walked walk_passes
+stopped_passes s names name words [] = refl
+stopped_passes s names name words (w ∷ more) = stopped_passes s names name (words ++ w ∷ []) more
+
+-- the command `call`, and where the walk over its words stands behind a request's name
+abbrev of_call : Shape
+of_call = unwrap_or (find (λ s. answers_to (codes "call") (label_of s)) program.subs) program.top
+
+abbrev reading_words : List Row → List (List ℕ) → Walk
+reading_words rows words = record {
+  held = record { rows = rows; pending = Some (codes "word", words); skip = 0 };
+  waiting = positional;
+  position = 2;
+  is_trailing = true;
+  stopped = None;
+}
+
+reads : (rows : List Row) (words more : List (List ℕ)) → fold (walked of_call.rules []) (reading_words rows words) more ≡ reading_words rows (words ++ more)
 unfolding clap_on_literals
-words_taken addr name [] h n few = rw (h.long, h.short, h.bare, n.long, n.short, n.bare) refl
-words_taken addr name (a ∷ []) h n few = rw (h.long, h.short, h.bare, n.long, n.short, n.bare) refl
-words_taken addr name (a ∷ b ∷ []) h n few = rw (h.long, h.short, h.bare, n.long, n.short, n.bare) refl
-words_taken addr name (a ∷ b ∷ c ∷ []) h n few = rw (h.long, h.short, h.bare, n.long, n.short, n.bare) refl
-words_taken addr name (a ∷ b ∷ c ∷ d ∷ []) h n few = rw (h.long, h.short, h.bare, n.long, n.short, n.bare) refl
-words_taken addr name (a ∷ b ∷ c ∷ d ∷ e ∷ []) h n few = rw (h.long, h.short, h.bare, n.long, n.short, n.bare) refl
-words_taken addr name (a ∷ b ∷ c ∷ d ∷ e ∷ i ∷ []) h n few = rw (h.long, h.short, h.bare, n.long, n.short, n.bare) refl
-words_taken addr name (a ∷ b ∷ c ∷ d ∷ e ∷ i ∷ j ∷ []) h n few = rw (h.long, h.short, h.bare, n.long, n.short, n.bare) refl
-words_taken addr name (a ∷ b ∷ c ∷ d ∷ e ∷ i ∷ j ∷ k ∷ []) h n few = rw (h.long, h.short, h.bare, n.long, n.short, n.bare) refl
-words_taken addr name (a ∷ b ∷ c ∷ d ∷ e ∷ i ∷ j ∷ k ∷ l ∷ []) h n few = rw (h.long, h.short, h.bare, n.long, n.short, n.bare) refl
-words_taken addr name (a ∷ b ∷ c ∷ d ∷ e ∷ i ∷ j ∷ k ∷ l ∷ m ∷ more) h n few = absurd (omega (arith, few))
+reads rows words [] = ap (reading_words rows) (sym (append-nil words))
+reads rows words (w ∷ more) = reads rows (words ++ w ∷ []) more ∙ ap (reading_words rows) (append_assoc words (w ∷ []) more)
+
+reading_passes : (rows : List Row) (words more : List (List ℕ)) → walk_passes of_call [] (reading_words rows words) more ≡ true
+unfolding clap_on_literals
+reading_passes rows words [] = refl
+reading_passes rows words (w ∷ more) = reading_passes rows (words ++ w ∷ []) more
+
+-- the rule of these words, which all pass
+abbrev word_rule : Rule
+word_rule = unwrap_or (arg_by_id of_call.rules (codes "word")) (several (codes "word"))
+
+all_pass : (words : List (List ℕ)) → list_all (value_passes word_rule) words ≡ true
+all_pass [] = refl
+all_pass (w ∷ words) = all_pass words
+
+settles : (rows : List Row) (name : List ℕ) (more : List (List ℕ)) → length more ≤ most_after → settle_passes of_call.rules of_call.args_override_self (reading_words rows (name ∷ more)).held ≡ true
+settles rows name more few = and_from _ _ (le-leb 1 (length (name ∷ more)) (omega arith)) (and_from _ _ (le-leb (length (name ∷ more)) (most_values word_rule) (omega (arith, few))) (all_pass (name ∷ more)))
+
+-- where the walk stands behind the request's name
+abbrev at_name : List ℕ → List ℕ → Walk
+at_name addr name = walked of_call.rules [] (walked of_call.rules [] (walk_from nothing_held) addr) name
+
+begins : (addr name : List ℕ) → IsPlainWord addr → IsPlainWord name → at_name addr name ≡ reading_words (at_name addr name).held.rows (name ∷ [])
+unfolding clap_on_literals
+begins addr name h n = rw (h.long, h.short, h.bare, n.long, n.short, n.bare) refl
+
+both_pass : (addr name : List ℕ) → IsPlainWord addr → IsPlainWord name
+    → (turn_passes of_call [] (walk_from nothing_held) addr && turn_passes of_call [] (walked of_call.rules [] (walk_from nothing_held) addr) name) ≡ true
+unfolding clap_on_literals
+both_pass addr name h n = rw (h.long, h.short, h.bare, n.long, n.short, n.bare) refl
+
+valid : (addr name : List ℕ) (more : List (List ℕ)) → IsPlainWord addr → IsPlainWord name
+    → (list_all default_passes of_call.rules && is_valid of_call (finished of_call.rules (reading_words (at_name addr name).held.rows (name ∷ more)).held) false) ≡ true
+unfolding clap_on_literals
+valid addr name more h n = rw (h.long, h.short, h.bare, n.long, n.short, n.bare) refl
+
+call_passes : (addr name : List ℕ) (more : List (List ℕ)) → IsPlainWord addr → IsPlainWord name → length more ≤ most_after → level_passes of_call [] nothing_held (addr ∷ name ∷ more) false ≡ true
+unfolding walked walk_passes
+call_passes addr name more h n few =
+    let rows : List Row = (at_name addr name).held.rows in
+    let end : walk of_call.rules [] nothing_held (addr ∷ name ∷ more) ≡ reading_words rows (name ∷ more) =
+    ap (λ (w : Walk). fold (walked of_call.rules []) w more) (begins addr name h n) ∙ reads rows (name ∷ []) more in
+    let both = and_parts _ _ (both_pass addr name h n) in
+    and_from _ _ (and_from _ _ both.0 (and_from _ _ both.1 (subst (λ (w : Walk). walk_passes of_call [] w more ≡ true) (sym (begins addr name h n)) (reading_passes rows (name ∷ []) more))))
+    (and_from _ _ (subst (λ (w : Walk). settle_passes of_call.rules of_call.args_override_self w.held ≡ true) (sym end) (settles rows name more few))
+    (subst (λ (w : Walk). (list_all default_passes of_call.rules && is_valid of_call (finished of_call.rules w.held) false) ≡ true) (sym end) (valid addr name more h n)))
+
+-- where the walk over the program's words ends
+stops : (words : List (List ℕ)) → walk program.top.rules (names_of program) nothing_held (codes "call" ∷ words) ≡ stopped_at (codes "call") words
+unfolding clap_on_literals
+stops words = gathers program.top.rules (names_of program) (codes "call") [] words
+
+program_passes : (words : List (List ℕ)) → level_passes program.top (names_of program) nothing_held (codes "call" ∷ words) true ≡ true
+unfolding clap_on_literals
+program_passes words =
+    and_from _ _ (stopped_passes program.top (names_of program) (codes "call") [] words)
+    (subst (λ (w : Walk). (settle_passes program.top.rules program.top.args_override_self w.held && (list_all default_passes program.top.rules && is_valid program.top (finished program.top.rules w.held) true)) ≡ true) (sym (stops words)) refl)
+
+-- a call of a plain name and more words, of which clap reads none
+words_taken : (addr name : List ℕ) (more : List (List ℕ)) → IsPlainWord addr → IsPlainWord name → length more ≤ most_after → takes omni_app (codes "call" ∷ addr ∷ name ∷ more) ≡ true
+unfolding clap_on_literals
+words_taken addr name more h n few =
+    subst (λ (w : Walk). (entered_passes program w.stopped && level_passes program.top (names_of program) nothing_held (codes "call" ∷ addr ∷ name ∷ more) (is_some (entered program w.stopped))) ≡ true)
+    (sym (stops (addr ∷ name ∷ more))) (and_from _ _ (call_passes addr name more h n few) (program_passes (addr ∷ name ∷ more)))
 
 -- the names of requests
 abbrev request_name : Request → List ℕ
@@ -92,14 +189,8 @@ plain_name (request.Read r) = record { flag = refl; long = refl; short = refl; b
 plain_name request.Status = record { flag = refl; long = refl; short = refl; bare = refl }
 plain_name request.End = record { flag = refl; long = refl; short = refl; bare = refl }
 
-few_operands : (op : Op) → length (operands op) ≤ 3
-few_operands (Put key value) = omega arith
-few_operands (Del key) = omega arith
-few_operands (Get key) = omega arith
-few_operands (Cas key old new) = omega arith
-
-few_after : (r : Request) → RequestInRange r → length (after_name r) ≤ 9
-few_after (request.Command c) h = omega (arith, few_operands c.op)
+few_after : (r : Request) → RequestInRange r → length (after_name r) ≤ most_after
+few_after (request.Command c) h = omega (arith, few_operands c.op h.0.op)
 few_after (request.Stop members) h = omega (arith, length-map members decimal, h.few)
 few_after request.Trim h = omega arith
 few_after (request.Read r) h = omega arith
@@ -149,22 +240,12 @@ numbers_found : (seed events : List ℕ) → name_found (codes "drill" ∷ seed 
 unfolding clap_on_literals
 numbers_found seed events = refl
 
-call_found : (addr name : List ℕ) (more : List (List ℕ)) → length more ≤ 9 → name_found (codes "call" ∷ addr ∷ name ∷ more) ≡ Some (codes "call")
+call_found : (addr name : List ℕ) (more : List (List ℕ)) → name_found (codes "call" ∷ addr ∷ name ∷ more) ≡ Some (codes "call")
 unfolding clap_on_literals
-call_found addr name [] few = refl
-call_found addr name (a ∷ []) few = refl
-call_found addr name (a ∷ b ∷ []) few = refl
-call_found addr name (a ∷ b ∷ c ∷ []) few = refl
-call_found addr name (a ∷ b ∷ c ∷ d ∷ []) few = refl
-call_found addr name (a ∷ b ∷ c ∷ d ∷ e ∷ []) few = refl
-call_found addr name (a ∷ b ∷ c ∷ d ∷ e ∷ i ∷ []) few = refl
-call_found addr name (a ∷ b ∷ c ∷ d ∷ e ∷ i ∷ j ∷ []) few = refl
-call_found addr name (a ∷ b ∷ c ∷ d ∷ e ∷ i ∷ j ∷ k ∷ []) few = refl
-call_found addr name (a ∷ b ∷ c ∷ d ∷ e ∷ i ∷ j ∷ k ∷ l ∷ []) few = refl
-call_found addr name (a ∷ b ∷ c ∷ d ∷ e ∷ i ∷ j ∷ k ∷ l ∷ m ∷ more) few = absurd (omega (arith, few))
+call_found addr name more = ap (λ (w : Walk). option_map (λ (p : List ℕ × List Row). p.0) (entered program w.stopped)) (stops (addr ∷ name ∷ more))
 
 request_found : (addr : List ℕ) (r : Request) → RequestInRange r → name_found (codes "call" ∷ addr ∷ request_words r) ≡ Some (codes "call")
-request_found addr r h = ap (λ (words : List (List ℕ)). name_found (codes "call" ∷ addr ∷ words)) (name_first r) ∙ call_found addr (request_name r) (after_name r) (few_after r h)
+request_found addr r h = ap (λ (words : List (List ℕ)). name_found (codes "call" ∷ addr ∷ words)) (name_first r) ∙ call_found addr (request_name r) (after_name r)
 
 found : (t : Task) → TaskInRange t → name_found (task_words t) ≡ slice_get (task_words t) 0
 found (Node id) h = node_found (decimal id)

@@ -1,20 +1,24 @@
 -- The words of tasks: none begins with `-`, and no two tasks have the same.
 use Rattle.std.proofs.Common.{◌≡◌, ◌≤◌, ◌<◌, ◌^◌, length, get_or, map, ℕ, Bool, true, List, [], ◌∷◌, refl, sym, ap, ◌∙◌, subst, arith, false, IsTrue, codes, decimal}
+use Rattle.std.specs.List.{flat_map}
 use Rattle.std.proofs.lemmas.Bool.{false≢true}
 use Rattle.std.proofs.lemmas.Fmt.{decimal_injective}
 use Rattle.std.proofs.lemmas.Slice.Eq.{bytes_eq-Decides}
 use Rattle.op_outside.specs.declared.net.Addr.{Addr}
-use Rattle.op_types.specs.Ranges.{AreRising, IsNumber, ReadInRange}
+use Rattle.op_types.specs.Ranges.{AreRising, CommandInRange, OpInRange, ReadInRange}
 use Rattle.op_types.specs.declared.events.Request.{Request}
 use Rattle.op_types.specs.declared.events.Request.TheVariants as request
 use Rattle.op_types.specs.declared.read.Read.{Read}
 use Rattle.op_types.specs.declared.log.Op.{Op}
-use Rattle.op_types.specs.declared.log.Op.TheVariants.{Put, Del, Get, Cas}
+use Rattle.op_types.specs.declared.log.Op.TheVariants.{Put, Del, Get, Cas, Many, Forget}
+use Rattle.op_types.specs.declared.log.Command.{Command}
+use Rattle.op_types.specs.declared.writes.Write.{Write}
+use Rattle.op_types.specs.declared.writes.Write.TheVariants as write
 use Rattle.op_gen.specs.Scenarios.{name_of}
 use Rattle.op_gen.specs.declared.scenario.Scenario.{Scenario}
 use Rattle.op_gen.specs.declared.scenario.Scenario.TheVariants.{Quorum, Constrained, Chained}
 use Rattle.op_text.proofs.Operations.{no_op, one_command, one_read}
-use Rattle.op_text.specs.Operations.{op_name, operands, read_words}
+use Rattle.op_text.specs.Operations.{op_name, operands, read_words, write_words}
 use Rattle.op_text.specs.Percent.{encoded}
 use Rattle.op_setup.specs.Addresses.{addr_text}
 use Rattle.op_setup.specs.Tasks.{has_flag, is_flag, most_events, most_rounds, op_words, request_words, task_words, DrillsLinks, IsRequest, IsTask, IsTaskOf, RequestInRange, TaskInRange}
@@ -37,21 +41,28 @@ one_flag name word hn hw = rw (hn, hw) refl
 call_flag : (addr word : List ℕ) → is_flag addr ≡ false → is_flag word ≡ false → has_flag (codes "call" ∷ addr ∷ word ∷ []) ≡ false
 call_flag addr word ha hw = rw (ha, hw) refl
 
-operands_flag : (op : Op) → has_flag (operands op) ≡ false
-operands_flag (Put key value) = one_flag (encoded key) (encoded value) (plain_encoded key).flag (plain_encoded value).flag
-operands_flag (Del key) = rw (plain_encoded key).flag refl
-operands_flag (Get key) = rw (plain_encoded key).flag refl
-operands_flag (Cas key old new) = rw ((plain_encoded key).flag, (plain_encoded old).flag, (plain_encoded new).flag) refl
+writes_flag : (ws : List Write) → has_flag (flat_map write_words ws) ≡ false
+writes_flag [] = refl
+writes_flag (write.Put key value ∷ ws) = rw ((plain_encoded key).flag, (plain_encoded value).flag, writes_flag ws) refl
+writes_flag (write.Del key ∷ ws) = rw ((plain_encoded key).flag, writes_flag ws) refl
+
+operands_flag : (op : Op) → OpInRange op → has_flag (operands op) ≡ false
+operands_flag (Put key value) h = one_flag (encoded key) (encoded value) (plain_encoded key).flag (plain_encoded value).flag
+operands_flag (Del key) h = rw (plain_encoded key).flag refl
+operands_flag (Get key) h = rw (plain_encoded key).flag refl
+operands_flag (Cas key old new) h = rw ((plain_encoded key).flag, (plain_encoded old).flag, (plain_encoded new).flag) refl
+operands_flag (Many ws) h = writes_flag ws
+operands_flag (Forget client) h = rw (plain_decimal client (omega (arith, h.1))).flag refl
 
 words_flag : (addr name client seq : List ℕ) (words : List (List ℕ)) → is_flag addr ≡ false → is_flag name ≡ false → is_flag client ≡ false → is_flag seq ≡ false → has_flag words ≡ false
     → has_flag (codes "call" ∷ addr ∷ name ∷ client ∷ seq ∷ words) ≡ false
 words_flag addr name client seq words ha hn hc hs hw = rw (ha, hn, hc, hs, hw) refl
 
-op_flag : (addr : List ℕ) (client seq : ℕ) (op : Op) → is_flag addr ≡ false → IsNumber client → IsNumber seq → has_flag (codes "call" ∷ addr ∷ op_words client seq op) ≡ false
-op_flag addr client seq op ha hc hs =
-    let c = plain_decimal client (omega (arith, hc.1)) in
-    let s = plain_decimal seq (omega (arith, hs.1)) in
-    words_flag addr (op_name op) (decimal client) (decimal seq) (operands op) ha (plain_op_name op).flag c.flag s.flag (operands_flag op)
+op_flag : (addr : List ℕ) (c : Command) → is_flag addr ≡ false → CommandInRange c → has_flag (codes "call" ∷ addr ∷ op_words c.client c.seq c.op) ≡ false
+op_flag addr c ha h =
+    let client = plain_decimal c.client (omega (arith, h.client)) in
+    let seq = plain_decimal c.seq (omega (arith, h.seq)) in
+    words_flag addr (op_name c.op) (decimal c.client) (decimal c.seq) (operands c.op) ha (plain_op_name c.op).flag client.flag seq.flag (operands_flag c.op h.op)
 
 read_flag : (addr : List ℕ) (r : Read) → is_flag addr ≡ false → ReadInRange r → has_flag (codes "call" ∷ addr ∷ codes "read" ∷ read_words r) ≡ false
 read_flag addr r ha h =
@@ -74,7 +85,7 @@ numbers_flag seed events hs he = rw ((plain_decimal seed hs).flag, (plain_decima
 flag_of : (t : Task) → TaskInRange t → has_flag (task_words t) ≡ true → DrillsLinks t
 flag_of (Node id) h flag = no_flag (one_flag (codes "node") (decimal id) refl (plain_decimal id (omega (arith, h.1))).flag) flag
 flag_of Replay h flag = no_flag refl flag
-flag_of (Call addr (request.Command c)) h flag = no_flag (op_flag (addr_text addr) c.client c.seq c.op (plain_addr addr).flag h.1.0.client h.1.0.seq) flag
+flag_of (Call addr (request.Command c)) h flag = no_flag (op_flag (addr_text addr) c (plain_addr addr).flag h.1.0) flag
 flag_of (Call addr (request.Stop members)) h flag = no_flag (stop_flag (addr_text addr) (map decimal members) (plain_addr addr).flag (ids_flag 0 members h.1.rising)) flag
 flag_of (Call addr request.Trim) h flag = no_flag (call_flag (addr_text addr) (codes "trim") (plain_addr addr).flag refl) flag
 flag_of (Call addr (request.Read r)) h flag = no_flag (read_flag (addr_text addr) r (plain_addr addr).flag h.1.0) flag

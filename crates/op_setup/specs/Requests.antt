@@ -1,10 +1,9 @@
 -- The commands and members that requests propose. Only what is inside the crate speaks of this.
 use Rattle.std.specs.Prelude.{◌≡◌, ℕ, List, map, decimal}
 use Rattle.op_types.specs.Ranges.{CommandInRange, MembersInRange}
-use Rattle.op_types.specs.declared.log.Op.{Op}
 use Rattle.op_types.specs.declared.log.Command.{Command}
 use Rattle.op_types.specs.declared.read.Read.{Read}
-use Rattle.op_text.specs.Operations.{AreKeyOnly, AreOperandsOf, IsReadOf, OpIsOfBytes}
+use Rattle.op_text.specs.Operations.{AreKeyOnly, IsReadOf, OpIsOfBytes}
 use Rattle.op_setup.specs.Tasks.{op_words}
 
 -- the words are this command's
@@ -20,10 +19,6 @@ IsCommand words = (c : Command) × IsCommandOf words c
 -- the words are some read's
 abbrev pub IsRead : List (List ℕ) → Type 0
 IsRead words = (r : Read) × IsReadOf words r
-
--- the words are the operands of some operation of this name
-abbrev pub AreOperands : List ℕ → List (List ℕ) → Type 0
-AreOperands name words = (op : Op) × AreOperandsOf name words op
 
 -- the words are some key alone
 abbrev pub AreSomeKeyOnly : List (List ℕ) → Type 0

@@ -24,7 +24,7 @@ most_trim_every = 10 ^ 12
 
 -- the most nodes of a cluster
 abbrev pub most_peers : ℕ
-most_peers = 31
+most_peers = 62
 
 -- a node's id and its address
 abbrev pub Peer : Type 0

@@ -13,7 +13,7 @@ pub const MOST_TURNS: u64 = 1_000_000_000_000;
 pub const MOST_TRIM_EVERY: u64 = 1_000_000_000_000;
 
 /// The most nodes of a cluster.
-pub const MOST_PEERS: usize = 31;
+pub const MOST_PEERS: usize = 62;
 
 /// Each node's id and its address, by rising id.
 pub type Peers = Seq<(Pid, Addr)>;
@@ -25,9 +25,9 @@ pub struct Settings {
     pub tick_ms: u64,
     /// The turns that the serving loop takes, from 1 to 10^12.
     pub turns: u64,
-    /// The members of the first configuration, 1 to 9, rising.
+    /// The members of the first configuration, 1 to 31, rising.
     pub members: Members,
-    /// The nodes, 1 to 31, every member among them.
+    /// The nodes, 1 to 62, every member among them.
     pub peers: Peers,
     /// Each of the node's two areas is kept twice, on disks of their own.
     pub is_mirrored: bool,

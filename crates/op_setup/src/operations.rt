@@ -1,11 +1,13 @@
 //! A client's operations. Each reads the words after its command's number, and takes memory only where they are its own.
 ghost use Rattle.std.specs.Prelude.{map, codes, string_bytes, IfOk, IfErr};
 ghost use Rattle.op_text.specs.Found.{IsFound};
-ghost use Rattle.op_text.specs.Operations.{AreKeyOnly, AreOperandsOf};
-ghost use Rattle.op_setup.specs.Requests.{AreOperands, AreSomeKeyOnly};
+ghost use Rattle.op_text.specs.Operations.{AreKeyOnly, AreOperands, AreOperandsOf};
+ghost use Rattle.op_setup.specs.Requests.{AreSomeKeyOnly};
 
 use crate::arguments::bytes;
-use op_text::{cas_operation, is_key, is_value, key, put_operation};
+use op_text::{
+    cas_operation, forget_operation, is_key, is_value, key, many_operation, put_operation,
+};
 use op_types::{Blob, NoMemory, Op};
 use std::alloc::Global;
 
@@ -76,6 +78,16 @@ fn cas(alloc: Global, words: &[String]) -> Result<Option<Op>, NoMemory>
     cas_operation(alloc, key_word, old_word, new_word)
 }
 
+/// `forget`: the client that is forgotten.
+fn forget(words: &[String]) -> Option<Op>
+    ensures { IsFound (AreOperandsOf (codes "forget") (map string_bytes words.now)) result }
+{
+    match words {
+        [client] => forget_operation(bytes(client)),
+        _ => None,
+    }
+}
+
 /// The operation of this name that words say.
 pub fn operation(alloc: Global, name: &str, words: &[String]) -> Result<Option<Op>, NoMemory>
     ensures found { IfOk result (IsFound (AreOperandsOf name.now (map string_bytes words.now))) }
@@ -86,6 +98,8 @@ pub fn operation(alloc: Global, name: &str, words: &[String]) -> Result<Option<O
         "del" => del(alloc, words),
         "get" => get(alloc, words),
         "cas" => cas(alloc, words),
+        "many" => many_operation(alloc, words),
+        "forget" => Ok(forget(words)),
         _ => Ok(None),
     }
 }

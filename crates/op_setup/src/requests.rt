@@ -9,7 +9,7 @@ use crate::arguments::bytes;
 use crate::member_ids::members;
 use crate::operations::{one_key, operation};
 use op_text::client_number;
-use op_types::{Command, NoMemory, Read, Request};
+use op_types::{Command, NoMemory, Read, Request, Shared};
 use std::alloc::Global;
 
 /// The command of an operation of this name: a client, the number of its command, and the operation's own words.
@@ -53,12 +53,12 @@ fn read(alloc: Global, words: &[String]) -> Result<Option<Read>, NoMemory>
 }
 
 /// `stop`: the members of the next configuration.
-fn stop(words: &[String]) -> Result<Option<Request>, NoMemory>
+fn stop(alloc: Global, words: &[String]) -> Result<Option<Request>, NoMemory>
     ensures found { IfOk result (IsFound (IsRequestOf (codes "stop" ∷ map string_bytes words.now))) }
     ensures memory { IfErr result (λ _. IsRequest (codes "stop" ∷ map string_bytes words.now)) }
 {
     match members(words)? {
-        Some(members) => Ok(Some(Request::Stop(members))),
+        Some(members) => Ok(Some(Request::Stop(Shared::new(alloc, members)?))),
         None => Ok(None),
     }
 }
@@ -72,7 +72,7 @@ pub fn request(alloc: Global, words: &[String]) -> Result<Option<Request>, NoMem
         return Ok(None);
     };
     match name.as_str() {
-        "stop" => stop(words),
+        "stop" => stop(alloc, words),
         "read" => match read(alloc, words)? {
             Some(read) => Ok(Some(Request::Read(read))),
             None => Ok(None),

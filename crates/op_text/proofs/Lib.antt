@@ -5,3 +5,4 @@ pub mod FoundAlike
 pub mod Operations
 pub mod Rests
 pub mod Digits
+pub mod WriteWords

@@ -1,9 +1,10 @@
-//! A client's operations of a key and values, read from the words of these.
+//! A client's operations, read from the words of what they are done with.
 ghost use Rattle.std.specs.Prelude.{◌∷◌, [], codes, IfOk};
 ghost use Rattle.op_text.specs.Found.{IsFound};
 ghost use Rattle.op_text.specs.Operations.{AreOperandsOf};
 
 use crate::decoding::{key, value};
+use crate::numbers::client_number;
 use op_types::{NoMemory, Op};
 use std::alloc::Global;
 
@@ -44,4 +45,11 @@ pub fn cas_operation(
         return Ok(None);
     };
     Ok(Some(Op::Cas(key, old, new)))
+}
+
+/// The `forget` of the client that this word writes.
+pub fn forget_operation(client_word: &[u8]) -> Option<Op>
+    ensures { IsFound (AreOperandsOf (codes "forget") (client_word.now ∷ [])) result }
+{
+    Some(Op::Forget(client_number(client_word)?))
 }

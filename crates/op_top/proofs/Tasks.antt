@@ -57,6 +57,7 @@ misconfigured left id before now status.TurnsOver h = tt
 misconfigured left id before now (status.Damaged area place) h = tt
 misconfigured left id before now status.ChildFault h = tt
 misconfigured left id before now status.NoReply h = tt
+misconfigured left id before now (status.NewerVersion area version) h = tt
 
 served : (end : ServeEnd) → IsNoUsage (node.status_of end)
 served ends.Ended = tt
@@ -79,6 +80,7 @@ heard id o (status.Damaged area place) net0 net1 out0 out1 h = tt
 heard id o status.ChildFault net0 net1 out0 out1 h = tt
 heard id o status.InputLimit net0 net1 out0 out1 h = tt
 heard id o status.NoReply net0 net1 out0 out1 h = tt
+heard id o (status.NewerVersion area version) net0 net1 out0 out1 h = tt
 
 node_goes : {D : Type 0} (state : D → DiskState) (id : ℕ) (o : Settings) (n : NodeState) (stood : Type 0) (old new : node.Around D) (s : Status) (lost : List Mark) → node.Goes state id o n stood old new s lost → IsNoUsage s
 node_goes state id o n stood old new s lost (node.is_unheard h same lives) = heard id o s old.net new.net old.output new.output h
@@ -88,6 +90,7 @@ node_goes state id o n stood old new s lost (node.has_served {end} net r count s
 node_ends : {D : Type 0} (state : D → DiskState) (id : ℕ) (o : Settings) (old new : node.Around D) (s : Status) (lost : List Mark) → node.Ends state id o old new s lost → IsNoUsage s
 node_ends state id o old new s lost (node.cannot_open a b) = tt
 node_ends state id o old new s lost (node.is_damaged a b c) = tt
+node_ends state id o old new s lost (node.is_newer a b c) = tt
 node_ends state id o old new s lost (node.has_no_memory a b) = tt
 node_ends state id o old new s lost (node.is_opened {n} mid opened goes) =
     node_goes state id o n (node.IsOwn state id old opened.durable) mid new s lost goes
@@ -152,6 +155,7 @@ replayed (status.Damaged area place) h = tt
 replayed status.ChildFault h = tt
 replayed status.InputLimit h = tt
 replayed status.NoReply h = tt
+replayed (status.NewerVersion area version) h = tt
 
 -- ---- what is done
 

@@ -9,11 +9,13 @@ ghost use Rattle.op_sched.specs.Forms.{op_form_name, form_name, ArePeers, AreCal
 use crate::reading::calls::{call, disk, image};
 use crate::reading::operations::{OpForm, op_form_of, operation};
 use crate::reading::reads::client_read;
-use crate::reading::words::is_name;
 use op_runs::What;
-use op_text::{client_number, number, pid};
-use op_types::{Command, Commands, MOST_IDS, MOST_MEMBERS, Members, NoMemory, Pid, is_among};
+use op_text::{client_number, is_name, number, pid};
+use op_types::{Command, Commands, MOST_MEMBERS, Members, NoMemory, Pid, Shared, is_among};
 use std::alloc::Global;
+
+/// How many spares a schedule has at most; `most_spares` is the same for clauses.
+const MOST_SPARES: usize = 31;
 
 /// The one server that words name.
 fn one_server(words: &[&[u8]]) -> Option<Pid>
@@ -99,7 +101,7 @@ pub fn spares(words: &[&[u8]], members: &Members) -> Result<Option<Members>, NoM
 fn spare_ids(words: &[&[u8]], members: &Members) -> Result<Option<Members>, NoMemory>
     ensures { IfOk result (IsFound (AreSparesOf members.now (map (λ x. x.now) words.now))) }
 {
-    let Some(ids) = rising_ids(words, MOST_IDS)? else {
+    let Some(ids) = rising_ids(words, MOST_SPARES)? else {
         return Ok(None);
     };
     if are_apart(members.as_slice(), ids.as_slice()) {
@@ -236,7 +238,7 @@ fn show(words: &[&[u8]]) -> Option<What>
 }
 
 /// `stop`: a server, and the members of the next configuration.
-fn stop(words: &[&[u8]]) -> Result<Option<What>, NoMemory>
+fn stop(alloc: Global, words: &[&[u8]]) -> Result<Option<What>, NoMemory>
     ensures { IfOk result (IsFound (AreWordsOf (codes "stop" ∷ map (λ x. x.now) words.now))) }
 {
     let Some((id, words)) = words.split_first() else {
@@ -248,7 +250,7 @@ fn stop(words: &[&[u8]]) -> Result<Option<What>, NoMemory>
     let Some(members) = member_ids(words)? else {
         return Ok(None);
     };
-    Ok(Some(What::Stop(id, members)))
+    Ok(Some(What::Stop(id, Shared::new(alloc, members)?)))
 }
 
 /// `trim`: a server.
@@ -319,7 +321,7 @@ fn proposal(alloc: Global, form: OpForm, words: &[&[u8]]) -> Result<Option<What>
 pub enum Form {
     /// `tick`
     Tick,
-    /// `put`, `del`, `get` or `cas`
+    /// `put`, `del`, `get`, `cas`, `many` or `forget`
     Command(OpForm),
     /// `stop`
     Stop,
@@ -391,7 +393,7 @@ pub fn event_of(alloc: Global, form: Form, words: &[&[u8]]) -> Result<Option<Wha
     match form {
         Form::Tick => Ok(tick(words)),
         Form::Command(op) => proposal(alloc, op, words),
-        Form::Stop => stop(words),
+        Form::Stop => stop(alloc, words),
         Form::Trim => Ok(trim(words)),
         Form::Read => read(alloc, words),
         Form::Deliver => Ok(deliver(words)),

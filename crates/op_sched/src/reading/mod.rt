@@ -19,9 +19,10 @@ use crate::schedule::{SchedFail, Schedule};
 use adding::add_event;
 use lines::{NumberedLine, next_numbered};
 use op_runs::{Event, Events};
+use op_text::is_name;
 use op_types::{Members, NoMemory};
 use std::alloc::Global;
-use words::{MOST_WORDS, Words, is_name, split_words};
+use words::{MOST_WORDS, Words, split_words};
 
 /// The schedule that a text says. `BadLine` names the first line that isn't in the grammar, and `NoMemory` comes
 /// only where the allocator has none.

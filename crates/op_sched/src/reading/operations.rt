@@ -4,8 +4,7 @@ ghost use Rattle.op_text.specs.Found.{IsFound};
 ghost use Rattle.op_sched.specs.Forms.{op_form_name};
 ghost use Rattle.op_text.specs.Operations.{AreKeyOnly, AreOperandsOf};
 
-use crate::reading::words::is_name;
-use op_text::{cas_operation, key, put_operation};
+use op_text::{cas_operation, forget_operation, is_name, key, many_operation, put_operation};
 use op_types::{Blob, NoMemory, Op};
 use std::alloc::Global;
 
@@ -20,6 +19,10 @@ pub enum OpForm {
     Get,
     /// `cas`
     Cas,
+    /// `many`
+    Many,
+    /// `forget`
+    Forget,
 }
 
 /// The form of operation that a word names.
@@ -34,6 +37,10 @@ pub fn op_form_of(word: &[u8]) -> Option<OpForm>
         Some(OpForm::Get)
     } else if is_name(word, b"cas") {
         Some(OpForm::Cas)
+    } else if is_name(word, b"many") {
+        Some(OpForm::Many)
+    } else if is_name(word, b"forget") {
+        Some(OpForm::Forget)
     } else {
         None
     }
@@ -89,6 +96,16 @@ fn cas(alloc: Global, words: &[&[u8]]) -> Result<Option<Op>, NoMemory>
     }
 }
 
+/// `forget`: the client that is forgotten.
+fn forget(words: &[&[u8]]) -> Option<Op>
+    ensures { IsFound (AreOperandsOf (codes "forget") (map (λ x. x.now) words.now)) result }
+{
+    match words {
+        [client] => forget_operation(client),
+        _ => None,
+    }
+}
+
 /// The operation of this form that words say.
 pub fn operation(alloc: Global, form: OpForm, words: &[&[u8]]) -> Result<Option<Op>, NoMemory>
     ensures { IfOk result (IsFound (AreOperandsOf (op_form_name form) (map (λ x. x.now) words.now))) }
@@ -98,5 +115,7 @@ pub fn operation(alloc: Global, form: OpForm, words: &[&[u8]]) -> Result<Option<
         OpForm::Del => del(alloc, words),
         OpForm::Get => get(alloc, words),
         OpForm::Cas => cas(alloc, words),
+        OpForm::Many => many_operation(alloc, words),
+        OpForm::Forget => Ok(forget(words)),
     }
 }

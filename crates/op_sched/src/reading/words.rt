@@ -1,12 +1,18 @@
 //! The words of a line.
-ghost use Rattle.std.specs.Prelude.{◌≡◌, ◌≤◌, ◌↔◌, length, map, take, IsTrue};
+ghost use Rattle.std.specs.Prelude.{◌≡◌, ◌≤◌, length, map, take};
 ghost use Rattle.op_sched.specs.Grammar.{words_of};
 
-use op_types::MOST_IDS;
+use op_types::MOST_WRITES;
 
-/// How many words of a line are read: one more than the longest form has, which is a line of as many spares as there may
+/// How many words stand before the writes of a `many`: its name, a server, a client, and the number of its command.
+const WORDS_BEFORE_WRITES: usize = 4;
+
+/// How many words a put has that stands among writes: its name, a key and a value.
+const WORDS_OF_A_PUT: usize = 3;
+
+/// How many words of a line are read: one more than the longest form has, which is a `many` of as many puts as there may
 /// be. A line with as many is of no form, so its other words need no place.
-pub const MOST_WORDS: usize = MOST_IDS + 2;
+pub const MOST_WORDS: usize = WORDS_BEFORE_WRITES + WORDS_OF_A_PUT * MOST_WRITES + 1;
 
 /// Places for the first words of a line.
 pub type Words<'a> = [&'a [u8]; MOST_WORDS];
@@ -29,11 +35,4 @@ pub fn split_words<'a>(words: &mut Words<'a>, line: &'a [u8]) -> usize
         count += 1;
     }
     count
-}
-
-/// Whether a word is this name.
-pub fn is_name(word: &[u8], name: &[u8]) -> bool
-    ensures { IsTrue result ↔ (word.now ≡ name.now) }
-{
-    word == name
 }

@@ -1,13 +1,16 @@
 //! Entries and ids, as text.
-ghost use Rattle.std.specs.Prelude.{◌≡◌, ◌+◌, ◌≤◌, ◌++◌, codes, length, OnOk};
+ghost use Rattle.std.specs.Prelude.{◌≡◌, ◌+◌, ◌≤◌, ◌++◌, codes, decimal, length, OnOk};
 ghost use Rattle.std.specs.List.{flat_map};
 ghost use Rattle.op_text.specs.Percent.{encoded};
 ghost use Rattle.op_text.specs.Operations.{op_name};
 ghost use Rattle.op_sched.specs.Pieces.{operands_text, place_text};
-ghost use Rattle.op_sched.specs.Text.{entry_line, op_text, pid_text};
+ghost use Rattle.op_sched.specs.Text.{entry_line, op_text, pid_text, write_text};
 
 use op_text::{MOST_DIGITS, ROW_BYTES, Row, put_encoded, put_named};
-use op_types::{Blob, Command, ConfNo, Entry, NoMemory, Op, Pid};
+use op_types::{Blob, Command, ConfNo, Entry, NoMemory, Op, Pid, Write};
+
+/// The most bytes that the name of an operation has: `forget`.
+const NAME_BYTES: usize = 6;
 
 /// The most bytes that `put_place` puts: a name of 5 letters, and two numbers, with a space behind each.
 const PLACE_BYTES: usize = 2 * MOST_DIGITS + 8;
@@ -53,7 +56,6 @@ fn put_command(
         ≡ text.old.items ++ place_text conf pos ++ op_text command.now.client command.now.seq command.now.op) }
 {
     let mut row = Row::new();
-    row.word(b" ");
     row.number(command.seq);
     row.word(b" ");
     row.number(command.client);
@@ -65,31 +67,63 @@ fn put_command(
 }
 
 /// The name of a client's operation.
-fn op_name(op: &Op) -> &'static [u8; 3]
-    ensures { result.now ≡ op_name op.now }
+fn op_name(op: &Op) -> &'static [u8]
+    ensures name { result.now ≡ op_name op.now }
+    ensures short { length result.now ≤ NAME_BYTES }
 {
     match op {
         Op::Put(..) => b"put",
         Op::Del(_) => b"del",
         Op::Get(_) => b"get",
         Op::Cas(..) => b"cas",
+        Op::Many(_) => b"many",
+        Op::Forget(_) => b"forget",
     }
 }
 
-/// Appends the key and the values of an operation, with a space between them.
+/// Appends what an operation is done with, each word after a space.
 fn put_operands(text: &mut Vec<u8>, op: &Op) -> Result<(), NoMemory>
     ensures { OnOk result (text.new.items ≡ text.old.items ++ operands_text op.now) }
 {
     match op {
         Op::Put(key, value) => {
-            put_encoded(text, key.as_slice())?;
+            put_operand(text, key)?;
             put_operand(text, value)
         }
-        Op::Del(key) | Op::Get(key) => put_encoded(text, key.as_slice()),
+        Op::Del(key) | Op::Get(key) => put_operand(text, key),
         Op::Cas(key, old, new) => {
-            put_encoded(text, key.as_slice())?;
+            put_operand(text, key)?;
             put_operand(text, old)?;
             put_operand(text, new)
+        }
+        Op::Many(writes) => put_writes(text, writes.as_slice()),
+        Op::Forget(client) => put_named(text, b" ", *client),
+    }
+}
+
+/// Appends writes, each word after a space.
+fn put_writes(text: &mut Vec<u8>, writes: &[Write]) -> Result<(), NoMemory>
+    ensures { OnOk result (text.new.items ≡ text.old.items ++ flat_map write_text writes.now) }
+{
+    for write in writes {
+        put_write(text, write)?;
+    }
+    Ok(())
+}
+
+/// Appends a write, each word after a space.
+fn put_write(text: &mut Vec<u8>, write: &Write) -> Result<(), NoMemory>
+    ensures { OnOk result (text.new.items ≡ text.old.items ++ write_text write.now) }
+{
+    match write {
+        Write::Put(key, value) => {
+            text.extend_from_slice(b" put")?;
+            put_operand(text, key)?;
+            put_operand(text, value)
+        }
+        Write::Del(key) => {
+            text.extend_from_slice(b" del")?;
+            put_operand(text, key)
         }
     }
 }

@@ -1,6 +1,7 @@
 use Rattle.std.proofs.Common.{◌≡◌, ℕ, ◌+◌, ◌<◌, ◌≤◌, List, ◌∷◌, ◌++◌, [], map, take, drop, set, length, decimal, string_bytes, sym, ap, ◌∙◌, subst, arith, append-nil}
 use Rattle.std.proofs.lemmas.List.{drop_all, drop_more, length-set, length-take-le, take_more_set}
 use Rattle.std.proofs.lemmas.Grind.{common_steps}
+use Rattle.op_types.specs.Limits.{most_members}
 use Rattle.op_types.specs.Ranges.{AreRising}
 use Rattle.op_setup.specs.Requests.{AreMembers, AreMembersOf}
 use Rattle.op_setup.proofs.Words.{at_error}
@@ -40,7 +41,7 @@ loop-word-preserved c =
     })
 
 -- where all words are read, they are these members'
-read_all : {A : Type 0} (now : A → List ℕ) (ws : List A) (ids : List ℕ) (n i : ℕ) → n ≡ i → length ids ≡ 9 → 1 ≤ length ws → length ws ≤ 9 → length ws ≡ i → map decimal (take n ids) ++ map now (drop i ws) ≡ map now ws → AreRising 0 (take n ids)
+read_all : {A : Type 0} (now : A → List ℕ) (ws : List A) (ids : List ℕ) (n i : ℕ) → n ≡ i → length ids ≡ most_members → 1 ≤ length ws → length ws ≤ most_members → length ws ≡ i → map decimal (take n ids) ++ map now (drop i ws) ≡ map now ws → AreRising 0 (take n ids)
     → AreMembersOf (map now ws) (take n ids)
 read_all now ws ids n i same room some few end split rising =
     let none = rw (drop_all i ws (omega (arith, end))) at split in

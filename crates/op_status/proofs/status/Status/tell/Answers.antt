@@ -1,4 +1,8 @@
-use Rattle.std.proofs.Common.{◌≡◌, ◌∙◌}
+use Rattle.std.proofs.Common.{◌≡◌, ℕ, List, [], ◌∷◌, codes, subst, ◌∙◌, append_assoc}
+use Rattle.std.specs.List.{concat}
+use Rattle.op_outside.specs.Seen.{Tells}
+use Rattle.op_status.specs.Statuses.{area_name, status_line}
+use Rattle.op_status.specs.declared.status.Status.TheVariants as status
 use Rattle.std.specs.Fmt.{decimal}
 use Rattle.op_status.proofs.status.Status.tell.Goals as goal
 
@@ -27,3 +31,15 @@ returns-in-ChildFault g c = rw c.in-ChildFault.is c.tell_text-in-ChildFault.ensu
 
 pub returns-in-InputLimit : goal.returns-in-InputLimit
 returns-in-InputLimit g c = rw c.in-InputLimit.is c.tell_text-in-InputLimit.ensures
+
+-- the line of a newer version, from its parts
+newer_line : (area version : ℕ) (name digits : List ℕ) → name ≡ area_name area → digits ≡ decimal version
+    → concat (codes "newer version " ∷ name ∷ codes " " ∷ digits ∷ codes "\n" ∷ []) ≡ status_line (status.NewerVersion area version)
+newer_line area version name digits is_name is_number = rw (is_name, is_number) (simp append_assoc)
+
+pub returns-in-NewerVersion : goal.returns-in-NewerVersion
+returns-in-NewerVersion g c =
+    let digits : c.as_bytes-digits-in-NewerVersion.result.now ≡ decimal c.in-NewerVersion.version = c.as_bytes-digits-in-NewerVersion.ensures.value ∙ c.format-in-NewerVersion.ensures.text in
+    let told : List ℕ → Type 0 = λ text. Tells (g.K.Sink.held c.args.err.now, g.K.Sink.fault_count c.args.err.now)
+    (g.K.Sink.held c.tell_parts-in-NewerVersion.new.err, g.K.Sink.fault_count c.tell_parts-in-NewerVersion.new.err) text in
+    rw c.in-NewerVersion.is (subst told (newer_line c.in-NewerVersion.area c.in-NewerVersion.version _ _ c.area_name-in-NewerVersion.ensures digits) c.tell_parts-in-NewerVersion.ensures)
