@@ -1,15 +1,19 @@
 -- Commands and their connections, as two lists: what is left of both without one connection.
-use Rattle.std.proofs.Common.{◌≡◌, ◌<◌, ◌≤◌, ◌++◌, ◌∷◌, [], ℕ, zero, suc, List, length, take, get_or, map, All, ◌==◌, refl, sym, ◌∙◌, ap, arith, is_some, nat_lt, cond, Some, None}
+use Rattle.std.proofs.Common.{◌≡◌, ◌<◌, ◌≤◌, ◌+◌, ◌++◌, ◌∷◌, [], ℕ, zero, suc, List, length, take, get_or, map, All, ◌==◌, refl, sym, ◌∙◌, ap, subst, arith, is_some, nat_lt, leb, false, true, Bool, cond, Some, None}
+use Rattle.std.proofs.lemmas.Bool.{leb-true, le-leb, lt-leb}
 use Rattle.std.proofs.lemmas.List.{length-append, length-map}
 use Rattle.std.proofs.lemmas.List.Elements.{All-filter, All-map, All-push}
-use Rattle.std.proofs.lemmas.Slice.Zip.{length-zip}
+use Rattle.std.proofs.lemmas.Slice.Zip.{length-zip, seconds-zip}
 use Rattle.std.specs.List.{list_any, position, position_or_len, remove, zip}
 use Rattle.op_types.specs.declared.log.Command.{Command}
-use Rattle.op_types.specs.Limits.{most_commands}
+use Rattle.op_types.specs.Limits.{most_commands, most_part_bytes}
+use Rattle.op_types.specs.Cutting.{entry_size, commands_size}
+use Rattle.op_types.specs.declared.log.Entry.TheVariants as entry
+use Rattle.op_types.proofs.Small.{command_small}
 use Rattle.op_types.specs.Ranges.{CommandInRange, AreCommands}
 use Rattle.op_serving.specs.State.{Table, without, find}
 use Rattle.op_serving.specs.Ranges.{GatheredInRange}
-use Rattle.op_serving.specs.Inputs.{key_of}
+use Rattle.op_serving.specs.Inputs.{key_of, most_gathered, places_taken}
 use Rattle.op_queues.specs.Gathering.{RunInRange}
 use Rattle.op_queues.proofs.Tables.{at_is, without_is}
 
@@ -17,6 +21,10 @@ module _ {X : Type 0} where
   -- as many as of each
   pub length_pairs : (cs : List ℕ) (xs : List X) → length xs ≡ length cs → length (zip cs xs) ≡ length cs
   length_pairs cs xs e = omega (arith, length-zip cs xs, e)
+
+  -- an index into the pairs is one into each
+  pub place_in : (n : ℕ) (cs : List ℕ) (xs : List X) (g : Table X) → length xs ≡ length cs → zip cs xs ≡ g → n < length g → n < length xs
+  place_in n cs xs g e is lt = omega (arith, lt, e, ap length is, length_pairs cs xs e)
 
   -- one more at the end of both
   pub zip_more : (cs : List ℕ) (xs : List X) (c : ℕ) (x : X) → length xs ≡ length cs → zip (cs ++ c ∷ []) (xs ++ x ∷ []) ≡ zip cs xs ++ (c, x) ∷ []
@@ -74,15 +82,69 @@ keys_more (w ∷ who) [] n c x h g is_c is_x = absurd (omega (arith, g))
 keys_more (w ∷ who) (y ∷ xs) zero c x h g is_c is_x = ap (λ k. (k, key_of y) ∷ []) (sym (is_c 0)) ∙ ap (λ z. (c, key_of z) ∷ []) (sym (is_x y))
 keys_more (w ∷ who) (y ∷ xs) (suc n) c x h g is_c is_x = ap (λ l. (w, key_of y) ∷ l) (keys_more who xs n c x (omega (arith, h)) (omega (arith, g)) is_c is_x)
 
+-- ---- how many bytes commands take
+
+-- the commands that were gathered
+abbrev pub commands_in : Table Command → List Command
+commands_in g = map (λ e. e.1) g
+
+pub size_pairs : (cs : List ℕ) (xs : List Command) → length xs ≡ length cs → commands_size (commands_in (zip cs xs)) ≡ commands_size xs
+size_pairs cs xs e = ap commands_size (seconds-zip cs xs e)
+
+-- one more
+pub size_push : (xs : List Command) (x : Command) → commands_size (xs ++ x ∷ []) ≡ commands_size xs + entry_size (entry.Command x)
+size_push [] x = omega arith
+size_push (y ∷ xs) x = omega (arith, size_push xs x)
+
+pub size_more : (g : Table Command) (c : ℕ) (x : Command) → commands_size (commands_in (g ++ (c, x) ∷ [])) ≡ commands_size (commands_in g) + entry_size (entry.Command x)
+size_more [] c x = omega arith
+size_more (e ∷ g) c x = omega (arith, size_more g c x)
+
+-- what is left takes less
+pub size_less : (xs : List Command) (n : ℕ) (x : Command) → n < length xs → commands_size (remove xs n) + entry_size (entry.Command (get_or xs n x)) ≡ commands_size xs
+size_less [] n x lt = absurd (omega (arith, lt))
+size_less (y ∷ xs) zero x lt = omega arith
+size_less (y ∷ xs) (suc n) x lt = omega (arith, size_less xs n x (omega (arith, lt)))
+
+pub size_taken : (xs : List Command) (n : ℕ) (x : Command) → n < length xs → x ≡ get_or xs n x
+    → commands_size (remove xs n) + entry_size (entry.Command x) ≡ commands_size xs
+size_taken xs n x lt is =
+    let own = ap (λ (y : Command). entry_size (entry.Command y)) is in omega (arith, own, size_less xs n x lt)
+
+pub without_smaller : (c : ℕ) (g : Table Command) → commands_size (commands_in (without c g)) ≤ commands_size (commands_in g)
+without_smaller c [] = omega arith
+without_smaller c (e ∷ g) = grind (arith, at_is, without_smaller c g)
+
+-- so many places are taken where any one more fits, and all where one more might not
+pub places_few : (g : Table Command) → commands_size (commands_in g) ≤ most_gathered → places_taken g ≡ length g
+places_few g h = rw (le-leb (commands_size (commands_in g)) most_gathered h) refl
+
+pub places_all : (g : Table Command) → most_gathered < commands_size (commands_in g) → places_taken g ≡ most_commands
+places_all g h = rw (lt-leb (commands_size (commands_in g)) most_gathered h) refl
+
+-- a place that is left: there are fewer than the most, and any one more fits
+pub place_left : (g : Table Command) → places_taken g < most_commands → (length g < most_commands) × (commands_size (commands_in g) ≤ most_gathered)
+place_left g lt = by (leb (commands_size (commands_in g)) most_gathered) refl lt
+  where
+    by : (b : Bool) → leb (commands_size (commands_in g)) most_gathered ≡ b → cond b (length g) most_commands < most_commands → (length g < most_commands) × (commands_size (commands_in g) ≤ most_gathered)
+    by true e few = (few, leb-true (commands_size (commands_in g)) most_gathered e)
+    by false e few = absurd (omega (arith, few))
+
 -- one command more is in range
-pub run_more : (g : Table Command) (c : ℕ) (x : Command) → length g < most_commands → RunInRange g → CommandInRange x → RunInRange (g ++ (c, x) ∷ [])
-run_more g c x few h k = record { each = All-push GatheredInRange g (c, x) h.each k; few = omega (arith, few, length-append g ((c, x) ∷ [])) }
+pub run_more : (g : Table Command) (c : ℕ) (x : Command) → places_taken g < most_commands → RunInRange g → CommandInRange x → RunInRange (g ++ (c, x) ∷ [])
+run_more g c x left h k =
+    let p = place_left g left in
+    record {
+      each = All-push GatheredInRange g (c, x) h.each k;
+      few = omega (arith, p.0, length-append g ((c, x) ∷ []));
+      small = omega (arith, p.1, size_more g c x, command_small x k);
+    }
 
 -- what is given together is in range
-pub are_commands : (g : Table Command) (xs : List Command) → xs ≡ map (λ e. e.1) g → All GatheredInRange g → length g ≤ most_commands → 0 < length g
-    → AreCommands xs
-are_commands g xs e all few some = rw e (record {
-  each = All-map CommandInRange (λ (p : ℕ × Command). p.1) g all;
+pub are_commands : (g : Table Command) (xs : List Command) → xs ≡ map (λ e. e.1) g → RunInRange g → 0 < length g → AreCommands xs
+are_commands g xs e h some = rw e (record {
+  each = All-map CommandInRange (λ (p : ℕ × Command). p.1) g h.each;
   some = omega (arith, some, length-map g (λ (p : ℕ × Command). p.1));
-  few = omega (arith, few, length-map g (λ (p : ℕ × Command). p.1));
+  few = omega (arith, h.few, length-map g (λ (p : ℕ × Command). p.1));
+  small = h.small;
 })

@@ -25,17 +25,17 @@ use Rattle.op_serving.specs.Inputs.{hears, says, State, Luck, noting, give, has_
 
 -- how many bytes the body of a client's frame has at most, and of a peer's
 abbrev pub client_limit : ℕ
-client_limit = 65536
+client_limit = 131072
 
 abbrev pub peer_limit : ℕ
 peer_limit = most_peer_body
 
--- the first byte of a client's connection, `C`, and of a peer's, `P`, behind which its id stands
+-- the first byte of a client's connection, `C`, and of a peer's, `Q`, behind which its id stands
 abbrev pub client_byte : ℕ
 client_byte = 67
 
 abbrev pub peer_byte : ℕ
-peer_byte = 80
+peer_byte = 81
 
 abbrev pub hello_len : ℕ
 hello_len = 5

@@ -14,7 +14,7 @@ pub const HELLO_LEN: usize = 5;
 /// The first byte of a client's connection, and of a peer's.
 const CLIENT_BYTE: u8 = b'C';
 
-const PEER_BYTE: u8 = b'P';
+const PEER_BYTE: u8 = b'Q';
 
 /// What the first bytes of a connection say.
 #[derive(Clone, Copy, Debug, PartialEq, Eq)]

@@ -5,8 +5,8 @@ use op_outside::Happening;
 use op_pump::ServeEnd;
 use std::test::Fail;
 
-/// Session 6 begins a request. Session 5 sends a body of zeros in two reads, and then the head of a longer
-/// one; session 6 ends its request.
+/// Session 6 begins a request. Session 5 sends the longest body, of zeros, in three reads, and then the head of a
+/// longer one; session 6 ends its request.
 const ZEROS_AND_HALVES: &[Step] = &[
     Step::Happens(&[
         Happening::Accepted(5),
@@ -14,12 +14,14 @@ const ZEROS_AND_HALVES: &[Step] = &[
         Happening::Readable(6),
         Happening::Readable(5),
         Happening::Readable(5),
+        Happening::Readable(5),
     ]),
     Step::Happens(&[Happening::Readable(5), Happening::Readable(6)]),
     Step::Comes(b"C\x00\x00"),
-    Step::ComesMostOfTheLongest,
+    Step::ComesLongestBegun,
+    Step::ComesLongestGoesOn,
     Step::Comes(&[0, 0, 0, 0, 0]),
-    Step::Comes(b"\x00\x01\x00\x01"),
+    Step::Comes(b"\x00\x02\x00\x01"),
     Step::Comes(b"\x00\x01\x04"),
 ];
 

@@ -12,7 +12,7 @@ const PUT: u64 = 253;
 const LONG: usize = 1_048_576;
 
 /// The header of the second area.
-const HEADER: &[u8] = b"\xA5OMNIPAX\x01\0\0\0\0\0\0\0\x02";
+const HEADER: &[u8] = b"\xA5OMNIPAX\x02\0\0\0\0\0\0\0\x02";
 
 /// What the second disk holds after the checkpoint, in bytes.
 const CHECKPOINT: usize = 1_041_966;

@@ -5,8 +5,8 @@ use op_outside::Happening;
 use op_pump::ServeEnd;
 use std::test::Fail;
 
-/// Session 5 sends a body of zeros in two reads, and then the head of a longer one; session 6 a request in
-/// halves.
+/// Session 5 sends the longest body, of zeros, in three reads, and then the head of a longer one; session 6 a
+/// request in halves.
 const ZEROS_AND_HALVES: &[Step] = &[
     Step::Happens(&[
         Happening::Accepted(5),
@@ -17,13 +17,15 @@ const ZEROS_AND_HALVES: &[Step] = &[
     Step::Happens(&[
         Happening::Readable(5),
         Happening::Readable(5),
+        Happening::Readable(5),
         Happening::Readable(6),
         Happening::Readable(5),
     ]),
-    Step::ComesMostOfTheLongest,
+    Step::ComesLongestBegun,
     Step::Comes(b"C\x00\x00\x00\x01"),
+    Step::ComesLongestGoesOn,
     Step::Comes(&[0, 0, 0, 0, 0]),
-    Step::Comes(b"\x00\x01\x00\x01abc"),
+    Step::Comes(b"\x00\x02\x00\x01abc"),
     Step::Comes(b"\x04"),
 ];
 

@@ -25,6 +25,8 @@ mod ends;
 #[cfg(test)]
 mod groups;
 #[cfg(test)]
+mod lists;
+#[cfg(test)]
 mod malformed;
 #[cfg(test)]
 mod peers;

@@ -43,9 +43,9 @@ const MALFORMED: &[Step] = &[
         Happening::Readable(10),
     ]),
     Step::Comes(b"C\xff\xff\xff\xff"),
-    Step::Comes(b"P\0\0\0\x03\0\0\0\0\0\0\0\x0d\0\0\0\x03\0\0\0\x01\x63\0\0\0\x01"),
-    Step::Comes(b"P\0\0\0\x02\0\0\0\0\0\x10\0\0"),
-    Step::Comes(b"P\0"),
+    Step::Comes(b"Q\0\0\0\x03\0\0\0\0\0\0\0\x0d\0\0\0\x03\0\0\0\x01\x63\0\0\0\x01"),
+    Step::Comes(b"Q\0\0\0\x02\0\0\0\0\0\x10\0\0"),
+    Step::Comes(b"Q\0"),
     Step::Comes(b"C"),
     Step::Comes(b"\0"),
     Step::Comes(b"\0"),
@@ -53,7 +53,7 @@ const MALFORMED: &[Step] = &[
     Step::Comes(b"\x01"),
     Step::Comes(b"\x04"),
     Step::Comes(STATUS),
-    Step::Comes(b"P\0\0\0\x03\0\0\0\0\0\x10\0\x01"),
+    Step::Comes(b"Q\0\0\0\x03\0\0\0\0\0\x10\0\x01"),
 ];
 
 /// Sessions 3 to 5 and 10 are closed; 6 and 7 wait for more, and 8 and 9 are answered.
@@ -78,8 +78,8 @@ const GREATEST_HEAD: &[Step] = &[
         Happening::Readable(3),
         Happening::Readable(5),
     ]),
-    Step::Comes(b"P\0\0\0\x02"),
-    Step::Comes(b"P\0\0\0\x03\xff\xff\xff\xff\xff\xff\xff\xff"),
+    Step::Comes(b"Q\0\0\0\x02"),
+    Step::Comes(b"Q\0\0\0\x03\xff\xff\xff\xff\xff\xff\xff\xff"),
     Step::Comes(STATUS),
 ];
 

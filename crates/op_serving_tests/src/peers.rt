@@ -30,7 +30,7 @@ const ROWS: [Row<'static>; 1] = [Row {
     server: Server::FailedSecond,
     steps: TWO_FRAMES,
     turns: 13,
-    conns: &[(5, Wrote::Bytes(b"P\0\0\0\x02"), 0)],
+    conns: &[(5, Wrote::Bytes(b"Q\0\0\0\x02"), 0)],
     end: ServeEnd::TurnsOver,
     lost: 0,
 }];

@@ -135,7 +135,7 @@ fn reads_are_answered_or_refused(rt: HostRuntime) -> Result<(), Fail> {
 }
 
 /// Node 2's first bytes.
-const HELLO: &[u8] = b"P\0\0\0\x02";
+const HELLO: &[u8] = b"Q\0\0\0\x02";
 
 /// Its reply in heartbeat round 1: it stands for the ballot (1, 2), and hasn't heard a majority.
 const REPLY: &[u8] =

@@ -21,14 +21,22 @@ use std::test::Fail;
 const FAULTS: u64 = 7;
 
 /// The longest body of a client's frame.
-const MOST: usize = 65_536;
+const MOST: usize = 131_072;
 
-/// A client's first byte, the head of the longest body, and that body's zeros but for the last five.
-fn most_of_the_longest(alloc: Global) -> Result<Vec<u8>, NoMemory> {
-    let mut bytes = Vec::from_slice(alloc, b"C\x00\x01\x00\x00")?;
-    for _ in 0..MOST - 5 {
-        bytes.push(0)?;
-    }
+/// How many bytes a read gives at most.
+const PIECE: usize = 65_536;
+
+/// A client's first byte, the head of the longest body, and that body's zeros, up to so many bytes as a read gives.
+fn longest_begun(alloc: Global) -> Result<Vec<u8>, NoMemory> {
+    let mut bytes = Vec::from_slice(alloc, b"C\x00\x02\x00\x00")?;
+    bytes.resize(PIECE, 0)?;
+    Ok(bytes)
+}
+
+/// The zeros behind those, but for the last five.
+fn longest_goes_on(alloc: Global) -> Result<Vec<u8>, NoMemory> {
+    let mut bytes = Vec::new(alloc);
+    bytes.resize(MOST - PIECE, 0)?;
     Ok(bytes)
 }
 
@@ -125,8 +133,10 @@ pub enum Step<'a> {
     Idles(usize),
     /// A read gives these bytes.
     Comes(&'a [u8]),
-    /// A read gives `most_of_the_longest`.
-    ComesMostOfTheLongest,
+    /// A read gives `longest_begun`.
+    ComesLongestBegun,
+    /// A read gives `longest_goes_on`.
+    ComesLongestGoesOn,
     /// A read gives a client's first byte and so many puts, of client 7 and numbers from 1.
     ComesPuts(u64),
     /// A read gives a client's first byte and client 8's first put, of 4096 bytes at `a`.
@@ -154,7 +164,8 @@ fn add(script: &mut NetScript, alloc: Global, step: Step) -> Result<(), NoMemory
         Step::Happens(happenings) => happens(script, alloc, happenings),
         Step::Idles(count) => idles(script, alloc, count),
         Step::Comes(bytes) => read_gives(script, Vec::from_slice(alloc, bytes)?),
-        Step::ComesMostOfTheLongest => read_gives(script, most_of_the_longest(alloc)?),
+        Step::ComesLongestBegun => read_gives(script, longest_begun(alloc)?),
+        Step::ComesLongestGoesOn => read_gives(script, longest_goes_on(alloc)?),
         Step::ComesPuts(count) => read_gives(script, puts(alloc, count)?),
         Step::ComesLongPut => read_gives(script, long_put(alloc)?),
         Step::ComesGets(first, last) => read_gives(script, gets(alloc, first, last)?),

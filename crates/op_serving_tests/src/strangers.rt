@@ -5,8 +5,8 @@ use op_outside::Happening;
 use op_pump::ServeEnd;
 use std::test::Fail;
 
-/// Sessions 3 to 8 send another first byte, an unknown id, the own id, a frame that is no message, one to
-/// another node, and a status.
+/// Sessions 3 to 9 send another first byte, an unknown id, the own id, a frame that is no message, one to
+/// another node, a status, and the hello of a node of the version before.
 const STRANGERS: &[Step] = &[
     Step::Happens(&[
         Happening::Accepted(3),
@@ -15,6 +15,7 @@ const STRANGERS: &[Step] = &[
         Happening::Accepted(6),
         Happening::Accepted(7),
         Happening::Accepted(8),
+        Happening::Accepted(9),
     ]),
     Step::Happens(&[
         Happening::Readable(3),
@@ -23,16 +24,18 @@ const STRANGERS: &[Step] = &[
         Happening::Readable(6),
         Happening::Readable(7),
         Happening::Readable(8),
+        Happening::Readable(9),
     ]),
     Step::Comes(b"X"),
-    Step::Comes(b"P\x00\x00\x00\x09"),
-    Step::Comes(b"P\x00\x00\x00\x01"),
-    Step::Comes(b"P\x00\x00\x00\x02\x00\x00\x00\x00\x00\x00\x00\x01\x00"),
-    Step::Comes(b"P\0\0\0\x03\0\0\0\0\0\0\0\x0d\0\0\0\x03\0\0\0\x02\x09\0\0\0\x01"),
+    Step::Comes(b"Q\x00\x00\x00\x09"),
+    Step::Comes(b"Q\x00\x00\x00\x01"),
+    Step::Comes(b"Q\x00\x00\x00\x02\x00\x00\x00\x00\x00\x00\x00\x01\x00"),
+    Step::Comes(b"Q\0\0\0\x03\0\0\0\0\0\0\0\x0d\0\0\0\x03\0\0\0\x02\x09\0\0\0\x01"),
     Step::Comes(b"C\x00\x00\x00\x01\x04"),
+    Step::Comes(b"P\x00\x00\x00\x02"),
 ];
 
-/// Sessions 3 to 6 are closed, and nothing is written to them.
+/// Sessions 3 to 6 and 9 are closed, and nothing is written to them.
 const CLOSED_ALONE: &[Conduct] = &[
     (3, Wrote::Bytes(b""), 1),
     (4, Wrote::Bytes(b""), 1),
@@ -40,6 +43,7 @@ const CLOSED_ALONE: &[Conduct] = &[
     (6, Wrote::Bytes(b""), 1),
     (7, Wrote::Any, 0),
     (8, Wrote::Something, 0),
+    (9, Wrote::Bytes(b""), 1),
 ];
 
 const ROWS: [Row<'static>; 2] = [
@@ -62,8 +66,8 @@ const ROWS: [Row<'static>; 2] = [
                 Happening::Readable(4),
                 Happening::Readable(5),
             ]),
-            Step::Comes(b"P\x00\x00\x00\x02"),
-            Step::Comes(b"P\x00\x00\x00\x02"),
+            Step::Comes(b"Q\x00\x00\x00\x02"),
+            Step::Comes(b"Q\x00\x00\x00\x02"),
         ],
         turns: 1,
         conns: &[(4, Wrote::Any, 1), (5, Wrote::Any, 0)],

@@ -11,7 +11,7 @@ ghost use Rattle.op_serving.specs.declared.hearing.Heard.TheVariants.{Asks, Mess
 ghost use Rattle.op_serving.specs.State.{find, is_open, session_of, stranger_in};
 ghost use Rattle.op_serving.specs.Losses.{Stays};
 ghost use Rattle.op_serving.specs.Counts.{most_inputs};
-ghost use Rattle.op_serving.specs.Inputs.{brings, flushed, gathers, give, most_brought};
+ghost use Rattle.op_serving.specs.Inputs.{brings, flushed, gathers, give, most_brought, places_taken};
 ghost use Rattle.op_serving.specs.Reading.{feeds, frames_at, goes_first, held_in, is_peer, is_read, joins_others, links, read, replaced};
 ghost use Rattle.op_queues.specs.Hearing.{HeardInRange};
 ghost use Rattle.op_driver.specs.Driver.{Acts, Does, Loses, Rests, IsDrained};
@@ -22,7 +22,7 @@ use op_command::Said;
 use op_outside::Conn;
 use op_queues::{Front, of_no_command};
 use op_serving::{Core, Heard};
-use op_types::{Command, Input, Members, Msg, NoMemory, Pid, Request};
+use op_types::{Command, Input, Members, Msg, NoMemory, Pid, Request, Shared};
 
 impl<K: Core> Driver<K> {
     /// Bytes that a connection read, and all that they complete. Where they find no memory, its session is
@@ -293,7 +293,7 @@ impl<K: Core> Driver<K> {
 
     /// A client asks to end the configuration. Where it names a server that the node doesn't know, it is
     /// told the first such one, and nothing is proposed.
-    fn stop(&mut self, conn: Conn, members: Members) -> Result<(), NoMemory>
+    fn stop(&mut self, conn: Conn, members: Shared<Members>) -> Result<(), NoMemory>
         requires open { is_open conn self.old.loop ≡ true }
         requires none { IsDrained self.old.loop }
         requires range { MembersInRange members }
@@ -302,7 +302,7 @@ impl<K: Core> Driver<K> {
         ensures err { OnErr result (Loses K.stores conn self.old self.new) }
         ensures most { most_inputs self.new.loop ≤ most_inputs self.old.loop + 1 }
     {
-        match self.stranger_among(members.as_slice()) {
+        match self.stranger_among(members.get().as_slice()) {
             Some(id) => self.tell(conn, Said::Stranger(id)),
             None => {
                 self.give(&[conn], Input::Stop(members));
@@ -400,7 +400,8 @@ impl<K: Core> Driver<K> {
         requires { CommandInRange command }
         ensures ok { OnOk result
             (self.new ≡ record self.old { loop = gathers conn command self.old.loop }) }
-        ensures full { IfOk result (λ full. full ≡ nat_le most_commands (length self.new.loop.gathered)) }
+        ensures full { IfOk result
+            (λ full. full ≡ nat_le most_commands (places_taken self.new.loop.gathered)) }
         ensures err { OnErr result (self.new ≡ self.old) }
     {
         self.sessions.gather(conn, command)

@@ -95,11 +95,11 @@ const NO_REPLIES: &[Row] = &[
     ),
     // A head above the limit, and one at it.
     (
-        &[Step::Comes(b"\x00\x01\x00\x01")],
+        &[Step::Comes(b"\x00\x02\x00\x01")],
         &[NO_REPLY, Sees::Waits(1), Sees::Closings(1)],
     ),
     (
-        &[Step::Comes(b"\x00\x01\x00\x00")],
+        &[Step::Comes(b"\x00\x02\x00\x00")],
         &[
             Sees::NotEnding(Err(CallFail::NoReply)),
             Sees::Waits(1_000),

@@ -15,7 +15,7 @@ use Rattle.op_driver.proofs.driver.Driver.stop.Goals as goal
 pub returns-in-Some-clause-ok : goal.returns-in-Some-clause-ok
 returns-in-Some-clause-ok g c =
     let d = c.args.self.now in
-    let named : stranger_in (keys_of d.loop.peers) c.args.members ≡ Some c.in-Some.id = ap (stranger_in (keys_of d.loop.peers)) (sym c.as_slice.ensures) ∙ sym c.stranger_among.ensures.is ∙ c.in-Some.is in
+    let named : stranger_in (keys_of d.loop.peers) c.args.members ≡ Some c.in-Some.id = ap (stranger_in (keys_of d.loop.peers)) (sym c.get.ensures ∙ sym c.as_slice.ensures) ∙ sym c.stranger_among.ensures.is ∙ c.in-Some.is in
     on_ok_as c.tell.result
     (λ is. told_handles (said.Stranger c.in-Some.id) d.loop.ending c.requires.none c.requires.open
     (λ l before. ap (λ (o : Option ℕ). stops l c.args.conn c.args.members o (with_deeds before d)) named) is)
@@ -24,7 +24,7 @@ returns-in-Some-clause-ok g c =
 pub returns-in-None-clause-ok : goal.returns-in-None-clause-ok
 returns-in-None-clause-ok g c =
     let d = c.args.self.now in
-    let none : stranger_in (keys_of d.loop.peers) c.args.members ≡ None = ap (stranger_in (keys_of d.loop.peers)) (sym c.as_slice.ensures) ∙ sym c.stranger_among.ensures.is ∙ c.in-None.is in
+    let none : stranger_in (keys_of d.loop.peers) c.args.members ≡ None = ap (stranger_in (keys_of d.loop.peers)) (sym c.get.ensures ∙ sym c.as_slice.ensures) ∙ sym c.stranger_among.ensures.is ∙ c.in-None.is in
     let gives = c.give.ensures.gives in
     record {
       does = does_as (λ l s. give l (c.args.conn ∷ []) (input.Stop c.args.members) s) (λ l s. on_frame l g.K.Core.line c.args.conn (Asks (request.Stop c.args.members)) s)

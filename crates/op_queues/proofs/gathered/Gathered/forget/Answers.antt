@@ -27,7 +27,7 @@ invariant_of-self c =
       λ h. omega (arith, few, i.4 (omega (arith, h, c.forget.ensures.len))),
       λ h. omega (arith, few, i.5 (omega (arith, h, c.forget.ensures.len))),
       subst (All BroughtInRange) (sym is) (all_left BroughtInRange c.args.conn c.self.inside.messages.items i.6),
-      record { each = c.forget.ensures.range i.7.each; few = omega (arith, i.7.few, c.forget.ensures.len) },
+      record { each = c.forget.ensures.range i.7.each; few = omega (arith, i.7.few, c.forget.ensures.len); small = omega (arith, i.7.small, c.forget.ensures.small) },
     )
 
 pub returns : goal.returns
