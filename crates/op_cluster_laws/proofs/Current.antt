@@ -32,7 +32,7 @@ use Rattle.op_laws.proofs.Reached.{world_of_run, execution_append, front_in_rang
 use Rattle.op_read_laws.specs.Told.{IsGiven, ToldFresh}
 use Rattle.op_read_laws.proofs.ReadsTold.{every_line_is_fresh}
 use Rattle.op_serving.specs.State.{Key}
-use Rattle.op_cluster_laws.specs.Currency.{WasAskedOf, IsUnread, SeesAll, IsCurrent, ReadsAreCurrent}
+use Rattle.op_cluster_laws.specs.Currency.{WasAskedOf, IsUnasked, SeesAll, IsCurrent, ReadsAreCurrent}
 use Rattle.op_cluster_laws.specs.Outputs.{answered_in}
 use Rattle.op_cluster_laws.specs.Traces.{Happened, lived_at}
 use Rattle.op_cluster_laws.specs.Worlds.{history_after, IsRun, OfClusters}
@@ -263,7 +263,7 @@ module _ (members spares : List ℕ) (ms : MembersInRange members) (ss : SparesI
     (run : IsRun members spares counts trace hs) (reach : ReachedAlways members spares counts trace hs) where
   current : (now later : List Happened) → trace ≡ now ++ later → (p : ℕ) → IsMember (node_ids members spares) p → (a : Reply)
       → Contains (answered_in true (lived_at members counts p now).first (lived_at members counts p now).deeds) a → IsGiven a.answer
-      → (early since : List Happened) → trace ≡ early ++ since → IsUnread members spares counts early (a.client, a.seq) → IsCurrent members spares counts early now hs a
+      → (early since : List Happened) → trace ≡ early ++ since → IsUnasked members spares counts early (a.client, a.seq) → IsCurrent members spares counts early now hs a
   current now later split p is a there given early since early_split unread = by_place (before_or_in y.first y.later g.before g.came (g.after ++ tail) (sym y.split ∙ whole))
     where
       n : Reached members spares counts now hs

@@ -29,7 +29,7 @@ use Rattle.op_cluster_laws.specs.Traces.{Happened, lived_at}
 use Rattle.op_cluster_laws.specs.Clusters.{IsCluster}
 use Rattle.op_cluster_laws.specs.Currency.{WasAskedOf}
 use Rattle.op_cluster_laws.specs.Worlds.{IsFrom, IsMoment, IsRun, DeliveriesWereGiven, AreFirst, NodesAgree, OfClusters, ClustersAreRuns}
-use Rattle.op_cluster_laws.specs.Becoming.{sent, told_line, Numbered, BecomeBehind}
+use Rattle.op_cluster_laws.specs.Becoming.{sent_between, told_line, Numbered, BecomeBehind}
 use Rattle.op_cluster_laws.proofs.Answering.{all_found}
 use Rattle.op_cluster_laws.specs.Orders.{ClientsTakeReplies, IsAnswer, IsServedBefore, AnswersComeFirst}
 use Rattle.op_cluster_laws.proofs.Proposing.{commands_in, proposed_run}
@@ -169,7 +169,7 @@ pub record Reached (members spares : List ℕ) (counts : ℕ → ℕ) (now : Lis
   pub moment : IsMoment members spares counts now first
   pub events : BecomeBehind members spares counts [] [] now first
   pub messages : (p : ℕ) → IsMember (node_ids members spares) p → (d : ℕ) (m : Msg) → Contains (sent_in (lived_at members counts p now).first (lived_at members counts p now).deeds) (d, m)
-      → Numbered (run_of (first_world members spares) first).messages (sent p d m)
+      → Numbered (run_of (first_world members spares) first).messages (sent_between p d m)
   pub lines : (read : Bool) (p : ℕ) → IsMember (node_ids members spares) p → (r : Reply) → Contains (answered_in read (lived_at members counts p now).first (lived_at members counts p now).deeds) r
       → Contains (run_of (first_world members spares) first).lines (told_line read p r)
   pub asked : (c : Command) → IsAmong (commands_in first) c → WasAskedOf members spares counts now (request.Command c)

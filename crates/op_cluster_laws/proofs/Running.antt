@@ -50,7 +50,7 @@ use Rattle.op_cluster_laws.specs.Currency.{WasAskedOf}
 use Rattle.op_cluster_laws.specs.Worlds.{StandsAt, StandTogether, history_after, IsMoment, IsRun, DeliveriesWereGiven}
 use Rattle.op_cluster_laws.proofs.Causing.{replied_push, caused_at, heard_coming}
 use Rattle.op_cluster_laws.proofs.Tracing.{cut_last, lived_own, lived_other, folded_me, first_me, sent_push, unstored_deed, finds_at, Begun, begun_at, IsLinked, linked_alive, linked_ended}
-use Rattle.op_cluster_laws.specs.Becoming.{sent, told_line, Numbered, Says, ticks, delivers, proposes, stops, trims, looks_up, goes_up, goes_down, IsNone, Reopens, Becomes, BecomeBehind}
+use Rattle.op_cluster_laws.specs.Becoming.{sent_between, told_line, Numbered, Says, ticks, delivers, proposes, stops, trims, looks_up, goes_up, goes_down, IsNone, Reopens, EventBecomes, BecomeBehind}
 use Rattle.op_cluster_laws.proofs.Executions.{nobody, silent, says_of, said_numbered, numbered_longer, Longer, NodeIs, Moves, rests, forgets, such, Tells, tells_longer, opened, proposals_more, stored_of, quiet, InputMoves, by_fate}
 use Rattle.op_cluster_laws.proofs.Lists.{Each, each_map}
 use Rattle.op_cluster_laws.proofs.Pending.{InputsSo, pending_event, stored_push, stored_ended, stored_up, link_failed}
@@ -103,8 +103,8 @@ HeardSo p ds e = Unit {0}
 says_fits : (ms : List Sent) (p : ℕ) (ds : List Deed) (who : List ℕ) (i : Input) (w : What) → Says ms p i w → WasHeard p ds who i → IsPid p → length ms < 2 ^ 64
     → WhatInRange w × (proposals_of w ≤ proposed_by i)
 says_fits ms p ds who i w ticks h pid few = (pid, omega arith)
-says_fits ms p ds who i w (delivers {q} {m} k e) h pid few = (let lt = numbered_within ms k (sent q p m) e in omega (arith, lt, few), omega arith)
-says_fits ms p ds who i w (proposes {cs}) h pid few = ((pid, commands_fit ds who cs h.0 h.1 h.2 h.3), omega arith)
+says_fits ms p ds who i w (delivers {q} {m} k e) h pid few = (let lt = numbered_within ms k (sent_between q p m) e in omega (arith, lt, few), omega arith)
+says_fits ms p ds who i w (proposes {cs}) h pid few = ((pid, commands_fit ds who cs h.0 h.1 h.2 h.3 h.4), omega arith)
 says_fits ms p ds who i w (stops {members}) h pid few = ((pid, request_fits ds h.0 (request.Stop members) h.2), omega arith)
 says_fits ms p ds who i w trims h pid few = (pid, omega arith)
 says_fits ms p ds who i w (looks_up {r}) h pid few = ((pid, request_fits ds h.0 (request.Read r) h.2), omega arith)
@@ -122,7 +122,7 @@ asked_among ds (d ∷ who) (x ∷ xs) c l h (inr k) = asked_among ds who xs c (o
 says_asked : (ms : List Sent) (p : ℕ) (ds : List Deed) (who : List ℕ) (i : Input) (w : What) (c : Command) → Says ms p i w → WasHeard p ds who i → IsAmong (commands_of w) c → (conn : ℕ) × WasAsked ds conn (request.Command c)
 says_asked ms p ds who i w c ticks h k = absurd k
 says_asked ms p ds who i w c (delivers n e) h k = absurd k
-says_asked ms p ds who i w c (proposes {cs}) h k = asked_among ds who cs c h.0 h.3 k
+says_asked ms p ds who i w c (proposes {cs}) h k = asked_among ds who cs c h.0 h.4 k
 says_asked ms p ds who i w c stops h k = absurd k
 says_asked ms p ds who i w c trims h k = absurd k
 says_asked ms p ds who i w c looks_up h k = absurd k
@@ -190,7 +190,7 @@ module _ (members spares : List ℕ) (counts : ℕ → ℕ) (ms : MembersInRange
       let k = tells_longer p (Fits now) old new i l t in record { what = k.what; says = k.says; so = fits_later now xs k.what k.so; few = k.few }) is h
 
   -- what was read by now
-  tells_heard : (now : List Happened) (out : List Sent) (p : ℕ) (who : List ℕ) (i : Input) → IsNode p → WasHeard p (L p now).deeds who i → ((q : ℕ) (m : Msg) → i ≡ input.Deliver q m → Numbered out (sent q p m)) → length out < 2 ^ 64
+  tells_heard : (now : List Happened) (out : List Sent) (p : ℕ) (who : List ℕ) (i : Input) → IsNode p → WasHeard p (L p now).deeds who i → ((q : ℕ) (m : Msg) → i ≡ input.Deliver q m → Numbered out (sent_between q p m)) → length out < 2 ^ 64
       → Tells p (Fits now) out i
   tells_heard now out p who i node heard numbered few =
       let ds : List Deed = (L p now).deeds in
@@ -235,7 +235,7 @@ module _ (members spares : List ℕ) (counts : ℕ → ℕ) (ms : MembersInRange
 
   pub record Beside (now : List Happened) (hs : List Happening) : Type 0 where
     pub nodes : StandTogether members spares counts now hs
-    pub messages : (before since : List Happened) → now ≡ before ++ since → (p : ℕ) → IsNode p → (d : ℕ) (m : Msg) → Contains (sent_in (L p before).first (L p before).deeds) (d, m) → Numbered (world hs).messages (sent p d m)
+    pub messages : (before since : List Happened) → now ≡ before ++ since → (p : ℕ) → IsNode p → (d : ℕ) (m : Msg) → Contains (sent_in (L p before).first (L p before).deeds) (d, m) → Numbered (world hs).messages (sent_between p d m)
     pub replies : (read : Bool) (p : ℕ) → IsNode p → (r : Reply) → Contains (answered_in read (L p now).first (L p now).deeds) r → Contains (world hs).lines (told_line read p r)
     pub answers : (read : Bool) (p : ℕ) → IsNode p → (r : Reply) → Contains (answered_in read (L p now).first (L p now).deeds) r → known.ReplyInRange IsPid r
     pub pending : (p : ℕ) → IsNode p → AreTold now (world hs).messages p (pending_in (L p now))
@@ -287,7 +287,7 @@ module _ (members spares : List ℕ) (counts : ℕ → ℕ) (ms : MembersInRange
 
   -- what becomes of the world then
   abbrev Goes : List Happened → World → ℕ → Lived → Event → Type 0
-  Goes now w p l e = Moves w p (Fits now) (proposed_by_all (steps_then l e)) (messages_then l e) (sent_then l e) (answered_then l e) Up (stored_in (lived_by l e)) (Becomes w p l e)
+  Goes now w p l e = Moves w p (Fits now) (proposed_by_all (steps_then l e)) (messages_then l e) (sent_then l e) (answered_then l e) Up (stored_in (lived_by l e)) (EventBecomes w p l e)
 
   -- what may come at a life
   abbrev MayCome : Lived → Event → Type 0
@@ -308,12 +308,12 @@ module _ (members spares : List ℕ) (counts : ℕ → ℕ) (ms : MembersInRange
       stored = subst (NodeIs w p Up) (sym stored_is) s
 
       abbrev Stored : Event → State → Type 0
-      Stored e t = Moves w p F (proposed_by_all (steps_then l e)) (messages_then l e) (sent_then l e) (answered_then l e) Up t (Becomes w p l e)
+      Stored e t = Moves w p F (proposed_by_all (steps_then l e)) (messages_then l e) (sent_then l e) (answered_then l e) Up t (EventBecomes w p l e)
 
-      goes_quiet : (d : Deed) → ((who : List ℕ) (i : Input) (fate : Fate) → d ≡ enters who i fate → ⊥) → ((gs : List Happening) → IsNone gs → Becomes w p l (does d) gs) → Goes now w p l (does d)
+      goes_quiet : (d : Deed) → ((who : List ℕ) (i : Input) (fate : Fate) → d ≡ enters who i fate → ⊥) → ((gs : List Happening) → IsNone gs → EventBecomes w p l (does d) gs) → Goes now w p l (does d)
       goes_quiet d other none = subst (Stored (does d)) (stored_push l d alive)
           (such p F w (proposed_by_all (steps_then l (does d))) (messages_then l (does d)) (given_at (stands l) d).sends (λ read. answers_of read (given_at (stands l) d)) Up
-          (stored_of (after_deed (stands l) d) (unstored_deed (stands l) d (unstored_in l))) IsNone (Becomes w p l (does d)) none
+          (stored_of (after_deed (stands l) d) (unstored_deed (stands l) d (unstored_in l))) IsNone (EventBecomes w p l (does d)) none
           (quiet w p F (crash_fits now p node) (start_fits now p node) (stands l) (unstored_in l) me stored d other (proposed_by_all (steps_then l (does d))) (messages_then l (does d))))
 
       abbrev By : List ℕ → Input → Fate → Type 0
@@ -459,19 +459,19 @@ module _ (members spares : List ℕ) (counts : ℕ → ℕ) (ms : MembersInRange
     replied_event read l (killed bs) y c = inl c
     replied_event read l (opens d count) y c = absurd (omega (arith, c.1))
 
-    now_messages : (p : ℕ) → IsNode p → (d : ℕ) (msg : Msg) → Contains (sent_in (L p (now ++ x ∷ [])).first (L p (now ++ x ∷ [])).deeds) (d, msg) → Numbered (run_of (world hs) m.happenings).messages (sent p d msg)
+    now_messages : (p : ℕ) → IsNode p → (d : ℕ) (msg : Msg) → Contains (sent_in (L p (now ++ x ∷ [])).first (L p (now ++ x ∷ [])).deeds) (d, msg) → Numbered (run_of (world hs) m.happenings).messages (sent_between p d msg)
     now_messages p is d msg c = elim (cases_eq x.pid p) [
       | inl e ↦ elim (sent_event (L p now) x.event (d, msg) (subst (λ (l : Lived). Contains (sent_in l.first l.deeds) (d, msg)) (lived_own members counts p now x e) c)) [
-        | inl old ↦ still (sent p d msg) (b.messages now [] (sym (append-nil now)) p is d msg old)
-        | inr new ↦ subst (λ z. Contains {X = ℕ × Msg} (sent_then (L z now) x.event) (d, msg) → Numbered (run_of (world hs) m.happenings).messages (sent z d msg)) e (m.given d msg) new
+        | inl old ↦ still (sent_between p d msg) (b.messages now [] (sym (append-nil now)) p is d msg old)
+        | inr new ↦ subst (λ z. Contains {X = ℕ × Msg} (sent_then (L z now) x.event) (d, msg) → Numbered (run_of (world hs) m.happenings).messages (sent_between z d msg)) e (m.given d msg) new
       ]
-      | inr n ↦ still (sent p d msg) (b.messages now [] (sym (append-nil now)) p is d msg (subst (λ (l : Lived). Contains (sent_in l.first l.deeds) (d, msg)) (lived_other members counts p now x n) c))
+      | inr n ↦ still (sent_between p d msg) (b.messages now [] (sym (append-nil now)) p is d msg (subst (λ (l : Lived). Contains (sent_in l.first l.deeds) (d, msg)) (lived_other members counts p now x n) c))
     ]
 
-    next_messages : (before since : List Happened) → now ++ x ∷ [] ≡ before ++ since → (p : ℕ) → IsNode p → (d : ℕ) (msg : Msg) → Contains (sent_in (L p before).first (L p before).deeds) (d, msg) → Numbered (world (hs ++ m.happenings)).messages (sent p d msg)
-    next_messages before since e p is d msg c = subst (λ v. Numbered v.messages (sent p d msg)) (sym all) (elim (cut_last now x before since e) [
+    next_messages : (before since : List Happened) → now ++ x ∷ [] ≡ before ++ since → (p : ℕ) → IsNode p → (d : ℕ) (msg : Msg) → Contains (sent_in (L p before).first (L p before).deeds) (d, msg) → Numbered (world (hs ++ m.happenings)).messages (sent_between p d msg)
+    next_messages before since e p is d msg c = subst (λ v. Numbered v.messages (sent_between p d msg)) (sym all) (elim (cut_last now x before since e) [
       | inl whole ↦ now_messages p is d msg (subst (λ l. Contains (sent_in (L p l).first (L p l).deeds) (d, msg)) whole.1 c)
-      | inr part ↦ still (sent p d msg) (b.messages before part.0 part.1 p is d msg c)
+      | inr part ↦ still (sent_between p d msg) (b.messages before part.0 part.1 p is d msg c)
     ])
 
     next_replies : (read : Bool) (p : ℕ) → IsNode p → (r : Reply) → Contains (answered_in read (L p (now ++ x ∷ [])).first (L p (now ++ x ∷ [])).deeds) r → Contains (world (hs ++ m.happenings)).lines (told_line read p r)
@@ -526,7 +526,7 @@ module _ (members spares : List ℕ) (counts : ℕ → ℕ) (ms : MembersInRange
       | inr new ↦ all_read now m.happenings r m.are new
     ])
 
-    one_more : (gs : List Happening) × Beside (now ++ x ∷ []) (hs ++ gs) × Becomes (world hs) x.pid (L x.pid now) x.event gs
+    one_more : (gs : List Happening) × Beside (now ++ x ∷ []) (hs ++ gs) × EventBecomes (world hs) x.pid (L x.pid now) x.event gs
     one_more = (
       m.happenings,
       record {
@@ -564,14 +564,14 @@ module _ (members spares : List ℕ) (counts : ℕ → ℕ) (ms : MembersInRange
     can_then : (now : List Happened) (hs : List Happening) → Beside now hs → (r : ℕ) → IsNode r → (before since : List Happened) → now ≡ before ++ since → CanBeRead r (L r before).first (L r before).deeds
     can_then now hs b r is before since split d msg there fits =
         let k = b.messages before since split r is d msg there in
-        can_be_read (sent r d msg) (numbered_all (SentInRange IsPid) (world hs).messages k.0 (sent r d msg) (all_runs_stay members spares ms ss hs b.range).messages k.1) fits
+        can_be_read (sent_between r d msg) (numbered_all (SentInRange IsPid) (world hs).messages k.0 (sent_between r d msg) (all_runs_stay members spares ms ss hs b.range).messages k.1) fits
 
     read_then : (now later : List Happened) (hs : List Happening) → trace ≡ now ++ later → Beside now hs → (p q : ℕ) (msg : Msg) → IsNode p → WasRead p (L p now).deeds q msg
         → IsNode q × ((before since : List Happened) × (now ≡ before ++ since) × Contains (sent_in (L q before).first (L q before).deeds) (p, msg))
     read_then now later hs split b p q msg is was = read_was_given members spares counts trace c now later split (can_then now hs b) p q msg is was
 
     numbered_then : (now later : List Happened) (hs : List Happening) → trace ≡ now ++ later → Beside now hs → (p : ℕ) → IsNode p → (who : List ℕ) (i : Input) → WasHeard p (L p now).deeds who i
-        → (q : ℕ) (msg : Msg) → i ≡ input.Deliver q msg → Numbered (world hs).messages (sent q p msg)
+        → (q : ℕ) (msg : Msg) → i ≡ input.Deliver q msg → Numbered (world hs).messages (sent_between q p msg)
     numbered_then now later hs split b p is who i heard q msg e =
         let g = read_then now later hs split b p q msg is (subst (λ z. WasHeard p (L p now).deeds who z) e heard) in
         b.messages g.1.0 g.1.1 g.1.2 q g.0 p msg g.1.3
@@ -653,7 +653,7 @@ module _ (members spares : List ℕ) (counts : ℕ → ℕ) (ms : MembersInRange
     here_beside : (now : List Happened) (hs : List Happening) → Beside now hs → Beside (now ++ []) (hs ++ [])
     here_beside now hs b = subst (λ l. Beside l (hs ++ [])) (sym (append-nil now)) (subst (λ l. Beside now l) (sym (append-nil hs)) b)
 
-    later_moments : (before mid : List Happened) (hs : List Happening) (x : Happened) → Beside before hs → (one gs : List Happening) → Becomes (world hs) x.pid (L x.pid before) x.event one
+    later_moments : (before mid : List Happened) (hs : List Happening) (x : Happened) → Beside before hs → (one gs : List Happening) → EventBecomes (world hs) x.pid (L x.pid before) x.event one
         → Moments (before ++ x ∷ []) (hs ++ one) mid gs → Moments before hs (x ∷ mid) (one ++ gs)
     later_moments before mid hs x b one gs made k [] rest e = ([], one ++ gs, refl, here_beside before hs b, refl)
     later_moments before mid hs x b one gs made k (y ∷ now) rest e =
@@ -666,7 +666,7 @@ module _ (members spares : List ℕ) (counts : ℕ → ℕ) (ms : MembersInRange
           subst (λ z. Become before hs (z ∷ now) (one ++ j.0)) (head_is x y mid (now ++ rest) e) (one, j.0, refl, made, j.4),
         )
 
-    run_behind : (before mid : List Happened) (hs : List Happening) (x : Happened) → Beside before hs → (one : List Happening) → Becomes (world hs) x.pid (L x.pid before) x.event one → Run (before ++ x ∷ []) (hs ++ one) mid
+    run_behind : (before mid : List Happened) (hs : List Happening) (x : Happened) → Beside before hs → (one : List Happening) → EventBecomes (world hs) x.pid (L x.pid before) x.event one → Run (before ++ x ∷ []) (hs ++ one) mid
         → Run before hs (x ∷ mid)
     run_behind before mid hs x b one made rest = record {
       more = one ++ rest.more;

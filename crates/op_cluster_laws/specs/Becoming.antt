@@ -17,8 +17,8 @@ use Rattle.op_serving.specs.Inputs.{enters}
 use Rattle.op_cluster_laws.specs.Traces.{Event, does, opens, Happened, Lived, stands, stepped, stored_in, pending_in, lived_at}
 
 -- a message, from one node to another
-abbrev pub sent : ℕ → ℕ → Msg → Sent
-sent from to m = record { from = from; to = to; message = m }
+abbrev pub sent_between : ℕ → ℕ → Msg → Sent
+sent_between from to m = record { from = from; to = to; message = m }
 
 -- it is a message of some number
 abbrev pub Numbered : List Sent → Sent → Type 0
@@ -33,7 +33,7 @@ told_line false p r = answer_line p r.client r.seq r.answer
 -- number
 pub data Says (messages : List Sent) (pid : ℕ) : Input → What → Type 0 where
   ticks : Says messages pid input.Tick (what.Tick pid)
-  delivers : {q : ℕ} {m : Msg} (i : ℕ) → slice_get messages i ≡ Some (sent q pid m)
+  delivers : {q : ℕ} {m : Msg} (i : ℕ) → slice_get messages i ≡ Some (sent_between q pid m)
       → Says messages pid (input.Deliver q m) (what.Deliver i)
   proposes : {cs : _} → Says messages pid (input.Commands cs) (what.Commands pid cs)
   stops : {members : _} → Says messages pid (input.Stop members) (what.Stop pid members)
@@ -43,8 +43,9 @@ pub data Says (messages : List Sent) (pid : ℕ) : Input → What → Type 0 whe
   goes_down : {q : ℕ} → Says messages pid (input.Down q) (what.Down pid q)
 
 -- a happening of this event, with this fate
-abbrev pub happens : What → Fate → Bool → Happening
-happens w fate finds = record { event = record { line = 0; what = w }; fate = fate; finds_after = finds }
+abbrev pub fated_happening : What → Fate → Bool → Happening
+fated_happening w fate finds =
+    record { event = record { line = 0; what = w }; fate = fate; finds_after = finds }
 
 -- ---- what happens at a node
 
@@ -54,7 +55,7 @@ IsNone hs = hs ≡ []
 
 -- a step for this input, which is done
 abbrev pub IsStep : World → ℕ → Input → List Happening → Type 0
-IsStep w p i hs = (x : What) × Says w.messages p i x × (hs ≡ happens x Done false ∷ [])
+IsStep w p i hs = (x : What) × Says w.messages p i x × (hs ≡ fated_happening x Done false ∷ [])
 
 -- steps for these, one after the other
 abbrev pub AreSteps : World → ℕ → List Input → List Happening → Type 0
@@ -65,7 +66,7 @@ AreSteps w p (i ∷ is) hs =
 
 -- a crash and a start
 abbrev pub anew : ℕ → List Happening
-anew p = happens (what.Crash p) Done false ∷ happens (what.Start p) Done false ∷ []
+anew p = fated_happening (what.Crash p) Done false ∷ fated_happening (what.Start p) Done false ∷ []
 
 -- Its disks are opened again, and give this: what it had stored; or what lies behind the inputs that were to
 -- be stored together, which then are steps. It is a crash and a start.
@@ -82,10 +83,10 @@ OfFate w p n s is i (fates.finds d) = Reopens w p s is d
 OfFate w p n s is i _ = IsNone
 
 -- an event at a node in this life
-abbrev pub Becomes : World → ℕ → Lived → Event → List Happening → Type 0
-Becomes w p l (does (enters who i fate)) = OfFate w p (stands l) (stored_in l) (pending_in l) i fate
-Becomes w p l (opens d count) = Reopens w p (stored_in l) (pending_in l) d
-Becomes w p l _ = IsNone
+abbrev pub EventBecomes : World → ℕ → Lived → Event → List Happening → Type 0
+EventBecomes w p l (does (enters who i fate)) = OfFate w p (stands l) (stored_in l) (pending_in l) i fate
+EventBecomes w p l (opens d count) = Reopens w p (stored_in l) (pending_in l) d
+EventBecomes w p l _ = IsNone
 
 -- ---- a trace
 
@@ -95,6 +96,6 @@ abbrev pub BecomeBehind : List ℕ → List ℕ → (ℕ → ℕ) → List Happe
 BecomeBehind members spares faulted before hs [] gs = IsNone gs
 BecomeBehind members spares faulted before hs (x ∷ xs) gs =
     (first rest : List Happening) × (gs ≡ first ++ rest)
-    × Becomes (run_of (first_world members spares) hs) x.pid (lived_at members faulted x.pid before)
+    × EventBecomes (run_of (first_world members spares) hs) x.pid (lived_at members faulted x.pid before)
     x.event first
     × BecomeBehind members spares faulted (before ++ x ∷ []) (hs ++ first) xs rest

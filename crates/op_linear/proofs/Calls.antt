@@ -1,4 +1,4 @@
--- What clients of a cluster see is linearizable: its run has one history, by which all answers are given.
+-- What clients of a cluster see is linearizable until clients are forgotten: its run has one history, by which all answers are given.
 use Rattle.std.proofs.Common.{◌≡◌, ◌≤◌, ℕ, Bool, true, false, List, [], ◌∷◌, ◌++◌, map, length, Option, Some, None, refl, sym, ◌∙◌, ap, subst, arith, append_assoc, inl, inr, if◌then◌else◌}
 use Rattle.std.specs.Prelude.{take, drop}
 use Rattle.std.proofs.lemmas.List.{take-append-drop, take-take, take_all}
@@ -38,13 +38,17 @@ use Rattle.op_cluster_laws.specs.Traces.{Happened, Lived, lived_at}
 use Rattle.op_cluster_laws.specs.Worlds.{history_after}
 use Rattle.op_cluster_laws.proofs.Current.{contains_among}
 use Rattle.op_cluster_laws.proofs.Reaching.{served_answer}
-use Rattle.op_linear.specs.Calls.{IsRequested, IsAnswered, ClustersAreLinearizable}
-use Rattle.op_linear.specs.Histories.{key_of, IsHistory}
-use Rattle.op_linear.specs.Linear.{IsSeen, IsLinearAt, IsLinear}
-use Rattle.op_linear.specs.Linearizable.{Call, commands, reads, calls, returns, IsResult, History, Linearizable}
+use Rattle.op_linear.specs.Apart.{LetsAgain, ClustersLetAgain}
+use Rattle.op_linear.specs.Calls.{IsRequested, IsGivenOut, IsClientHistory, ClustersAreLinearizable}
+use Rattle.op_linear.specs.Forgetting.{IsForgetOf, ForgetsCaller, LinearizableUntil, NoneLets}
+use Rattle.op_linear.specs.Histories.{call_key}
+use Rattle.op_linear.specs.Linear.{IsSeen, IsLinearAt}
+use Rattle.op_linear.specs.Linearizable.{ClientCall, commands, reads, calls, returns, IsResult, History, Linearizable}
 use Rattle.op_linear.proofs.Effects.{served_effect}
-use Rattle.op_linear.proofs.Linear.{clusters_are_linear}
-use Rattle.op_linear.proofs.Linearizing.{EffectAt, SeenAt, is_linearizable}
+use Rattle.op_linear.proofs.Apart.{come_in_order}
+use Rattle.op_linear.proofs.Linear.{LinearRun, linear_run}
+use Rattle.op_linear.proofs.Linearizing.{EffectAt, SeenAt, is_until}
+use Rattle.op_linear.proofs.Plain.{is_linearizable}
 use Rattle.op_linear.proofs.Weaving.{placed, same_read, same_command}
 
 -- ---- a result of a read is a value, or that there is none
@@ -118,28 +122,31 @@ result_answers (answer.Dropped why) i = absurd i
 -- ---- a cluster
 
 module _ (members spares : List ℕ) (ms : MembersInRange members) (ss : SparesInRange members spares) (faulted : ℕ → ℕ) (trace : List Happened) (c : IsCluster members spares faulted trace) where
-  abbrev requested : ℕ → Call → Type 0
+  abbrev requested : ℕ → ClientCall → Type 0
   requested = IsRequested members spares faulted trace
 
-  abbrev answered : ℕ → Call → Answer → Type 0
-  answered = IsAnswered members spares faulted trace
+  abbrev answered : ℕ → ClientCall → Answer → Type 0
+  answered = IsGivenOut members spares faulted trace
 
-  linear : IsLinear members spares faulted trace
-  linear = clusters_are_linear members spares ms ss faulted trace c
+  linear : LinearRun members spares faulted trace
+  linear = linear_run members spares ms ss faulted trace c
 
   abbrev at : ℕ → List Happening
-  at = linear.2.0
+  at = linear.at
+
+  abbrev hs : List Happening
+  hs = linear.happenings
 
   abbrev whole : List Entry
-  whole = history_after members spares linear.0
+  whole = history_after members spares hs
 
   abbrev cut : ℕ → List Entry
   cut k = history_after members spares (at k)
 
-  each : (k : ℕ) → IsLinearAt members spares faulted trace linear.0 at k
-  each k = linear.2.1 k
+  each : (k : ℕ) → IsLinearAt members spares faulted trace hs at k
+  each k = linear.each k
 
-  later : (j k : ℕ) (x : Call) → j ≤ k → requested j x → requested k x
+  later : (j k : ℕ) (x : ClientCall) → j ≤ k → requested j x → requested k x
   later j k x le r =
       let more : List Happened = drop j (take k trace) in
       let on : take k trace ≡ take j trace ++ more = sym (take-append-drop j (take k trace)) ∙ ap (λ l. l ++ more) (take-take j k trace le) in
@@ -148,12 +155,24 @@ module _ (members spares : List ℕ) (ms : MembersInRange members) (ss : SparesI
   asked_ever : (b : Command) → IsAmong whole (entry.Command b) → (k : ℕ) × requested k (commands b)
   asked_ever b k = (
     length trace,
-    subst (λ l. WasAskedOf members spares faulted l (request.Command b)) (sym (take_all (length trace) trace (omega arith))) (linear.3 b k),
+    subst (λ l. WasAskedOf members spares faulted l (request.Command b)) (sym (take_all (length trace) trace (omega arith))) (linear.asked b k),
   )
 
-  module _ (h : History) (clients : IsHistory requested answered h) where
+  -- who forgets the client of a command between two of its places lets it come again
+  lets : (b f : Command) (before mid late : List Entry) → whole ≡ before ++ entry.Command b ∷ (mid ++ entry.Command f ∷ late) → IsForgetOf b.client f → IsAmong late (entry.Command b)
+      → LetsAgain members spares hs f (commands b)
+  lets b f before mid late e is k = (
+    is,
+    come_in_order members spares hs linear.run.meets b f (before ++ entry.Command b ∷ []) (mid ++ entry.Command f ∷ late) (e ∙ sym (append_assoc before (entry.Command b ∷ []) (mid ++ entry.Command f ∷ late)))
+        (in_right (entry.Command b) before (entry.Command b ∷ []) (inl refl)) (in_right (entry.Command f) mid (entry.Command f ∷ late) (inl refl)),
+    come_in_order members spares hs linear.run.meets f b (before ++ entry.Command b ∷ (mid ++ entry.Command f ∷ [])) late
+        (e ∙ ap (λ l. before ++ entry.Command b ∷ l) (sym (append_assoc mid (entry.Command f ∷ []) late)) ∙ sym (append_assoc before (entry.Command b ∷ (mid ++ entry.Command f ∷ [])) late))
+        (in_right (entry.Command f) before (entry.Command b ∷ (mid ++ entry.Command f ∷ [])) (inr (in_right (entry.Command f) mid (entry.Command f ∷ []) (inl refl)))) k,
+  )
+
+  module _ (h : History) (clients : IsClientHistory members spares faulted trace h) where
     -- what returns was called
-    returns_called : (x : Call) (a : Answer) → IsAmong h (returns x a) → IsAmong h (calls x)
+    returns_called : (x : ClientCall) (a : Answer) → IsAmong h (returns x a) → IsAmong h (calls x)
     returns_called x a k =
         let p = placed (returns x a) h k in
         subst (λ l. IsAmong l (calls x)) (sym p.2) (in_left (calls x) p.0 (returns x a ∷ p.1) (clients.matched p.0 p.1 x a p.2))
@@ -173,7 +192,7 @@ module _ (members spares : List ℕ) (ms : MembersInRange members) (ss : SparesI
             let d : Command = f.command in
             let there : IsAmong (cut n.moment) (entry.Command d) = subst (λ l. IsAmong l (entry.Command d)) (sym f.place) (in_right (entry.Command d) f.before (entry.Command d ∷ f.after) (inl refl)) in
             let was = clients.called n.moment (commands d) ((each n.moment).commands d there) in
-            let key : (d.client, d.seq) ≡ key_of (commands x) = same_pair d.client d.seq n.reply.client n.reply.seq f.client_is f.seq_is ∙ n.key in
+            let key : (d.client, d.seq) ≡ call_key (commands x) = same_pair d.client d.seq n.reply.client n.reply.seq f.client_is f.seq_is ∙ n.key in
             let same : d ≡ x = same_command d x (clients.numbers (commands d) (commands x) was (returns_called (commands x) a called) refl key) in
             subst (λ (z : Command). EffectAt (cut n.moment) z a) same
             (record { before = f.before; after = f.after; place = f.place; takes_it = f.takes_it; answer_is = sym n.is ∙ f.answer_is })
@@ -201,9 +220,28 @@ module _ (members spares : List ℕ) (ms : MembersInRange members) (ss : SparesI
               sees = λ j none. s.sees j (λ q e r. none (subst (λ z. requested j (reads z)) (is_it q j r e) r));
             }
 
-    linearizable : Linearizable h
-    linearizable =
-        is_linearizable requested answered h clients whole cut (λ k. (each k).goes_on) later (λ k b among. (each k).commands b among) asked_ever served seen
+    until : LinearizableUntil (LetsAgain members spares hs) h
+    until =
+        is_until requested answered h clients whole cut (λ k. (each k).goes_on) later (λ k b among. (each k).commands b among) asked_ever served seen (LetsAgain members spares hs) lets
+
+    linearizable : NoneLets (LetsAgain members spares hs) h → Linearizable h
+    linearizable none = is_linearizable h (LetsAgain members spares hs) none until clients.once
+
+-- what lets a command come again forgets its client
+forgets_caller : (members spares : List ℕ) (hs : List Happening) (f : Command) (x : ClientCall) → LetsAgain members spares hs f x → ForgetsCaller f x
+forgets_caller members spares hs f (commands b) l = l.0
+forgets_caller members spares hs f (reads r) l = l
 
 pub clusters_are_linearizable : ClustersAreLinearizable
-clusters_are_linearizable members spares ms ss faulted trace c h clients = linearizable members spares ms ss faulted trace c h clients
+clusters_are_linearizable members spares ms ss faulted trace c h clients none =
+    linearizable members spares ms ss faulted trace c h clients
+    (λ f x k m l. none f x k m (forgets_caller members spares (hs members spares ms ss faulted trace c) f x l))
+
+pub clusters_let_again : ClustersLetAgain
+clusters_let_again members spares ms ss faulted trace c =
+    let r : LinearRun members spares faulted trace = linear members spares ms ss faulted trace c in (
+      r.happenings,
+      r.run,
+      r.events,
+      λ h clients. (until members spares ms ss faulted trace c h clients, λ none. linearizable members spares ms ss faulted trace c h clients none),
+    )

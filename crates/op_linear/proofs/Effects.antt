@@ -1,10 +1,10 @@
--- Behind a command of a client its number is kept, and a number that isn't above it changes nothing. So a command takes
--- effect at one place, and each answer that tells a result is that of this place.
-use Rattle.std.proofs.Common.{◌≡◌, ◌≤◌, ◌<◌, ℕ, Bool, true, false, cond, eqb, ltb, nat_lt, List, [], ◌∷◌, ◌++◌, Option, Some, None, refl, sym, ◌∙◌, ap, subst, arith, append_assoc, append-nil, inl, inr}
+-- Behind a command of a client its number is kept until another client forgets it, and a number that isn't above it changes
+-- nothing. Each answer that tells a result is that of a place where the command takes effect.
+use Rattle.std.proofs.Common.{◌≡◌, ◌≤◌, ◌<◌, ℕ, Bool, true, false, cond, eqb, ltb, nat_lt, List, [], ◌∷◌, ◌++◌, Option, Some, None, refl, sym, ◌∙◌, ap, subst, arith, append_assoc, append-nil, ◌⊎◌, inl, inr}
 use Rattle.std.specs.Ordering.{nat_cmp, match_ordering}
 use Rattle.std.specs.declared.cmp.Ordering.{Ordering}
 use Rattle.std.specs.declared.cmp.Ordering.TheVariants.{Less, Equal, Greater}
-use Rattle.std.specs.Map.{lookup}
+use Rattle.std.specs.Map.{lookup, remove_entry}
 use Rattle.std.specs.BTreeMap.{insert_entry, is_at}
 use Rattle.std.proofs.lemmas.Bool.{cond_both, cases_Bool, cases_eq, eq-eqb, ne_eqb, ltb-true, ltb-false, eqb-true, eqb-false}
 use Rattle.op_types.specs.declared.answers.Answer.{Answer}
@@ -14,12 +14,14 @@ use Rattle.op_types.specs.declared.log.Op.{Op}
 use Rattle.op_types.specs.declared.log.Op.TheVariants as op
 use Rattle.op_types.specs.declared.log.Command.{Command}
 use Rattle.op_types.specs.declared.log.Entry.{Entry}
+use Rattle.op_types.specs.declared.log.StopSign.{StopSign}
 use Rattle.op_types.specs.declared.log.Entry.TheVariants as entry
 use Rattle.op_spec.specs.Machine.{IsAmong}
-use Rattle.op_spec.specs.Service.{Pairs, Service, value_at, is_value, told_value, new_service, last_of, effect_answer, answer_by_last, answer_of, service_by_last, service_with, service_with_effect, service_after, all_after, service_of}
+use Rattle.op_spec.specs.Service.{Pairs, Clients, Service, value_at, is_value, told_value, new_service, last_of, forgotten_by, clients_without, effect_answer, answer_by_last, answer_of, service_by_last, service_with, service_with_effect, service_after, all_after, service_of}
 use Rattle.op_runs.specs.Replies.{IsServed}
 use Rattle.op_laws.proofs.Drops.{in_right}
-use Rattle.op_linear.specs.Once.{EffectsComeOnce}
+use Rattle.op_linear.specs.Forgetting.{IsForgetOf}
+use Rattle.op_linear.specs.Once.{NoneForgets, EffectsComeOnce}
 use Rattle.op_linear.specs.Linearizable.{IsResult}
 
 -- ---- a table by numbers
@@ -64,9 +66,88 @@ found_other {X = X} (e ∷ es) m n v apart =
     (λ h. let k = at_other m e.0 (λ same. apart (same ∙ sym h)) in rw k refl)
     (λ h. ap (λ o. cond (is_at (nat_cmp m) e.0) (Some e.1) o) (found_other es m n v apart))
 
+same_at : (n k : ℕ) → is_at (nat_cmp n) k ≡ true → n ≡ k
+same_at n k h = elim (cases_eq n k) [ inl e ↦ e | inr apart ↦ absurd (let bad : true ≡ false = sym h ∙ at_other n k apart in cc) ]
+
+-- what another number has stays where an entry is taken out
+found_beside : {X : Type 0} (es : List (ℕ × X)) (m n : ℕ) → (m ≡ n → ⊥) → lookup (is_at (nat_cmp m)) (remove_entry (is_at (nat_cmp n)) es) ≡ lookup (is_at (nat_cmp m)) es
+found_beside {X = X} [] m n apart = refl
+found_beside {X = X} (e ∷ es) m n apart = by (is_at (nat_cmp n) e.0) refl (found_beside es m n apart)
+  where
+    by : (b : Bool) → is_at (nat_cmp n) e.0 ≡ b → lookup (is_at (nat_cmp m)) (remove_entry (is_at (nat_cmp n)) es) ≡ lookup (is_at (nat_cmp m)) es
+        → lookup (is_at (nat_cmp m)) (cond b es (e ∷ remove_entry (is_at (nat_cmp n)) es)) ≡ lookup (is_at (nat_cmp m)) (e ∷ es)
+    by true h rest = let k = at_other m e.0 (λ same. apart (same ∙ sym (same_at n e.0 h))) in rw k refl
+    by false h rest = ap (λ o. cond (is_at (nat_cmp m) e.0) (Some e.1) o) rest
+
+-- what stands in a table behind one that is put into it, or taken out of it
+among_put : {X : Type 0} (es : List (ℕ × X)) (n : ℕ) (v : X) (x : ℕ × X) → IsAmong (insert_entry nat_cmp es n v) x → ◌≡◌ {A = ℕ × X} (n, v) x ⊎ IsAmong es x
+among_put {X = X} [] n v x (inl is) = inl is
+among_put {X = X} [] n v x (inr none) = absurd none
+among_put {X = X} (e ∷ es) n v x k =
+    by_place (λ l. IsAmong l x → ◌≡◌ {A = ℕ × X} (n, v) x ⊎ IsAmong (e ∷ es) x) n v e es
+    (λ h i. i)
+    (λ h i. elim i [ inl is ↦ inl (ap (λ m. (m, v)) h ∙ is) | inr later ↦ inr (inr later) ])
+    (λ h i. elim i [ inl is ↦ inr (inl is) | inr later ↦ elim (among_put es n v x later) [ inl new ↦ inl new | inr old ↦ inr (inr old) ] ])
+    k
+
+among_left : {X : Type 0} (test : ℕ → Bool) (es : List (ℕ × X)) (x : ℕ × X) → IsAmong (remove_entry test es) x → IsAmong es x
+among_left {X = X} test [] x k = k
+among_left {X = X} test (e ∷ es) x k = by (test e.0) (λ m. among_left test es x m) k
+  where
+    by : (b : Bool) → (IsAmong (remove_entry test es) x → IsAmong es x) → IsAmong (cond b es (e ∷ remove_entry test es)) x → IsAmong (e ∷ es) x
+    by true later m = inr m
+    by false later (inl is) = inl is
+    by false later (inr m) = inr (later m)
+
+among_found : {X : Type 0} (es : List (ℕ × X)) (n : ℕ) (v : X) → lookup (is_at (nat_cmp n)) es ≡ Some v → IsAmong es (n, v)
+among_found {X = X} [] n v h = absurd cc
+among_found {X = X} (e ∷ es) n v h = by (is_at (nat_cmp n) e.0) refl (λ m. among_found es n v m) h
+  where
+    some_is : {a b : X} → Some a ≡ Some b → a ≡ b
+    some_is q = cc
+
+    by : (b : Bool) → is_at (nat_cmp n) e.0 ≡ b → (lookup (is_at (nat_cmp n)) es ≡ Some v → IsAmong es (n, v)) → cond b (Some e.1) (lookup (is_at (nat_cmp n)) es) ≡ Some v → IsAmong (e ∷ es) (n, v)
+    by true t later f = inl (ap (λ m. (m, e.1)) (sym (same_at n e.0 t)) ∙ ap (λ z. (n, z)) (some_is f))
+    by false t later f = inr (later f)
+
+-- ---- who is forgotten
+
+forgotten_is : (m n : ℕ) → Some m ≡ Some n → m ≡ n
+forgotten_is m n e = cc
+
+-- what forgets a client is that operation
+forgets : (o : Op) (client : ℕ) → forgotten_by o ≡ Some client → o ≡ op.Forget client
+forgets (op.Put key value) client e = absurd cc
+forgets (op.Del key) client e = absurd cc
+forgets (op.Get key) client e = absurd cc
+forgets (op.Cas key old new) client e = absurd cc
+forgets (op.Many writes) client e = absurd cc
+forgets (op.Forget target) client e = ap (λ m. op.Forget m) (forgotten_is target client e)
+
+found_without : (o : Option ℕ) (clients : Clients) (m : ℕ) → (o ≡ Some m → ⊥) → lookup (is_at (nat_cmp m)) (clients_without o clients) ≡ lookup (is_at (nat_cmp m)) clients
+found_without None clients m never = refl
+found_without (Some n) clients m never = found_beside clients m n (λ same. never (ap Some (sym same)))
+
+among_without : (o : Option ℕ) (clients : Clients) (x : ℕ × Applied) → IsAmong (clients_without o clients) x → IsAmong clients x
+among_without None clients x k = k
+among_without (Some n) clients x k = among_left (is_at (nat_cmp n)) clients x k
+
+pub forgets_or_not : (client : ℕ) (d : Command) → IsForgetOf client d ⊎ (IsForgetOf client d → ⊥)
+forgets_or_not client d = elim (cases_eq d.client client) [
+  | inl own ↦ inr (λ f. f.1 own)
+  | inr other ↦ by (forgotten_by d.op) refl other
+]
+  where
+    by : (o : Option ℕ) → forgotten_by d.op ≡ o → (d.client ≡ client → ⊥) → IsForgetOf client d ⊎ (IsForgetOf client d → ⊥)
+    by None e other = inr (λ f. (let bad : None ≡ Some client = sym e ∙ ap forgotten_by f.0 in cc))
+    by (Some n) e other = elim (cases_eq n client) [
+      | inl same ↦ inl (forgets d.op client (e ∙ ap Some same), other)
+      | inr apart ↦ inr (λ f. apart (forgotten_is n client (sym e ∙ ap forgotten_by f.0)))
+    ]
+
 -- ---- a client's last number
 
-record Keeps (client n : ℕ) (s : Service) : Type 0 where
+pub record Keeps (client n : ℕ) (s : Service) : Type 0 where
   last : Applied
   there : last_of s client ≡ Some last
   least : n ≤ last.seq
@@ -81,11 +162,11 @@ keeps_still s d n k le =
     ])
 
 -- a command's own number
-keeps_own : (s : Service) (c : Command) → Keeps c.client c.seq (service_with s c)
+pub keeps_own : (s : Service) (c : Command) → Keeps c.client c.seq (service_with s c)
 keeps_own s c = by_last (last_of s c.client) refl
   where
     effect : Keeps c.client c.seq (service_with_effect s c)
-    effect = record { last = _; there = found_own s.clients c.client _; least = omega arith }
+    effect = record { last = _; there = found_own (clients_without (forgotten_by c.op) s.clients) c.client _; least = omega arith }
 
     by_last : (o : Option Applied) → last_of s c.client ≡ o → Keeps c.client c.seq (service_by_last o s c)
     by_last None e = effect
@@ -95,9 +176,9 @@ keeps_own s c = by_last (last_of s c.client) refl
           let still : Keeps c.client c.seq s = record { last = last; there = e; least = omega (arith, le) } in rw h still)
     ]
 
--- it never falls
-keeps_with : (s : Service) (client n : ℕ) (d : Command) → Keeps client n s → Keeps client n (service_with s d)
-keeps_with s client n d k = elim (cases_eq client d.client) [
+-- it never falls, unless the client is forgotten
+pub keeps_with : (s : Service) (client n : ℕ) (d : Command) → (IsForgetOf client d → ⊥) → Keeps client n s → Keeps client n (service_with s d)
+keeps_with s client n d never k = elim (cases_eq client d.client) [
   | inl same ↦ (let own : Keeps d.client d.seq (service_with s d) = keeps_own s d in by_size same own)
   | inr apart ↦ by_last (last_of s d.client) apart
 ]
@@ -106,7 +187,12 @@ keeps_with s client n d k = elim (cases_eq client d.client) [
     by_last o apart = by_effect o
       where
         effect : Keeps client n (service_with_effect s d)
-        effect = record { last = k.last; there = found_other s.clients client d.client _ apart ∙ k.there; least = k.least }
+        effect = record {
+          last = k.last;
+          there = found_other (clients_without (forgotten_by d.op) s.clients) client d.client _ apart
+              ∙ found_without (forgotten_by d.op) s.clients client (λ e. never (forgets d.op client e, λ same. apart (sym same))) ∙ k.there;
+          least = k.least;
+        }
 
         by_effect : (p : Option Applied) → Keeps client n (service_by_last p s d)
         by_effect None = effect
@@ -121,27 +207,30 @@ keeps_with s client n d k = elim (cases_eq client d.client) [
           subst (λ (t : Service). Keeps client n t) (sym (keeps_still s d n at (omega (arith, le)))) k)
     ]
 
-keeps_after : (s : Service) (client n : ℕ) (e : Entry) → Keeps client n s → Keeps client n (service_after s e)
-keeps_after s client n (entry.Command d) k = keeps_with s client n d k
-keeps_after s client n (entry.Stop stop) k = k
-
-keeps_all : (es : List Entry) (s : Service) (client n : ℕ) → Keeps client n s → Keeps client n (all_after s es)
-keeps_all [] s client n k = k
-keeps_all (e ∷ es) s client n k = keeps_all es (service_after s e) client n (keeps_after s client n e k)
+keeps_all : (es : List Entry) (s : Service) (client n : ℕ) → NoneForgets client es → Keeps client n s → Keeps client n (all_after s es)
+keeps_all [] s client n never k = k
+keeps_all (entry.Command d ∷ es) s client n never k = keeps_all es (service_with s d) client n (λ f i. never f (inr i)) (keeps_with s client n d (never d (inl refl)) k)
+keeps_all (entry.Stop stop ∷ es) s client n never k = keeps_all es s client n (λ f i. never f (inr i)) k
 
 pub after_more : (xs ys : List Entry) (s : Service) → all_after s (xs ++ ys) ≡ all_after (all_after s xs) ys
 after_more [] ys s = refl
 after_more (x ∷ xs) ys s = after_more xs ys (service_after s x)
 
-keeps_behind : (before between : List Entry) (c : Command) → Keeps c.client c.seq (service_of (before ++ entry.Command c ∷ between))
-keeps_behind before between c =
+pub after_command : (done : List Entry) (c : Command) → service_of (done ++ entry.Command c ∷ []) ≡ service_with (service_of done) c
+after_command done c = after_more done (entry.Command c ∷ []) new_service
+
+pub after_stop : (done : List Entry) (stop : StopSign) → service_of (done ++ entry.Stop stop ∷ []) ≡ service_of done
+after_stop done stop = after_more done (entry.Stop stop ∷ []) new_service
+
+keeps_behind : (before between : List Entry) (c : Command) → NoneForgets c.client between → Keeps c.client c.seq (service_of (before ++ entry.Command c ∷ between))
+keeps_behind before between c never =
     subst (λ (t : Service). Keeps c.client c.seq t) (sym (after_more before (entry.Command c ∷ between) new_service))
-    (keeps_all between (service_with (service_of before) c) c.client c.seq (keeps_own (service_of before) c))
+    (keeps_all between (service_with (service_of before) c) c.client c.seq never (keeps_own (service_of before) c))
 
 pub effects_come_once : EffectsComeOnce
-effects_come_once before between c d same le =
+effects_come_once before between c d same le never =
     keeps_still (service_of (before ++ entry.Command c ∷ between)) d c.seq
-    (subst (λ (q : ℕ). Keeps q c.seq (service_of (before ++ entry.Command c ∷ between))) (sym same) (keeps_behind before between c)) le
+    (subst (λ (q : ℕ). Keeps q c.seq (service_of (before ++ entry.Command c ∷ between))) (sym same) (keeps_behind before between c never)) le
 
 -- ---- where a command takes effect
 
@@ -167,11 +256,9 @@ takes_none s c h = by (last_of s c.client) h
     by None k = absurd (let bad : true ≡ false = k in cc)
     by (Some last) k = rw k refl
 
--- behind a command of its client with its number, or a higher one, a command takes none
-pub takes_once : (before between : List Entry) (c d : Command) → d.client ≡ c.client → d.seq ≤ c.seq → takes (service_of (before ++ entry.Command c ∷ between)) d ≡ true → ⊥
-takes_once before between c d same le h =
-    let k : Keeps d.client c.seq (service_of (before ++ entry.Command c ∷ between)) =
-    subst (λ (q : ℕ). Keeps q c.seq (service_of (before ++ entry.Command c ∷ between))) (sym same) (keeps_behind before between c) in
+-- where its client's number is kept, or a higher one, it takes none
+pub keeps_out : (s : Service) (d : Command) (n : ℕ) → Keeps d.client n s → d.seq ≤ n → takes s d ≡ true → ⊥
+keeps_out s d n k le h =
     let t : nat_lt k.last.seq d.seq ≡ true = sym (ap (λ o. takes_by o d) k.there) ∙ h in
     let lt = ltb-true k.last.seq d.seq t in
     let a = k.least in
@@ -202,45 +289,38 @@ effect_more es more client seq a e = record {
 
 -- what is kept of a client is the answer of such a place
 abbrev AreKept : List Entry → Type 0
-AreKept es = (client : ℕ) (last : Applied) → last_of (service_of es) client ≡ Some last → HasEffect es client last.seq last.answer
-
-some_is : {A : Type 0} {a b : A} → Some a ≡ Some b → a ≡ b
-some_is e = cc
+AreKept es = (x : ℕ × Applied) → IsAmong (service_of es).clients x → HasEffect es x.0 (x.1).seq (x.1).answer
 
 kept_last : (es : List Entry) (e : Entry) → AreKept es → AreKept (es ++ e ∷ [])
-kept_last es (entry.Stop stop) k client last h =
-    effect_more es (entry.Stop stop ∷ []) client last.seq last.answer (k client last (sym (ap (λ (t : Service). last_of t client) (after_more es (entry.Stop stop ∷ []) new_service)) ∙ h))
-kept_last es (entry.Command c) k client last h = by (takes s c) refl
+kept_last es (entry.Stop stop) k x i =
+    effect_more es (entry.Stop stop ∷ []) x.0 (x.1).seq (x.1).answer (k x (subst (λ (t : Service). IsAmong t.clients x) (after_stop es stop) i))
+kept_last es (entry.Command c) k x i = by (takes s c) refl
   where
     s : Service
     s = service_of es
 
-    here : last_of (service_with s c) client ≡ Some last
-    here = sym (ap (λ (t : Service). last_of t client) (after_more es (entry.Command c ∷ []) new_service)) ∙ h
+    here : IsAmong (service_with s c).clients x
+    here = subst (λ (t : Service). IsAmong t.clients x) (after_command es c) i
 
-    old : last_of s client ≡ Some last → HasEffect (es ++ entry.Command c ∷ []) client last.seq last.answer
-    old e = effect_more es (entry.Command c ∷ []) client last.seq last.answer (k client last e)
+    old : IsAmong s.clients x → HasEffect (es ++ entry.Command c ∷ []) x.0 (x.1).seq (x.1).answer
+    old m = effect_more es (entry.Command c ∷ []) x.0 (x.1).seq (x.1).answer (k x m)
 
-    by : (b : Bool) → takes s c ≡ b → HasEffect (es ++ entry.Command c ∷ []) client last.seq last.answer
-    by false t = old (sym (ap (λ (z : Service). last_of z client) (takes_none s c t)) ∙ here)
+    by : (b : Bool) → takes s c ≡ b → HasEffect (es ++ entry.Command c ∷ []) x.0 (x.1).seq (x.1).answer
+    by false t = old (subst (λ (z : Service). IsAmong z.clients x) (takes_none s c t) here)
     by true t =
-        let new : last_of (service_with_effect s c) client ≡ Some last = sym (ap (λ (z : Service). last_of z client) (takes_effect s c t)) ∙ here in
-        elim (cases_eq client c.client) [
-          | inl same ↦ (
-              let own : last_of (service_with_effect s c) client ≡ Some (record { seq = c.seq; answer = effect_answer c.op s.pairs }) =
-              ap (λ q. last_of (service_with_effect s c) q) same ∙ found_own s.clients c.client (record { seq = c.seq; answer = effect_answer c.op s.pairs }) in
-              let is : record { seq = c.seq; answer = effect_answer c.op s.pairs } ≡ last = some_is (sym own ∙ new) in
-              record {
-                before = es;
-                command = c;
-                after = [];
-                place = refl;
-                client_is = sym same;
-                seq_is = ap (λ (z : Applied). z.seq) is;
-                takes_it = t;
-                answer_is = sym (ap (λ (z : Applied). z.answer) is);
-              })
-          | inr apart ↦ old (sym (found_other s.clients client c.client (record { seq = c.seq; answer = effect_answer c.op s.pairs }) apart) ∙ new)
+        let new : IsAmong (service_with_effect s c).clients x = subst (λ (z : Service). IsAmong z.clients x) (takes_effect s c t) here in
+        elim (among_put (clients_without (forgotten_by c.op) s.clients) c.client (record { seq = c.seq; answer = effect_answer c.op s.pairs }) x new) [
+          | inl is ↦ record {
+            before = es;
+            command = c;
+            after = [];
+            place = refl;
+            client_is = ap (λ (z : ℕ × Applied). z.0) is;
+            seq_is = ap (λ (z : ℕ × Applied). (z.1).seq) is;
+            takes_it = t;
+            answer_is = sym (ap (λ (z : ℕ × Applied). (z.1).answer) is);
+          }
+          | inr m ↦ old (among_without (forgotten_by c.op) s.clients x m)
         ]
 
 kept_all : (es more : List Entry) → AreKept es → AreKept (es ++ more)
@@ -248,7 +328,10 @@ kept_all es [] k = subst AreKept (sym (append-nil es)) k
 kept_all es (e ∷ more) k = subst AreKept (append_assoc es (e ∷ []) more) (kept_all (es ++ e ∷ []) more (kept_last es e k))
 
 are_kept : (es : List Entry) → AreKept es
-are_kept es = kept_all [] es (λ client last h. absurd cc)
+are_kept es = kept_all [] es (λ x i. absurd i)
+
+last_kept : (es : List Entry) (client : ℕ) (last : Applied) → last_of (service_of es) client ≡ Some last → HasEffect es client last.seq last.answer
+last_kept es client last e = are_kept es (client, last) (among_found (service_of es).clients client last e)
 
 -- a result that the service tells is that of a place where a command of this key takes effect
 pub served_effect : (es : List Entry) (client seq : ℕ) (a : Answer) → IsResult a → IsServed es client seq a → HasEffect es client seq a
@@ -274,7 +357,7 @@ served_effect es client seq a result r = by_last (last_of s c.client) refl
 
     again : (last : Applied) → last_of s c.client ≡ Some last → c.seq ≡ last.seq → a ≡ last.answer → HasEffect es client seq a
     again last e same is =
-        let k = effect_more r.before (entry.Command c ∷ r.after) c.client last.seq last.answer (are_kept r.before c.client last e) in
+        let k = effect_more r.before (entry.Command c ∷ r.after) c.client last.seq last.answer (last_kept r.before c.client last e) in
         subst (λ (l : List Entry). HasEffect l client seq a) (sym r.place)
         (subst (λ (q : ℕ). HasEffect (r.before ++ entry.Command c ∷ r.after) q seq a) r.client_is
         (subst (λ (q : ℕ). HasEffect (r.before ++ entry.Command c ∷ r.after) c.client q a) (sym same ∙ r.seq_is)
@@ -314,6 +397,8 @@ effect_fresh (op.Cas key old new) pairs e = by (is_value old (value_at key pairs
     by : (b : Bool) → cond b answer.Done (told_value (value_at key pairs)) ≡ answer.Stale → ⊥
     by true k = absurd cc
     by false k = told_fresh (value_at key pairs) k
+effect_fresh (op.Many writes) pairs e = absurd cc
+effect_fresh (op.Forget client) pairs e = absurd cc
 
 -- A command is stale behind one of its client with a higher number.
 abbrev pub IsPast : List Entry → ℕ → ℕ → Type 0
@@ -333,7 +418,7 @@ stale_past es client seq r = by_last (last_of s c.client) refl
 
     higher : (last : Applied) → last_of s c.client ≡ Some last → nat_lt last.seq c.seq ≡ false → (c.seq ≡ last.seq → ⊥) → IsPast es client seq
     higher last e h apart =
-        let k = are_kept r.before c.client last e in
+        let k = last_kept r.before c.client last e in
         let le = ltb-false last.seq c.seq h in
         let own = r.seq_is in
         let is = k.seq_is in
@@ -347,7 +432,7 @@ stale_past es client seq r = by_last (last_of s c.client) refl
         )
 
     same : (last : Applied) → last_of s c.client ≡ Some last → answer.Stale ≡ last.answer → IsPast es client seq
-    same last e is = let k = are_kept r.before c.client last e in absurd (effect_fresh k.command.op (service_of k.before).pairs (sym k.answer_is ∙ sym is))
+    same last e is = let k = last_kept r.before c.client last e in absurd (effect_fresh k.command.op (service_of k.before).pairs (sym k.answer_is ∙ sym is))
 
     by_last : (o : Option Applied) → last_of s c.client ≡ o → IsPast es client seq
     by_last None e = never (sym (ap (λ z. answer_by_last z s c) e))

@@ -1,8 +1,11 @@
 pub mod Effects
 pub mod Maps
 pub mod Weaving
+pub mod Mapped
 pub mod Linearizing
+pub mod Plain
 pub mod Linear
+pub mod Apart
 pub mod Calls
 pub mod Seen
 pub mod Tracks

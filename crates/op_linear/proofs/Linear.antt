@@ -24,7 +24,8 @@ use Rattle.op_laws.proofs.Histories.{history_grows}
 use Rattle.op_laws.proofs.Reached.{world_of_run, execution_append}
 use Rattle.op_read_laws.specs.Told.{IsGiven, ToldFresh}
 use Rattle.op_read_laws.proofs.ReadsTold.{every_line_is_fresh}
-use Rattle.op_cluster_laws.specs.Currency.{WasAskedOf, IsUnread}
+use Rattle.op_cluster_laws.specs.Becoming.{BecomeBehind}
+use Rattle.op_cluster_laws.specs.Currency.{WasAskedOf, IsUnasked}
 use Rattle.op_cluster_laws.specs.Outputs.{answered_in}
 use Rattle.op_cluster_laws.specs.Traces.{Happened, lived_at}
 use Rattle.op_cluster_laws.specs.Worlds.{history_after, AreFirst, IsRun, OfClusters}
@@ -117,7 +118,7 @@ module _ (members spares : List ℕ) (ms : MembersInRange members) (ss : SparesI
     whole_then : hs ≡ g.before ++ g.came ∷ (g.after ++ (f.after ++ n.later))
     whole_then = n.split ∙ ap (λ l. l ++ n.later) front ∙ append_assoc g.before (g.came ∷ (g.after ++ f.after)) n.later ∙ ap (λ l. g.before ++ g.came ∷ l) (append_assoc g.after f.after n.later)
 
-    by_place : (j : ℕ) → IsUnread members spares counts (take j trace) (a.client, a.seq)
+    by_place : (j : ℕ) → IsUnasked members spares counts (take j trace) (a.client, a.seq)
         → ((us : List Happening) × (g.before ≡ (then_at j).first ++ us)) ⊎ ((us : List Happening) × ((then_at j).first ≡ g.before ++ g.came ∷ us))
         → (more : List Entry) × (seen ≡ history_after members spares (then_at j).first ++ more)
     by_place j unread (inr (us, e)) = absurd (unread f.read.asked.read (same_key f.read.asked.read (a.client, a.seq) f.client_is f.seq_is)
@@ -147,11 +148,26 @@ module _ (members spares : List ℕ) (ms : MembersInRange members) (ss : SparesI
     reads = λ p is a there given. seen_at k p is a there given;
   }
 
+-- a cluster is one run with one history, event by event
+pub record LinearRun (members spares : List ℕ) (counts : ℕ → ℕ) (trace : List Happened) : Type 0 where
+  pub happenings : List Happening
+  pub run : IsRun members spares counts trace happenings
+  pub events : BecomeBehind members spares counts [] [] trace happenings
+  pub at : ℕ → List Happening
+  pub each : (k : ℕ) → IsLinearAt members spares counts trace happenings at k
+  pub asked : (b : Command) → IsAmong (history_after members spares happenings) (entry.Command b) → WasAskedOf members spares counts trace (request.Command b)
+
+pub linear_run : OfClusters LinearRun
+linear_run members spares ms ss counts trace c =
+    let k = always_reached members spares ms ss counts trace c in record {
+      happenings = k.0;
+      run = k.1;
+      events = k.4;
+      at = at members spares ms ss counts trace k.0 k.1 k.2;
+      each = λ n. linear_at members spares ms ss counts trace k.0 k.1 k.2 n;
+      asked = λ b among. k.3 b (commands_there members spares ms ss counts trace k.0 k.1 k.2 k.0 [] (sym (append-nil k.0)) b among);
+    }
+
 pub clusters_are_linear : OfClusters IsLinear
 clusters_are_linear members spares ms ss counts trace c =
-    let k = always_reached members spares ms ss counts trace c in (
-      k.0,
-      k.1,
-      (at members spares ms ss counts trace k.0 k.1 k.2, λ n. linear_at members spares ms ss counts trace k.0 k.1 k.2 n),
-      λ b among. k.3 b (commands_there members spares ms ss counts trace k.0 k.1 k.2 k.0 [] (sym (append-nil k.0)) b among),
-    )
+    let r : LinearRun members spares counts trace = linear_run members spares ms ss counts trace c in (r.happenings, r.run, (r.at, r.each), r.asked)

@@ -1,5 +1,5 @@
 -- A service's pairs are a map: an operation makes of both the same, and is answered the same.
-use Rattle.std.proofs.Common.{◌≡◌, ℕ, Bool, true, false, cond, List, [], Some, None, refl, sym, ◌∙◌, ap, bytes_eq}
+use Rattle.std.proofs.Common.{◌≡◌, ℕ, Bool, true, false, cond, List, [], ◌∷◌, fold, Some, None, refl, sym, ◌∙◌, ap, bytes_eq}
 use Rattle.std.specs.Ordering.{nat_cmp}
 use Rattle.std.specs.Cmp.Lexicographic.{slice_cmp}
 use Rattle.std.specs.List.Sorted.{IsStrictlySortedBy}
@@ -10,10 +10,12 @@ use Rattle.std.proofs.lemmas.Map.Text.{is_eq-slice_cmp}
 use Rattle.op_types.specs.declared.answers.Answer.TheVariants as answer
 use Rattle.op_types.specs.declared.log.Op.{Op}
 use Rattle.op_types.specs.declared.log.Op.TheVariants as op
-use Rattle.op_spec.specs.Service.{Pairs, value_at, is_value, told_value, pairs_after, effect_answer}
+use Rattle.op_types.specs.declared.writes.Write.{Write}
+use Rattle.op_types.specs.declared.writes.Write.TheVariants as write
+use Rattle.op_spec.specs.Service.{Pairs, value_at, is_value, told_value, pairs_written, all_written, pairs_after, effect_answer}
 use Rattle.op_kv.proofs.Entries.{rises-insert_entry, find-insert_entry}
 use Rattle.op_kv.proofs.Deletes.{rises-remove_entry, find-remove_entry}
-use Rattle.op_linear.specs.Linearizable.{Map, empty_map, map_with, map_after, map_answer}
+use Rattle.op_linear.specs.Linearizable.{Map, empty_map, map_with, map_written, map_after, map_answer}
 
 -- The map has the pairs' values, and the pairs are in order.
 pub record Agrees (m : Map) (pairs : Pairs) : Type 0 where
@@ -40,6 +42,14 @@ without_value m pairs key a = record {
   rises = rises-remove_entry nat_list_cmp_total (is_at (slice_cmp nat_cmp key)) pairs a.rises;
 }
 
+written_alike : (w : Write) (m : Map) (pairs : Pairs) → Agrees m pairs → Agrees (map_written m w) (pairs_written pairs w)
+written_alike (write.Put key value) m pairs a = with_value m pairs key value a
+written_alike (write.Del key) m pairs a = without_value m pairs key a
+
+all_alike : (ws : List Write) (m : Map) (pairs : Pairs) → Agrees m pairs → Agrees (fold map_written m ws) (all_written pairs ws)
+all_alike [] m pairs a = a
+all_alike (w ∷ ws) m pairs a = all_alike ws (map_written m w) (pairs_written pairs w) (written_alike w m pairs a)
+
 pub agrees_after : (o : Op) (m : Map) (pairs : Pairs) → Agrees m pairs → Agrees (map_after o m) (pairs_after o pairs)
 agrees_after (op.Put key value) m pairs a = with_value m pairs key value a
 agrees_after (op.Del key) m pairs a = without_value m pairs key a
@@ -51,6 +61,8 @@ agrees_after (op.Cas key old new) m pairs a = by (is_value old (m key)) (is_valu
     by false false e = a
     by true false e = absurd cc
     by false true e = absurd cc
+agrees_after (op.Many ws) m pairs a = all_alike ws m pairs a
+agrees_after (op.Forget client) m pairs a = a
 
 pub answers_alike : (o : Op) (m : Map) (pairs : Pairs) → Agrees m pairs → effect_answer o pairs ≡ map_answer o m
 answers_alike (op.Put key value) m pairs a = refl
@@ -58,3 +70,5 @@ answers_alike (op.Del key) m pairs a = refl
 answers_alike (op.Get key) m pairs a = ap (λ z. told_value z) (sym (a.values key))
 answers_alike (op.Cas key old new) m pairs a =
     ap (λ z. cond (is_value old z) answer.Done (told_value z)) (sym (a.values key))
+answers_alike (op.Many ws) m pairs a = refl
+answers_alike (op.Forget client) m pairs a = refl

@@ -22,8 +22,8 @@ use Rattle.op_cluster_laws.proofs.Reaching.{served_answer}
 use Rattle.op_linear.specs.Linear.{IsLinear}
 use Rattle.op_cluster_laws.specs.Readings.{WasAsked}
 use Rattle.op_linear.specs.Calls.{request_of}
-use Rattle.op_linear.specs.Histories.{key_of, is_read}
-use Rattle.op_linear.specs.Linearizable.{Call, commands, reads, IsResult}
+use Rattle.op_linear.specs.Histories.{call_key, is_read_call}
+use Rattle.op_linear.specs.Linearizable.{ClientCall, commands, reads, IsResult}
 use Rattle.op_linear.specs.Seen.{MayReturn, ClientsSeeResults, StaleIsPast}
 use Rattle.op_linear.proofs.Effects.{stale_past}
 use Rattle.op_linear.proofs.Linear.{clusters_are_linear}
@@ -46,7 +46,7 @@ module _ (members spares : List ℕ) (faulted : ℕ → ℕ) (trace now later : 
       → Contains (answered_in read (lived_at members faulted p (take (length now) trace)).first (lived_at members faulted p (take (length now) trace)).deeds) b
   then_given read b k = subst (λ t. Contains (answered_in read (lived_at members faulted p t).first (lived_at members faulted p t).deeds) b) (sym then_now) k
 
-  returning : (x : Call) (b : Reply) → Contains (answered_in (is_read x) l.first l.deeds) b → WasAsked l.deeds conn (request_of x) → key_of x ≡ (b.client, b.seq) → r ≡ answered b → Returns
+  returning : (x : ClientCall) (b : Reply) → Contains (answered_in (is_read_call x) l.first l.deeds) b → WasAsked l.deeds conn (request_of x) → call_key x ≡ (b.client, b.seq) → r ≡ answered b → Returns
   returning x b there was key e = record {
     call = x;
     asked = was;
@@ -57,7 +57,7 @@ module _ (members spares : List ℕ) (faulted : ℕ → ℕ) (trace now later : 
       pid = p;
       member = is;
       reply = b;
-      given = then_given (is_read x) b there;
+      given = then_given (is_read_call x) b there;
       key = sym key;
       is = same_answer b.answer a (sym (ap (λ (z : ClientReply). z.said) e) ∙ says);
       result = result;

@@ -6,6 +6,7 @@ use Rattle.std.proofs.lemmas.List.Elements.{All-nil}
 use Rattle.op_types.specs.Ranges.{IsMember}
 use Rattle.op_types.specs.declared.events.Input.TheVariants as input
 use Rattle.op_setup.specs.declared.config.Settings.{Settings}
+use Rattle.op_runs.specs.Possible.{most_proposals}
 use Rattle.op_runs.specs.World.{node_ids}
 use Rattle.op_serving.specs.Cores.{Standing}
 use Rattle.op_serving.specs.Fates.{after_fate, done}
@@ -112,7 +113,7 @@ with_deeds first = record born { deeds = first }
 
 module _ (ds : List Deed) (serves : Serves born.first ds) (found : FindStored born.first born.unstored ds)
     (alone : (first rest : List Deed) → ds ≡ first ++ rest → (conn : ℕ) → ReadsPeer (record { pid = 1; conn = conn; lived = with_deeds first }) → ⊥)
-    (few : messages_behind one none_failed [] (map here ds) < 2 ^ 64) (fewer : proposed_behind one none_failed [] (map here ds) < 2 ^ 64) where
+    (few : messages_behind one none_failed [] (map here ds) < 2 ^ 64) (fewer : proposed_behind one none_failed [] (map here ds) < most_proposals) where
   abbrev trace : List Happened
   trace = map here ds
 
@@ -244,12 +245,12 @@ none_begun conn first e (inr k) = absurd (let bad = sym e ∙ k.0 in cc)
 not_dialled : (conn : ℕ) (first : List Deed) → began conn first ≡ Some [] → (life conn first).heard ≡ [] → Reads first conn → ⊥
 unfolding hello encoded
 not_dialled conn first e h (inl k) = absurd (let bad : Some [] ≡ Some (hello 1) = sym e ∙ k.0 in cc)
-not_dialled conn first e h (inr k) = absurd (let bad : [] ≡ 80 ∷ k.1.0 = sym h ∙ k.1.1 in cc)
+not_dialled conn first e h (inr k) = absurd (let bad : [] ≡ 81 ∷ k.1.0 = sym h ∙ k.1.1 in cc)
 
 a_clients : (conn : ℕ) (first : List Deed) → began conn first ≡ Some [] → (life conn first).heard ≡ request → Reads first conn → ⊥
 unfolding hello encoded
 a_clients conn first e h (inl k) = absurd (let bad : Some [] ≡ Some (hello 1) = sym e ∙ k.0 in cc)
-a_clients conn first e h (inr k) = absurd (let bad : request ≡ 80 ∷ k.1.0 = sym h ∙ k.1.1 in let first_byte = head_is 67 80 (0 ∷ 0 ∷ 0 ∷ 1 ∷ 4 ∷ []) k.1.0 bad in omega (arith, first_byte))
+a_clients conn first e h (inr k) = absurd (let bad : request ≡ 81 ∷ k.1.0 = sym h ∙ k.1.1 in let first_byte = head_is 67 81 (0 ∷ 0 ∷ 0 ∷ 1 ∷ 4 ∷ []) k.1.0 bad in omega (arith, first_byte))
 
 quiet : (n conn : ℕ) → Reads (take n done_then) conn → ⊥
 quiet n conn reads = elim (cases_eq conn 7) [

@@ -1,8 +1,10 @@
 pub mod Linear
 pub mod Once
 pub mod Linearizable
+pub mod Forgetting
 pub mod Histories
 pub mod Calls
+pub mod Apart
 pub mod Seen
 pub mod Tracks
 pub mod Inhabited

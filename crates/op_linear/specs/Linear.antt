@@ -14,7 +14,7 @@ use Rattle.op_runs.specs.World.{Happening, node_ids}
 use Rattle.op_read_laws.specs.Told.{IsGiven}
 use Rattle.op_cluster_laws.specs.Outputs.{answered_in}
 use Rattle.op_cluster_laws.specs.Traces.{Happened, Lived, lived_at}
-use Rattle.op_cluster_laws.specs.Currency.{WasAskedOf, IsUnread}
+use Rattle.op_cluster_laws.specs.Currency.{WasAskedOf, IsUnasked}
 use Rattle.op_cluster_laws.specs.Worlds.{history_after, IsMoment, IsRun}
 
 -- An answer to a read that was asked for by a moment is the value of its key after a first part of that
@@ -29,7 +29,7 @@ pub record IsSeen (members spares : List ℕ) (faulted : ℕ → ℕ) (trace : L
   pub rest : List Entry
   pub place : history_after members spares (at k) ≡ seen ++ rest
   pub value : a.answer ≡ told_value (value_at read.key (service_of seen).pairs)
-  pub sees : (j : ℕ) → IsUnread members spares faulted (take j trace) (a.client, a.seq)
+  pub sees : (j : ℕ) → IsUnasked members spares faulted (take j trace) (a.client, a.seq)
       → (more : List Entry) × (seen ≡ history_after members spares (at j) ++ more)
 
 -- The moment behind the first k things that happened. Its history is a first part of the whole run's; by then

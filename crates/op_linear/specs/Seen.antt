@@ -16,18 +16,18 @@ use Rattle.op_cluster_laws.specs.Nets.{IsPrefix}
 use Rattle.op_cluster_laws.specs.Outputs.{answered_in}
 use Rattle.op_cluster_laws.specs.Readings.{HasFrame, IsClients, WasAsked}
 use Rattle.op_cluster_laws.specs.Traces.{Happened, Lived, lived_at}
-use Rattle.op_linear.specs.Linearizable.{Call, commands, IsResult}
-use Rattle.op_linear.specs.Histories.{key_of}
-use Rattle.op_linear.specs.Calls.{request_of, IsRequested, IsAnswered}
+use Rattle.op_linear.specs.Linearizable.{ClientCall, commands, IsResult}
+use Rattle.op_linear.specs.Histories.{call_key}
+use Rattle.op_linear.specs.Calls.{request_of, IsRequested, IsGivenOut}
 
 -- it was given out by this moment, to a call of that client and number that a node has read at this
 -- connection
 pub record MayReturn (members spares : List ℕ) (faulted : ℕ → ℕ) (trace : List Happened) (k : ℕ)
     (l : Lived) (conn : ℕ) (r : ClientReply) (a : Answer) : Type 0 where
-  pub call : Call
+  pub call : ClientCall
   pub asked : WasAsked l.deeds conn (request_of call)
-  pub key : key_of call ≡ (r.client, r.seq)
-  pub given : IsAnswered members spares faulted trace k call a
+  pub key : call_key call ≡ (r.client, r.seq)
+  pub given : IsGivenOut members spares faulted trace k call a
 
 -- so may each result that is read whole from the first part of what a client's connection took
 abbrev pub ClientsSeeResults : List ℕ → List ℕ → (ℕ → ℕ) → List Happened → Type 0

@@ -11,7 +11,7 @@ use Rattle.op_laws.specs.Exchange.{ExchangesDecide}
 use Rattle.op_laws.specs.Known.{TrimsAreKnown, MessagesAreTrue}
 use Rattle.op_laws.specs.Led.{LeadsOnceIn}
 use Rattle.op_runs.specs.Fresh.{ReadsAreFresh}
-use Rattle.op_cluster_laws.specs.Becoming.{sent, told_line, Numbered, BecomeBehind}
+use Rattle.op_cluster_laws.specs.Becoming.{sent_between, told_line, Numbered, BecomeBehind}
 use Rattle.op_cluster_laws.specs.Outputs.{sent_in, answered_in}
 use Rattle.op_cluster_laws.specs.Traces.{Happened, Lived, lived_at}
 use Rattle.op_cluster_laws.specs.Worlds.{IsMoment, IsRun}
@@ -24,7 +24,7 @@ pub record IsReached (members spares : List ℕ) (faulted : ℕ → ℕ) (now : 
   pub moment : IsMoment members spares faulted now hs
   pub messages : (p : ℕ) → IsMember (node_ids members spares) p → (q : ℕ) (m : Msg)
       → let l : Lived = lived_at members faulted p now in Contains (sent_in l.first l.deeds) (q, m)
-      → Numbered (run_of (first_world members spares) hs).messages (sent p q m)
+      → Numbered (run_of (first_world members spares) hs).messages (sent_between p q m)
   pub answers : (read : Bool) (p : ℕ) → IsMember (node_ids members spares) p → (r : Reply)
       → let l : Lived = lived_at members faulted p now in Contains (answered_in read l.first l.deeds) r
       → Contains (run_of (first_world members spares) hs).lines (told_line read p r)

@@ -1,4 +1,5 @@
 ghost use Rattle.op_cluster_laws.specs.Worlds.{OfClusters};
+ghost use Rattle.op_linear.specs.Apart.{ClustersLetAgain};
 ghost use Rattle.op_linear.specs.Calls.{ClustersAreLinearizable};
 ghost use Rattle.op_linear.specs.Inhabited.{SomeClusterAnswers};
 ghost use Rattle.op_linear.specs.Linear.{IsLinear};
@@ -8,11 +9,13 @@ ghost use Rattle.op_linear.specs.Tracks.{TracesAreRuns};
 
 /// Each history of a cluster's clients is linearizable, over all lives of its nodes, disk faults, changes of
 /// members, clients' retries and reads: there is one order of the operations in which each stands between its
-/// call and its return, and a plain map gives each the answer with which it returned. Whatever result a
-/// client reads may return so, to a call that a node read at that connection; and only who has gone on is
-/// told `stale`.
+/// call and its return, and a plain map gives each the answer with which it returned. Where a client forgets
+/// another one, a command of this may take effect once more behind that; but not if it came in other
+/// configurations, all below or all above. Whatever result a client reads may return so, to a call that a
+/// node read at that connection; and only who has gone on is told `stale`.
 pub fn clusters_are_linearizable()
     ensures linearizable { ClustersAreLinearizable }
+    ensures again { ClustersLetAgain }
     ensures seen { OfClusters ClientsSeeResults }
     ensures stale { OfClusters StaleIsPast }
 {}
@@ -25,7 +28,8 @@ pub fn clusters_are_linear()
     ensures linear { OfClusters IsLinear }
 {}
 
-/// A command takes its effect once at most, however often it stands in a history.
+/// A command takes its effect once at most, however often it stands in a history, until another client's
+/// command forgets its client.
 pub fn effects_come_once()
     ensures once { EffectsComeOnce }
 {}
