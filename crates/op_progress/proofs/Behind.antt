@@ -1,0 +1,402 @@
+-- What comes behind the heartbeats of a round: the members that hear one another stay up, and what they know of heartbeats stays.
+-- Promises rise, and so does where elections begin; but neither rises above all that they had promised.
+use Rattle.std.proofs.Common.{◌≡◌, ◌⊎◌, inl, inr, ◌&&◌, ◌||◌, ℕ, Bool, true, false, cond, eqb, nat_eq, List, [], ◌∷◌, slice_get, Option, Some, None, refl, sym, ap, ◌∙◌, subst}
+use Rattle.std.proofs.lemmas.Bool.{cond_both, eqb-true, eqb-false, true≢false}
+use Rattle.std.specs.Set.{is_member}
+use Rattle.op_types.proofs.Order.{is_total}
+use Rattle.op_types.specs.Ballots.{is_below}
+use Rattle.op_types.specs.Changes.{new_part, durable_after}
+use Rattle.op_types.specs.declared.ballot.Ballot.{Ballot}
+use Rattle.op_types.specs.declared.changes.Change.{Change}
+use Rattle.op_types.specs.declared.durable.Durable.{Durable}
+use Rattle.op_types.specs.declared.durable.Part.{Part}
+use Rattle.op_types.specs.declared.events.Input.{Input}
+use Rattle.op_types.specs.declared.events.Input.TheVariants as input
+use Rattle.op_types.specs.declared.messages.Body.{Body}
+use Rattle.op_types.specs.declared.messages.Body.TheVariants as body
+use Rattle.op_protocol.specs.State.{State, Volatile, PartStep, state_after}
+use Rattle.op_protocol.specs.Parts.{part_after}
+use Rattle.op_protocol.specs.Rows.{step_plan, step_at}
+use Rattle.op_protocol.specs.Starting.{first_volatile, state_after_restart}
+use Rattle.op_runs.specs.declared.events.What.{What}
+use Rattle.op_runs.specs.declared.events.What.TheVariants as what
+use Rattle.op_runs.specs.World.{World, Node, NodeStatus, Up, Down, Failed, Fate, Done, Stopped, Faulted, Happening, Doing, Steps, Stops, Opens, Tells, Told, ThePairs, TheBallots, Deed, Sent, delivery, deed_of, node_at, with_node, stored_by, state_after_reopening, world_by_fate, world_opening, world_reopening, world_by_status, world_at_node, world_with, world_after, run_of}
+use Rattle.op_gen.specs.Links.{Links, joins, is_linked}
+use Rattle.op_lockstep.specs.Lockstep.{is_request, is_reply}
+use Rattle.op_lockstep.specs.Reach.{IsOneOf}
+use Rattle.op_lockstep.proofs.Clean.{IsCleanBody, IsCleanInput}
+use Rattle.op_lockstep.proofs.Lists.{by_test}
+use Rattle.op_lockstep.proofs.Seats.{node_at-other, node_at-here, found_id}
+use Rattle.op_progress.specs.Progress.{HearOneAnother, GoesOver, IsHarmless, IsElsewhere, ComesBehind, AllComeBehind}
+use Rattle.op_progress.proofs.Orders.{AtMost, same_at_most, at_most_then, first_at_most}
+use Rattle.op_progress.proofs.Rows.{IsFree, BodyIn, Promises, BeginsAt, prepared_in, refused_in, free_after, StepIn}
+use Rattle.op_progress.proofs.Steps.{prepared_by, refused_by, replied_by, step_in}
+use Rattle.op_progress.proofs.Sound.{StandsUpTo, IfStands, promise_in, plan_sound, plan_memory, plan_promise}
+use Rattle.op_progress.proofs.Worlds.{IsSoundNode, IsSoundWorld, IsUpTo, IsBounded, sent_at, there, sound_after}
+
+-- ---- what a node keeps
+abbrev pub part_or : Option Part → Part
+part_or None = new_part 0 [] []
+part_or (Some p) = p
+
+abbrev pub part_of : Option Node → Part
+part_of None = part_or None
+part_of (Some n) = part_or n.state.durable.part
+
+abbrev pub memory_of : Option Node → Volatile
+memory_of None = first_volatile 0
+memory_of (Some n) = n.state.volatile
+
+-- a node that is up, and has a part
+pub record IsUpNode (o : Option Node) : Type 0 where
+  pub node : Node
+  pub at : o ≡ Some node
+  pub up : node.status ≡ Up
+  pub part : Part
+  pub has : node.state.durable.part ≡ Some part
+
+-- what stays, and what rises
+pub record Keeps (o u : Option Node) : Type 0 where
+  pub own : (memory_of u).own ≡ (memory_of o).own
+  pub leader : (memory_of u).leader ≡ (memory_of o).leader
+  pub flag : (memory_of u).flag ≡ (memory_of o).flag
+  pub heard : (memory_of u).heard ≡ (memory_of o).heard
+  pub promise : AtMost (part_of o).promised (part_of u).promised
+  pub floor : AtMost (memory_of o).floor (memory_of u).floor
+
+keeps_all : (o u : Option Node) → u ≡ o → Keeps o u
+keeps_all o u e =
+    subst (Keeps o) (sym e)
+    (record { own = refl; leader = refl; flag = refl; heard = refl; promise = is_total.irreflexive (part_of o).promised; floor = is_total.irreflexive (memory_of o).floor })
+
+keeps_then : (o u t : Option Node) → Keeps o u → Keeps u t → Keeps o t
+keeps_then o u t x y =
+    record {
+      own = y.own ∙ x.own;
+      leader = y.leader ∙ x.leader;
+      flag = y.flag ∙ x.flag;
+      heard = y.heard ∙ x.heard;
+      promise = at_most_then (part_of o).promised (part_of u).promised (part_of t).promised x.promise y.promise;
+      floor = at_most_then (memory_of o).floor (memory_of u).floor (memory_of t).floor x.floor y.floor;
+    }
+
+-- what holds of a ballot holds of each lower one
+abbrev pub IsLowering : (Ballot → Type 0) → Type 0
+IsLowering P = (a b : Ballot) → AtMost a b → P b → P a
+
+-- it holds of what a node has promised, and of where its elections begin
+abbrev pub HoldsAt : (Ballot → Type 0) → Option Node → Type 0
+HoldsAt P o = P (part_of o).promised × P (memory_of o).floor
+
+abbrev IfBallot : (Ballot → Type 0) → Option Ballot → Type 0
+IfBallot P None = Unit {0}
+IfBallot P (Some b) = P b
+
+-- ---- a step
+promise_by : (P : Ballot → Type 0) (o : Option Ballot) (p : Part) (batch : List Change) → Promises o p batch → P p.promised → IfBallot P o → P (part_after p batch).promised
+promise_by P None p batch f h k = subst P (sym (free_after p batch f)) h
+promise_by P (Some n) p batch (inl f) h k = subst P (sym (free_after p batch f)) h
+promise_by P (Some n) p batch (inr e) h k = subst (λ (b : List Change). P (part_after p b).promised) (sym e.0) k
+
+floor_by : (P : Ballot → Type 0) (o : Option Ballot) (old new : Ballot) → BeginsAt o old new → P old → IfBallot P o → P new
+floor_by P None old new e h k = subst P (sym e) h
+floor_by P (Some b) old new (inl e) h k = subst P (sym e) h
+floor_by P (Some b) old new (inr e) h k = subst P (sym e) (cond_both (is_below old b) b old P (λ _. k) (λ _. h))
+
+floor_rises : (o : Option Ballot) (old new : Ballot) → BeginsAt o old new → AtMost old new
+floor_rises None old new e = same_at_most old new (sym e)
+floor_rises (Some b) old new (inl e) = same_at_most old new (sym e)
+floor_rises (Some b) old new (inr e) = subst (AtMost old) (sym e) (first_at_most old b)
+
+-- an input that is no tick, no stop-sign and no heartbeat reply
+record IsPlain (x : Input) : Type 0 where
+  no_tick : x ≡ input.Tick → ⊥
+  clean : IsCleanInput x
+  no_reply : replied_by x ≡ false
+
+module _ (members : List ℕ) (n : Node) (k : IsSoundNode members n) (p : Part) (has : n.state.durable.part ≡ Some p) (x : Input) (plain : IsPlain x) where
+  abbrev s : State
+  s = n.state
+
+  abbrev then_ : Node
+  then_ = record n { state = state_after s (step_plan n.pid s x) }
+
+  abbrev row : PartStep
+  row = step_at n.pid s.durable s.volatile x
+
+  stands : StandsUpTo p.promised s.volatile
+  stands = subst (λ (o : Option Part). IfStands o s.volatile) has ((k).memory).stands
+
+  step : StepIn (λ b. AtMost b p.promised) p s.volatile (prepared_by x) (refused_by x) (replied_by x) row
+  step = step_in (λ b. AtMost b p.promised) n.pid s.durable p s.volatile has ((k).stored).joining ((k).stored).closed (is_total.irreflexive p.promised) (stands).role x (plain).no_tick (plain).clean
+
+  memory_is : (then_).state.volatile ≡ (row).volatile
+  memory_is = plan_memory members n.pid s (k).stored (k).memory x (plain).clean
+
+  abbrev new : (q : Part) × ((durable_after (s).durable (step_plan n.pid s x).batch).part ≡ Some q) × (q.promised ≡ (part_after p (row).batch).promised)
+  new = plan_promise members n.pid s (k).stored (k).memory x (plain).clean p has
+
+  old_is : (part_of (Some n)).promised ≡ p.promised
+  old_is = ap (λ (o : Option Part). (part_or o).promised) has
+
+  new_is : (part_of (Some then_)).promised ≡ (part_after p (row).batch).promised
+  new_is = ap (λ (o : Option Part). (part_or o).promised) (new).1 ∙ (new).2
+
+  up_then : n.status ≡ Up → IsUpNode (Some then_)
+  up_then up = record { node = then_; at = refl; up = up; part = (new).0; has = (new).1 }
+
+  keeps_step : Keeps (Some n) (Some then_)
+  keeps_step =
+      let z = step in
+      record {
+        own = ap (λ (u : Volatile). u.own) memory_is ∙ z.own;
+        leader = ap (λ (u : Volatile). u.leader) memory_is ∙ z.leader;
+        flag = ap (λ (u : Volatile). u.flag) memory_is ∙ z.flag;
+        heard = ap (λ (u : Volatile). u.heard) memory_is ∙ z.heard (plain).no_reply;
+        promise = subst (λ (b : Ballot). AtMost b (part_of (Some then_)).promised) (sym old_is)
+            (subst (AtMost p.promised) (ap (λ (o : Option Part). promise_in o) (new).1 ∙ sym (ap (λ (o : Option Part). (part_or o).promised) (new).1))
+            (subst (λ (o : Option Part). AtMost (promise_in o) (promise_in (durable_after (s).durable (step_plan n.pid s x).batch).part)) has (plan_sound members n.pid s (k).stored (k).memory x (plain).clean).raised));
+        floor = subst (λ (u : Volatile). AtMost (s).volatile.floor u.floor) (sym memory_is) (floor_rises (refused_by x) (s).volatile.floor (row).volatile.floor z.floor);
+      }
+
+  holds_step : (P : Ballot → Type 0) → IfBallot P (prepared_by x) → IfBallot P (refused_by x) → HoldsAt P (Some n) → HoldsAt P (Some then_)
+  holds_step P a b h = (
+    subst P (sym new_is) (promise_by P (prepared_by x) p (row).batch (step).promises (subst P old_is h.0) a),
+    subst (λ (u : Volatile). P u.floor) (sym memory_is) (floor_by P (refused_by x) (s).volatile.floor (row).volatile.floor (step).floor h.1 b),
+  )
+
+-- ---- links go both ways
+joins_back : (l : ℕ × ℕ) (p q : ℕ) → joins l p q ≡ joins l q p
+joins_back l p q = swapped (eqb l.0 p && eqb l.1 q) (eqb l.0 q && eqb l.1 p)
+  where
+    swapped : (a b : Bool) → (a || b) ≡ (b || a)
+    swapped true true = refl
+    swapped true false = refl
+    swapped false true = refl
+    swapped false false = refl
+
+pub linked_back : (links : Links) (p q : ℕ) → is_linked links p q ≡ is_linked links q p
+linked_back [] p q = refl
+linked_back (l ∷ links) p q = ap (λ (b : Bool). b || is_linked links p q) (joins_back l p q) ∙ ap (λ (b : Bool). joins l q p || b) (linked_back links p q)
+
+-- ---- a happening at another node
+module _ (w : World) (h : Happening) (q : ℕ) where
+  -- the node is as it was
+  abbrev IsSame : World → Type 0
+  IsSame u = node_at u.nodes q ≡ node_at w.nodes q
+
+  module _ (n : Node) (other : q ≡ n.pid → ⊥) where
+    put : (m : Node) → m.pid ≡ n.pid → node_at (with_node w.nodes m) q ≡ node_at w.nodes q
+    put m same = node_at-other w.nodes m q (λ e. other (e ∙ same))
+
+    by_fate : (f : Fate) (x : Input) → IsSame (world_by_fate f h.event.line w n x)
+    by_fate Done x = put (record n { state = state_after n.state (step_plan n.pid n.state x) }) refl
+    by_fate Stopped x = put (record n { status = Down (stored_by n x) }) refl
+    by_fate (Faulted count) x = put (record n { status = Failed count (stored_by n x) }) refl
+
+    opens : (f : Fate) (d : Durable) → IsSame (world_opening f w n d)
+    opens Done d = put (record n { state = state_after_restart n.pid d; status = Up }) refl
+    opens Stopped d = refl
+    opens (Faulted count) d = refl
+
+    reopens : (f : Fate) (after d : Durable) → IsSame (world_reopening f after w n d)
+    reopens Done after d = put (record n { state = state_after_reopening n.pid n.state d; status = Up }) refl
+    reopens Stopped after d = put (record n { status = Down after }) refl
+    reopens (Faulted count) after d = put (record n { status = Failed count after }) refl
+
+    elsewhere_by : (s : NodeStatus) (d : Doing) → IsSame (world_by_status s d h w n)
+    elsewhere_by Up (Steps x) = by_fate h.fate x
+    elsewhere_by Up Stops = put (record n { status = Down n.state.durable }) refl
+    elsewhere_by Up Opens = refl
+    elsewhere_by Up (Tells t) = refl
+    elsewhere_by (Down after) (Steps x) = refl
+    elsewhere_by (Down after) Stops = refl
+    elsewhere_by (Down after) Opens = opens h.fate (cond h.finds_after after n.state.durable)
+    elsewhere_by (Down after) (Tells t) = refl
+    elsewhere_by (Failed count after) (Steps x) = refl
+    elsewhere_by (Failed count after) Stops = put (record n { status = Down after }) refl
+    elsewhere_by (Failed count after) Opens = reopens h.fate after (cond h.finds_after after n.state.durable)
+    elsewhere_by (Failed count after) (Tells t) = refl
+
+  elsewhere_at : (pid : ℕ) → (q ≡ pid → ⊥) → (d : Doing) (o : Option Node) → node_at w.nodes pid ≡ o → IsSame (world_at_node o d h w)
+  elsewhere_at pid other d None at = refl
+  elsewhere_at pid other d (Some n) at = elsewhere_by n (λ e. other (e ∙ found_id w.nodes pid n at)) n.status d
+
+  elsewhere_is : (group : List ℕ) → IsOneOf group q → (o : Option Deed) → IsElsewhere group o → IsSame (world_with o h w)
+  elsewhere_is group m None e = refl
+  elsewhere_is group m (Some x) e = elsewhere_at x.pid (λ same. true≢false (sym m ∙ ap (is_member nat_eq group) same ∙ e)) x.doing (node_at w.nodes x.pid) refl
+
+-- ---- an event
+module _ (members : List ℕ) (links : Links) (group : List ℕ) (hear : HearOneAnother members links group) where
+  -- they are up, in a sound world
+  pub record Standing (w : World) : Type 0 where
+    pub sound : IsSoundWorld members w
+    pub up : (q : ℕ) → IsOneOf group q → IsUpNode (node_at w.nodes q)
+
+  -- what holds of all that they have promised, and of where their elections begin
+  abbrev pub HoldsIn : (Ballot → Type 0) → World → Type 0
+  HoldsIn P w = (q : ℕ) → IsOneOf group q → HoldsAt P (node_at w.nodes q)
+
+  -- from a world to a later one
+  pub record Later (w u : World) : Type 1 where
+    pub up : (q : ℕ) → IsOneOf group q → IsUpNode (node_at u.nodes q)
+    pub keeps : (q : ℕ) → IsOneOf group q → Keeps (node_at w.nodes q) (node_at u.nodes q)
+    pub holds : (P : Ballot → Type 0) → IsLowering P → HoldsIn P w → HoldsIn P u
+
+  -- the same, where it stands too
+  pub record After (w u : World) : Type 1 where
+    pub standing : Standing u
+    pub later : Later w u
+
+  all_same : (w u : World) → Standing w → ((q : ℕ) → IsOneOf group q → node_at u.nodes q ≡ node_at w.nodes q) → Later w u
+  all_same w u k same =
+      record {
+        up = λ q m. subst IsUpNode (sym (same q m)) (k.up q m);
+        keeps = λ q m. keeps_all (node_at w.nodes q) (node_at u.nodes q) (same q m);
+        holds = λ P low h q m. subst (HoldsAt P) (sym (same q m)) (h q m);
+      }
+
+  same_nodes : (w u : World) → Standing w → u.nodes ≡ w.nodes → Later w u
+  same_nodes w u k e = all_same w u k (λ q m. ap (λ (ns : List Node). node_at ns q) e)
+
+  -- what an input brings to one of them holds, where that holds of all that they had promised
+  abbrev Brings : World → ℕ → Input → Type 1
+  Brings w pid x = IsOneOf group pid → (P : Ballot → Type 0) → IsLowering P → HoldsIn P w → IfBallot P (prepared_by x) × IfBallot P (refused_by x)
+
+  module _ (w : World) (k : Standing w) (pid : ℕ) (x : Input) (plain : IsPlain x) (brings : Brings w pid x) (n : Node) (at : node_at w.nodes pid ≡ Some n) (up : n.status ≡ Up) where
+    abbrev after_step : Node
+    after_step = record n { state = state_after n.state (step_plan n.pid n.state x) }
+
+    id_is : n.pid ≡ pid
+    id_is = found_id w.nodes pid n at
+
+    sound_node : IsSoundNode members n
+    sound_node = there members w.nodes pid n at ((k).sound).nodes
+
+    -- a member's part
+    part_here : IsOneOf group pid → (p : Part) × (n.state.durable.part ≡ Some p)
+    part_here m =
+        let u = (k).up pid m in
+        (u.part, subst (λ (o : Node). o.state.durable.part ≡ Some u.part) (some_same u.node (sym (u.at) ∙ at)) u.has)
+      where
+        some_same : (m : Node) → Some m ≡ Some n → m ≡ n
+        some_same m e = cc
+
+    stepped_later : (u : World) → u.nodes ≡ with_node w.nodes after_step → Later w u
+    stepped_later u is =
+        record {
+          up = λ q m. by_id (λ (o : Option Node). IsUpNode o) q (λ e. let p = part_here (subst (IsOneOf group) e m) in up_then members n sound_node p.0 p.1 x plain up) (λ _. (k).up q m);
+          keeps = λ q m. by_id (Keeps (node_at w.nodes q)) q (λ e. let p = part_here (subst (IsOneOf group) e m) in subst (λ (o : Option Node). Keeps o (Some after_step)) (sym (ap (node_at w.nodes) e ∙ at)) (keeps_step members n sound_node p.0 p.1 x plain))
+              (λ _. keeps_all (node_at w.nodes q) (node_at w.nodes q) refl);
+          holds = λ P low h q m. by_id (HoldsAt P) q
+              (λ e. let p = part_here (subst (IsOneOf group) e m) in
+              let b = brings (subst (IsOneOf group) e m) P low h in
+              holds_step members n sound_node p.0 p.1 x plain P b.0 b.1 (subst (HoldsAt P) (ap (node_at w.nodes) e ∙ at) (h q m)))
+              (λ _. h q m);
+        }
+      where
+        by_id : (Q : Option Node → Type 0) (q : ℕ) → (q ≡ pid → Q (Some after_step)) → ((q ≡ pid → ⊥) → Q (node_at w.nodes q)) → Q (node_at u.nodes q)
+        by_id Q q here other = subst (λ (ns : List Node). Q (node_at ns q)) (sym is) (by_test (eqb q pid) (λ (b : Bool). Q (node_at (with_node w.nodes after_step) q))
+            (λ e. let same : q ≡ pid = eqb-true q pid e in
+            subst Q (sym (ap (node_at (with_node w.nodes after_step)) (same ∙ sym id_is) ∙ node_at-here w.nodes after_step n (ap (node_at w.nodes) id_is ∙ at))) (here same))
+            (λ e. let apart : q ≡ pid → ⊥ = eqb-false q pid e in subst Q (sym (node_at-other w.nodes after_step q (λ d. apart (d ∙ id_is)))) (other apart)))
+
+  module _ (w : World) (k : Standing w) (h : Happening) where
+    by_status : h.fate ≡ Done → (pid : ℕ) (x : Input) → IsPlain x → Brings w pid x → (n : Node) → node_at w.nodes pid ≡ Some n → (s : NodeStatus) → n.status ≡ s → Later w (world_by_status s (Steps x) h w n)
+    by_status done pid x plain brings n at Up is =
+        subst (λ (f : Fate). Later w (world_by_fate f h.event.line w n x)) (sym done) (stepped_later w k pid x plain brings n at is (world_by_fate Done h.event.line w n x) refl)
+    by_status done pid x plain brings n at (Down after) is = same_nodes w (world_by_status (Down after) (Steps x) h w n) k refl
+    by_status done pid x plain brings n at (Failed count after) is = same_nodes w (world_by_status (Failed count after) (Steps x) h w n) k refl
+
+    at_steps : h.fate ≡ Done → (pid : ℕ) (x : Input) → IsPlain x → Brings w pid x → (o : Option Node) → node_at w.nodes pid ≡ o → Later w (world_at_node o (Steps x) h w)
+    at_steps done pid x plain brings None at = same_nodes w w k refl
+    at_steps done pid x plain brings (Some n) at = by_status done pid x plain brings n at n.status refl
+
+    at_tells : (t : Told) (o : Option Node) → Later w (world_at_node o (Tells t) h w)
+    at_tells t None = same_nodes w w k refl
+    at_tells t (Some n) = tells n.status
+      where
+        tells : (s : NodeStatus) → Later w (world_by_status s (Tells t) h w n)
+        tells Up = same_nodes w (world_by_status Up (Tells t) h w n) k refl
+        tells (Down after) = same_nodes w (world_by_status (Down after) (Tells t) h w n) k refl
+        tells (Failed count after) = same_nodes w (world_by_status (Failed count after) (Tells t) h w n) k refl
+
+    -- a step of a client, or of a session
+    asks : h.fate ≡ Done → (pid : ℕ) (x : Input) → IsPlain x → IfBallot (λ b. ⊥) (prepared_by x) × IfBallot (λ b. ⊥) (refused_by x) → Later w (world_at_node (node_at w.nodes pid) (Steps x) h w)
+    asks done pid x plain none = at_steps done pid x plain (λ _ P low _. (empty P (prepared_by x) none.0, empty P (refused_by x) none.1)) (node_at w.nodes pid) refl
+      where
+        empty : (P : Ballot → Type 0) (o : Option Ballot) → IfBallot (λ b. ⊥) o → IfBallot P o
+        empty P None i = tt
+        empty P (Some b) i = absurd i
+
+    -- ---- a message
+    prepared_of : (P : Ballot → Type 0) (b : Body) → BodyIn P b → IfBallot P (prepared_in b)
+    prepared_of P (body.Prepare n na nl nd) i = i
+    prepared_of P _ i = tt
+
+    refused_of : (P : Ballot → Type 0) (b : Body) → BodyIn P b → IfBallot P (refused_in b)
+    refused_of P (body.Refuse n x) i = i
+    refused_of P _ i = tt
+
+    either_none : (a b : Bool) → (a || b) ≡ false → b ≡ false
+    either_none true b i = cc
+    either_none false b i = i
+
+    delivers : h.fate ≡ Done → (i : ℕ) (o : Option Sent) → slice_get w.messages i ≡ o → GoesOver links o → Later w (world_with (delivery o) h w)
+    delivers done i None at over = same_nodes w w k refl
+    delivers done i (Some m) at over =
+        let x : Input = input.Deliver m.from m.message in
+        let plain : IsPlain x =
+        record { no_tick = λ (same : x ≡ input.Tick). cc; clean = sent_at (λ m. IsCleanBody m.message.body) w.messages i m at ((k).sound).messages; no_reply = either_none (is_request m.message.body) (is_reply m.message.body) over.1 } in
+        at_steps done m.to x plain brings (node_at w.nodes m.to) refl
+      where
+        brings : Brings w m.to (input.Deliver m.from m.message)
+        brings to P low holds =
+            let from : IsOneOf group m.from = (hear).apart m.to m.from to (linked_back links m.to m.from ∙ over.0) in
+            let u = (k).up m.from from in
+            let bound : IsUpTo (Some u.node) m.message.body = subst (λ (o : Option Node). IsUpTo o m.message.body) u.at (sent_at (IsBounded w.nodes) w.messages i m at ((k).sound).bounds) in
+            let has : P u.part.promised = subst (λ (o : Option Part). P (part_or o).promised) u.has (subst (λ (o : Option Node). P (part_of o).promised) u.at (holds m.from from).0) in
+            let all : BodyIn P m.message.body =
+            Rattle.op_progress.proofs.Rows.body_more (λ b. AtMost b u.part.promised) P (λ b y. low b u.part.promised y has) m.message.body
+            (subst (λ (o : Option Part). BodyIn (λ b. AtMost b (promise_in o)) m.message.body) u.has bound) in
+            (prepared_of P m.message.body all, refused_of P m.message.body all)
+
+    plain_of : (x : Input) → (x ≡ input.Tick → ⊥) → IsCleanInput x → replied_by x ≡ false → IsPlain x
+    plain_of x a b c = record { no_tick = a; clean = b; no_reply = c }
+
+    by_what : h.fate ≡ Done → (x : What) → IsHarmless links w x → Later w (world_with (deed_of w.messages x) h w)
+    by_what done (what.Deliver i) may = delivers done i (slice_get w.messages i) refl may
+    by_what done (what.Commands p cs) may = asks done p (input.Commands cs) (plain_of (input.Commands cs) (λ (same : input.Commands cs ≡ input.Tick). cc) tt refl) (tt, tt)
+    by_what done (what.Read p r) may = asks done p (input.Read r) (plain_of (input.Read r) (λ (same : input.Read r ≡ input.Tick). cc) tt refl) (tt, tt)
+    by_what done (what.Trim p) may = asks done p input.TrimNow (plain_of input.TrimNow (λ (same : input.TrimNow ≡ input.Tick). cc) tt refl) (tt, tt)
+    by_what done (what.Up p q) may = asks done p (input.Up q) (plain_of (input.Up q) (λ (same : input.Up q ≡ input.Tick). cc) tt refl) (tt, tt)
+    by_what done (what.Down p q) may = asks done p (input.Down q) (plain_of (input.Down q) (λ (same : input.Down q ≡ input.Tick). cc) tt refl) (tt, tt)
+    by_what done (what.Show p) may = at_tells ThePairs (node_at w.nodes p)
+    by_what done (what.Ballots p) may = at_tells TheBallots (node_at w.nodes p)
+    by_what done _ may = absurd may
+
+    by_place : IsElsewhere group (deed_of w.messages h.event.what) ⊎ ((h.fate ≡ Done) × IsHarmless links w h.event.what) → Later w (world_after w h)
+    by_place (inl e) = all_same w (world_after w h) k (λ q m. elsewhere_is w h q group m (deed_of w.messages h.event.what) e)
+    by_place (inr x) = by_what x.0 h.event.what x.1
+
+    one_more : ComesBehind group links w h → After w (world_after w h)
+    one_more may =
+        let x = by_place may.1 in
+        record { standing = record { sound = sound_after members w h may.0 (k).sound; up = x.up }; later = x }
+
+  later_then : (w u t : World) → Later w u → Later u t → Later w t
+  later_then w u t x y =
+      record {
+        up = y.up;
+        keeps = λ q m. keeps_then (node_at w.nodes q) (node_at u.nodes q) (node_at t.nodes q) (x.keeps q m) (y.keeps q m);
+        holds = λ P low h. y.holds P low (x.holds P low h);
+      }
+
+  -- all that comes behind the heartbeats of a round
+  pub behind_run : (hs : List Happening) (w : World) → Standing w → AllComeBehind group links w hs → After w (run_of w hs)
+  behind_run [] w k may = record { standing = k; later = same_nodes w w k refl }
+  behind_run (h ∷ hs) w k may =
+      let u : World = world_after w h in
+      let x = one_more w k h may.0 in
+      let y = behind_run hs u x.standing may.1 in
+      record { standing = y.standing; later = later_then w u (run_of u hs) x.later y.later }

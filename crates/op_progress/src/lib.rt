@@ -1,0 +1,6 @@
+//! What a majority whose members hear one another reaches, whatever happens at the others.
+#![tactic(auto)]
+
+mod laws;
+
+pub use laws::majorities_agree;
