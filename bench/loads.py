@@ -109,6 +109,78 @@ class EtcdMixed(EtcdWire):
         return {"key": next_key(self.number)} if self.number % 2 else super().fields()
 
 
+class EtcdGrpc:
+    """A client of etcd's gRPC that puts: a unary call after the other, each on a stream of its own of one HTTP/2 connection."""
+    asks, method = "puts", "Put"
+    DATA, HEADERS, SETTINGS, PING, WINDOW_UPDATE = 0, 1, 4, 6, 8
+    END_STREAM, ACK, END_HEADERS = 1, 1, 4
+
+    def __init__(self):
+        self.number, self.stream, self.owed = random.randrange(KEYS), -1, b""
+
+    def frame(self, kind, flags, stream, body):
+        return struct.pack(">I", len(body))[1:] + bytes([kind, flags]) + struct.pack(">I", stream) + body
+
+    @property
+    def greeting(self):
+        """What a connection begins with: no settings, and a window that the answers of a run don't fill."""
+        self.stream, self.owed = -1, b""
+        window = self.frame(self.WINDOW_UPDATE, 0, 0, struct.pack(">I", 2**30))
+        return b"PRI * HTTP/2.0\r\n\r\nSM\r\n\r\n" + self.frame(self.SETTINGS, 0, 0, b"") + window
+
+    def fields(self):
+        return (next_key(self.number), VALUE)
+
+    def next(self, is_new):
+        self.number += is_new
+        self.stream += 2
+        path = b"/etcdserverpb.KV/" + self.method.encode()
+        # POST, http, the path, the authority, the content's type and `te`, none of them kept by the other side
+        head = (b"\x83\x86\x04" + bytes([len(path)]) + path + b"\x01\x04etcd\x0f\x10\x10application/grpc"
+                b"\x00\x02te\x08trailers")
+        message = b"".join(bytes([at * 8 + 2, len(it)]) + it for at, it in enumerate(self.fields(), 1))
+        body = b"\0" + struct.pack(">I", len(message)) + message
+        owed, self.owed = self.owed, b""
+        return (owed + self.frame(self.HEADERS, self.END_HEADERS, self.stream, head)
+                + self.frame(self.DATA, self.END_STREAM, self.stream, body))
+
+    def answer(self, heard):
+        """A call is done where a message came before the frame that ends its stream. Settings and pings are answered with the next one."""
+        owed, is_done, at = b"", False, 0
+        while len(heard) >= at + 9:
+            length, kind, flags = int.from_bytes(heard[at:at + 3], "big"), heard[at + 3], heard[at + 4]
+            body, at = heard[at + 9:at + 9 + length], at + 9 + length
+            if len(heard) < at:
+                return None
+            if kind in (self.SETTINGS, self.PING) and not flags & self.ACK:
+                owed += self.frame(kind, self.ACK, 0, body if kind == self.PING else b"")
+            is_done |= kind == self.DATA and length > 0
+            if kind in (self.DATA, self.HEADERS) and flags & self.END_STREAM:
+                self.owed += owed
+                return heard[at:], is_done
+        return None
+
+
+class EtcdGrpcReads(EtcdGrpc):
+    """One that reads: a linearizable range."""
+    asks, method = "reads", "Range"
+
+    def fields(self):
+        return (next_key(self.number),)
+
+
+class EtcdGrpcMixed(EtcdGrpc):
+    """One that puts and reads by turns."""
+    asks = "puts and reads"
+
+    @property
+    def method(self):
+        return "Range" if self.number % 2 else "Put"
+
+    def fields(self):
+        return (next_key(self.number),) if self.number % 2 else super().fields()
+
+
 class Connection:
     def __init__(self, wire, addresses):
         self.wire, self.addresses = wire(), collections.deque(addresses)
