@@ -1,12 +1,12 @@
 -- Commands and their connections, as two lists: what is left of both without one connection.
-use Rattle.std.proofs.Common.{◌≡◌, ◌<◌, ◌≤◌, ◌+◌, ◌++◌, ◌∷◌, [], ℕ, zero, suc, List, length, take, get_or, map, All, ◌==◌, refl, sym, ◌∙◌, ap, subst, arith, is_some, nat_lt, leb, false, true, Bool, cond, Some, None}
+use Rattle.std.proofs.Common.{◌≡◌, ◌<◌, ◌≤◌, ◌+◌, ◌++◌, ◌∷◌, [], ℕ, zero, suc, List, length, take, get_or, map, All, ◌==◌, refl, sym, ◌∙◌, ap, arith, is_some, nat_lt, leb, false, true, Bool, cond, Some, None}
 use Rattle.std.proofs.lemmas.Bool.{leb-true, le-leb, lt-leb}
 use Rattle.std.proofs.lemmas.List.{length-append, length-map}
 use Rattle.std.proofs.lemmas.List.Elements.{All-filter, All-map, All-push}
 use Rattle.std.proofs.lemmas.Slice.Zip.{length-zip, seconds-zip}
 use Rattle.std.specs.List.{list_any, position, position_or_len, remove, zip}
 use Rattle.op_types.specs.declared.log.Command.{Command}
-use Rattle.op_types.specs.Limits.{most_commands, most_part_bytes}
+use Rattle.op_types.specs.Limits.{most_commands}
 use Rattle.op_types.specs.Cutting.{entry_size, commands_size}
 use Rattle.op_types.specs.declared.log.Entry.TheVariants as entry
 use Rattle.op_types.proofs.Small.{command_small}

@@ -1,5 +1,5 @@
 -- The words of a line: that at an index, and the first of them, which are put one after the other in places.
-use Rattle.std.proofs.Common.{◌≡◌, ℕ, suc, ◌+◌, ◌-◌, ◌<◌, ◌≤◌, eqb, Bool, Option, List, [], ◌∷◌, ◌++◌, length, take, set, get_or, map, sym, ap, ◌∙◌, subst, Result, arith, append-nil, append_assoc, length-take}
+use Rattle.std.proofs.Common.{◌≡◌, ℕ, suc, ◌+◌, ◌-◌, ◌<◌, eqb, Bool, Option, List, [], ◌∷◌, ◌++◌, length, take, set, get_or, map, sym, ap, ◌∙◌, subst, Result, arith, append-nil, append_assoc, length-take}
 use Rattle.std.proofs.Math.ListN.{get_or-map}
 use Rattle.std.proofs.Math.Seq.{take-nil}
 use Rattle.std.proofs.lemmas.List.{map-append, take_all, take_more_set}

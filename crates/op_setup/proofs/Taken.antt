@@ -1,5 +1,5 @@
 -- What clap makes of the words of a task.
-use Rattle.std.proofs.Common.{◌&&◌, ◌+◌, ◌*◌, false, length-append, subst, refl, sym, ap, ap₂, ◌∙◌, List, [], ◌∷◌, ◌++◌, append-nil, append_assoc, length, map, ℕ, ◌≤◌, ◌≡◌, true, Option, None, Some, option_map, codes, decimal, arith}
+use Rattle.std.proofs.Common.{◌&&◌, ◌+◌, ◌*◌, false, subst, refl, sym, ap, ap₂, ◌∙◌, List, [], ◌∷◌, ◌++◌, append-nil, append_assoc, length, map, ℕ, ◌≤◌, ◌≡◌, true, Option, None, Some, option_map, codes, decimal, arith}
 use Rattle.std.specs.Prelude.{slice_get, fold, find}
 use Rattle.std.specs.Option.{unwrap_or, is_some}
 use Rattle.std.specs.List.{list_all}

@@ -1,6 +1,6 @@
 -- Words that are writes, read from the left.
-use Rattle.std.specs.Prelude.{bytes_eq, codes, ◌↔◌}
-use Rattle.std.proofs.Common.{◌≡◌, ℕ, ◌+◌, ◌<◌, ◌≤◌, Bool, true, false, IsTrue, List, [], ◌∷◌, ◌++◌, length, map, All, refl, sym, ap, ◌∙◌, arith, append-nil, append_assoc, length-append}
+use Rattle.std.specs.Prelude.{codes, ◌↔◌}
+use Rattle.std.proofs.Common.{◌≡◌, ℕ, ◌<◌, ◌≤◌, Bool, false, IsTrue, List, [], ◌∷◌, ◌++◌, length, map, All, refl, sym, ap, ◌∙◌, arith, append-nil, append_assoc, length-append}
 use Rattle.std.specs.List.{flat_map}
 use Rattle.std.proofs.lemmas.Bool.{false≢true}
 use Rattle.std.proofs.lemmas.List.{flat_map_more, length-map}
@@ -9,7 +9,7 @@ use Rattle.std.proofs.lemmas.Slice.Eq.{bytes_eq-Decides}
 use Rattle.op_types.specs.Limits.{most_writes}
 use Rattle.op_types.specs.Ranges.{IsKey, IsValue, WriteInRange, WritesInRange}
 use Rattle.op_types.specs.declared.log.Op.{Op}
-use Rattle.op_types.specs.declared.log.Op.TheVariants.{Put, Del, Get, Cas, Many, Forget}
+use Rattle.op_types.specs.declared.log.Op.TheVariants.{Many}
 use Rattle.op_types.specs.declared.writes.Write.{Write}
 use Rattle.op_types.specs.declared.writes.Write.TheVariants as write
 use Rattle.op_text.specs.Operations.{AreOperands, AreOperandsOf, IsWriteOf, WriteIsOfBytes, op_name, write_words}
@@ -57,11 +57,7 @@ del_parts : (key : List ℕ) (w : Write) → IsWriteOf (del_of key) w → IsSome
 del_parts key (write.Put k v) h = absurd (put_not_del (let e : del_of key ≡ put_of (encoded k) (encoded v) = h.written in cc))
 del_parts key (write.Del k) h = let e : del_of key ≡ del_of (encoded k) = h.written in (k, h.in_range, (h.of_bytes, cc))
 
--- a put has a key
-pub no_key_no_put : (key value : List ℕ) → (IsSomeKey key → ⊥) → IsSomeWrite (put_of key value) → ⊥
-no_key_no_put key value none (w, h) = none (put_parts key value w h).0
-
--- and a value
+-- a put has a key and a value
 pub put_by_value : (key value : List ℕ) (b : Bool) → IsSomeKey key → (IsTrue b ↔ IsSomeValue value) → IsTrue b ↔ IsSomeWrite (put_of key value)
 put_by_value key value b (k, ik, ke) test = (
   λ yes. let v = test.0 yes in (write.Put k v.0, record { in_range = (ik, v.1); of_bytes = (ke.0, v.2.0); written = cc (ke.1, v.2.1) }),

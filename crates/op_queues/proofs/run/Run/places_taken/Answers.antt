@@ -1,4 +1,4 @@
-use Rattle.std.proofs.Common.{◌≡◌, ◌<◌, ◌≤◌, ◌∙◌, ℕ, List, zip, sym, ap, arith}
+use Rattle.std.proofs.Common.{◌<◌, ◌≤◌, ◌∙◌, ℕ, List, zip, sym, ap, arith}
 use Rattle.op_types.specs.declared.log.Command.{Command}
 use Rattle.op_types.specs.Cutting.{commands_size}
 use Rattle.op_serving.specs.Inputs.{most_gathered, places_taken}

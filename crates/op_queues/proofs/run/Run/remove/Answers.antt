@@ -1,4 +1,4 @@
-use Rattle.std.proofs.Common.{◌≡◌, ◌<◌, ◌+◌, ℕ, List, length, zip, ap, ◌∙◌, arith}
+use Rattle.std.proofs.Common.{◌<◌, ℕ, List, length, zip, ap, ◌∙◌, arith}
 use Rattle.op_types.specs.declared.log.Command.{Command}
 use Rattle.op_types.specs.Cutting.{commands_size}
 use Rattle.std.specs.List.{remove}
