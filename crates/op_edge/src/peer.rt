@@ -3,6 +3,8 @@ ghost use Rattle.std_io.specs.IoError.{error_kind};
 ghost use Rattle.std_io.specs.declared.io.kind.ErrorKind.TheVariants.{WouldBlock};
 ghost use Rattle.op_outside.specs.Nets.{GotWithin, TookWithin};
 
+use crate::options::set_options;
+use crate::poller::Poller;
 use mio::event::Event;
 use mio::net::TcpStream;
 use op_outside::{Conn, Got, Happening, Took};
@@ -12,7 +14,8 @@ use std::io::{self, ErrorKind, Read, Write};
 /// finds it otherwise.
 #[derive(Drop)]
 pub(crate) struct Peer {
-    stream: TcpStream,
+    /// None once it is closed.
+    stream: Option<TcpStream>,
     /// Whether a read may find bytes, or the end.
     readable: bool,
     /// Whether there is room again, of which `told_of_room` wasn't called.
@@ -26,12 +29,34 @@ impl Peer {
     /// A connection that waits for room until this time: so does one that was dialled, until it is open.
     pub(crate) fn new(stream: TcpStream, deadline: Option<u64>) -> Peer {
         Peer {
-            stream,
+            stream: Some(stream),
             readable: false,
             writable: false,
             ended: false,
             deadline,
         }
+    }
+
+    /// Has the system tell what happens at it, under this key.
+    pub(crate) fn register(&mut self, poller: &Poller, key: usize) -> io::Result<()> {
+        let Some(stream) = &mut self.stream else {
+            return Err(ErrorKind::NotConnected.into());
+        };
+        set_options(stream)?;
+        poller.add(stream, key)
+    }
+
+    /// Closes it: nothing is told of it any more.
+    pub(crate) fn close(&mut self) {
+        self.stream = None;
+        self.deadline = None;
+        self.readable = false;
+        self.writable = false;
+        self.ended = false;
+    }
+
+    pub(crate) fn is_closed(&self) -> bool {
+        self.stream.is_none()
     }
 
     /// Notes what the system says of it.
@@ -81,7 +106,10 @@ impl Peer {
         requires { 0 < length buf.old }
         ensures { GotWithin (length buf.old) (Ok result) }
     {
-        let got = got_of(self.stream.read(buf));
+        let Some(stream) = &mut self.stream else {
+            return Got::Ended;
+        };
+        let got = got_of(stream.read(buf));
         match got {
             Got::Bytes(_) => {}
             Got::NotYet => self.readable = false,
@@ -99,7 +127,10 @@ impl Peer {
         requires { 0 < length piece.now }
         ensures { TookWithin (length piece.now) (Ok result) }
     {
-        let took = took_of(self.stream.write(piece));
+        let Some(stream) = &mut self.stream else {
+            return Took::Ended;
+        };
+        let took = took_of(stream.write(piece));
         match took {
             Took::Bytes(_) => self.deadline = None,
             Took::NotYet => {

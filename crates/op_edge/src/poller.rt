@@ -1,12 +1,12 @@
 use mio::net::{TcpListener, TcpStream};
 use mio::{Events, Interest, Poll, Token};
-use op_outside::{Conn, MOST_HAPPENINGS};
+use op_outside::MOST_HAPPENINGS;
 use std::alloc::Global;
 use std::io;
 use std::net::Net;
 use std::time::Duration;
 
-/// Under which the listener's events come. No connection has this number.
+/// Under which the listener's events come. No connection has this key.
 pub(crate) const LISTENER: Token = Token(usize::MAX);
 
 /// Where sockets are registered, and what the last wait told of them.
@@ -29,11 +29,9 @@ impl Poller {
         registry.register(listener, LISTENER, Interest::READABLE)
     }
 
-    pub(crate) fn add(&self, stream: &mut TcpStream, conn: Conn) -> io::Result<()> {
+    pub(crate) fn add(&self, stream: &mut TcpStream, key: usize) -> io::Result<()> {
         let both = Interest::READABLE | Interest::WRITABLE;
-        self.poll
-            .registry()
-            .register(stream, Token(conn as usize), both)
+        self.poll.registry().register(stream, Token(key), both)
     }
 
     /// Waits for events, for `ms` milliseconds at most.

@@ -1,14 +1,14 @@
 ghost use Rattle.std.specs.Prelude.{◌≤◌, ◌<◌, length, vec_len, Ok};
 ghost use Rattle.op_outside.specs.Nets.{most_happenings, GotWithin, TookWithin};
 
-use crate::options::{UNMOVED_MILLIS, set_options};
+use crate::options::UNMOVED_MILLIS;
 use crate::peer::Peer;
 use crate::poller::{LISTENER, Poller};
 use mio::event::Event;
 use mio::net::{TcpListener, TcpStream};
 use op_outside::{Addr, Clock, Conn, Got, Happening, MOST_HAPPENINGS, Took};
+use slab::Slab;
 use std::alloc::Global;
-use std::collections::BTreeMap;
 use std::io::{self, ErrorKind};
 use std::net::{Ipv4Addr, Net, SocketAddr};
 use std::ops::Range;
@@ -22,7 +22,8 @@ const MOST_ACCEPTED: u32 = 16;
 /// How long after an error of the listener it is tried again, in milliseconds.
 const ACCEPT_AGAIN_MILLIS: u64 = 100;
 
-/// A listener and connections. Each connection has a number that none had before.
+/// A listener and connections. A connection's number is its key in the table: no two that are open share it. That of one which is
+/// closed comes again behind the next wait, so that what the last one told is never taken for news of another.
 #[derive(Drop)]
 pub(crate) struct Sockets<R: Net + Drop, C: Clock + Drop> {
     rt: R,
@@ -35,9 +36,7 @@ pub(crate) struct Sockets<R: Net + Drop, C: Clock + Drop> {
     /// When they may again, after an error of the listener, in milliseconds of the clock: the system then tells of none that
     /// waits already.
     accept_at: Option<u64>,
-    peers: BTreeMap<Conn, Peer>,
-    /// The number of the next connection.
-    next: Conn,
+    peers: Slab<Peer>,
     /// With which connection the next happenings begin, so that each has its turn.
     turn: Conn,
 }
@@ -52,8 +51,7 @@ impl<R: Net + Drop, C: Clock + Drop> Sockets<R, C> {
             listener: None,
             acceptable: false,
             accept_at: None,
-            peers: BTreeMap::new(alloc),
-            next: 0,
+            peers: Slab::new(alloc),
             turn: 0,
         }
     }
@@ -82,20 +80,18 @@ impl<R: Net + Drop, C: Clock + Drop> Sockets<R, C> {
         }
     }
 
-    /// Keeps a connection under the next number. One that can't be kept is closed.
-    fn keep(&mut self, mut stream: TcpStream, deadline: Option<u64>) -> io::Result<Conn> {
-        let conn = self.next;
-        let Some(next) = conn.checked_add(1) else {
-            return Err(ErrorKind::Other.into());
-        };
+    /// Keeps a connection. One that can't be kept is closed.
+    fn keep(&mut self, stream: TcpStream, deadline: Option<u64>) -> io::Result<Conn> {
         let Some(poller) = &self.poller else {
             return Err(ErrorKind::Other.into());
         };
-        set_options(&stream)?;
-        poller.add(&mut stream, conn)?;
-        self.peers.insert(conn, Peer::new(stream, deadline))?;
-        self.next = next;
-        Ok(conn)
+        let key = self.peers.vacant_key();
+        let mut peer = Peer::new(stream, deadline);
+        peer.register(poller, key)?;
+        if self.peers.insert(peer).is_err() {
+            return Err(ErrorKind::OutOfMemory.into());
+        }
+        Ok(key as Conn)
     }
 
     /// Waits for happenings, for `ms` milliseconds at most, and gives 64 of them at most. The others are given later.
@@ -128,26 +124,28 @@ impl<R: Net + Drop, C: Clock + Drop> Sockets<R, C> {
         Ok(())
     }
 
+    /// Notes the time, and lets go of the numbers of those that are closed.
     fn note_time(&mut self) {
         let now = self.clock.millis();
         if self.accept_at.is_some_and(|time| time <= now) {
             self.accept_at = None;
             self.acceptable = true;
         }
-        for peer in self.peers.values_mut() {
+        self.peers.retain(|_, peer| {
             peer.note_time(now);
-        }
+            !peer.is_closed()
+        });
     }
 
     /// How long to wait, in milliseconds: not where there is something to tell, and not past a deadline or the listener's next
     /// try.
     fn patience(&mut self, ms: u64) -> u64 {
-        if self.acceptable || self.peers.values().any(|peer| peer.has_news()) {
+        if self.acceptable || self.peers.iter().any(|(_, peer)| peer.has_news()) {
             return 0;
         }
         let now = self.clock.millis();
         let until_accept = self.accept_at.map_or(ms, |time| time.saturating_sub(now));
-        self.peers.values().filter_map(|peer| peer.deadline).fold(
+        self.peers.iter().filter_map(|(_, peer)| peer.deadline).fold(
             ms.min(until_accept),
             |least, deadline| least.min(deadline.saturating_sub(now)),
         )
@@ -190,7 +188,7 @@ impl<R: Net + Drop, C: Clock + Drop> Sockets<R, C> {
     /// Notes that a happening was told.
     pub(crate) fn told(&mut self, happening: Happening) {
         if let Happening::Writable(conn) = happening {
-            if let Some(peer) = self.peers.get_mut(&conn) {
+            if let Some(peer) = self.peers.get_mut(conn as usize) {
                 peer.told_of_room();
             }
         }
@@ -206,7 +204,7 @@ impl<R: Net + Drop, C: Clock + Drop> Sockets<R, C> {
         requires { 0 < length buf.old }
         ensures { GotWithin (length buf.old) (Ok result) }
     {
-        match self.peers.get_mut(&conn) {
+        match self.peers.get_mut(conn as usize) {
             Some(peer) => peer.read(buf),
             None => Got::Ended,
         }
@@ -218,14 +216,16 @@ impl<R: Net + Drop, C: Clock + Drop> Sockets<R, C> {
     {
         let now = self.clock.millis();
         let deadline = now.saturating_add(u64::from(UNMOVED_MILLIS));
-        match self.peers.get_mut(&conn) {
+        match self.peers.get_mut(conn as usize) {
             Some(peer) => peer.write(piece, deadline),
             None => Took::Ended,
         }
     }
 
     pub(crate) fn close(&mut self, conn: Conn) {
-        self.peers.remove(&conn);
+        if let Some(peer) = self.peers.get_mut(conn as usize) {
+            peer.close();
+        }
     }
 }
 
@@ -234,30 +234,33 @@ fn socket_addr(addr: &Addr) -> SocketAddr {
 }
 
 /// Notes what the system says of a connection.
-fn note(peers: &mut BTreeMap<Conn, Peer>, event: &Event) {
-    if let Some(peer) = peers.get_mut(&(event.token().0 as u64)) {
+fn note(peers: &mut Slab<Peer>, event: &Event) {
+    if let Some(peer) = peers.get_mut(event.token().0) {
         peer.note(event);
     }
 }
 
 /// Gives what happened, from this connection on and then round to it.
-fn give_in_turn(peers: &BTreeMap<Conn, Peer>, turn: Conn, given: &mut Vec<Happening>)
+fn give_in_turn(peers: &Slab<Peer>, turn: Conn, given: &mut Vec<Happening>)
     requires { vec_len given.old ≤ most_happenings }
     ensures { vec_len given.new ≤ most_happenings }
 {
-    give(peers, turn..Conn::MAX, given);
+    let end = peers.capacity();
+    let turn = end.min(turn as usize);
+    give(peers, turn..end, given);
     give(peers, 0..turn, given);
 }
 
 /// Gives what happened at these connections, while there is room.
-fn give(peers: &BTreeMap<Conn, Peer>, which: Range<Conn>, given: &mut Vec<Happening>)
-    requires order { which.start ≤ which.end }
-    requires most { vec_len given.old ≤ most_happenings }
+fn give(peers: &Slab<Peer>, which: Range<usize>, given: &mut Vec<Happening>)
+    requires { vec_len given.old ≤ most_happenings }
     ensures { vec_len given.new ≤ most_happenings }
 {
-    'peers: for (conn, peer) in peers.range(which) {
-        put(given, peer.news(*conn));
-        put(given, peer.room(*conn));
+    'peers: for key in which {
+        if let Some(peer) = peers.get(key) {
+            put(given, peer.news(key as Conn));
+            put(given, peer.room(key as Conn));
+        }
     }
 }
 

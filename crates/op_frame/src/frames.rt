@@ -1,11 +1,13 @@
 ghost use Rattle.std.specs.Prelude.{◌≡◌, ◌<◌, ◌≤◌, ◌+◌, [], length, drop, IfOk, IfErr, IfSome, None, OnOk, OnErr};
 ghost use Rattle.op_frame.specs.Framing.{stream_of, IsHead, BeginsWith, Stops, Tells, IsWhole, fed, left};
 
+use bytes::BytesMut;
+use op_conns::drop_front;
 use op_fields::{NoMemory, take_u32, take_u64};
 use std::alloc::{AllocError, Global};
 use std::marker::Model;
 
-/// How many bytes of room a buffer keeps when it holds less.
+/// How many bytes of room a buffer keeps once it holds none.
 const ROOM_KEPT: usize = 4096;
 
 /// Why no body is given.
@@ -34,20 +36,17 @@ impl From<AllocError> for NextFail {
 pub struct Frames {
     head: u8,
     limit: u64,
-    bytes: Vec<u8>,
-    /// The byte offset of the first that was not given.
-    start: usize,
+    held: BytesMut,
 }
 
 impl Model for Frames {
-    ghost use Rattle.std.specs.Prelude.{drop, vec_len, ◌≤◌};
     ghost use Rattle.op_frame.specs.Framing.{Stream, IsHead};
 
     ghost Value = { Stream };
 
-    ghost view = { λ f. record { head = f.head; limit = f.limit; held = drop f.start f.bytes.items } };
+    ghost view = { λ f. record { head = f.head; limit = f.limit; held = f.held.items } };
 
-    ghost invariant = { λ f. (f.start ≤ vec_len f.bytes) × IsHead f.head };
+    ghost invariant = { λ f. IsHead f.head };
 }
 
 impl Frames {
@@ -59,8 +58,7 @@ impl Frames {
         Frames {
             head,
             limit,
-            bytes: Vec::new(alloc),
-            start: 0,
+            held: BytesMut::new(alloc),
         }
     }
 
@@ -69,7 +67,7 @@ impl Frames {
         ensures ok { OnOk result (self.new ≡ fed self.old piece.now) }
         ensures err { OnErr result (self.new ≡ self.old) }
     {
-        self.bytes.extend_from_slice(piece)?;
+        self.held.extend_from_slice(piece)?;
         Ok(())
     }
 
@@ -83,7 +81,7 @@ impl Frames {
     {
         let len = self.body_len()?;
         let head = self.head as usize;
-        let alloc = *self.bytes.allocator();
+        let alloc = *self.held.allocator();
         let body = Vec::from_slice(alloc, &self.held()[head..head + len])?;
         self.skip(head + len);
         Ok(body)
@@ -106,7 +104,8 @@ impl Frames {
         requires { self.old.head + len ≤ length self.old.held }
         ensures { self.new ≡ left self.old (drop (self.old.head + len) self.old.held) }
     {
-        self.skip(self.head as usize + len);
+        self.skip(self.head as usize);
+        self.skip(len);
     }
 
     /// Goes on after so many bytes, as a stream whose heads have 4 or 8 bytes, and whose bodies have up to `limit` bytes.
@@ -124,7 +123,7 @@ impl Frames {
     pub fn held(&self) -> &[u8]
         ensures { result.now ≡ self.now.held }
     {
-        &self.bytes.as_slice()[self.start..]
+        self.held.as_slice()
     }
 
     /// How many bytes the body of the first frame has, if the frame is whole.
@@ -146,18 +145,12 @@ impl Frames {
         Ok(len as usize)
     }
 
-    /// Goes on after so many bytes. What was given is let go of once it is more than half of the buffer: so a byte is moved
-    /// once at most for each byte that was given, and the memory follows what is held.
+    /// Goes on after so many bytes.
     fn skip(&mut self, count: usize)
         requires { count ≤ length self.old.held }
         ensures { self.new ≡ left self.old (drop count self.old.held) }
     {
-        self.start += count;
-        if self.start > self.bytes.len() - self.start {
-            drop(self.bytes.drain(..self.start));
-            self.start = 0;
-            self.bytes.shrink_to(ROOM_KEPT);
-        }
+        drop_front(&mut self.held, count, ROOM_KEPT);
     }
 }
 
