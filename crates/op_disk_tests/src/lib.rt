@@ -1,33 +1,21 @@
-//! Crashes and damage of stored records, run over the disk in memory, and bytes that are read and written again.
+//! Openings of areas that are new, old, damaged or cut short, over disks in memory; mirrors, and disks that share a power switch.
 #![tactic(auto)]
 
 #[cfg(test)]
 mod areas;
 #[cfg(test)]
+mod boxes;
+#[cfg(test)]
 mod bytes;
-#[cfg(test)]
-mod carried;
-#[cfg(test)]
-mod damage;
-#[cfg(test)]
-mod memory;
 #[cfg(test)]
 mod mirror_stops;
 #[cfg(test)]
-mod mirrored_stores;
-#[cfg(test)]
 mod mirrors;
+#[cfg(test)]
+mod openings;
 #[cfg(test)]
 mod powers;
 #[cfg(test)]
-mod silent;
-#[cfg(test)]
-mod store_damage;
-#[cfg(test)]
-mod store_stops;
-#[cfg(test)]
-mod stored;
+mod stops;
 #[cfg(test)]
 mod stores;
-#[cfg(test)]
-mod two_areas;

@@ -1,8 +1,7 @@
-//! A mirror of two disks in memory: what its opening makes of copies that differ, and what goes on where one copy fails.
+//! A mirror of two disks in memory: what its opening makes of copies that differ, by which calls, and where one copy fails.
 
 use op_memory::MemDisk;
 use op_mirror::{Mirror, OpenCause};
-use op_outside::{Disk, DiskFail};
 use std::alloc::{AllocError, Global};
 use std::test::Fail;
 
@@ -90,130 +89,6 @@ fn a_copy_that_fails_in_an_opening_is_out(rt: HostRuntime) -> Result<(), Fail> {
     for (stop, second_stop, left, second_left) in rows {
         let left = (left, second_left);
         assert!(rt; are_left(rt.alloc(), (one, stop), (two, second_stop), left)?);
-    }
-    Ok(())
-}
-
-/// Seven calls of a disk, after which an empty one holds `abcxy`.
-fn change<D: Disk>(disk: &mut D) -> Result<(), DiskFail> {
-    let mut bytes = [0u8; 2];
-    disk.write_at(0, b"abcd")?;
-    disk.sync()?;
-    disk.cut(3)?;
-    disk.read(1, &mut bytes)?;
-    let len = disk.len()?;
-    disk.write_at(len, b"xy")?;
-    disk.sync()
-}
-
-/// A mirror of two empty disks, of which each stops at a call, unless that is 0. Its opening makes two calls of each.
-fn mirror(alloc: Global, stop: u64, second_stop: u64) -> Result<Mirror<MemDisk>, Fail> {
-    let first = copy(alloc, b"", stop)?;
-    let second = copy(alloc, b"", second_stop)?;
-    match Mirror::open(alloc, first, second) {
-        Ok(mirror) => Ok(mirror),
-        Err(_) => Err("it is not opened".into()),
-    }
-}
-
-/// Whether a mirror whose copies stop so is changed without a fault, and one copy lives that has the change.
-fn goes_on(alloc: Global, stop: u64, second_stop: u64) -> Result<bool, Fail> {
-    let mut mirror = mirror(alloc, stop, second_stop)?;
-    let is_changed = change(&mut mirror).is_ok() && mirror.faults() == 0;
-    let is_one = mirror.living() == 1;
-    let (first, second, halves) = mirror.apart();
-    let left = if halves.has_first() { &first } else { &second };
-    Ok(is_changed && is_one && left.bytes() == b"abcxy".as_slice())
-}
-
-#[test]
-fn one_copy_may_fail_at_any_call(rt: HostRuntime) -> Result<(), Fail> {
-    // The second copy isn't asked for what the first one tells.
-    for (stop, second_stop) in (1..=9).map(|n| (n, 0)).chain((1..=7).map(|n| (0, n))) {
-        assert!(rt;
-            goes_on(rt.alloc(), stop, second_stop)?,
-            "{stop} {second_stop}"
-        );
-    }
-    Ok(())
-}
-
-/// Whether changes and syncs of a disk fail, each with a fault.
-fn fails<D: Disk>(disk: &mut D) -> bool {
-    change(disk).is_err() && disk.faults() == 1 && disk.sync().is_err() && disk.faults() == 2
-}
-
-/// Whether a mirror whose copies stop so fails, and none of them lives.
-fn is_out(alloc: Global, stop: u64, second_stop: u64) -> Result<bool, Fail> {
-    let mut mirror = mirror(alloc, stop, second_stop)?;
-    Ok(fails(&mut mirror) && mirror.living() == 0)
-}
-
-#[test]
-fn a_call_fails_where_no_copy_lives(rt: HostRuntime) -> Result<(), Fail> {
-    for stop in 3..=9 {
-        for second_stop in 3..=7 {
-            assert!(rt;
-                is_out(rt.alloc(), stop, second_stop)?,
-                "{stop} {second_stop}"
-            );
-        }
-    }
-    Ok(())
-}
-
-#[test]
-fn copies_that_both_live_are_written_alike(rt: HostRuntime) -> Result<(), Fail> {
-    let mut mirror = mirror(rt.alloc(), 0, 0)?;
-    let is_changed = change(&mut mirror).is_ok();
-    let living = mirror.living();
-    let (first, second, _) = mirror.apart();
-    assert_eq!(rt; (is_changed, living), (true, 2));
-    assert!(rt; is_left(&first, true, (true, 9, b"abcxy")));
-    assert!(rt; is_left(&second, true, (true, 7, b"abcxy")));
-    Ok(())
-}
-
-/// The mirror, with its first or its second copy killed.
-fn killed(mirror: Mirror<MemDisk>, is_first: bool) -> Mirror<MemDisk> {
-    let (mut first, mut second, halves) = mirror.apart();
-    if is_first {
-        first.kill();
-    } else {
-        second.kill();
-    }
-    Mirror::together(first, second, halves)
-}
-
-/// Whether a disk has these bytes first.
-fn begins_with<D: Disk>(disk: &mut D, bytes: [u8; 5]) -> bool {
-    let mut found = [0u8; 5];
-    disk.read(0, &mut found).is_ok() && found == bytes
-}
-
-/// The copies of a mirror of which one is killed, after a change, and whether that one alone is out.
-fn after_kill(alloc: Global, is_first: bool) -> Result<(MemDisk, MemDisk, bool), Fail> {
-    let mut mirror = killed(mirror(alloc, 0, 0)?, is_first);
-    let is_changed = change(&mut mirror).is_ok();
-    let is_other = mirror.has_first() != is_first && mirror.has_second() == is_first;
-    let reads_other = mirror.reads_second() == is_first;
-    let (first, second, _) = mirror.apart();
-    Ok((first, second, is_changed && is_other && reads_other))
-}
-
-/// Whether a mirror of which one copy is killed is changed by the other one, and has that after a start.
-fn is_out_over_starts(alloc: Global, is_first: bool) -> Result<bool, Fail> {
-    let (first, second, is_out) = after_kill(alloc, is_first)?;
-    Ok(match Mirror::open(alloc, first, second) {
-        Ok(mut again) => is_out && again.living() == 1 && begins_with(&mut again, *b"abcxy"),
-        Err(_) => false,
-    })
-}
-
-#[test]
-fn a_killed_copy_is_out_over_starts(rt: HostRuntime) -> Result<(), Fail> {
-    for is_first in [true, false] {
-        assert!(rt; is_out_over_starts(rt.alloc(), is_first)?, "{is_first}");
     }
     Ok(())
 }

@@ -65,19 +65,7 @@ const CUT_BY_END: &[Step] = &[
     Step::Comes(OTHER_PUT),
 ];
 
-/// Two sessions put in one turn.
-const TWO_PUTS: &[Step] = &[
-    Step::Happens(&[
-        Happening::Accepted(5),
-        Happening::Accepted(6),
-        Happening::Readable(5),
-        Happening::Readable(6),
-    ]),
-    Step::Comes(PUT),
-    Step::Comes(OTHER_PUT),
-];
-
-const ROWS: [Row<'static>; 4] = [
+const ROWS: [Row<'static>; 3] = [
     // Sixty-four commands, and one more.
     Row {
         server: Server::Alone,
@@ -116,26 +104,6 @@ const ROWS: [Row<'static>; 4] = [
         ],
         end: ServeEnd::Ended,
         lost: 0,
-    },
-    // A list that finds no memory is refused at each connection. One input was lost, and so there is one mark.
-    Row {
-        server: Server::Scarce,
-        steps: TWO_PUTS,
-        turns: 1,
-        conns: &[
-            (
-                5,
-                Wrote::Bytes(b"\0\0\0\x12\0\0\0\0\0\0\0\x07\0\0\0\0\0\0\0\x01\x06\x05"),
-                0,
-            ),
-            (
-                6,
-                Wrote::Bytes(b"\0\0\0\x12\0\0\0\0\0\0\0\x08\0\0\0\0\0\0\0\x01\x06\x05"),
-                0,
-            ),
-        ],
-        end: ServeEnd::TurnsOver,
-        lost: 1,
     },
 ];
 

@@ -7,7 +7,7 @@ use std::test::Fail;
 
 /// The reply is the tag of Ended.
 const ROWS: [Row<'static>; 1] = [Row {
-    server: Server::Failed,
+    server: Server::Alone,
     steps: &[
         Step::Happens(&[Happening::Accepted(5), Happening::Readable(5)]),
         Step::Comes(b"C\x00\x00\x00\x01\x05"),

@@ -36,8 +36,9 @@ const READS: &[Step] = &[
     Step::Comes(READ_B),
 ];
 
-/// The first call of the first disk behind the opening and the first tick: nine are made at the opening, and four for each
-/// record.
+/// The first call of the first disk in the first tick, and behind it: nine are made at the opening, and four for each record.
+const CALL_OF_TICK: u64 = 9 + 1;
+
 const CALL_AFTER_TICK: u64 = 9 + 4 + 1;
 
 /// A client's first byte, and client 7's command 1, which puts `x` at `a`.
@@ -90,18 +91,19 @@ const ROWS: [Row<'static>; 3] = [
         end: ServeEnd::TurnsOver,
         lost: 0,
     },
-    // A failed node refuses a read, since the disks have failed 7 times.
+    // A node whose tick couldn't be stored refuses a read, since a disk has failed once.
     Row {
-        server: Server::Failed,
+        server: Server::Failing(CALL_OF_TICK),
         steps: &[
+            Step::Idles(TICK),
             Step::Happens(&[Happening::Accepted(5), Happening::Readable(5)]),
             Step::Comes(READ),
         ],
-        turns: 1,
+        turns: 11,
         conns: &[(
             5,
             Wrote::Bytes(
-                b"\0\0\0\x1a\0\0\0\0\0\0\0\x07\0\0\0\0\0\0\0\x01\x06\x01\0\0\0\0\0\0\0\x07",
+                b"\0\0\0\x1a\0\0\0\0\0\0\0\x07\0\0\0\0\0\0\0\x01\x06\x01\0\0\0\0\0\0\0\x01",
             ),
             0,
         )],

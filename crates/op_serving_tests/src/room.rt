@@ -102,125 +102,119 @@ fn wish(sessions: &mut Sessions) {
     ));
 }
 
-/// How many bytes wait for the peer.
-fn waiting(sessions: &Sessions) -> usize {
-    sessions.waiting(CONN).len()
-}
-
 /// The peer takes all that waits for it.
 fn take_all(sessions: &mut Sessions) {
     let waiting = sessions.waiting(CONN).len();
     sessions.took(CONN, waiting);
 }
 
-#[test]
-fn a_heartbeat_goes_before_what_waits_behind(rt: HostRuntime) -> Result<(), Fail> {
-    let mut sessions = with_peer(rt.alloc())?;
-    tell(&mut sessions, AHEAD + BEHIND);
-    let full = waiting(&sessions);
-    ask(&mut sessions);
-    let asked = waiting(&sessions);
-    take_all(&mut sessions);
-    let taken = waiting(&sessions);
-    ask(&mut sessions);
-    let moved = waiting(&sessions);
-    sessions.shed();
-    assert_eq!(rt;
-        (full, asked, taken, moved),
-        (
-            AHEAD * DECIDE,
-            AHEAD * DECIDE + REQUEST,
-            0,
-            BEHIND * DECIDE + REQUEST
-        )
-    );
-    assert!(rt; sessions.is_open(CONN));
-    Ok(())
+/// What is done with the peer's session.
+#[derive(Clone, Copy)]
+enum Step {
+    /// It is told so often how much is decided.
+    Tells(usize),
+    /// It is asked for a heartbeat.
+    Asks,
+    /// It is asked to be prepared.
+    Wishes,
+    /// It is asked for a promise of a new ballot, or of one that is led.
+    PreparesAnew,
+    PreparesAgain,
+    /// It takes all that waits for it.
+    TakesAll,
+    /// So many bytes wait for it.
+    Waits(usize),
+    /// What is to be closed is closed, and it isn't.
+    StaysOpen,
 }
 
-/// A node with a session of its peer, for which frames wait behind.
-fn with_frames_behind(alloc: Global) -> Result<Sessions, NoMemory> {
+/// Whether what is told of the session is so.
+fn tells(sessions: &mut Sessions, step: Step) -> bool {
+    match step {
+        Step::Waits(count) => sessions.waiting(CONN).len() == count,
+        _ => {
+            sessions.shed();
+            sessions.is_open(CONN)
+        }
+    }
+}
+
+/// Whether a step is done, and what it tells is so.
+fn goes(sessions: &mut Sessions, step: Step) -> bool {
+    match step {
+        Step::Tells(times) => tell(sessions, times),
+        Step::Asks => ask(sessions),
+        Step::Wishes => wish(sessions),
+        Step::PreparesAnew => prepare_anew(sessions),
+        Step::PreparesAgain => prepare_again(sessions),
+        Step::TakesAll => take_all(sessions),
+        Step::Waits(_) | Step::StaysOpen => return tells(sessions, step),
+    }
+    true
+}
+
+/// The first of these steps of a new session that goes otherwise.
+fn first_wrong(alloc: Global, steps: &[Step]) -> Result<Option<usize>, NoMemory> {
     let mut sessions = with_peer(alloc)?;
-    tell(&mut sessions, AHEAD + BEHIND);
-    Ok(sessions)
-}
-
-/// The peer takes all that waits for it, and is asked for a heartbeat: what moves up goes before that. Gives how many
-/// bytes wait then.
-fn move_up(sessions: &mut Sessions) -> usize {
-    take_all(sessions);
-    ask(sessions);
-    waiting(sessions)
-}
-
-#[test]
-fn a_new_ballot_takes_the_place_of_what_waits_behind(rt: HostRuntime) -> Result<(), Fail> {
-    let mut sessions = with_frames_behind(rt.alloc())?;
-    prepare_anew(&mut sessions);
-    let sent = waiting(&sessions);
-    let moved = move_up(&mut sessions);
-    assert_eq!(rt; (sent, moved), (AHEAD * DECIDE, PREPARE + REQUEST));
-    Ok(())
-}
-
-#[test]
-fn a_ballot_that_is_led_waits_its_turn(rt: HostRuntime) -> Result<(), Fail> {
-    let mut sessions = with_frames_behind(rt.alloc())?;
-    prepare_again(&mut sessions);
-    let sent = waiting(&sessions);
-    let moved = move_up(&mut sessions);
-    assert_eq!(rt;
-        (sent, moved),
-        (AHEAD * DECIDE, BEHIND * DECIDE + PREPARE + REQUEST)
-    );
-    Ok(())
-}
-
-#[test]
-fn a_wish_to_be_prepared_goes_before_what_waits_behind(rt: HostRuntime) -> Result<(), Fail> {
-    let mut sessions = with_frames_behind(rt.alloc())?;
-    wish(&mut sessions);
-    let sent = waiting(&sessions);
-    let moved = move_up(&mut sessions);
-    assert_eq!(rt;
-        (sent, moved),
-        (AHEAD * DECIDE + WISH, BEHIND * DECIDE + REQUEST)
-    );
-    Ok(())
-}
-
-/// The peer takes so many bytes of what waits for it.
-fn take(sessions: &mut Sessions, count: usize) {
-    let waiting = sessions.waiting(CONN).len();
-    sessions.took(CONN, count.min(waiting));
-}
-
-/// Of two frames the peer takes so many bytes of the first: whether the same waits then where it took them before the
-/// second came.
-fn goes_behind(alloc: Global, count: usize) -> Result<bool, NoMemory> {
-    let mut after = with_peer(alloc)?;
-    tell(&mut after, 2);
-    take(&mut after, count);
-    let mut before = with_peer(alloc)?;
-    tell(&mut before, 1);
-    take(&mut before, count);
-    tell(&mut before, 1);
-    Ok(before.waiting(CONN) == after.waiting(CONN))
-}
-
-/// The first of these counts with which it doesn't.
-fn first_astray(alloc: Global, counts: &[usize]) -> Result<Option<usize>, NoMemory> {
-    for count in counts {
-        if !goes_behind(alloc, *count)? {
-            return Ok(Some(*count));
+    for (place, step) in steps.iter().enumerate() {
+        if !goes(&mut sessions, *step) {
+            return Ok(Some(place));
         }
     }
     Ok(None)
 }
 
+/// More frames than may wait.
+const TOO_MANY: Step = Step::Tells(AHEAD + BEHIND);
+
+/// What comes of what waits behind.
+const ROWS: [&[Step]; 4] = [
+    // A heartbeat goes before it.
+    &[
+        TOO_MANY,
+        Step::Waits(AHEAD * DECIDE),
+        Step::Asks,
+        Step::Waits(AHEAD * DECIDE + REQUEST),
+        Step::TakesAll,
+        Step::Waits(0),
+        Step::Asks,
+        Step::Waits(BEHIND * DECIDE + REQUEST),
+        Step::StaysOpen,
+    ],
+    // A new ballot takes its place. What moves up goes before a heartbeat.
+    &[
+        TOO_MANY,
+        Step::PreparesAnew,
+        Step::Waits(AHEAD * DECIDE),
+        Step::TakesAll,
+        Step::Asks,
+        Step::Waits(PREPARE + REQUEST),
+    ],
+    // A ballot that is led waits its turn.
+    &[
+        TOO_MANY,
+        Step::PreparesAgain,
+        Step::Waits(AHEAD * DECIDE),
+        Step::TakesAll,
+        Step::Asks,
+        Step::Waits(BEHIND * DECIDE + PREPARE + REQUEST),
+    ],
+    // A wish to be prepared goes before it.
+    &[
+        TOO_MANY,
+        Step::Wishes,
+        Step::Waits(AHEAD * DECIDE + WISH),
+        Step::TakesAll,
+        Step::Asks,
+        Step::Waits(BEHIND * DECIDE + REQUEST),
+    ],
+];
+
 #[test]
-fn a_frame_goes_behind_what_is_left_of_another(rt: HostRuntime) -> Result<(), Fail> {
-    let counts = [0, 5, DECIDE / 2 + 1, DECIDE - 1, DECIDE];
-    assert_eq!(rt; first_astray(rt.alloc(), &counts)?, None);
+fn frames_wait_behind_what_waits(rt: HostRuntime) -> Result<(), Fail> {
+    for (place, steps) in ROWS.iter().enumerate() {
+        let wrong = first_wrong(rt.alloc(), steps)?;
+        assert!(rt; wrong.is_none(), "row {place}, step {wrong:?}");
+    }
     Ok(())
 }

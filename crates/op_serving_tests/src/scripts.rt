@@ -1,24 +1,20 @@
 //! What the tests share.
 ghost use Rattle.std.specs.Prelude.{IfOk};
-ghost use Rattle.op_types.specs.Ranges.{IsPid, MembersInRange};
+ghost use Rattle.op_types.specs.Ranges.{MembersInRange};
 ghost use Rattle.op_core.specs.NodeCores.{IsServable};
 ghost use Rattle.op_pump.specs.Counts.{IsLimited};
 ghost use Rattle.op_pump.specs.Moments.{PeersInRange};
 
-use crate::FailedNode;
 use op_core::{NodeCore, opened_nodes_can_be_served};
 use op_memory::{FakeClock, Incoming, KeptCall, MemDisk, NetScript, ScriptNet};
 use op_node::Node;
 use op_outside::{Addr, Conn, Happening, Took};
 use op_pump::{ServeEnd, Served, serve};
 use op_setup::{MOST_TURNS, Peers, Settings};
-use op_types::{Members, NoMemory, Pid};
+use op_types::{Members, NoMemory};
 use std::alloc::Global;
 use std::collections::VecDeque;
 use std::test::Fail;
-
-/// The fault count of the failed node.
-const FAULTS: u64 = 7;
 
 /// The longest body of a client's frame.
 const MOST: usize = 131_072;
@@ -110,7 +106,7 @@ fn settings(alloc: Global, turns: u64, trim_every: Option<u64>) -> Result<Settin
     })
 }
 
-/// The only member.
+/// The first member alone.
 fn sole() -> Result<Members, NoMemory>
     ensures { IfOk result MembersInRange }
 {
@@ -145,8 +141,6 @@ pub enum Step<'a> {
     ComesGets(u64, u64),
     /// A write takes so much.
     Takes(Took),
-    /// A dial gives this connection.
-    Dials(Conn),
     /// This call fails.
     Fails(u64),
 }
@@ -170,13 +164,12 @@ fn add(script: &mut NetScript, alloc: Global, step: Step) -> Result<(), NoMemory
         Step::ComesLongPut => read_gives(script, long_put(alloc)?),
         Step::ComesGets(first, last) => read_gives(script, gets(alloc, first, last)?),
         Step::Takes(took) => Ok(script.writes.push_back(took)?),
-        Step::Dials(conn) => Ok(script.dials.push_back(Some(conn))?),
         Step::Fails(call) => Ok(script.fails.push(call)?),
     }
 }
 
 /// The next wait gives these.
-pub fn happens(
+fn happens(
     script: &mut NetScript,
     alloc: Global,
     happenings: &[Happening],
@@ -193,7 +186,7 @@ fn idles(script: &mut NetScript, alloc: Global, count: usize) -> Result<(), NoMe
 }
 
 /// The next read gives these bytes.
-pub fn read_gives(script: &mut NetScript, bytes: Vec<u8>) -> Result<(), NoMemory> {
+fn read_gives(script: &mut NetScript, bytes: Vec<u8>) -> Result<(), NoMemory> {
     script.reads.push_back(Incoming::Bytes(bytes))?;
     Ok(())
 }
@@ -201,25 +194,45 @@ pub fn read_gives(script: &mut NetScript, bytes: Vec<u8>) -> Result<(), NoMemory
 /// How serving ended, how many marks there are, the net, and how many calls of the first disk were made.
 type Run = (ServeEnd, usize, ScriptNet, u64);
 
-/// The node that serves.
+/// The node that serves: node 1.
 #[derive(Clone, Copy)]
 pub enum Server {
-    /// Node 1, which has failed, and has no smaller peer to dial.
-    Failed,
-    /// Node 2, which has failed, and dials the peer of a smaller id at each tick.
-    FailedSecond,
-    /// Node 1, which has failed, and finds no memory for commands.
-    Scarce,
-    /// Node 1, the only member.
+    /// The only member.
     Alone,
     /// The same, which trims by itself at so many untrimmed entries.
     Trimming(u64),
-    /// Node 1, where 2 is the other member.
+    /// Node 2 is the other member.
     Beside,
-    /// Node 1, the only member, where this call of its first disk fails.
+    /// The only member, where this call of its first disk fails.
     Failing(u64),
     /// The same, where 2 is the other member.
     FailingBeside(u64),
+}
+
+/// The members of its configuration.
+fn members_of(server: Server) -> Result<Members, NoMemory>
+    ensures { IfOk result MembersInRange }
+{
+    match server {
+        Server::Alone | Server::Trimming(_) | Server::Failing(_) => sole(),
+        Server::Beside | Server::FailingBeside(_) => pair(),
+    }
+}
+
+/// At how many untrimmed entries it trims by itself, if it does.
+fn trims_of(server: Server) -> Option<u64> {
+    match server {
+        Server::Trimming(every) => Some(every),
+        _ => None,
+    }
+}
+
+/// The call of its first disk that fails, if one does.
+fn fails_of(server: Server) -> Option<u64> {
+    match server {
+        Server::Failing(call) | Server::FailingBeside(call) => Some(call),
+        _ => None,
+    }
 }
 
 /// What is served, and what comes of it.
@@ -234,22 +247,9 @@ pub struct Row<'a> {
     pub lost: usize,
 }
 
-fn served(alloc: Global, server: Server, steps: &[Step], turns: u64) -> Result<Run, Fail> {
-    match server {
-        Server::Failed => served_as(alloc, 1, false, steps, turns),
-        Server::FailedSecond => served_as(alloc, 2, false, steps, turns),
-        Server::Scarce => served_as(alloc, 1, true, steps, turns),
-        Server::Alone => served_over(alloc, &sole()?, None, None, steps, turns),
-        Server::Trimming(every) => served_over(alloc, &sole()?, None, Some(every), steps, turns),
-        Server::Beside => served_over(alloc, &pair()?, None, None, steps, turns),
-        Server::Failing(call) => served_over(alloc, &sole()?, Some(call), None, steps, turns),
-        Server::FailingBeside(call) => served_over(alloc, &pair()?, Some(call), None, steps, turns),
-    }
-}
-
 /// How it ended, how many calls of the net there were, and the first connection with which it went otherwise.
 pub fn seen_of(alloc: Global, row: &Row) -> Result<Seen, Fail> {
-    let (end, lost, net, disk_calls) = served(alloc, row.server, row.steps, row.turns)?;
+    let (end, lost, net, disk_calls) = served(alloc, row)?;
     Ok(Seen {
         is_ended: (end, lost) == (row.end, row.lost),
         calls: net.calls().len(),
@@ -267,29 +267,6 @@ pub fn first_other(alloc: Global, rows: &[Row]) -> Result<Option<usize>, Fail> {
         }
     }
     Ok(None)
-}
-
-fn served_as(
-    alloc: Global,
-    me: Pid,
-    is_scarce: bool,
-    steps: &[Step],
-    turns: u64,
-) -> Result<Run, Fail>
-    requires { IsPid me }
-{
-    let settings = settings(alloc, turns, None)?;
-    let mut net = ScriptNet::new(alloc, script_of(alloc, steps)?);
-    let mut clock = FakeClock::new(alloc, VecDeque::new(alloc), 1);
-    let node = FailedNode {
-        me,
-        count: FAULTS,
-        is_scarce,
-        alloc,
-    };
-    let Served { end, .. } = serve(alloc, node, &mut net, &mut clock, &settings);
-    let (end, lost) = end?;
-    Ok((end, lost.len(), net, 0))
 }
 
 /// A new disk, of which this call fails, if one does.
@@ -315,20 +292,13 @@ fn opened(alloc: Global, members: &Members, fails: Option<u64>) -> Result<Node<M
     }
 }
 
-fn served_over(
-    alloc: Global,
-    members: &Members,
-    fails: Option<u64>,
-    trim_every: Option<u64>,
-    steps: &[Step],
-    turns: u64,
-) -> Result<Run, Fail>
-    requires { MembersInRange members.now }
-{
-    let settings = settings(alloc, turns, trim_every)?;
-    let mut net = ScriptNet::new(alloc, script_of(alloc, steps)?);
+/// What comes of serving.
+fn served(alloc: Global, row: &Row) -> Result<Run, Fail> {
+    let settings = settings(alloc, row.turns, trims_of(row.server))?;
+    let members = members_of(row.server)?;
+    let mut net = ScriptNet::new(alloc, script_of(alloc, row.steps)?);
     let mut clock = FakeClock::new(alloc, VecDeque::new(alloc), 1);
-    let node = opened(alloc, members, fails)?;
+    let node = opened(alloc, &members, fails_of(row.server))?;
     let Served { core, end } = serve(alloc, NodeCore::new(node), &mut net, &mut clock, &settings);
     let (_, first, _) = core.node.park();
     let (end, lost) = end?;
@@ -360,7 +330,7 @@ pub struct Seen {
     pub is_ended: bool,
     /// The calls of the net.
     pub calls: usize,
-    /// The calls of the first disk, of a node that has one.
+    /// The calls of the first disk.
     pub disk_calls: u64,
     /// The first connection with which it went otherwise.
     pub wrong: Option<Conn>,

@@ -58,7 +58,7 @@ const ROWS: [Row<'static>; 2] = [
     },
     // A second session of a peer ends the first.
     Row {
-        server: Server::Failed,
+        server: Server::Alone,
         steps: &[
             Step::Happens(&[
                 Happening::Accepted(4),

@@ -1,12 +1,9 @@
-use libc::net::listen as listen_for;
 use op_edge::{FileDisk, MioNet, MonotonicClock, Programs};
 use op_memory::FakeClock;
 use op_outside::{Addr, Clock, Conn, Disk, DiskFail, Got, Happening, Net, NetFail, Spawner, Took};
 use std::alloc::AllocError;
 use std::collections::VecDeque;
 use std::net::{Ipv4Addr, SocketAddr, TcpListener};
-use std::os::fd::AsRawFd;
-use std::os::unix::fs::symlink;
 use std::path::PathBuf;
 use std::test::Fail;
 use std::{fs, io};
@@ -65,20 +62,6 @@ fn a_file_is_a_disk(rt: HostRuntime) -> Result<(), Fail> {
     assert_eq!(rt; length_at(&rt, name)?, (Ok(4), 0));
     fs::remove_file(&rt, name)?;
     assert_eq!(rt; length_at(&rt, "absent/edges.disk")?, (Err(DiskFail), 1));
-    Ok(())
-}
-
-/// A link to a file that is absent yet, in another folder.
-#[test]
-fn a_disk_may_be_a_link(rt: HostRuntime) -> Result<(), Fail> {
-    let (folder, name, link) = ("linked", "linked/edges.disk", "edges.link");
-    fs::create_dir(&rt, folder)?;
-    symlink(&rt, name, link)?;
-    assert!(rt; is_used_at(&rt, link)?);
-    assert_eq!(rt; length_at(&rt, name)?, (Ok(4), 0));
-    fs::remove_file(&rt, link)?;
-    fs::remove_file(&rt, name)?;
-    fs::remove_dir(&rt, folder)?;
     Ok(())
 }
 
@@ -356,10 +339,7 @@ fn a_connection_that_is_stuck_ends(rt: HostRuntime) {
     assert_eq!(rt; ends_stuck(&mut server, &mut client), Some(true));
 }
 
-/// How long a dial goes without an answer, in milliseconds. Two clocks may differ by one.
-const UNANSWERED_MILLIS: u64 = 1000;
-
-/// How long written bytes go unmoved, in milliseconds.
+/// How long written bytes go unmoved, in milliseconds. Two clocks may differ by one.
 const UNMOVED_MILLIS: u64 = 2000;
 
 /// The first connection that has ended. Each is read whenever it can be read, and filled whenever it has room.
@@ -392,34 +372,6 @@ fn is_within(millis: Option<u64>, bound: u64) -> bool {
         Some(millis) => bound <= millis.saturating_add(1) && millis < bound.saturating_mul(2),
         None => false,
     }
-}
-
-/// How many milliseconds it takes until one of three more dials has ended, where a first one waits open; None where one can't
-/// be dialled, a net fails, or the first one ends.
-fn unanswered<N: Net, C: Clock>(net: &mut N, clock: &mut C, addr: &Addr) -> Option<u64> {
-    let waiting = opened(net, addr)?;
-    let begin = clock.millis();
-    for _ in 0..3u32 {
-        net.dial(addr).ok()?;
-    }
-    let ended = first_end(net).ok()?;
-    if ended == waiting || net.faults() != 0 {
-        return None;
-    }
-    Some(clock.millis().saturating_sub(begin))
-}
-
-/// By the real clock a dial that nobody answers has ended after a second. The listener has room for one that waits, and
-/// accepts none: others have no answer.
-#[test]
-fn a_dial_without_an_answer_ends(rt: HostRuntime) -> Result<(), Fail> {
-    let listener = TcpListener::bind(&rt, SocketAddr::from((Ipv4Addr::LOCALHOST, 0)))?;
-    assert_eq!(rt; listen_for(listener.as_raw_fd(), 0), 0);
-    let addr = addr_of(&listener)?;
-    let mut net = MioNet::new(&rt, rt.alloc(), MonotonicClock::new(&rt));
-    let millis = unanswered(&mut net, &mut MonotonicClock::new(&rt), &addr);
-    assert!(rt; is_within(millis, UNANSWERED_MILLIS), "{millis:?}");
-    Ok(())
 }
 
 /// How many milliseconds it takes until a dialled connection has ended that is filled; None where it isn't the first to end, or a

@@ -1,8 +1,6 @@
-//! The adapters of op_edge over real things of the system, and the fakes of op_memory that stand for them elsewhere.
+//! The adapters of op_edge over real things of the system.
 #![tactic(auto)]
 
-#[cfg(test)]
-mod connections;
 #[cfg(test)]
 mod edges;
 #[cfg(test)]

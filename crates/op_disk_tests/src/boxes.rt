@@ -1,9 +1,10 @@
-//! A disk that tells nothing of its content, as a real file: it fits the trait, and the journal runs over it.
+//! A boxed disk goes through generic code: one in memory, and one that tells nothing of its content, as a real file does.
 ghost use Rattle.std.specs.Prelude.{◌≤◌};
 ghost use Rattle.op_outside.specs.Disks.{untold};
 ghost use Rattle.op_outside.specs.Causes.{FaultsRose};
 
 use op_journal::Journal;
+use op_memory::MemDisk;
 use op_outside::{Disk, DiskFail};
 use std::test::Fail;
 
@@ -52,10 +53,31 @@ impl Disk for Silent {
 }
 
 #[test]
-fn a_boxed_disk_goes_through_generic_code(rt: HostRuntime) -> Result<(), Fail> {
+fn a_silent_disk_is_asked_once(rt: HostRuntime) -> Result<(), Fail> {
     let alloc = rt.alloc();
     let mut disk: Box<dyn Disk> = Box::new(alloc, Silent { count: 0 })?;
     assert!(rt; Journal::open(alloc, &mut disk).is_err());
     assert_eq!(rt; disk.faults(), 1);
+    Ok(())
+}
+
+/// Appends `cd`, cuts what is longer than three bytes, and syncs. Gives the first two bytes.
+fn use_disk<D: Disk>(disk: &mut D) -> Result<[u8; 2], DiskFail> {
+    let end = disk.len()?;
+    disk.write_at(end, b"cd")?;
+    disk.cut(3)?;
+    disk.sync()?;
+    let mut bytes = [0u8; 2];
+    disk.read(1, &mut bytes)?;
+    Ok(bytes)
+}
+
+#[test]
+fn a_boxed_disk_is_one(rt: HostRuntime) -> Result<(), Fail> {
+    let alloc = rt.alloc();
+    let bytes = Vec::from_slice(alloc, b"ab")?;
+    let mut disk: Box<dyn Disk> = Box::new(alloc, MemDisk::new(alloc, bytes)?)?;
+    assert_eq!(rt; use_disk(&mut disk), Ok(*b"bc"));
+    assert_eq!(rt; (disk.len(), disk.faults()), (Ok(3), 0));
     Ok(())
 }

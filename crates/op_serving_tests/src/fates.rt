@@ -3,10 +3,10 @@ ghost use Rattle.std.specs.Prelude.{All, IfOk};
 ghost use Rattle.op_types.specs.Ranges.{MembersInRange};
 ghost use Rattle.op_runs.specs.Possible.{WhatInRange};
 
+use op_executions::RunFail;
 use op_pure::{Fate, Happening, Happenings, PureWorld};
 use op_runs::{Event, Line, What};
 use op_types::{Blob, Command, Commands, Members, NoMemory, Op, Outcome};
-use op_world::RunFail;
 use std::alloc::Global;
 use std::test::Fail;
 
