@@ -40,7 +40,7 @@ longer : {A : Type 0} (pre : List A) (x : A) (n : ℕ) → length pre ≡ n → 
 longer pre x n e = length-append pre (x ∷ []) ∙ ap (λ (k : ℕ). k + 1) e
 
 -- a message of the part's configuration, which is always admitted, comes to the part
-admitted : (me : ℕ) (p : Part) (v : Volatile) (q : ℕ) (m : Msg) (b : Body) → m.conf ≡ p.conf → m.body ≡ b → is_admitted_body p b ≡ true
+pub admitted : (me : ℕ) (p : Part) (v : Volatile) (q : ℕ) (m : Msg) (b : Body) → m.conf ≡ p.conf → m.body ≡ b → is_admitted_body p b ≡ true
     → ((d : Durable) (c : ℕ) → on_latest me d v q c b ≡ message_at me d.part v q (record { conf = c; body = b })) → IsRow me p v (input.Deliver q m) (on_body me p v q b)
 admitted me p v q m b same is ok plain d has stays =
     let c : ℕ = m.conf in
@@ -63,11 +63,11 @@ admitted me p v q m b same is ok plain d has stays =
 unended : (a : Part) → is_some (stop_at_end (decided_since a a)) ≡ false
 unended a = ap (λ (es : List Entry). is_some (stop_at_end es)) (decides_nothing a a refl)
 
-module _ (conf : ℕ) (members : List ℕ) (a : ℕ → Part) (v : ℕ → Volatile) (confs : (p : ℕ) → is_member nat_eq members p ≡ true → (a p).conf ≡ conf) where
-  -- a request of its sender's round, to a member
+module _ (conf : ℕ) (group : List ℕ) (a : ℕ → Part) (v : ℕ → Volatile) (confs : (p : ℕ) → is_member nat_eq group p ≡ true → (a p).conf ≡ conf) where
+  -- a request of its sender's round, to one of them
   pub record IsRequest (m : Sent) : Type 0 where
     pub conf_is : m.message.conf ≡ conf
-    pub to : is_member nat_eq members m.to ≡ true
+    pub to : is_member nat_eq group m.to ≡ true
     pub body_is : m.message.body ≡ body.HeartbeatRequest (v m.from).round
 
   -- the reply to it
@@ -75,9 +75,9 @@ module _ (conf : ℕ) (members : List ℕ) (a : ℕ → Part) (v : ℕ → Volat
   reply_to m = record { from = m.to; to = m.from; message = record { conf = conf; body = body.HeartbeatReply (v m.from).round (v m.to).own (v m.to).flag } }
 
   -- ---- requests
-  -- what members know stays, and replies are sent
+  -- what they know stays, and replies are sent
   pub record Asked (w u : World) (ms : List Sent) : Type 0 where
-    pub sit : AllSit u a v members
+    pub sit : AllSit u a v group
     pub messages : u.messages ≡ w.messages ++ map reply_to ms
 
   request_step : (m : Sent) → IsRequest m → IsRow m.to (a m.to) (v m.to) (input.Deliver m.from m.message) (remembering (v m.to) (message conf m.from (body.HeartbeatReply (v m.from).round (v m.to).own (v m.to).flag) ∷ []))
@@ -86,7 +86,7 @@ module _ (conf : ℕ) (members : List ℕ) (a : ℕ → Part) (v : ℕ → Volat
       admitted m.to (a m.to) (v m.to) m.from m.message (body.HeartbeatRequest (v m.from).round) (k.conf_is ∙ sym there) k.body_is refl (λ _ _. refl) d has stays
       ∙ ap (λ (c : ℕ). remembering (v m.to) (message c m.from (body.HeartbeatReply (v m.from).round (v m.to).own (v m.to).flag) ∷ [])) there
 
-  same_seats : (w u : World) (p : ℕ) (sends : List (ℕ × Msg)) → AllSit w a v members → After w u p (a p) (v p) sends → AllSit u a v members
+  same_seats : (w u : World) (p : ℕ) (sends : List (ℕ × Msg)) → AllSit w a v group → After w u p (a p) (v p) sends → AllSit u a v group
   same_seats w u p sends sit x q m = by_id (eqb q p) refl
     where
       by_id : (b : Bool) → eqb q p ≡ b → Sits (node_at u.nodes q) q (a q) (v q)
@@ -97,7 +97,7 @@ module _ (conf : ℕ) (members : List ℕ) (a : ℕ → Part) (v : ℕ → Volat
   deed_is : (w : World) (pre : List Sent) (m : Sent) (more : List Sent) (n : ℕ) → length pre ≡ n → w.messages ≡ pre ++ m ∷ more → delivery (slice_get w.messages n) ≡ Some (record { pid = m.to; doing = Steps (input.Deliver m.from m.message) })
   deed_is w pre m more n at is = ap delivery (ap (λ (ms : List Sent). slice_get ms n) is ∙ get_behind pre m more n at)
 
-  asked_one : (w : World) (pre : List Sent) (m : Sent) (more : List Sent) (n : ℕ) → length pre ≡ n → w.messages ≡ pre ++ m ∷ more → AllSit w a v members → IsRequest m
+  asked_one : (w : World) (pre : List Sent) (m : Sent) (more : List Sent) (n : ℕ) → length pre ≡ n → w.messages ≡ pre ++ m ∷ more → AllSit w a v group → IsRequest m
       → Asked w (world_after w (done_event (event_of (what.Deliver n)))) (m ∷ [])
   asked_one w pre m more n at is sit k =
       let y : PartStep = remembering (v m.to) (message conf m.from (body.HeartbeatReply (v m.from).round (v m.to).own (v m.to).flag) ∷ []) in
@@ -109,7 +109,7 @@ module _ (conf : ℕ) (members : List ℕ) (a : ℕ → Part) (v : ℕ → Volat
       record { sit = y.sit; messages = y.messages ∙ ap (λ (l : List Sent). l ++ map reply_to ms) x.messages ∙ append_assoc w.messages (reply_to m ∷ []) (map reply_to ms) }
 
   -- the requests of a list of messages that pass a test are delivered
-  pub asked_run : (test : Sent → Bool) (ms pre rest : List Sent) (n : ℕ) → length pre ≡ n → (w : World) → AllSit w a v members → w.messages ≡ pre ++ (ms ++ rest) → Each (λ m. test m ≡ true → IsRequest m) ms
+  pub asked_run : (test : Sent → Bool) (ms pre rest : List Sent) (n : ℕ) → length pre ≡ n → (w : World) → AllSit w a v group → w.messages ≡ pre ++ (ms ++ rest) → Each (λ m. test m ≡ true → IsRequest m) ms
       → Asked w (after_events w (delivered (numbers_of test n ms))) (filter test ms)
   asked_run test [] pre rest n at w sit is k = record { sit = sit; messages = sym (append-nil w.messages) }
   asked_run test (m ∷ ms) pre rest n at w sit is k =
@@ -126,20 +126,20 @@ module _ (conf : ℕ) (members : List ℕ) (a : ℕ → Part) (v : ℕ → Volat
   abbrev pub hearing : Volatile → List Heard → Volatile
   hearing u hs = record u { heard = hs }
 
-  -- a request between two members
-  pub record IsBetween (m : Sent) : Type 0 where
-    pub from : is_member nat_eq members m.from ≡ true
-    pub other : is_other m.from members m.to ≡ true
-
-  -- members keep these replies
+  -- they keep these replies
   abbrev pub AllHear : World → (ℕ → List Heard) → Type 0
-  AllHear w hs = AllSit w a (λ p. hearing (v p) (hs p)) members
+  AllHear w hs = AllSit w a (λ p. hearing (v p) (hs p)) group
 
   -- with one more
   abbrev more_heard : (ℕ → List Heard) → Sent → ℕ → List Heard
   more_heard hs m p = cond (eqb p m.from) (heard_with (hs p) (told v m.to)) (hs p)
 
-  module _ (named : (p : ℕ) → is_member nat_eq members p ≡ true → (a p).members ≡ members) where
+  module _ (members : List ℕ) (named : (p : ℕ) → is_member nat_eq group p ≡ true → (a p).members ≡ members) where
+    -- a request of one of them to another member
+    pub record IsBetween (m : Sent) : Type 0 where
+      pub from : is_member nat_eq group m.from ≡ true
+      pub other : is_other m.from members m.to ≡ true
+
     reply_step : (m : Sent) (hs : List Heard) → IsBetween m → IsRow m.from (a m.from) (hearing (v m.from) hs) (input.Deliver m.to (reply_to m).message) (remembering (hearing (v m.from) (heard_with hs (told v m.to))) [])
     reply_step m hs k d has stays =
         let p : ℕ = m.from in

@@ -1,12 +1,11 @@
 -- Over links that let one member alone hear a majority, that member takes its own ballot for the leader's
 -- after the tick that ends the second or the third round.
-use Rattle.std.proofs.Common.{◌≡◌, ◌==◌, ◌<◌, ◌-◌, ◌⊎◌, inl, inr, ⊎_elim, ℕ, suc, Bool, true, false, ◌||◌, eqb, ltb, nat_eq, List, [], ◌∷◌, ◌++◌, length, Option, refl, sym, ap, ◌∙◌, subst, arith}
+use Rattle.std.proofs.Common.{◌≡◌, ◌==◌, ◌<◌, ◌-◌, ◌⊎◌, inl, inr, ⊎_elim, ℕ, suc, Bool, true, false, eqb, ltb, nat_eq, List, [], ◌∷◌, ◌++◌, length, Option, refl, sym, ap, ◌∙◌, subst, arith}
 use Rattle.std.proofs.lemmas.Bool.{lt-ltb, or_left, or_right, or_parts, or_cases, and_parts, eqb-false, not-true, ne_eqb, false≢true, both_ways}
 use Rattle.std.specs.Set.{is_member}
 use Rattle.op_quorum.specs.Quorums.{is_majority, passing}
 use Rattle.op_types.specs.Limits.{greatest_number}
 use Rattle.op_types.specs.Ballots.{greater}
-use Rattle.op_types.specs.Ranges.{AreRising}
 use Rattle.op_types.specs.declared.ballot.Ballot.{Ballot}
 use Rattle.op_types.specs.declared.durable.Part.{Part}
 use Rattle.op_protocol.specs.State.{Volatile}
@@ -15,31 +14,13 @@ use Rattle.op_runs.specs.World.{World, Node, node_at}
 use Rattle.op_gen.specs.Links.{Links}
 use Rattle.op_lockstep.specs.Lockstep.{after_events, ticks, round, after_round, lockstep}
 use Rattle.op_lockstep.specs.Reach.{HasRoom, IsOneOf, AreReady, HearsAlone, ElectsItself, ElectsItselfAfter, RoundsReach}
-use Rattle.op_lockstep.proofs.Lists.{Each, Each-map, Each-more, each_of_all, Distinct}
+use Rattle.op_lockstep.proofs.Lists.{Each, Each-map, Each-more, each_of_all, Distinct, rising_distinct}
 use Rattle.op_lockstep.proofs.Ends.{Under, greater_under, tick_unheard, tick_own, tick_leader, tick_floor, Settled, Ahead, lonely, ahead_wins}
 use Rattle.op_lockstep.proofs.Changes.{tick_promised, tick_covers}
 use Rattle.op_lockstep.proofs.Seats.{Sits, AllSit, found_id}
 use Rattle.op_lockstep.proofs.Ticking.{Unstopped, tick_part, tick_volatile, ticks_run}
 use Rattle.op_lockstep.proofs.Counting.{told}
-use Rattle.op_lockstep.proofs.Rounds.{after_append, AreParts, parts_stay, linked_to, linked_others, round_volatile, round_run, hears_over}
-
--- ---- ids that rise are distinct
-above_all : (low : ℕ) (ids : List ℕ) (q : ℕ) → AreRising low ids → q < suc low → is_member nat_eq ids q ≡ false
-above_all low [] q r h = refl
-above_all low (id ∷ ids) q r h = ap (λ (b : Bool). b || is_member nat_eq ids q) (ne_eqb q id (λ e. absurd (apart low q id h r.0 e))) ∙ above_all id ids q r.2 (more low q id h r.0)
-  where
-    apart : (low q id : ℕ) → q < suc low → low < id → q ≡ id → ⊥
-    apart low q id h k e = absurd (omega arith)
-
-    more : (low q id : ℕ) → q < suc low → low < id → q < suc id
-    more low q id h k = omega arith
-
-rising_distinct : (low : ℕ) (ids : List ℕ) → AreRising low ids → Distinct ids
-rising_distinct low [] r = tt
-rising_distinct low (id ∷ ids) r = (above_all id ids id r.2 (here id), rising_distinct id ids r.2)
-  where
-    here : (n : ℕ) → n < suc n
-    here n = omega arith
+use Rattle.op_lockstep.proofs.Rounds.{after_append, KeepTogether, all_together, AreParts, parts_stay, linked_to, linked_others, round_volatile, round_run, hears_over}
 
 distinct_front : (xs ys : List ℕ) → Distinct (xs ++ ys) → Distinct xs
 distinct_front [] ys d = tt
@@ -75,11 +56,14 @@ unfolding lockstep
 after_lockstep members links k w = after_append w (round members links w) (lockstep members links k (after_round members links w))
 
 module _ (conf : ℕ) (members : List ℕ) (distinct : Distinct members) (links : Links) (p : ℕ) (hears : HearsAlone members links p) where
+  together : KeepTogether members links members
+  together = all_together members distinct links
+
   abbrev now : (ℕ → Part) → (ℕ → Volatile) → ℕ → Volatile
-  now = round_volatile conf members distinct links
+  now = round_volatile conf members links members together
 
   -- the others heard no majority in the round of before, so nobody that the member hears contradicts it
-  quiet : (a : ℕ → Part) (v : ℕ → Volatile) → AreParts conf members distinct links a
+  quiet : (a : ℕ → Part) (v : ℕ → Volatile) → AreParts conf members links members together a
       → let b : ℕ → Part = tick_part a v in let u : ℕ → Volatile = now a v in
       Each (λ h. h.flag ≡ false) (now b u p).heard
   quiet a v parts =
@@ -87,8 +71,8 @@ module _ (conf : ℕ) (members : List ℕ) (distinct : Distinct members) (links 
       let u : ℕ → Volatile = now a v in
       Each-map (λ h. h.flag ≡ false) (λ q. is_other p members q ≡ true) (told (tick_volatile b u))
       (λ q o. let k = and_parts _ _ o in
-      tick_unheard q (b q) (u q) (hears_over conf members distinct links a v parts q k.1 ∙ (hears).alone q k.1 (eqb-false q p (not-true _ k.0))))
-      (linked_to conf members distinct links p) (linked_others conf members distinct links p)
+      tick_unheard q (b q) (u q) (hears_over conf members links members together a v parts q k.1 ∙ (hears).alone q k.1 (eqb-false q p (not-true _ k.0))))
+      (linked_to conf members links members together p) (linked_others conf members links members together p)
 
   -- all ballots that a member knows are under a number
   record AreUnder (n : ℕ) (a : Part) (v : Volatile) : Type 0 where
@@ -102,7 +86,7 @@ module _ (conf : ℕ) (members : List ℕ) (distinct : Distinct members) (links 
   more n b h = omega arith
 
   -- after one round and a tick, the leader's ballot and where elections begin have room
-  room : (n : ℕ) (a : ℕ → Part) (v : ℕ → Volatile) → AreParts conf members distinct links a → ((q : ℕ) → IsOneOf members q → AreUnder n (a q) (v q))
+  room : (n : ℕ) (a : ℕ → Part) (v : ℕ → Volatile) → AreParts conf members links members together a → ((q : ℕ) → IsOneOf members q → AreUnder n (a q) (v q))
       → let b : ℕ → Part = tick_part a v in let u : ℕ → Volatile = now a v in
       Under (suc n) (greater (tick_volatile b u p).leader (tick_volatile b u p).floor)
   room n a v parts k =
@@ -114,12 +98,12 @@ module _ (conf : ℕ) (members : List ℕ) (distinct : Distinct members) (links 
       let promised1 : Under n (b p).promised = tick_promised n p (a p) (v p) x.promised x.own x.heard in
       let own1 : (q : ℕ) → IsOneOf members q → Under (suc n) (u q).own = λ q m. let y = k q m in tick_own q (a q) (v q) n (more n (v q).own y.own) y.leader y.floor in
       let heard1 : Each (λ h. Under (suc n) h.ballot) (u p).heard =
-      Each-map (λ h. Under (suc n) h.ballot) (λ q. is_other p members q ≡ true) (told (tick_volatile a v)) (λ q o. own1 q (and_parts _ _ o).1) (linked_to conf members distinct links p) (linked_others conf members distinct links p) in
+      Each-map (λ h. Under (suc n) h.ballot) (λ q. is_other p members q ≡ true) (told (tick_volatile a v)) (λ q o. own1 q (and_parts _ _ o).1) (linked_to conf members links members together p) (linked_others conf members links members together p) in
       greater_under (suc n) (tick_volatile b u p).leader (tick_volatile b u p).floor
       (tick_leader p (b p) (u p) (suc n) (own1 p (hears).member) (more n (u p).leader leader1) heard1)
       (more n (tick_volatile b u p).floor (tick_floor p (b p) (u p) n floor1 promised1))
 
-  reach : (n : ℕ) → suc n ≡ greatest_number → (w : World) (a : ℕ → Part) (v : ℕ → Volatile) → AllSit w a v members → AreParts conf members distinct links a → ((q : ℕ) → IsOneOf members q → AreUnder n (a q) (v q))
+  reach : (n : ℕ) → suc n ≡ greatest_number → (w : World) (a : ℕ → Part) (v : ℕ → Volatile) → AllSit w a v members → AreParts conf members links members together a → ((q : ℕ) → IsOneOf members q → AreUnder n (a q) (v q))
       → ElectsItselfAfter members links w p 2 ⊎ ElectsItselfAfter members links w p 3
   reach n top w a0 v0 sit0 parts0 under =
       let a1 : ℕ → Part = tick_part a0 v0 in
@@ -131,16 +115,16 @@ module _ (conf : ℕ) (members : List ℕ) (distinct : Distinct members) (links 
       let w1 : World = after_round members links w in
       let w2 : World = after_round members links w1 in
       let w3 : World = after_round members links w2 in
-      let parts1 = parts_stay conf members distinct links a0 v0 parts0 in
-      let parts2 = parts_stay conf members distinct links a1 v1 parts1 in
-      let parts3 = parts_stay conf members distinct links a2 v2 parts2 in
-      let sit1 : AllSit w1 a1 v1 members = round_run conf members distinct links a0 v0 parts0 w sit0 in
-      let sit2 : AllSit w2 a2 v2 members = round_run conf members distinct links a1 v1 parts1 w1 sit1 in
-      let sit3 : AllSit w3 a3 v3 members = round_run conf members distinct links a2 v2 parts2 w2 sit2 in
+      let parts1 = parts_stay conf members links members together a0 v0 parts0 in
+      let parts2 = parts_stay conf members links members together a1 v1 parts1 in
+      let parts3 = parts_stay conf members links members together a2 v2 parts2 in
+      let sit1 : AllSit w1 a1 v1 members = round_run conf members links members together a0 v0 parts0 w sit0 in
+      let sit2 : AllSit w2 a2 v2 members = round_run conf members links members together a1 v1 parts1 w1 sit1 in
+      let sit3 : AllSit w3 a3 v3 members = round_run conf members links members together a2 v2 parts2 w2 sit2 in
       let after2 : after_events w (lockstep members links 2 w) ≡ w2 = after_lockstep members links 1 w ∙ after_lockstep members links 0 w1 ∙ after_none members links w2 in
       let after3 : after_events w (lockstep members links 3 w) ≡ w3 = after_lockstep members links 2 w ∙ after_lockstep members links 1 w1 ∙ after_lockstep members links 0 w2 ∙ after_none members links w3 in
-      let majority2 = hears_over conf members distinct links a1 v1 parts1 p (hears).member ∙ (hears).hears in
-      let majority3 = hears_over conf members distinct links a2 v2 parts2 p (hears).member ∙ (hears).hears in
+      let majority2 = hears_over conf members links members together a1 v1 parts1 p (hears).member ∙ (hears).hears in
+      let majority3 = hears_over conf members links members together a2 v2 parts2 p (hears).member ∙ (hears).hears in
       let fits : ltb (greater (v2 p).leader (v2 p).floor).number greatest_number ≡ true = lt-ltb (greater (v2 p).leader (v2 p).floor).number greatest_number (subst (λ (k : ℕ). (greater (v2 p).leader (v2 p).floor).number < k) top (room n a0 v0 parts0 under)) in
       ⊎_elim
       (λ (settled : Settled (tick_volatile a2 v2 p)). inl (λ some rest is m. subst (λ (t : World). ElectsItself (node_at (after_events t (ticks some)).nodes p)) (sym after2) (settles members distinct w2 a2 v2 parts2.unstopped sit2 p settled some rest is m)))

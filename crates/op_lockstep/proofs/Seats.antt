@@ -52,6 +52,20 @@ found_id (m ∷ nodes) pid n e =
     same : (m n : Node) (pid : ℕ) → Some m ≡ Some n → m.pid ≡ pid → n.pid ≡ pid
     same m n pid k h = let e : m ≡ n = cc in ap (λ (x : Node). x.pid) (sym e) ∙ h
 
+-- what holds of each node, and of one that takes another's place
+pub with_each : (P : Node → Type 0) (nodes : List Node) (m : Node) → Each P nodes → P m → Each P (with_node nodes m)
+with_each P [] m e k = tt
+with_each P (n ∷ nodes) m e k =
+    by_test (eqb n.pid m.pid) (λ (b : Bool). Each P (cond b (m ∷ nodes) (n ∷ with_node nodes m))) (λ _. (k, e.1)) (λ _. (e.0, with_each P nodes m e.1 k))
+
+-- and of one that is found
+pub found_of : (P : Node → Type 0) (nodes : List Node) (pid : ℕ) (n : Node) → node_at nodes pid ≡ Some n → Each P nodes → P n
+found_of P [] pid n at e = absurd (none_some n at)
+found_of P (m ∷ nodes) pid n at e = by_test (eqb m.pid pid) (λ (b : Bool). cond b (Some m) (node_at nodes pid) ≡ Some n → P n) (λ _ k. subst P (some_same k) e.0) (λ _ k. found_of P nodes pid n k e.1) at
+  where
+    some_same : Some m ≡ Some n → m ≡ n
+    some_same k = cc
+
 -- ---- seats
 -- the node of this id is up, with this part, and this in its memory, and joins no other configuration
 pub record Sits (o : Option Node) (p : ℕ) (a : Part) (v : Volatile) : Type 0 where

@@ -1,39 +1,20 @@
 -- A majority whose members hear one another: each hears a majority, and of nobody else; and one of them has the greatest ballot.
-use Rattle.std.proofs.Common.{◌≡◌, ◌<◌, ◌*◌, ⊎_elim, ◌||◌, not, ℕ, suc, Bool, true, false, cond, eqb, ltb, nat_eq, List, [], ◌∷◌, length, map, filter, refl, sym, ap, ◌∙◌, subst, arith}
+use Rattle.std.proofs.Common.{◌≡◌, ◌*◌, ⊎_elim, ◌||◌, not, ℕ, Bool, true, false, cond, eqb, ltb, nat_eq, List, [], ◌∷◌, length, map, filter, refl, sym, ap, ◌∙◌, subst, arith}
 use Rattle.std.proofs.lemmas.Bool.{eqb-true, eqb-false, eq-eqb, ne_eqb, or_left, or_right, or_cases, false≢true, ltb-true}
 use Rattle.std.specs.Set.{is_member}
 use Rattle.op_types.proofs.Order.{is_total}
-use Rattle.op_types.specs.Ranges.{AreRising}
 use Rattle.op_types.specs.declared.ballot.Ballot.{Ballot}
 use Rattle.op_quorum.specs.Quorums.{is_majority}
 use Rattle.op_protocol.specs.Parts.{others}
 use Rattle.op_gen.specs.Links.{Links, is_linked}
 use Rattle.op_lockstep.specs.Lockstep.{hears_majority_over}
 use Rattle.op_lockstep.specs.Reach.{IsOneOf}
-use Rattle.op_lockstep.proofs.Lists.{Each, Each-more, Each-filter, Each-at, each, by_test, Distinct}
+use Rattle.op_lockstep.proofs.Lists.{Each, Each-more, Each-filter, Each-at, each, by_test}
 use Rattle.op_progress.specs.Progress.{HearOneAnother}
 use Rattle.op_progress.proofs.Orders.{AtMost, at_most_then, at_most_or, below_at_most}
 
 -- ---- lists
--- ids that rise are distinct
-above_all : (low : ℕ) (ids : List ℕ) (q : ℕ) → AreRising low ids → q < suc low → is_member nat_eq ids q ≡ false
-above_all low [] q r h = refl
-above_all low (id ∷ ids) q r h = ap (λ (b : Bool). b || is_member nat_eq ids q) (ne_eqb q id (λ e. absurd (apart low q id h r.0 e))) ∙ above_all id ids q r.2 (more low q id h r.0)
-  where
-    apart : (low q id : ℕ) → q < suc low → low < id → q ≡ id → ⊥
-    apart low q id h k e = absurd (omega arith)
-
-    more : (low q id : ℕ) → q < suc low → low < id → q < suc id
-    more low q id h k = omega arith
-
-pub rising_distinct : (low : ℕ) (ids : List ℕ) → AreRising low ids → Distinct ids
-rising_distinct low [] r = tt
-rising_distinct low (id ∷ ids) r = (above_all id ids id r.2 (here id), rising_distinct id ids r.2)
-  where
-    here : (n : ℕ) → n < suc n
-    here n = omega arith
-
-member_filter : (f : ℕ → Bool) (xs : List ℕ) (x : ℕ) → is_member nat_eq xs x ≡ true → f x ≡ true → is_member nat_eq (filter f xs) x ≡ true
+pub member_filter : (f : ℕ → Bool) (xs : List ℕ) (x : ℕ) → is_member nat_eq xs x ≡ true → f x ≡ true → is_member nat_eq (filter f xs) x ≡ true
 member_filter f [] x m h = absurd (false≢true m)
 member_filter f (y ∷ xs) x m h =
     ⊎_elim
@@ -46,7 +27,7 @@ pub told_each : {A : Type 0} (Q : A → Type 0) (f : ℕ → A) (xs : List ℕ) 
 told_each Q f [] e = tt
 told_each Q f (x ∷ xs) e = (e.0, told_each Q f xs e.1)
 
-same_filter : (f g : ℕ → Bool) → ((x : ℕ) → f x ≡ g x) → (xs : List ℕ) → filter f xs ≡ filter g xs
+pub same_filter : (f g : ℕ → Bool) → ((x : ℕ) → f x ≡ g x) → (xs : List ℕ) → filter f xs ≡ filter g xs
 same_filter f g h [] = refl
 same_filter f g h (x ∷ xs) = ap (λ (b : Bool). cond b (x ∷ filter f xs) (filter f xs)) (h x) ∙ ap (λ (l : List ℕ). cond (g x) (x ∷ l) l) (same_filter f g h xs)
 

@@ -1,6 +1,6 @@
 -- Rows other than a tick's: what they make of ballots. A role keeps its ballot or is given up, a Prepare is of the
 -- role's ballot, a Refuse tells the promise, and by a Prepare alone the promise is raised, to its ballot.
-use Rattle.std.proofs.Common.{◌≡◌, ◌&&◌, ◌-◌, ◌+◌, ◌⊎◌, inl, inr, ℕ, Bool, true, false, cond, eqb, ltb, leb, nat_eq, min, List, [], ◌∷◌, ◌++◌, length, flat_map, drop, Option, Some, None, refl, sym, ap, subst}
+use Rattle.std.proofs.Common.{◌≡◌, ◌&&◌, ◌-◌, ◌+◌, ◌⊎◌, inl, inr, ⊎_elim, ℕ, Bool, true, false, cond, eqb, ltb, leb, nat_eq, min, List, [], ◌∷◌, ◌++◌, length, flat_map, drop, Option, Some, None, refl, sym, ap, subst}
 use Rattle.std.proofs.lemmas.Bool.{cond_both, true≢false}
 use Rattle.std.specs.Set.{is_member}
 use Rattle.op_types.specs.Ballots.{is_below, is_same_ballot, greater}
@@ -10,7 +10,7 @@ use Rattle.op_types.specs.Cutting.{entries_size, cut, parts_from, whole_or_parts
 use Rattle.op_types.specs.Joinings.{Held, held_with, held_run}
 use Rattle.op_types.specs.Limits.{positions_end, most_part_bytes}
 use Rattle.op_types.specs.Stages.{front_from, staged_from}
-use Rattle.op_types.specs.RoleStates.{Preparing, Leading, promise_of, with_promise, with_stage, without_stage, told_by, promised_entries, staged_with, with_synced, without_synced, with_acknowledged, with_report, without_reports}
+use Rattle.op_types.specs.RoleStates.{Preparing, Leading, promise_of, promises_with, with_promise, with_stage, without_stage, told_by, promised_entries, staged_with, with_synced, without_synced, with_acknowledged, with_report, without_reports}
 use Rattle.op_types.specs.Roles.{Role}
 use Rattle.op_types.specs.Roles as role
 use Rattle.op_types.specs.declared.answers.Outcome.{Outcome}
@@ -38,41 +38,97 @@ use Rattle.op_protocol.specs.Tick.{remembering}
 use Rattle.op_protocol.specs.Rows.{session_up, on_body}
 use Rattle.op_lockstep.specs.Lockstep.{is_reply}
 use Rattle.op_lockstep.proofs.Lists.{Each, Each-append, Each-flat_map}
+use Rattle.op_progress.proofs.Orders.{AtMost, same_at_most, at_most_then, first_at_most}
 
 -- ---- words
--- the ballot that a role prepares or leads
-abbrev pub RoleIn : (Ballot → Type 0) → Role → Type 0
-RoleIn P role.Idle = Unit {0}
-RoleIn P (role.Preparing r) = P r.ballot
-RoleIn P (role.Leading l) = P l.ballot
+-- what is claimed of a role: whether a node may be idle, of the ballot that it prepares with the promises that it keeps, and of
+-- the one that it leads; and of what is sent: of the ballot that a Prepare asks for, and of the one that a Refuse tells
+pub record Claim : Type 1 where
+  pub idle : Type 0
+  pub preparing : Ballot → List Promised → Type 0
+  pub leading : Ballot → Type 0
+  pub asked : Ballot → Type 0
+  pub told : Ballot → Type 0
 
--- the ballot that a Prepare asks a promise of, and that which a Refuse tells
-abbrev pub BodyIn : (Ballot → Type 0) → Body → Type 0
-BodyIn P (body.Prepare n na nl nd) = P n
-BodyIn P (body.Refuse n b) = P b
+-- it stays where a promise more is kept, by which a node with a majority of them leads
+pub record IsKept (me : ℕ) (members : List ℕ) (P : Claim) : Type 0 where
+  pub asks : (b : Ballot) (ps : List Promised) → P.preparing b ps → P.asked b
+  pub asks_leading : (b : Ballot) → P.leading b → P.asked b
+  pub grows : (b : Ballot) (ps : List Promised) (j : Promised) → P.preparing b ps → has_quorum me members (promises_with ps j) ≡ false → P.preparing b (promises_with ps j)
+  pub leads : (b : Ballot) (ps : List Promised) (j : Promised) → P.preparing b ps → has_quorum me members (promises_with ps j) ≡ true → P.leading b
+
+abbrev pub RoleIn : Claim → Role → Type 0
+RoleIn P role.Idle = P.idle
+RoleIn P (role.Preparing r) = P.preparing r.ballot r.promises
+RoleIn P (role.Leading l) = P.leading l.ballot
+
+abbrev pub BodyIn : Claim → Body → Type 0
+BodyIn P (body.Prepare n na nl nd) = P.asked n
+BodyIn P (body.Refuse n b) = P.told b
 BodyIn P _ = Unit {0}
 
-abbrev pub SendIn : (Ballot → Type 0) → ℕ × Msg → Type 0
+abbrev pub SendIn : Claim → ℕ × Msg → Type 0
 SendIn P s = BodyIn P s.1.body
+
+-- the same of each ballot that is prepared or led
+abbrev pub of_ballots : Type 0 → (Ballot → Type 0) → (Ballot → Type 0) → Claim
+of_ballots idle led told = record { idle = idle; preparing = λ x ps. led x; leading = led; asked = led; told = told }
+
+ballots_kept : (idle : Type 0) (led told : Ballot → Type 0) (me : ℕ) (members : List ℕ) → IsKept me members (of_ballots idle led told)
+ballots_kept idle led told me members = record { asks = λ b ps k. k; asks_leading = λ b k. k; grows = λ b ps j k _. k; leads = λ b ps j k _. k }
+
+-- a node prepares and leads ballots of its own, and none above this one
+abbrev pub up_to : ℕ → Ballot → Claim
+up_to me b = of_ballots (Unit {0}) (λ x. AtMost x b × (x.pid ≡ me)) (λ x. AtMost x b)
+
+pub up_to_kept : (pid : ℕ) (b : Ballot) (me : ℕ) (members : List ℕ) → IsKept me members (up_to pid b)
+up_to_kept pid b me members = ballots_kept (Unit {0}) (λ x. AtMost x b × (x.pid ≡ pid)) (λ x. AtMost x b) me members
+
+-- it leads or prepares this ballot
+abbrev pub only : Ballot → Claim
+only b = of_ballots ⊥ (λ x. x ≡ b) (λ x. Unit {0})
+
+pub only_kept : (b : Ballot) (me : ℕ) (members : List ℕ) → IsKept me members (only b)
+only_kept b me members = ballots_kept ⊥ (λ x. x ≡ b) (λ x. Unit {0}) me members
+
+-- while it prepares, no majority has promised
+abbrev pub waiting : ℕ → List ℕ → Claim
+waiting me members = record { idle = Unit {0}; preparing = λ x ps. has_quorum me members ps ≡ false; leading = λ x. Unit {0}; asked = λ x. Unit {0}; told = λ x. Unit {0} }
+
+pub waiting_kept : (me : ℕ) (members : List ℕ) → IsKept me members (waiting me members)
+waiting_kept me members = record { asks = λ b ps k. tt; asks_leading = λ b k. tt; grows = λ b ps j k no. no; leads = λ b ps j k _. tt }
+
+-- what follows of messages from one claim to another, and of roles
+pub record Implies (P Q : Claim) : Type 0 where
+  pub idle : P.idle → Q.idle
+  pub preparing : (b : Ballot) (ps : List Promised) → P.preparing b ps → Q.preparing b ps
+  pub leading : (b : Ballot) → P.leading b → Q.leading b
+  pub asked : (b : Ballot) → P.asked b → Q.asked b
+  pub told : (b : Ballot) → P.told b → Q.told b
+
+pub up_to_more : (me : ℕ) (a b : Ballot) → AtMost a b → Implies (up_to me a) (up_to me b)
+up_to_more me a b m =
+    let led : (x : Ballot) → AtMost x a × (x.pid ≡ me) → AtMost x b × (x.pid ≡ me) = λ x k. (at_most_then x a b k.0 m, k.1) in
+    record { idle = λ i. i; preparing = λ x ps k. led x k; leading = led; asked = led; told = λ x k. at_most_then x a b k m }
 
 -- changes that promise nothing
 abbrev pub IsFree : Change → Type 0
 IsFree (change.Promise n) = ⊥
 IsFree _ = Unit {0}
 
-pub record RowIn (P : Ballot → Type 0) (e : Effects) : Type 0 where
+pub record RowIn (P : Claim) (e : Effects) : Type 0 where
   pub batch : Each IsFree e.batch
   pub role : RoleIn P e.role
   pub sends : Each (SendIn P) e.sends
 
-pub role_more : (P Q : Ballot → Type 0) → ((b : Ballot) → P b → Q b) → (r : Role) → RoleIn P r → RoleIn Q r
-role_more P Q h role.Idle k = tt
-role_more P Q h (role.Preparing r) k = h r.ballot k
-role_more P Q h (role.Leading l) k = h l.ballot k
+pub role_more : (P Q : Claim) → Implies P Q → (r : Role) → RoleIn P r → RoleIn Q r
+role_more P Q h role.Idle k = h.idle k
+role_more P Q h (role.Preparing r) k = h.preparing r.ballot r.promises k
+role_more P Q h (role.Leading l) k = h.leading l.ballot k
 
-pub body_more : (P Q : Ballot → Type 0) → ((b : Ballot) → P b → Q b) → (b : Body) → BodyIn P b → BodyIn Q b
-body_more P Q h (body.Prepare n na nl nd) k = h n k
-body_more P Q h (body.Refuse n b) k = h b k
+pub body_more : (P Q : Claim) → Implies P Q → (b : Body) → BodyIn P b → BodyIn Q b
+body_more P Q h (body.Prepare n na nl nd) k = h.asked n k
+body_more P Q h (body.Refuse n b) k = h.told b k
 body_more P Q h _ k = tt
 
 free_with : (p : Part) (c : Change) → IsFree c → (part_with p c).promised ≡ p.promised
@@ -86,7 +142,7 @@ free_after p (c ∷ batch) f = by (free_after (part_with p c) batch f.1) (free_w
     by : {a b c : Ballot} → a ≡ b → b ≡ c → a ≡ c
     by x y = cc
 
-module _ (P : Ballot → Type 0) where
+module _ (P : Claim) where
   -- ---- small rows
   pub saying_in : (r : Role) (sends : List (ℕ × Msg)) → RoleIn P r → Each (SendIn P) sends → RowIn P (saying r sends)
   saying_in r sends k s = record { batch = tt; role = k; sends = s }
@@ -121,13 +177,13 @@ module _ (P : Ballot → Type 0) where
   appending_in (e ∷ es) = (tt, tt)
 
   -- ---- a leader
-  count_in : (me : ℕ) (p : Part) (len : ℕ) (l : Leading) (otherwise : List (ℕ × Msg)) → P l.ballot → Each (SendIn P) otherwise → RowIn P (count me p len l otherwise)
+  count_in : (me : ℕ) (p : Part) (len : ℕ) (l : Leading) (otherwise : List (ℕ × Msg)) → P.leading l.ballot → Each (SendIn P) otherwise → RowIn P (count me p len l otherwise)
   count_in me p len l otherwise k c =
       cond_both (ltb p.decided (counted me p.members len l.acknowledged)) _ _ (RowIn P)
       (λ _. record { batch = (tt, tt); role = k; sends = to_each_in p.conf (synced_others me p.members l) (body.Decide l.ballot (counted me p.members len l.acknowledged)) tt })
       (λ _. saying_in (role.Leading l) otherwise k c)
 
-  sync_in : (p : Part) (l : Leading) (k : Promised) → P l.ballot → Each (SendIn P) (sync_sends p l k)
+  sync_in : (p : Part) (l : Leading) (k : Promised) → P.asked l.ballot → Each (SendIn P) (sync_sends p l k)
   sync_in p l k c =
       let at : ℕ = sync_start l k in
       let es : List Entry = log_from p at in
@@ -136,18 +192,18 @@ module _ (P : Ballot → Type 0) where
       (λ _. messages_in p.conf k.from (sync_bodies l.ballot at es) (parts_in (body.AcceptSync l.ballot at es) (λ pos run. body.AcceptSyncPart l.ballot (sync_run at es pos run)) at es tt (λ pos run. tt)))
       (λ _. tt))
 
-  sends_in : (p : Part) (l : Leading) (o : Option Promised) → P l.ballot → Each (SendIn P) (sends_by p l o)
+  sends_in : (p : Part) (l : Leading) (o : Option Promised) → P.asked l.ballot → Each (SendIn P) (sends_by p l o)
   sends_in p l None c = tt
   sends_in p l (Some k) c = sync_in p l k c
 
-  begin_in : (me : ℕ) (p : Part) (l : Leading) (promises : List Promised) → P l.ballot → RowIn P (begin_leading me p l promises)
-  begin_in me p l promises c =
+  begin_in : (me : ℕ) (p : Part) (l : Leading) (promises : List Promised) → P.leading l.ballot → P.asked l.ballot → RowIn P (begin_leading me p l promises)
+  begin_in me p l promises c a =
       first_in [] (flat_map (λ q. sends_by p l (promise_of promises q)) p.members) [] (count me p (len_of p) (leading_with p l promises) []) tt
-      (Each-flat_map (SendIn P) (λ q. sends_by p l (promise_of promises q)) p.members (λ q _. sends_in p l (promise_of promises q) c))
+      (Each-flat_map (SendIn P) (λ q. sends_by p l (promise_of promises q)) p.members (λ q _. sends_in p l (promise_of promises q) a))
       (count_in me p (len_of p) (leading_with p l promises) [] c tt)
 
-  adopt_in : (me : ℕ) (p : Part) (r : Preparing) → P r.ballot → RowIn P (adopt me p r)
-  adopt_in me p r k =
+  adopt_in : (me : ℕ) (p : Part) (r : Preparing) → P.leading r.ballot → P.asked r.ballot → RowIn P (adopt me p r)
+  adopt_in me p r k a =
       let x : Choice = best p r.promises p.members (own_choice p) in
       let more : List Entry = fitting (chosen_stop p x) (chosen_len p x) r.buffer in
       let q : Part = part_in_round p r.ballot (chosen_log p x ++ more) in
@@ -155,53 +211,55 @@ module _ (P : Ballot → Type 0) where
       (begin_leading me q (first_leading r.ballot x) r.promises)
       (Each-append IsFree (choice_changes p x ++ appending more) (change.Accept r.ballot ∷ [])
       (Each-append IsFree (choice_changes p x) (appending more) (Each-append IsFree (cutting p x.start) (appending x.entries) (cutting_in p x.start) (appending_in x.entries)) (appending_in more)) (tt, tt))
-      tt (begin_in me q (first_leading r.ballot x) r.promises k)
+      tt (begin_in me q (first_leading r.ballot x) r.promises k a)
 
-  pub prepares_in : (me : ℕ) (p : Part) (r : Preparing) → P r.ballot → RowIn P (prepares me p r)
-  prepares_in me p r k = cond_both (has_quorum me p.members r.promises) _ _ (RowIn P) (λ _. adopt_in me p r k) (λ _. saying_in (role.Preparing r) [] k tt)
+  pub prepares_in : (me : ℕ) (p : Part) (r : Preparing) → P.asked r.ballot → (has_quorum me p.members r.promises ≡ true → P.leading r.ballot) → (has_quorum me p.members r.promises ≡ false → P.preparing r.ballot r.promises) → RowIn P (prepares me p r)
+  prepares_in me p r a lead stay = cond_both (has_quorum me p.members r.promises) _ _ (RowIn P) (λ q. adopt_in me p r (lead q) a) (λ q. saying_in (role.Preparing r) [] (stay q) tt)
 
-  promise_in : (me : ℕ) (p : Part) (r : Role) (n : Ballot) (j : Promised) → RoleIn P r → RowIn P (on_promise me p r n j)
-  promise_in me p role.Idle n j k = saying_in role.Idle [] tt tt
-  promise_in me p (role.Preparing r) n j k =
-      cond_both (is_same_ballot n r.ballot && is_usable p j) _ _ (RowIn P) (λ _. prepares_in me p (with_promise r j) k) (λ _. saying_in (role.Preparing r) [] k tt)
-  promise_in me p (role.Leading l) n j k =
+  pub promise_in : (me : ℕ) (p : Part) (r : Role) (n : Ballot) (j : Promised) → IsKept me p.members P → RoleIn P r → RowIn P (on_promise me p r n j)
+  promise_in me p role.Idle n j kept k = saying_in role.Idle [] k tt
+  promise_in me p (role.Preparing r) n j kept k =
+      cond_both (is_same_ballot n r.ballot && is_usable p j) _ _ (RowIn P)
+      (λ _. prepares_in me p (with_promise r j) (kept.asks r.ballot r.promises k) (λ q. kept.leads r.ballot r.promises j k q) (λ q. kept.grows r.ballot r.promises j k q))
+      (λ _. saying_in (role.Preparing r) [] k tt)
+  promise_in me p (role.Leading l) n j kept k =
       cond_both (is_same_ballot n l.ballot) _ _ (RowIn P)
       (λ _. saying_in (role.Leading (cond (is_synced p l j) (with_synced l j.from) l)) (sync_sends p l j)
-      (cond_both (is_synced p l j) (with_synced l j.from) l (λ (x : Leading). P x.ballot) (λ _. synced j.from) (λ _. k)) (sync_in p l j k))
+      (cond_both (is_synced p l j) (with_synced l j.from) l (λ (x : Leading). P.leading x.ballot) (λ _. synced j.from) (λ _. k)) (sync_in p l j (kept.asks_leading l.ballot k)))
       (λ _. saying_in (role.Leading l) [] k tt)
     where
-      synced : (q : ℕ) → P (with_synced l q).ballot
-      synced q = cond_both (is_member nat_eq l.synced q) l _ (λ (x : Leading). P x.ballot) (λ _. k) (λ _. k)
+      synced : (q : ℕ) → P.leading (with_synced l q).ballot
+      synced q = cond_both (is_member nat_eq l.synced q) l _ (λ (x : Leading). P.leading x.ballot) (λ _. k) (λ _. k)
 
-  once_in : (me : ℕ) (p : Part) (r : Preparing) (q : ℕ) (part : PromisedRun) (held : Held) (o : Option (List Entry)) → P r.ballot → RowIn P (promised_once me p r q part held o)
-  once_in me p r q part held None k = saying_in (role.Preparing (with_stage r q held)) [] k tt
-  once_in me p r q part held (Some es) k = promise_in me p (role.Preparing (without_stage r q)) r.ballot (told_by q part es) k
+  once_in : (me : ℕ) (p : Part) (r : Preparing) (q : ℕ) (part : PromisedRun) (held : Held) (o : Option (List Entry)) → IsKept me p.members P → P.preparing r.ballot r.promises → RowIn P (promised_once me p r q part held o)
+  once_in me p r q part held None kept k = saying_in (role.Preparing (with_stage r q held)) [] k tt
+  once_in me p r q part held (Some es) kept k = promise_in me p (role.Preparing (without_stage r q)) r.ballot (told_by q part es) kept k
 
-  promise_part_in : (me : ℕ) (p : Part) (r : Role) (q : ℕ) (n : Ballot) (part : PromisedRun) → RoleIn P r → RowIn P (on_promise_part me p r q n part)
-  promise_part_in me p role.Idle q n part k = saying_in role.Idle [] tt tt
-  promise_part_in me p (role.Preparing r) q n part k =
+  promise_part_in : (me : ℕ) (p : Part) (r : Role) (q : ℕ) (n : Ballot) (part : PromisedRun) → IsKept me p.members P → RoleIn P r → RowIn P (on_promise_part me p r q n part)
+  promise_part_in me p role.Idle q n part kept k = saying_in role.Idle [] k tt
+  promise_part_in me p (role.Preparing r) q n part kept k =
       cond_both (is_same_ballot n r.ballot && (leb part.start part.at && is_run_to part.len part.at part.run)) (promised_once me p r q part (staged_with r q part) (promised_entries part (staged_with r q part))) (nothing (role.Preparing r)) (RowIn P)
-      (λ _. once_in me p r q part (staged_with r q part) (promised_entries part (staged_with r q part)) k) (λ _. saying_in (role.Preparing r) [] k tt)
-  promise_part_in me p (role.Leading l) q n part k =
+      (λ _. once_in me p r q part (staged_with r q part) (promised_entries part (staged_with r q part)) kept k) (λ _. saying_in (role.Preparing r) [] k tt)
+  promise_part_in me p (role.Leading l) q n part kept k =
       cond_both (eqb (part.at + length part.run) part.len) (on_promise me p (role.Leading l) n (told_by q part [])) (nothing (role.Leading l)) (RowIn P)
-      (λ _. promise_in me p (role.Leading l) n (told_by q part []) k) (λ _. saying_in (role.Leading l) [] k tt)
+      (λ _. promise_in me p (role.Leading l) n (told_by q part []) kept k) (λ _. saying_in (role.Leading l) [] k tt)
 
   again_in : (p : Part) (q : ℕ) (n : Ballot) → Each (SendIn P) (decided_again p q n)
   again_in p q n = cond_both (ltb 0 p.decided) _ _ (Each (SendIn P)) (λ _. (tt, tt)) (λ _. tt)
 
   accepted_in : (me : ℕ) (p : Part) (r : Role) (q : ℕ) (n : Ballot) (x : ℕ) → RoleIn P r → RowIn P (on_accepted me p r q n x)
-  accepted_in me p role.Idle q n x k = saying_in role.Idle [] tt tt
+  accepted_in me p role.Idle q n x k = saying_in role.Idle [] k tt
   accepted_in me p (role.Preparing r) q n x k = saying_in (role.Preparing r) [] k tt
   accepted_in me p (role.Leading l) q n x k =
       cond_both (is_same_ballot n l.ballot && leb x (len_of p)) _ _ (RowIn P)
       (λ _. count_in me p (len_of p) (with_acknowledged l (record { from = q; len = x })) (decided_again p q l.ballot) k (again_in p q l.ballot)) (λ _. saying_in (role.Leading l) [] k tt)
 
-  prepare_req_in : (p : Part) (r : Role) (q : ℕ) → RoleIn P r → RowIn P (on_prepare_req p r q)
-  prepare_req_in p role.Idle q k = saying_in role.Idle [] tt tt
-  prepare_req_in p (role.Preparing r) q k = saying_in (role.Preparing r) (message p.conf q (prepare_body p r.ballot) ∷ []) k (k, tt)
-  prepare_req_in p (role.Leading l) q k = saying_in (role.Leading l) (message p.conf q (prepare_body p l.ballot) ∷ []) k (k, tt)
+  prepare_req_in : (me : ℕ) (p : Part) (r : Role) (q : ℕ) → IsKept me p.members P → RoleIn P r → RowIn P (on_prepare_req p r q)
+  prepare_req_in me p role.Idle q kept k = saying_in role.Idle [] k tt
+  prepare_req_in me p (role.Preparing r) q kept k = saying_in (role.Preparing r) (message p.conf q (prepare_body p r.ballot) ∷ []) k (kept.asks r.ballot r.promises k, tt)
+  prepare_req_in me p (role.Leading l) q kept k = saying_in (role.Leading l) (message p.conf q (prepare_body p l.ballot) ∷ []) k (kept.asks_leading l.ballot k, tt)
 
-  extends_in : (me : ℕ) (p : Part) (l : Leading) (es : List Entry) → P l.ballot → RowIn P (extends me p l es)
+  extends_in : (me : ℕ) (p : Part) (l : Leading) (es : List Entry) → P.leading l.ballot → RowIn P (extends me p l es)
   extends_in me p l es k =
       first_in (change.Append es ∷ []) (to_each p.conf (synced_others me p.members l) (body.Accept l.ballot (len_of p) es)) [] (count me p (len_of p + length es) l [])
       (tt, tt) (to_each_in p.conf (synced_others me p.members l) (body.Accept l.ballot (len_of p) es) tt) (count_in me p (len_of p + length es) l [] k tt)
@@ -212,21 +270,21 @@ module _ (P : Ballot → Type 0) where
   forward_in (e ∷ (d ∷ es)) = tt
 
   pub propose_in : (me : ℕ) (p : Part) (r : Role) (es : List Entry) → RoleIn P r → RowIn P (propose me p r es)
-  propose_in me p role.Idle es k = record { batch = tt; role = tt; sends = (forward_in es, tt) }
+  propose_in me p role.Idle es k = record { batch = tt; role = k; sends = (forward_in es, tt) }
   propose_in me p (role.Preparing r) es k = record { batch = tt; role = k; sends = tt }
   propose_in me p (role.Leading l) es k = answered_in (outcome.Appended p.conf (len_of p)) (extends me p l es) (extends_in me p l es k)
 
-  leading_forward_in : (me : ℕ) (p : Part) (l : Leading) (es : List Entry) (o : Option ℕ) → P l.ballot → RowIn P (on_forward_leading me p l es o)
+  leading_forward_in : (me : ℕ) (p : Part) (l : Leading) (es : List Entry) (o : Option ℕ) → P.leading l.ballot → RowIn P (on_forward_leading me p l es o)
   leading_forward_in me p l es (Some pos) k = saying_in (role.Leading l) [] k tt
   leading_forward_in me p l es None k = cond_both (leb (len_of p + length es) positions_end) _ _ (RowIn P) (λ _. extends_in me p l es k) (λ _. saying_in (role.Leading l) [] k tt)
 
   on_forward_in : (me : ℕ) (p : Part) (r : Role) (es : List Entry) → RoleIn P r → RowIn P (on_forward me p r es)
-  on_forward_in me p role.Idle es k = saying_in role.Idle [] tt tt
+  on_forward_in me p role.Idle es k = saying_in role.Idle [] k tt
   on_forward_in me p (role.Preparing r) es k = record { batch = tt; role = k; sends = tt }
   on_forward_in me p (role.Leading l) es k = leading_forward_in me p l es (pending p) k
 
   pub down_in : (r : Role) (q : ℕ) → RoleIn P r → RowIn P (session_down r q)
-  down_in role.Idle q k = saying_in role.Idle [] tt tt
+  down_in role.Idle q k = saying_in role.Idle [] k tt
   down_in (role.Preparing r) q k = saying_in (role.Preparing r) [] k tt
   down_in (role.Leading l) q k = saying_in (role.Leading (without_synced l q)) [] k tt
 
@@ -270,28 +328,28 @@ module _ (P : Ballot → Type 0) where
       (λ _. record { batch = (tt, tt); role = k; sends = tt }) (λ _. saying_in r [] k tt)
 
   -- ---- trimming and reads
-  trims_in : (me : ℕ) (p : Part) (l : Leading) (x : ℕ) → P l.ballot → RowIn P (trims me p l x)
+  trims_in : (me : ℕ) (p : Part) (l : Leading) (x : ℕ) → P.leading l.ballot → RowIn P (trims me p l x)
   trims_in me p l x k =
       cond_both (ltb p.trimmed x) _ _ (RowIn P)
       (λ _. first_in (change.Trim x [] ∷ []) (to_each p.conf (others me p.members) (body.Trim x)) [] (nothing (role.Leading l)) (tt, tt) (to_each_in p.conf (others me p.members) (body.Trim x) tt) (saying_in (role.Leading l) [] k tt))
       (λ _. saying_in (role.Leading l) [] k tt)
 
-  reported_in : (me : ℕ) (p : Part) (l : Leading) (o : Option ℕ) → P l.ballot → RowIn P (trims_reported me p l o)
+  reported_in : (me : ℕ) (p : Part) (l : Leading) (o : Option ℕ) → P.leading l.ballot → RowIn P (trims_reported me p l o)
   reported_in me p l None k = saying_in (role.Leading l) [] k tt
   reported_in me p l (Some x) k = trims_in me p (without_reports l) x k
 
-  all_in : (me : ℕ) (p : Part) (l : Leading) → P l.ballot → RowIn P (trims_if_all me p l)
+  all_in : (me : ℕ) (p : Part) (l : Leading) → P.leading l.ballot → RowIn P (trims_if_all me p l)
   all_in me p l k = reported_in me p l (least_reported l.reports (others me p.members) p.decided) k
 
   pub trim_now_in : (me : ℕ) (p : Part) (r : Role) → RoleIn P r → RowIn P (trim_now me p r)
-  trim_now_in me p role.Idle k = record { batch = tt; role = tt; sends = tt }
+  trim_now_in me p role.Idle k = record { batch = tt; role = k; sends = tt }
   trim_now_in me p (role.Preparing r) k = record { batch = tt; role = k; sends = tt }
   trim_now_in me p (role.Leading l) k =
       answered_in outcome.Asked (first [] (to_each p.conf (others me p.members) (body.TrimAsk l.ballot)) [] (trims_if_all me p (without_reports l)))
       (first_in [] (to_each p.conf (others me p.members) (body.TrimAsk l.ballot)) [] (trims_if_all me p (without_reports l)) tt (to_each_in p.conf (others me p.members) (body.TrimAsk l.ballot) tt) (all_in me p (without_reports l) k))
 
   progress_in : (me : ℕ) (p : Part) (r : Role) (q : ℕ) (n : Ballot) (x : ℕ) → RoleIn P r → RowIn P (on_progress me p r q n x)
-  progress_in me p role.Idle q n x k = saying_in role.Idle [] tt tt
+  progress_in me p role.Idle q n x k = saying_in role.Idle [] k tt
   progress_in me p (role.Preparing r) q n x k = saying_in (role.Preparing r) [] k tt
   progress_in me p (role.Leading l) q n x k =
       cond_both (is_same_ballot n l.ballot) _ _ (RowIn P) (λ _. all_in me p (with_report l (record { from = q; decided = x })) k) (λ _. saying_in (role.Leading l) [] k tt)
@@ -326,10 +384,17 @@ abbrev pub BeginsAt : Option Ballot → Ballot → Ballot → Type 0
 BeginsAt None old new = new ≡ old
 BeginsAt (Some b) old new = (new ≡ old) ⊎ (new ≡ greater old b)
 
+-- that place rises
+pub floor_rises : (o : Option Ballot) (old new : Ballot) → BeginsAt o old new → AtMost old new
+floor_rises None old new e = same_at_most old new (sym e)
+floor_rises (Some b) old new (inl e) = same_at_most old new (sym e)
+floor_rises (Some b) old new (inr e) = subst (AtMost old) (sym e) (first_at_most old b)
+
 -- a step at this part, and what was kept in memory, by what was brought
-pub record StepIn (P : Ballot → Type 0) (p : Part) (v : Volatile) (prepared refused : Option Ballot) (replied : Bool) (y : PartStep) : Type 0 where
+pub record StepIn (P : Claim) (p : Part) (v : Volatile) (prepared refused : Option Ballot) (replied : Bool) (y : PartStep) : Type 0 where
   pub promises : Promises prepared p y.batch
-  pub role : RoleIn P y.volatile.role
+  -- a role is given up where a ballot is promised
+  pub role : P.idle ⊎ Each IsFree y.batch → RoleIn P y.volatile.role
   pub sends : Each (SendIn P) y.sends
   pub own : y.volatile.own ≡ v.own
   pub leader : y.volatile.leader ≡ v.leader
@@ -345,7 +410,7 @@ pub same_floor : (o : Option Ballot) (b : Ballot) → BeginsAt o b b
 same_floor None b = refl
 same_floor (Some x) b = inl refl
 
-module _ (P : Ballot → Type 0) (p : Part) (v : Volatile) (prepared refused : Option Ballot) (replied : Bool) (k : RoleIn P v.role) where
+module _ (P : Claim) (p : Part) (v : Volatile) (prepared refused : Option Ballot) (replied : Bool) (k : RoleIn P v.role) where
   abbrev IsStep : PartStep → Type 0
   IsStep y = StepIn P p v prepared refused replied y
 
@@ -353,7 +418,7 @@ module _ (P : Ballot → Type 0) (p : Part) (v : Volatile) (prepared refused : O
   remembers y e f s =
       record {
         promises = no_promise prepared p y.batch f;
-        role = subst (λ (u : Volatile). RoleIn P u.role) (sym e) k;
+        role = λ _. subst (λ (u : Volatile). RoleIn P u.role) (sym e) k;
         sends = s;
         own = ap (λ (u : Volatile). u.own) e;
         leader = ap (λ (u : Volatile). u.leader) e;
@@ -366,7 +431,7 @@ module _ (P : Ballot → Type 0) (p : Part) (v : Volatile) (prepared refused : O
   does u e o l f g t c =
       record {
         promises = no_promise prepared p e.batch c.batch;
-        role = c.role;
+        role = λ _. c.role;
         sends = c.sends;
         own = o;
         leader = l;
@@ -399,14 +464,14 @@ module _ (P : Ballot → Type 0) (p : Part) (v : Volatile) (prepared refused : O
       (λ _. unstaged_in held (accept_front p v.role q n part.at front) (front_in P p v.role q n part.at front k)) (λ _. still))
 
 -- a Prepare: a higher ballot is promised, and the role given up
-prepare_step : (P : Ballot → Type 0) (p : Part) (v : Volatile) (q : ℕ) (n na : Ballot) (nl nd : ℕ) → P p.promised → RoleIn P v.role → StepIn P p v (Some n) None false (with_effects v (on_prepare p v.role q n na nl nd))
+prepare_step : (P : Claim) (p : Part) (v : Volatile) (q : ℕ) (n na : Ballot) (nl nd : ℕ) → P.told p.promised → RoleIn P v.role → StepIn P p v (Some n) None false (with_effects v (on_prepare p v.role q n na nl nd))
 prepare_step P p v q n na nl nd h k =
     let s : ℕ = suffix_start p na nl nd in
     let IsStep : Effects → Type 0 = λ (e : Effects). StepIn P p v (Some n) None false (with_effects v e) in
     cond_both (is_below n p.promised) _ _ IsStep (λ _. does_row P p v (Some n) None false k (saying v.role (message p.conf q (body.Refuse n p.promised) ∷ [])) (saying_in P v.role (message p.conf q (body.Refuse n p.promised) ∷ []) k (h, tt)))
     (λ _. cond_both (ltb s p.trimmed) _ _ IsStep (λ _. does_row P p v (Some n) None false k (nothing v.role) (saying_in P v.role [] k tt))
     (λ _. cond_both (is_below p.promised n) _ _ (λ (e : Effects). IsStep (first [] (messages p.conf q (promise_bodies p n s)) [] e))
-    (λ above. record { promises = inr (refl, above); role = tt; sends = Each-append (SendIn P) (messages p.conf q (promise_bodies p n s)) [] (told s) tt; own = refl; leader = refl; flag = refl; floor = refl; heard = λ _. refl })
+    (λ above. record { promises = inr (refl, above); role = λ o. ⊎_elim (λ (i : P.idle). i) (λ (f : Each IsFree (change.Promise n ∷ [])). absurd f.0) o; sends = Each-append (SendIn P) (messages p.conf q (promise_bodies p n s)) [] (told s) tt; own = refl; leader = refl; flag = refl; floor = refl; heard = λ _. refl })
     (λ _. does_row P p v (Some n) None false k (first [] (messages p.conf q (promise_bodies p n s)) [] (nothing v.role))
     (first_in P [] (messages p.conf q (promise_bodies p n s)) [] (nothing v.role) tt (told s) (saying_in P v.role [] k tt)))))
   where
@@ -416,25 +481,25 @@ prepare_step P p v q n na nl nd h k =
         messages_in P p.conf q (promise_bodies p n s) (parts_in P (body.Promise n p.accepted (len_of p) p.decided s es) (λ at run. body.PromisePart n (promised_run p s at run)) s es tt (λ at run. tt))
 
 -- whatever a message says
-pub body_step : (P : Ballot → Type 0) (me : ℕ) (p : Part) (v : Volatile) (q : ℕ) (b : Body) → P p.promised → RoleIn P v.role → StepIn P p v (prepared_in b) (refused_in b) (is_reply b) (on_body me p v q b)
-body_step P me p v q (body.HeartbeatRequest round) h k = remembers P p v None None false k (remembering v (message p.conf q (body.HeartbeatReply round v.own v.flag) ∷ [])) refl tt (tt, tt)
-body_step P me p v q (body.HeartbeatReply round b flag) h k = record { promises = tt; role = k; sends = tt; own = refl; leader = refl; flag = refl; floor = refl; heard = λ e. absurd (true≢false e) }
-body_step P me p v q (body.Prepare n na nl nd) h k = prepare_step P p v q n na nl nd h k
-body_step P me p v q (body.Promise n fa fl fd s es) h k =
+pub body_step : (P : Claim) (me : ℕ) (p : Part) (v : Volatile) (q : ℕ) (b : Body) → IsKept me p.members P → P.told p.promised → RoleIn P v.role → StepIn P p v (prepared_in b) (refused_in b) (is_reply b) (on_body me p v q b)
+body_step P me p v q (body.HeartbeatRequest round) kept h k = remembers P p v None None false k (remembering v (message p.conf q (body.HeartbeatReply round v.own v.flag) ∷ [])) refl tt (tt, tt)
+body_step P me p v q (body.HeartbeatReply round b flag) kept h k = record { promises = tt; role = λ _. k; sends = tt; own = refl; leader = refl; flag = refl; floor = refl; heard = λ e. absurd (true≢false e) }
+body_step P me p v q (body.Prepare n na nl nd) kept h k = prepare_step P p v q n na nl nd h k
+body_step P me p v q (body.Promise n fa fl fd s es) kept h k =
     let j : Promised = record { from = q; accepted = fa; len = fl; decided = fd; start = s; entries = es } in
-    does_row P p v None None false k (on_promise me p v.role n j) (promise_in P me p v.role n j k)
-body_step P me p v q (body.AcceptSync n at es) h k = does_row P p v None None false k (on_accept_sync p v.role q n at es) (accept_sync_in P p v.role q n at es k)
-body_step P me p v q (body.PromisePart n part) h k = does_row P p v None None false k (on_promise_part me p v.role q n part) (promise_part_in P me p v.role q n part k)
-body_step P me p v q (body.AcceptSyncPart n part) h k = sync_part_in P p v None None false k q n part
-body_step P me p v q (body.Accept n at es) h k = does_row P p v None None false k (on_accept p v.role q n at es) (accept_in P p v.role q n at es k)
-body_step P me p v q (body.Accepted n at) h k = does_row P p v None None false k (on_accepted me p v.role q n at) (accepted_in P me p v.role q n at k)
-body_step P me p v q (body.Decide n at) h k = does_row P p v None None false k (on_decide p v.role n at) (decide_in P p v.role n at k)
-body_step P me p v q body.PrepareReq h k = does_row P p v None None false k (on_prepare_req p v.role q) (prepare_req_in P p v.role q k)
-body_step P me p v q (body.Refuse n b) h k = record { promises = tt; role = k; sends = tt; own = refl; leader = refl; flag = refl; floor = inr refl; heard = λ _. refl }
-body_step P me p v q (body.Forward e) h k = does_row P p v None None false k (on_forward me p v.role (e ∷ [])) (on_forward_in P me p v.role (e ∷ []) k)
-body_step P me p v q (body.Forwards es) h k = does_row P p v None None false k (on_forward me p v.role es) (on_forward_in P me p v.role es k)
-body_step P me p v q (body.TrimAsk n) h k = does_row P p v None None false k (on_trim_ask p v.role q n) (trim_ask_in P p v.role q n k)
-body_step P me p v q (body.Progress n at) h k = does_row P p v None None false k (on_progress me p v.role q n at) (progress_in P me p v.role q n at k)
-body_step P me p v q (body.Trim at) h k = does_row P p v None None false k (on_trim p v.role at) (trim_in P p v.role at k)
-body_step P me p v q (body.Confirm n number) h k = does_row P p v None None false k (on_confirm p v.role q n number) (confirm_in P p v.role q n number k)
-body_step P me p v q _ h k = remembers P p v None None false k (remembering v []) refl tt tt
+    does_row P p v None None false k (on_promise me p v.role n j) (promise_in P me p v.role n j kept k)
+body_step P me p v q (body.AcceptSync n at es) kept h k = does_row P p v None None false k (on_accept_sync p v.role q n at es) (accept_sync_in P p v.role q n at es k)
+body_step P me p v q (body.PromisePart n part) kept h k = does_row P p v None None false k (on_promise_part me p v.role q n part) (promise_part_in P me p v.role q n part kept k)
+body_step P me p v q (body.AcceptSyncPart n part) kept h k = sync_part_in P p v None None false k q n part
+body_step P me p v q (body.Accept n at es) kept h k = does_row P p v None None false k (on_accept p v.role q n at es) (accept_in P p v.role q n at es k)
+body_step P me p v q (body.Accepted n at) kept h k = does_row P p v None None false k (on_accepted me p v.role q n at) (accepted_in P me p v.role q n at k)
+body_step P me p v q (body.Decide n at) kept h k = does_row P p v None None false k (on_decide p v.role n at) (decide_in P p v.role n at k)
+body_step P me p v q body.PrepareReq kept h k = does_row P p v None None false k (on_prepare_req p v.role q) (prepare_req_in P me p v.role q kept k)
+body_step P me p v q (body.Refuse n b) kept h k = record { promises = tt; role = λ _. k; sends = tt; own = refl; leader = refl; flag = refl; floor = inr refl; heard = λ _. refl }
+body_step P me p v q (body.Forward e) kept h k = does_row P p v None None false k (on_forward me p v.role (e ∷ [])) (on_forward_in P me p v.role (e ∷ []) k)
+body_step P me p v q (body.Forwards es) kept h k = does_row P p v None None false k (on_forward me p v.role es) (on_forward_in P me p v.role es k)
+body_step P me p v q (body.TrimAsk n) kept h k = does_row P p v None None false k (on_trim_ask p v.role q n) (trim_ask_in P p v.role q n k)
+body_step P me p v q (body.Progress n at) kept h k = does_row P p v None None false k (on_progress me p v.role q n at) (progress_in P me p v.role q n at k)
+body_step P me p v q (body.Trim at) kept h k = does_row P p v None None false k (on_trim p v.role at) (trim_in P p v.role at k)
+body_step P me p v q (body.Confirm n number) kept h k = does_row P p v None None false k (on_confirm p v.role q n number) (confirm_in P p v.role q n number k)
+body_step P me p v q _ kept h k = remembers P p v None None false k (remembering v []) refl tt tt

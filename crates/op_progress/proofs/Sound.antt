@@ -1,20 +1,18 @@
--- What a node keeps to, where no stop-sign is proposed: it is of configuration 1 and joins no other one; a role's ballot isn't
--- above its promise, nor is the own ballot of who takes it for the leader's; and what it sends tells of none above the promise.
-use Rattle.std.proofs.Common.{◌≡◌, ◌&&◌, ◌||◌, ◌-◌, ℕ, suc, Bool, true, false, cond, not, eqb, ltb, nat_eq, is_some, List, [], ◌∷◌, ◌++◌, map, take, All, Option, Some, None, refl, sym, ap, ◌∙◌, subst}
+-- What a node keeps to, where no stop-sign is proposed: it prepares or leads own ballots alone, and none above its promise; its own
+-- one isn't above that where it takes it for the leader's; where it has promised its own ballot, it prepares or leads it; and
+-- what it sends tells of none above the promise.
+use Rattle.std.proofs.Common.{◌≡◌, ◌<◌, ◌&&◌, ◌||◌, inl, ℕ, suc, not, eqb, ltb, is_some, List, [], ◌∷◌, ◌++◌, map, Option, Some, None, refl, sym, ap, ◌∙◌, subst}
 use Rattle.std.proofs.lemmas.Bool.{cond_both}
-use Rattle.std.proofs.lemmas.List.Elements.{All-take, All-drop, All-append}
 use Rattle.op_types.proofs.Order.{is_total}
-use Rattle.op_types.specs.Ballots.{no_ballot}
-use Rattle.op_types.specs.Changes.{IsCommand, part_with, durable_with, durable_after}
-use Rattle.op_types.specs.Limits.{positions_end}
+use Rattle.op_types.specs.Ballots.{no_ballot, greater}
+use Rattle.op_types.specs.Changes.{durable_after}
+use Rattle.op_types.specs.Limits.{greatest_number, positions_end}
 use Rattle.op_types.specs.RoleStates.{Leading}
 use Rattle.op_types.specs.Roles.{Role}
 use Rattle.op_types.specs.Roles as role
-use Rattle.op_types.specs.Stops.{stop_at_end}
 use Rattle.op_types.specs.declared.answers.Refusal.{Refusal}
 use Rattle.op_types.specs.declared.ballot.Ballot.{Ballot}
 use Rattle.op_types.specs.declared.changes.Change.{Change}
-use Rattle.op_types.specs.declared.changes.Change.TheVariants as change
 use Rattle.op_types.specs.declared.durable.Closed.{Closed}
 use Rattle.op_types.specs.declared.durable.Durable.{Durable}
 use Rattle.op_types.specs.declared.durable.Joining.{Joining}
@@ -27,114 +25,65 @@ use Rattle.op_types.specs.declared.messages.Body.TheVariants as body
 use Rattle.op_types.specs.declared.messages.Msg.{Msg}
 use Rattle.op_types.specs.declared.read.Read.{Read}
 use Rattle.op_protocol.specs.State.{State, Volatile, PartStep, Planned}
-use Rattle.op_protocol.specs.Configurations.{latest_of, closing, closing_part}
+use Rattle.op_protocol.specs.Configurations.{latest_of}
 use Rattle.op_protocol.specs.Joining.{gives_base, gives_segment, on_base_piece}
 use Rattle.op_protocol.specs.Leader.{session_down}
-use Rattle.op_protocol.specs.Parts.{part_after, message, others, decided_since}
+use Rattle.op_protocol.specs.Parts.{part_after, message, others}
 use Rattle.op_protocol.specs.Reading.{Asking, read_asked, reads_at, leading_at, asking_by, reading}
-use Rattle.op_protocol.specs.Rows.{based, based_batch, planned, waiting_at, step_bringing, table_plan, step_plan, message_at, is_of_joining, is_prepare_req, may_be_above, on_older, on_newer, on_latest, message_step, entries_of, proposal_at, refusal_of, tick_at, trim_at, up_at, step_at}
+use Rattle.op_protocol.specs.Rows.{based, based_batch, planned, waiting_at, table_plan, step_plan, message_at, is_of_joining, is_prepare_req, may_be_above, on_older, on_newer, on_latest, message_step, entries_of, proposal_at, refusal_of, tick_at, trim_at, up_at, step_at}
 use Rattle.op_protocol.specs.Tick.{remembering, on_tick}
 use Rattle.op_protocol.proofs.Based.{based_after}
-use Rattle.op_protocol.proofs.StepBatches.{IsInside, inside_after, inside_closed, inside_none, inside_all_based, above_after, step_above, step_inside}
-use Rattle.op_lockstep.proofs.Batches.{nothing_brought, no_end}
-use Rattle.op_lockstep.proofs.Changes.{keeps_members}
-use Rattle.op_lockstep.proofs.Clean.{IsClean, IsCleanBody, IsCleanSend, IsCleanMemory, IsCleanStep, IsCleanInput, IsCleanPart, to_each_clean, step_clean}
-use Rattle.op_lockstep.proofs.Lists.{Each, Each-append, Each-map, Each-more}
-use Rattle.op_lockstep.proofs.Staged.{NoStops}
+use Rattle.op_protocol.proofs.StepBatches.{inside_after, inside_none, inside_all_based, above_after, step_above, step_inside}
+use Rattle.op_lockstep.proofs.Changes.{keeps_members, tick_covers}
+use Rattle.op_lockstep.proofs.Clean.{IsCleanBody, IsCleanMemory, IsCleanInput}
+use Rattle.op_lockstep.proofs.Lists.{Each, Each-append, Each-more}
+use Rattle.op_lockstep.proofs.Reached.{IsStored, plain_step}
 use Rattle.op_progress.proofs.Orders.{AtMost, same_at_most, at_most_then, rises_at_most}
-use Rattle.op_progress.proofs.Rows.{RoleIn, SendIn, role_more, body_more, to_each_in}
-use Rattle.op_progress.proofs.Steps.{step_in}
-use Rattle.op_progress.proofs.Ticks.{TickIn, tick_in}
+use Rattle.op_progress.proofs.Rows.{Claim, RoleIn, SendIn, up_to, up_to_kept, only, waiting, waiting_kept, Implies, up_to_more, role_more, body_more, to_each_in}
+use Rattle.op_progress.proofs.Steps.{prepared_by, step_in, IfOwn, known_in, heads_in}
+use Rattle.op_progress.proofs.Ticks.{TickIn, tick_in, tick_heads}
 
 -- ---- words
--- the part of configuration 1, without stop-signs
-pub record IsFirst (members : List ℕ) (p : Part) : Type 0 where
-  pub conf_is : p.conf ≡ 1
-  pub members_are : p.members ≡ members
-  pub items : NoStops p.tail.items
-
-abbrev pub IfFirst : List ℕ → Option Part → Type 0
-IfFirst members None = Unit {0}
-IfFirst members (Some p) = IsFirst members p
-
-pub record IsStored (members : List ℕ) (d : Durable) : Type 0 where
-  pub part : IfFirst members d.part
-  pub closed : d.closed ≡ None
-  pub joining : d.joining ≡ None
-
 -- what is promised
 abbrev pub promise_in : Option Part → Ballot
 promise_in None = no_ballot
 promise_in (Some p) = p.promised
 
--- no role's ballot is above this one, nor the own one of who takes it for the leader's
-pub record StandsUpTo (b : Ballot) (v : Volatile) : Type 0 where
-  pub role : RoleIn (λ x. AtMost x b) v.role
+-- where this is promised: a role's ballot is an own one, and not above it, and no majority has promised one that is prepared; nor
+-- is the own ballot of who takes it for the leader's above it; an own ballot that is promised is known, and prepared or led, unless numbers have ended
+pub record StandsUpTo (members : List ℕ) (me : ℕ) (b : Ballot) (v : Volatile) : Type 0 where
+  pub role : RoleIn (up_to me b) v.role
+  pub waits : RoleIn (waiting me members) v.role
   pub own : v.leader ≡ v.own → AtMost v.own b
+  pub known : b.pid ≡ me → AtMost b (greater v.leader v.floor)
+  pub heads : b ≡ v.own → v.own.number < greatest_number → RoleIn (only v.own) v.role
 
-abbrev pub IfStands : Option Part → Volatile → Type 0
-IfStands None v = Unit {0}
-IfStands (Some p) v = StandsUpTo p.promised v
+abbrev pub IfStands : ℕ → Option Part → Volatile → Type 0
+IfStands me None v = Unit {0}
+IfStands me (Some p) v = StandsUpTo p.members me p.promised v
 
 pub record IsMemory (me : ℕ) (o : Option Part) (v : Volatile) : Type 0 where
-  pub clean : IsCleanMemory v
   pub own_is : v.own.pid ≡ me
-  pub stands : IfStands o v
+  pub stands : IfStands me o v
 
 -- what a step leaves, and sends
-pub record IsSoundPlan (members : List ℕ) (me : ℕ) (d : Durable) (pl : Planned) : Type 0 where
-  pub stored : IsStored members (durable_after d pl.batch)
+pub record IsSoundPlan (me : ℕ) (d : Durable) (pl : Planned) : Type 0 where
   pub memory : IsMemory me (durable_after d pl.batch).part pl.volatile
   pub raised : AtMost (promise_in d.part) (promise_in (durable_after d pl.batch).part)
-  pub clean : Each IsCleanSend pl.sends
-  pub sends : Each (SendIn (λ b. AtMost b (promise_in (durable_after d pl.batch).part))) pl.sends
+  pub sends : Each (SendIn (up_to me (promise_in (durable_after d pl.batch).part))) pl.sends
 
--- ---- what is stored
-part_one : (p : Part) (c : Change) → IsClean c → NoStops p.tail.items → NoStops (part_with p c).tail.items
-part_one p (change.Promise n) f k = k
-part_one p (change.Accept n) f k = k
-part_one p (change.CutTo n) f k = All-take IsCommand (n - p.trimmed) p.tail.items k
-part_one p (change.Append es) f k = All-append IsCommand p.tail.items es k f
-part_one p (change.Decided x) f k = k
-part_one p (change.Trim x base) f k = All-drop IsCommand (x - p.trimmed) p.tail.items k
-part_one p _ f k = absurd f
-
-log_after : (p : Part) (batch : List Change) → Each IsClean batch → NoStops p.tail.items → NoStops (part_after p batch).tail.items
-log_after p [] f k = k
-log_after p (c ∷ batch) f k = log_after (part_with p c) batch f.1 (part_one p c f.0 k)
-
-joins_one : (d : Durable) (c : Change) → IsClean c → (durable_with d c).joining ≡ d.joining
-joins_one d (change.Promise n) f = refl
-joins_one d (change.Accept n) f = refl
-joins_one d (change.CutTo n) f = refl
-joins_one d (change.Append es) f = refl
-joins_one d (change.Decided x) f = refl
-joins_one d (change.Trim x base) f = refl
-joins_one d _ f = absurd f
-
-joins_after : (d : Durable) (batch : List Change) → Each IsClean batch → (durable_after d batch).joining ≡ d.joining
-joins_after d [] f = refl
-joins_after d (c ∷ batch) f = joins_after (durable_with d c) batch f.1 ∙ joins_one d c f.0
-
-based_clean : (p : Part) (batch : List Change) → Each IsClean batch → Each IsClean (map (based p) batch)
-based_clean p batch c = Each-map IsClean IsClean (based p) one batch c
-  where
-    one : (c : Change) → IsClean c → IsClean (based p c)
-    one (change.Trim x base) f = tt
-    one (change.Promise n) f = f
-    one (change.Accept n) f = f
-    one (change.CutTo n) f = f
-    one (change.Append es) f = f
-    one (change.Decided x) f = f
-    one _ f = absurd f
+-- what comes is no stop-sign, and no own ballot above the promise
+pub record MayCome (me : ℕ) (d : Durable) (x : Input) : Type 0 where
+  pub clean : IsCleanInput x
+  pub own : IfOwn me (promise_in d.part) (prepared_by x)
 
 -- ---- a node without a part
-down_sends : (P : Ballot → Type 0) (r : Role) (q : ℕ) → Each (SendIn P) (session_down r q).sends
+down_sends : (P : Claim) (r : Role) (q : ℕ) → Each (SendIn P) (session_down r q).sends
 down_sends P role.Idle q = tt
 down_sends P (role.Preparing r) q = tt
 down_sends P (role.Leading l) q = tt
 
-module _ (P : Ballot → Type 0) (me : ℕ) (d : Durable) (v : Volatile) (none : d.part ≡ None) (stays : d.joining ≡ None) (open_ : d.closed ≡ None) where
+module _ (P : Claim) (me : ℕ) (d : Durable) (v : Volatile) (none : d.part ≡ None) (stays : d.joining ≡ None) (open_ : d.closed ≡ None) where
   record Bare (y : PartStep) : Type 0 where
     own : y.volatile.own ≡ v.own
     sends : Each (SendIn P) y.sends
@@ -178,7 +127,7 @@ module _ (P : Ballot → Type 0) (me : ℕ) (d : Durable) (v : Volatile) (none :
   step_bare (input.Down q) c = record { own = refl; sends = down_sends P v.role q }
 
 -- ---- a whole step
-module _ (members : List ℕ) (me : ℕ) (s : State) (x : Input) (stored : IsStored members s.durable) (memory : IsMemory me s.durable.part s.volatile) (come : IsCleanInput x) where
+module _ (members : List ℕ) (me : ℕ) (s : State) (x : Input) (stored : IsStored members s.durable) (memory : IsMemory me s.durable.part s.volatile) (come : MayCome me s.durable x) where
   abbrev d : Durable
   d = s.durable
 
@@ -188,79 +137,74 @@ module _ (members : List ℕ) (me : ℕ) (s : State) (x : Input) (stored : IsSto
   abbrev y : PartStep
   y = step_at me d v x
 
-  log_of : (o : Option Part) → IfFirst members o → IsCleanPart o
-  log_of None k = tt
-  log_of (Some p) k = k.items
-
-  clean_step : IsCleanStep y
-  clean_step = step_clean me d v stored.joining stored.closed (log_of d.part stored.part) memory.clean x come
-
   -- what the row leaves
   record Left (batch : List Change) : Type 0 where
-    stored_then : IsStored members (durable_after d batch)
     memory_then : IsMemory me (durable_after d batch).part y.volatile
     raised_then : AtMost (promise_in d.part) (promise_in (durable_after d batch).part)
-    sends_then : Each (SendIn (λ b. AtMost b (promise_in (durable_after d batch).part))) y.sends
-    open_then : closing me d.part (planned s (waiting_at me s x) y) ≡ planned s (waiting_at me s x) y
+    sends_then : Each (SendIn (up_to me (promise_in (durable_after d batch).part))) y.sends
 
   left_none : d.part ≡ None → Left (based_batch d.part y.batch)
   left_none none =
-      let bare = step_bare (λ b. AtMost b no_ballot) me d v none stored.joining stored.closed x come in
+      let bare = step_bare (up_to me no_ballot) me d v none stored.joining stored.closed x come.clean in
       let batch_is : based_batch d.part y.batch ≡ y.batch = ap (λ (o : Option Part). based_batch o y.batch) none in
       let part_then : (durable_after d y.batch).part ≡ None = inside_none d y.batch (step_inside me d v x).changes none in
       subst Left (sym batch_is)
       (record {
-        stored_then = record {
-          part = subst (IfFirst members) (sym part_then) tt;
-          closed = inside_closed d y.batch (step_inside me d v x).changes ∙ stored.closed;
-          joining = joins_after d y.batch clean_step.batch ∙ stored.joining;
-        };
-        memory_then = record {
-          clean = clean_step.memory;
-          own_is = ap (λ (b : Ballot). b.pid) bare.own ∙ memory.own_is;
-          stands = subst (λ (o : Option Part). IfStands o y.volatile) (sym part_then) tt;
-        };
+        memory_then = record { own_is = ap (λ (b : Ballot). b.pid) bare.own ∙ memory.own_is; stands = subst (λ (o : Option Part). IfStands me o y.volatile) (sym part_then) tt };
         raised_then = same_at_most (promise_in d.part) (promise_in (durable_after d y.batch).part) (ap promise_in (none ∙ sym part_then));
-        sends_then = subst (λ (o : Option Part). Each (SendIn (λ b. AtMost b (promise_in o))) y.sends) (sym part_then) bare.sends;
-        open_then = ap (λ (o : Option Part). closing me o (planned s (waiting_at me s x) y)) none;
+        sends_then = subst (λ (o : Option Part). Each (SendIn (up_to me (promise_in o))) y.sends) (sym part_then) bare.sends;
       })
 
   module _ (p : Part) (has : d.part ≡ Some p) where
-    first_part : IsFirst members p
-    first_part = subst (IfFirst members) has stored.part
-
-    stands : StandsUpTo p.promised v
-    stands = subst (λ (o : Option Part). IfStands o v) has memory.stands
+    stands : StandsUpTo p.members me p.promised v
+    stands = subst (λ (o : Option Part). IfStands me o v) has memory.stands
 
     -- what it has promised then
     abbrev promise : Ballot
     promise = (part_after p y.batch).promised
 
     raised_here : AtMost p.promised promise
-    raised_here = rises_at_most p.promised promise (above_after p.promised p y.batch (step_above me d v x p has).changes (Rattle.std.proofs.Common.inl refl))
+    raised_here = rises_at_most p.promised promise (above_after p.promised p y.batch (step_above me d v x p has).changes (inl refl))
 
     -- a step leaves this
     record Stays (u : PartStep) : Type 0 where
       own_is : u.volatile.own.pid ≡ me
-      stands_then : StandsUpTo (part_after p u.batch).promised u.volatile
-      sends_up_to : Each (SendIn (λ b. AtMost b (part_after p u.batch).promised)) u.sends
+      stands_then : StandsUpTo p.members me (part_after p u.batch).promised u.volatile
+      sends_up_to : Each (SendIn (up_to me (part_after p u.batch).promised)) u.sends
 
     by_tick : on_tick me p v ≡ y → Stays y
     by_tick is =
         let t : TickIn me p v (on_tick me p v) = tick_in me p v in
-        subst Stays is (record { own_is = t.own_is memory.own_is; stands_then = record { role = t.role stands.role; own = t.stands memory.own_is stands.own }; sends_up_to = t.sends })
+        subst Stays is
+        (record {
+          own_is = t.own_is memory.own_is;
+          stands_then = record {
+            role = t.role stands.role;
+            waits = t.waits stands.waits;
+            own = t.stands memory.own_is stands.own;
+            known = λ _. tick_covers me p v;
+            heads = tick_heads me p v (λ b. b.number < greatest_number) stands.known stands.heads;
+          };
+          sends_up_to = t.sends;
+        })
 
     by_other : (x ≡ input.Tick → ⊥) → Stays y
     by_other n =
-        let P : Ballot → Type 0 = λ (b : Ballot). AtMost b p.promised in
-        let Q : Ballot → Type 0 = λ (b : Ballot). AtMost b promise in
-        let more : (b : Ballot) → P b → Q b = λ b k. at_most_then b p.promised promise k raised_here in
-        let z = step_in P me d p v has stored.joining stored.closed (is_total.irreflexive p.promised) stands.role x n come in
+        let P : Claim = up_to me p.promised in
+        let Q : Claim = up_to me promise in
+        let more : Implies P Q = up_to_more me p.promised promise raised_here in
+        let own : IfOwn me p.promised (prepared_by x) = subst (λ (o : Option Part). IfOwn me (promise_in o) (prepared_by x)) has come.own in
+        let z = step_in P me d p v has stored.joining stored.closed (up_to_kept me p.promised me p.members) (is_total.irreflexive p.promised) stands.role x n come.clean in
+        let W : Claim = waiting me p.members in
+        let waits = (step_in W me d p v has stored.joining stored.closed (waiting_kept me p.members) tt stands.waits x n come.clean).role (inl tt) in
         record {
           own_is = ap (λ (b : Ballot). b.pid) z.own ∙ memory.own_is;
           stands_then = record {
-            role = role_more P Q more y.volatile.role z.role;
-            own = λ same. subst (λ (b : Ballot). AtMost b promise) (sym z.own) (more v.own (stands.own (sym z.leader ∙ same ∙ z.own)));
+            role = role_more P Q more y.volatile.role (z.role (inl tt));
+            waits = waits;
+            own = λ same. subst (λ (b : Ballot). AtMost b promise) (sym z.own) (at_most_then v.own p.promised promise (stands.own (sym z.leader ∙ same ∙ z.own)) raised_here);
+            known = known_in me d p v has stored.joining stored.closed x n come.clean own P z stands.known;
+            heads = heads_in me d p v has stored.joining stored.closed x n come.clean own P z (λ b. b.number < greatest_number) memory.own_is stands.heads;
           };
           sends_up_to = Each-more (SendIn P) (SendIn Q) (λ m k. body_more P Q more m.1.body k) y.sends z.sends;
         }
@@ -269,83 +213,62 @@ module _ (members : List ℕ) (me : ℕ) (s : State) (x : Input) (stored : IsSto
     left_some k =
         let batch : List Change = map (based p) y.batch in
         let q : Part = part_after p batch in
-        let inside : All IsInside batch = inside_all_based p y.batch (step_inside me d v x).changes in
-        let clean : Each IsClean batch = based_clean p y.batch clean_step.batch in
         let batch_is : based_batch d.part y.batch ≡ batch = ap (λ (o : Option Part). based_batch o y.batch) has in
-        let part_then : (durable_after d batch).part ≡ Some q = inside_after d p batch inside has in
+        let part_then : (durable_after d batch).part ≡ Some q = inside_after d p batch (inside_all_based p y.batch (step_inside me d v x).changes) has in
         let promise_is : q.promised ≡ promise = ap (λ (a : Part). a.promised) (based_after p p p.base y.batch).1 in
-        let keeps_ = keeps_members p batch in
-        let items : NoStops q.tail.items = log_after p batch clean first_part.items in
         let promised_then : promise_in (durable_after d batch).part ≡ promise = ap promise_in part_then ∙ promise_is in
-        let none_ends : is_some (stop_at_end (decided_since p q)) ≡ false =
-        no_end (decided_since p q) (All-drop IsCommand (p.decided - q.trimmed) (take (q.decided - q.trimmed) q.tail.items) (All-take IsCommand (q.decided - q.trimmed) q.tail.items items)) in
-        let pl : Planned = planned s (waiting_at me s x) y in
         subst Left (sym batch_is)
         (record {
-          stored_then = record {
-            part = subst (IfFirst members) (sym part_then) (record { conf_is = keeps_.conf ∙ first_part.conf_is; members_are = keeps_.members ∙ first_part.members_are; items = items });
-            closed = inside_closed d batch inside ∙ stored.closed;
-            joining = joins_after d batch clean ∙ stored.joining;
-          };
           memory_then = record {
-            clean = clean_step.memory;
             own_is = k.own_is;
-            stands = subst (λ (o : Option Part). IfStands o y.volatile) (sym part_then) (subst (λ (b : Ballot). StandsUpTo b y.volatile) (sym promise_is) k.stands_then);
+            stands = subst (λ (o : Option Part). IfStands me o y.volatile) (sym part_then)
+                (subst (λ (ms : List ℕ). StandsUpTo ms me q.promised y.volatile) (sym (keeps_members p batch).members) (subst (λ (b : Ballot). StandsUpTo p.members me b y.volatile) (sym promise_is) k.stands_then));
           };
           raised_then = subst (AtMost (promise_in d.part)) (sym promised_then) (subst (λ (b : Ballot). AtMost b promise) (sym (ap promise_in has)) raised_here);
-          sends_then = subst (λ (b : Ballot). Each (SendIn (λ z. AtMost z b)) y.sends) (sym promised_then) k.sends_up_to;
-          open_then =
-              ap (λ (o : Option Part). closing me o pl) has ∙ ap (λ (b : List Change). cond (is_some (stop_at_end (decided_since p (part_after p b)))) (closing_part me (part_after p b) pl) pl) batch_is
-              ∙ ap (λ (b : Bool). cond b (closing_part me q pl) pl) none_ends;
+          sends_then = subst (λ (b : Ballot). Each (SendIn (up_to me b)) y.sends) (sym promised_then) k.sends_up_to;
         })
 
 -- a tick at this part
 tick_is : (me : ℕ) (d : Durable) (v : Volatile) (p : Part) → d.part ≡ Some p → d.joining ≡ None → on_tick me p v ≡ step_at me d v input.Tick
 tick_is me d v p has stays = sym (ap (λ (j : Option Joining). tick_at me d.part j v) stays ∙ ap (λ (o : Option Part). tick_at me o None v) has)
 
-module _ (members : List ℕ) (me : ℕ) (s : State) (stored : IsStored members s.durable) (memory : IsMemory me s.durable.part s.volatile) where
-  left : (x : Input) → (come : IsCleanInput x) → (o : Option Part) → s.durable.part ≡ o → Left members me s x stored memory come (based_batch s.durable.part (step_at me s.durable s.volatile x).batch)
+module _ (members : List ℕ) (me : ℕ) (s : State) (stored : IsStored members s.durable) (clean : IsCleanMemory s.volatile) (memory : IsMemory me s.durable.part s.volatile) where
+  left : (x : Input) → (come : MayCome me s.durable x) → (o : Option Part) → s.durable.part ≡ o → Left members me s x stored memory come (based_batch s.durable.part (step_at me s.durable s.volatile x).batch)
   left x come None e = left_none members me s x stored memory come e
   left input.Tick come (Some p) e = left_some members me s input.Tick stored memory come p e (by_tick members me s input.Tick stored memory come p e (tick_is me s.durable s.volatile p e stored.joining))
   left x come (Some p) e = left_some members me s x stored memory come p e (by_other members me s x stored memory come p e (λ (same : x ≡ input.Tick). cc))
 
   -- who is asked for a read
-  asked_in : (P : Ballot → Type 0) (o : Option (Part × Leading)) (r : Read) → Each IsCleanSend (read_asked me o s.reads r).sends × Each (SendIn P) (read_asked me o s.reads r).sends
-  asked_in P None r = (tt, tt)
+  asked_in : (P : Claim) (o : Option (Part × Leading)) (r : Read) → Each (SendIn P) (read_asked me o s.reads r).sends
+  asked_in P None r = tt
   asked_in P (Some (p, l)) r =
-      cond_both (eqb (suc (reads_at me p s.reads).count) positions_end) _ _ (λ (a : Asking). Each IsCleanSend a.sends × Each (SendIn P) a.sends) (λ _. (tt, tt))
-      (λ _. let b : Body = body.Confirm l.ballot (suc (reads_at me p s.reads).count) in (to_each_clean p.conf (others me p.members) b tt, to_each_in P p.conf (others me p.members) b tt))
+      cond_both (eqb (suc (reads_at me p s.reads).count) positions_end) _ _ (λ (a : Asking). Each (SendIn P) a.sends) (λ _. tt)
+      (λ _. to_each_in P p.conf (others me p.members) (body.Confirm l.ballot (suc (reads_at me p s.reads).count)) tt)
 
-  asking_in : (P : Ballot → Type 0) (x : Input) → Each IsCleanSend (asking_by me s x).sends × Each (SendIn P) (asking_by me s x).sends
+  asking_in : (P : Claim) (x : Input) → Each (SendIn P) (asking_by me s x).sends
   asking_in P (input.Read r) = asked_in P (leading_at s) r
-  asking_in P (input.Deliver q m) = (tt, tt)
-  asking_in P _ = (tt, tt)
+  asking_in P (input.Deliver q m) = tt
+  asking_in P _ = tt
 
   plan_is : (x : Input) → IsCleanInput x → table_plan me s x ≡ planned s (waiting_at me s x) (step_at me s.durable s.volatile x)
-  plan_is x come = ap (λ o. step_bringing me s x o) (nothing_brought s.durable s.volatile x stored.joining) ∙ (left x come s.durable.part refl).open_then
+  plan_is x come = (plain_step members me s x stored clean come).is
 
-  pub plan_sound : (x : Input) → IsCleanInput x → IsSoundPlan members me s.durable (step_plan me s x)
+  pub plan_sound : (x : Input) → MayCome me s.durable x → IsSoundPlan me s.durable (step_plan me s x)
   plan_sound x come =
       let k = left x come s.durable.part refl in
       let pl : Planned = planned s (waiting_at me s x) (step_at me s.durable s.volatile x) in
-      let is : table_plan me s x ≡ pl = plan_is x come in
-      let Q : Planned → Type 0 = λ (z : Planned). IsSoundPlan members me s.durable (record z { sends = (asking_by me s x).sends ++ z.sends }) in
-      let P : Ballot → Type 0 = λ (b : Ballot). AtMost b (promise_in (durable_after s.durable pl.batch).part) in
-      let asks = asking_in P x in
-      let y : PartStep = step_at me s.durable s.volatile x in
-      let c = clean_step members me s x stored memory come in
-      let here : IsSoundPlan members me s.durable (record pl { sends = (asking_by me s x).sends ++ pl.sends }) =
+      let Q : Planned → Type 0 = λ (z : Planned). IsSoundPlan me s.durable (record z { sends = (asking_by me s x).sends ++ z.sends }) in
+      let P : Claim = up_to me (promise_in (durable_after s.durable pl.batch).part) in
+      let here : IsSoundPlan me s.durable (record pl { sends = (asking_by me s x).sends ++ pl.sends }) =
       record {
-        stored = k.stored_then;
         memory = k.memory_then;
         raised = k.raised_then;
-        clean = Each-append IsCleanSend (asking_by me s x).sends y.sends asks.0 c.sends;
-        sends = Each-append (SendIn P) (asking_by me s x).sends y.sends asks.1 k.sends_then;
+        sends = Each-append (SendIn P) (asking_by me s x).sends (step_at me s.durable s.volatile x).sends (asking_in P x) k.sends_then;
       } in
-      read_too (table_plan me s x) (subst Q (sym is) here)
+      read_too (table_plan me s x) (subst Q (sym (plan_is x come.clean)) here)
     where
-      read_too : (z : Planned) → IsSoundPlan members me s.durable (record z { sends = (asking_by me s x).sends ++ z.sends }) → IsSoundPlan members me s.durable (reading me s x z)
-      read_too z k = record { stored = k.stored; memory = k.memory; raised = k.raised; clean = k.clean; sends = k.sends }
+      read_too : (z : Planned) → IsSoundPlan me s.durable (record z { sends = (asking_by me s x).sends ++ z.sends }) → IsSoundPlan me s.durable (reading me s x z)
+      read_too z k = record { memory = k.memory; raised = k.raised; sends = k.sends }
 
   -- what is kept in memory is the row's
   pub plan_memory : (x : Input) → IsCleanInput x → (step_plan me s x).volatile ≡ (step_at me s.durable s.volatile x).volatile

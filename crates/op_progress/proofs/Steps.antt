@@ -1,11 +1,13 @@
 -- A step of a node that is of configuration 1 and joins no other one, where no stop-sign is proposed: it stays so, a role's
 -- ballot isn't above its promise, nor is the own ballot of who takes it for the leader's, and what is sent tells of no ballot
 -- above the promise.
-use Rattle.std.proofs.Common.{◌≡◌, ◌&&◌, ◌||◌, ℕ, Bool, false, not, eqb, ltb, is_some, List, [], ◌∷◌, Option, Some, None, refl, sym, subst}
-use Rattle.std.proofs.lemmas.Bool.{cond_both}
+use Rattle.std.proofs.Common.{◌≡◌, ◌&&◌, ◌||◌, inl, inr, ℕ, Bool, false, not, eqb, ltb, is_some, List, [], ◌∷◌, Option, Some, None, refl, sym, ap, ◌∙◌, subst}
+use Rattle.std.proofs.lemmas.Bool.{cond_both, both_ways}
+use Rattle.op_types.specs.Ballots.{is_below, greater}
 use Rattle.op_types.specs.Effects.{Effects}
 use Rattle.op_types.specs.declared.answers.Refusal.{Refusal}
 use Rattle.op_types.specs.declared.ballot.Ballot.{Ballot}
+use Rattle.op_types.specs.declared.changes.Change.{Change}
 use Rattle.op_types.specs.declared.durable.Closed.{Closed}
 use Rattle.op_types.specs.declared.durable.Durable.{Durable}
 use Rattle.op_types.specs.declared.durable.Joining.{Joining}
@@ -19,14 +21,15 @@ use Rattle.op_types.specs.declared.messages.Msg.{Msg}
 use Rattle.op_protocol.specs.State.{Volatile, PartStep, with_effects}
 use Rattle.op_protocol.specs.Configurations.{latest_of}
 use Rattle.op_protocol.specs.Joining.{gives_base, gives_segment, on_base_piece}
-use Rattle.op_protocol.specs.Parts.{message, is_admitted_body}
+use Rattle.op_protocol.specs.Parts.{part_after, message, is_admitted_body}
 use Rattle.op_protocol.specs.Leader.{session_down}
 use Rattle.op_protocol.specs.Rows.{on_body, message_at, is_of_joining, is_prepare_req, may_be_above, on_older, on_newer, on_latest, message_step, entries_of, proposal_at, refusal_of, trim_at, up_at, step_at}
 use Rattle.op_protocol.specs.Tick.{remembering}
 use Rattle.op_lockstep.specs.Lockstep.{is_reply}
 use Rattle.op_lockstep.proofs.Clean.{IsCleanBody, IsCleanInput}
 use Rattle.op_lockstep.proofs.Lists.{Each}
-use Rattle.op_progress.proofs.Rows.{RoleIn, SendIn, IsFree, role_more, body_more, to_each_in, propose_in, down_in, up_in, trim_now_in, prepared_in, refused_in, StepIn, remembers, does_row, body_step}
+use Rattle.op_progress.proofs.Orders.{AtMost, at_most_then, greater_at_most, first_at_most, second_at_most}
+use Rattle.op_progress.proofs.Rows.{Claim, IsKept, RoleIn, SendIn, IsFree, only, only_kept, propose_in, down_in, up_in, trim_now_in, free_after, prepared_in, refused_in, Promises, floor_rises, StepIn, remembers, does_row, body_step}
 
 -- ---- what an input brings
 abbrev pub prepared_by : Input → Option Ballot
@@ -42,7 +45,7 @@ replied_by (input.Deliver q m) = is_reply m.body
 replied_by _ = false
 
 -- ---- a node with a part
-module _ (P : Ballot → Type 0) (me : ℕ) (d : Durable) (p : Part) (v : Volatile) (has : d.part ≡ Some p) (stays : d.joining ≡ None) (open_ : d.closed ≡ None) (h : P p.promised) (k : RoleIn P v.role) where
+module _ (P : Claim) (me : ℕ) (d : Durable) (p : Part) (v : Volatile) (has : d.part ≡ Some p) (stays : d.joining ≡ None) (open_ : d.closed ≡ None) (kept : IsKept me p.members P) (h : P.told p.promised) (k : RoleIn P v.role) where
   abbrev Brings : Body → PartStep → Type 0
   Brings b y = StepIn P p v (prepared_in b) (refused_in b) (is_reply b) y
 
@@ -52,7 +55,7 @@ module _ (P : Ballot → Type 0) (me : ℕ) (d : Durable) (p : Part) (v : Volati
   at_part : (q : ℕ) (m : Msg) → Brings m.body (message_at me d.part v q m)
   at_part q m =
       subst (λ (o : Option Part). Brings m.body (message_at me o v q m)) (sym has)
-      (cond_both (eqb m.conf p.conf && is_admitted_body p m.body) (on_body me p v q m.body) (remembering v []) (Brings m.body) (λ _. body_step P me p v q m.body h k) (λ _. keeps m.body [] tt))
+      (cond_both (eqb m.conf p.conf && is_admitted_body p m.body) (on_body me p v q m.body) (remembering v []) (Brings m.body) (λ _. body_step P me p v q m.body kept h k) (λ _. keeps m.body [] tt))
 
   latest : (q conf : ℕ) (b : Body) → IsCleanBody b → Brings b (on_latest me d v q conf b)
   latest q conf (body.NextConf members olds len trimmed) x = absurd x
@@ -100,3 +103,47 @@ module _ (P : Ballot → Type 0) (me : ℕ) (d : Durable) (p : Part) (v : Volati
   step_in (input.Read r) n c = still (remembering v []) refl tt tt
   step_in (input.Up q) n c = session_in q d.part d.joining has stays
   step_in (input.Down q) n c = does_ (session_down v.role q) (down_in P v.role q k)
+
+-- ---- own ballots
+-- an own ballot that is brought isn't above this one
+abbrev pub IfOwn : ℕ → Ballot → Option Ballot → Type 0
+IfOwn me b None = Unit {0}
+IfOwn me b (Some n) = n.pid ≡ me → AtMost n b
+
+module _ (me : ℕ) (d : Durable) (p : Part) (v : Volatile) (has : d.part ≡ Some p) (stays : d.joining ≡ None) (open_ : d.closed ≡ None) (x : Input) (other : x ≡ input.Tick → ⊥) (come : IsCleanInput x) (own : IfOwn me p.promised (prepared_by x)) where
+  abbrev row : PartStep
+  row = step_at me d v x
+
+  abbrev promise_then : Ballot
+  promise_then = (part_after p (row).batch).promised
+
+  module _ (P : Claim) (z : StepIn P p v (prepared_by x) (refused_by x) (replied_by x) row) where
+    -- an own ballot is no new promise
+    own_promise : (o : Option Ballot) → Promises o p (row).batch → IfOwn me p.promised o → (promise_then).pid ≡ me → Each IsFree (row).batch
+    own_promise None f i mine = f
+    own_promise (Some n) (inl f) i mine = f
+    own_promise (Some n) (inr e) i mine =
+        let is : promise_then ≡ n = ap (λ (b : List Change). (part_after p b).promised) e.0 in
+        absurd (both_ways (is_below p.promised n) (i (sym (ap (λ (b : Ballot). b.pid) is) ∙ mine)) e.1)
+
+    free : (promise_then).pid ≡ me → Each IsFree (row).batch
+    free mine = own_promise (prepared_by x) (z).promises own mine
+
+    -- who has promised its own ballot prepares or leads it still
+    pub heads_in : (G : Ballot → Type 0) → v.own.pid ≡ me → (p.promised ≡ v.own → G v.own → RoleIn (only v.own) v.role) → promise_then ≡ (row).volatile.own → G (row).volatile.own → RoleIn (only (row).volatile.own) (row).volatile.role
+    heads_in G mine heads same g =
+        let own_is : (row).volatile.own ≡ v.own = (z).own in
+        let f : Each IsFree (row).batch = free (ap (λ (b : Ballot). b.pid) (same ∙ own_is) ∙ mine) in
+        let head : RoleIn (only v.own) v.role = heads (sym (free_after p (row).batch f) ∙ same ∙ own_is) (subst G own_is g) in
+        subst (λ (b : Ballot). RoleIn (only b) (row).volatile.role) (sym own_is) ((step_in (only v.own) me d p v has stays open_ (only_kept v.own me p.members) tt head x other come).role (inr f))
+
+    -- and it knows that ballot
+    pub known_in : (p.promised.pid ≡ me → AtMost p.promised (greater v.leader v.floor)) → (promise_then).pid ≡ me → AtMost promise_then (greater (row).volatile.leader (row).volatile.floor)
+    known_in known mine =
+        let f : Each IsFree (row).batch = free mine in
+        let still : promise_then ≡ p.promised = free_after p (row).batch f in
+        let least : Ballot = greater (row).volatile.leader (row).volatile.floor in
+        let leader : AtMost v.leader least = subst (λ (b : Ballot). AtMost b least) (z).leader (first_at_most (row).volatile.leader (row).volatile.floor) in
+        let floor : AtMost v.floor least = at_most_then v.floor (row).volatile.floor least (floor_rises (refused_by x) v.floor (row).volatile.floor (z).floor) (second_at_most (row).volatile.leader (row).volatile.floor) in
+        subst (λ (b : Ballot). AtMost b least) (sym still)
+        (at_most_then p.promised (greater v.leader v.floor) least (known (ap (λ (b : Ballot). b.pid) (sym still) ∙ mine)) (greater_at_most v.leader v.floor least leader floor))

@@ -1,6 +1,6 @@
 -- A tick: what it makes of a member's ballots.
 use Rattle.std.proofs.Common.{◌≡◌, ◌⊎◌, inl, inr, ℕ, Bool, true, cond, eqb, ltb, not, ◌&&◌, ◌+◌, arith, List, [], ◌∷◌, ◌++◌, filter, refl, sym, ap, ◌∙◌, subst}
-use Rattle.std.proofs.lemmas.Bool.{cond_both, both_ways, eqb-false, lt-ltb, or_left}
+use Rattle.std.proofs.lemmas.Bool.{cond_both, both_ways, eqb-true, eqb-false, lt-ltb, or_left}
 use Rattle.op_types.proofs.Order.{is_total}
 use Rattle.op_types.specs.Ballots.{no_ballot, is_below, greater}
 use Rattle.op_types.specs.Changes.{part_with}
@@ -23,7 +23,7 @@ use Rattle.op_protocol.specs.Tick.{candidate_of, next_round_state, with_floor_at
 use Rattle.op_lockstep.proofs.Lists.{Each, Each-append}
 use Rattle.op_lockstep.proofs.Ends.{by_end, first_below}
 use Rattle.op_progress.proofs.Orders.{AtMost, same_at_most, below_at_most, at_most_below, at_most_then, greater_at_most, first_at_most, second_at_most, same_ballot}
-use Rattle.op_progress.proofs.Rows.{RoleIn, SendIn, RowIn, free_after, to_each_in, prepares_in}
+use Rattle.op_progress.proofs.Rows.{Claim, RoleIn, SendIn, up_to, only, waiting, RowIn, free_after, to_each_in, prepares_in}
 
 -- ---- the greatest ballot that was heard
 pub own_in : (own : Ballot) (hs : List Heard) → AtMost own (greatest own hs)
@@ -66,19 +66,25 @@ module _ (me : ℕ) (p : Part) (v : Volatile) where
   abbrev promise_then : PartStep → Ballot
   promise_then y = (part_after p y.batch).promised
 
+  -- the promise and the role stay, or it begins to lead a ballot above the promise
+  abbrev StaysOrLeads : PartStep → Type 0
+  StaysOrLeads y = ((promise_then y ≡ p.promised) × (y.volatile.role ≡ v.role)) ⊎ ((is_below p.promised (promise_then y) ≡ true) × RoleIn (only (promise_then y)) y.volatile.role)
+
   -- a step by this verdict, after which this is known
   record StepBy (x : Verdict) (a : Candidate) (y : PartStep) : Type 0 where
     own : y.volatile.own ≡ a.own
     leader : y.volatile.leader ≡ a.leader
     flag : y.volatile.flag ≡ a.flag
     floor : y.volatile.floor ≡ greater a.floor p.promised
-    role : RoleIn (λ b. AtMost b p.promised) v.role → RoleIn (λ b. AtMost b (promise_then y)) y.volatile.role
-    sends : Each (SendIn (λ b. AtMost b (promise_then y))) y.sends
+    role : RoleIn (up_to me p.promised) v.role → RoleIn (up_to me (promise_then y)) y.volatile.role
+    sends : Each (SendIn (up_to me (promise_then y))) y.sends
+    led : StaysOrLeads y
+    waits : RoleIn (waiting me p.members) v.role → RoleIn (waiting me p.members) y.volatile.role
     promised : (promise_then y ≡ p.promised) ⊎ IsWon x (promise_then y)
     raised_to : AtMost p.promised (promise_then y)
     covers : IfElected (λ n. n.pid ≡ me → AtMost n (promise_then y)) x
 
-  asks_in : (P : Ballot → Type 0) (b : Bool) → Each (SendIn P) (asks_leaders me p v.heard b)
+  asks_in : (P : Claim) (b : Bool) → Each (SendIn P) (asks_leaders me p v.heard b)
   asks_in P b =
       cond_both (not b && is_below (greatest no_ballot v.heard) p.promised) (asks_heard me p v.heard) [] (Each (SendIn P))
       (λ _. to_each_in P p.conf (filter (λ q. has_replied v.heard q) (others me p.members)) body.PrepareReq tt) (λ _. tt)
@@ -92,7 +98,7 @@ module _ (me : ℕ) (p : Part) (v : Volatile) where
 
     quiet : (x : Verdict) → IfElected (λ n. n.pid ≡ me → AtMost n p.promised) x → StepBy x a (also_sending (only_asks me p begun) asked)
     quiet x c =
-        let P : Ballot → Type 0 = λ (b : Ballot). AtMost b p.promised in
+        let P : Claim = up_to me p.promised in
         record {
           own = refl;
           leader = refl;
@@ -100,30 +106,38 @@ module _ (me : ℕ) (p : Part) (v : Volatile) where
           floor = refl;
           role = λ k. k;
           sends = Each-append (SendIn P) (requests me p begun.round) asked (to_each_in P p.conf (others me p.members) (body.HeartbeatRequest begun.round) tt) (asks_in P a.flag);
+          led = inl (refl, refl);
+          waits = λ k. k;
           promised = inl refl;
           raised_to = is_total.irreflexive p.promised;
           covers = c;
         }
 
-    leads : (n : Ballot) → a.leader ≡ n → is_below p.promised n ≡ true → StepBy (verdict.Elected n) a (also_sending (with_effects begun (first [] (requests me p begun.round) [] (lead me p begun.role n))) asked)
-    leads n is above =
+    leads : (n : Ballot) → a.leader ≡ n → n.pid ≡ me → is_below p.promised n ≡ true → StepBy (verdict.Elected n) a (also_sending (with_effects begun (first [] (requests me p begun.round) [] (lead me p begun.role n))) asked)
+    leads n is mine above =
         let q : Part = part_with p (change.Promise n) in
         let e : Effects = prepares me q (first_preparing n) in
-        let P : Ballot → Type 0 = λ (b : Ballot). AtMost b n in
-        let r : RowIn P e = prepares_in P me q (first_preparing n) (is_total.irreflexive n) in
+        let P : Claim = up_to me n in
+        let here : P.asked n = (is_total.irreflexive n, mine) in
+        let r : RowIn P e = prepares_in P me q (first_preparing n) here (λ _. here) (λ _. here) in
         let then_ : (part_after q e.batch).promised ≡ n = free_after q e.batch r.batch in
         record {
           own = refl;
           leader = refl;
           flag = refl;
           floor = refl;
-          role = λ _. subst (λ (b : Ballot). RoleIn (λ x. AtMost x b) e.role) (sym then_) r.role;
+          role = λ _. subst (λ (b : Ballot). RoleIn (up_to me b) e.role) (sym then_) r.role;
           sends =
-              subst (λ (b : Ballot). Each (SendIn (λ x. AtMost x b)) ((requests me p begun.round ++ (to_each p.conf (others me p.members) (prepare_body p n) ++ e.sends)) ++ asked)) (sym then_)
+              subst (λ (b : Ballot). Each (SendIn (up_to me b)) ((requests me p begun.round ++ (to_each p.conf (others me p.members) (prepare_body p n) ++ e.sends)) ++ asked)) (sym then_)
               (Each-append (SendIn P) (requests me p begun.round ++ (to_each p.conf (others me p.members) (prepare_body p n) ++ e.sends)) asked
               (Each-append (SendIn P) (requests me p begun.round) (to_each p.conf (others me p.members) (prepare_body p n) ++ e.sends) (to_each_in P p.conf (others me p.members) (body.HeartbeatRequest begun.round) tt)
-              (Each-append (SendIn P) (to_each p.conf (others me p.members) (prepare_body p n)) e.sends (to_each_in P p.conf (others me p.members) (prepare_body p n) (is_total.irreflexive n)) r.sends))
+              (Each-append (SendIn P) (to_each p.conf (others me p.members) (prepare_body p n)) e.sends (to_each_in P p.conf (others me p.members) (prepare_body p n) here) r.sends))
               (asks_in P a.flag));
+          led = inr (
+            subst (λ (b : Ballot). is_below p.promised b ≡ true) (sym then_) above,
+            subst (λ (b : Ballot). RoleIn (only b) e.role) (sym then_) (prepares_in (only n) me q (first_preparing n) refl (λ _. refl) (λ _. refl)).role,
+          );
+          waits = λ _. (prepares_in (waiting me p.members) me q (first_preparing n) tt (λ _. tt) (λ no. no)).role;
           promised = inr then_;
           raised_to = subst (AtMost p.promised) (sym then_) (below_at_most p.promised n above);
           covers = λ _. same_at_most n (part_after q e.batch).promised (sym then_);
@@ -135,7 +149,7 @@ module _ (me : ℕ) (p : Part) (v : Volatile) where
     step_by (verdict.Elected n) k =
         cond_both (eqb n.pid me) (elected me p begun n) (only_asks me p begun) (λ (y : PartStep). StepBy (verdict.Elected n) a (also_sending y asked))
         (λ mine. cond_both (is_below p.promised n) (with_effects begun (first [] (requests me p begun.round) [] (lead me p begun.role n))) (only_asks me p begun) (λ (y : PartStep). StepBy (verdict.Elected n) a (also_sending y asked))
-        (λ above. leads n k above) (λ low. quiet (verdict.Elected n) (λ _. low)))
+        (λ above. leads n k (eqb-true n.pid me mine) above) (λ low. quiet (verdict.Elected n) (λ _. low)))
         (λ other. quiet (verdict.Elected n) (λ e. absurd (eqb-false n.pid me other e)))
 
   abbrev ended : Ended
@@ -181,8 +195,10 @@ module _ (me : ℕ) (p : Part) (v : Volatile) where
   pub record TickIn (y : PartStep) : Type 0 where
     pub own_is : v.own.pid ≡ me → y.volatile.own.pid ≡ me
     pub own_rises : AtMost v.own y.volatile.own
-    pub role : RoleIn (λ b. AtMost b p.promised) v.role → RoleIn (λ b. AtMost b (promise_then y)) y.volatile.role
-    pub sends : Each (SendIn (λ b. AtMost b (promise_then y))) y.sends
+    pub role : RoleIn (up_to me p.promised) v.role → RoleIn (up_to me (promise_then y)) y.volatile.role
+    pub sends : Each (SendIn (up_to me (promise_then y))) y.sends
+    pub waits : RoleIn (waiting me p.members) v.role → RoleIn (waiting me p.members) y.volatile.role
+    pub stays : promise_then y ≡ p.promised → y.volatile.role ≡ v.role
     pub raised : AtMost p.promised (promise_then y)
     pub stands : v.own.pid ≡ me → (v.leader ≡ v.own → AtMost v.own p.promised) → y.volatile.leader ≡ y.volatile.own → AtMost y.volatile.own (promise_then y)
     pub floor_rises : AtMost v.floor y.volatile.floor
@@ -197,6 +213,10 @@ module _ (me : ℕ) (p : Part) (v : Volatile) where
   promise_low z b (inl e) f w = subst (λ (x : Ballot). AtMost x z) (sym e) (at_most_then p.promised (greater ended.after.floor p.promised) z (second_at_most ended.after.floor p.promised) f)
   promise_low z b (inr k) f w = subst (λ (x : Ballot). AtMost x z) (sym (won b k)) w
 
+  role_stays : (y : PartStep) → promise_then y ≡ p.promised → StaysOrLeads y → y.volatile.role ≡ v.role
+  role_stays y same (inl e) = e.1
+  role_stays y same (inr e) = absurd (both_ways (is_below p.promised p.promised) (is_total.irreflexive p.promised) (subst (λ (b : Ballot). is_below p.promised b ≡ true) same e.0))
+
   tick_of : (y : PartStep) → StepBy ended.verdict ended.after y → TickIn y
   tick_of y k =
       record {
@@ -204,6 +224,8 @@ module _ (me : ℕ) (p : Part) (v : Volatile) where
         own_rises = subst (AtMost v.own) (sym k.own) own_later;
         role = k.role;
         sends = k.sends;
+        waits = k.waits;
+        stays = λ same. role_stays y same k.led;
         raised = k.raised_to;
         stands = λ id stands same.
             subst (λ (b : Ballot). AtMost b (promise_then y)) (sym k.own)
@@ -215,6 +237,30 @@ module _ (me : ℕ) (p : Part) (v : Volatile) where
 
   pub tick_in : TickIn (on_tick me p v)
   tick_in = tick_of (on_tick me p v) step_is
+
+  -- ---- who has promised its own ballot prepares or leads it
+  own_raised : (ended.after.own ≡ v.own) ⊎ (ended.after.own ≡ raised_ballot now)
+  own_raised =
+      by_end (λ (e : Ended). (e.after.own ≡ v.own) ⊎ (e.after.own ≡ raised_ballot now)) now v.heard (λ _. inl refl) (λ _ _ _. inr refl) (λ _ _ _. inl refl) (λ _ _ _. inl refl) (λ _ _ _. inl refl)
+
+  module _ (G : Ballot → Type 0) (known : p.promised.pid ≡ me → AtMost p.promised (least now)) (heads : p.promised ≡ v.own → G v.own → RoleIn (only v.own) v.role) where
+    heads_of : (y : PartStep) → StepBy ended.verdict ended.after y → promise_then y ≡ y.volatile.own → G y.volatile.own → RoleIn (only y.volatile.own) y.volatile.role
+    heads_of y k same g = by_led k.led
+      where
+        by_own : (promise_then y ≡ p.promised) × (y.volatile.role ≡ v.role) → (ended.after.own ≡ v.own) ⊎ (ended.after.own ≡ raised_ballot now) → RoleIn (only y.volatile.own) y.volatile.role
+        by_own e (inl o) =
+            let own_is : y.volatile.own ≡ v.own = k.own ∙ o in
+            subst (λ (b : Ballot). RoleIn (only b) y.volatile.role) (sym own_is) (subst (RoleIn (only v.own)) (sym e.1) (heads (sym e.0 ∙ same ∙ own_is) (subst G own_is g)))
+        by_own e (inr o) =
+            let raised : p.promised ≡ raised_ballot now = sym e.0 ∙ same ∙ k.own ∙ o in
+            absurd (both_ways (is_below (least now) (raised_ballot now)) (subst (λ (b : Ballot). AtMost b (least now)) raised (known (ap (λ (b : Ballot). b.pid) raised))) over_least)
+
+        by_led : StaysOrLeads y → RoleIn (only y.volatile.own) y.volatile.role
+        by_led (inl e) = by_own e own_raised
+        by_led (inr r) = subst (λ (b : Ballot). RoleIn (only b) y.volatile.role) same r.1
+
+    pub tick_heads : promise_then (on_tick me p v) ≡ (on_tick me p v).volatile.own → G (on_tick me p v).volatile.own → RoleIn (only (on_tick me p v).volatile.own) (on_tick me p v).volatile.role
+    tick_heads = heads_of (on_tick me p v) step_is
 
   -- ---- of one that heard a majority, and may raise its ballot
   pub record HeardIn (y : PartStep) : Type 0 where

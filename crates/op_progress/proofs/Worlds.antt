@@ -1,12 +1,13 @@
--- Every world that a run without stop-signs reaches is sound: so is each node, and no message tells of a ballot above its sender's
--- promise.
-use Rattle.std.proofs.Common.{◌≡◌, ℕ, zero, suc, Bool, true, false, cond, eqb, nat_eq, List, [], ◌∷◌, ◌++◌, slice_get, Option, Some, None, refl, sym, ap, ◌∙◌, subst, append-nil, arith}
+-- Every world that a run without stop-signs reaches is sound: so is each node, and no message asks for a promise of a ballot that
+-- isn't its sender's, nor tells of one above its sender's promise.
+use Rattle.std.proofs.Common.{◌≡◌, ◌<◌, ◌+◌, ℕ, zero, suc, Bool, true, false, cond, min, eqb, nat_eq, List, [], ◌∷◌, ◌++◌, slice_get, Option, Some, None, refl, sym, ap, ◌∙◌, subst, append-nil, arith}
 use Rattle.std.proofs.lemmas.Bool.{cond_both, eqb-true, eqb-false}
-use Rattle.std.proofs.lemmas.List.Elements.{All-nil, All-head, All-tail}
+use Rattle.std.proofs.lemmas.List.Elements.{All-head, All-tail}
 use Rattle.std.specs.Set.{is_member}
 use Rattle.op_types.proofs.Order.{is_total}
 use Rattle.op_types.specs.Ballots.{no_ballot}
-use Rattle.op_types.specs.Changes.{IsCommand, empty_durable, durable_after}
+use Rattle.op_types.specs.Changes.{empty_durable, durable_after}
+use Rattle.op_types.specs.Limits.{greatest_number}
 use Rattle.op_types.specs.declared.ballot.Ballot.{Ballot}
 use Rattle.op_types.specs.declared.durable.Durable.{Durable}
 use Rattle.op_types.specs.declared.durable.Joining.{Joining}
@@ -23,104 +24,110 @@ use Rattle.op_runs.specs.declared.events.What.{What}
 use Rattle.op_runs.specs.declared.events.What.TheVariants as what
 use Rattle.op_runs.specs.World.{World, Node, NodeStatus, Up, Down, Failed, Fate, Done, Stopped, Faulted, Happening, Doing, Steps, Stops, Opens, Tells, Deed, Sent, first_durable, first_node, first_world, node_ids, delivery, deed_of, node_at, with_node, world_opened, sent_by, stored_by, world_by_fate, world_if_up, world_opening, world_if_down, world_reopening, world_if_failed, world_by_status, world_at_node, world_with, world_after, run_of}
 use Rattle.op_lockstep.specs.Reach.{IsNoStop, ProposeNoStop}
-use Rattle.op_lockstep.proofs.Clean.{IsCleanBody, IsCleanSend, IsCleanInput, to_each_clean}
-use Rattle.op_lockstep.proofs.Lists.{Each, Each-append, Each-map, Each-more, each, by_test}
-use Rattle.op_lockstep.proofs.Seats.{node_at-other, node_at-here, found_id}
-use Rattle.op_progress.proofs.Orders.{AtMost, same_at_most, at_most_then}
-use Rattle.op_progress.proofs.Rows.{BodyIn, SendIn, body_more, to_each_in}
-use Rattle.op_progress.proofs.Sound.{IsStored, promise_in, IsMemory, IsSoundPlan, plan_sound}
+use Rattle.op_lockstep.proofs.Lists.{Each, Each-append, Each-map, Each-more, Each-get, each, by_test}
+use Rattle.op_lockstep.proofs.Reached.{IsCleanDoing, IfDone, deed_clean, IsCleanNode, IsCleanWorld, clean_after, begins}
+use Rattle.op_lockstep.proofs.Seats.{node_at-other, node_at-here, found_id, with_each, found_of}
+use Rattle.op_progress.proofs.Orders.{AtMost, same_at_most, first_at_most}
+use Rattle.op_progress.proofs.Rows.{Claim, BodyIn, SendIn, of_ballots, up_to, up_to_more, body_more, to_each_in, prepared_in}
+use Rattle.op_progress.proofs.Steps.{IfOwn, prepared_by}
+use Rattle.op_progress.proofs.Sound.{promise_in, IsMemory, IsSoundPlan, MayCome, plan_sound}
 
--- ---- what happens
-abbrev IsCleanSent : Sent → Type 0
-IsCleanSent m = IsCleanBody m.message.body
+-- ---- what is sent
+-- a node leads ballots of its own
+abbrev own_alone : ℕ → Claim
+own_alone me = of_ballots (Unit {0}) (λ x. x.pid ≡ me) (λ x. Unit {0})
 
-abbrev IsCleanDoing : Doing → Type 0
-IsCleanDoing (Steps x) = IsCleanInput x
-IsCleanDoing _ = Unit {0}
-
-abbrev IfSent : Option Sent → Type 0
-IfSent None = Unit {0}
-IfSent (Some m) = IsCleanSent m
-
-abbrev IfDone : Option Deed → Type 0
-IfDone None = Unit {0}
-IfDone (Some x) = IsCleanDoing x.doing
-
-pub sent_at : (P : Sent → Type 0) (ms : List Sent) (i : ℕ) (m : Sent) → slice_get ms i ≡ Some m → Each P ms → P m
-sent_at P [] i m e c = absurd (none_some e)
-  where
-    none_some : None ≡ Some m → ⊥
-    none_some e = cc
-sent_at P (x ∷ ms) zero m e c = subst P (some_same e) c.0
-  where
-    some_same : Some x ≡ Some m → x ≡ m
-    some_same e = cc
-sent_at P (x ∷ ms) (suc i) m e c = sent_at P ms i m e c.1
-
-delivered_clean : (o : Option Sent) → IfSent o → IfDone (delivery o)
-delivered_clean None c = tt
-delivered_clean (Some m) c = c
-
-if_sent : (ms : List Sent) (o : Option Sent) (i : ℕ) → slice_get ms i ≡ o → Each IsCleanSent ms → IfSent o
-if_sent ms None i e c = tt
-if_sent ms (Some m) i e c = sent_at IsCleanSent ms i m e c
-
-deed_clean : (ms : List Sent) (x : What) → Each IsCleanSent ms → IsNoStop x → IfDone (deed_of ms x)
-deed_clean ms (what.Stop p members) c n = absurd n
-deed_clean ms (what.Deliver i) c n = delivered_clean (slice_get ms i) (if_sent ms (slice_get ms i) i refl c)
-deed_clean ms (what.CrashAt p call image) c n = tt
-deed_clean ms (what.Fail p call) c n = tt
-deed_clean ms (what.Kill p disk) c n = tt
-deed_clean ms _ c n = tt
-
--- ---- worlds
--- what a message tells isn't above what its sender has promised
-abbrev pub IsUpTo : Option Node → Body → Type 0
-IsUpTo None b = Unit {0}
-IsUpTo (Some n) b = BodyIn (λ x. AtMost x (promise_in n.state.durable.part)) b
+-- a Prepare is of a ballot of its sender's, and what a message tells isn't above what that has promised
+abbrev pub IsUpTo : ℕ → Option Node → Body → Type 0
+IsUpTo from None b = BodyIn (own_alone from) b
+IsUpTo from (Some n) b = BodyIn (up_to from (promise_in n.state.durable.part)) b
 
 abbrev pub IsBounded : List Node → Sent → Type 0
-IsBounded nodes m = IsUpTo (node_at nodes m.from) m.message.body
+IsBounded nodes m = IsUpTo m.from (node_at nodes m.from) m.message.body
 
+-- ---- what comes
+-- no own ballot comes above the promise of the node that is there
+abbrev pub OwnAt : ℕ → Option Node → Option Ballot → Type 0
+OwnAt pid None o = Unit {0}
+OwnAt pid (Some n) o = IfOwn pid (promise_in n.state.durable.part) o
+
+none_comes : (pid : ℕ) (o : Option Node) → OwnAt pid o None
+none_comes pid None = tt
+none_comes pid (Some n) = tt
+
+-- a Prepare comes of its sender's ballot
+pub prepare_comes : (nodes : List Node) (from to : ℕ) (b : Body) → IsUpTo from (node_at nodes from) b → OwnAt to (node_at nodes to) (prepared_in b)
+prepare_comes nodes from to (body.Prepare n na nl nd) k = here (node_at nodes to) refl
+  where
+    own : (o : Option Node) → IsUpTo from o (body.Prepare n na nl nd) → n.pid ≡ from
+    own None i = i
+    own (Some u) i = i.1
+
+    here : (o : Option Node) → node_at nodes to ≡ o → OwnAt to o (Some n)
+    here None at = tt
+    here (Some u) at = λ (mine : n.pid ≡ to).
+        (subst (λ (o : Option Node). IsUpTo from o (body.Prepare n na nl nd)) (ap (node_at nodes) (sym (own (node_at nodes from) k) ∙ mine) ∙ at) k).0
+prepare_comes nodes from to _ k = none_comes to (node_at nodes to)
+
+abbrev IsOwnDoing : List Node → ℕ → Doing → Type 0
+IsOwnDoing nodes pid (Steps x) = OwnAt pid (node_at nodes pid) (prepared_by x)
+IsOwnDoing nodes pid _ = Unit {0}
+
+abbrev IfOwnDone : List Node → Option Deed → Type 0
+IfOwnDone nodes None = Unit {0}
+IfOwnDone nodes (Some x) = IsOwnDoing nodes x.pid x.doing
+
+deed_own : (nodes : List Node) (ms : List Sent) → Each (IsBounded nodes) ms → (x : What) → IfOwnDone nodes (deed_of ms x)
+deed_own nodes ms e (what.Tick p) = none_comes p (node_at nodes p)
+deed_own nodes ms e (what.Commands p cs) = none_comes p (node_at nodes p)
+deed_own nodes ms e (what.Stop p members) = none_comes p (node_at nodes p)
+deed_own nodes ms e (what.Trim p) = none_comes p (node_at nodes p)
+deed_own nodes ms e (what.Read p r) = none_comes p (node_at nodes p)
+deed_own nodes ms e (what.Up p q) = none_comes p (node_at nodes p)
+deed_own nodes ms e (what.Down p q) = none_comes p (node_at nodes p)
+deed_own nodes ms e (what.Deliver i) = delivers (slice_get ms i) refl
+  where
+    delivers : (o : Option Sent) → slice_get ms i ≡ o → IfOwnDone nodes (delivery o)
+    delivers None at = tt
+    delivers (Some m) at = prepare_comes nodes m.from m.to m.message.body (Each-get (IsBounded nodes) ms i m at e)
+deed_own nodes ms e (what.CrashAt p call image) = tt
+deed_own nodes ms e (what.Fail p call) = tt
+deed_own nodes ms e (what.Kill p disk) = tt
+deed_own nodes ms e _ = tt
+
+-- ---- openings
 -- a ballot that a node is opened with is its own
 restart_id : (me : ℕ) (b : Ballot) → (restart_ballot me b).pid ≡ me
 restart_id me b = cond_both (eqb b.pid me) _ _ (λ (x : Ballot). x.pid ≡ me) (λ _. refl) (λ _. refl)
 
-module _ (members : List ℕ) where
-  -- what an opening may find, where this is stored
-  abbrev Later : Durable → Durable → Type 0
-  Later d after = IsStored members after × AtMost (promise_in d.part) (promise_in after.part)
+-- and it isn't what it has promised, unless numbers end
+restart_anew : (me : ℕ) (b : Ballot) → b ≡ restart_ballot me b → (restart_ballot me b).number < greatest_number → ⊥
+restart_anew me b =
+    cond_both (eqb b.pid me) _ _ (λ (x : Ballot). b ≡ x → x.number < greatest_number → ⊥) (λ _ same low. apart b.number greatest_number (ap (λ (x : Ballot). x.number) same) low)
+    (λ other same low. absurd (eqb-false b.pid me other (ap (λ (x : Ballot). x.pid) same)))
+  where
+    apart : (n g : ℕ) → n ≡ min (n + 1) g → min (n + 1) g < g → ⊥
+    apart n g same low = absurd (omega (arith, same, low))
 
+module _ (members : List ℕ) where
+  -- what an opening may find, where this is promised
   abbrev Finds : Durable → NodeStatus → Type 0
   Finds d Up = Unit {0}
-  Finds d (Down after) = Later d after
-  Finds d (Failed count after) = Later d after
+  Finds d (Down after) = AtMost (promise_in d.part) (promise_in after.part)
+  Finds d (Failed count after) = AtMost (promise_in d.part) (promise_in after.part)
 
   pub record IsSoundNode (n : Node) : Type 0 where
-    pub stored : IsStored members n.state.durable
     pub memory : IsMemory n.pid n.state.durable.part n.state.volatile
     pub finds : Finds n.state.durable n.status
 
-  pub record IsSoundWorld (w : World) : Type 0 where
+  -- the ballots of a world
+  pub record AreBallots (w : World) : Type 0 where
     pub nodes : Each IsSoundNode w.nodes
-    pub messages : Each IsCleanSent w.messages
     pub bounds : Each (IsBounded w.nodes) w.messages
 
-  with_each : (nodes : List Node) (m : Node) → Each IsSoundNode nodes → IsSoundNode m → Each IsSoundNode (with_node nodes m)
-  with_each [] m e k = tt
-  with_each (n ∷ nodes) m e k =
-      by_test (eqb n.pid m.pid) (λ (b : Bool). Each IsSoundNode (cond b (m ∷ nodes) (n ∷ with_node nodes m))) (λ _. (k, e.1)) (λ _. (e.0, with_each nodes m e.1 k))
-
-  -- a node that is found
-  pub there : (nodes : List Node) (pid : ℕ) (n : Node) → node_at nodes pid ≡ Some n → Each IsSoundNode nodes → IsSoundNode n
-  there [] pid n at e = absurd (none_some at)
-    where
-      none_some : None ≡ Some n → ⊥
-      none_some e = cc
-  there (m ∷ nodes) pid n at e = by_test (eqb m.pid pid) (λ (b : Bool). cond b (Some m) (node_at nodes pid) ≡ Some n → IsSoundNode n) (λ _ k. subst IsSoundNode (some_same k) e.0) (λ _ k. there nodes pid n k e.1) at
-    where
-      some_same : Some m ≡ Some n → m ≡ n
-      some_same e = cc
+  pub record IsSoundWorld (w : World) : Type 0 where
+    pub clean : IsCleanWorld members w
+    pub ballots : AreBallots w
 
   -- a node takes the place of one that had promised no more, and has sent this
   module _ (w : World) (n m : Node) (at : node_at w.nodes n.pid ≡ Some n) (same : m.pid ≡ n.pid) (raised : AtMost (promise_in n.state.durable.part) (promise_in m.state.durable.part)) where
@@ -133,128 +140,149 @@ module _ (members : List ℕ) where
         by_id : (b : Bool) → eqb x.from n.pid ≡ b → IsBounded (with_node w.nodes m) x
         by_id true e =
             let is : x.from ≡ n.pid = eqb-true x.from n.pid e in
-            subst (λ (o : Option Node). IsUpTo o x.message.body) (sym (ap (node_at (with_node w.nodes m)) is ∙ here))
-            (body_more (λ b. AtMost b (promise_in n.state.durable.part)) (λ b. AtMost b (promise_in m.state.durable.part)) (λ b y. at_most_then b (promise_in n.state.durable.part) (promise_in m.state.durable.part) y raised) x.message.body
-            (subst (λ (o : Option Node). IsUpTo o x.message.body) (ap (node_at w.nodes) is ∙ at) k))
+            let old : Ballot = promise_in n.state.durable.part in
+            let new : Ballot = promise_in m.state.durable.part in
+            subst (λ (o : Option Node). IsUpTo x.from o x.message.body) (sym (ap (node_at (with_node w.nodes m)) is ∙ here))
+            (body_more (up_to x.from old) (up_to x.from new) (up_to_more x.from old new raised) x.message.body (subst (λ (o : Option Node). IsUpTo x.from o x.message.body) (ap (node_at w.nodes) is ∙ at) k))
         by_id false e =
-            subst (λ (o : Option Node). IsUpTo o x.message.body) (sym (node_at-other w.nodes m x.from (λ d. eqb-false x.from n.pid e (d ∙ same)))) k
+            subst (λ (o : Option Node). IsUpTo x.from o x.message.body) (sym (node_at-other w.nodes m x.from (λ d. eqb-false x.from n.pid e (d ∙ same)))) k
 
-    pub replaced : IsSoundWorld w → IsSoundNode m → (sends : List (ℕ × Msg)) → Each IsCleanSend sends → Each (SendIn (λ b. AtMost b (promise_in m.state.durable.part))) sends
-        → (u : World) → u.nodes ≡ with_node w.nodes m → u.messages ≡ w.messages ++ sent_by n.pid sends → IsSoundWorld u
-    replaced e k sends c s u nodes_are messages_are =
+    pub replaced : AreBallots w → IsSoundNode m → (sends : List (ℕ × Msg)) → Each (SendIn (up_to n.pid (promise_in m.state.durable.part))) sends
+        → (u : World) → u.nodes ≡ with_node w.nodes m → u.messages ≡ w.messages ++ sent_by n.pid sends → AreBallots u
+    replaced e k sends s u nodes_are messages_are =
         let new : List Node = with_node w.nodes m in
         let more : List Sent = sent_by n.pid sends in
         let bounds : Each (IsBounded new) (w.messages ++ more) =
         Each-append (IsBounded new) w.messages more (Each-more (IsBounded w.nodes) (IsBounded new) moved w.messages e.bounds)
-        (Each-map (IsBounded new) (SendIn (λ b. AtMost b (promise_in m.state.durable.part))) (λ x. record { from = n.pid; to = x.0; message = x.1 })
-        (λ x h. subst (λ (o : Option Node). IsUpTo o x.1.body) (sym here) h) sends s) in
+        (Each-map (IsBounded new) (SendIn (up_to n.pid (promise_in m.state.durable.part))) (λ x. record { from = n.pid; to = x.0; message = x.1 })
+        (λ x h. subst (λ (o : Option Node). IsUpTo n.pid o x.1.body) (sym here) h) sends s) in
         record {
-          nodes = subst (Each IsSoundNode) (sym nodes_are) (with_each w.nodes m e.nodes k);
-          messages = subst (Each IsCleanSent) (sym messages_are) (Each-append IsCleanSent w.messages more e.messages (Each-map IsCleanSent IsCleanSend (λ x. record { from = n.pid; to = x.0; message = x.1 }) (λ x h. h) sends c));
+          nodes = subst (Each IsSoundNode) (sym nodes_are) (with_each IsSoundNode w.nodes m e.nodes k);
           bounds = subst (λ (ns : List Node). Each (IsBounded ns) u.messages) (sym nodes_are) (subst (Each (IsBounded new)) (sym messages_are) bounds);
         }
 
   -- the same world, but for its lines
-  same_world : (w u : World) → IsSoundWorld w → u.nodes ≡ w.nodes → u.messages ≡ w.messages → IsSoundWorld u
+  same_world : (w u : World) → AreBallots w → u.nodes ≡ w.nodes → u.messages ≡ w.messages → AreBallots u
   same_world w u e nodes_are messages_are =
       record {
         nodes = subst (Each IsSoundNode) (sym nodes_are) e.nodes;
-        messages = subst (Each IsCleanSent) (sym messages_are) e.messages;
         bounds = subst (λ (ns : List Node). Each (IsBounded ns) u.messages) (sym nodes_are) (subst (Each (IsBounded w.nodes)) (sym messages_are) e.bounds);
       }
 
   -- ---- a happening at a node
-  module _ (w : World) (n : Node) (at : node_at w.nodes n.pid ≡ Some n) (e : IsSoundWorld w) (k : IsSoundNode n) where
-    restatused : (status : NodeStatus) → Finds n.state.durable status → (u : World) → u.nodes ≡ with_node w.nodes (record n { status = status }) → u.messages ≡ w.messages → IsSoundWorld u
+  module _ (w : World) (n : Node) (at : node_at w.nodes n.pid ≡ Some n) (e : AreBallots w) (k : IsSoundNode n) (c : IsCleanNode members n) where
+    -- what may come here
+    abbrev MayDo : Doing → Type 0
+    MayDo (Steps x) = MayCome n.pid n.state.durable x
+    MayDo _ = Unit {0}
+
+    restatused : (status : NodeStatus) → Finds n.state.durable status → (u : World) → u.nodes ≡ with_node w.nodes (record n { status = status }) → u.messages ≡ w.messages → AreBallots u
     restatused status finds u nodes_are messages_are =
-        replaced w n (record n { status = status }) at refl (is_total.irreflexive (promise_in n.state.durable.part)) e (record { stored = k.stored; memory = k.memory; finds = finds }) [] tt tt u nodes_are
+        replaced w n (record n { status = status }) at refl (is_total.irreflexive (promise_in n.state.durable.part)) e (record { memory = k.memory; finds = finds }) [] tt u nodes_are
         (messages_are ∙ sym (append-nil w.messages))
 
-    plan : (x : Input) → IsCleanInput x → IsSoundPlan members n.pid n.state.durable (step_plan n.pid n.state x)
-    plan x h = plan_sound members n.pid n.state k.stored k.memory x h
+    plan : (x : Input) → MayCome n.pid n.state.durable x → IsSoundPlan n.pid n.state.durable (step_plan n.pid n.state x)
+    plan x h = plan_sound members n.pid n.state c.stored c.memory k.memory x h
 
-    later : (x : Input) → IsCleanInput x → Later n.state.durable (stored_by n x)
-    later x h = let c = plan x h in (c.stored, c.raised)
-
-    by_fate : n.status ≡ Up → (f : Fate) (at_line : ℕ) (x : Input) → IsCleanInput x → IsSoundWorld (world_by_fate f at_line w n x)
+    by_fate : n.status ≡ Up → (f : Fate) (at_line : ℕ) (x : Input) → MayCome n.pid n.state.durable x → AreBallots (world_by_fate f at_line w n x)
     by_fate up Done at_line x h =
         let pl : Planned = step_plan n.pid n.state x in
         let m : Node = record n { state = state_after n.state pl } in
-        let c = plan x h in
-        replaced w n m at refl c.raised e (record { stored = c.stored; memory = c.memory; finds = subst (Finds (durable_after n.state.durable pl.batch)) (sym up) tt }) pl.sends c.clean c.sends (world_by_fate Done at_line w n x) refl refl
-    by_fate up Stopped at_line x h = restatused (Down (stored_by n x)) (later x h) (world_by_fate Stopped at_line w n x) refl refl
-    by_fate up (Faulted count) at_line x h = restatused (Failed count (stored_by n x)) (later x h) (world_by_fate (Faulted count) at_line w n x) refl refl
+        let s = plan x h in
+        replaced w n m at refl s.raised e (record { memory = s.memory; finds = subst (Finds (durable_after n.state.durable pl.batch)) (sym up) tt }) pl.sends s.sends (world_by_fate Done at_line w n x) refl refl
+    by_fate up Stopped at_line x h = restatused (Down (stored_by n x)) (plan x h).raised (world_by_fate Stopped at_line w n x) refl refl
+    by_fate up (Faulted count) at_line x h = restatused (Failed count (stored_by n x)) (plan x h).raised (world_by_fate (Faulted count) at_line w n x) refl refl
 
-    if_up : n.status ≡ Up → (d : Doing) (f : Fate) (at_line : ℕ) → IsCleanDoing d → IsSoundWorld (world_if_up d f at_line w n)
+    if_up : n.status ≡ Up → (d : Doing) (f : Fate) (at_line : ℕ) → MayDo d → AreBallots (world_if_up d f at_line w n)
     if_up up (Steps x) f at_line h = by_fate up f at_line x h
-    if_up up Stops f at_line h = restatused (Down n.state.durable) (k.stored, is_total.irreflexive (promise_in n.state.durable.part)) (world_if_up Stops f at_line w n) refl refl
+    if_up up Stops f at_line h = restatused (Down n.state.durable) (is_total.irreflexive (promise_in n.state.durable.part)) (world_if_up Stops f at_line w n) refl refl
     if_up up Opens f at_line h = e
     if_up up (Tells t) f at_line h = same_world w (world_if_up (Tells t) f at_line w n) e refl refl
 
     -- ---- openings
-    asks_in : (P : Ballot → Type 0) (o : Option Part) (j : Option Joining) → Each IsCleanSend (requests_to_prepare n.pid o j) × Each (SendIn P) (requests_to_prepare n.pid o j)
-    asks_in P None j = (tt, tt)
-    asks_in P (Some p) (Some j) = (tt, tt)
-    asks_in P (Some p) None = (to_each_clean p.conf (others n.pid p.members) body.PrepareReq tt, to_each_in P p.conf (others n.pid p.members) body.PrepareReq tt)
+    asks_in : (P : Claim) (o : Option Part) (j : Option Joining) → Each (SendIn P) (requests_to_prepare n.pid o j)
+    asks_in P None j = tt
+    asks_in P (Some p) (Some j) = tt
+    asks_in P (Some p) None = to_each_in P p.conf (others n.pid p.members) body.PrepareReq tt
 
     memory_then : (o : Option Part) → IsMemory n.pid o (volatile_after_restart n.pid o)
-    memory_then None = record { clean = record { role = tt; staged = tt }; own_is = refl; stands = tt }
+    memory_then None = record { own_is = refl; stands = tt }
     memory_then (Some p) =
         record {
-          clean = record { role = tt; staged = tt };
           own_is = restart_id n.pid p.promised;
-          stands = record { role = tt; own = λ same. same_at_most (restart_ballot n.pid p.promised) p.promised (sym same) };
+          stands = record {
+            role = tt;
+            waits = tt;
+            own = λ same. same_at_most (restart_ballot n.pid p.promised) p.promised (sym same);
+            known = λ mine. first_at_most p.promised no_ballot;
+            heads = λ same low. restart_anew n.pid p.promised same low;
+          };
         }
 
-    opened_with : (d : Durable) (waiting : Waiting) → Later n.state.durable d → IsSoundWorld (world_opened w n (record (state_after_restart n.pid d) { waiting = waiting }))
+    opened_with : (d : Durable) (waiting : Waiting) → AtMost (promise_in n.state.durable.part) (promise_in d.part) → AreBallots (world_opened w n (record (state_after_restart n.pid d) { waiting = waiting }))
     opened_with d waiting s =
         let m : Node = record n { state = record (state_after_restart n.pid d) { waiting = waiting }; status = Up } in
-        let a = asks_in (λ b. AtMost b (promise_in d.part)) d.part d.joining in
-        replaced w n m at refl s.1 e (record { stored = s.0; memory = memory_then d.part; finds = tt }) (sends_after_restart n.pid d) a.0 a.1 (world_opened w n (record (state_after_restart n.pid d) { waiting = waiting })) refl refl
+        replaced w n m at refl s e (record { memory = memory_then d.part; finds = tt }) (sends_after_restart n.pid d) (asks_in (up_to n.pid (promise_in d.part)) d.part d.joining) (world_opened w n (record (state_after_restart n.pid d) { waiting = waiting })) refl refl
 
-    opened : (f : Fate) (d : Durable) → Later n.state.durable d → IsSoundWorld (world_opening f w n d)
+    opened : (f : Fate) (d : Durable) → AtMost (promise_in n.state.durable.part) (promise_in d.part) → AreBallots (world_opening f w n d)
     opened Done d s = opened_with d [] s
     opened Stopped d s = e
     opened (Faulted count) d s = e
 
-    reopened : (f : Fate) (after d : Durable) → Later n.state.durable after → Later n.state.durable d → IsSoundWorld (world_reopening f after w n d)
+    reopened : (f : Fate) (after d : Durable) → AtMost (promise_in n.state.durable.part) (promise_in after.part) → AtMost (promise_in n.state.durable.part) (promise_in d.part) → AreBallots (world_reopening f after w n d)
     reopened Done after d s found = opened_with d n.state.waiting found
     reopened Stopped after d s found = restatused (Down after) s (world_reopening Stopped after w n d) refl refl
     reopened (Faulted count) after d s found = restatused (Failed count after) s (world_reopening (Faulted count) after w n d) refl refl
 
-    either : (b : Bool) (after : Durable) → Later n.state.durable after → Later n.state.durable (cond b after n.state.durable)
-    either b after s = by_test b (λ (c : Bool). Later n.state.durable (cond c after n.state.durable)) (λ _. s) (λ _. (k.stored, is_total.irreflexive (promise_in n.state.durable.part)))
+    either : (b : Bool) (after : Durable) → AtMost (promise_in n.state.durable.part) (promise_in after.part) → AtMost (promise_in n.state.durable.part) (promise_in (cond b after n.state.durable).part)
+    either b after s =
+        by_test b (λ (t : Bool). AtMost (promise_in n.state.durable.part) (promise_in (cond t after n.state.durable).part)) (λ _. s) (λ _. is_total.irreflexive (promise_in n.state.durable.part))
 
-    if_down : (d : Doing) (f : Fate) (b : Bool) (after : Durable) → Later n.state.durable after → IsSoundWorld (world_if_down d f b after w n)
+    if_down : (d : Doing) (f : Fate) (b : Bool) (after : Durable) → AtMost (promise_in n.state.durable.part) (promise_in after.part) → AreBallots (world_if_down d f b after w n)
     if_down (Steps x) f b after s = e
     if_down Stops f b after s = e
     if_down Opens f b after s = opened f (cond b after n.state.durable) (either b after s)
     if_down (Tells t) f b after s = e
 
-    if_failed : (d : Doing) (h : Happening) (count : ℕ) (after : Durable) → Later n.state.durable after → IsSoundWorld (world_if_failed d h count after w n)
+    if_failed : (d : Doing) (h : Happening) (count : ℕ) (after : Durable) → AtMost (promise_in n.state.durable.part) (promise_in after.part) → AreBallots (world_if_failed d h count after w n)
     if_failed (Steps x) h count after s = same_world w (world_if_failed (Steps x) h count after w n) e refl refl
     if_failed Stops h count after s = restatused (Down after) s (world_if_failed Stops h count after w n) refl refl
     if_failed Opens h count after s = reopened h.fate after (cond h.finds_after after n.state.durable) s (either h.finds_after after s)
     if_failed (Tells t) h count after s = same_world w (world_if_failed (Tells t) h count after w n) e refl refl
 
-    by_status : (s : NodeStatus) → n.status ≡ s → (d : Doing) (h : Happening) → IsCleanDoing d → IsSoundWorld (world_by_status s d h w n)
-    by_status Up is d h c = if_up is d h.fate h.event.line c
-    by_status (Down after) is d h c = if_down d h.fate h.finds_after after (subst (Finds n.state.durable) is k.finds)
-    by_status (Failed count after) is d h c = if_failed d h count after (subst (Finds n.state.durable) is k.finds)
+    by_status : (s : NodeStatus) → n.status ≡ s → (d : Doing) (h : Happening) → MayDo d → AreBallots (world_by_status s d h w n)
+    by_status Up is d h may = if_up is d h.fate h.event.line may
+    by_status (Down after) is d h may = if_down d h.fate h.finds_after after (subst (Finds n.state.durable) is k.finds)
+    by_status (Failed count after) is d h may = if_failed d h count after (subst (Finds n.state.durable) is k.finds)
 
   -- ---- runs
-  at_node : (w : World) → IsSoundWorld w → (pid : ℕ) (o : Option Node) → node_at w.nodes pid ≡ o → (d : Doing) (h : Happening) → IsCleanDoing d → IsSoundWorld (world_at_node o d h w)
-  at_node w e pid None at d h c = e
-  at_node w e pid (Some n) at d h c =
-      by_status w n (ap (node_at w.nodes) (found_id w.nodes pid n at) ∙ at) e (there w.nodes pid n at e.nodes) n.status refl d h c
+  -- what may come at a node that is found
+  may_do : (w : World) (pid : ℕ) (n : Node) (at : node_at w.nodes pid ≡ Some n) (e : AreBallots w) (k : IsSoundNode n) (c : IsCleanNode members n) (found : node_at w.nodes n.pid ≡ Some n) (d : Doing) → IsCleanDoing d → IsOwnDoing w.nodes pid d → MayDo w n found e k c d
+  may_do w pid n at e k c found (Steps x) clean own =
+      record { clean = clean; own = subst (λ (p : ℕ). IfOwn p (promise_in n.state.durable.part) (prepared_by x)) (sym (found_id w.nodes pid n at)) (subst (λ (o : Option Node). OwnAt pid o (prepared_by x)) at own) }
+  may_do w pid n at e k c found Stops clean own = tt
+  may_do w pid n at e k c found Opens clean own = tt
+  may_do w pid n at e k c found (Tells t) clean own = tt
 
-  by_deed : (w : World) → IsSoundWorld w → (o : Option Deed) (h : Happening) → IfDone o → IsSoundWorld (world_with o h w)
-  by_deed w e None h c = e
-  by_deed w e (Some x) h c = at_node w e x.pid (node_at w.nodes x.pid) refl x.doing h c
+  at_node : (w : World) → IsSoundWorld w → (pid : ℕ) (o : Option Node) → node_at w.nodes pid ≡ o → (d : Doing) (h : Happening) → IsCleanDoing d → IsOwnDoing w.nodes pid d → AreBallots (world_at_node o d h w)
+  at_node w e pid None at d h clean own = e.ballots
+  at_node w e pid (Some n) at d h clean own =
+      let here : node_at w.nodes n.pid ≡ Some n = ap (node_at w.nodes) (found_id w.nodes pid n at) ∙ at in
+      let k : IsSoundNode n = found_of IsSoundNode w.nodes pid n at e.ballots.nodes in
+      let c : IsCleanNode members n = found_of (IsCleanNode members) w.nodes pid n at e.clean.nodes in
+      by_status w n here e.ballots k c n.status refl d h (may_do w pid n at e.ballots k c here d clean own)
+
+  by_deed : (w : World) → IsSoundWorld w → (o : Option Deed) (h : Happening) → IfDone o → IfOwnDone w.nodes o → AreBallots (world_with o h w)
+  by_deed w e None h clean own = e.ballots
+  by_deed w e (Some x) h clean own = at_node w e x.pid (node_at w.nodes x.pid) refl x.doing h clean own
 
   -- after a happening
   pub sound_after : (w : World) (h : Happening) → IsNoStop h.event.what → IsSoundWorld w → IsSoundWorld (world_after w h)
-  sound_after w h n e = by_deed w e (deed_of w.messages h.event.what) h (deed_clean w.messages h.event.what e.messages n)
+  sound_after w h n e =
+      record {
+        clean = clean_after members w h n e.clean;
+        ballots = by_deed w e (deed_of w.messages h.event.what) h (deed_clean w.messages h.event.what e.clean.messages n) (deed_own w.nodes w.messages e.ballots.bounds h.event.what);
+      }
 
   pub sound_run : (hs : List Happening) (w : World) → ProposeNoStop hs → IsSoundWorld w → IsSoundWorld (run_of w hs)
   sound_run [] w n e = e
@@ -264,27 +292,26 @@ module _ (members : List ℕ) where
   pub sound_first : (spares : List ℕ) → IsSoundWorld (first_world members spares)
   sound_first spares =
       record {
-        nodes = Each-map IsSoundNode (λ (p : ℕ). Unit {0}) (first_node members) (λ p _. begins p (is_member nat_eq members p)) (node_ids members spares) (each (λ (p : ℕ). Unit {0}) (λ _. tt) (node_ids members spares));
-        messages = tt;
-        bounds = tt;
+        clean = begins members spares;
+        ballots = record {
+          nodes = Each-map IsSoundNode (λ (p : ℕ). Unit {0}) (first_node members) (λ p _. first p (is_member nat_eq members p)) (node_ids members spares) (each (λ (p : ℕ). Unit {0}) (λ _. tt) (node_ids members spares));
+          bounds = tt;
+        };
       }
     where
-      same_stands : (p : ℕ) → no_ballot ≡ record { number = 1; pid = p } → ⊥
-      same_stands p e = apart 0 1 refl refl (ap (λ (b : Ballot). b.number) e)
+      apart : (p : ℕ) → no_ballot ≡ record { number = 1; pid = p } → ⊥
+      apart p e = by 0 1 refl refl (ap (λ (b : Ballot). b.number) e)
         where
-          apart : (x y : ℕ) → x ≡ zero → y ≡ suc zero → x ≡ y → ⊥
-          apart x y a b k = absurd (omega arith)
+          by : (x y : ℕ) → x ≡ zero → y ≡ suc zero → x ≡ y → ⊥
+          by x y a b k = absurd (omega arith)
 
-      begins : (p : ℕ) (b : Bool) → IsSoundNode (record (first_node members p) { state = record (first_node members p).state { durable = cond b (first_durable members) empty_durable } })
-      begins p true =
+      first : (p : ℕ) (b : Bool) → IsSoundNode (record (first_node members p) { state = record (first_node members p).state { durable = cond b (first_durable members) empty_durable } })
+      first p true =
           record {
-            stored = record { part = record { conf_is = refl; members_are = refl; items = All-nil IsCommand }; closed = refl; joining = refl };
-            memory = record { clean = record { role = tt; staged = tt }; own_is = refl; stands = record { role = tt; own = λ same. absurd (same_stands p same) } };
+            memory = record {
+              own_is = refl;
+              stands = record { role = tt; waits = tt; own = λ same. absurd (apart p same); known = λ mine. first_at_most no_ballot no_ballot; heads = λ same low. apart p same };
+            };
             finds = tt;
           }
-      begins p false =
-          record {
-            stored = record { part = tt; closed = refl; joining = refl };
-            memory = record { clean = record { role = tt; staged = tt }; own_is = refl; stands = tt };
-            finds = tt;
-          }
+      first p false = record { memory = record { own_is = refl; stands = tt }; finds = tt }

@@ -1,16 +1,26 @@
 -- Rounds over fixed links, and what a majority reaches by them whose members are up and hear one another,
 -- whatever happens at all others.
-use Rattle.std.specs.Prelude.{◌≡◌, ◌⊎◌, ◌||◌, ℕ, zero, suc, nat_eq, Bool, true, false, List, [], ◌∷◌, ◌++◌, length, Option, Some, None, slice_get}
+use Rattle.std.specs.Prelude.{◌≡◌, ◌≤◌, ◌⊎◌, ◌||◌, ℕ, zero, suc, nat_eq, Bool, true, false, List, [], ◌∷◌, ◌++◌, length, Option, Some, None, is_some, slice_get}
 use Rattle.std.specs.Set.{is_member}
 use Rattle.op_quorum.specs.Quorums.{is_majority, passing}
 use Rattle.op_types.specs.Ballots.{is_below}
 use Rattle.op_types.specs.Ranges.{AreRising, MembersInRange}
+use Rattle.op_types.specs.Roles as role
+use Rattle.op_types.specs.Roles.{Role}
 use Rattle.op_types.specs.declared.ballot.Ballot.{Ballot}
 use Rattle.op_types.specs.declared.durable.Part.{Part}
+use Rattle.op_types.specs.declared.events.Input.TheVariants as input
 use Rattle.op_types.specs.declared.messages.Body.{Body}
+use Rattle.op_types.specs.declared.messages.Body.TheVariants as body
+use Rattle.op_types.specs.declared.messages.Msg.{Msg}
+use Rattle.op_types.specs.declared.role.Promised.{Promised}
+use Rattle.op_types.specs.RoleStates.{promise_of}
+use Rattle.op_protocol.specs.Parts.{is_admitted}
+use Rattle.op_protocol.specs.Promises.{is_usable}
+use Rattle.op_protocol.specs.Follower.{suffix_start}
 use Rattle.op_runs.specs.declared.events.What.{What}
 use Rattle.op_runs.specs.declared.events.What.TheVariants as what
-use Rattle.op_runs.specs.World.{World, Node, Sent, Deed, Done, Happening, deed_of, node_at, first_world, world_after, run_of, all_done}
+use Rattle.op_runs.specs.World.{World, Node, Sent, Deed, Steps, Done, Happening, deed_of, node_at, first_world, world_after, run_of, all_done}
 use Rattle.op_gen.specs.Links.{Links, is_linked, all_links}
 use Rattle.op_lockstep.specs.Lockstep.{is_request, is_reply, round}
 use Rattle.op_lockstep.specs.Reach.{IsOneOf, AreUpWithRoom, IsNoStop, ProposeNoStop}
@@ -84,6 +94,73 @@ AreFreeRounds group links (suc k) w hs =
     (first : List Happening) × (more : List Happening) × (hs ≡ first ++ more)
     × IsFreeRound group links w first × AreFreeRounds group links k (run_of w first) more
 
+-- ---- a Prepare that comes
+
+-- a node is asked to promise this ballot, by one that has told so much of its log
+pub record PrepareSent : Type 0 where
+  pub ballot : Ballot
+  pub accepted : Ballot
+  pub len : ℕ
+  pub decided : ℕ
+
+-- the message that asks for it
+abbrev pub prepare_of : PrepareSent → Msg
+prepare_of a =
+    record { conf = 1; body = body.Prepare a.ballot a.accepted a.len a.decided }
+
+-- the message that tells a promise
+abbrev pub promise_of_ballot : Ballot → Promised → Msg
+promise_of_ballot b k =
+    record { conf = 1; body = body.Promise b k.accepted k.len k.decided k.start k.entries }
+
+-- the node has the log from where the one that asks may lack it: it isn't trimmed past that
+abbrev pub HasSuffix : PrepareSent → Option Part → Type 0
+HasSuffix a None = ⊥
+HasSuffix a (Some p) = p.trimmed ≤ suffix_start p a.accepted a.len a.decided
+
+-- the same where the node is there
+abbrev pub HasSuffixAt : PrepareSent → Option Node → Type 0
+HasSuffixAt a None = ⊥
+HasSuffixAt a (Some n) = HasSuffix a n.state.durable.part
+
+-- a Prepare of this ballot comes from s at q, which has what the one that asks may lack
+pub record PrepareComes (b : Ballot) (s q : ℕ) (w : World) (h : Happening) : Type 0 where
+  pub asking : PrepareSent
+  pub is : asking.ballot ≡ b
+  pub comes : deed_of w.messages h.event.what
+      ≡ Some (record { pid = q; doing = Steps (input.Deliver s (prepare_of asking)) })
+  pub has : HasSuffixAt asking (node_at w.nodes q)
+
+-- a promise can be adopted at this part: its entries are admitted, and its log isn't above the own one or
+-- goes on from its prefix
+abbrev pub MayAdopt : Promised → Option Part → Type 0
+MayAdopt k None = ⊥
+MayAdopt k (Some p) = (is_admitted p k.start k.entries ≡ true) × (is_usable p k ≡ true)
+
+-- the same of a node
+abbrev pub MayAdoptAt : Promised → Option Node → Type 0
+MayAdoptAt k None = ⊥
+MayAdoptAt k (Some n) = MayAdopt k n.state.durable.part
+
+-- a whole Promise of this ballot comes from q at s, where it can be adopted
+pub record PromiseComes (b : Ballot) (q s : ℕ) (w : World) (h : Happening) : Type 0 where
+  pub told : Promised
+  pub from : told.from ≡ q
+  pub comes : deed_of w.messages h.event.what
+      ≡ Some (record { pid = s; doing = Steps (input.Deliver told.from (promise_of_ballot b told)) })
+  pub may : MayAdoptAt told (node_at w.nodes s)
+
+-- such a thing comes by one of these happenings
+abbrev pub ComesBy : (World → Happening → Type 0) → World → List Happening → Type 0
+ComesBy P w [] = ⊥
+ComesBy P w (h ∷ hs) = P w h ⊎ ComesBy P (world_after w h) hs
+
+-- a round in which it comes behind the heartbeats
+pub record RoundWith (P : World → Happening → Type 0) (group : List ℕ) (links : Links) (w : World)
+    (hs : List Happening) : Type 0 where
+  pub round : IsFreeRound group links w hs
+  pub comes : ComesBy P (run_of w (heartbeats group links w)) round.behind
+
 -- ---- what they reach
 
 -- no ballot above this one is promised
@@ -96,6 +173,11 @@ abbrev pub IsPromised : Ballot → Option Part → Type 0
 IsPromised b None = ⊥
 IsPromised b (Some p) = p.promised ≡ b
 
+-- the same of a node
+abbrev pub IsPromisedAt : Ballot → Option Node → Type 0
+IsPromisedAt b None = ⊥
+IsPromisedAt b (Some n) = IsPromised b n.state.durable.part
+
 -- the node takes this ballot for the leader's, stands for none above it, and has promised none above it
 abbrev pub Follows : Ballot → Option Node → Type 0
 Follows b None = ⊥
@@ -103,23 +185,71 @@ Follows b (Some n) =
     (n.state.volatile.leader ≡ b) × (is_below b n.state.volatile.own ≡ false)
     × IsPromisedUpTo b n.state.durable.part
 
--- the node stands for this ballot, and has promised it
+-- this ballot is prepared or led
+abbrev pub PreparesOrLeads : Ballot → Role → Type 0
+PreparesOrLeads b role.Idle = ⊥
+PreparesOrLeads b (role.Preparing r) = r.ballot ≡ b
+PreparesOrLeads b (role.Leading l) = l.ballot ≡ b
+
+-- this ballot is led, or it is prepared and this one's promise is kept
+abbrev pub HasPromise : Ballot → ℕ → Role → Type 0
+HasPromise b q role.Idle = ⊥
+HasPromise b q (role.Preparing r) = (r.ballot ≡ b) × (is_some (promise_of r.promises q) ≡ true)
+HasPromise b q (role.Leading l) = l.ballot ≡ b
+
+-- the same of a node
+abbrev pub HasPromiseAt : Ballot → ℕ → Option Node → Type 0
+HasPromiseAt b q None = ⊥
+HasPromiseAt b q (Some n) = HasPromise b q n.state.volatile.role
+
+-- this ballot is led
+abbrev pub IsLed : Ballot → Role → Type 0
+IsLed b (role.Leading l) = l.ballot ≡ b
+IsLed b _ = ⊥
+
+-- the node leads it
+abbrev pub LeadsBallot : Ballot → Option Node → Type 0
+LeadsBallot b None = ⊥
+LeadsBallot b (Some n) = IsLed b n.state.volatile.role
+
+-- the node stands for this ballot, has promised it, and prepares or leads it
 abbrev pub StandsFor : Ballot → Option Node → Type 0
 StandsFor b None = ⊥
-StandsFor b (Some n) = (n.state.volatile.own ≡ b) × IsPromised b n.state.durable.part
+StandsFor b (Some n) =
+    (n.state.volatile.own ≡ b) × IsPromised b n.state.durable.part
+    × PreparesOrLeads b n.state.volatile.role
 
--- this member stands for this ballot, and all follow it
+-- this member stands for this ballot and prepares or leads it, and all follow it
 pub record AgreeOn (group : List ℕ) (s : ℕ) (b : Ballot) (w : World) : Type 0 where
   pub stands : StandsFor b (node_at w.nodes s)
   pub follow : (q : ℕ) → IsOneOf group q → Follows b (node_at w.nodes q)
 
--- they agree on one ballot of one of them, now and after each further round
+-- They agree on one ballot of one of them, now and after each further round. Whom its Prepare has reached,
+-- and who has what the owner may lack, has promised it from the end of that round on. Whose promise has
+-- reached the owner, and can be adopted there, has its promise kept from then on, and once the owner keeps
+-- those of all others it leads for ever.
 pub record AgreeEverAfter (links : Links) (group : List ℕ) (w : World) : Type 0 where
   pub leader : ℕ
   pub ballot : Ballot
   pub is_one : IsOneOf group leader
   pub agree : (k : ℕ) (hs : List Happening) → AreFreeRounds group links k w hs
       → AgreeOn group leader ballot (run_of w hs)
+  pub promise : (q : ℕ) → IsOneOf group q → (k i : ℕ) (hs asking more : List Happening)
+      → AreFreeRounds group links k w hs
+      → let u : World = run_of w hs in
+      RoundWith (λ v h. PrepareComes ballot leader q v h) group links u asking
+      → AreFreeRounds group links i (run_of u asking) more
+      → IsPromisedAt ballot (node_at (run_of (run_of u asking) more).nodes q)
+  pub kept : (q k i : ℕ) (hs telling more : List Happening) → AreFreeRounds group links k w hs
+      → let u : World = run_of w hs in
+      RoundWith (λ v h. PromiseComes ballot q leader v h) group links u telling
+      → AreFreeRounds group links i (run_of u telling) more
+      → HasPromiseAt ballot q (node_at (run_of (run_of u telling) more).nodes leader)
+  pub leads : (k i : ℕ) (hs more : List Happening) → AreFreeRounds group links k w hs
+      → let u : World = run_of w hs in
+      ((q : ℕ) → IsOneOf group q → (q ≡ leader → ⊥) → HasPromiseAt ballot q (node_at u.nodes leader))
+      → AreFreeRounds group links i u more
+      → LeadsBallot ballot (node_at (run_of u more).nodes leader)
 
 -- From every world that a run without stop-signs reaches, over links by which a majority hear one another and
 -- nobody else, who are up and whose ballots have room: after four rounds, whatever comes behind their
