@@ -28,6 +28,7 @@ use Rattle.op_cluster_laws.specs.Outputs.{sent_in, answered_in}
 use Rattle.op_cluster_laws.specs.Traces.{Happened, lived_at}
 use Rattle.op_cluster_laws.specs.Clusters.{IsCluster}
 use Rattle.op_cluster_laws.specs.Currency.{WasAskedOf}
+use Rattle.op_cluster_laws.specs.Taken.{WasTakenIn}
 use Rattle.op_cluster_laws.specs.Worlds.{IsFrom, IsMoment, IsRun, DeliveriesWereGiven, AreFirst, NodesAgree, OfClusters, ClustersAreRuns}
 use Rattle.op_cluster_laws.specs.Becoming.{sent_between, told_line, Numbered, BecomeBehind}
 use Rattle.op_cluster_laws.proofs.Answering.{all_found}
@@ -174,6 +175,7 @@ pub record Reached (members spares : List ℕ) (counts : ℕ → ℕ) (now : Lis
       → Contains (run_of (first_world members spares) first).lines (told_line read p r)
   pub asked : (c : Command) → IsAmong (commands_in first) c → WasAskedOf members spares counts now (request.Command c)
   pub read : (r : Read) → IsAmong (reads_in first) r → WasAskedOf members spares counts now (request.Read r)
+  pub taken : (c : Command) (conf : ℕ) → IsAmong ((execution_of (first_execution members spares) first).machine.proposed conf) (entry.Command c) → WasTakenIn members spares counts now c
 
 -- so it is at each moment of a run
 abbrev pub ReachedAlways : List ℕ → List ℕ → (ℕ → ℕ) → List Happened → List Happening → Type 0
@@ -182,7 +184,8 @@ ReachedAlways members spares counts trace happenings = (now later : List Happene
 pub always_reached : OfClusters (λ members spares counts trace.
     (happenings : List Happening) × IsRun members spares counts trace happenings × ReachedAlways members spares counts trace happenings
     × ((c : Command) → IsAmong (commands_in happenings) c → WasAskedOf members spares counts trace (request.Command c))
-    × BecomeBehind members spares counts [] [] trace happenings)
+    × BecomeBehind members spares counts [] [] trace happenings
+    × ((c : Command) (conf : ℕ) → IsAmong ((execution_of (first_execution members spares) happenings).machine.proposed conf) (entry.Command c) → WasTakenIn members spares counts trace c))
 always_reached members spares ms ss counts trace c = (
   (whole members spares counts ms ss trace c).more,
   is_run members spares counts ms ss trace c,
@@ -198,9 +201,11 @@ always_reached members spares ms ss counts trace c = (
         lines = λ read p is r there. (j.3).replies read p is r there;
         asked = (j.3).asked;
         read = (j.3).read;
+        taken = (j.3).taken;
       },
   (whole members spares counts ms ss trace c).end.asked,
   (whole members spares counts ms ss trace c).events,
+  (whole members spares counts ms ss trace c).end.taken,
 )
 
 -- what a node has answered has an encoding

@@ -14,6 +14,7 @@ use Rattle.op_types.specs.declared.events.Request.TheVariants as request
 use Rattle.op_types.specs.declared.read.Read.{Read}
 use Rattle.op_types.specs.declared.log.Command.{Command}
 use Rattle.op_types.specs.declared.log.Entry.{Entry}
+use Rattle.op_types.specs.declared.log.Entry.TheVariants as entry
 use Rattle.op_spec.specs.Machine.{IsAmong}
 use Rattle.op_laws.proofs.Drops.{from_both}
 use Rattle.op_types.specs.declared.answers.Answer.{Answer}
@@ -32,7 +33,7 @@ use Rattle.op_bounds.specs.Laws.{SentInRange, WorldInRange}
 use Rattle.op_bounds.specs.Messages as known
 use Rattle.op_bounds.proofs.Known.{nodes_are_ids, all_runs_stay}
 use Rattle.op_refinement.proofs.EveryRun.{every_run_meets}
-use Rattle.op_laws.proofs.Reached.{world_of_run, run_append, front_in_range}
+use Rattle.op_laws.proofs.Reached.{world_of_run, run_append, execution_append, front_in_range}
 use Rattle.op_protocol.specs.State.{State}
 use Rattle.op_protocol.specs.Starting.{state_after_restart, sends_after_restart}
 use Rattle.op_serving.specs.Cores.{Standing, saying, gives}
@@ -44,6 +45,7 @@ use Rattle.op_cluster_laws.specs.Readings.{WasRead, WasAsked}
 use Rattle.op_cluster_laws.specs.Causes.{WasHeard, MayFind, IsCaused, AreCaused}
 use Rattle.op_cluster_laws.specs.Traces.{Event, does, ends, killed, opens, Happened, Lived, stands, unstored_in, stepped, held_in, stored_in, pending_in, inputs_of, ended_with, lived_by, lived_at, sent_stepping, sent_then, messages_then, messages_behind, steps_then, proposed_by, proposed_by_all, proposed_behind}
 use Rattle.op_cluster_laws.specs.Lives.{Serves}
+use Rattle.op_cluster_laws.specs.Taken.{Brings, TakesIn, WasTakenIn}
 use Rattle.op_cluster_laws.proofs.Serving.{deeds_are_caused}
 use Rattle.op_cluster_laws.specs.Clusters.{IsLife, MayOpen, IsCluster}
 use Rattle.op_cluster_laws.specs.Currency.{WasAskedOf}
@@ -52,11 +54,12 @@ use Rattle.op_cluster_laws.proofs.Causing.{replied_push, caused_at, heard_coming
 use Rattle.op_cluster_laws.proofs.Tracing.{cut_last, lived_own, lived_other, folded_me, first_me, sent_push, unstored_deed, finds_at, Begun, begun_at, IsLinked, linked_alive, linked_ended}
 use Rattle.op_cluster_laws.specs.Becoming.{sent_between, told_line, Numbered, Says, ticks, delivers, proposes, stops, trims, looks_up, goes_up, goes_down, IsNone, Reopens, EventBecomes, BecomeBehind}
 use Rattle.op_cluster_laws.proofs.Executions.{nobody, silent, says_of, said_numbered, numbered_longer, Longer, NodeIs, Moves, rests, forgets, such, Tells, tells_longer, opened, proposals_more, stored_of, quiet, InputMoves, by_fate}
-use Rattle.op_cluster_laws.proofs.Lists.{Each, each_map}
-use Rattle.op_cluster_laws.proofs.Pending.{InputsSo, pending_event, stored_push, stored_ended, stored_up, link_failed}
+use Rattle.op_cluster_laws.proofs.Lists.{Each, each_map, each_at}
+use Rattle.op_cluster_laws.proofs.Pending.{InputsSo, AddsAt, pending_added, pending_event, stored_push, stored_ended, stored_up, link_failed}
 use Rattle.op_cluster_laws.proofs.Answering.{input_fits, again_none, answers_fit}
 use Rattle.op_cluster_laws.proofs.Ranges.{numbered_all, numbered_within, can_be_read, request_fits, commands_fit}
-use Rattle.op_cluster_laws.proofs.Proposing.{commands_of, commands_in, commands_more}
+use Rattle.op_cluster_laws.proofs.Proposing.{commands_of, commands_in, commands_more, proposed_there}
+use Rattle.op_cluster_laws.proofs.Taken.{comes_at}
 use Rattle.op_cluster_laws.proofs.Currency.{reads_of, reads_in, reads_more}
 use Rattle.op_cluster_laws.proofs.Joining.{CanBeRead, read_was_given}
 
@@ -181,6 +184,20 @@ module _ (members spares : List ℕ) (counts : ℕ → ℕ) (ms : MembersInRange
     read = λ r k. asked_later now xs (request.Read r) (f.read r k);
   }
 
+  -- a node has taken in this command by then
+  abbrev pub TakenBy : List Happened → Command → Type 0
+  TakenBy now c = WasTakenIn members spares counts now c
+
+  taken_later : (now xs : List Happened) (c : Command) → TakenBy now c → TakenBy (now ++ xs) c
+  taken_later now xs c k = (k.0, k.1 ++ xs, k.2, ap (λ l. l ++ xs) k.3 ∙ append_assoc k.0 (k.2 ∷ k.1) xs, k.4, k.5)
+
+  -- so it has each command of this input
+  abbrev pub AllTakenBy : List Happened → Input → Type 0
+  AllTakenBy now i = (c : Command) → Brings c i → TakenBy now c
+
+  all_taken_later : (now xs : List Happened) (is : List Input) → Each (AllTakenBy now) is → Each (AllTakenBy (now ++ xs)) is
+  all_taken_later now xs is h = each_map (AllTakenBy now) (AllTakenBy (now ++ xs)) (λ i k c brings. taken_later now xs c (k c brings)) is h
+
   -- so are inputs, in a world in which these messages were sent
   abbrev pub AreTold : List Happened → List Sent → ℕ → List Input → Type 0
   AreTold now ms p is = Each (Tells p (Fits now) ms) is
@@ -242,6 +259,8 @@ module _ (members spares : List ℕ) (counts : ℕ → ℕ) (ms : MembersInRange
     pub linked : (p : ℕ) → IsNode p → IsLinked (L p now)
     pub asked : (c : Command) → IsAmong (commands_in hs) c → AskedBy now (request.Command c)
     pub read : (r : Read) → IsAmong (reads_in hs) r → AskedBy now (request.Read r)
+    pub taken : (c : Command) (conf : ℕ) → IsAmong ((execution_of (first_execution members spares) hs).machine.proposed conf) (entry.Command c) → TakenBy now c
+    pub held : (p : ℕ) → IsNode p → Each (AllTakenBy now) (pending_in (L p now))
     pub count : length (world hs).messages ≤ messages_behind members counts [] now
     pub range : All (λ h. WhatInRange h.event.what) hs
     pub proposals : proposals_in hs ≤ proposed_behind members counts [] now
@@ -257,6 +276,8 @@ module _ (members spares : List ℕ) (counts : ℕ → ℕ) (ms : MembersInRange
     linked = λ p is. refl;
     asked = λ c k. absurd k;
     read = λ r k. absurd k;
+    taken = λ c conf k. absurd k;
+    held = λ p is. tt;
     count = omega arith;
     range = All-nil (λ h. WhatInRange h.event.what);
     proposals = omega arith;
@@ -402,33 +423,30 @@ module _ (members spares : List ℕ) (counts : ℕ → ℕ) (ms : MembersInRange
           })
     ])
 
+    alive_does : (l : Lived) (d : Deed) → MayCome l (does d) → l.left ≡ None
+    alive_does l (begins c bytes) k = k
+    alive_does l (hears c bytes) k = k
+    alive_does l (enters who i fate) k = k.0
+    alive_does l (says f) k = k
+    alive_does l (takes c bytes) k = k
+
+    -- while it does something its life lasts
+    alive_then : (d : Deed) → x.event ≡ does d → (L x.pid now).left ≡ None
+    alive_then d is = alive_does (L x.pid now) d (subst (λ z. MayCome (L x.pid now) z) is may)
+
     -- what is told at the next opening of a node
     next_pending : (p : ℕ) → IsNode p → AreTold (now ++ x ∷ []) (world (hs ++ m.happenings)).messages p (pending_in (L p (now ++ x ∷ [])))
     next_pending p is = subst (λ v. AreTold (now ++ x ∷ []) v.messages p (pending_in (L p (now ++ x ∷ [])))) (sym all)
         (told_later now (x ∷ []) (world hs).messages (run_of (world hs) m.happenings).messages p (pending_in (L p (now ++ x ∷ []))) m.messages (elim (cases_eq x.pid p) [
           | inl e ↦ subst (λ (z : Lived). AreTold now (world hs).messages p (pending_in z)) (sym (lived_own members counts p now x e))
               (subst (λ z. AreTold now (world hs).messages z (pending_in (lived_by (L z now) x.event))) e
-              (pending_event (Tells x.pid (Fits now) (world hs).messages) (L x.pid now) x.event (begun_at members counts x.pid now) (λ d is. alive_does d (subst (λ z. MayCome (L x.pid now) z) is may)) told (b.pending x.pid node)))
+              (pending_event (Tells x.pid (Fits now) (world hs).messages) (L x.pid now) x.event (begun_at members counts x.pid now) alive_then told (b.pending x.pid node)))
           | inr n ↦ subst (λ (z : Lived). AreTold now (world hs).messages p (pending_in z)) (sym (lived_other members counts p now x n)) (b.pending p is)
         ]))
-      where
-        alive_does : (d : Deed) → MayCome (L x.pid now) (does d) → (L x.pid now).left ≡ None
-        alive_does (begins c bytes) k = k
-        alive_does (hears c bytes) k = k
-        alive_does (enters who i fate) k = k.0
-        alive_does (says f) k = k
-        alive_does (takes c bytes) k = k
 
     -- whether its life goes on, ends or begins
     linked_event : (l : Lived) (e : Event) → Begun l → Begun (lived_by l e) → MayCome l e → IsLinked (lived_by l e)
-    linked_event l (does d) b c may = linked_alive (lived_by l (does d)) c (alive d may)
-      where
-        alive : (d : Deed) → MayCome l (does d) → l.left ≡ None
-        alive (begins c bytes) k = k
-        alive (hears c bytes) k = k
-        alive (enters who i fate) k = k.0
-        alive (says f) k = k
-        alive (takes c bytes) k = k
+    linked_event l (does d) b c may = linked_alive (lived_by l (does d)) c (alive_does l d may)
     linked_event l ends b c may = linked_ended l b []
     linked_event l (killed bs) b c may = linked_ended l b (inputs_of bs)
     linked_event l (opens d count) b c may = refl
@@ -526,6 +544,54 @@ module _ (members spares : List ℕ) (counts : ℕ → ℕ) (ms : MembersInRange
       | inr new ↦ all_read now m.happenings r m.are new
     ])
 
+    -- a command that it takes in now
+    taken_now : (c : Command) → TakesIn c (L x.pid now) x.event → TakenBy (now ++ x ∷ []) c
+    taken_now c k = (now, [], x, refl, node, k)
+
+    all_taken_now : (e : Event) → ((c : Command) → TakesIn c (L x.pid now) e → TakenBy (now ++ x ∷ []) c) → AddsAt (AllTakenBy (now ++ x ∷ [])) (L x.pid now) e
+    all_taken_now (does (begins d bytes)) f = tt
+    all_taken_now (does (hears d bytes)) f = tt
+    all_taken_now (does (enters who i done)) f = tt
+    all_taken_now (does (enters who i (finds d))) f = tt
+    all_taken_now (does (enters who i (faults k))) f = λ up c brings. f c (brings, up)
+    all_taken_now (does (enters who i (shares k))) f = λ c brings. f c (brings, tt)
+    all_taken_now (does (enters who i damaged)) f = tt
+    all_taken_now (does (enters who i lost)) f = tt
+    all_taken_now (does (says g)) f = tt
+    all_taken_now (does (takes d bytes)) f = tt
+    all_taken_now ends f = tt
+    all_taken_now (killed bs) f = each_taken bs (λ y among c brings. f c (y, among, brings))
+      where
+        each_taken : (ys : List Brought) → ((y : Brought) → IsAmong ys y → AllTakenBy (now ++ x ∷ []) y.1) → Each (AllTakenBy (now ++ x ∷ [])) (inputs_of ys)
+        each_taken [] g = tt
+        each_taken (y ∷ ys) g = (g y (inl refl), each_taken ys (λ z k. g z (inr k)))
+    all_taken_now (opens d count) f = tt
+
+    next_held : (p : ℕ) → IsNode p → Each (AllTakenBy (now ++ x ∷ [])) (pending_in (L p (now ++ x ∷ [])))
+    next_held p is = elim (cases_eq x.pid p) [
+      | inl e ↦ subst (λ (z : Lived). Each (AllTakenBy (now ++ x ∷ [])) (pending_in z)) (sym (lived_own members counts p now x e))
+          (subst (λ z. Each (AllTakenBy (now ++ x ∷ [])) (pending_in (lived_by (L z now) x.event))) e
+          (pending_added (AllTakenBy (now ++ x ∷ [])) (L x.pid now) x.event (begun_at members counts x.pid now) alive_then (all_taken_now x.event taken_now)
+          (all_taken_later now (x ∷ []) (pending_in (L x.pid now)) (b.held x.pid node))))
+      | inr n ↦ subst (λ (z : Lived). Each (AllTakenBy (now ++ x ∷ [])) (pending_in z)) (sym (lived_other members counts p now x n))
+          (all_taken_later now (x ∷ []) (pending_in (L p now)) (b.held p is))
+    ]
+
+    next_taken : (c : Command) (conf : ℕ) → IsAmong ((execution_of (first_execution members spares) (hs ++ m.happenings)).machine.proposed conf) (entry.Command c) → TakenBy (now ++ x ∷ []) c
+    next_taken c conf k =
+        let t0 : Execution = first_execution members spares in
+        let t : Execution = execution_of t0 hs in
+        let l : Lived = L x.pid now in
+        let stands_there : StandsAt t.world x.pid (stands l) (stored_in l) = subst (λ w. StandsAt w x.pid (stands l) (stored_in l)) (sym (world_of_run t0 hs)) (b.nodes x.pid node) in
+        let becomes : EventBecomes t.world x.pid l x.event m.happenings = subst (λ w. EventBecomes w x.pid l x.event m.happenings) (sym (world_of_run t0 hs)) m.is in
+        elim (proposed_there c t m.happenings conf (subst (λ (z : Execution). IsAmong (z.machine.proposed conf) (entry.Command c)) (execution_append t0 hs m.happenings) k)) [
+          | inl old ↦ taken_later now (x ∷ []) c (b.taken c conf old)
+          | inr comes ↦ elim (comes_at c t x.pid l stands_there x.event m.happenings conf alive_then becomes comes) [
+            | inl own ↦ taken_now c own
+            | inr held ↦ taken_later now (x ∷ []) c (each_at (AllTakenBy now) (pending_in l) held.0 held.1 (b.held x.pid node) c held.2)
+          ]
+        ]
+
     one_more : (gs : List Happening) × Beside (now ++ x ∷ []) (hs ++ gs) × EventBecomes (world hs) x.pid (L x.pid now) x.event gs
     one_more = (
       m.happenings,
@@ -538,6 +604,8 @@ module _ (members spares : List ℕ) (counts : ℕ → ℕ) (ms : MembersInRange
         linked = next_linked;
         asked = next_asked;
         read = next_read;
+        taken = next_taken;
+        held = next_held;
         count = (let e = ap (λ v. length v.messages) all in let k = messages_more [] now x in let c = m.count in let o = b.count in omega (arith, e, k, c, o));
         range = All-append (λ h. WhatInRange h.event.what) hs m.happenings b.range (all_range now m.happenings m.are);
         proposals = (let e = proposals_more hs m.happenings in let k = proposals_behind [] now x in let n = m.proposed in let o = b.proposals in omega (arith, e, k, n, o));

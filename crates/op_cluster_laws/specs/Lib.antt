@@ -4,6 +4,7 @@ pub mod Causes
 pub mod Traces
 pub mod Nets
 pub mod Lives
+pub mod Taken
 pub mod Clusters
 pub mod Worlds
 pub mod Becoming

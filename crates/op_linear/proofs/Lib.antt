@@ -10,3 +10,5 @@ pub mod Calls
 pub mod Seen
 pub mod Tracks
 pub mod Worked
+pub mod Alone
+pub mod Goes

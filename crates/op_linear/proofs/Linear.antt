@@ -27,6 +27,7 @@ use Rattle.op_read_laws.proofs.ReadsTold.{every_line_is_fresh}
 use Rattle.op_cluster_laws.specs.Becoming.{BecomeBehind}
 use Rattle.op_cluster_laws.specs.Currency.{WasAskedOf, IsUnasked}
 use Rattle.op_cluster_laws.specs.Outputs.{answered_in}
+use Rattle.op_cluster_laws.specs.Taken.{WasTakenIn}
 use Rattle.op_cluster_laws.specs.Traces.{Happened, lived_at}
 use Rattle.op_cluster_laws.specs.Worlds.{history_after, AreFirst, IsRun, OfClusters}
 use Rattle.op_cluster_laws.proofs.Currency.{reads_of, reads_in, ComesAt, comes_at}
@@ -61,14 +62,21 @@ module _ (members spares : List ℕ) (ms : MembersInRange members) (ss : SparesI
       history_grows t.machine.lists end.machine.lists (record { grown = grown; ends = (sound_behind members start hs run.meets.0 run.meets.1).safe.after_stop })
       (greatest_conf t.world.nodes) (greatest_conf end.world.nodes) 1 (Some members) most
 
-  -- what stands in the history of a first part of the run was proposed in it
-  commands_there : (first later : List Happening) → hs ≡ first ++ later → (b : Command) → IsAmong (history_after members spares first) (entry.Command b) → IsAmong (commands_in first) b
-  commands_there first later split b k =
+  -- what stands in the history of a first part of the run was proposed by then
+  proposed_then : (first later : List Happening) → hs ≡ first ++ later → (b : Command) → IsAmong (history_after members spares first) (entry.Command b)
+      → (conf : ℕ) × IsAmong ((execution_of start first).machine.proposed conf) (entry.Command b)
+  proposed_then first later split b k =
       let t : Execution = execution_of start first in
       let two = meets_at first later split in
       let sound = sound_behind members start first run.meets.0 two.0 in
       let x = among_lists t.machine.lists (greatest_conf t.world.nodes) 1 (Some members) (entry.Command b) k in
-      elim (proposed_run b start first x.0 (sound.safe.proposed x.0 (entry.Command b) x.1)) [
+      (x.0, sound.safe.proposed x.0 (entry.Command b) x.1)
+
+  -- so it is a command of it
+  commands_there : (first later : List Happening) → hs ≡ first ++ later → (b : Command) → IsAmong (history_after members spares first) (entry.Command b) → IsAmong (commands_in first) b
+  commands_there first later split b k =
+      let x = proposed_then first later split b k in
+      elim (proposed_run b start first x.0 x.1) [
         | inl before ↦ absurd before
         | inr asked ↦ asked
       ]
@@ -145,6 +153,7 @@ module _ (members spares : List ℕ) (ms : MembersInRange members) (ss : SparesI
     moment = (then_at k).moment;
     goes_on = goes_on_at (then_at k).first (then_at k).later (then_at k).split;
     commands = λ b among. (then_at k).asked b (commands_there (then_at k).first (then_at k).later (then_at k).split b among);
+    taken = λ b among. (let x = proposed_then (then_at k).first (then_at k).later (then_at k).split b among in (then_at k).taken b x.0 x.1);
     reads = λ p is a there given. seen_at k p is a there given;
   }
 
@@ -156,6 +165,7 @@ pub record LinearRun (members spares : List ℕ) (counts : ℕ → ℕ) (trace :
   pub at : ℕ → List Happening
   pub each : (k : ℕ) → IsLinearAt members spares counts trace happenings at k
   pub asked : (b : Command) → IsAmong (history_after members spares happenings) (entry.Command b) → WasAskedOf members spares counts trace (request.Command b)
+  pub taken : (b : Command) → IsAmong (history_after members spares happenings) (entry.Command b) → WasTakenIn members spares counts trace b
 
 pub linear_run : OfClusters LinearRun
 linear_run members spares ms ss counts trace c =
@@ -166,8 +176,9 @@ linear_run members spares ms ss counts trace c =
       at = at members spares ms ss counts trace k.0 k.1 k.2;
       each = λ n. linear_at members spares ms ss counts trace k.0 k.1 k.2 n;
       asked = λ b among. k.3 b (commands_there members spares ms ss counts trace k.0 k.1 k.2 k.0 [] (sym (append-nil k.0)) b among);
+      taken = λ b among. (let x = proposed_then members spares ms ss counts trace k.0 k.1 k.2 k.0 [] (sym (append-nil k.0)) b among in k.5 b x.0 x.1);
     }
 
 pub clusters_are_linear : OfClusters IsLinear
 clusters_are_linear members spares ms ss counts trace c =
-    let r : LinearRun members spares counts trace = linear_run members spares ms ss counts trace c in (r.happenings, r.run, (r.at, r.each), r.asked)
+    let r : LinearRun members spares counts trace = linear_run members spares ms ss counts trace c in (r.happenings, r.run, (r.at, r.each), λ b k. (r.asked b k, r.taken b k))

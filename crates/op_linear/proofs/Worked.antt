@@ -86,7 +86,7 @@ only_one p h = elim (cases_eq p 1) [
   | inr n ↦ absurd (let r : nat_eq p 1 ≡ false = ne_eqb p 1 n in let bad : false ≡ true = rw r at h in cc)
 ]
 
-find_front : (n : Standing) (u : Unstored) (first rest : List Deed) → FindStored n u (first ++ rest) → FindStored n u first
+pub find_front : (n : Standing) (u : Unstored) (first rest : List Deed) → FindStored n u (first ++ rest) → FindStored n u first
 find_front n u [] rest h = tt
 find_front n u (begins c b ∷ first) rest h = find_front n u first rest h
 find_front n u (hears c b ∷ first) rest h = find_front n u first rest h
@@ -94,7 +94,7 @@ find_front n u (enters who i f ∷ first) rest h = (h.0, find_front (after_fate 
 find_front n u (says f ∷ first) rest h = find_front n u first rest h
 find_front n u (takes c b ∷ first) rest h = find_front n u first rest h
 
-serves_front : (n : Standing) (first rest : List Deed) → Serves n (first ++ rest) → Serves n first
+pub serves_front : (n : Standing) (first rest : List Deed) → Serves n (first ++ rest) → Serves n first
 serves_front n first rest s = record {
   settings = s.settings;
   peers = s.peers;
@@ -159,10 +159,10 @@ module _ (ds : List Deed) (serves : Serves born.first ds) (found : FindStored bo
 abbrev o : Settings
 o = record { tick_ms = 100; turns = 10; members = one; peers = []; is_mirrored = false; trim_every = None }
 
-abbrev no_line : Standing → List ℕ
+abbrev pub no_line : Standing → List ℕ
 no_line n = []
 
-abbrev no_luck : Luck
+abbrev pub no_luck : Luck
 no_luck = record { marks = []; fates = [] }
 
 -- nothing happens

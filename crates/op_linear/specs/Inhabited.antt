@@ -1,14 +1,25 @@
 -- There is a cluster: what is asked of nodes that serve together can be met.
-use Rattle.std.specs.Prelude.{◌≡◌, ◌∷◌, [], ℕ, List}
+use Rattle.std.specs.Prelude.{◌≡◌, ◌++◌, ◌∷◌, [], ℕ, false, List, Option, Some, None}
+use Rattle.op_types.specs.declared.answers.Answer.TheVariants as answer
+use Rattle.op_types.specs.declared.durable.Durable.{Durable}
+use Rattle.op_types.specs.declared.durable.Part.{Part}
+use Rattle.op_types.specs.declared.events.Input.TheVariants as input
+use Rattle.op_types.specs.declared.log.Command.{Command}
+use Rattle.op_types.specs.declared.log.Op.TheVariants as op
 use Rattle.op_command.specs.declared.said.Said.TheVariants as said
 use Rattle.op_serving.specs.Promise.{life}
 use Rattle.op_serving.specs.Wire.{client_frame}
 use Rattle.op_cluster_laws.specs.Clusters.{IsCluster}
-use Rattle.op_cluster_laws.specs.Traces.{Happened, lived_at}
+use Rattle.op_cluster_laws.specs.Outputs.{answered_in}
+use Rattle.op_cluster_laws.specs.Traces.{killed, opens, Happened, Lived, stored_in, lived_at}
 
 -- a member alone
 abbrev pub one : List ℕ
 one = 1 ∷ []
+
+-- another server, which it knows
+abbrev pub spare : List ℕ
+spare = 2 ∷ []
 
 -- no disk of a node has failed before
 abbrev pub none_failed : ℕ → ℕ
@@ -20,3 +31,38 @@ SomeClusterAnswers =
     (trace : List Happened) × IsCluster one [] none_failed trace
     × ((life 7 (lived_at one none_failed 1 trace).deeds).taken
     ≡ client_frame (record { client = 0; seq = 0; said = said.Status [] }))
+
+-- client 7 puts a value
+abbrev pub a_put : Command
+a_put = record { client = 7; seq = 1; op = op.Put (97 ∷ []) (120 ∷ []) }
+
+-- and gets it
+abbrev pub a_get : Command
+a_get = record { client = 7; seq = 2; op = op.Get (97 ∷ []) }
+
+-- the configuration of a part, and its members
+abbrev pub conf_of : Option Part → Option (ℕ × List ℕ)
+conf_of None = None
+conf_of (Some p) = Some (p.conf, p.members)
+
+-- What happens at it: it is killed while it stores the put, and its next opening finds this. In the life that
+-- then begins it has answered the get, at some moment, with the value that was put. In the end it stands in
+-- the next configuration, whose members are other ones.
+pub record GoesOn (trace : List Happened) : Type 0 where
+  pub before : List Happened
+  pub since : List Happened
+  pub found : Durable
+  pub crash : trace
+      ≡ before ++ record { pid = 1; event = killed ((7 ∷ [], input.Commands (a_put ∷ [])) ∷ []) }
+      ∷ record { pid = 1; event = opens found 0 } ∷ since
+  pub now : List Happened
+  pub later : List Happened
+  pub split : trace ≡ now ++ later
+  pub gets : let l : Lived = lived_at one none_failed 1 now in answered_in false l.first l.deeds
+      ≡ record { client = 7; seq = 2; answer = answer.Value (120 ∷ []) } ∷ []
+  pub part : let l : Lived = lived_at one none_failed 1 trace in
+      conf_of (stored_in l).durable.part ≡ Some (2, one ++ spare)
+
+-- such a cluster there is
+abbrev pub SomeClusterGoesOn : Type 0
+SomeClusterGoesOn = (trace : List Happened) × IsCluster one spare none_failed trace × GoesOn trace

@@ -13,6 +13,7 @@ use Rattle.op_spec.specs.Service.{service_of, value_at, told_value}
 use Rattle.op_runs.specs.World.{Happening, node_ids}
 use Rattle.op_read_laws.specs.Told.{IsGiven}
 use Rattle.op_cluster_laws.specs.Outputs.{answered_in}
+use Rattle.op_cluster_laws.specs.Taken.{WasTakenIn}
 use Rattle.op_cluster_laws.specs.Traces.{Happened, Lived, lived_at}
 use Rattle.op_cluster_laws.specs.Currency.{WasAskedOf, IsUnasked}
 use Rattle.op_cluster_laws.specs.Worlds.{history_after, IsMoment, IsRun}
@@ -33,8 +34,9 @@ pub record IsSeen (members spares : List ℕ) (faulted : ℕ → ℕ) (trace : L
       → (more : List Entry) × (seen ≡ history_after members spares (at j) ++ more)
 
 -- The moment behind the first k things that happened. Its history is a first part of the whole run's; by then
--- a node had read a request for each command of it; each reply that was given out is served by it, and each
--- answer to a read is seen in it.
+-- a node had read a request for each command of it, and a node had taken it in, so that what was refused or
+-- lost each time that it was read doesn't stand there; each reply that was given out is served by it, and
+-- each answer to a read is seen in it.
 pub record IsLinearAt (members spares : List ℕ) (faulted : ℕ → ℕ) (trace : List Happened)
     (happenings : List Happening) (at : ℕ → List Happening) (k : ℕ) : Type 0 where
   pub moment : IsMoment members spares faulted (take k trace) (at k)
@@ -42,16 +44,19 @@ pub record IsLinearAt (members spares : List ℕ) (faulted : ℕ → ℕ) (trace
       × (history_after members spares happenings ≡ history_after members spares (at k) ++ rest)
   pub commands : (b : Command) → IsAmong (history_after members spares (at k)) (entry.Command b)
       → WasAskedOf members spares faulted (take k trace) (request.Command b)
+  pub taken : (b : Command) → IsAmong (history_after members spares (at k)) (entry.Command b)
+      → WasTakenIn members spares faulted (take k trace) b
   pub reads : (p : ℕ) → IsMember (node_ids members spares) p → (a : Reply)
       → let l : Lived = lived_at members faulted p (take k trace) in
       Contains (answered_in true l.first l.deeds) a → IsGiven a.answer
       → IsSeen members spares faulted trace at k a
 
 -- A cluster is one run, of which at each moment a first part is reached, and so it is at each of them. Each
--- command of its whole history a node has read a request for.
+-- command of its whole history a node has read a request for, and a node has taken in.
 abbrev pub IsLinear : List ℕ → List ℕ → (ℕ → ℕ) → List Happened → Type 0
 IsLinear members spares faulted trace =
     (happenings : List Happening) × IsRun members spares faulted trace happenings
     × ((at : ℕ → List Happening) × ((k : ℕ) → IsLinearAt members spares faulted trace happenings at k))
     × ((b : Command) → IsAmong (history_after members spares happenings) (entry.Command b)
-    → WasAskedOf members spares faulted trace (request.Command b))
+    → WasAskedOf members spares faulted trace (request.Command b)
+    × WasTakenIn members spares faulted trace b)

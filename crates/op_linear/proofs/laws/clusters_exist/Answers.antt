@@ -1,5 +1,6 @@
+use Rattle.op_linear.proofs.Goes.{some_cluster_goes_on}
 use Rattle.op_linear.proofs.Worked.{some_cluster_answers}
 use Rattle.op_linear.proofs.laws.clusters_exist.Goals as goal
 
 pub returns : goal.returns
-returns c = record { answers = some_cluster_answers }
+returns c = record { answers = some_cluster_answers; goes_on = some_cluster_goes_on }
