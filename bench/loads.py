@@ -49,6 +49,15 @@ class OmniWire:
         return heard[4 + length:], tag in self.answers and number == self.number
 
 
+class OmniMany(OmniWire):
+    """One that puts so many values at a time, at one place of the log."""
+    writes = 16
+    asks = f"lists of {writes} puts"
+
+    def words(self):
+        return "many", *(("put", next_key(self.writes * self.number + it), VALUE) for it in range(self.writes))
+
+
 class OmniReads(OmniWire):
     """One that reads. Where a node doesn't lead the next one is asked, so that all come to the leader."""
     asks, answers = "reads", (FOUND, ABSENT)
