@@ -5,7 +5,7 @@ use Rattle.std.proofs.lemmas.Bool.{eqb-true, eqb-false, eq-eqb, ne_eqb, and_from
 use Rattle.std.specs.Set.{is_member}
 use Rattle.op_quorum.specs.Quorums.{is_majority, passing}
 use Rattle.op_types.specs.Ballots.{is_same_ballot}
-use Rattle.op_types.specs.RoleStates.{Preparing, Leading, promise_of, promises_with, with_promise}
+use Rattle.op_types.specs.RoleStates.{promise_of, promises_with, with_promise}
 use Rattle.op_types.specs.Roles as role
 use Rattle.op_types.specs.Roles.{Role}
 use Rattle.op_types.specs.declared.ballot.Ballot.{Ballot}

@@ -10,4 +10,5 @@ pub mod Groups
 pub mod Settling
 pub mod Whole
 pub mod Deciding
+pub mod Trimmed
 mod WorkedRounds

@@ -8,12 +8,12 @@ use Rattle.op_types.specs.declared.messages.Body.TheVariants as body
 use Rattle.op_runs.specs.declared.events.What.TheVariants as what
 use Rattle.op_runs.specs.declared.summary.Line.{Line}
 use Rattle.op_runs.specs.declared.summary.Line.TheVariants.{Ballots}
-use Rattle.op_runs.specs.World.{World, Sent, first_world}
+use Rattle.op_runs.specs.World.{World, Sent, node_at, first_world}
 use Rattle.op_gen.specs.Links.{Links, is_linked, all_links}
 use Rattle.op_lockstep.specs.Lockstep.{event_of, after_events, ticks, deliveries, after_round, ballots}
 use Rattle.op_lockstep.specs.Reach.{IsOneOf}
 use Rattle.op_lockstep.proofs.Lists.{Each-at, by_test}
-use Rattle.op_progress.specs.Progress.{HearOneAnother, is_heartbeat}
+use Rattle.op_progress.specs.Progress.{HearOneAnother, is_heartbeat, LeadsBallot}
 
 abbrev b : ℕ → ℕ → Ballot
 b n p = record { number = n; pid = p }
@@ -59,12 +59,15 @@ two = 1 ∷ 2 ∷ []
 abbrev one_link : Links
 one_link = (1, 2) ∷ []
 
--- server 3 stops, and the others elect server 2
+-- server 3 stops, and the others elect server 2, which leads
 abbrev without_third : World
 without_third = full two one_link 4 (after_events begun (event_of (what.Crash 3) ∷ []))
 
 elects_second : told two without_third ≡ Ballots 1 (b 2 1) (b 2 2) (b 2 2) ∷ Ballots 2 (b 2 2) (b 2 2) (b 2 2) ∷ []
 elects_second = refl
+
+second_leads : LeadsBallot (b 2 2) (node_at without_third.nodes 2)
+second_leads = refl
 
 -- it comes back, and is elected with the others' heartbeats of one round
 abbrev back : World
@@ -89,6 +92,10 @@ strands = refl
 -- after four rounds both take one ballot for the leader's, which both have promised
 recovers : told two (full two one_link 4 stranded) ≡ Ballots 1 (b 3 1) (b 3 2) (b 3 2) ∷ Ballots 2 (b 3 2) (b 3 2) (b 3 2) ∷ []
 recovers = refl
+
+-- and server 2 leads it
+recovered_leads : LeadsBallot (b 3 2) (node_at (full two one_link 4 stranded).nodes 2)
+recovered_leads = refl
 
 -- the law speaks of these two
 two_hear : HearOneAnother three one_link two

@@ -1,5 +1,6 @@
 ghost use Rattle.op_progress.specs.Deciding.{MajoritiesDecide};
 ghost use Rattle.op_progress.specs.Progress.{AllAgree, MajoritiesAgree};
+ghost use Rattle.op_progress.specs.Trimmed.{PreparesAreTaken, TrimmedIsDecided};
 
 /// Over fixed two-way links by which a majority of the members hear one another and nobody else, from every
 /// world that a run without stop-signs reaches in which these are up and know ballots with room for two
@@ -27,4 +28,12 @@ pub fn majorities_agree()
 /// doesn't say: what comes at an owner that leads already, and that these steps are done.
 pub fn majorities_decide()
     ensures decide { MajoritiesDecide }
+{}
+
+/// In every world that a run in range without stop-signs reaches, whatever happens in it, what a node has
+/// trimmed each member has decided. So no Prepare is dropped for what its addressee has trimmed, where it
+/// tells of its sender's log as it is when it comes.
+pub fn trims_are_decided()
+    ensures trimmed { TrimmedIsDecided }
+    ensures taken { PreparesAreTaken }
 {}

@@ -3,4 +3,4 @@
 
 mod laws;
 
-pub use laws::{majorities_agree, majorities_decide};
+pub use laws::{majorities_agree, majorities_decide, trims_are_decided};
