@@ -150,6 +150,7 @@ after_one Known p (change.JoinDonor q trimmed) k fit = absurd fit
 after_one Known p (change.JoinBase at base) k fit = absurd fit
 after_one Known p (change.JoinPart at es) k fit = absurd fit
 after_one Known p (change.JoinDone base) k fit = absurd fit
+after_one Known p (change.Rebase c members at base) k fit = absurd fit
 
 -- ---- a batch
 
@@ -184,6 +185,7 @@ range_one Known o p (change.JoinDonor q trimmed) has k fit = absurd fit
 range_one Known o p (change.JoinBase at base) has k fit = absurd fit
 range_one Known o p (change.JoinPart at es) has k fit = absurd fit
 range_one Known o p (change.JoinDone base) has k fit = absurd fit
+range_one Known o p (change.Rebase c members at base) has k fit = absurd fit
 
 pub range_batch : (Known : ℕ → Type 0) (o p : Part) (batch : List Change) → HasBases o → PartIn Known p → BatchFits Known p batch → All ChangeInRange (map (based o) batch)
 range_batch Known o p [] has k fit = All-nil ChangeInRange
@@ -228,6 +230,7 @@ lands Known d o q x (change.JoinDonor p trimmed ∷ batch) has base fit = absurd
 lands Known d o q x (change.JoinBase at b ∷ batch) has base fit = absurd fit.0
 lands Known d o q x (change.JoinPart at es ∷ batch) has base fit = absurd fit.0
 lands Known d o q x (change.JoinDone b ∷ batch) has base fit = absurd fit.0
+lands Known d o q x (change.Rebase c members at b ∷ batch) has base fit = absurd fit.0
 
 -- ---- one batch after another
 

@@ -2,8 +2,8 @@
 use Rattle.std.proofs.Common.{ℕ, List, refl, arith}
 use Rattle.std.proofs.lemmas.List.Elements.{All-nil}
 use Rattle.op_types.specs.Ballots.{no_ballot}
-use Rattle.op_types.specs.Changes.{IsCommand, new_part}
-use Rattle.op_types.specs.Ranges.{IsConf, EntryInRange}
+use Rattle.op_types.specs.Changes.{IsCommand, new_part, part_based}
+use Rattle.op_types.specs.Ranges.{IsConf, IsPlace, EntryInRange}
 use Rattle.op_types.specs.declared.ballot.Ballot.{Ballot}
 use Rattle.op_kv.specs.Bases.{IsBase}
 use Rattle.op_record.specs.Ranges.{PartInRange}
@@ -45,3 +45,23 @@ module _ (Known : ℕ → Type 0) (conf : ℕ) (members base : List ℕ) (in_mem
 
   pub new_part_of : PartOf Known (new_part conf members base)
   new_part_of = record { members = in_members.known; promised = no_ballot_in Known; accepted = no_ballot_in Known; entries = All-nil (NamesKnown Known) }
+
+-- a part where an observer goes on, at a position of the configuration
+module _ (Known : ℕ → Type 0) (conf : ℕ) (members : List ℕ) (at : ℕ) (base : List ℕ) (in_members : MembersOf Known members) where
+  pub based_part_range : IsConf conf → IsPlace at → IsBase base → PartInRange (part_based conf members at base)
+  based_part_range is_conf place is_base =
+      record {
+        conf = is_conf;
+        members = in_members.range;
+        promised = (no_ballot_in Known).range;
+        accepted = (no_ballot_in Known).range;
+        base = is_base;
+        len = omega (arith, place);
+        entries = All-nil EntryInRange;
+        ends = λ last. All-nil IsCommand;
+        decided = (omega arith, omega arith);
+        room = refl;
+      }
+
+  pub based_part_of : PartOf Known (part_based conf members at base)
+  based_part_of = record { members = in_members.known; promised = no_ballot_in Known; accepted = no_ballot_in Known; entries = All-nil (NamesKnown Known) }

@@ -100,6 +100,7 @@ module _ (Known : ℕ → Type 0) (ids : AreIds Known) (me : ℕ) (o : Option Pa
   takes_in j x c (body.HeartbeatReply r z g) d fit = tt
   takes_in j x c (body.Confirm z g) d fit = tt
   takes_in j x c (body.Confirmed z g) d fit = tt
+  takes_in j x c (body.Watch w) d fit = tt
   takes_in j x c (body.Prepare z na nl nd) d fit = tt
   takes_in j x c (body.Promise z fa fl fd a es) d fit = tt
   takes_in j x c (body.AcceptSync z g es) d fit = tt

@@ -1,8 +1,7 @@
 -- The effects of a row in range: messages to known ids, replies, and effects that follow a batch.
-use Rattle.std.proofs.Common.{◌≡◌, ◌≤◌, ◌<◌, ◌+◌, ℕ, true, not, eqb, ⊎_elim, inl, inr, nat_eq, List, [], ◌∷◌, length, flat_map, refl, sym, subst, arith, length-append, All}
+use Rattle.std.proofs.Common.{◌≤◌, ◌<◌, ◌+◌, ℕ, not, eqb, inl, inr, List, [], ◌∷◌, length, flat_map, refl, arith, length-append, All}
 use Rattle.std.specs.Prelude.{IfSome}
-use Rattle.std.specs.Set.{is_member}
-use Rattle.std.proofs.lemmas.Bool.{cond_both, or_cases, eqb-true, false≢true}
+use Rattle.std.proofs.lemmas.Bool.{cond_both}
 use Rattle.std.proofs.lemmas.List.Elements.{All-nil, All-cons, All-head, All-tail, All-append, All-filter, All-map, All-weaker}
 use Rattle.op_types.specs.Limits.{positions_end, most_part_bytes}
 use Rattle.op_msg.specs.Sizes.{carried_size}
@@ -172,12 +171,6 @@ send_bodies Known conf q bodies in_conf to fit =
 
 pub others_all : (Known : ℕ → Type 0) (me : ℕ) (p : Part) → PartIn Known p → All Known (others me p.members)
 others_all Known me p k = All-filter (λ q. not (eqb q me)) Known p.members k.members
-
--- what holds of each holds of one of them
-pub all_at : (P : ℕ → Type 0) (xs : List ℕ) (q : ℕ) → All P xs → is_member nat_eq xs q ≡ true → P q
-all_at P [] q each one = absurd (false≢true one)
-all_at P (x ∷ xs) q each one =
-    ⊎_elim (λ (h : eqb q x ≡ true). subst P (sym (eqb-true q x h)) (All-head P x xs each)) (λ (h : is_member nat_eq xs q ≡ true). all_at P xs q (All-tail P x xs each) h) (or_cases (eqb q x) (is_member nat_eq xs q) one)
 
 -- ---- what is given up
 

@@ -57,6 +57,7 @@ joining_batch o p (change.Decided x ∷ batch) k = absurd k.0
 joining_batch o p (change.Trim x base ∷ batch) k = absurd k.0
 joining_batch o p (change.Close named base ∷ batch) k = absurd k.0
 joining_batch o p (change.JoinDone base ∷ batch) k = absurd k.0
+joining_batch o p (change.Rebase c members at base ∷ batch) k = absurd k.0
 
 -- ---- what they leave
 

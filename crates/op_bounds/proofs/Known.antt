@@ -1,15 +1,7 @@
 -- Two ways to say which ids are known: those of a world's nodes, and those of all servers.
-use Rattle.std.proofs.Common.{◌≡◌, ℕ, true, nat_eq, eqb, ltb, cond, sym, subst, List, [], ◌∷◌, Option, Some, None, arith, All}
+use Rattle.std.proofs.Common.{ℕ, List, [], ◌∷◌, Option, Some, None, arith, All}
 use Rattle.std.specs.Prelude.{IfSome}
-use Rattle.std.specs.Set.{is_member}
-use Rattle.std.specs.Ordering.{nat_cmp, match_ordering}
-use Rattle.std.specs.declared.cmp.Ordering.{Ordering}
-use Rattle.std.specs.declared.cmp.Ordering.TheVariants.{Less, Equal, Greater}
-use Rattle.std.specs.BTreeSet.{insert_key}
-use Rattle.std.proofs.lemmas.Bool.{cond_both, eqb-true, and_parts}
-use Rattle.std.proofs.lemmas.Cmp.{nat_eq_equiv}
-use Rattle.std.proofs.lemmas.Map.Made.{All-is_member}
-use Rattle.std.proofs.lemmas.List.Elements.{All-nil, All-cons, All-head, All-tail, All-weaker}
+use Rattle.std.proofs.lemmas.List.Elements.{All-nil, All-cons, All-weaker}
 use Rattle.op_types.specs.Ranges.{IsPid, IsMember, AreRising, MembersInRange, BallotInRange, EntryInRange, EntriesInRange}
 use Rattle.op_types.specs.Limits.{positions_end}
 use Rattle.op_types.specs.declared.ballot.Ballot.{Ballot}
@@ -22,12 +14,12 @@ use Rattle.op_types.specs.declared.durable.Durable.{Durable}
 use Rattle.op_record.specs.Ranges.{PartInRange, ClosedInRange, DonorsInRange, JoiningInRange, DurableInRange}
 use Rattle.op_runs.specs.declared.events.What.{What}
 use Rattle.op_runs.specs.declared.events.What.TheVariants as what
-use Rattle.op_runs.specs.Possible.{are_nodes, is_possible, WhatInRange, SparesInRange}
+use Rattle.op_runs.specs.Possible.{WhatInRange, SparesInRange}
 use Rattle.op_runs.specs.World.{Happening, node_ids}
 use Rattle.op_bounds.specs.Messages.{AreIds, BallotOf, MembersOf, NamesKnown, EntryOf, EntriesOf}
 use Rattle.op_bounds.specs.States.{PartOf, ClosedOf, JoiningOf, DurableOf}
 use Rattle.op_bounds.specs.Laws.{WhatNamesKnown, HappeningInRange, StartInRange, RunsOfNodesStayInRange, AllRunsStayInRange}
-use Rattle.op_bounds.proofs.Effects.{all_at}
+use Rattle.op_runs.proofs.Servers.{all_at, all_named}
 use Rattle.op_bounds.proofs.Placed.{held_each}
 use Rattle.op_bounds.proofs.Starts.{all_ids}
 use Rattle.op_bounds.proofs.Runs.{runs_stay}
@@ -103,7 +95,7 @@ what_any (what.Crash p) r = tt
 what_any (what.CrashAt p call image) r = tt
 what_any (what.Fail p call) r = tt
 what_any (what.Kill p disk) r = tt
-what_any (what.Start p) r = tt
+what_any (what.Start p) r = r
 what_any (what.Show p) r = tt
 what_any (what.Ballots p) r = tt
 
@@ -115,55 +107,14 @@ start_any members spares m s = record { members_are = members_any members m; spa
 
 -- ---- nodes of a world
 
--- what holds of each after one is put at its place holds of each before, and of that one
-put_back : (P : ℕ → Type 0) (ks : List ℕ) (k : ℕ) → All P (insert_key nat_cmp ks k) → All P ks × P k
-put_back P [] k each = (All-nil P, All-head P k [] each)
-put_back P (x ∷ ks) k each =
-    cond_both (ltb k x) Less (cond (eqb k x) Equal Greater) (λ (o : Ordering). All P (match_ordering o (k ∷ x ∷ ks) (x ∷ ks) (x ∷ insert_key nat_cmp ks k)) → All P (x ∷ ks) × P k)
-    (λ h e. (All-tail P k (x ∷ ks) e, All-head P k (x ∷ ks) e))
-    (λ h. cond_both (eqb k x) Equal Greater (λ (o : Ordering). All P (match_ordering o (k ∷ x ∷ ks) (x ∷ ks) (x ∷ insert_key nat_cmp ks k)) → All P (x ∷ ks) × P k)
-    (λ same e. (e, subst P (sym (eqb-true k x same)) (All-head P x ks e)))
-    (λ other e. let r = put_back P ks k (All-tail P x (insert_key nat_cmp ks k) e) in (All-cons P x ks (All-head P x (insert_key nat_cmp ks k) e) r.0, r.1)))
-    each
-
-both_back : (P : ℕ → Type 0) (spares members : List ℕ) → All P (node_ids members spares) → All P members × All P spares
-both_back P [] members each = (each, All-nil P)
-both_back P (q ∷ spares) members each =
-    let r = both_back P spares (insert_key nat_cmp members q) each in
-    let b = put_back P members q r.0 in
-    (b.0, All-cons P q spares b.1 r.1)
-
 module _ (members spares : List ℕ) (m : MembersInRange members) (s : SparesInRange members spares) where
   pub nodes_are_ids : AreIds (IsMember (node_ids members spares))
   nodes_are_ids q one = all_at IsPid (node_ids members spares) q (all_ids IsPid spares members (rising_ids 0 members m.rising) (rising_ids 0 spares s.rising)) one
 
   pub nodes_start : StartInRange (IsMember (node_ids members spares)) members spares
   nodes_start =
-      let both = both_back (IsMember (node_ids members spares)) spares members (All-is_member nat_eq_equiv (node_ids members spares)) in
+      let both = all_named members spares in
       record { members_are = record { range = m; known = both.0 }; spares_are = both.1 }
-
-nodes_known : (nodes qs : List ℕ) → are_nodes nodes qs ≡ true → All (IsMember nodes) qs
-nodes_known nodes [] h = All-nil (IsMember nodes)
-nodes_known nodes (q ∷ qs) h =
-    let a = and_parts (is_member nat_eq nodes q) (are_nodes nodes qs) h in All-cons (IsMember nodes) q qs a.0 (nodes_known nodes qs a.1)
-
--- an event that can come names nodes alone
-pub possible_names : (nodes : List ℕ) (sent : ℕ) (w : What) → is_possible nodes sent w ≡ true → WhatNamesKnown (IsMember nodes) w
-possible_names nodes sent (what.Stop p members) h = nodes_known nodes members (and_parts (is_member nat_eq nodes p) (are_nodes nodes members) h).1
-possible_names nodes sent (what.Tick p) h = tt
-possible_names nodes sent (what.Commands p cs) h = tt
-possible_names nodes sent (what.Trim p) h = tt
-possible_names nodes sent (what.Read p a) h = tt
-possible_names nodes sent (what.Deliver i) h = tt
-possible_names nodes sent (what.Up p q) h = tt
-possible_names nodes sent (what.Down p q) h = tt
-possible_names nodes sent (what.Crash p) h = tt
-possible_names nodes sent (what.CrashAt p call image) h = tt
-possible_names nodes sent (what.Fail p call) h = tt
-possible_names nodes sent (what.Kill p disk) h = tt
-possible_names nodes sent (what.Start p) h = tt
-possible_names nodes sent (what.Show p) h = tt
-possible_names nodes sent (what.Ballots p) h = tt
 
 -- ---- runs
 

@@ -19,11 +19,15 @@ pub mod Serving
 pub mod JoinChanges
 pub mod JoinSends
 pub mod Beginning
+pub mod Watched
 pub mod Plans
 pub mod Brought
 pub mod Reading
 pub mod Steps
+pub mod Observing
+pub mod Answering
 pub mod Starts
 pub mod Runs
 pub mod Known
 pub mod Frames
+pub mod Owners

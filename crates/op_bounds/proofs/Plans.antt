@@ -68,6 +68,7 @@ conf_after p (change.JoinDonor q trimmed ∷ batch) = conf_after p batch
 conf_after p (change.JoinBase at base ∷ batch) = conf_after p batch
 conf_after p (change.JoinPart at es ∷ batch) = conf_after p batch
 conf_after p (change.JoinDone base ∷ batch) = conf_after p batch
+conf_after p (change.Rebase c members at base ∷ batch) = conf_after p batch
 
 -- and its members
 pub members_after : (p : Part) (batch : List Change) → (part_after p batch).members ≡ p.members
@@ -84,6 +85,7 @@ members_after p (change.JoinDonor q trimmed ∷ batch) = members_after p batch
 members_after p (change.JoinBase at base ∷ batch) = members_after p batch
 members_after p (change.JoinPart at es ∷ batch) = members_after p batch
 members_after p (change.JoinDone base ∷ batch) = members_after p batch
+members_after p (change.Rebase c members at base ∷ batch) = members_after p batch
 
 rebased_in : (Known : ℕ → Type 0) (p : Part) (x : List ℕ) → PartIn Known p → PartIn Known (with_base p x)
 rebased_in Known p x k =
@@ -323,7 +325,7 @@ module _ (Known : ℕ → Type 0) (me : ℕ) (l : Option Closed) (j : Option Joi
   abbrev quiet : Planned
   quiet = record { batch = batch; volatile = v; service = t; waiting = others; reads = None; sends = sends; replies = []; read_replies = []; outcome = outcome }
 
-  quiet_is : (o : Option Part) → ((p : Part) → o ≡ Some p → (map (based p) batch ≡ batch) × (part_after p batch ≡ p)) → plan_of me (there o) others (quiet_step v batch sends outcome) ≡ quiet
+  pub quiet_is : (o : Option Part) → ((p : Part) → o ≡ Some p → (map (based p) batch ≡ batch) × (part_after p batch ≡ p)) → plan_of me (there o) others (quiet_step v batch sends outcome) ≡ quiet
   quiet_is None k = refl
   quiet_is (Some p) k =
       let e = k p refl in

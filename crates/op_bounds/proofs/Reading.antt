@@ -89,6 +89,15 @@ reads_begin : (me : ℕ) (p : Part) (o : Option Reads) → IfSome o ReadsInRange
 reads_begin me p None k = record { count = omega arith; waiting = All-nil WaitingReadInRange }
 reads_begin me p (Some reads) k = k
 
+-- a read that comes is in range
+abbrev pub ReadFits : Input → Type 0
+ReadFits (input.Read r) = ReadInRange r
+ReadFits _ = Unit {0}
+
+pub read_fits : (Known : ℕ → Type 0) (x : Input) → InputInRange Known x → ReadFits x
+read_fits Known (input.Read r) fit = fit
+read_fits Known _ fit = tt
+
 module _ (Known : ℕ → Type 0) (me : ℕ) where
   asks_in : (p : Part) → PartIn Known p → (l : state.Leading) → BallotOf Known l.ballot → (o : Option Reads) → IfSome o ReadsInRange → (r : Read) → ReadInRange r
       → AskingIn Known (asks_if_numbered me p l.ballot (reads_at me p o) r o)
@@ -123,7 +132,7 @@ module _ (Known : ℕ → Type 0) (me : ℕ) where
   confirms_in (Some (p, l)) reads q c b k = k
   confirms_in None reads q c b k = k
 
-  asking_in : (s : State) → StateInRange Known s → (x : Input) → InputInRange Known x → AskingIn Known (asking_by me s x)
+  asking_in : (s : State) → StateInRange Known s → (x : Input) → ReadFits x → AskingIn Known (asking_by me s x)
   asking_in s k (input.Read r) fit = takes_in s.durable.part (parts_in Known s.durable.part k.durable.range.part k.durable.part) s.durable.joining s.volatile.role k.volatile.role s.reads k.reads r fit
   asking_in s k (input.Deliver q m) fit = record { reads = confirms_in (leading_at s) s.reads q m.conf m.body k.reads; sends = All-nil (SendInRange Known); outcome = tt }
   asking_in s k input.Tick fit = record { reads = k.reads; sends = All-nil (SendInRange Known); outcome = tt }
@@ -154,7 +163,7 @@ module _ (Known : ℕ → Type 0) (me : ℕ) where
   outcome_in (Some r) o x y = x
 
 -- a plan with what comes of its reads
-pub reading_in : (Known : ℕ → Type 0) (me : ℕ) (s : State) → StateInRange Known s → (x : Input) → InputInRange Known x → (p : Planned) → PlanInRange Known s p → PlanInRange Known s (reading me s x p)
+pub reading_in : (Known : ℕ → Type 0) (me : ℕ) (s : State) → StateInRange Known s → (x : Input) → ReadFits x → (p : Planned) → PlanInRange Known s p → PlanInRange Known s (reading me s x p)
 reading_in Known me s k x fit p r =
     let a = asking_in Known me s k x fit in
     let on : Bool = leads_on s.volatile.role p.volatile.role in

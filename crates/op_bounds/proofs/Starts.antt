@@ -18,8 +18,8 @@ use Rattle.op_protocol.specs.Parts.{others}
 use Rattle.op_protocol.specs.Starting.{first_volatile, restart_ballot, requests_to_prepare, service_after_restart, volatile_after_restart, state_after_restart}
 use Rattle.op_runs.specs.World.{first_durable, durable_at_start, first_node, node_ids, first_world}
 use Rattle.op_bounds.specs.Messages.{AreIds, MembersOf, SendInRange}
-use Rattle.op_bounds.specs.States.{DurableOf, IsNamed, VolatileInRange, VolatileEndsNowhere, StateInRange}
-use Rattle.op_bounds.specs.Laws.{OpeningsStayInRange, SentInRange, NodeInRange, WorldInRange, StartsAreInRange}
+use Rattle.op_bounds.specs.States.{DurableOf, IsNamed, VolatileInRange, VolatileEndsNowhere, StateInRange, ObserverStateInRange}
+use Rattle.op_bounds.specs.Laws.{OpeningsStayInRange, ObserverOpeningsStayInRange, SentInRange, NodeInRange, ObserverInRange, WorldInRange, StartsAreInRange}
 use Rattle.op_bounds.proofs.ReadBases.{ServiceIn, new_service_in, base_of}
 use Rattle.op_bounds.proofs.Batches.{part_in}
 use Rattle.op_bounds.proofs.Effects.{send_each}
@@ -59,6 +59,16 @@ openings_stay Known ids me one d k =
       sends = asked Known ids me one d.closed d.joining d.part d.joining k;
     }
 
+-- what an observer is opened with
+again_in : (Known : ℕ → Type 0) (me : ℕ) (o : Option Part) (l : Option Closed) (j : Option Joining) → DurableOf Known (stored o l j) → ObserverStateInRange Known (state_after_restart me (stored o l j))
+again_in Known me None l j d = record { durable = d; pieces = tt; service = new_service_in.range; order = new_service_in.order }
+again_in Known me (Some p) l j d =
+    let k = part_bases Known p (part_in Known p d.range.part d.part) p.decided in
+    record { durable = d; pieces = tt; service = k.range; order = k.order }
+
+pub observer_openings_stay : (Known : ℕ → Type 0) → ObserverOpeningsStayInRange Known
+observer_openings_stay Known ids me d k = again_in Known me d.part d.closed d.joining k
+
 -- ---- the first start
 
 pub all_ids : (Known : ℕ → Type 0) (spares members : List ℕ) → All Known members → All Known spares → All Known (node_ids members spares)
@@ -67,7 +77,7 @@ all_ids Known (q ∷ spares) members ms ss =
     all_ids Known spares (insert_key nat_cmp members q) (All-insert_key nat_cmp q Known members ms (All-head Known q spares ss)) (All-tail Known q spares ss)
 
 module _ (Known : ℕ → Type 0) (ids : AreIds Known) (members : List ℕ) (range : MembersOf Known members) where
-  member_durable : DurableOf Known (first_durable members)
+  pub member_durable : DurableOf Known (first_durable members)
   member_durable =
       record {
         range = record {
@@ -110,6 +120,8 @@ module _ (Known : ℕ → Type 0) (ids : AreIds Known) (members : List ℕ) (ran
       record {
         nodes = All-map (NodeInRange Known) (first_node members) (node_ids members spares)
             (All-weaker Known (λ q. NodeInRange Known (first_node members q)) first_node_in (node_ids members spares) (all_ids Known spares members range.known known));
+        observers = All-nil (ObserverInRange Known);
+        members = range;
         messages = All-nil (SentInRange Known);
       }
 

@@ -36,14 +36,17 @@ use Rattle.op_protocol.specs.Trimming.{trim_now}
 use Rattle.op_protocol.specs.Tick.{remembering, on_tick}
 use Rattle.op_protocol.specs.Configurations.{latest_of, latest_members, next_conf_message}
 use Rattle.op_protocol.specs.Joining.{storing, begins_joining, storing_news, on_next_conf, joins, asks, gives_base, gives_segment, takes_piece, pieces_once, on_base_piece, brought_to}
-use Rattle.op_protocol.specs.Rows.{on_message, message_at, is_of_joining, may_be_above, is_prepare_req, on_older, on_newer, on_latest, message_step, brought_by, entries_of, open_refusal, part_refusal, pending_at, refusal_after, refusal_of, stop_for, answering, proposal_at, proposal_step, tick_at, trim_at, session_up, up_at, step_at, plan_of, waiting_at, step_bringing, table_plan, step_plan}
+use Rattle.op_protocol.specs.Rows.{on_message, message_at, is_of_joining, may_be_above, is_prepare_req, on_older, on_newer, on_latest, member_step, message_step, brought_by, entries_of, open_refusal, part_refusal, pending_at, refusal_after, refusal_of, stop_for, answering, proposal_at, proposal_step, tick_at, trim_at, session_up, up_at, step_at, plan_of, waiting_at, step_bringing, table_plan, step_plan}
+use Rattle.op_protocol.specs.Watched.{is_watching, watch_answers}
 use Rattle.op_bounds.specs.Messages.{AreIds, MembersOf, BodyInRange, least_conf_of, MsgInRange, SendInRange, RefusalInRange, OutcomeInRange, InputInRange}
 use Rattle.op_bounds.specs.States.{ClosedOf, DurableOf, IsNamed, RoleInRange, VolatileInRange, VolatileEndsNowhere, StateInRange}
 use Rattle.op_bounds.specs.Laws.{StepsStayInRange}
 use Rattle.op_record.specs.Ranges.{ClosedInRange}
-use Rattle.op_bounds.proofs.Effects.{all_at}
+use Rattle.op_runs.proofs.Servers.{all_at}
 use Rattle.op_bounds.proofs.ReadBases.{ServiceIn}
-use Rattle.op_bounds.proofs.Entries.{AreProposed, proposed_commands, proposed_one, admitted_stops}
+use Rattle.op_bounds.proofs.Watched.{answers_said}
+use Rattle.op_protocol.proofs.Admitted.{admitted_stops}
+use Rattle.op_bounds.proofs.Entries.{AreProposed, proposed_commands, proposed_one}
 use Rattle.op_bounds.proofs.Batches.{PartIn, part_in}
 use Rattle.op_bounds.proofs.Choices.{stop_at_in}
 use Rattle.op_bounds.proofs.LeaderRows as leader
@@ -54,7 +57,7 @@ use Rattle.op_bounds.proofs.JoinChanges.{stored, JoinsIn, nothing_joined, joins_
 use Rattle.op_bounds.proofs.JoinSends.{ClosedIn, news_in, base_given, segment_given, asks_said}
 use Rattle.op_bounds.proofs.Plans.{StepIn, quiet_step, part_plan, quiet_plan}
 use Rattle.op_protocol.proofs.Unread.{table_unread}
-use Rattle.op_bounds.proofs.Reading.{reading_in}
+use Rattle.op_bounds.proofs.Reading.{read_fits, reading_in}
 use Rattle.op_bounds.proofs.Brought.{brought_in, holds_in}
 
 -- what holds where a proposal is refused, and where it isn't
@@ -241,6 +244,7 @@ module _ (Known : ℕ → Type 0) (ids : AreIds Known) (me : ℕ) (one : Known m
   latest_here o q c (body.HeartbeatReply r z g) d stops from small least fit = at_message o q _ d stops from fit
   latest_here o q c (body.Confirm z g) d stops from small least fit = at_message o q _ d stops from fit
   latest_here o q c (body.Confirmed z g) d stops from small least fit = at_message o q _ d stops from fit
+  latest_here o q c (body.Watch w) d stops from small least fit = at_message o q _ d stops from fit
   latest_here o q c (body.Prepare z na nl nd) d stops from small least fit = at_message o q _ d stops from fit
   latest_here o q c (body.Promise z fa fl fd a es) d stops from small least fit = at_message o q _ d stops from fit
   latest_here o q c (body.AcceptSync z g es) d stops from small least fit = at_message o q _ d stops from fit
@@ -260,8 +264,9 @@ module _ (Known : ℕ → Type 0) (ids : AreIds Known) (me : ℕ) (one : Known m
   latest_here o q c (body.BasePart at bytes) d stops from small least fit = at_message o q _ d stops from fit
   latest_here o q c (body.Segment at es) d stops from small least fit = at_message o q _ d stops from fit
 
-  delivered : (o : Option Part) (q : ℕ) (m : Msg) → Stored o → Stops o → Known q → MsgInRange Known m → Plan o (message_step me (stored o l j) v q m)
-  delivered o q m d stops from fit =
+  -- a message that isn't an observer's
+  member_in : (o : Option Part) (q : ℕ) (m : Msg) → Stored o → Stops o → Known q → MsgInRange Known m → Plan o (member_step me (stored o l j) v q m)
+  member_in o q m d stops from fit =
       let latest : ℕ = latest_of (stored o l j) in
       let last : PartStep = on_latest me (stored o l j) v q m.conf m.body in
       let newer : PartStep = remembering v (on_newer (stored o l j) q m.body) in
@@ -273,6 +278,13 @@ module _ (Known : ℕ → Type 0) (ids : AreIds Known) (me : ℕ) (one : Known m
       (λ _. cond_both (ltb latest m.conf && not (may_be_above m.body)) newer last (Plan o)
       (λ h. quiet o (on_newer (stored o l j) q m.body) d stops (newer_said o q m.conf m.body (ltb-true latest m.conf (and_parts (ltb latest m.conf) (not (may_be_above m.body)) h).0) fit.conf from))
       (λ _. latest_here o q m.conf m.body d stops from fit.conf fit.least fit.body)))
+
+  delivered : (o : Option Part) (q : ℕ) (m : Msg) → Stored o → Stops o → Known q → MsgInRange Known m → Plan o (message_step me (stored o l j) v q m)
+  delivered o q m d stops from fit =
+      let told : List (ℕ × Msg) = watch_answers (stored o l j) q m.conf m.body in
+      cond_both (is_watching m.body) (remembering v told) (member_step me (stored o l j) v q m) (Plan o)
+      (λ _. quiet o told d stops (answers_said Known q from (stored o l j) m.conf m.body d fit.conf fit.body))
+      (λ _. member_in o q m d stops from fit)
 
   -- ---- proposals
 
@@ -406,7 +418,7 @@ table_in Known ids me one s k x fit =
 pub step_in : (Known : ℕ → Type 0) → AreIds Known → (me : ℕ) → Known me → (s : State) → StateInRange Known s → (x : Input) → InputInRange Known x → StepIn Known me s (step_plan me s x)
 step_in Known ids me one s k x fit =
     let t = table_in Known ids me one s k x fit in
-    record { range = reading_in Known me s k x fit (table_plan me s x) t.range; named = t.named }
+    record { range = reading_in Known me s k x (read_fits Known x fit) (table_plan me s x) t.range; named = t.named }
 
 pub steps_stay : (Known : ℕ → Type 0) → StepsStayInRange Known
 steps_stay Known ids me one s k x fit = (step_in Known ids me one s k x fit).range

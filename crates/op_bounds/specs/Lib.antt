@@ -1,3 +1,4 @@
 pub mod Messages
 pub mod States
 pub mod Laws
+pub mod Owners

@@ -171,3 +171,10 @@ pub record StateInRange (Known : ℕ → Type 0) (s : State) : Type 0 where
   pub service : ServiceInRange s.service
   pub order : ServiceIsOrdered s.service
   pub reads : IfSome s.reads ReadsInRange
+
+-- an observer's state: it knows no ballot, and keeps pieces of a base
+pub record ObserverStateInRange (Known : ℕ → Type 0) (s : State) : Type 0 where
+  pub durable : DurableOf Known s.durable
+  pub pieces : IfSome s.volatile.pieces (λ p. IsPlace p.at)
+  pub service : ServiceInRange s.service
+  pub order : ServiceIsOrdered s.service

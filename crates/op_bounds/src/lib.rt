@@ -4,5 +4,6 @@
 mod laws;
 
 pub use laws::{
-    messages_fit_frames, openings_stay_in_range, runs_stay_in_range, steps_stay_in_range,
+    messages_fit_frames, observers_own_no_ballot, openings_stay_in_range, runs_stay_in_range,
+    steps_stay_in_range,
 };

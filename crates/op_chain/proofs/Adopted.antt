@@ -14,11 +14,12 @@ use Rattle.op_types.specs.declared.messages.Msg.{Msg}
 use Rattle.op_types.specs.declared.plan.Plan.{Plan}
 use Rattle.op_types.specs.declared.plan.PlanParts.{PlanParts}
 use Rattle.op_types.specs.declared.turn.Turn.{Turn}
+use Rattle.op_types.proofs.Adoption.{left_rested}
 use Rattle.op_spec.specs.Service.{Service}
 use Rattle.op_protocol.specs.State as step
 use Rattle.op_protocol.specs.State.{State, Planned, Waiting}
 use Rattle.op_protocol.specs.Serving.{Dropping, dropping, dropping_reply, is_of_stop, waits}
-use Rattle.op_kv.specs.Over.{service_over}
+use Rattle.op_change.specs.Over.{service_over}
 use Rattle.op_instance.specs.Memory.{volatile_of, adopted_in}
 use Rattle.op_instance.specs.Sound.{IfSound, IsSoundNode, AreOfOneConf, IfNodeOf, IsNode}
 use Rattle.op_instance.specs.declared.volatile.Volatile.{Volatile}
@@ -31,7 +32,7 @@ use Rattle.op_chain.specs.declared.given.Given.{Given}
 use Rattle.op_chain.specs.declared.renewal.Renewal.{Renewal}
 use Rattle.op_chain.specs.Waiting.{WaitingSet}
 use Rattle.op_chain.proofs.Answered.{told_few}
-use Rattle.op_chain.proofs.Rooms.{rested, left_rested, node_room}
+use Rattle.op_chain.proofs.Rooms.{rested, node_room}
 
 -- ---- who is told after others
 

@@ -108,6 +108,7 @@ bases_with d (change.JoinDonor q t) has range = record { part = has.part; joinin
 bases_with d (change.JoinBase at base) has range = record { part = has.part; joining = joining_bases d.joining (change.JoinBase at base) has.joining range }
 bases_with d (change.JoinPart at es) has range = record { part = has.part; joining = joining_bases d.joining (change.JoinPart at es) has.joining range }
 bases_with d (change.JoinDone base) has range = done_bases d.part d.closed d.joining base has range
+bases_with d (change.Rebase conf members at base) has range = record { part = range.3; joining = has.joining }
 
 -- a batch in range leaves bases
 pub bases_after : (d : Durable) (batch : List Change) → HaveBases d → All ChangeInRange batch → HaveBases (durable_after d batch)
@@ -139,6 +140,7 @@ part_one p (Some q) x (change.JoinDonor d t) = (x, refl)
 part_one p (Some q) x (change.JoinBase at b) = (x, refl)
 part_one p (Some q) x (change.JoinPart at es) = (x, refl)
 part_one p (Some q) x (change.JoinDone b) = (x, refl)
+part_one p (Some q) x (change.Rebase conf members at b) = (x, refl)
 
 -- of a change of the part
 of_part : (d : Durable) (o : Option Part) (q : Option Part) (x : List ℕ) → (y : List ℕ) × (o ≡ part_rebased q y) → (let a : Durable = record d { part = o } in let b : Durable = record d { part = q } in (y : List ℕ) × (a ≡ rebased b y))
@@ -157,6 +159,7 @@ one_rebased p d x (change.JoinDonor q t) inside = (x, refl)
 one_rebased p d x (change.JoinBase at b) inside = (x, refl)
 one_rebased p d x (change.JoinPart at es) inside = (x, refl)
 one_rebased p d x (change.JoinDone b) inside = absurd inside
+one_rebased p d x (change.Rebase conf members at b) inside = absurd inside
 
 part_applies : (p : Part) (o : Option Part) (x : List ℕ) (c : Change) → PartOptionApplies o c → PartOptionApplies (part_rebased o x) (based p c)
 part_applies p None x c h = absurd h
@@ -172,6 +175,7 @@ part_applies p (Some q) x (change.JoinDonor d t) h = h
 part_applies p (Some q) x (change.JoinBase at b) h = h
 part_applies p (Some q) x (change.JoinPart at es) h = h
 part_applies p (Some q) x (change.JoinDone b) h = h
+part_applies p (Some q) x (change.Rebase conf members at b) h = h
 
 one_applies : (p : Part) (d : Durable) (x : List ℕ) (c : Change) → ChangeApplies d c → ChangeApplies (rebased d x) (based p c)
 one_applies p d x (change.Promise n) h = part_applies p d.part x (change.Promise n) h
@@ -186,6 +190,7 @@ one_applies p d x (change.JoinDonor q t) h = h
 one_applies p d x (change.JoinBase at b) h = h
 one_applies p d x (change.JoinPart at es) h = h
 one_applies p d x (change.JoinDone b) h = h
+one_applies p d x (change.Rebase conf members at b) h = h
 
 -- where the batch applies and what it leaves, with its bases
 record Rebases (p : Part) (d : Durable) (x : List ℕ) (batch : List Change) : Type 0 where

@@ -32,7 +32,7 @@ use Rattle.op_protocol.specs.Leader.{given_up_by}
 use Rattle.op_protocol.specs.Rows.{newly_decided}
 use Rattle.op_protocol.proofs.Plans as plans
 use Rattle.op_protocol.proofs.StepBatches.{IsInside, inside_after}
-use Rattle.op_kv.specs.Over.{MapState}
+use Rattle.op_kv.specs.Maps.{MapState}
 use Rattle.op_plans.specs.Positions.{FitsPositions}
 use Rattle.op_follower.specs.Staging.{StagedIsAdmitted}
 use Rattle.op_instance.specs.Sound.{IsSound, IsSoundPart, IfSound, IsSoundStep, ListFits, IsNodeOf, IfNodeOf, IsNode}

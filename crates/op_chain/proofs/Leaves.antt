@@ -25,7 +25,7 @@ use Rattle.op_protocol.specs.Configurations.{latest_of}
 use Rattle.op_protocol.specs.Reading.{decided_of, why_given_up}
 use Rattle.op_protocol.specs.Joining.{new_entries, takes_base, takes_entries, brought_to}
 use Rattle.op_protocol.proofs.Plans as plans
-use Rattle.op_kv.specs.Over.{MapState}
+use Rattle.op_kv.specs.Maps.{MapState}
 use Rattle.op_instance.specs.Sound.{IsSoundNode, ListFits, JoiningFits, IfJoiningFits, IsNode, AreOfOneConf}
 use Rattle.op_instance.specs.declared.volatile.Volatile.{Volatile}
 use Rattle.op_chain.specs.Bringing.{joining_after}

@@ -1,7 +1,6 @@
 pub mod Adopted
 pub mod Answered
 pub mod Based
-pub mod Bases
 pub mod Beside
 pub mod Closes
 pub mod Coming
@@ -15,6 +14,5 @@ pub mod Prepared
 pub mod Ready
 pub mod Rooms
 pub mod Steps
-pub mod Stored
 pub mod Takes
 pub mod Trims

@@ -30,7 +30,8 @@ use Rattle.op_protocol.specs.Configurations.{closing}
 use Rattle.op_protocol.specs.Joining.{brought_to, holds_more}
 use Rattle.op_protocol.specs.Rows.{brought_by, step_at, waiting_at, based_batch, newly_decided, planned, plan_of, step_bringing, table_plan}
 use Rattle.op_protocol.proofs.StepBatches.{IsInside, inside_after, inside_none, step_inside, inside_all_based}
-use Rattle.op_kv.specs.Over.{Written, MapState, service_over}
+use Rattle.op_change.specs.Over.{Written, service_over}
+use Rattle.op_kv.specs.Maps.{MapState}
 use Rattle.op_follower.specs.Staging.{StagedIsAdmitted}
 use Rattle.op_instance.specs.Memory.{volatile_of, adopted_in, part_step_of, HasRoomIn}
 use Rattle.op_instance.specs.Sound.{IsSound, IfSound, IsSoundNode, IsSoundStep, IfNodeOf, IsNode}

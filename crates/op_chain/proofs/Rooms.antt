@@ -1,14 +1,12 @@
 -- Room in what is stored changes nothing else.
-use Rattle.std.proofs.Common.{◌≡◌, ℕ, List, Option, Some, None, sym, ◌∙◌}
+use Rattle.std.proofs.Common.{◌≡◌, ℕ, Option, Some, None}
 use Rattle.std.specs.Prelude.{IfSome}
-use Rattle.op_types.specs.Changes.{durable_after, Applies}
 use Rattle.op_types.specs.Rooms.{no_needs, part_option_with_room, joining_option_with_room, with_room}
-use Rattle.op_types.specs.declared.changes.Change.{Change}
 use Rattle.op_types.specs.declared.durable.Durable.{Durable}
 use Rattle.op_types.specs.declared.durable.Joining.{Joining}
 use Rattle.op_types.specs.declared.durable.Part.{Part}
 use Rattle.op_types.specs.declared.needs.Needs.{Needs}
-use Rattle.op_types.proofs.Adoption.{bare_twice, like_after, applies_like, bare_rests, rests_after, rest_is_bare}
+use Rattle.op_types.proofs.Adoption.{bare_twice}
 use Rattle.op_kv.specs.Bases.{IsBase}
 use Rattle.op_instance.specs.Sound.{IfJoiningFits, IfNodeOf, IsNode}
 use Rattle.op_instance.specs.declared.volatile.Volatile.{Volatile}
@@ -18,16 +16,6 @@ use Rattle.op_chain.specs.Chains.{HaveBases}
 -- the last room stays
 pub rested : (n : Needs) (d : Durable) → with_room no_needs (with_room n d) ≡ with_room no_needs d
 rested n d = bare_twice n d
-
--- a batch leaves the same, whatever the room, and none where there was none
-pub left_rested : (d : Durable) (batch : List Change) → with_room no_needs (durable_after d batch) ≡ durable_after (with_room no_needs d) batch
-left_rested d batch =
-    let e : Durable = with_room no_needs d in
-    like_after d e batch (sym (rested no_needs d)) ∙ rest_is_bare (durable_after e batch) (rests_after e batch (bare_rests d))
-
--- and applies the same
-pub applies_roomed : (n : Needs) (d : Durable) (batch : List Change) → Applies (with_room no_needs d) batch → Applies (with_room n d) batch
-applies_roomed n d batch all = applies_like (with_room no_needs d) (with_room n d) batch (rested no_needs d ∙ sym (rested n d)) all
 
 -- ---- nodes
 

@@ -37,7 +37,8 @@ use Rattle.op_protocol.specs.Serving as serving
 use Rattle.op_protocol.specs.Serving.{dropping, waiting_with}
 use Rattle.op_protocol.specs.Starting.{first_volatile}
 use Rattle.op_protocol.proofs.Based.{based_decides}
-use Rattle.op_kv.specs.Over.{Written, MapState, service_over}
+use Rattle.op_change.specs.Over.{Written, service_over}
+use Rattle.op_kv.specs.Maps.{MapState}
 use Rattle.op_instance.specs.Memory.{turned_in, adopted_in, part_step_of}
 use Rattle.op_deciding.specs.Deciding.{replies_to}
 use Rattle.op_chain.specs.Answering.{giving}

@@ -17,7 +17,7 @@ use Rattle.op_types.specs.declared.turn.Turn.{Turn}
 use Rattle.op_types.specs.declared.turn.Turn.TheVariants as turn
 use Rattle.op_spec.specs.Service.{Service}
 use Rattle.op_kv.specs.Bases.{IsBase}
-use Rattle.op_kv.specs.Over.{MapState}
+use Rattle.op_kv.specs.Maps.{MapState}
 use Rattle.op_protocol.specs.Joining.{takes_base, brought_to, joined_service}
 use Rattle.op_segments.specs.Brought.{held_base}
 use Rattle.op_chain.specs.declared.brought.Brought.{Brought}

@@ -10,7 +10,7 @@ use Rattle.op_types.specs.declared.durable.Joining.{Joining}
 use Rattle.op_types.specs.declared.durable.Part.{Part}
 use Rattle.op_protocol.specs.Parts.{part_after}
 use Rattle.op_protocol.specs.Configurations.{latest_of}
-use Rattle.op_kv.specs.Over.{MapState}
+use Rattle.op_kv.specs.Maps.{MapState}
 use Rattle.op_chain.specs.declared.lead.Lead.{Lead}
 
 -- what a node leads in this role

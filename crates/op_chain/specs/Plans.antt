@@ -33,7 +33,8 @@ use Rattle.op_protocol.specs.Serving.{dropping}
 use Rattle.op_protocol.specs.Starting.{first_volatile}
 use Rattle.op_protocol.specs.Rows.{based_batch, newly_decided, table_plan}
 use Rattle.op_plans.specs.Positions.{FitsPositions}
-use Rattle.op_kv.specs.Over.{MapState, nothing_written, service_over}
+use Rattle.op_change.specs.Over.{nothing_written, service_over}
+use Rattle.op_kv.specs.Maps.{MapState}
 use Rattle.op_instance.specs.Memory.{volatile_of, adopted_in, part_step_of, IsKeptBy, HasRoomIn}
 use Rattle.op_instance.specs.Sound.{IsNode, IsSoundStep}
 use Rattle.op_instance.specs.declared.volatile.Volatile.{Volatile}

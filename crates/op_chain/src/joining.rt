@@ -2,14 +2,13 @@
 ghost use Rattle.std.specs.Prelude.{◌≡◌, Some, ℕ, true, IsTrue, IfOk, IfSome};
 ghost use Rattle.op_types.specs.Rooms.{joining_with_room};
 ghost use Rattle.op_kv.specs.Bases.{IsBase};
-ghost use Rattle.op_protocol.specs.Bases.{is_base};
 ghost use Rattle.op_protocol.specs.Joining.{takes_base, takes_entries};
 ghost use Rattle.op_segments.specs.Brought.{held_base, held_entries};
 ghost use Rattle.op_chain.specs.Bringing.{Brings, BringsOf, nothing_of, IsCompleted, IsHeld, IsBrought, IfJoined, joining_after, HasBase};
 ghost use Rattle.op_chain.specs.Bringing.{is_join_base, has_base, turn_holding};
 
 use crate::brought::Brought;
-use crate::trimming::service_from;
+use op_deciding::{is_base, service_from};
 use op_kv::Map;
 use op_segments::{WholeFail, completed, take_base, take_entries, whole};
 use op_types::{
@@ -102,14 +101,6 @@ fn takes_entries(joining: &Joining, conf: ConfNo, at: u64, entries: &Entries) ->
     joining.conf == conf
         && !entries.is_empty()
         && at as u128 + entries.len() as u128 <= joining.len as u128
-}
-
-/// Whether these bytes are the base of a service.
-fn is_base(bytes: &[u8]) -> bool
-    ensures same { result ≡ is_base bytes.now }
-    ensures base { IsTrue result → IsBase bytes.now }
-{
-    Map::is_base(bytes)
 }
 
 /// The base that a piece completes, if the node takes it.

@@ -1,36 +1,15 @@
-//! The service at a position of a part's log, and the base of what a step trims.
+//! The base of what a step trims.
 ghost use Rattle.std.specs.Prelude.{◌≡◌, Some, IfOk, OnOk, IfSome};
 ghost use Rattle.op_spec.specs.Service.{base_bytes};
 ghost use Rattle.op_kv.specs.Bases.{IsBase};
-ghost use Rattle.op_protocol.specs.Bases.{service_from, service_at};
+ghost use Rattle.op_protocol.specs.Bases.{service_at};
 ghost use Rattle.op_protocol.specs.Rows.{based, based_batch};
 ghost use Rattle.op_chain.specs.Trimming.{is_trim, trims};
 
-use op_deciding::{between, index};
-use op_kv::Map;
-use op_types::{Batch, Blob, Change, Entry, NoMemory, Part};
+use op_deciding::service_at;
+use op_types::{Batch, Blob, Change, NoMemory, Part};
 use std::alloc::Global;
 use std::mem;
-
-/// The service of a base, after entries that go on from it.
-pub(crate) fn service_from(alloc: Global, base: &[u8], entries: &[Entry]) -> Result<Map, NoMemory>
-    requires { IsBase base.now }
-    ensures { IfOk result (λ m. m.service ≡ service_from base.now entries.now) }
-{
-    let mut service = Map::from_base(alloc, base)?;
-    let (_, change) = service.plan(alloc, entries)?;
-    service.adopt(change);
-    Ok(service)
-}
-
-/// The service at a position of a part's log that isn't trimmed. It costs the base and the entries before the position.
-pub(crate) fn service_at(alloc: Global, part: &Part, at: u64) -> Result<Map, NoMemory>
-    requires { IsBase part.now.base }
-    ensures { IfOk result (λ m. m.service ≡ service_at part.now at) }
-{
-    let entries = between(part.tail.as_slice(), 0, index(part.trimmed, at));
-    service_from(alloc, part.base.as_slice(), entries)
-}
 
 /// Gives a batch the bases of what it trims of a part. One that trims nothing is left as it is.
 pub(crate) fn add_bases(

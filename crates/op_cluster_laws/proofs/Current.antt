@@ -17,11 +17,11 @@ use Rattle.op_spec.specs.Stands.{prefix_of}
 use Rattle.op_protocol.specs.Configurations.{latest_of, latest_in}
 use Rattle.op_bounds.specs.Laws.{NodeInRange, WorldInRange}
 use Rattle.op_bounds.proofs.Known.{all_runs_stay}
-use Rattle.op_runs.specs.Possible.{SparesInRange, HappeningsInRange}
+use Rattle.op_runs.specs.Possible.{SparesInRange, HappeningsInRange, server_ids}
 use Rattle.op_runs.specs.Run.{Execution, first_execution, execution_of, IsSound, MeetsFrom}
 use Rattle.op_runs.specs.Fresh.{IsFresh, CameFresh}
 use Rattle.op_runs.specs.Summary.{greatest_conf}
-use Rattle.op_runs.specs.World.{World, Node, Happening, node_ids, node_at}
+use Rattle.op_runs.specs.World.{World, Node, Happening, node_at}
 use Rattle.op_runs.specs.declared.summary.Line.TheVariants as line
 use Rattle.op_refinement.proofs.NodeLists.{IfThere, found}
 use Rattle.op_laws.specs.Runs.{RunInRange}
@@ -259,17 +259,17 @@ module _ (members spares : List ℕ) (ms : MembersInRange members) (ss : SparesI
 pub same_key : (r : Read) (key : Key) → r.client ≡ key.0 → r.seq ≡ key.1 → (r.client, r.seq) ≡ key
 same_key r (c, s) e f = cc
 
-module _ (members spares : List ℕ) (ms : MembersInRange members) (ss : SparesInRange members spares) (counts : ℕ → ℕ) (trace : List Happened) (hs : List Happening)
-    (run : IsRun members spares counts trace hs) (reach : ReachedAlways members spares counts trace hs) where
-  current : (now later : List Happened) → trace ≡ now ++ later → (p : ℕ) → IsMember (node_ids members spares) p → (a : Reply)
-      → Contains (answered_in true (lived_at members counts p now).first (lived_at members counts p now).deeds) a → IsGiven a.answer
-      → (early since : List Happened) → trace ≡ early ++ since → IsUnasked members spares counts early (a.client, a.seq) → IsCurrent members spares counts early now hs a
+module _ (members spares observers : List ℕ) (ms : MembersInRange members) (ss : SparesInRange members spares) (counts : ℕ → ℕ) (trace : List Happened) (hs : List Happening)
+    (run : IsRun members spares observers counts trace hs) (reach : ReachedAlways members spares observers counts trace hs) where
+  current : (now later : List Happened) → trace ≡ now ++ later → (p : ℕ) → IsMember (server_ids members spares observers) p → (a : Reply)
+      → Contains (answered_in true (lived_at members observers counts p now).first (lived_at members observers counts p now).deeds) a → IsGiven a.answer
+      → (early since : List Happened) → trace ≡ early ++ since → IsUnasked members spares observers counts early (a.client, a.seq) → IsCurrent members spares observers counts early now hs a
   current now later split p is a there given early since early_split unread = by_place (before_or_in y.first y.later g.before g.came (g.after ++ tail) (sym y.split ∙ whole))
     where
-      n : Reached members spares counts now hs
+      n : Reached members spares observers counts now hs
       n = reach now later split
 
-      y : Reached members spares counts early hs
+      y : Reached members spares observers counts early hs
       y = reach early since early_split
 
       range_then : RunInRange members spares n.first
@@ -296,10 +296,10 @@ module _ (members spares : List ℕ) (ms : MembersInRange members) (ss : SparesI
       front : n.first ≡ g.before ++ g.came ∷ (g.after ++ f.after)
       front = f.place ∙ sym (append_assoc f.before (f.tells ∷ []) f.after) ∙ ap (λ l. l ++ f.after) g.place ∙ append_assoc g.before (g.came ∷ g.after) f.after
 
-      asked : WasAskedOf members spares counts now (request.Read f.read.asked.read)
+      asked : WasAskedOf members spares observers counts now (request.Read f.read.asked.read)
       asked = n.read f.read.asked.read (subst (λ l. IsAmong (reads_in l) f.read.asked.read) (sym front) (reads_here g.before g.came (g.after ++ f.after) f.read.asked.read c.among))
 
-      by_place : ((us : List Happening) × (g.before ≡ y.first ++ us)) ⊎ ((us : List Happening) × (y.first ≡ g.before ++ g.came ∷ us)) → IsCurrent members spares counts early now hs a
+      by_place : ((us : List Happening) × (g.before ≡ y.first ++ us)) ⊎ ((us : List Happening) × (y.first ≡ g.before ++ g.came ∷ us)) → IsCurrent members spares observers counts early now hs a
       by_place (inr (us, e)) = absurd (unread f.read.asked.read (same_key f.read.asked.read (a.client, a.seq) f.client_is f.seq_is)
           (y.read f.read.asked.read (subst (λ l. IsAmong (reads_in l) f.read.asked.read) (sym e) (reads_here g.before g.came us f.read.asked.read c.among))))
       by_place (inl (us, e)) =
@@ -318,6 +318,6 @@ module _ (members spares : List ℕ) (ms : MembersInRange members) (ss : SparesI
           }
 
 pub reads_are_current : OfClusters ReadsAreCurrent
-reads_are_current members spares ms ss counts trace c =
-    let k = always_reached members spares ms ss counts trace c in
-    (k.0, k.1, λ now later split p is a there given early since e unread. current members spares ms ss counts trace k.0 k.1 k.2 now later split p is a there given early since e unread)
+reads_are_current members spares observers ms ss os counts trace c =
+    let k = always_reached members spares observers ms ss os counts trace c in
+    (k.0, k.1, λ now later split p is a there given early since e unread. current members spares observers ms ss counts trace k.0 k.1 k.2 now later split p is a there given early since e unread)

@@ -18,6 +18,7 @@ pub mod Ranges
 pub mod Joining
 pub mod Answering
 pub mod Proposing
+pub mod Beginning
 pub mod Taken
 pub mod Running
 pub mod Reaching

@@ -1,6 +1,6 @@
 -- What a cluster has reached at each moment: one list for each configuration, and one order of what is answered.
-use Rattle.std.proofs.Common.{◌≡◌, ◌≤◌, ◌+◌, ℕ, zero, suc, Bool, List, [], ◌∷◌, ◌++◌, Option, Some, None, sym, ◌∙◌, ap, subst, append_assoc, append-nil, inl, inr}
-use Rattle.std.specs.List.{Contains}
+use Rattle.std.proofs.Common.{◌≡◌, ◌≤◌, ◌+◌, ℕ, zero, suc, Bool, List, [], ◌∷◌, ◌++◌, Option, Some, None, refl, sym, ◌∙◌, ap, subst, append_assoc, append-nil, inl, inr}
+use Rattle.std.specs.List.{All, Contains}
 use Rattle.op_types.specs.Ranges.{IsPid, IsMember, MembersInRange}
 use Rattle.op_types.specs.declared.events.Request.TheVariants as request
 use Rattle.op_types.specs.declared.read.Read.{Read}
@@ -18,31 +18,36 @@ use Rattle.op_types.specs.declared.answers.Reply.{Reply}
 use Rattle.op_types.specs.declared.messages.Msg.{Msg}
 use Rattle.op_runs.specs.Replies.{IfReplyServed}
 use Rattle.op_spec.specs.Stands.{Stands}
-use Rattle.op_runs.specs.Possible.{SparesInRange, HappeningsInRange}
+use Rattle.op_runs.specs.Possible.{SparesInRange, ObserversInRange, HappeningsInRange, server_ids}
+use Rattle.op_runs.specs.Schedules.{seated_at, begun}
 use Rattle.op_runs.specs.Run.{Execution, first_execution, execution_of, execution_with, IsSound, MeetsFrom, ServesDecided}
-use Rattle.op_runs.specs.World.{Happening, first_world, node_ids, run_of, node_at, answer_line}
+use Rattle.op_runs.specs.World.{Kind, Votes, Observes, World, Node, Happening, first_world, run_of, answer_line}
 use Rattle.op_bounds.specs.Messages as known
 use Rattle.op_laws.proofs.Greatest.{greatest_stays}
-use Rattle.op_laws.proofs.Reached.{world_of_run, execution_append}
+use Rattle.op_laws.specs.Runs.{RunInRange}
+use Rattle.op_laws.proofs.Reached.{world_of_run, execution_append, front_in_range}
+use Rattle.op_watch_laws.specs.Laws.{ObserverStands}
+use Rattle.op_watch_laws.proofs.Every.{every_observer_stands}
 use Rattle.op_cluster_laws.specs.Outputs.{sent_in, answered_in}
 use Rattle.op_cluster_laws.specs.Traces.{Happened, lived_at}
 use Rattle.op_cluster_laws.specs.Clusters.{IsCluster}
 use Rattle.op_cluster_laws.specs.Currency.{WasAskedOf}
 use Rattle.op_cluster_laws.specs.Taken.{WasTakenIn}
 use Rattle.op_cluster_laws.specs.Worlds.{IsFrom, IsMoment, IsRun, DeliveriesWereGiven, AreFirst, NodesAgree, OfClusters, ClustersAreRuns}
-use Rattle.op_cluster_laws.specs.Becoming.{sent_between, told_line, Numbered, BecomeBehind}
+use Rattle.op_cluster_laws.specs.Becoming.{sent_between, told_line, Numbered, TraceBecomes}
 use Rattle.op_cluster_laws.proofs.Answering.{all_found}
+use Rattle.op_cluster_laws.proofs.Happenings.{seat_node, seat_observer}
 use Rattle.op_cluster_laws.specs.Orders.{ClientsTakeReplies, IsAnswer, IsServedBefore, AnswersComeFirst}
 use Rattle.op_cluster_laws.proofs.Proposing.{commands_in, proposed_run}
 use Rattle.op_cluster_laws.proofs.Currency.{reads_in}
 use Rattle.op_cluster_laws.proofs.Joining.{takes_replies}
-use Rattle.op_cluster_laws.proofs.Running.{whole, is_run, moment_of, deliveries_were_given}
+use Rattle.op_cluster_laws.proofs.Running.{whole, happenings as all_happened, front_of, is_run, moment_of, deliveries_were_given}
 
 pub clusters_are_runs : ClustersAreRuns
-clusters_are_runs members spares ms ss counts trace c = ((whole members spares counts ms ss trace c).more, is_run members spares counts ms ss trace c)
+clusters_are_runs members spares observers ms ss os counts trace c = (all_happened members spares observers counts ms ss os trace c, is_run members spares observers counts ms ss os trace c)
 
 pub every_delivery_was_given : OfClusters DeliveriesWereGiven
-every_delivery_was_given members spares ms ss counts trace c = deliveries_were_given members spares counts ms ss trace c
+every_delivery_was_given members spares observers ms ss os counts trace c = deliveries_were_given members spares observers counts ms ss os trace c
 
 -- ---- agreement
 
@@ -62,10 +67,22 @@ module _ (members : List ℕ) where
       let more = lists_grow (execution_with t h) hs m.1 conf in
       (one.0 ++ more.0, more.1 ∙ ap (λ l. l ++ more.0) one.1 ∙ append_assoc (t.machine.lists conf) one.0 more.0)
 
+-- what a node, or an observer, has stored stands
+seat_stands : (members : List ℕ) (lists : ℕ → List Entry) (w : World) (p : ℕ) (k : Kind) (n : Node) → All (λ (m : Node). Stands members lists m.state.durable) w.nodes
+    → All (λ (m : Node). ServesDecided lists m.state.durable.part m.state.service) w.nodes → All (ObserverStands members lists) w.observers → seated_at w p ≡ Some (record { kind = k; node = n })
+    → Stands members lists n.state.durable × ServesDecided lists n.state.durable.part n.state.service
+seat_stands members lists w p Votes n stand serve watch there =
+    let here = seat_node w p n there in (
+      all_found (λ (m : Node). Stands members lists m.state.durable) w.nodes p n stand here,
+      all_found (λ (m : Node). ServesDecided lists m.state.durable.part m.state.service) w.nodes p n serve here,
+    )
+seat_stands members lists w p Observes n stand serve watch there =
+    let o = all_found (ObserverStands members lists) w.observers p n watch (seat_observer w p n there).1 in (o.stands, o.serves)
+
 pub nodes_agree : OfClusters NodesAgree
-nodes_agree members spares ms ss counts trace c =
-    let hs : List Happening = (whole members spares counts ms ss trace c).more in
-    let run = is_run members spares counts ms ss trace c in
+nodes_agree members spares observers ms ss os counts trace c =
+    let hs : List Happening = all_happened members spares observers counts ms ss os trace c in
+    let run = is_run members spares observers counts ms ss os trace c in
     let t0 : Execution = first_execution members spares in (
       (execution_of t0 hs).machine.lists,
       λ now later split.
@@ -79,9 +96,12 @@ nodes_agree members spares ms ss counts trace c =
             subst (λ (e : Execution). AreFirst t.machine.lists e.machine.lists) (sym all) (lists_grow members t j.1 two.1),
             λ p is.
                 let s = j.3.nodes p is in
-                let there : node_at t.world.nodes p ≡ Some s.found = ap (λ w. node_at w.nodes p) (world_of_run t0 first) ∙ s.there in (
-                  subst (λ z. Stands members t.machine.lists z.durable) s.state (all_found (λ k. Stands members t.machine.lists k.state.durable) t.world.nodes p s.found sound.stand there),
-                  subst (λ z. ServesDecided t.machine.lists z.durable.part z.service) s.state (all_found (λ k. ServesDecided t.machine.lists k.state.durable.part k.state.service) t.world.nodes p s.found sound.serve there),
+                let there = ap (λ w. seated_at w p) (world_of_run t0 first) ∙ s.there in
+                let front : RunInRange members spares first = front_in_range members spares first j.1 (subst (RunInRange members spares) j.2 (record { first = ms; others = ss; happenings = run.range })) in
+                let watch : All (ObserverStands members t.machine.lists) t.world.observers = every_observer_stands members spares ms ss first front.happenings in
+                let both = seat_stands members t.machine.lists t.world p _ s.found sound.stand sound.serve watch there in (
+                  subst (λ z. Stands members t.machine.lists z.durable) s.state both.0,
+                  subst (λ z. ServesDecided t.machine.lists z.durable.part z.service) s.state both.1,
                 ),
           ),
     )
@@ -125,26 +145,27 @@ served_before history more r c none s = record {
 }
 
 pub answers_come_first : OfClusters AnswersComeFirst
-answers_come_first members spares ms ss counts trace c =
-    let hs : List Happening = (whole members spares counts ms ss trace c).more in
-    let run = is_run members spares counts ms ss trace c in
+answers_come_first members spares observers ms ss os counts trace c =
+    let hs : List Happening = all_happened members spares observers counts ms ss os trace c in
+    let run = is_run members spares observers counts ms ss os trace c in
     let t0 : Execution = first_execution members spares in
     let end : Execution = execution_of t0 hs in
     let end_sound = sound_behind members t0 hs run.meets.0 run.meets.1 in (
       hs,
       run,
       λ now later split.
-          let j = (whole members spares counts ms ss trace c).moments now later split in
-          let first : List Happening = j.0 in
+          let j = (whole members spares observers counts ms ss os trace c).moments now later split in
+          let first : List Happening = begun observers ++ j.0 in
+          let split_so = front_of members spares observers counts ms ss os trace c j.0 j.1 j.2 in
           let t : Execution = execution_of t0 first in
           let known : ℕ = greatest_conf t.world.nodes in
-          let two = meets_behind members t0 first j.1 (subst (λ l. MeetsFrom members t0 l) j.2 run.meets.1) in
+          let two = meets_behind members t0 first j.1 (subst (λ l. MeetsFrom members t0 l) split_so run.meets.1) in
           let sound = sound_behind members t0 first run.meets.0 two.0 in
-          let all : end ≡ execution_of t j.1 = ap (execution_of t0) j.2 ∙ execution_append t0 first j.1 in
+          let all : end ≡ execution_of t j.1 = ap (execution_of t0) split_so ∙ execution_append t0 first j.1 in
           let grown : AreFirst t.machine.lists end.machine.lists = subst (λ (e : Execution). AreFirst t.machine.lists e.machine.lists) (sym all) (lists_grow members t j.1 two.1) in
-          let most : known ≤ greatest_conf end.world.nodes = subst (λ l. known ≤ greatest_conf (execution_of t0 l).world.nodes) (sym j.2)
-          (greatest_stays members spares ms ss first j.1 (subst HappeningsInRange j.2 run.range)) in
-          let moment = moment_of members spares counts ms ss trace c now first j.1 j.2 j.3 in (
+          let most : known ≤ greatest_conf end.world.nodes = subst (λ l. known ≤ greatest_conf (execution_of t0 l).world.nodes) (sym split_so)
+          (greatest_stays members spares ms ss first j.1 (subst HappeningsInRange split_so run.range)) in
+          let moment = moment_of members spares observers counts ms ss os trace c now first j.1 split_so j.3 in (
             known,
             λ p is r there answered x none.
                 let history : List Entry = history_from t.machine.lists known 1 (Some members) in
@@ -163,57 +184,57 @@ answers_come_first members spares ms ss counts trace c =
 
 -- What stands beside the world at a moment: what the events have become, the messages that were given out, the lines of answers,
 -- and who asked for the commands and the reads.
-pub record Reached (members spares : List ℕ) (counts : ℕ → ℕ) (now : List Happened) (happenings : List Happening) : Type 0 where
+pub record Reached (members spares observers : List ℕ) (counts : ℕ → ℕ) (now : List Happened) (happenings : List Happening) : Type 0 where
   pub first : List Happening
   pub later : List Happening
   pub split : happenings ≡ first ++ later
-  pub moment : IsMoment members spares counts now first
-  pub events : BecomeBehind members spares counts [] [] now first
-  pub messages : (p : ℕ) → IsMember (node_ids members spares) p → (d : ℕ) (m : Msg) → Contains (sent_in (lived_at members counts p now).first (lived_at members counts p now).deeds) (d, m)
+  pub moment : IsMoment members spares observers counts now first
+  pub events : TraceBecomes members spares observers counts now first
+  pub messages : (p : ℕ) → IsMember (server_ids members spares observers) p → (d : ℕ) (m : Msg) → Contains (sent_in (lived_at members observers counts p now).first (lived_at members observers counts p now).deeds) (d, m)
       → Numbered (run_of (first_world members spares) first).messages (sent_between p d m)
-  pub lines : (read : Bool) (p : ℕ) → IsMember (node_ids members spares) p → (r : Reply) → Contains (answered_in read (lived_at members counts p now).first (lived_at members counts p now).deeds) r
+  pub lines : (read : Bool) (p : ℕ) → IsMember (server_ids members spares observers) p → (r : Reply) → Contains (answered_in read (lived_at members observers counts p now).first (lived_at members observers counts p now).deeds) r
       → Contains (run_of (first_world members spares) first).lines (told_line read p r)
-  pub asked : (c : Command) → IsAmong (commands_in first) c → WasAskedOf members spares counts now (request.Command c)
-  pub read : (r : Read) → IsAmong (reads_in first) r → WasAskedOf members spares counts now (request.Read r)
-  pub taken : (c : Command) (conf : ℕ) → IsAmong ((execution_of (first_execution members spares) first).machine.proposed conf) (entry.Command c) → WasTakenIn members spares counts now c
+  pub asked : (c : Command) → IsAmong (commands_in first) c → WasAskedOf members spares observers counts now (request.Command c)
+  pub read : (r : Read) → IsAmong (reads_in first) r → WasAskedOf members spares observers counts now (request.Read r)
+  pub taken : (c : Command) (conf : ℕ) → IsAmong ((execution_of (first_execution members spares) first).machine.proposed conf) (entry.Command c) → WasTakenIn members spares observers counts now c
 
 -- so it is at each moment of a run
-abbrev pub ReachedAlways : List ℕ → List ℕ → (ℕ → ℕ) → List Happened → List Happening → Type 0
-ReachedAlways members spares counts trace happenings = (now later : List Happened) → trace ≡ now ++ later → Reached members spares counts now happenings
+abbrev pub ReachedAlways : List ℕ → List ℕ → List ℕ → (ℕ → ℕ) → List Happened → List Happening → Type 0
+ReachedAlways members spares observers counts trace happenings = (now later : List Happened) → trace ≡ now ++ later → Reached members spares observers counts now happenings
 
-pub always_reached : OfClusters (λ members spares counts trace.
-    (happenings : List Happening) × IsRun members spares counts trace happenings × ReachedAlways members spares counts trace happenings
-    × ((c : Command) → IsAmong (commands_in happenings) c → WasAskedOf members spares counts trace (request.Command c))
-    × BecomeBehind members spares counts [] [] trace happenings
-    × ((c : Command) (conf : ℕ) → IsAmong ((execution_of (first_execution members spares) happenings).machine.proposed conf) (entry.Command c) → WasTakenIn members spares counts trace c))
-always_reached members spares ms ss counts trace c = (
-  (whole members spares counts ms ss trace c).more,
-  is_run members spares counts ms ss trace c,
+pub always_reached : OfClusters (λ members spares observers counts trace.
+    (happenings : List Happening) × IsRun members spares observers counts trace happenings × ReachedAlways members spares observers counts trace happenings
+    × ((c : Command) → IsAmong (commands_in happenings) c → WasAskedOf members spares observers counts trace (request.Command c))
+    × TraceBecomes members spares observers counts trace happenings
+    × ((c : Command) (conf : ℕ) → IsAmong ((execution_of (first_execution members spares) happenings).machine.proposed conf) (entry.Command c) → WasTakenIn members spares observers counts trace c))
+always_reached members spares observers ms ss os counts trace c = (
+  all_happened members spares observers counts ms ss os trace c,
+  is_run members spares observers counts ms ss os trace c,
   λ now later split.
-      let j = (whole members spares counts ms ss trace c).moments now later split in
+      let j = (whole members spares observers counts ms ss os trace c).moments now later split in
       record {
-        first = j.0;
+        first = begun observers ++ j.0;
         later = j.1;
-        split = j.2;
-        moment = moment_of members spares counts ms ss trace c now j.0 j.1 j.2 j.3;
-        events = j.4;
+        split = front_of members spares observers counts ms ss os trace c j.0 j.1 j.2;
+        moment = moment_of members spares observers counts ms ss os trace c now (begun observers ++ j.0) j.1 (front_of members spares observers counts ms ss os trace c j.0 j.1 j.2) j.3;
+        events = (j.0, refl, j.4);
         messages = λ p is d m there. (j.3).messages now [] (sym (append-nil now)) p is d m there;
         lines = λ read p is r there. (j.3).replies read p is r there;
         asked = (j.3).asked;
         read = (j.3).read;
         taken = (j.3).taken;
       },
-  (whole members spares counts ms ss trace c).end.asked,
-  (whole members spares counts ms ss trace c).events,
-  (whole members spares counts ms ss trace c).end.taken,
+  (whole members spares observers counts ms ss os trace c).end.asked,
+  ((whole members spares observers counts ms ss os trace c).more, refl, (whole members spares observers counts ms ss os trace c).events),
+  (whole members spares observers counts ms ss os trace c).end.taken,
 )
 
 -- what a node has answered has an encoding
-pub answers_in_range : (members spares : List ℕ) (counts : ℕ → ℕ) → MembersInRange members → SparesInRange members spares → (trace : List Happened) → IsCluster members spares counts trace
-    → (now later : List Happened) → trace ≡ now ++ later → (p : ℕ) → IsMember (node_ids members spares) p → (read : Bool) (r : Reply)
-    → Contains (answered_in read (lived_at members counts p now).first (lived_at members counts p now).deeds) r → known.ReplyInRange IsPid r
-answers_in_range members spares counts ms ss trace c now later split p is read r there =
-    let j = (whole members spares counts ms ss trace c).moments now later split in (j.3).answers read p is r there
+pub answers_in_range : (members spares observers : List ℕ) (counts : ℕ → ℕ) → MembersInRange members → SparesInRange members spares → ObserversInRange members spares observers → (trace : List Happened) → IsCluster members spares observers counts trace
+    → (now later : List Happened) → trace ≡ now ++ later → (p : ℕ) → IsMember (server_ids members spares observers) p → (read : Bool) (r : Reply)
+    → Contains (answered_in read (lived_at members observers counts p now).first (lived_at members observers counts p now).deeds) r → known.ReplyInRange IsPid r
+answers_in_range members spares observers counts ms ss os trace c now later split p is read r there =
+    let j = (whole members spares observers counts ms ss os trace c).moments now later split in (j.3).answers read p is r there
 
 pub clients_take_replies : OfClusters ClientsTakeReplies
-clients_take_replies members spares ms ss counts trace c = takes_replies members spares counts trace c
+clients_take_replies members spares observers ms ss os counts trace c = takes_replies members spares observers counts trace c

@@ -1,9 +1,8 @@
 -- A cluster is a run of the world: deed by deed, the messages that are taken are among those that were given out.
-use Rattle.std.proofs.Common.{◌⊎◌, ◌≡◌, ◌<◌, ◌≤◌, ◌+◌, ◌^◌, ℕ, Bool, true, false, List, [], ◌∷◌, ◌++◌, map, length, Option, Some, None, refl, sym, ◌∙◌, ap, subst, append_assoc, append-nil, nat_eq, inl, inr, arith}
+use Rattle.std.proofs.Common.{◌⊎◌, ◌≡◌, ◌<◌, ◌≤◌, ◌+◌, ◌^◌, ℕ, Bool, false, List, [], ◌∷◌, ◌++◌, map, length, Option, Some, None, refl, sym, ◌∙◌, ap, subst, append_assoc, append-nil, inl, inr, arith}
 use Rattle.std.specs.Prelude.{All, zip}
 use Rattle.std.specs.List.{Contains}
-use Rattle.std.specs.Set.{is_member}
-use Rattle.std.proofs.lemmas.Bool.{cases_eq, eq-eqb, ne_eqb}
+use Rattle.std.proofs.lemmas.Bool.{cases_eq}
 use Rattle.std.proofs.lemmas.List.Elements.{Contains-append_cases, All-head, All-tail, All-nil, All-cons, All-append}
 use Rattle.op_types.specs.Ranges.{IsPid, IsMember, MembersInRange}
 use Rattle.op_types.specs.declared.durable.Durable.{Durable}
@@ -26,16 +25,17 @@ use Rattle.op_laws.specs.Runs.{RunInRange}
 use Rattle.op_laws.proofs.RepliesServed.{every_reply_is_served}
 use Rattle.op_runs.specs.declared.events.What.{What}
 use Rattle.op_runs.specs.declared.events.What.TheVariants as what
-use Rattle.op_runs.specs.Possible.{SparesInRange, WhatInRange, HappeningsInRange, proposals_of, proposals_in}
+use Rattle.op_runs.specs.Possible.{SparesInRange, ObserversInRange, WhatInRange, HappeningsInRange, kind_in, proposals_of, proposals_in, server_ids}
+use Rattle.op_runs.specs.Schedules.{Seated, seated_at, begun}
 use Rattle.op_runs.specs.Run.{Execution, first_execution, execution_of}
-use Rattle.op_runs.specs.World.{World, Sent, Happening, first_node, first_world, node_ids, run_of, node_at, answer_line, Up}
+use Rattle.op_runs.specs.World.{Kind, Votes, Observes, World, Sent, Happening, first_world, run_of, answer_line, sends_as, Up}
 use Rattle.op_bounds.specs.Laws.{SentInRange, WorldInRange}
 use Rattle.op_bounds.specs.Messages as known
-use Rattle.op_bounds.proofs.Known.{nodes_are_ids, all_runs_stay}
+use Rattle.op_bounds.proofs.Known.{all_runs_stay}
 use Rattle.op_refinement.proofs.EveryRun.{every_run_meets}
 use Rattle.op_laws.proofs.Reached.{world_of_run, run_append, execution_append, front_in_range}
 use Rattle.op_protocol.specs.State.{State}
-use Rattle.op_protocol.specs.Starting.{state_after_restart, sends_after_restart}
+use Rattle.op_protocol.specs.Starting.{state_after_restart}
 use Rattle.op_serving.specs.Cores.{Standing, saying, gives}
 use Rattle.op_serving.specs.Fates.{Fate, done, finds, faults, shares, damaged, lost}
 use Rattle.op_serving.specs.Reopenings.{Unstored, FindsOneOf}
@@ -43,7 +43,7 @@ use Rattle.op_serving.specs.Inputs.{Brought, Deed, begins, hears, enters, says, 
 use Rattle.op_cluster_laws.specs.Outputs.{after_deed, given_at, sent_in, answers_of, answered_in}
 use Rattle.op_cluster_laws.specs.Readings.{WasRead, WasAsked}
 use Rattle.op_cluster_laws.specs.Causes.{WasHeard, MayFind, IsCaused, AreCaused}
-use Rattle.op_cluster_laws.specs.Traces.{Event, does, ends, killed, opens, Happened, Lived, stands, unstored_in, stepped, held_in, stored_in, pending_in, inputs_of, ended_with, lived_by, lived_at, sent_stepping, sent_then, messages_then, messages_behind, steps_then, proposed_by, proposed_by_all, proposed_behind}
+use Rattle.op_cluster_laws.specs.Traces.{Event, does, ends, killed, opens, first_as, Happened, Lived, stands, unstored_in, stepped, held_in, stored_in, pending_in, inputs_of, ended_with, lived_by, lived_at, sent_stepping, sent_then, messages_then, messages_behind, steps_then, proposed_by, proposed_by_all, proposed_behind}
 use Rattle.op_cluster_laws.specs.Lives.{Serves}
 use Rattle.op_cluster_laws.specs.Taken.{Brings, TakesIn, WasTakenIn}
 use Rattle.op_cluster_laws.proofs.Serving.{deeds_are_caused}
@@ -51,17 +51,18 @@ use Rattle.op_cluster_laws.specs.Clusters.{IsLife, MayOpen, IsCluster}
 use Rattle.op_cluster_laws.specs.Currency.{WasAskedOf}
 use Rattle.op_cluster_laws.specs.Worlds.{StandsAt, StandTogether, history_after, IsMoment, IsRun, DeliveriesWereGiven}
 use Rattle.op_cluster_laws.proofs.Causing.{replied_push, caused_at, heard_coming}
-use Rattle.op_cluster_laws.proofs.Tracing.{cut_last, lived_own, lived_other, folded_me, first_me, sent_push, unstored_deed, finds_at, Begun, begun_at, IsLinked, linked_alive, linked_ended}
+use Rattle.op_cluster_laws.proofs.Tracing.{cut_last, lived_own, lived_other, folded_me, first_me, stands_kind, sent_push, unstored_deed, finds_at, Begun, begun_at, IsLinked, linked_alive, linked_ended}
 use Rattle.op_cluster_laws.specs.Becoming.{sent_between, told_line, Numbered, Says, ticks, delivers, proposes, stops, trims, looks_up, goes_up, goes_down, IsNone, Reopens, EventBecomes, BecomeBehind}
 use Rattle.op_cluster_laws.proofs.Executions.{nobody, silent, says_of, said_numbered, numbered_longer, Longer, NodeIs, Moves, rests, forgets, such, Tells, tells_longer, opened, proposals_more, stored_of, quiet, InputMoves, by_fate}
 use Rattle.op_cluster_laws.proofs.Lists.{Each, each_map, each_at}
 use Rattle.op_cluster_laws.proofs.Pending.{InputsSo, AddsAt, pending_added, pending_event, stored_push, stored_ended, stored_up, link_failed}
 use Rattle.op_cluster_laws.proofs.Answering.{input_fits, again_none, answers_fit}
 use Rattle.op_cluster_laws.proofs.Ranges.{numbered_all, numbered_within, can_be_read, request_fits, commands_fit}
-use Rattle.op_cluster_laws.proofs.Proposing.{commands_of, commands_in, commands_more, proposed_there}
+use Rattle.op_cluster_laws.proofs.Proposing.{commands_of, commands_in, commands_more, proposed_there, proposed_run}
 use Rattle.op_cluster_laws.proofs.Taken.{comes_at}
 use Rattle.op_cluster_laws.proofs.Currency.{reads_of, reads_in, reads_more}
 use Rattle.op_cluster_laws.proofs.Joining.{CanBeRead, read_was_given}
+use Rattle.op_cluster_laws.proofs.Beginning.{server_pids, begun_seat, begun_messages, begun_range, begun_proposals, begun_commands, begun_reads}
 
 -- ---- lists
 
@@ -144,29 +145,31 @@ says_read ms p ds who i w r looks_up h (inr none) = absurd none
 says_read ms p ds who i w r goes_up h k = absurd k
 says_read ms p ds who i w r goes_down h k = absurd k
 
-first_found : (all ids : List ℕ) (p : ℕ) → is_member nat_eq ids p ≡ true → node_at (map (first_node all) ids) p ≡ Some (first_node all p)
-first_found all [] p h = absurd cc
-first_found all (m ∷ ids) p h = elim (cases_eq m p) [
-  | inl e ↦ rw (eq-eqb m p e) (ap (λ k. Some (first_node all k)) e)
-  | inr n ↦ rw (ne_eqb m p n) (first_found all ids p (let away : nat_eq p m ≡ false = ne_eqb p m (λ e. n (sym e)) in rw away at h))
-]
+-- a server at its start has its id, and is up
+first_pid : (k : Kind) (members : List ℕ) (p : ℕ) → (first_as k members p).pid ≡ p
+first_pid Votes members p = refl
+first_pid Observes members p = refl
+
+first_up : (k : Kind) (members : List ℕ) (p : ℕ) → (first_as k members p).status ≡ Up
+first_up Votes members p = refl
+first_up Observes members p = refl
 
 -- ---- all that is so beside a world
 
-module _ (members spares : List ℕ) (counts : ℕ → ℕ) (ms : MembersInRange members) (ss : SparesInRange members spares) where
+module _ (members spares observers : List ℕ) (counts : ℕ → ℕ) (ms : MembersInRange members) (ss : SparesInRange members spares) (os : ObserversInRange members spares observers) where
   abbrev pub IsNode : ℕ → Type 0
-  IsNode p = IsMember (node_ids members spares) p
+  IsNode p = IsMember (server_ids members spares observers) p
 
   -- the life of a node at a moment
   abbrev pub L : ℕ → List Happened → Lived
-  L p now = lived_at members counts p now
+  L p now = lived_at members observers counts p now
 
   abbrev pub world : List Happening → World
   world hs = run_of (first_world members spares) hs
 
   -- a node has read this request, in one of its lives
   abbrev pub AskedBy : List Happened → Request → Type 0
-  AskedBy now r = WasAskedOf members spares counts now r
+  AskedBy now r = WasAskedOf members spares observers counts now r
 
   asked_later : (now xs : List Happened) (r : Request) → AskedBy now r → AskedBy (now ++ xs) r
   asked_later now xs r a = (a.0, a.1 ++ xs, ap (λ l. l ++ xs) a.2 ∙ append_assoc a.0 a.1 xs, a.3, a.4, a.5, a.6)
@@ -186,7 +189,7 @@ module _ (members spares : List ℕ) (counts : ℕ → ℕ) (ms : MembersInRange
 
   -- a node has taken in this command by then
   abbrev pub TakenBy : List Happened → Command → Type 0
-  TakenBy now c = WasTakenIn members spares counts now c
+  TakenBy now c = WasTakenIn members spares observers counts now c
 
   taken_later : (now xs : List Happened) (c : Command) → TakenBy now c → TakenBy (now ++ xs) c
   taken_later now xs c k = (k.0, k.1 ++ xs, k.2, ap (λ l. l ++ xs) k.3 ∙ append_assoc k.0 (k.2 ∷ k.1) xs, k.4, k.5)
@@ -212,7 +215,7 @@ module _ (members spares : List ℕ) (counts : ℕ → ℕ) (ms : MembersInRange
   tells_heard now out p who i node heard numbered few =
       let ds : List Deed = (L p now).deeds in
       let k = says_of out p i numbered in
-      let f = says_fits out p ds who i k.0 k.1 heard (nodes_are_ids members spares ms ss p node) few in
+      let f = says_fits out p ds who i k.0 k.1 heard (server_pids members spares observers ms ss os p node) few in
       record {
         what = k.0;
         says = k.1;
@@ -245,13 +248,13 @@ module _ (members spares : List ℕ) (counts : ℕ → ℕ) (ms : MembersInRange
 
   -- a crash and a start may always be told of
   crash_fits : (now : List Happened) (p : ℕ) → IsNode p → Fits now (what.Crash p)
-  crash_fits now p node = record { range = nodes_are_ids members spares ms ss p node; asked = λ c k. absurd k; read = λ r k. absurd k }
+  crash_fits now p node = record { range = server_pids members spares observers ms ss os p node; asked = λ c k. absurd k; read = λ r k. absurd k }
 
   start_fits : (now : List Happened) (p : ℕ) → IsNode p → Fits now (what.Start p)
-  start_fits now p node = record { range = nodes_are_ids members spares ms ss p node; asked = λ c k. absurd k; read = λ r k. absurd k }
+  start_fits now p node = record { range = server_pids members spares observers ms ss os p node; asked = λ c k. absurd k; read = λ r k. absurd k }
 
   pub record Beside (now : List Happened) (hs : List Happening) : Type 0 where
-    pub nodes : StandTogether members spares counts now hs
+    pub nodes : StandTogether members spares observers counts now hs
     pub messages : (before since : List Happened) → now ≡ before ++ since → (p : ℕ) → IsNode p → (d : ℕ) (m : Msg) → Contains (sent_in (L p before).first (L p before).deeds) (d, m) → Numbered (world hs).messages (sent_between p d m)
     pub replies : (read : Bool) (p : ℕ) → IsNode p → (r : Reply) → Contains (answered_in read (L p now).first (L p now).deeds) r → Contains (world hs).lines (told_line read p r)
     pub answers : (read : Bool) (p : ℕ) → IsNode p → (r : Reply) → Contains (answered_in read (L p now).first (L p now).deeds) r → known.ReplyInRange IsPid r
@@ -261,30 +264,34 @@ module _ (members spares : List ℕ) (counts : ℕ → ℕ) (ms : MembersInRange
     pub read : (r : Read) → IsAmong (reads_in hs) r → AskedBy now (request.Read r)
     pub taken : (c : Command) (conf : ℕ) → IsAmong ((execution_of (first_execution members spares) hs).machine.proposed conf) (entry.Command c) → TakenBy now c
     pub held : (p : ℕ) → IsNode p → Each (AllTakenBy now) (pending_in (L p now))
-    pub count : length (world hs).messages ≤ messages_behind members counts [] now
+    pub count : length (world hs).messages ≤ messages_behind members observers counts [] now
     pub range : All (λ h. WhatInRange h.event.what) hs
-    pub proposals : proposals_in hs ≤ proposed_behind members counts [] now
+    pub proposals : proposals_in hs ≤ proposed_behind members observers counts [] now
 
-  begins_beside : Beside [] []
+  begins_beside : Beside [] (begun observers)
   begins_beside = record {
-    nodes = λ p is. record { me = refl; found = first_node members p; there = first_found members (node_ids members spares) p is; pid = refl; state = refl; up = refl };
+    nodes = λ p is. (let k : Kind = kind_in observers p in
+        record { me = refl; found = first_as k members p; there = begun_seat members spares observers ms ss os p is; pid = first_pid k members p; state = refl; up = first_up k members p });
     messages = λ before since e p is d m c. absurd (let none : before ≡ [] = none_left before since e in
         omega (arith, (subst (λ l. Contains (sent_in (L p l).first (L p l).deeds) (d, m)) none c).1));
     replies = λ read p is r c. absurd (omega (arith, c.1));
     answers = λ read p is r c. absurd (omega (arith, c.1));
     pending = λ p is. tt;
     linked = λ p is. refl;
-    asked = λ c k. absurd k;
-    read = λ r k. absurd k;
-    taken = λ c conf k. absurd k;
+    asked = λ c k. absurd (subst (λ l. IsAmong l c) (begun_commands observers) k);
+    read = λ r k. absurd (subst (λ l. IsAmong l r) (begun_reads observers) k);
+    taken = λ c conf k. elim (proposed_run c (first_execution members spares) (begun observers) conf k) [
+      | inl old ↦ absurd old
+      | inr there ↦ absurd (subst (λ l. IsAmong l c) (begun_commands observers) there)
+    ];
     held = λ p is. tt;
-    count = omega arith;
-    range = All-nil (λ h. WhatInRange h.event.what);
-    proposals = omega arith;
+    count = (let e = ap (λ (l : List Sent). length l) (begun_messages members spares observers ms ss os) in omega (arith, e));
+    range = begun_range observers os.rising;
+    proposals = (let e = begun_proposals observers in omega (arith, e));
   }
 
   messages_more : (before xs : List Happened) (x : Happened)
-      → messages_behind members counts before (xs ++ x ∷ []) ≡ messages_behind members counts before xs + messages_then (L x.pid (before ++ xs)) x.event
+      → messages_behind members observers counts before (xs ++ x ∷ []) ≡ messages_behind members observers counts before xs + messages_then (L x.pid (before ++ xs)) x.event
   messages_more before [] x = rw (append-nil before) (omega arith)
   messages_more before (y ∷ xs) x =
       let k = messages_more (before ++ y ∷ []) xs x in
@@ -293,7 +300,7 @@ module _ (members spares : List ℕ) (counts : ℕ → ℕ) (ms : MembersInRange
       omega (arith, k, same)
 
   proposals_behind : (before xs : List Happened) (x : Happened)
-      → proposed_behind members counts before (xs ++ x ∷ []) ≡ proposed_behind members counts before xs + proposed_by_all (steps_then (L x.pid (before ++ xs)) x.event)
+      → proposed_behind members observers counts before (xs ++ x ∷ []) ≡ proposed_behind members observers counts before xs + proposed_by_all (steps_then (L x.pid (before ++ xs)) x.event)
   proposals_behind before [] x = rw (append-nil before) (omega arith)
   proposals_behind before (y ∷ xs) x =
       let k = proposals_behind (before ++ y ∷ []) xs x in
@@ -308,7 +315,7 @@ module _ (members spares : List ℕ) (counts : ℕ → ℕ) (ms : MembersInRange
 
   -- what becomes of the world then
   abbrev Goes : List Happened → World → ℕ → Lived → Event → Type 0
-  Goes now w p l e = Moves w p (Fits now) (proposed_by_all (steps_then l e)) (messages_then l e) (sent_then l e) (answered_then l e) Up (stored_in (lived_by l e)) (EventBecomes w p l e)
+  Goes now w p l e = Moves (stands l).kind w p (Fits now) (proposed_by_all (steps_then l e)) (messages_then l e) (sent_then l e) (answered_then l e) Up (stored_in (lived_by l e)) (EventBecomes w p l e)
 
   -- what may come at a life
   abbrev MayCome : Lived → Event → Type 0
@@ -316,7 +323,7 @@ module _ (members spares : List ℕ) (counts : ℕ → ℕ) (ms : MembersInRange
   MayCome l (opens d count) = MayOpen l.left d
   MayCome l e = l.left ≡ None
 
-  module _ (now : List Happened) (w : World) (p : ℕ) (node : IsNode p) (l : Lived) (me : (stands l).me ≡ p) (s : NodeIs w p Up (stored_in l)) (linked : IsLinked l)
+  module _ (now : List Happened) (w : World) (p : ℕ) (node : IsNode p) (l : Lived) (me : (stands l).me ≡ p) (s : NodeIs (stands l).kind w p Up (stored_in l)) (linked : IsLinked l)
       (pending : AreTold now w.messages p (pending_in l)) where
     abbrev F : What → Type 0
     F = Fits now
@@ -325,15 +332,15 @@ module _ (members spares : List ℕ) (counts : ℕ → ℕ) (ms : MembersInRange
       stored_is : stored_of (stands l) (unstored_in l) ≡ stored_in l
       stored_is = rw alive refl
 
-      stored : NodeIs w p Up (stored_of (stands l) (unstored_in l))
-      stored = subst (NodeIs w p Up) (sym stored_is) s
+      stored : NodeIs (stands l).kind w p Up (stored_of (stands l) (unstored_in l))
+      stored = subst (NodeIs (stands l).kind w p Up) (sym stored_is) s
 
       abbrev Stored : Event → State → Type 0
-      Stored e t = Moves w p F (proposed_by_all (steps_then l e)) (messages_then l e) (sent_then l e) (answered_then l e) Up t (EventBecomes w p l e)
+      Stored e t = Moves (stands l).kind w p F (proposed_by_all (steps_then l e)) (messages_then l e) (sent_then l e) (answered_then l e) Up t (EventBecomes w p l e)
 
       goes_quiet : (d : Deed) → ((who : List ℕ) (i : Input) (fate : Fate) → d ≡ enters who i fate → ⊥) → ((gs : List Happening) → IsNone gs → EventBecomes w p l (does d) gs) → Goes now w p l (does d)
       goes_quiet d other none = subst (Stored (does d)) (stored_push l d alive)
-          (such p F w (proposed_by_all (steps_then l (does d))) (messages_then l (does d)) (given_at (stands l) d).sends (λ read. answers_of read (given_at (stands l) d)) Up
+          (such (stands l).kind p F w (proposed_by_all (steps_then l (does d))) (messages_then l (does d)) (given_at (stands l) d).sends (λ read. answers_of read (given_at (stands l) d)) Up
           (stored_of (after_deed (stands l) d) (unstored_deed (stands l) d (unstored_in l))) IsNone (EventBecomes w p l (does d)) none
           (quiet w p F (crash_fits now p node) (start_fits now p node) (stands l) (unstored_in l) me stored d other (proposed_by_all (steps_then l (does d))) (messages_then l (does d))))
 
@@ -347,8 +354,8 @@ module _ (members spares : List ℕ) (counts : ℕ → ℕ) (ms : MembersInRange
           let sends : List (ℕ × Msg) = (given_at n (enters who i (finds d))).sends in
           let t : State = stored_of (after_deed n (enters who i (finds d))) (unstored_deed n (enters who i (finds d)) (unstored_in l)) in
           subst (Stored (does (enters who i (finds d)))) (stored_push l (enters who i (finds d)) alive)
-          (subst (λ (z : State). Moves w p F (proposed_by_all (pending_in l)) (length (sent_stepping n.me z (pending_in l)) + length sends) sends (λ read. answers_of read (given_at n (enters who i (finds d)))) Up t
-          (Reopens w p z (pending_in l) d)) stored_is m)
+          (subst (λ (z : State). Moves n.kind w p F (proposed_by_all (pending_in l)) (length (sent_stepping n.kind n.me z (pending_in l)) + length sends) sends (λ read. answers_of read (given_at n (enters who i (finds d)))) Up t
+          (Reopens w p n.kind z (pending_in l) d)) stored_is m)
       goes_input who i (faults k) m = subst (Stored (does (enters who i (faults k)))) (stored_push l (enters who i (faults k)) alive) m
       goes_input who i (shares k) m = subst (Stored (does (enters who i (shares k)))) (stored_push l (enters who i (shares k)) alive) m
       goes_input who i damaged m = subst (Stored (does (enters who i damaged))) (stored_push l (enters who i damaged) alive) m
@@ -357,9 +364,9 @@ module _ (members spares : List ℕ) (counts : ℕ → ℕ) (ms : MembersInRange
       goes_enters : (who : List ℕ) (i : Input) (fate : Fate) → Tells p F w.messages i → MayFind (stands l) i fate → FindsOneOf (unstored_in l) fate → Goes now w p l (does (enters who i fate))
       goes_enters who i fate t may one = goes_input who i fate (by_fate w p F (crash_fits now p node) (start_fits now p node) (stands l) (unstored_in l) me stored (pending_in l) who i fate t may one pending (link_failed l alive linked))
 
-      goes_ended : (is : List Input) → Moves w p F 0 0 [] nobody Up (stored_in (ended_with is l)) IsNone
-      goes_ended is = forgets p F w 0 0 [] (λ read. answers_of read (saying None)) Up (stored_in (ended_with is l)) IsNone
-          (rests p F w 0 0 (saying None) (stored_in l) (stored_in (ended_with is l)) refl (silent (saying None) refl refl) (stored_ended l is alive) s)
+      goes_ended : (is : List Input) → Moves (stands l).kind w p F 0 0 [] nobody Up (stored_in (ended_with is l)) IsNone
+      goes_ended is = forgets (stands l).kind p F w 0 0 [] (λ read. answers_of read (saying None)) Up (stored_in (ended_with is l)) IsNone
+          (rests (stands l).kind p F w 0 0 (saying None) (stored_in l) (stored_in (ended_with is l)) refl (silent (saying None) refl refl) (stored_ended l is alive) s)
 
     -- it finds one of the two
     one_of : (d : Durable) (o : Option Unstored) → l.left ≡ o → MayOpen o d → (d ≡ (held_in l).before.durable) ⊎ (d ≡ (held_in l).ahead.durable)
@@ -367,16 +374,17 @@ module _ (members spares : List ℕ) (counts : ℕ → ℕ) (ms : MembersInRange
     one_of d (Some u) e one = rw e one
 
     goes_anew : (d : Durable) → MayOpen l.left d
-        → Moves w p F (proposed_by_all (pending_in l)) (length (sent_stepping (stands l).me (stored_in l) (pending_in l)) + length (sends_after_restart (stands l).me d)) (sends_after_restart (stands l).me d) nobody Up
-        (state_after_restart (stands l).me d) (Reopens w p (stored_in l) (pending_in l) d)
+        → Moves (stands l).kind w p F (proposed_by_all (pending_in l)) (length (sent_stepping (stands l).kind (stands l).me (stored_in l) (pending_in l)) + length (sends_as (stands l).kind (stands l).me d))
+        (sends_as (stands l).kind (stands l).me d) nobody Up (state_after_restart (stands l).me d) (Reopens w p (stands l).kind (stored_in l) (pending_in l) d)
     goes_anew d may =
-        let either : (d ≡ (stored_in l).durable) ⊎ (d ≡ (stepped p (stored_in l) (pending_in l)).durable) = elim (one_of d l.left refl may) [
+        let k : Kind = (stands l).kind in
+        let either : (d ≡ (stored_in l).durable) ⊎ (d ≡ (stepped k p (stored_in l) (pending_in l)).durable) = elim (one_of d l.left refl may) [
           | inl before ↦ inl before
-          | inr after ↦ inr (after ∙ ap (λ z. z.durable) (linked ∙ ap (λ z. stepped z (stored_in l) (pending_in l)) me))
+          | inr after ↦ inr (after ∙ ap (λ z. z.durable) (linked ∙ ap (λ z. stepped k z (stored_in l) (pending_in l)) me))
         ] in
-        subst (λ z. Moves w p F (proposed_by_all (pending_in l)) (length (sent_stepping z (stored_in l) (pending_in l)) + length (sends_after_restart z d)) (sends_after_restart z d) nobody Up (state_after_restart z d)
-        (Reopens w p (stored_in l) (pending_in l) d)) (sym me)
-        (opened p F (crash_fits now p node) (start_fits now p node) w (stored_in l) (pending_in l) d s pending either)
+        subst (λ z. Moves k w p F (proposed_by_all (pending_in l)) (length (sent_stepping k z (stored_in l) (pending_in l)) + length (sends_as k z d)) (sends_as k z d) nobody Up (state_after_restart z d)
+        (Reopens w p k (stored_in l) (pending_in l) d)) (sym me)
+        (opened k p F (crash_fits now p node) (start_fits now p node) w (stored_in l) (pending_in l) d s pending either)
 
     goes : (e : Event) → InputsSo (Tells p F w.messages) e → MayCome l e → Goes now w p l e
     goes (does (begins c bytes)) t may = goes_quiet may (begins c bytes) (λ who i fate e. absurd cc) (λ gs e. e)
@@ -401,22 +409,27 @@ module _ (members spares : List ℕ) (counts : ℕ → ℕ) (ms : MembersInRange
     all : world (hs ++ m.happenings) ≡ run_of (world hs) m.happenings
     all = run_append (first_world members spares) hs m.happenings
 
-    next_nodes : StandTogether members spares counts (now ++ x ∷ []) (hs ++ m.happenings)
+    -- a node stays of its kind
+    kinds_go : (p : ℕ) → x.pid ≡ p → (stands (L x.pid now)).kind ≡ (stands (L p (now ++ x ∷ []))).kind
+    kinds_go p e = stands_kind members observers counts x.pid now ∙ ap (λ (q : ℕ). kind_in observers q) e ∙ sym (stands_kind members observers counts p (now ++ x ∷ []))
+
+    next_nodes : StandTogether members spares observers counts (now ++ x ∷ []) (hs ++ m.happenings)
     next_nodes p is = subst (λ v. StandsAt v p (stands (L p (now ++ x ∷ []))) (stored_in (L p (now ++ x ∷ [])))) (sym all) (elim (cases_eq x.pid p) [
       | inl e ↦ (let s = m.self in
-          let own : L p (now ++ x ∷ []) ≡ lived_by (L p now) x.event = lived_own members counts p now x e in record {
-            me = folded_me (L p (now ++ x ∷ [])).first (L p (now ++ x ∷ [])).deeds ∙ first_me members counts p (now ++ x ∷ []);
+          let own : L p (now ++ x ∷ []) ≡ lived_by (L p now) x.event = lived_own members observers counts p now x e in record {
+            me = folded_me (L p (now ++ x ∷ [])).first (L p (now ++ x ∷ [])).deeds ∙ first_me members observers counts p (now ++ x ∷ []);
             found = s.found;
-            there = subst (λ z. node_at (run_of (world hs) m.happenings).nodes z ≡ Some s.found) e s.there;
+            there = subst (λ z. seated_at (run_of (world hs) m.happenings) z ≡ Some (record { kind = (stands (L x.pid now)).kind; node = s.found })) e s.there
+                ∙ ap (λ (k : Kind). let y : Seated = record { kind = k; node = s.found } in Some y) (kinds_go p e);
             pid = s.pid ∙ e;
             state = s.state ∙ ap (λ z. stored_in (lived_by (L z now) x.event)) e ∙ ap stored_in (sym own);
             up = s.runs;
           })
       | inr n ↦ (let s = b.nodes p is in
-          let other : L p (now ++ x ∷ []) ≡ L p now = lived_other members counts p now x n in record {
+          let other : L p (now ++ x ∷ []) ≡ L p now = lived_other members observers counts p now x n in record {
             me = ap (λ z. (stands z).me) other ∙ s.me;
             found = s.found;
-            there = m.others p (λ e. n (sym e)) ∙ s.there;
+            there = m.others p (λ e. n (sym e)) ∙ s.there ∙ ap (λ (z : Lived). let y : Seated = record { kind = (stands z).kind; node = s.found } in Some y) (sym other);
             pid = s.pid;
             state = s.state ∙ ap stored_in (sym other);
             up = s.up;
@@ -438,10 +451,10 @@ module _ (members spares : List ℕ) (counts : ℕ → ℕ) (ms : MembersInRange
     next_pending : (p : ℕ) → IsNode p → AreTold (now ++ x ∷ []) (world (hs ++ m.happenings)).messages p (pending_in (L p (now ++ x ∷ [])))
     next_pending p is = subst (λ v. AreTold (now ++ x ∷ []) v.messages p (pending_in (L p (now ++ x ∷ [])))) (sym all)
         (told_later now (x ∷ []) (world hs).messages (run_of (world hs) m.happenings).messages p (pending_in (L p (now ++ x ∷ []))) m.messages (elim (cases_eq x.pid p) [
-          | inl e ↦ subst (λ (z : Lived). AreTold now (world hs).messages p (pending_in z)) (sym (lived_own members counts p now x e))
+          | inl e ↦ subst (λ (z : Lived). AreTold now (world hs).messages p (pending_in z)) (sym (lived_own members observers counts p now x e))
               (subst (λ z. AreTold now (world hs).messages z (pending_in (lived_by (L z now) x.event))) e
-              (pending_event (Tells x.pid (Fits now) (world hs).messages) (L x.pid now) x.event (begun_at members counts x.pid now) alive_then told (b.pending x.pid node)))
-          | inr n ↦ subst (λ (z : Lived). AreTold now (world hs).messages p (pending_in z)) (sym (lived_other members counts p now x n)) (b.pending p is)
+              (pending_event (Tells x.pid (Fits now) (world hs).messages) (L x.pid now) x.event (begun_at members observers counts x.pid now) alive_then told (b.pending x.pid node)))
+          | inr n ↦ subst (λ (z : Lived). AreTold now (world hs).messages p (pending_in z)) (sym (lived_other members observers counts p now x n)) (b.pending p is)
         ]))
 
     -- whether its life goes on, ends or begins
@@ -453,9 +466,9 @@ module _ (members spares : List ℕ) (counts : ℕ → ℕ) (ms : MembersInRange
 
     next_linked : (p : ℕ) → IsNode p → IsLinked (L p (now ++ x ∷ []))
     next_linked p is = elim (cases_eq x.pid p) [
-      | inl e ↦ subst IsLinked (sym (lived_own members counts p now x e)) (subst (λ z. IsLinked (lived_by (L z now) x.event)) e
-          (linked_event (L x.pid now) x.event (begun_at members counts x.pid now) (subst Begun (lived_own members counts x.pid now x refl) (begun_at members counts x.pid (now ++ x ∷ []))) may))
-      | inr n ↦ subst IsLinked (sym (lived_other members counts p now x n)) (b.linked p is)
+      | inl e ↦ subst IsLinked (sym (lived_own members observers counts p now x e)) (subst (λ z. IsLinked (lived_by (L z now) x.event)) e
+          (linked_event (L x.pid now) x.event (begun_at members observers counts x.pid now) (subst Begun (lived_own members observers counts x.pid now x refl) (begun_at members observers counts x.pid (now ++ x ∷ []))) may))
+      | inr n ↦ subst IsLinked (sym (lived_other members observers counts p now x n)) (b.linked p is)
     ]
 
     -- what a life gave out at its last event
@@ -479,11 +492,11 @@ module _ (members spares : List ℕ) (counts : ℕ → ℕ) (ms : MembersInRange
 
     now_messages : (p : ℕ) → IsNode p → (d : ℕ) (msg : Msg) → Contains (sent_in (L p (now ++ x ∷ [])).first (L p (now ++ x ∷ [])).deeds) (d, msg) → Numbered (run_of (world hs) m.happenings).messages (sent_between p d msg)
     now_messages p is d msg c = elim (cases_eq x.pid p) [
-      | inl e ↦ elim (sent_event (L p now) x.event (d, msg) (subst (λ (l : Lived). Contains (sent_in l.first l.deeds) (d, msg)) (lived_own members counts p now x e) c)) [
+      | inl e ↦ elim (sent_event (L p now) x.event (d, msg) (subst (λ (l : Lived). Contains (sent_in l.first l.deeds) (d, msg)) (lived_own members observers counts p now x e) c)) [
         | inl old ↦ still (sent_between p d msg) (b.messages now [] (sym (append-nil now)) p is d msg old)
         | inr new ↦ subst (λ z. Contains {X = ℕ × Msg} (sent_then (L z now) x.event) (d, msg) → Numbered (run_of (world hs) m.happenings).messages (sent_between z d msg)) e (m.given d msg) new
       ]
-      | inr n ↦ still (sent_between p d msg) (b.messages now [] (sym (append-nil now)) p is d msg (subst (λ (l : Lived). Contains (sent_in l.first l.deeds) (d, msg)) (lived_other members counts p now x n) c))
+      | inr n ↦ still (sent_between p d msg) (b.messages now [] (sym (append-nil now)) p is d msg (subst (λ (l : Lived). Contains (sent_in l.first l.deeds) (d, msg)) (lived_other members observers counts p now x n) c))
     ]
 
     next_messages : (before since : List Happened) → now ++ x ∷ [] ≡ before ++ since → (p : ℕ) → IsNode p → (d : ℕ) (msg : Msg) → Contains (sent_in (L p before).first (L p before).deeds) (d, msg) → Numbered (world (hs ++ m.happenings)).messages (sent_between p d msg)
@@ -494,11 +507,11 @@ module _ (members spares : List ℕ) (counts : ℕ → ℕ) (ms : MembersInRange
 
     next_replies : (read : Bool) (p : ℕ) → IsNode p → (r : Reply) → Contains (answered_in read (L p (now ++ x ∷ [])).first (L p (now ++ x ∷ [])).deeds) r → Contains (world (hs ++ m.happenings)).lines (told_line read p r)
     next_replies read p is r c = subst (λ v. Contains v.lines (told_line read p r)) (sym all) (elim (cases_eq x.pid p) [
-      | inl e ↦ elim (replied_event read (L p now) x.event r (subst (λ (l : Lived). Contains (answered_in read l.first l.deeds) r) (lived_own members counts p now x e) c)) [
+      | inl e ↦ elim (replied_event read (L p now) x.event r (subst (λ (l : Lived). Contains (answered_in read l.first l.deeds) r) (lived_own members observers counts p now x e) c)) [
         | inl old ↦ m.lines (told_line read p r) (b.replies read p is r old)
         | inr new ↦ subst (λ z. Contains (answered_then (L z now) x.event read) r → Contains (run_of (world hs) m.happenings).lines (told_line read z r)) e (m.replied read r) new
       ]
-      | inr n ↦ m.lines (told_line read p r) (b.replies read p is r (subst (λ (l : Lived). Contains (answered_in read l.first l.deeds) r) (lived_other members counts p now x n) c))
+      | inr n ↦ m.lines (told_line read p r) (b.replies read p is r (subst (λ (l : Lived). Contains (answered_in read l.first l.deeds) r) (lived_other members observers counts p now x n) c))
     ])
 
     -- what is answered then is in range
@@ -525,11 +538,11 @@ module _ (members spares : List ℕ) (counts : ℕ → ℕ) (ms : MembersInRange
 
     next_answers : (read : Bool) (p : ℕ) → IsNode p → (r : Reply) → Contains (answered_in read (L p (now ++ x ∷ [])).first (L p (now ++ x ∷ [])).deeds) r → known.ReplyInRange IsPid r
     next_answers read p is r c = elim (cases_eq x.pid p) [
-      | inl e ↦ elim (replied_event read (L p now) x.event r (subst (λ (l : Lived). Contains (answered_in read l.first l.deeds) r) (lived_own members counts p now x e) c)) [
+      | inl e ↦ elim (replied_event read (L p now) x.event r (subst (λ (l : Lived). Contains (answered_in read l.first l.deeds) r) (lived_own members observers counts p now x e) c)) [
         | inl old ↦ b.answers read p is r old
         | inr new ↦ event_answers x.event may heard told read r (subst (λ z. Contains (answered_then (L z now) x.event read) r) (sym e) new)
       ]
-      | inr n ↦ b.answers read p is r (subst (λ (l : Lived). Contains (answered_in read l.first l.deeds) r) (lived_other members counts p now x n) c)
+      | inr n ↦ b.answers read p is r (subst (λ (l : Lived). Contains (answered_in read l.first l.deeds) r) (lived_other members observers counts p now x n) c)
     ]
 
     next_asked : (c : Command) → IsAmong (commands_in (hs ++ m.happenings)) c → AskedBy (now ++ x ∷ []) (request.Command c)
@@ -569,11 +582,11 @@ module _ (members spares : List ℕ) (counts : ℕ → ℕ) (ms : MembersInRange
 
     next_held : (p : ℕ) → IsNode p → Each (AllTakenBy (now ++ x ∷ [])) (pending_in (L p (now ++ x ∷ [])))
     next_held p is = elim (cases_eq x.pid p) [
-      | inl e ↦ subst (λ (z : Lived). Each (AllTakenBy (now ++ x ∷ [])) (pending_in z)) (sym (lived_own members counts p now x e))
+      | inl e ↦ subst (λ (z : Lived). Each (AllTakenBy (now ++ x ∷ [])) (pending_in z)) (sym (lived_own members observers counts p now x e))
           (subst (λ z. Each (AllTakenBy (now ++ x ∷ [])) (pending_in (lived_by (L z now) x.event))) e
-          (pending_added (AllTakenBy (now ++ x ∷ [])) (L x.pid now) x.event (begun_at members counts x.pid now) alive_then (all_taken_now x.event taken_now)
+          (pending_added (AllTakenBy (now ++ x ∷ [])) (L x.pid now) x.event (begun_at members observers counts x.pid now) alive_then (all_taken_now x.event taken_now)
           (all_taken_later now (x ∷ []) (pending_in (L x.pid now)) (b.held x.pid node))))
-      | inr n ↦ subst (λ (z : Lived). Each (AllTakenBy (now ++ x ∷ [])) (pending_in z)) (sym (lived_other members counts p now x n))
+      | inr n ↦ subst (λ (z : Lived). Each (AllTakenBy (now ++ x ∷ [])) (pending_in z)) (sym (lived_other members observers counts p now x n))
           (all_taken_later now (x ∷ []) (pending_in (L p now)) (b.held p is))
     ]
 
@@ -615,8 +628,8 @@ module _ (members spares : List ℕ) (counts : ℕ → ℕ) (ms : MembersInRange
 
   -- ---- a cluster
 
-  module _ (trace : List Happened) (c : IsCluster members spares counts trace) where
-    messages_front : (before xs ys : List Happened) → messages_behind members counts before xs ≤ messages_behind members counts before (xs ++ ys)
+  module _ (trace : List Happened) (c : IsCluster members spares observers counts trace) where
+    messages_front : (before xs ys : List Happened) → messages_behind members observers counts before xs ≤ messages_behind members observers counts before (xs ++ ys)
     messages_front before [] ys = omega arith
     messages_front before (x ∷ xs) ys = let k = messages_front (before ++ x ∷ []) xs ys in omega (arith, k)
 
@@ -624,7 +637,7 @@ module _ (members spares : List ℕ) (counts : ℕ → ℕ) (ms : MembersInRange
     few_then now later hs split b =
         let o = b.count in
         let front = messages_front [] now later in
-        let whole = ap (messages_behind members counts []) split in
+        let whole = ap (messages_behind members observers counts []) split in
         let most = c.messages in
         omega (arith, o, front, whole, most)
 
@@ -636,7 +649,7 @@ module _ (members spares : List ℕ) (counts : ℕ → ℕ) (ms : MembersInRange
 
     read_then : (now later : List Happened) (hs : List Happening) → trace ≡ now ++ later → Beside now hs → (p q : ℕ) (msg : Msg) → IsNode p → WasRead p (L p now).deeds q msg
         → IsNode q × ((before since : List Happened) × (now ≡ before ++ since) × Contains (sent_in (L q before).first (L q before).deeds) (p, msg))
-    read_then now later hs split b p q msg is was = read_was_given members spares counts trace c now later split (can_then now hs b) p q msg is was
+    read_then now later hs split b p q msg is was = read_was_given members spares observers counts trace c now later split (can_then now hs b) p q msg is was
 
     numbered_then : (now later : List Happened) (hs : List Happening) → trace ≡ now ++ later → Beside now hs → (p : ℕ) → IsNode p → (who : List ℕ) (i : Input) → WasHeard p (L p now).deeds who i
         → (q : ℕ) (msg : Msg) → i ≡ input.Deliver q msg → Numbered (world hs).messages (sent_between q p msg)
@@ -652,10 +665,10 @@ module _ (members spares : List ℕ) (counts : ℕ → ℕ) (ms : MembersInRange
     next_life : (now later : List Happened) (p : ℕ) (e : Event) → trace ≡ now ++ record { pid = p; event = e } ∷ later → IsNode p → IsLife (lived_by (L p now) e)
     next_life now later p e split is =
         let x : Happened = record { pid = p; event = e } in
-        subst IsLife (lived_own members counts p now x refl) (c.lives (now ++ x ∷ []) later (split ∙ sym (append_assoc now (x ∷ []) later)) p is)
+        subst IsLife (lived_own members observers counts p now x refl) (c.lives (now ++ x ∷ []) later (split ∙ sym (append_assoc now (x ∷ []) later)) p is)
 
     cause_next : (now later : List Happened) (p : ℕ) (d : Deed) → trace ≡ now ++ record { pid = p; event = does d } ∷ later → IsNode p → IsCaused p (L p now).first (L p now).deeds d
-    cause_next now later p d split is = cause_last p (L p now) d (first_me members counts p now) (next_life now later p (does d) split is).serves
+    cause_next now later p d split is = cause_last p (L p now) d (first_me members observers counts p now) (next_life now later p (does d) split is).serves
 
     heard_next : (now later : List Happened) (p : ℕ) (e : Event) → trace ≡ now ++ record { pid = p; event = e } ∷ later → IsNode p → HeardSo p (L p now).deeds e
     heard_next now later p (does (begins d bytes)) split is = tt
@@ -667,7 +680,7 @@ module _ (members spares : List ℕ) (counts : ℕ → ℕ) (ms : MembersInRange
     heard_next now later p (killed bs) split is =
         let k = (c.may now later (record { pid = p; event = killed bs }) split).1 in
         subst (Each (λ b. WasHeard p (L p now).deeds b.0 b.1)) k.1 (heard_coming p (L p now).first (L p now).deeds k.0
-        (subst (λ z. AreCaused z (L p now).first ((L p now).deeds ++ map (λ x. enters x.0.0 x.0.1 x.1) k.0)) (first_me members counts p now) (deeds_are_caused (L p now).first ((L p now).deeds ++ map (λ x. enters x.0.0 x.0.1 x.1) k.0) k.2)))
+        (subst (λ z. AreCaused z (L p now).first ((L p now).deeds ++ map (λ x. enters x.0.0 x.0.1 x.1) k.0)) (first_me members observers counts p now) (deeds_are_caused (L p now).first ((L p now).deeds ++ map (λ x. enters x.0.0 x.0.1 x.1) k.0) k.2)))
     heard_next now later p (opens d count) split is = tt
 
     -- an input that was heard may be told of
@@ -706,7 +719,7 @@ module _ (members spares : List ℕ) (counts : ℕ → ℕ) (ms : MembersInRange
 
     -- behind these, events have become happenings
     abbrev pub Become : List Happened → List Happening → List Happened → List Happening → Type 0
-    Become before hs mid gs = BecomeBehind members spares counts before hs mid gs
+    Become before hs mid gs = BecomeBehind members spares observers counts before hs mid gs
 
     -- at each moment of these
     abbrev pub Moments : List Happened → List Happening → List Happened → List Happening → Type 0
@@ -763,13 +776,17 @@ module _ (members spares : List ℕ) (counts : ℕ → ℕ) (ms : MembersInRange
         let one = one_more before hs b x is (may_next before mid x.pid x.event split is) heard (told_next before (x ∷ mid) hs x.pid x.event split b is heard) in
         run_behind before mid hs x b one.0 one.2 (run_from (before ++ x ∷ []) mid (hs ++ one.0) (split ∙ sym (append_assoc before (x ∷ []) mid)) one.1)
 
-    pub whole : Run [] [] trace
-    whole = run_from [] trace [] refl begins_beside
+    pub whole : Run [] (begun observers) trace
+    whole = run_from [] trace (begun observers) refl begins_beside
 
-    in_range : HappeningsInRange whole.more
+    -- all happenings of the run, with the starts of its observers
+    abbrev pub happenings : List Happening
+    happenings = begun observers ++ whole.more
+
+    in_range : HappeningsInRange happenings
     in_range = record { few = (let a = whole.end.proposals in let b = c.proposals in omega (arith, a, b)); each = whole.end.range }
 
-    pub moment_of : (now : List Happened) (first last : List Happening) → whole.more ≡ first ++ last → Beside now first → IsMoment members spares counts now first
+    pub moment_of : (now : List Happened) (first last : List Happening) → happenings ≡ first ++ last → Beside now first → IsMoment members spares observers counts now first
     moment_of now first last e b =
         let t : Execution = execution_of (first_execution members spares) first in
         let run : RunInRange members spares first = front_in_range members spares first last (subst (λ l. RunInRange members spares l) e (record { first = ms; others = ss; happenings = in_range })) in
@@ -781,16 +798,21 @@ module _ (members spares : List ℕ) (counts : ℕ → ℕ) (ms : MembersInRange
               (subst (λ v. Contains v.lines (answer_line p r.client r.seq r.answer)) (sym (world_of_run (first_execution members spares) first)) (b.replies false p is r c)));
         }
 
-    pub is_run : IsRun members spares counts trace whole.more
+    -- the happenings of a first part are the first of all
+    pub front_of : (first last : List Happening) → whole.more ≡ first ++ last → happenings ≡ (begun observers ++ first) ++ last
+    front_of first last e = ap (λ (l : List Happening). begun observers ++ l) e ∙ sym (append_assoc (begun observers) first last)
+
+    pub is_run : IsRun members spares observers counts trace happenings
     is_run = record {
-      moments = λ now later e. let j = whole.moments now later e in (j.0, j.1, j.2, moment_of now j.0 j.1 j.2 j.3);
+      moments = λ now later e. (let j = whole.moments now later e in
+          let front = front_of j.0 j.1 j.2 in (begun observers ++ j.0, j.1, front, moment_of now (begun observers ++ j.0) j.1 front j.3));
       range = in_range;
-      meets = every_run_meets members spares ms ss whole.more in_range;
+      meets = every_run_meets members spares ms ss happenings in_range;
     }
 
-    pub deliveries_were_given : DeliveriesWereGiven members spares counts trace
+    pub deliveries_were_given : DeliveriesWereGiven members spares observers counts trace
     deliveries_were_given early later p q msg who fate split =
         let x : Happened = record { pid = p; event = does (enters who (input.Deliver q msg) fate) } in
         let j = whole.moments early (x ∷ later) split in
         let is : IsNode p = all_at (λ y. IsNode y.pid) early x later (subst (λ l. All (λ y. IsNode y.pid) l) split c.nodes) in
-        read_then early (x ∷ later) j.0 split j.3 p q msg is (cause_next early later p (enters who (input.Deliver q msg) fate) split is).0
+        read_then early (x ∷ later) (begun observers ++ j.0) split j.3 p q msg is (cause_next early later p (enters who (input.Deliver q msg) fate) split is).0

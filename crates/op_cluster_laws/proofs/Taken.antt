@@ -21,7 +21,8 @@ use Rattle.op_protocol.specs.State.{State, Volatile, Planned, with_effects}
 use Rattle.op_runs.specs.declared.events.What.{What}
 use Rattle.op_runs.specs.declared.events.What.TheVariants as what
 use Rattle.op_runs.specs.Run.{Execution, execution_of}
-use Rattle.op_runs.specs.World.{World, Sent, Happening, Done, run_of, node_at}
+use Rattle.op_runs.specs.Schedules.{seated_at}
+use Rattle.op_runs.specs.World.{Kind, Votes, Observes, World, Node, Sent, Happening, Done, run_of, node_at}
 use Rattle.op_laws.proofs.Drops.{from_both}
 use Rattle.op_serving.specs.Cores.{Failure, Standing, gives}
 use Rattle.op_serving.specs.Fates as fates
@@ -30,6 +31,7 @@ use Rattle.op_cluster_laws.specs.Becoming.{Says, ticks, delivers, proposes, stop
 use Rattle.op_cluster_laws.specs.Taken.{Brings, IsNoRefusal, TakesIn}
 use Rattle.op_cluster_laws.specs.Traces.{Event, does, ends, killed, opens, Lived, stands, stored_in, pending_in}
 use Rattle.op_cluster_laws.specs.Worlds.{StandsAt}
+use Rattle.op_cluster_laws.proofs.Happenings.{seat_node, seat_observer}
 use Rattle.op_cluster_laws.proofs.Pending.{stored_up}
 use Rattle.op_cluster_laws.proofs.Proposing.{commands_of, commands_in, commands_more, Free, FreeAt, ComesIn, come_among}
 
@@ -68,9 +70,15 @@ not_refused me s cs free =
     subst IsNoRefusal (sym (closed_so me s.durable.part x))
     (proposed_so me s.durable.part s.volatile (entries_of cs) (refusal_of me s.volatile.role s.durable (entries_of cs)) free (part_there me s.volatile.role s.durable (entries_of cs) free))
 
-not_refused_by : (n : Standing) (cs : List Command) → n.failed ≡ None → Free n.me n.state cs → IsNoRefusal (gives n (input.Commands cs)).outcome
+not_refused_by : (n : Standing) (cs : List Command) → n.kind ≡ Votes → n.failed ≡ None → Free n.me n.state cs → IsNoRefusal (gives n (input.Commands cs)).outcome
 unfolding gives
-not_refused_by n cs up free = rw up (not_refused n.me n.state cs free)
+not_refused_by n cs votes up free = rw up (rw votes (not_refused n.me n.state cs free))
+
+-- who takes commands in votes: an observer is no node of the world
+free_node : (w : World) (p : ℕ) (k : Kind) (n : Node) (cs : List Command) → seated_at w p ≡ Some (record { kind = k; node = n }) → FreeAt (node_at w.nodes p) cs
+    → (k ≡ Votes) × Free n.pid n.state cs
+free_node w p Votes n cs there free = (refl, subst (λ o. FreeAt o cs) (seat_node w p n there) free)
+free_node w p Observes n cs there free = absurd (subst (λ o. FreeAt o cs) (seat_observer w p n there).0 free)
 
 -- ---- the inputs of happenings
 
@@ -110,8 +118,8 @@ module _ (b : Command) where
         | inr later ↦ (let a = steps_bring is (run_of w first) p rest more later in (a.0, inr a.1, a.2))
       ]
 
-  reopen_brings : (w : World) (p : ℕ) (s : State) (is : List Input) (d : Durable) (hs : List Happening) → Reopens w p s is d hs → IsAmong (commands_in hs) b → IsBroughtBy is
-  reopen_brings w p s is d hs (steps, split, either) k =
+  reopen_brings : (w : World) (p : ℕ) (seat : Kind) (s : State) (is : List Input) (d : Durable) (hs : List Happening) → Reopens w p seat s is d hs → IsAmong (commands_in hs) b → IsBroughtBy is
+  reopen_brings w p seat s is d hs (steps, split, either) k =
       elim (from_both b (commands_in steps) (commands_in (anew p)) (subst (λ l. IsAmong l b) (commands_more steps (anew p)) (subst (λ l. IsAmong (commands_in l) b) split k))) [
         | inl here ↦ elim either [
           | inl none ↦ absurd (subst (λ l. IsAmong (commands_in l) b) none.0 here)
@@ -157,10 +165,11 @@ module _ (b : Command) (t : Execution) (p : ℕ) (l : Lived) (s : StandsAt t.wor
       let said = says_commands t.world.messages p c.pid i one.0 c.together one.1 is_commands in
       let then_free : FreeAt (node_at t.world.nodes c.pid) c.together = subst (λ hs. FreeAt (node_at (execution_of t hs).world.nodes c.pid) c.together) two.0 c.free in
       let here_free : FreeAt (node_at t.world.nodes p) c.together = subst (λ q. FreeAt (node_at t.world.nodes q) c.together) (sym said.1) then_free in
-      let found_free : Free s.found.pid s.found.state c.together = subst (λ o. FreeAt o c.together) s.there here_free in
+      let votes = free_node t.world p (stands l).kind s.found c.together s.there here_free in
+      let found_free : Free s.found.pid s.found.state c.together = votes.1 in
       let state_free : Free s.found.pid (stands l).state c.together = subst (λ z. Free s.found.pid z c.together) (s.state ∙ stored_up l alive up) found_free in
       let own_free : Free (stands l).me (stands l).state c.together = subst (λ z. Free z (stands l).state c.together) (s.pid ∙ sym s.me) state_free in
-      (subst (Brings b) (sym said.0) c.among, subst (λ z. IsNoRefusal (gives (stands l) z).outcome) (sym said.0) (not_refused_by (stands l) c.together up own_free))
+      (subst (Brings b) (sym said.0) c.among, subst (λ z. IsNoRefusal (gives (stands l) z).outcome) (sym said.0) (not_refused_by (stands l) c.together votes.0 up own_free))
 
   comes_fate : (who : List ℕ) (i : Input) (fate : fates.Fate) (hs : List Happening) (conf : ℕ) → l.left ≡ None → OfFate t.world p (stands l) (stored_in l) (pending_in l) i fate hs → ComesIn t hs conf b
       → ComesSo (does (enters who i fate))
@@ -169,7 +178,7 @@ module _ (b : Command) (t : Execution) (p : ℕ) (l : Lived) (s : StandsAt t.wor
       by_failed : (o : Option Failure) → (stands l).failed ≡ o → ComesSo (does (enters who i fates.done))
       by_failed None e = inl (step_takes who i hs conf alive e (done_up t.world p (stands l) (stored_in l) (pending_in l) i hs (stands l).failed e of) c)
       by_failed (Some f) e = absurd (none_comes hs conf (done_down t.world p (stands l) (stored_in l) (pending_in l) i hs (stands l).failed f e of) c)
-  comes_fate who i (fates.finds d) hs conf alive of c = inr (reopen_brings b t.world p (stored_in l) (pending_in l) d hs of (come_among b t hs conf c))
+  comes_fate who i (fates.finds d) hs conf alive of c = inr (reopen_brings b t.world p (stands l).kind (stored_in l) (pending_in l) d hs of (come_among b t hs conf c))
   comes_fate who i (fates.faults k) hs conf alive of c = absurd (none_comes hs conf of c)
   comes_fate who i (fates.shares k) hs conf alive of c = absurd (none_comes hs conf of c)
   comes_fate who i fates.damaged hs conf alive of c = absurd (none_comes hs conf of c)
@@ -183,4 +192,4 @@ module _ (b : Command) (t : Execution) (p : ℕ) (l : Lived) (s : StandsAt t.wor
   comes_at (does (takes c bytes)) hs conf alive of k = absurd (none_comes hs conf of k)
   comes_at ends hs conf alive of k = absurd (none_comes hs conf of k)
   comes_at (killed bs) hs conf alive of k = absurd (none_comes hs conf of k)
-  comes_at (opens d count) hs conf alive of k = inr (reopen_brings b t.world p (stored_in l) (pending_in l) d hs of (come_among b t hs conf k))
+  comes_at (opens d count) hs conf alive of k = inr (reopen_brings b t.world p (stands l).kind (stored_in l) (pending_in l) d hs of (come_among b t hs conf k))

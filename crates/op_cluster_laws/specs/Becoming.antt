@@ -10,7 +10,8 @@ use Rattle.op_runs.specs.declared.events.What.TheVariants as what
 use Rattle.op_runs.specs.declared.summary.Line.{Line}
 use Rattle.op_runs.specs.declared.summary.Line.TheVariants as line
 use Rattle.op_protocol.specs.State.{State}
-use Rattle.op_runs.specs.World.{World, Sent, Happening, Fate, Done, answer_line, first_world, run_of}
+use Rattle.op_runs.specs.Schedules.{begun}
+use Rattle.op_runs.specs.World.{Kind, World, Sent, Happening, Fate, Done, answer_line, first_world, run_of}
 use Rattle.op_serving.specs.Cores.{Standing}
 use Rattle.op_serving.specs.Fates as fates
 use Rattle.op_serving.specs.Inputs.{enters}
@@ -70,32 +71,38 @@ anew p = fated_happening (what.Crash p) Done false ∷ fated_happening (what.Sta
 
 -- Its disks are opened again, and give this: what it had stored; or what lies behind the inputs that were to
 -- be stored together, which then are steps. It is a crash and a start.
-abbrev pub Reopens : World → ℕ → State → List Input → Durable → List Happening → Type 0
-Reopens w p s is d hs =
+abbrev pub Reopens : World → ℕ → Kind → State → List Input → Durable → List Happening → Type 0
+Reopens w p k s is d hs =
     (steps : List Happening) × (hs ≡ steps ++ anew p)
-    × ((IsNone steps × (d ≡ s.durable)) ⊎ (AreSteps w p is steps × (d ≡ (stepped p s is).durable)))
+    × ((IsNone steps × (d ≡ s.durable)) ⊎ (AreSteps w p is steps × (d ≡ (stepped k p s is).durable)))
 
 -- An input of this fate: done, it is a step, unless the node has failed and refuses it; or the node is opened
 -- again. What is lost, or is to be stored and isn't, is nothing.
 abbrev pub OfFate : World → ℕ → Standing → State → List Input → Input → fates.Fate → List Happening → Type 0
 OfFate w p n s is i fates.done = elim n.failed [ None ↦ IsStep w p i | Some f ↦ IsNone ]
-OfFate w p n s is i (fates.finds d) = Reopens w p s is d
+OfFate w p n s is i (fates.finds d) = Reopens w p n.kind s is d
 OfFate w p n s is i _ = IsNone
 
 -- an event at a node in this life
 abbrev pub EventBecomes : World → ℕ → Lived → Event → List Happening → Type 0
 EventBecomes w p l (does (enters who i fate)) = OfFate w p (stands l) (stored_in l) (pending_in l) i fate
-EventBecomes w p l (opens d count) = Reopens w p (stored_in l) (pending_in l) d
+EventBecomes w p l (opens d count) = Reopens w p (stands l).kind (stored_in l) (pending_in l) d
 EventBecomes w p l _ = IsNone
 
 -- ---- a trace
 
 -- Behind these things, which have become these happenings, the next ones become those.
-abbrev pub BecomeBehind : List ℕ → List ℕ → (ℕ → ℕ) → List Happened → List Happening → List Happened
-    → List Happening → Type 0
-BecomeBehind members spares faulted before hs [] gs = IsNone gs
-BecomeBehind members spares faulted before hs (x ∷ xs) gs =
+abbrev pub BecomeBehind : List ℕ → List ℕ → List ℕ → (ℕ → ℕ) → List Happened → List Happening
+    → List Happened → List Happening → Type 0
+BecomeBehind members spares observers faulted before hs [] gs = IsNone gs
+BecomeBehind members spares observers faulted before hs (x ∷ xs) gs =
     (first rest : List Happening) × (gs ≡ first ++ rest)
-    × EventBecomes (run_of (first_world members spares) hs) x.pid (lived_at members faulted x.pid before)
-    x.event first
-    × BecomeBehind members spares faulted (before ++ x ∷ []) (hs ++ first) xs rest
+    × EventBecomes (run_of (first_world members spares) hs) x.pid
+    (lived_at members observers faulted x.pid before) x.event first
+    × BecomeBehind members spares observers faulted (before ++ x ∷ []) (hs ++ first) xs rest
+
+-- a trace becomes these happenings, behind those in which the observers begin
+abbrev pub TraceBecomes : List ℕ → List ℕ → List ℕ → (ℕ → ℕ) → List Happened → List Happening → Type 0
+TraceBecomes members spares observers faulted trace hs =
+    (later : List Happening) × (hs ≡ begun observers ++ later)
+    × BecomeBehind members spares observers faulted [] (begun observers) trace later

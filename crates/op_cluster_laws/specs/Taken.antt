@@ -7,7 +7,7 @@ use Rattle.op_types.specs.declared.events.Input.{Input}
 use Rattle.op_types.specs.declared.events.Input.TheVariants as input
 use Rattle.op_types.specs.declared.log.Command.{Command}
 use Rattle.op_spec.specs.Machine.{IsAmong}
-use Rattle.op_runs.specs.World.{node_ids}
+use Rattle.op_runs.specs.Possible.{server_ids}
 use Rattle.op_serving.specs.Cores.{Standing, gives}
 use Rattle.op_serving.specs.Fates.{Fate, done, faults, shares}
 use Rattle.op_serving.specs.Inputs.{Brought, enters}
@@ -39,7 +39,8 @@ TakesIn b l (killed bs) = (x : Brought) × IsAmong bs x × Brings b x.1
 TakesIn b l _ = ⊥
 
 -- by this moment a node has taken it in, in one of its lives
-abbrev pub WasTakenIn : List ℕ → List ℕ → (ℕ → ℕ) → List Happened → Command → Type 0
-WasTakenIn members spares faulted now b =
+abbrev pub WasTakenIn : List ℕ → List ℕ → List ℕ → (ℕ → ℕ) → List Happened → Command → Type 0
+WasTakenIn members spares observers faulted now b =
     (before since : List Happened) × (x : Happened) × (now ≡ before ++ x ∷ since)
-    × IsMember (node_ids members spares) x.pid × TakesIn b (lived_at members faulted x.pid before) x.event
+    × IsMember (server_ids members spares observers) x.pid
+    × TakesIn b (lived_at members observers faulted x.pid before) x.event

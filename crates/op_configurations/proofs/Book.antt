@@ -11,11 +11,11 @@ use Rattle.op_paxos.specs.Worlds as paxos
 use Rattle.op_configurations.proofs.Among.{In}
 use Rattle.op_paxos.specs.Agreement.{IsPrefix, decided_log}
 use Rattle.op_paxos.proofs.Updates.{upd_at, upd_both}
-use Rattle.op_configurations.specs.Servers.{Part, State, Fate, Ticks, TicksAlone, Proposes, Trims, Links, Unlinks, Reads, may_propose, ReadsLong}
+use Rattle.op_configurations.specs.Servers.{Part, State, Fate, Ticks, TicksAlone, Proposes, Trims, Links, Unlinks, Reads, may_propose, ReadsLong, Notes}
 use Rattle.op_configurations.specs.Worlds.{Life, Running, Down, World, Happening, At, Delivers, Stops, Opens, happens, run, start, entries_in, decided_in, actor, proposed_in, proposed_at, proposed_by, shown_by, machine_showing, machine_with, machine_after, machine_of, DeliversLong}
 use Rattle.op_configurations.proofs.Fronts.{none_some, some_same, front_refl, front_trans, front_nil, front_same, either_shorter}
 use Rattle.op_configurations.proofs.Runs.{told_here, told_fronts, decided_length}
-use Rattle.op_configurations.proofs.Tale.{Tale, inst, ToldIn, TaleOk, EventOk, Onward, told_on}
+use Rattle.op_configurations.proofs.Tale.{Tale, inst, ToldIn, TaleOk, Onward, told_on}
 use Rattle.op_configurations.proofs.Rising.{Rises, rises_same, rises_on, decided_entries}
 use Rattle.op_configurations.proofs.Acting.{LowState, LowAt}
 use Rattle.op_configurations.specs.Laws.{Keeps}
@@ -107,6 +107,7 @@ module _ (m : Machine) (t : Tale) (w : World) where
   proposing (At f p Trims) = (same_machine m, tt)
   proposing (At f p (Links q)) = (same_machine m, tt)
   proposing (At f p (Unlinks q)) = (same_machine m, tt)
+  proposing (At f p (Notes xs)) = (same_machine m, tt)
   proposing (At f p (Reads n x)) = (same_machine m, tt)
   proposing (At f p (ReadsLong n total x)) = (same_machine m, tt)
   proposing (Delivers f n) = (same_machine m, tt)

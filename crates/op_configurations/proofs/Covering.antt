@@ -3,11 +3,11 @@ use Rattle.std.proofs.Common.{◌≡◌, ℕ, ◌≤◌, ⊎_elim, max, List, []
 use Rattle.std.specs.Prelude.{fold, slice_get, nat_eq}
 use Rattle.op_spec.specs.Ledger.{machine_proposing}
 use Rattle.std.specs.Set.{is_member}
-use Rattle.std.proofs.lemmas.Bool.{cond_both, cases_eq, cases_Bool, eq-eqb, ne_eqb, or_left, or_right, both_ways}
+use Rattle.std.proofs.lemmas.Bool.{cond_both, cases_eq, eq-eqb, or_left, or_right, both_ways}
 use Rattle.op_types.specs.declared.log.Entry.{Entry}
 use Rattle.op_spec.specs.Machine.{Machine, IsSame, first_machine, with_at}
 use Rattle.op_paxos.proofs.Updates.{upd_other}
-use Rattle.op_configurations.specs.Servers.{Part, State, Letter, Fate, Done, Stopped, Event, Reads, new_part, may_propose, Proposes, Ticks, TicksAlone, Trims, Links, Unlinks, ReadsLong}
+use Rattle.op_configurations.specs.Servers.{Part, State, Letter, Fate, Done, Stopped, Event, Reads, new_part, may_propose, Proposes, Ticks, TicksAlone, Trims, Links, Unlinks, ReadsLong, Notes}
 use Rattle.op_configurations.specs.Worlds.{Life, Running, Down, Server, World, Happening, At, Delivers, Stops, Opens, is_letter, stepped, at_server, delivered, stops, opened, opens, happens, run, start, decided_in, entries_in, has_part, machine_showing, reader, actor, proposed_in, proposed_at, proposed_by, shown_by, machine_with, machine_after, machine_of, DeliversLong}
 use Rattle.op_configurations.proofs.Fronts.{none_some, some_same, front_length}
 use Rattle.op_configurations.proofs.Rising.{entries_told}
@@ -87,6 +87,7 @@ proposed_known m w (At f p e) P a b = at_event e (w.servers p).life
     at_event Trims l = a
     at_event (Links r) l = a
     at_event (Unlinks r) l = a
+    at_event (Notes xs) l = a
     at_event (Reads i m) l = a
     at_event (ReadsLong i total m) l = a
 

@@ -13,7 +13,7 @@ use Rattle.op_paxos.specs.Agreement.{decided_log}
 use Rattle.op_paxos.proofs.Updates.{upd_both}
 use Rattle.op_paxos.proofs.Membership.{in_append}
 use Rattle.op_paxos.proofs.Membership.{in_from_get}
-use Rattle.op_configurations.specs.Servers.{fresh, Part, State, Letter, Stepped, unchanged, Fate, Done, Stopped, Event, Ticks, TicksAlone, Proposes, Trims, Links, Unlinks, Reads, new_part, restarted, step, decided_list, latest, ReadsLong, without_stage, without_pieces, Joining}
+use Rattle.op_configurations.specs.Servers.{fresh, Part, State, Letter, Stepped, unchanged, Fate, Done, Stopped, Event, Ticks, TicksAlone, Proposes, Trims, Links, Unlinks, Reads, new_part, restarted, step, decided_list, latest, ReadsLong, without_stage, without_pieces, Joining, Notes}
 use Rattle.op_configurations.specs.Worlds.{Life, Running, Down, Server, World, Happening, At, Delivers, Stops, Opens, with_server, stepped, at_server, delivered, stops, found, opening_fate, opened, opens, happens, start, entries_in, reader, actor, inner_of, events_in, DeliversLong}
 use Rattle.op_configurations.proofs.Fronts.{none_some, some_same}
 use Rattle.op_configurations.proofs.Tale.{Tale, inst, TaleOk, PartOk, Before, StateOk, LetterOk, EventOk, Onward, same_onward, onward_on, letter_on, event_on, state_on, JoiningOk}
@@ -250,6 +250,7 @@ module _ (first : List ℕ) (pr : ℕ → List Entry) (t : Tale) (w : World) (go
   happens_goes (At f p Trims) k = at_goes f p (w.servers p).life Trims refl (λ x. tt)
   happens_goes (At f p (Links q)) k = at_goes f p (w.servers p).life (Links q) refl (λ x. tt)
   happens_goes (At f p (Unlinks q)) k = at_goes f p (w.servers p).life (Unlinks q) refl (λ x. tt)
+  happens_goes (At f p (Notes xs)) k = at_goes f p (w.servers p).life (Notes xs) refl (λ x. tt)
   happens_goes (At f p (Reads n m)) k = goes_none (Some p)
   happens_goes (At f p (ReadsLong n total m)) k = goes_none (Some p)
   happens_goes (Delivers f n) k = delivered_goes f n (Reads n) (slice_get w.soup n) refl (λ m a b. (a, refl, b))
@@ -278,6 +279,7 @@ widened first pr pr' t w up good =
     event_up p st Trims h = tt
     event_up p st (Links q) h = tt
     event_up p st (Unlinks q) h = tt
+    event_up p st (Notes xs) h = tt
 
 -- ---- the start
 

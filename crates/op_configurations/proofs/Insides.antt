@@ -7,7 +7,7 @@ use Rattle.op_types.specs.declared.log.Entry.{Entry}
 use Rattle.op_paxos.specs.Worlds as paxos
 use Rattle.op_paxos.specs.Messages.{Msg, Packet, packet}
 use Rattle.op_paxos.specs.Worlds.{Input, Elected, Proposal, Comes, Up, CutOff, Down, Starts, TrimNow}
-use Rattle.op_configurations.specs.Servers.{Part, Closed, Joining, State, Letter, Body, Inner, HeartbeatRequest, HeartbeatReply, NextConf, AskBase, BasePart, BasePiece, AskSegment, Segment, Fate, Done as ServerDone, Stopped as ServerStopped, Stepped, Inside, Event, Ticks, TicksAlone, Proposes, Trims, Links, Unlinks, Reads, acted, acted_in, restarted, started, based, got_segment, inner, answers_beat, takes, is_request, sought, seeks, reads, is_for_joining, is_ahead, latest, latest_in, led, ticks_in, ticks_alone_in, links_in, step, may_propose, ReadsLong, BaseStage, has_all, completed, is_piece, pieced, asks_base, answers_long}
+use Rattle.op_configurations.specs.Servers.{Part, Closed, Joining, State, Letter, Body, Inner, HeartbeatRequest, HeartbeatReply, NextConf, AskBase, BasePart, BasePiece, AskSegment, Segment, Fate, Done as ServerDone, Stopped as ServerStopped, Stepped, Inside, Event, Ticks, TicksAlone, Proposes, Trims, Links, Unlinks, Reads, acted, acted_in, restarted, started, based, got_segment, inner, answers_beat, takes, is_request, sought, seeks, reads, is_for_joining, is_ahead, latest, latest_in, led, ticks_in, ticks_alone_in, links_in, step, may_propose, ReadsLong, BaseStage, has_all, completed, is_piece, pieced, asks_base, answers_long, Notes}
 use Rattle.op_configurations.specs.Worlds.{inner_of, place_in, with_fate, plain_event, event_in}
 use Rattle.op_configurations.proofs.Inside.{inner_place}
 
@@ -189,6 +189,7 @@ module _ (f : Fate) (p : ℕ) (st : State) (above : (j : Joining) → st.joining
   step_shape Trims = acted_in_shape Trims st.part refl TrimNow trim_starts (λ c. tt)
   step_shape (Links q) = links_shape (Links q) st.joining q st.part refl
   step_shape (Unlinks q) = acted_in_shape (Unlinks q) st.part refl (Down q) (down_starts q) (λ c. refl)
+  step_shape (Notes xs) = nothing (Notes xs)
   step_shape (Reads n l) = reads_shape n l
   step_shape (ReadsLong n total l) = answers_shape (ReadsLong n total l) total l
 

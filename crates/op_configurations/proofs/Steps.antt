@@ -11,9 +11,9 @@ use Rattle.op_paxos.specs.Messages.{Msg, packet}
 use Rattle.op_paxos.specs.Worlds as paxos
 use Rattle.op_configurations.proofs.Among.{In}
 use Rattle.op_paxos.specs.Messages.{Packet}
-use Rattle.op_paxos.specs.Worlds.{Input, Elected, Proposal, Comes, Up, CutOff, Down, Starts, TrimNow}
+use Rattle.op_paxos.specs.Worlds.{Input, Elected, Proposal, Comes, Up, CutOff, Down, TrimNow}
 use Rattle.op_paxos.specs.Agreement.{decided_log}
-use Rattle.op_configurations.specs.Servers.{Part, Closed, Base, Joining, State, Letter, Body, Inner, HeartbeatRequest, HeartbeatReply, NextConf, AskBase, BasePart, BasePiece, AskSegment, Segment, letter, Fate, latest, latest_members, to_all, new_part, next_conf, acted, acted_in, restarted, with_joining, invited, covered, base_place, joined_list, started, start_if_whole, based, held_with, got_segment, BaseStage, staged_piece, has_all, completed, is_piece, pieced, pieces_from, gives_pieces, asks_base, answers_long, donors_at, ask_parts, best_donor, asks_of, asks, gives_base, gives_segment, refers, is_for_joining, is_ahead, inner, answers_beat, takes, is_request, sought, seeks, Done, Stopped, reads, held_run, Event, Ticks, TicksAlone, Proposes, Trims, Links, Unlinks, Reads, ReadsLong, may_propose, led, ticks_in, ticks_alone_in, links_in, step, may_propose_in}
+use Rattle.op_configurations.specs.Servers.{Part, Closed, Base, Joining, State, Letter, Body, Inner, HeartbeatRequest, HeartbeatReply, NextConf, AskBase, BasePart, BasePiece, AskSegment, Segment, letter, Fate, latest, latest_members, to_all, new_part, next_conf, acted, acted_in, restarted, with_joining, invited, covered, base_place, joined_list, started, start_if_whole, based, held_with, got_segment, BaseStage, staged_piece, has_all, completed, is_piece, pieced, pieces_from, gives_pieces, asks_base, answers_long, donors_at, ask_parts, best_donor, asks_of, asks, gives_base, gives_segment, refers, is_for_joining, is_ahead, inner, answers_beat, takes, is_request, sought, seeks, Done, Stopped, reads, held_run, Event, Ticks, TicksAlone, Proposes, Trims, Links, Unlinks, Reads, ReadsLong, may_propose, led, ticks_in, ticks_alone_in, links_in, step, may_propose_in, Notes, notes, says}
 use Rattle.op_configurations.specs.Worlds.{inner_of, place_in, events_in, entries_in, decided_in}
 use Rattle.op_configurations.specs.Laws.{BaseStands, SegmentStands}
 use Rattle.op_configurations.proofs.Fronts.{some_same}
@@ -385,6 +385,19 @@ module _ (first : List ℕ) (pr : ℕ → List Entry) (t : Tale) (ok : TaleOk fi
       refused : is_some st.joining ≡ true → may_propose p st (Some pt) es ≡ true → ⊥
       refused y z = false≢true (sym (ap (λ (x : Bool). not x && may_propose_in p pt.node es) y) ∙ z)
 
+  -- letters without an effect
+  notes_ok : (xs : List (ℕ × ℕ)) → (m : Letter) → In m (notes p xs) → LetterOk t m
+  notes_ok [] m i = absurd i
+  notes_ok (x ∷ xs) m (inl e) = subst (LetterOk t) e tt
+  notes_ok (x ∷ xs) m (inr i) = notes_ok xs m i
+
+  notes_plain : (xs : List (ℕ × ℕ)) (r : ℕ) → inner_of r (notes p xs) ≡ []
+  notes_plain [] r = refl
+  notes_plain (x ∷ xs) r = notes_plain xs r
+
+  notes_good : (xs : List (ℕ × ℕ)) → StepGood first pr t soup p f st (says st (notes p xs))
+  notes_good xs = here_good first pr t ok soup p f st (notes p xs) h (notes_ok xs) (notes_plain xs)
+
   -- ---- a server's step
   pub step_good : (e : Event) → EventOk pr t soup p st e → StepGood first pr t soup p f st (step f p st e)
   unfolding step
@@ -394,5 +407,6 @@ module _ (first : List ℕ) (pr : ℕ → List Entry) (t : Tale) (ok : TaleOk fi
   step_good Trims k = plain_good TrimNow tt (λ w n. tt) refl st.part refl
   step_good (Links q) k = links_good st.joining refl q st.part refl
   step_good (Unlinks q) k = plain_good (Down q) tt (λ w n. tt) refl st.part refl
+  step_good (Notes xs) k = notes_good xs
   step_good (Reads n m) k = reads_good n m k.0 k.1 k.2
   step_good (ReadsLong n total m) k = answers_good total m

@@ -7,7 +7,7 @@ use Rattle.op_paxos.specs.Worlds as paxos
 use Rattle.op_paxos.specs.Messages.{Packet}
 use Rattle.op_paxos.specs.Exchange.{is_stopped}
 use Rattle.op_paxos.specs.Worlds.{Input, Starts}
-use Rattle.op_configurations.specs.Servers.{Part, State, Letter, Stepped, Inside, Fate, Done, Stopped, Event, Ticks, TicksAlone, Proposes, Trims, Links, Unlinks, Reads, restarted, step, ReadsLong, without_pieces}
+use Rattle.op_configurations.specs.Servers.{Part, State, Letter, Stepped, Inside, Fate, Done, Stopped, Event, Ticks, TicksAlone, Proposes, Trims, Links, Unlinks, Reads, restarted, step, ReadsLong, without_pieces, Notes}
 use Rattle.op_configurations.specs.Worlds.{Life, Running, Down, Server, World, Happening, At, Delivers, Stops, Opens, is_letter, inner_of, events_in, event_in, with_fate, with_server, stepped, at_server, delivered, stops, found, opening_fate, opened, opens, happens, run, start, reader, actor, machine_of, DeliversLong}
 use Rattle.op_configurations.proofs.Fronts.{some_same}
 use Rattle.op_configurations.proofs.Inside.{events_append}
@@ -172,6 +172,7 @@ module _ (first : List ℕ) (ks : List Happening) (c : ℕ) where
   plain_sent p Trims k = tt
   plain_sent p (Links q) k = tt
   plain_sent p (Unlinks q) k = tt
+  plain_sent p (Notes xs) k = tt
 
   -- the event that a server stopped in
   pending_sent : (p : ℕ) (e : Event) → (w.servers p).life ≡ Down (Some e) → IfSentTo w.soup p e
@@ -186,6 +187,7 @@ module _ (first : List ℕ) (ks : List Happening) (c : ℕ) where
       by pr t Trims k = tt
       by pr t (Links q) k = tt
       by pr t (Unlinks q) k = tt
+      by pr t (Notes xs) k = tt
 
   found_taken : (p : ℕ) (after : Bool) (x : Option Event) → (w.servers p).life ≡ Down x → (more : List paxos.Event) → AnyTaken p more → AllTaken (inner_of c w.soup) p (events_in w.soup p c (found p after (w.servers p).state x).inside ++ more)
   unfolding found

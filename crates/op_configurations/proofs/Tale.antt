@@ -1,5 +1,5 @@
 -- The invariant over all configurations: each configuration is a run of its own.
-use Rattle.std.proofs.Common.{◌≡◌, ℕ, zero, suc, ◌+◌, ◌<◌, ◌≤◌, ◌⊎◌, inl, inr, ⊎_elim, List, [], ◌∷◌, ◌++◌, length, take, drop, Bool, true, false, refl, sym, ap, ◌∙◌, subst, subst₂, arith, Option, Some, None}
+use Rattle.std.proofs.Common.{◌≡◌, ℕ, zero, suc, ◌+◌, ◌<◌, ◌≤◌, ◌⊎◌, List, [], ◌∷◌, ◌++◌, length, Bool, true, false, refl, sym, ap, ◌∙◌, subst, subst₂, arith, Option, Some, None}
 use Rattle.std.specs.Prelude.{slice_get}
 use Rattle.op_types.specs.declared.log.Entry.{Entry}
 use Rattle.op_types.specs.declared.log.StopSign.{StopSign}
@@ -8,7 +8,7 @@ use Rattle.op_paxos.specs.Worlds as paxos
 use Rattle.op_configurations.proofs.Among.{In}
 use Rattle.op_paxos.specs.Agreement.{proposals}
 use Rattle.op_paxos.proofs.TrimBound.{never_falls}
-use Rattle.op_configurations.specs.Servers.{fresh, Part, Closed, Base, Joining, State, Letter, Body, Inner, HeartbeatRequest, HeartbeatReply, NextConf, AskBase, BasePart, BasePiece, AskSegment, Segment, Event, Ticks, TicksAlone, Proposes, Trims, Links, Unlinks, Reads, ReadsLong, latest, may_propose}
+use Rattle.op_configurations.specs.Servers.{fresh, Part, Closed, Base, Joining, State, Letter, Body, Inner, HeartbeatRequest, HeartbeatReply, NextConf, AskBase, BasePart, BasePiece, AskSegment, Segment, Event, Ticks, TicksAlone, Proposes, Trims, Links, Unlinks, Reads, ReadsLong, latest, may_propose, Notes}
 use Rattle.op_configurations.specs.Laws.{BaseStands, SegmentStands}
 use Rattle.op_configurations.proofs.Fronts.{none_some, whole_same}
 use Rattle.op_configurations.proofs.Runs.{Told, told_later, told_tidy, told_fronts}
@@ -209,6 +209,7 @@ module _ (t t' : Tale) (o : Onward t t') where
   event_on pr soup more p st Trims h = tt
   event_on pr soup more p st (Links q) h = tt
   event_on pr soup more p st (Unlinks q) h = tt
+  event_on pr soup more p st (Notes xs) h = tt
 
   -- a server whose members' states stay as they are
   pub state_on : (p : ℕ) (st : State) → ((c : ℕ) → (inst t' c).nodes p ≡ (inst t c).nodes p) → StateOk t p st → StateOk t' p st

@@ -10,7 +10,7 @@ use Rattle.op_paxos.specs.Messages.{Msg, Effect}
 use Rattle.op_paxos.specs.Worlds as paxos
 use Rattle.op_paxos.specs.Worlds.{Input, Elected, Proposal, Comes, Up, CutOff, Down, Starts, TrimNow}
 use Rattle.op_paxos.proofs.Updates.{upd_both}
-use Rattle.op_configurations.specs.Servers.{Part, Closed, Joining, State, Letter, Body, Inner, HeartbeatRequest, HeartbeatReply, NextConf, AskBase, BasePart, BasePiece, AskSegment, Segment, Fate, Done as ServerDone, Stopped as ServerStopped, Stepped, Event, Ticks, TicksAlone, Proposes, Trims, Links, Unlinks, Reads, new_part, closed_of, close_with, acted, acted_in, restarted, with_joining, invited, joined_list, started, based, got_segment, inner, answers_beat, takes, is_request, sought, seeks, reads, is_for_joining, is_ahead, latest, fated, decided_list, led, ticks_in, ticks_alone_in, links_in, step, may_propose, ReadsLong, staged_piece, has_all, completed, is_piece, pieced, asks_base, answers_long, without_pieces}
+use Rattle.op_configurations.specs.Servers.{Part, Closed, Joining, State, Letter, Body, Inner, HeartbeatRequest, HeartbeatReply, NextConf, AskBase, BasePart, BasePiece, AskSegment, Segment, Fate, Done as ServerDone, Stopped as ServerStopped, Stepped, Event, Ticks, TicksAlone, Proposes, Trims, Links, Unlinks, Reads, new_part, closed_of, close_with, acted, acted_in, restarted, with_joining, invited, joined_list, started, based, got_segment, inner, answers_beat, takes, is_request, sought, seeks, reads, is_for_joining, is_ahead, latest, fated, decided_list, led, ticks_in, ticks_alone_in, links_in, step, may_propose, ReadsLong, staged_piece, has_all, completed, is_piece, pieced, asks_base, answers_long, without_pieces, Notes}
 use Rattle.op_configurations.specs.Worlds.{Life, Running, Down as IsDown, Server, World, Happening, At, Delivers, Stops, Opens, is_letter, stepped, at_server, delivered, stops, found, opening_fate, opened, opens, happens, run, start, DeliversLong}
 use Rattle.op_configurations.proofs.Fronts.{none_some, some_same}
 use Rattle.op_configurations.proofs.Keeping.{quiet_vote}
@@ -162,6 +162,7 @@ module _ (f : Fate) (p : ℕ) (st : State) (h : Unended st) where
   step_unended Trims = acted_in_unended f p st h st.part TrimNow
   step_unended (Links q) = links_unended st.joining q st.part
   step_unended (Unlinks q) = acted_in_unended f p st h st.part (Down q)
+  step_unended (Notes xs) = h
   step_unended (Reads n m) = reads_unended n m
   step_unended (ReadsLong n total m) = answers_unended total m
 

@@ -555,6 +555,8 @@ pub data Event : Type 0 where
   Trims : Event
   Links : ℕ → Event
   Unlinks : ℕ → Event
+  -- it says something to these, of a configuration each, that has no effect on servers
+  Notes : List (ℕ × ℕ) → Event
   Reads : (number : ℕ) → Letter → Event
   -- the same, where what it asks for takes this many bytes, and goes in pieces
   ReadsLong : (number total : ℕ) → Letter → Event
@@ -603,6 +605,11 @@ links_in f p st None q None = says st (refers p st st.closed q)
 links_in f p st None q (Some pt) =
     if is_member nat_eq pt.members q && not (q == p) then acted f p st pt 0 (Up q) else unchanged st
 
+-- letters that have no effect on servers
+abbrev pub notes : ℕ → List (ℕ × ℕ) → List Letter
+notes p [] = []
+notes p (x ∷ xs) = letter p x.0 x.1 HeartbeatReply ∷ notes p xs
+
 unfoldable pub step : Fate → ℕ → State → Event → Stepped
 step f p st (Ticks n) = ticks_in f p st st.joining st.part n
 step f p st (TicksAlone heard) = ticks_alone_in f p st st.joining st.part heard
@@ -611,5 +618,6 @@ step f p st (Proposes es) =
 step f p st Trims = acted_in f p st st.part TrimNow
 step f p st (Links q) = links_in f p st st.joining q st.part
 step f p st (Unlinks q) = acted_in f p st st.part (Down q)
+step f p st (Notes xs) = says st (notes p xs)
 step f p st (Reads n m) = reads f p st n m
 step f p st (ReadsLong n total m) = answers_long p st total m

@@ -15,6 +15,7 @@ pub mod Walking
 pub mod Fading
 pub mod Shedding
 pub mod Registering
+pub mod Observing
 pub mod Settled
 pub mod Readers
 pub mod Uppings
@@ -22,6 +23,9 @@ pub mod Quieting
 pub mod Writing
 pub mod Promises
 pub mod Waiting
+pub mod Telling
+pub mod Due
+pub mod Behind
 pub mod Turns
 pub mod Folding
 pub mod Awaiting

@@ -18,8 +18,8 @@ use Rattle.op_serving.specs.Inputs.{Taken, loop_after, frames_after, loop_after_
 use Rattle.op_serving.specs.Wire.{peer_frame, client_frame}
 use Rattle.op_serving.specs.State.{Awaited, Key, Loop, find, changed, is_open, with_bytes, waits_for}
 use Rattle.op_serving.specs.Losses.{most_marks}
-use Rattle.op_serving.specs.Handing.{frame_at, said_at, goes_to, made_way, sent_behind, sent_at, sent, sent_all, frames_behind, frames_sent_at, frames_sent, forgotten, answered, replied, replied_all, frames_replied, handed_out, frames_handed, Told, said_at_once, said_of_denial, said_of_failure, told, told_all, frames_told, asked_by_one, asked, is_read, keys_that_wait, proposed, frames_proposed, excused, frames_excused, given_up, frames_given_up}
-use Rattle.op_serving.specs.Room.{Frame, has_room, count_at, goes_ahead, kept, placed, frames_placed, frame_of, without_first, first_moved, moved_in, moved, frames_moved_in, frames_moved, begins_anew, cleared}
+use Rattle.op_serving.specs.Handing.{frame_at, said_at, goes_to, made_way, sent_behind, sent_if, sent_at, sent, sent_all, frames_behind, frames_sent_if, frames_sent_at, frames_sent, forgotten, answered, replied, replied_all, frames_replied, handed_out, frames_handed, Told, said_at_once, said_of_denial, said_of_failure, told, told_all, frames_told, asked_by_one, asked, is_read, keys_that_wait, proposed, frames_proposed, excused, frames_excused, given_up, frames_given_up}
+use Rattle.op_serving.specs.Room.{Frame, has_room, count_at, goes_ahead, kept, placed, frames_placed, frame_of, without_first, first_moved, moved_in, moved, frames_moved_in, frames_moved, begins_anew, cleared, is_excess}
 use Rattle.std.specs.Map.{keys_of}
 use Rattle.op_connections.proofs.Tables.{found_own, found_other, keys_changed}
 
@@ -187,23 +187,31 @@ unfolding frames_moved
 away_moved c d s apart = away_moved_in (count_at d s.behind) c d s apart
 
 -- what is said at a session is all for its connection
-pub away_sent : (c d : ℕ) (m : ℕ × Msg) (s : Loop) → (d ≡ c → ⊥) → bytes_for c (frames_sent_at (Some d) m s) ≡ []
-away_sent c d m s apart =
+away_sent_if : (b : Bool) (c d : ℕ) (m : ℕ × Msg) (s : Loop) → (d ≡ c → ⊥) → bytes_for c (frames_sent_if b d m s) ≡ []
+away_sent_if true c d m s apart = refl
+away_sent_if false c d m s apart =
     let w : Loop = made_way d m.1 s in
     let t : Loop = moved d w in
     away_both c (frames_moved d w) (frames_behind d m t) (away_moved c d w apart)
     (away_placed c (goes_ahead m.1 (find d t.sessions) (count_at d t.behind)) (d, peer_frame t.me m.0 m.1) apart)
 
+pub away_sent : (c d : ℕ) (m : ℕ × Msg) (s : Loop) → (d ≡ c → ⊥) → bytes_for c (frames_sent_at (Some d) m s) ≡ []
+away_sent c d m s apart = away_sent_if (is_excess m.1.body (count_at d s.behind)) c d m s apart
+
 -- ---- what is handed out
 
-queues_sent_at : (c : ℕ) (o : Option ℕ) (m : ℕ × Msg) (s : Loop) → Queues c s (frames_sent_at o m s) (sent_at o m s)
-queues_sent_at c None m s = queues_none c s s refl refl refl refl refl refl refl
-queues_sent_at c (Some d) m s =
+queues_sent_if : (b : Bool) (c d : ℕ) (m : ℕ × Msg) (s : Loop) → Queues c s (frames_sent_if b d m s) (sent_if b d m s)
+queues_sent_if true c d m s = queues_none c s s refl refl refl refl refl refl refl
+queues_sent_if false c d m s =
     let w : Loop = made_way d m.1 s in
     let t : Loop = moved d w in
     queues_then c s t (sent_behind d m t) (frames_moved d w) (frames_behind d m t)
     (queues_then c s w t [] (frames_moved d w) (queues_cleared c (begins_anew m.1.body) d s) (queues_moved c d w))
     (queues_placed c (goes_ahead m.1 (find d t.sessions) (count_at d t.behind)) (d, peer_frame t.me m.0 m.1) t)
+
+pub queues_sent_at : (c : ℕ) (o : Option ℕ) (m : ℕ × Msg) (s : Loop) → Queues c s (frames_sent_at o m s) (sent_at o m s)
+queues_sent_at c None m s = queues_none c s s refl refl refl refl refl refl refl
+queues_sent_at c (Some d) m s = queues_sent_if (is_excess m.1.body (count_at d s.behind)) c d m s
 
 queues_sent : (c : ℕ) (ms : List (ℕ × Msg)) (s : Loop) → Queues c s (frames_sent ms s) (sent_all ms s)
 queues_sent c [] s = queues_none c s s refl refl refl refl refl refl refl
@@ -211,7 +219,7 @@ queues_sent c (m ∷ ms) s =
     queues_then c s (sent m s) (sent_all ms (sent m s)) (frames_sent_at (goes_to m s) m s) (frames_sent ms (sent m s))
     (queues_sent_at c (goes_to m s) m s) (queues_sent c ms (sent m s))
 
-queues_reply : (c : ℕ) (read : Bool) (r : Reply) (s : Loop) → Queues c s (frame_at (map.get s.askers (read, (r.client, r.seq))) (client_frame (answered r))) (replied read r s)
+pub queues_reply : (c : ℕ) (read : Bool) (r : Reply) (s : Loop) → Queues c s (frame_at (map.get s.askers (read, (r.client, r.seq))) (client_frame (answered r))) (replied read r s)
 queues_reply c read r s =
     let key : Awaited = (read, (r.client, r.seq)) in
     let o : Option ℕ = map.get s.askers key in
@@ -259,7 +267,7 @@ queues_given c w g o s =
     queues_then c s m (handed_out g m) (frames_proposed w o) (frames_handed g m) (queues_proposed c w o s) (queues_handed c g m)
 
 -- a disk failed: all that wait are told
-queues_given_up : (c k : ℕ) (s : Loop) → Queues c s (frames_given_up k s) (given_up k s)
+pub queues_given_up : (c k : ℕ) (s : Loop) → Queues c s (frames_given_up k s) (given_up k s)
 queues_given_up c k s =
     let m : Loop = record s { askers = map.empty } in
     queues_then c s m (given_up k s) [] (frames_given_up k s) (queues_none c s m refl refl refl refl refl refl refl) (queues_told c (said_of_failure k s.askers) m)

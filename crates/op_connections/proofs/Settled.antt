@@ -15,6 +15,9 @@ use Rattle.op_protocol.specs.State.{State, Planned, state_after}
 use Rattle.op_protocol.specs.Configurations.{latest_of}
 use Rattle.op_protocol.specs.Reading.{adopted_of, answered_by, answered_of, asked_of, asking_by, decided_of, dropped_read, given_up_in, leads_on, read_reply, reading, why_given_up}
 use Rattle.op_protocol.specs.Rows.{step_plan, table_plan}
+use Rattle.op_runs.specs.World.{Kind, Votes, Observes, plan_as}
+use Rattle.op_serving.specs.Cores.{Standing}
+use Rattle.op_connections.proofs.Observing.{watch_quiet}
 
 -- no read that waits may be answered
 abbrev pub NoneIsReady : State → Type 0
@@ -24,6 +27,14 @@ NoneIsReady s = answered_of s.reads (decided_of s.durable.part) (adopted_of s.vo
 pub record ReadsAreSettled (s : State) : Type 0 where
   pub ready : NoneIsReady s
   pub led : leads_on s.volatile.role s.volatile.role ≡ false → s.reads ≡ None
+
+-- so they are at either kind of node: an observer has none
+abbrev pub SettledAs : Kind → State → Type 0
+SettledAs Votes s = ReadsAreSettled s
+SettledAs Observes s = s.reads ≡ None
+
+abbrev pub Settles : Standing → Type 0
+Settles n = SettledAs n.kind n.state
 
 -- ---- after a step
 
@@ -78,9 +89,18 @@ settled_after me s x =
       led = λ h. ap (λ b. left_of b asked decided adopted) (leads_no_more s.volatile.role p.volatile.role h);
     }
 
+-- settled they stay
+pub settled_on : (k : Kind) (me : ℕ) (s : State) (x : Input) → SettledAs k s → SettledAs k (state_after s (plan_as k me s x))
+settled_on Votes me s x h = settled_after me s x
+settled_on Observes me s x h = (watch_quiet me s x).reads ∙ h
+
 -- so they are where there are none
 pub settled_without : (s : State) → s.reads ≡ None → ReadsAreSettled s
 settled_without s none = record { ready = ap (λ o. answered_of o (decided_of s.durable.part) (adopted_of s.volatile.role)) none; led = λ h. none }
+
+pub settled_none : (k : Kind) (s : State) → s.reads ≡ None → SettledAs k s
+settled_none Votes s none = settled_without s none
+settled_none Observes s none = none
 
 -- ---- a step that decides nothing, and leaves whether its node leads
 

@@ -17,10 +17,12 @@ use Rattle.op_protocol.specs.Reading.{adopted_of, asking_by, leads_on, reading}
 use Rattle.op_protocol.specs.Configurations.{latest_members, next_conf_body, next_conf_message}
 use Rattle.op_protocol.specs.Tick.{remembering}
 use Rattle.op_protocol.specs.Rows.{plan_of, step_plan, on_older, up_at}
+use Rattle.op_runs.specs.World.{Kind, Votes, Observes, plan_as}
 use Rattle.op_serving.proofs.Sessions.{nothing_decided, quietly, plan_with, stored_with}
 use Rattle.op_types.specs.declared.given.Given.{Given}
-use Rattle.op_serving.specs.Cores.{Failure, Standing, gives, given_of, refused_with}
-use Rattle.op_connections.proofs.Settled.{ReadsAreSettled, answers_none}
+use Rattle.op_serving.specs.Cores.{Failure, Standing, plan_at, gives, given_of, refused_with}
+use Rattle.op_connections.proofs.Observing.{watch_quiet, watch_up, watch_down}
+use Rattle.op_connections.proofs.Settled.{ReadsAreSettled, SettledAs, Settles, answers_none}
 
 -- ---- a plan that changes nothing that is stored, and answers nobody
 
@@ -124,35 +126,52 @@ down_reads me q s settled = by_role s.volatile.role refl
         let y = without_synced x q in
         quiet_reads me s (record s.volatile { role = Leading y }) [] (input.Down q) refl (ap (λ (z : Role). leads_on z (Leading y)) e ∙ sym (ap (λ (z : Role). leads_on z z) e)) (sym (ap adopted_of e)) settled
 
+-- of either kind of node
+up_as : (k : Kind) (me q : ℕ) (s : State) → Upping q (given_of (plan_as k me s (input.Up q)))
+up_as Votes me q s = up_plan me q s
+up_as Observes me q s = record { sends = watch_up me s q; replies = (watch_quiet me s (input.Up q)).replies }
+
+up_reads_as : (k : Kind) (me q : ℕ) (s : State) → SettledAs k s → (plan_as k me s (input.Up q)).read_replies ≡ []
+up_reads_as Votes me q s h = up_reads me q s h
+up_reads_as Observes me q s h = (watch_quiet me s (input.Up q)).read_replies
+
+down_as : (k : Kind) (me q : ℕ) (s : State) → Silent (given_of (plan_as k me s (input.Down q)))
+down_as Votes me q s = down_plan me q s
+down_as Observes me q s = record { sends = watch_down me s q; replies = (watch_quiet me s (input.Down q)).replies }
+
+down_reads_as : (k : Kind) (me q : ℕ) (s : State) → SettledAs k s → (plan_as k me s (input.Down q)).read_replies ≡ []
+down_reads_as Votes me q s h = down_reads me q s h
+down_reads_as Observes me q s h = (watch_quiet me s (input.Down q)).read_replies
+
 pub ups : (n : Standing) (q : ℕ) → Upping q (gives n (input.Up q))
 unfolding gives
 ups n q = by_failed n.failed
   where
-    by_failed : (f : Option Failure) → Upping q (elim f [ None ↦ given_of (step_plan n.me n.state (input.Up q)) | Some x ↦ refused_with x.count (input.Up q) ])
-    by_failed None = up_plan n.me q n.state
+    by_failed : (f : Option Failure) → Upping q (elim f [ None ↦ given_of (plan_at n (input.Up q)) | Some x ↦ refused_with x.count (input.Up q) ])
+    by_failed None = up_as n.kind n.me q n.state
     by_failed (Some x) = record { sends = inl refl; replies = refl }
 
 pub downs : (n : Standing) (q : ℕ) → Silent (gives n (input.Down q))
 unfolding gives
 downs n q = by_failed n.failed
   where
-    by_failed : (f : Option Failure) → Silent (elim f [ None ↦ given_of (step_plan n.me n.state (input.Down q)) | Some x ↦ refused_with x.count (input.Down q) ])
-    by_failed None = down_plan n.me q n.state
+    by_failed : (f : Option Failure) → Silent (elim f [ None ↦ given_of (plan_at n (input.Down q)) | Some x ↦ refused_with x.count (input.Down q) ])
+    by_failed None = down_as n.kind n.me q n.state
     by_failed (Some x) = record { sends = refl; replies = refl }
 
 -- where reads are settled, none is answered by either
-pub ups_read : (n : Standing) (q : ℕ) → ReadsAreSettled n.state → (gives n (input.Up q)).read_replies ≡ []
+pub ups_read : (n : Standing) (q : ℕ) → Settles n → (gives n (input.Up q)).read_replies ≡ []
 unfolding gives
 ups_read n q settled = by_failed n.failed
   where
-    by_failed : (f : Option Failure) → let g : Given = elim f [ None ↦ given_of (step_plan n.me n.state (input.Up q)) | Some x ↦ refused_with x.count (input.Up q) ] in g.read_replies ≡ []
-    by_failed None = up_reads n.me q n.state settled
+    by_failed : (f : Option Failure) → let g : Given = elim f [ None ↦ given_of (plan_at n (input.Up q)) | Some x ↦ refused_with x.count (input.Up q) ] in g.read_replies ≡ []
+    by_failed None = up_reads_as n.kind n.me q n.state settled
     by_failed (Some x) = refl
 
-pub downs_read : (n : Standing) (q : ℕ) → ReadsAreSettled n.state → (gives n (input.Down q)).read_replies ≡ []
+pub downs_read : (n : Standing) (q : ℕ) → Settles n → (gives n (input.Down q)).read_replies ≡ []
 unfolding gives
 downs_read n q settled = by_failed n.failed
   where
-    by_failed : (f : Option Failure) → let g : Given = elim f [ None ↦ given_of (step_plan n.me n.state (input.Down q)) | Some x ↦ refused_with x.count (input.Down q) ] in g.read_replies ≡ []
-    by_failed None = down_reads n.me q n.state settled
+    by_failed : (f : Option Failure) → let g : Given = elim f [ None ↦ given_of (plan_at n (input.Down q)) | Some x ↦ refused_with x.count (input.Down q) ] in g.read_replies ≡ []
+    by_failed None = down_reads_as n.kind n.me q n.state settled
     by_failed (Some x) = refl

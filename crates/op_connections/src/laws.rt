@@ -8,6 +8,8 @@ ghost use Rattle.op_connections.specs.Runs.{Begins, IsRun, inputs, calls_of};
 ghost use Rattle.op_connections.specs.Hearing.{HearsAll, HoldsLess};
 ghost use Rattle.op_connections.specs.Waiting.{FramesAreShort, QueuesAreShort};
 ghost use Rattle.op_connections.specs.Taking.{IsBetween, IsDone};
+ghost use Rattle.op_connections.specs.Telling.{ClientsAreTold};
+ghost use Rattle.op_connections.specs.Behind.{FewWaitBehind};
 
 /// Whatever net and clock answer, and wherever memory is wanting: the inputs of each connection are those of the frames of the
 /// bytes that it read, in order, each command for its own connection, and of an open one no whole frame is left, and no more than a
@@ -25,6 +27,22 @@ pub fn connections_keep()
         → QueuesAreShort (after o l line answers p).driver.loop }
     ensures frames { (o : Settings) (l : Luck) (line : Standing → List ℕ) (answers : List Answer) (p : Pump)
         → Begins p.driver → Answers o l line answers p → FramesAreShort (after o l line answers p).driver }
+{}
+
+/// What a client is told at its connection, while that is open, of each of its commands and reads, is what the deeds make due there:
+/// an answer that the node gives out, to whoever asked last for it, once; a refusal where the node refused that input at once, where
+/// it was lost for want of memory, or where a disk failed; and nothing else.
+pub fn clients_are_told()
+    ensures told { (o : Settings) (l : Luck) (line : Standing → List ℕ) (answers : List Answer) (p : Pump)
+        → Begins p.driver → Answers o l line answers p
+        → ClientsAreTold p.driver.node (after o l line answers p).driver }
+{}
+
+/// No more than 65,536 frames wait behind for a connection for which there is no room, where no more did before.
+pub fn few_frames_wait()
+    ensures few { (o : Settings) (l : Luck) (line : Standing → List ℕ) (answers : List Answer) (p : Pump)
+        → Begins p.driver → FewWaitBehind p.driver.loop → Answers o l line answers p
+        → FewWaitBehind (after o l line answers p).driver.loop }
 {}
 
 /// Between two turns, and at each end for which no fault of the net is the cause, no command and no message waits to be given,

@@ -3,4 +3,7 @@
 
 mod laws;
 
-pub use laws::{connections_keep, nodes_fold, runs_follow_answers, turns_take_all};
+pub use laws::{
+    clients_are_told, connections_keep, few_frames_wait, nodes_fold, runs_follow_answers,
+    turns_take_all,
+};

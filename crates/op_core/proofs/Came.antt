@@ -149,10 +149,6 @@ module _ {D : Type 0} (state : D → DiskState) where
             (subst (λ (k : Standing). Stores state (unstored_after_all k (unstored_after_all n u cs) ds) new) a.node (b.stored (unstored_after_all n u cs) (a.stored u s)));
       }
 
-  -- nothing came
-  pub comes_none : (n : NodeCore D) → Comes state n [] [] n
-  comes_none n = record { may = tt; tell = refl; stored = none_stores n }
-
   -- others came behind these
   pub comes_both : (old mid new : NodeCore D) (cs ds : List Came) (rs ss : List Told) → All settles cs → Comes state old cs rs mid → Comes state mid ds ss new → Comes state old (cs ++ ds) (rs ++ ss) new
   comes_both old mid new cs ds rs ss all a b =
@@ -234,9 +230,6 @@ module _ {D : Type 0} (state : D → DiskState) where
     pub settled : All settles came
     pub comes : Comes state old came told now
 
-  pub so_far_none : (n : NodeCore D) (xs : List Input) (told : List Told) → told ≡ [] → SoFar n xs xs told n
-  so_far_none n xs told none = record { came = []; split = refl; settled = All-nil settles; comes = subst (λ (rs : List Told). Comes state n [] rs n) (sym none) (comes_none n) }
-
   module _ (old mid new : NodeCore D) (xs ys zs : List Input) (told after : List Told) (s : SoFar old xs ys told mid) where
     split_both : (cs : List Came) → ys ≡ inputs_of cs ++ zs → xs ≡ inputs_of (s.came ++ cs) ++ zs
     split_both cs is =
@@ -263,7 +256,3 @@ module _ {D : Type 0} (state : D → DiskState) where
           node = all.stored.node;
           stored = all.stored;
         }
-
-  pub so_far_all : (old new : NodeCore D) (xs rest : List Input) (told : List Told) → SoFar old xs rest told new → rest ≡ [] → StepsAll (standing_of state) (StepStores state) old xs rest told new
-  so_far_all old new xs rest told s none =
-      record { came = s.came; split = s.split; ends = inl none; may = s.comes.may; tell = s.comes.tell; node = s.comes.stored.node; stored = s.comes.stored }

@@ -12,13 +12,13 @@ use Rattle.op_types.specs.declared.events.Input.TheVariants as input
 use Rattle.op_outside.specs.Causes.{Rises, FaultsRose}
 use Rattle.op_outside.specs.Disks.{DiskState}
 use Rattle.op_protocol.specs.State.{State, state_after}
-use Rattle.op_protocol.specs.Rows.{step_plan}
+use Rattle.op_runs.specs.World.{Kind, plan_as}
 use Rattle.op_store.specs.Failing.{faults}
 use Rattle.op_store.specs.Stored.{KeepBoth}
 use Rattle.op_store.specs.Stores.{Represents, disks_of}
 use Rattle.op_store.specs.declared.store.Store.{Store}
-use Rattle.op_bounds.specs.States.{IsNamed}
 use Rattle.op_node.specs.Nodes.{NodeState, node_of}
+use Rattle.op_node.specs.Openings.{TakesWhole}
 use Rattle.op_node.specs.Reopenings.{StoreOneOf}
 use Rattle.op_node.specs.declared.bound.Bound.{Bound}
 use Rattle.op_node.specs.Taking.{StoresAtOnce}
@@ -30,7 +30,7 @@ use Rattle.op_serving.specs.Cores.{Standing, reopens}
 use Rattle.op_serving.specs.Fates.{done, faults as faulting, shares, lost, Came, inputs_of, after_all, MayComeAll, TellAll}
 use Rattle.op_serving.specs.Reopenings.{Unstored, unstored_after}
 use Rattle.op_core.specs.Disks.{FindEach, unstored_after_all, Stores}
-use Rattle.op_core.specs.Groups.{Told, ToldInRange, failed_with, starved, IsCalm, EndsAs, IsFull, Comes, GoesTogether, GoesOn, state_all, told_all, changes_all, up_node, Took, StoredAs}
+use Rattle.op_core.specs.Groups.{Told, ToldInRange, failed_with, starved, IsCalm, EndsAs, IsFull, Comes, GoesTogether, GoesOn, state_all, told_all, changes_all, changes_at, up_node, Took, StoredAs}
 use Rattle.op_core.specs.NodeCores.{place_at, standing_by, standing_of}
 use Rattle.op_core.specs.declared.end.End.{End}
 use Rattle.op_core.specs.declared.end.End.TheVariants.{Settled, Broke, Lost}
@@ -39,8 +39,8 @@ use Rattle.op_core.proofs.Came.{settles, stays, not_last, inputs_both, comes_los
 use Rattle.op_core.proofs.Disks.{noted_stores}
 
 -- a node that is up
-abbrev up : ℕ → State → ℕ → Standing
-up me s f = record { me = me; state = s; failed = None; faults = f }
+abbrev up : Kind → ℕ → State → ℕ → Standing
+up o me s f = record { kind = o; me = me; state = s; failed = None; faults = f }
 
 -- all of these were stored; or a disk failed
 abbrev all_done : List Input → List Came
@@ -94,42 +94,42 @@ broken_unsettled k (x ∷ xs) some all = let bad : false ≡ true = All-head set
 
 -- ---- they were stored
 
-up_stays : (me : ℕ) (s : State) (f : ℕ) (x : Input) → reopens (up me s f) x ≡ false
-up_stays me s f input.Tick = refl
-up_stays me s f (input.Deliver q m) = refl
-up_stays me s f (input.Commands cs) = refl
-up_stays me s f (input.Stop members) = refl
-up_stays me s f input.TrimNow = refl
-up_stays me s f (input.Read r) = refl
-up_stays me s f (input.Up q) = refl
-up_stays me s f (input.Down q) = refl
+up_stays : (o : Kind) (me : ℕ) (s : State) (f : ℕ) (x : Input) → reopens (up o me s f) x ≡ false
+up_stays o me s f input.Tick = refl
+up_stays o me s f (input.Deliver q m) = refl
+up_stays o me s f (input.Commands cs) = refl
+up_stays o me s f (input.Stop members) = refl
+up_stays o me s f input.TrimNow = refl
+up_stays o me s f (input.Read r) = refl
+up_stays o me s f (input.Up q) = refl
+up_stays o me s f (input.Down q) = refl
 
-up_goes : (me : ℕ) (s : State) (f : ℕ) (x : Input) → cores.after_input (up me s f) x ≡ up me (state_after s (step_plan me s x)) f
+up_goes : (o : Kind) (me : ℕ) (s : State) (f : ℕ) (x : Input) → cores.after_input (up o me s f) x ≡ up o me (state_after s (plan_as o me s x)) f
 unfolding cores.after_input
-up_goes me s f x = refl
+up_goes o me s f x = refl
 
-up_gives : (me : ℕ) (s : State) (f : ℕ) (x : Input) → cores.given_of (step_plan me s x) ≡ cores.gives (up me s f) x
+up_gives : (o : Kind) (me : ℕ) (s : State) (f : ℕ) (x : Input) → cores.given_of (plan_as o me s x) ≡ cores.gives (up o me s f) x
 unfolding cores.gives
-up_gives me s f x = refl
+up_gives o me s f x = refl
 
-done_after : (me : ℕ) (s : State) (f : ℕ) (ts : List Input) → after_all (up me s f) (all_done ts) ≡ up me (state_all me s ts) f
-done_after me s f [] = refl
-done_after me s f (x ∷ xs) = ap (λ (n : Standing). after_all n (all_done xs)) (up_goes me s f x) ∙ done_after me (state_after s (step_plan me s x)) f xs
+done_after : (o : Kind) (me : ℕ) (s : State) (f : ℕ) (ts : List Input) → after_all (up o me s f) (all_done ts) ≡ up o me (state_all o me s ts) f
+done_after o me s f [] = refl
+done_after o me s f (x ∷ xs) = ap (λ (n : Standing). after_all n (all_done xs)) (up_goes o me s f x) ∙ done_after o me (state_after s (plan_as o me s x)) f xs
 
-done_may : (me : ℕ) (s : State) (f : ℕ) (ts : List Input) → MayComeAll (up me s f) None (all_done ts)
-done_may me s f [] = tt
-done_may me s f (x ∷ xs) = (
-  up_stays me s f x,
+done_may : (o : Kind) (me : ℕ) (s : State) (f : ℕ) (ts : List Input) → MayComeAll (up o me s f) None (all_done ts)
+done_may o me s f [] = tt
+done_may o me s f (x ∷ xs) = (
+  up_stays o me s f x,
   tt,
   not_last done (all_done xs) refl,
-  subst (λ (n : Standing). MayComeAll n None (all_done xs)) (sym (up_goes me s f x)) (done_may me (state_after s (step_plan me s x)) f xs),
+  subst (λ (n : Standing). MayComeAll n None (all_done xs)) (sym (up_goes o me s f x)) (done_may o me (state_after s (plan_as o me s x)) f xs),
 )
 
-done_tell : (me : ℕ) (s : State) (f : ℕ) (ts : List Input) → TellAll (told_all me s ts) (up me s f) (all_done ts)
-done_tell me s f [] = refl
-done_tell me s f (x ∷ xs) = (
-  up_gives me s f x,
-  subst (λ (n : Standing). TellAll (told_all me (state_after s (step_plan me s x)) xs) n (all_done xs)) (sym (up_goes me s f x)) (done_tell me (state_after s (step_plan me s x)) f xs),
+done_tell : (o : Kind) (me : ℕ) (s : State) (f : ℕ) (ts : List Input) → TellAll (told_all o me s ts) (up o me s f) (all_done ts)
+done_tell o me s f [] = refl
+done_tell o me s f (x ∷ xs) = (
+  up_gives o me s f x,
+  subst (λ (n : Standing). TellAll (told_all o me (state_after s (plan_as o me s x)) xs) n (all_done xs)) (sym (up_goes o me s f x)) (done_tell o me (state_after s (plan_as o me s x)) f xs),
 )
 
 done_find : (n : Standing) (u : Unstored) (ts : List Input) → FindEach n u (all_done ts)
@@ -173,25 +173,29 @@ share_find : (k : ℕ) (n : Standing) (u : Unstored) (ts : List Input) → FindE
 share_find k n u [] = tt
 share_find k n u (x ∷ xs) = (tt, share_find k n (unstored_after n x (shares k) u) xs)
 
-share_unstored : (k : ℕ) (n : Standing) (before ahead : State) (ts : List Input) → unstored_after_all n (record { before = before; ahead = ahead }) (all_share k ts) ≡ record { before = before; ahead = state_all n.me ahead ts }
+share_unstored : (k : ℕ) (n : Standing) (before ahead : State) (ts : List Input) → unstored_after_all n (record { before = before; ahead = ahead }) (all_share k ts) ≡ record { before = before; ahead = state_all n.kind n.me ahead ts }
 share_unstored k n before ahead [] = refl
-share_unstored k n before ahead (x ∷ xs) = share_unstored k n before (state_after ahead (step_plan n.me ahead x)) xs
+share_unstored k n before ahead (x ∷ xs) = share_unstored k n before (state_after ahead (plan_as n.kind n.me ahead x)) xs
 
 faulted_me : (k : ℕ) (n : Standing) → (cores.faulted k n).me ≡ n.me
 unfolding cores.faulted
 faulted_me k n = refl
 
-faulted_count : (k me : ℕ) (s : State) (f : ℕ) → option_map (λ (g : cores.Failure). g.count) (cores.faulted k (up me s f)).failed ≡ Some k
+faulted_kind : (k : ℕ) (n : Standing) → (cores.faulted k n).kind ≡ n.kind
 unfolding cores.faulted
-faulted_count k me s f = refl
+faulted_kind k n = refl
 
-broken_may : (k me : ℕ) (s : State) (f : ℕ) (ts : List Input) → Rises f k → All IsCalm ts → MayComeAll (up me s f) None (broken k ts)
-broken_may k me s f [] rises calm = tt
-broken_may k me s f (x ∷ xs) rises calm = (
+faulted_count : (k : ℕ) (o : Kind) (me : ℕ) (s : State) (f : ℕ) → option_map (λ (g : cores.Failure). g.count) (cores.faulted k (up o me s f)).failed ≡ Some k
+unfolding cores.faulted
+faulted_count k o me s f = refl
+
+broken_may : (k : ℕ) (o : Kind) (me : ℕ) (s : State) (f : ℕ) (ts : List Input) → Rises f k → All IsCalm ts → MayComeAll (up o me s f) None (broken k ts)
+broken_may k o me s f [] rises calm = tt
+broken_may k o me s f (x ∷ xs) rises calm = (
   rises,
   tt,
   not_last (faulting k) (all_share k xs) refl,
-  share_may k (cores.faulted k (up me s f)) xs (faulted_count k me s f) (All-tail IsCalm x xs calm),
+  share_may k (cores.faulted k (up o me s f)) xs (faulted_count k o me s f) (All-tail IsCalm x xs calm),
 )
 
 broken_tell : (k : ℕ) (n : Standing) (ts : List Input) → TellAll (all_failed k ts) n (broken k ts)
@@ -206,17 +210,18 @@ broken_after : (k : ℕ) (n : Standing) (ts : List Input) → ts ≢ [] → afte
 broken_after k n [] some = absurd (some refl)
 broken_after k n (x ∷ xs) some = share_after k (cores.faulted k n) xs
 
-broken_unstored : (k me : ℕ) (s : State) (f : ℕ) (u : Unstored) (ts : List Input) → ts ≢ [] → unstored_after_all (up me s f) u (broken k ts) ≡ record { before = s; ahead = state_all me s ts }
-broken_unstored k me s f u [] some = absurd (some refl)
-broken_unstored k me s f u (x ∷ xs) some =
-    let n : Standing = cores.faulted k (up me s f) in
-    let ahead : State = state_after s (step_plan me s x) in
-    share_unstored k n s ahead xs ∙ ap (λ (p : ℕ). let v : Unstored = record { before = s; ahead = state_all p ahead xs } in v) (faulted_me k (up me s f))
+broken_unstored : (k : ℕ) (o : Kind) (me : ℕ) (s : State) (f : ℕ) (u : Unstored) (ts : List Input) → ts ≢ [] → unstored_after_all (up o me s f) u (broken k ts) ≡ record { before = s; ahead = state_all o me s ts }
+broken_unstored k o me s f u [] some = absurd (some refl)
+broken_unstored k o me s f u (x ∷ xs) some =
+    let n : Standing = cores.faulted k (up o me s f) in
+    let ahead : State = state_after s (plan_as o me s x) in
+    share_unstored k n s ahead xs ∙ ap (λ (p : ℕ). let v : Unstored = record { before = s; ahead = state_all n.kind p ahead xs } in v) (faulted_me k (up o me s f))
+    ∙ ap (λ (q : Kind). let v : Unstored = record { before = s; ahead = state_all q me ahead xs } in v) (faulted_kind k (up o me s f))
 
 -- where it stood before is what it shows
-faulted_is : (k me : ℕ) (s : State) (f : ℕ) → standing_by (Some k) me (state_all me s []) (place_at s) k ≡ cores.faulted k (up me s f)
+faulted_is : (k : ℕ) (o : Kind) (me : ℕ) (s : State) (f : ℕ) → standing_by (Some k) o me (state_all o me s []) (place_at s) k ≡ cores.faulted k (up o me s f)
 unfolding cores.faulted
-faulted_is k me s f = refl
+faulted_is k o me s f = refl
 
 -- so many answers
 failed_are : (k : ℕ) (ts : List Input) → replicate (length ts) (failed_with k) ≡ all_failed k ts
@@ -227,14 +232,17 @@ failed_in : (k : ℕ) (ts : List Input) → All ToldInRange (all_failed k ts)
 failed_in k [] = All-nil ToldInRange
 failed_in k (x ∷ xs) = All-cons ToldInRange (failed_with k) (all_failed k xs) tt (failed_in k xs)
 
-told_many : (me : ℕ) (s : State) (ts : List Input) → length (told_all me s ts) ≡ length ts
-told_many me s [] = refl
-told_many me s (x ∷ xs) = ap (λ (n : ℕ). suc n) (told_many me (state_after s (step_plan me s x)) xs)
+told_many : (o : Kind) (me : ℕ) (s : State) (ts : List Input) → length (told_all o me s ts) ≡ length ts
+told_many o me s [] = refl
+told_many o me s (x ∷ xs) = ap (λ (n : ℕ). suc n) (told_many o me (state_after s (plan_as o me s x)) xs)
 
 -- ---- a node that is served took inputs
 
 module _ {D : Type 0} (state : D → DiskState) (mid new : NodeCore D) (n : Node D) (ts : List Input) (before after : List Told) (g : Record)
     (runs : mid.node.failed ≡ None) (took : Took mid.node ts before after g n) where
+  abbrev o : Kind
+  o = (node_of mid.node).kind
+
   abbrev me : ℕ
   me = (node_of mid.node).me
 
@@ -245,13 +253,13 @@ module _ {D : Type 0} (state : D → DiskState) (mid new : NodeCore D) (n : Node
   f = faults (disks_of state mid.node.store)
 
   abbrev ahead : State
-  ahead = state_all me s ts
+  ahead = state_all o me s ts
 
   abbrev changes : List Change
-  changes = changes_all me s ts
+  changes = changes_all o me s ts
 
-  is_up : standing_of state mid ≡ up me s f
-  is_up = ap (λ (o : Option ℕ). standing_by o me s mid.stood f) runs
+  is_up : standing_of state mid ≡ up o me s f
+  is_up = ap (λ (q : Option ℕ). standing_by q o me s mid.stood f) runs
 
   same_faults : faults (disks_of state n.store) ≡ f
   same_faults = ap (λ (t : Store D). faults (disks_of state t)) took.store
@@ -265,33 +273,33 @@ module _ {D : Type 0} (state : D → DiskState) (mid new : NodeCore D) (n : Node
   kept_so : KeepBoth (disks_of state n.store) (disks_of state new.node.store) → KeepBoth (disks_of state mid.node.store) (disks_of state new.node.store)
   kept_so kept = subst (λ (t : Store D). KeepBoth (disks_of state t) (disks_of state new.node.store)) took.store kept
 
-  ahead_named_so : IsNamed me s.durable → IsNamed me ahead.durable
-  ahead_named_so named = subst (λ (k : NodeState). IsNamed me k.state.durable) took.node (took.named named)
+  ahead_whole_so : TakesWhole o me s.durable → TakesWhole o me ahead.durable
+  ahead_whole_so whole = subst (λ (k : NodeState). TakesWhole o me k.state.durable) took.node (took.whole whole)
 
   -- they are stored
   module _ (same : node_of new.node ≡ node_of n) (bound : Bound) (at : StoresAtOnce state s.durable changes n.store new.node.store (Ok bound)) where
-    is_node : node_of new.node ≡ up_node me ahead
+    is_node : node_of new.node ≡ up_node o me ahead
     is_node = same ∙ took.node
 
     stored_unstored : (u : Unstored) → Stores state u mid → Stores state u new
     stored_unstored u st = record {
       up = λ _. subst (λ (d : Durable). Represents state d new.node.store) (goes ∙ sym (ap (λ (k : NodeState). k.state.durable) is_node)) (at.commits (represents u st)).stored;
       failed = λ down. absurd (down (ap (λ (k : NodeState). k.failed) is_node));
-      named = λ _. subst (λ (k : NodeState). IsNamed k.me k.state.durable) (sym is_node) (ahead_named_so (st.named runs));
-      before_named = subst (λ (k : NodeState). IsNamed k.me u.before.durable) (sym is_node) st.before_named;
-      ahead_named = subst (λ (k : NodeState). IsNamed k.me u.ahead.durable) (sym is_node) st.ahead_named;
+      whole = λ _. subst (λ (k : NodeState). TakesWhole k.kind k.me k.state.durable) (sym is_node) (ahead_whole_so (st.whole runs));
+      before_whole = subst (λ (k : NodeState). TakesWhole k.kind k.me u.before.durable) (sym is_node) st.before_whole;
+      ahead_whole = subst (λ (k : NodeState). TakesWhole k.kind k.me u.ahead.durable) (sym is_node) st.ahead_whole;
     }
 
     stored_is : standing_of state new ≡ after_all (standing_of state mid) (all_done ts)
     stored_is =
-        ap (λ (k : NodeState). standing_by k.failed k.me k.state new.stood (faults (disks_of state new.node.store))) is_node
-        ∙ ap (λ (q : ℕ). up me ahead q) (at.cause.ok ∙ same_faults)
-        ∙ sym (done_after me s f ts) ∙ ap (λ (k : Standing). after_all k (all_done ts)) (sym is_up)
+        ap (λ (k : NodeState). standing_by k.failed k.kind k.me k.state new.stood (faults (disks_of state new.node.store))) is_node
+        ∙ ap (λ (q : ℕ). up o me ahead q) (at.cause.ok ∙ same_faults)
+        ∙ sym (done_after o me s f ts) ∙ ap (λ (k : Standing). after_all k (all_done ts)) (sym is_up)
 
-    pub stored_comes : Comes state mid (all_done ts) (told_all me s ts) new
+    pub stored_comes : Comes state mid (all_done ts) (told_all o me s ts) new
     stored_comes = record {
-      may = subst (λ (k : Standing). MayComeAll k None (all_done ts)) (sym is_up) (done_may me s f ts);
-      tell = subst (λ (k : Standing). TellAll (told_all me s ts) k (all_done ts)) (sym is_up) (done_tell me s f ts);
+      may = subst (λ (k : Standing). MayComeAll k None (all_done ts)) (sym is_up) (done_may o me s f ts);
+      tell = subst (λ (k : Standing). TellAll (told_all o me s ts) k (all_done ts)) (sym is_up) (done_tell o me s f ts);
       stored = record {
         kept = kept_so at.kept;
         node = stored_is;
@@ -303,26 +311,26 @@ module _ {D : Type 0} (state : D → DiskState) (mid new : NodeCore D) (n : Node
   -- a disk failed
   module _ (k : ℕ) (same : node_of new.node ≡ record (node_of n) { failed = Some k }) (at : StoresAtOnce state s.durable changes n.store new.node.store (Err (record { count = k })))
       (stood : new.stood ≡ place_at s) where
-    broken_node : node_of new.node ≡ record (up_node me ahead) { failed = Some k }
+    broken_node : node_of new.node ≡ record (up_node o me ahead) { failed = Some k }
     broken_node = same ∙ ap (λ (q : NodeState). let r : NodeState = record q { failed = Some k } in r) took.node
 
     some : ts ≢ []
-    some is = let bad : false ≡ true = (at.idle (ap (λ (xs : List Input). changes_all me s xs) is)).1 in absurd (cc)
+    some is = let bad : false ≡ true = (at.idle (ap (λ (xs : List Input). changes_all o me s xs) is)).1 in absurd (cc)
 
-    broken_standing : standing_of state new ≡ cores.faulted k (up me s f)
+    broken_standing : standing_of state new ≡ cores.faulted k (up o me s f)
     broken_standing =
-        ap (λ (q : NodeState). standing_by q.failed q.me q.state new.stood (faults (disks_of state new.node.store))) broken_node
-        ∙ ap (λ (j : ℕ). standing_by (Some k) me s new.stood j) (sym at.told)
-        ∙ ap (λ p. standing_by (Some k) me s p k) stood
-        ∙ faulted_is k me s f
+        ap (λ (q : NodeState). standing_by q.failed q.kind q.me q.state new.stood (faults (disks_of state new.node.store))) broken_node
+        ∙ ap (λ (j : ℕ). standing_by (Some k) o me s new.stood j) (sym at.told)
+        ∙ ap (λ p. standing_by (Some k) o me s p k) stood
+        ∙ faulted_is k o me s f
 
     broken_stores : (u : Unstored) → Stores state u mid → Stores state (record { before = s; ahead = ahead }) new
     broken_stores u st = record {
       up = λ up. let bad : Some k ≡ None = sym (ap (λ (q : NodeState). q.failed) broken_node) ∙ up in absurd (cc);
       failed = λ _. subst (λ (d : Durable). StoreOneOf s.durable d (disks_of state new.node.store)) goes (at_once_left state s.durable changes n.store new.node.store k at (represents u st));
-      named = λ up. let bad : Some k ≡ None = sym (ap (λ (q : NodeState). q.failed) broken_node) ∙ up in absurd (cc);
-      before_named = subst (λ (q : NodeState). IsNamed q.me s.durable) (sym broken_node) (st.named runs);
-      ahead_named = subst (λ (q : NodeState). IsNamed q.me ahead.durable) (sym broken_node) (ahead_named_so (st.named runs));
+      whole = λ up. let bad : Some k ≡ None = sym (ap (λ (q : NodeState). q.failed) broken_node) ∙ up in absurd (cc);
+      before_whole = subst (λ (q : NodeState). TakesWhole q.kind q.me s.durable) (sym broken_node) (st.whole runs);
+      ahead_whole = subst (λ (q : NodeState). TakesWhole q.kind q.me ahead.durable) (sym broken_node) (ahead_whole_so (st.whole runs));
     }
 
     rises : Rises f k
@@ -332,14 +340,14 @@ module _ {D : Type 0} (state : D → DiskState) (mid new : NodeCore D) (n : Node
 
     pub broken_comes : Comes state mid (broken k ts) (all_failed k ts) new
     broken_comes = record {
-      may = subst (λ (q : Standing). MayComeAll q None (broken k ts)) (sym is_up) (broken_may k me s f ts rises took.calm);
+      may = subst (λ (q : Standing). MayComeAll q None (broken k ts)) (sym is_up) (broken_may k o me s f ts rises took.calm);
       tell = broken_tell k (standing_of state mid) ts;
       stored = record {
         kept = kept_so at.kept;
-        node = broken_standing ∙ sym (broken_after k (up me s f) ts some) ∙ ap (λ (q : Standing). after_all q (broken k ts)) (sym is_up);
+        node = broken_standing ∙ sym (broken_after k (up o me s f) ts some) ∙ ap (λ (q : Standing). after_all q (broken k ts)) (sym is_up);
         found = λ u st. broken_find k (standing_of state mid) u ts;
         stored = λ u st. subst (λ (q : Standing). Stores state (unstored_after_all q u (broken k ts)) new) (sym is_up)
-            (subst (λ (v : Unstored). Stores state v new) (sym (broken_unstored k me s f u ts some)) (broken_stores u st));
+            (subst (λ (v : Unstored). Stores state v new) (sym (broken_unstored k o me s f u ts some)) (broken_stores u st));
       };
     }
 
@@ -359,9 +367,9 @@ module _ {D : Type 0} (state : D → DiskState) (mid new : NodeCore D) (n : Node
 
   failed_added : (k from : ℕ) (later : List Told) → from ≡ length before → later ≡ take from after ++ replicate (length after - from) (failed_with k) → later ≡ before ++ all_failed k ts
   failed_added k from later place is =
-      let given : List Told = told_all me s ts in
+      let given : List Told = told_all o me s ts in
       let first : take from after ≡ before = ap (λ (rs : List Told). take from rs) took.added ∙ take_at before given from (sym place) in
-      let many : length after - from ≡ length ts = omega (arith, ap length took.added, length-append before given, told_many me s ts, place) in
+      let many : length after - from ≡ length ts = omega (arith, ap length took.added, length-append before given, told_many o me s ts, place) in
       is ∙ ap (λ (rs : List Told). rs ++ replicate (length after - from) (failed_with k)) first ∙ ap (λ (j : ℕ). before ++ replicate j (failed_with k)) many
       ∙ ap (λ (rs : List Told). before ++ rs) (failed_are k ts)
 
@@ -369,7 +377,7 @@ module _ {D : Type 0} (state : D → DiskState) (mid new : NodeCore D) (n : Node
   gone Settled from later place stood at =
       record {
         came = all_done ts;
-        told = told_all me s ts;
+        told = told_all o me s ts;
         are = done_inputs ts;
         added = at.1 ∙ took.added;
         comes = stored_comes at.0 at.2 at.3;
@@ -405,7 +413,7 @@ module _ {D : Type 0} (state : D → DiskState) (old mid new : NodeCore D) (n : 
   }
 
   -- none of them found no memory, and none that is left could have gone with them
-  module _ (full : IsFull (changes_all (node_of mid.node).me (node_of mid.node).state ts) rest) where
+  module _ (full : IsFull (changes_at (node_of mid.node) ts) rest) where
     abbrev core_over : Node D → NodeCore D
     core_over k = record old { node = k }
 
@@ -414,7 +422,7 @@ module _ {D : Type 0} (state : D → DiskState) (old mid new : NodeCore D) (n : 
         let here = x.once settled in
         record {
           bound = here.0;
-          at_once = subst (λ (t : Store D). StoresAtOnce state (node_of mid.node).state.durable (changes_all (node_of mid.node).me (node_of mid.node).state ts) t new.node.store (Ok here.0)) took.store here.1;
+          at_once = subst (λ (t : Store D). StoresAtOnce state (node_of mid.node).state.durable (changes_at (node_of mid.node) ts) t new.node.store (Ok here.0)) took.store here.1;
           full = full;
         }
 
@@ -423,7 +431,7 @@ module _ {D : Type 0} (state : D → DiskState) (old mid new : NodeCore D) (n : 
         subst (λ (ys : List Input). GoesTogether state old ys rest new) (sym x.are)
         (subst (λ (k : Node D). GoesTogether state (core_over k) ts rest new) same (goes_together_here settled))
 
-  pub goes_whole : (left : List Input) → left ≡ [] → xs ≡ ts ++ (left ++ rest) → IsFull (changes_all (node_of mid.node).me (node_of mid.node).state ts) rest → GoesOn state (EndsAs end) old xs rest before later new
+  pub goes_whole : (left : List Input) → left ≡ [] → xs ≡ ts ++ (left ++ rest) → IsFull (changes_at (node_of mid.node) ts) rest → GoesOn state (EndsAs end) old xs rest before later new
   goes_whole left none split full = record {
     came = x.came;
     told = x.told;

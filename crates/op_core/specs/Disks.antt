@@ -3,8 +3,8 @@ use Rattle.std.specs.Prelude.{◌≡◌, ◌≢◌, List, [], ◌∷◌, None}
 use Rattle.op_outside.specs.Disks.{DiskState}
 use Rattle.op_store.specs.Stored.{KeepBoth}
 use Rattle.op_store.specs.Stores.{disks_of}
-use Rattle.op_bounds.specs.States.{IsNamed}
 use Rattle.op_node.specs.Nodes.{node_of, IsRepresented}
+use Rattle.op_node.specs.Openings.{TakesWhole}
 use Rattle.op_node.specs.Reopenings.{StoreOneOf}
 use Rattle.op_serving.specs.Cores.{Standing}
 use Rattle.op_serving.specs.Fates.{Came, after_fate, after_all}
@@ -26,15 +26,15 @@ unstored_after_all n u (c ∷ cs) =
 
 module _ {D : Type 0} (state : D → DiskState) where
   -- A node's disks, where this is what they may hold since one failed: they stand for what the node has
-  -- stored or, where it has failed, for one of the two. Each of these names the node.
+  -- stored or, where it has failed, for one of the two. Each of these is the node's own.
   pub record Stores (u : Unstored) (c : NodeCore D) : Type 0 where
     pub up : (node_of c.node).failed ≡ None → IsRepresented state c.node
     pub failed : (node_of c.node).failed ≢ None →
         StoreOneOf u.before.durable u.ahead.durable (disks_of state c.node.store)
-    pub named : (node_of c.node).failed ≡ None →
-        IsNamed (node_of c.node).me (node_of c.node).state.durable
-    pub before_named : IsNamed (node_of c.node).me u.before.durable
-    pub ahead_named : IsNamed (node_of c.node).me u.ahead.durable
+    pub whole : (node_of c.node).failed ≡ None →
+        TakesWhole (node_of c.node).kind (node_of c.node).me (node_of c.node).state.durable
+    pub before_whole : TakesWhole (node_of c.node).kind (node_of c.node).me u.before.durable
+    pub ahead_whole : TakesWhole (node_of c.node).kind (node_of c.node).me u.ahead.durable
 
   -- What inputs that are stored together are to them, of which this came: each is itself. Where they stood
   -- so, each opening finds what was stored before or behind those that failed, and they still stand so.

@@ -6,8 +6,8 @@ use Rattle.op_types.specs.declared.events.Input.{Input}
 use Rattle.op_types.specs.declared.events.Input.TheVariants as input
 use Rattle.op_outside.specs.Disks.{DiskState}
 use Rattle.op_protocol.specs.State.{State, state_after}
-use Rattle.op_protocol.specs.Rows.{step_plan}
-use Rattle.op_bounds.specs.States.{IsNamed}
+use Rattle.op_runs.specs.World.{Kind, plan_as}
+use Rattle.op_node.specs.Openings.{TakesWhole}
 use Rattle.op_node.specs.Nodes.{NodeState, node_of}
 use Rattle.op_node.specs.declared.bound.Bound.{Bound}
 use Rattle.op_node.specs.Taking.{LeadsFrom, StoresAtOnce, most_before_step}
@@ -83,24 +83,33 @@ LosesNext (x ∷ xs) rest before after = (rest ≡ xs) × (after ≡ before ++ s
 -- ---- inputs of a node that is up
 
 -- the state behind these inputs
-abbrev pub state_all : ℕ → State → List Input → State
-state_all me s [] = s
-state_all me s (x ∷ xs) = state_all me (state_after s (step_plan me s x)) xs
+abbrev pub state_all : Kind → ℕ → State → List Input → State
+state_all k me s [] = s
+state_all k me s (x ∷ xs) = state_all k me (state_after s (plan_as k me s x)) xs
 
 -- what they give out
-abbrev pub told_all : ℕ → State → List Input → List Told
-told_all me s [] = []
-told_all me s (x ∷ xs) = Ok (given_of (step_plan me s x)) ∷ told_all me (state_after s (step_plan me s x)) xs
+abbrev pub told_all : Kind → ℕ → State → List Input → List Told
+told_all k me s [] = []
+told_all k me s (x ∷ xs) =
+    Ok (given_of (plan_as k me s x)) ∷ told_all k me (state_after s (plan_as k me s x)) xs
 
 -- what they store
-abbrev pub changes_all : ℕ → State → List Input → List Change
-changes_all me s [] = []
-changes_all me s (x ∷ xs) =
-    (step_plan me s x).batch ++ changes_all me (state_after s (step_plan me s x)) xs
+abbrev pub changes_all : Kind → ℕ → State → List Input → List Change
+changes_all k me s [] = []
+changes_all k me s (x ∷ xs) =
+    (plan_as k me s x).batch ++ changes_all k me (state_after s (plan_as k me s x)) xs
+
+-- what they store at a node
+abbrev pub changes_at : NodeState → List Input → List Change
+changes_at n xs = changes_all n.kind n.me n.state xs
 
 -- a node that is up, in this state
-abbrev pub up_node : ℕ → State → NodeState
-up_node me s = record { me = me; state = s; failed = None }
+abbrev pub up_node : Kind → ℕ → State → NodeState
+up_node k me s = record { kind = k; me = me; state = s; failed = None }
+
+-- the node behind these inputs
+abbrev pub node_after : NodeState → List Input → NodeState
+node_after n xs = up_node n.kind n.me (state_all n.kind n.me n.state xs)
 
 -- nothing that is left could be stored with these changes: a tick is next, or the record may have no room
 -- for another step
@@ -125,10 +134,9 @@ module _ {D : Type 0} (state : D → DiskState) where
   -- these inputs went into one commit, and none is left that could have gone with them
   pub record GoesTogether (old : NodeCore D) (xs rest : List Input) (new : NodeCore D) : Type 0 where
     pub bound : Bound
-    pub at_once : StoresAtOnce state (node_of old.node).state.durable
-        (changes_all (node_of old.node).me (node_of old.node).state xs)
+    pub at_once : StoresAtOnce state (node_of old.node).state.durable (changes_at (node_of old.node) xs)
         old.node.store new.node.store (Ok bound)
-    pub full : IsFull (changes_all (node_of old.node).me (node_of old.node).state xs) rest
+    pub full : IsFull (changes_at (node_of old.node) xs) rest
 
   -- of these inputs those came that aren't left, and the answers were added
   pub record GoesOn (Ends : List Came → Type 0) (old : NodeCore D) (xs rest : List Input)
@@ -154,16 +162,15 @@ module _ {D : Type 0} where
   -- A node that is up took these inputs, and nothing of them is stored.
   pub record Took (old : Node D) (ts : List Input) (before after : List Told) (gathered : Record)
       (new : Node D) : Type 0 where
-    pub node : node_of new ≡ up_node (node_of old).me (state_all (node_of old).me (node_of old).state ts)
+    pub node : node_of new ≡ node_after (node_of old) ts
     pub store : new.store ≡ old.store
-    pub leads : LeadsFrom (node_of old).state.durable
-        (changes_all (node_of old).me (node_of old).state ts) gathered (node_of new)
-    pub added : after ≡ before ++ told_all (node_of old).me (node_of old).state ts
-    pub given : All ToldInRange (told_all (node_of old).me (node_of old).state ts)
+    pub leads : LeadsFrom (node_of old).state.durable (changes_at (node_of old) ts) gathered (node_of new)
+    pub added : after ≡ before ++ told_all (node_of old).kind (node_of old).me (node_of old).state ts
+    pub given : All ToldInRange (told_all (node_of old).kind (node_of old).me (node_of old).state ts)
     pub calm : All IsCalm ts
     pub servable : IsServable new
-    pub named : IsNamed (node_of old).me (node_of old).state.durable →
-        IsNamed (node_of old).me (node_of new).state.durable
+    pub whole : TakesWhole (node_of old).kind (node_of old).me (node_of old).state.durable →
+        TakesWhole (node_of old).kind (node_of old).me (node_of new).state.durable
 
   -- of these inputs those were taken that aren't left
   pub record TakesAll (is_whole : Bool) (old : Node D) (xs rest : List Input) (before after : List Told)
@@ -173,7 +180,7 @@ module _ {D : Type 0} where
     pub split : xs ≡ ts ++ (left ++ rest)
     pub is_left : IsLeft is_whole left
     pub took : Took old ts before after gathered new
-    pub full : is_whole ≡ true → IsFull (changes_all (node_of old).me (node_of old).state ts) rest
+    pub full : is_whole ≡ true → IsFull (changes_at (node_of old) ts) rest
 
 -- What was taken is stored, or a disk fails, and then each answer from this place on tells it.
 abbrev pub StoredAs : {D : Type 0} → (D → DiskState) → End → Durable → List Change → ℕ → Node D → Node D

@@ -6,13 +6,14 @@ use Rattle.op_outside.specs.Disks.{DiskState}
 use Rattle.op_runs.specs.declared.summary.NodeLine.{NodeLine}
 use Rattle.op_runs.specs.declared.summary.Running.TheVariants as running
 use Rattle.op_runs.specs.Summary.{stands_at, joining_conf}
+use Rattle.op_runs.specs.World.{Kind, Votes, Observes}
 use Rattle.op_text.specs.Nodes.{node_text}
 use Rattle.op_protocol.specs.State.{State}
 use Rattle.op_store.specs.Failing.{faults}
 use Rattle.op_store.specs.Stores.{disks_of}
 use Rattle.op_store.specs.declared.fail.StoreFail.{StoreFail}
 use Rattle.op_store.specs.declared.fail.StoreFail.TheVariants as store_fails
-use Rattle.op_bounds.specs.States.{StateInRange}
+use Rattle.op_bounds.specs.States.{StateInRange, ObserverStateInRange}
 use Rattle.op_node.specs.Nodes.{NodeState, node_of, IsSoundNode}
 use Rattle.op_node.specs.declared.node.Node.{Node}
 use Rattle.op_node.specs.declared.fail.StepFail.{StepFail as NodeFail}
@@ -29,14 +30,14 @@ abbrev pub shows : ℕ → Place → Failure
 shows count p = record { count = count; at = p.at; joining = p.joining }
 
 -- a node in this state of which no disk failed, or one did: then nothing that it keeps in memory counts
-abbrev pub standing_by : Option ℕ → ℕ → State → Place → ℕ → Standing
-standing_by None me s p k = record { me = me; state = s; failed = None; faults = k }
-standing_by (Some count) me s p k =
-    record { me = me; state = forgotten me; failed = Some (shows count p); faults = k }
+abbrev pub standing_by : Option ℕ → Kind → ℕ → State → Place → ℕ → Standing
+standing_by None kind me s p k = record { kind = kind; me = me; state = s; failed = None; faults = k }
+standing_by (Some count) kind me s p k =
+    record { kind = kind; me = me; state = forgotten me; failed = Some (shows count p); faults = k }
 
 -- a node's state, where it stood before a disk failed, and the count of faults of its disks
 abbrev pub standing_at : NodeState → Place → ℕ → Standing
-standing_at n p k = standing_by n.failed n.me n.state p k
+standing_at n p k = standing_by n.failed n.kind n.me n.state p k
 
 abbrev pub standing_of : {D : Type 0} → (D → DiskState) → NodeCore D → Standing
 standing_of state c = standing_at (node_of c.node) c.stood (faults (disks_of state c.node.store))
@@ -92,9 +93,14 @@ status_line n = line_text (standing_line n)
 
 -- ---- what is served
 
+-- the state of a node of this kind is in range
+abbrev pub StateFits : Kind → State → Type 0
+StateFits Votes s = StateInRange IsPid s
+StateFits Observes s = ObserverStateInRange IsPid s
+
 -- A node that can be served: it is a server's,
 -- what it keeps in memory is of what it has stored, and all is in range.
 pub record IsServable {D : Type 0} (n : Node D) : Type 0 where
   pub me : IsPid (node_of n).me
   pub sound : IsSoundNode n
-  pub range : StateInRange IsPid (node_of n).state
+  pub range : StateFits (node_of n).kind (node_of n).state

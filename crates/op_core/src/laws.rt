@@ -2,11 +2,12 @@ ghost use Rattle.std.specs.Prelude.{◌≡◌, ℕ, Bool, List};
 ghost use Rattle.op_types.specs.Ranges.{IsPid};
 ghost use Rattle.op_types.specs.declared.durable.Durable.{Durable};
 ghost use Rattle.op_types.specs.declared.messages.Msg.{Msg};
+ghost use Rattle.op_runs.specs.World.{Kind};
 ghost use Rattle.op_store.specs.declared.fail.StoreFail.{StoreFail};
 ghost use Rattle.op_store.specs.Stored.{KeepBoth};
 ghost use Rattle.op_store.specs.Stores.{disks_of};
 ghost use Rattle.op_node.specs.Nodes.{node_of, IsRepresented, IsSoundNode};
-ghost use Rattle.op_node.specs.Openings.{Opens, disks_with};
+ghost use Rattle.op_node.specs.Openings.{OpensAs, disks_with};
 ghost use Rattle.op_node.specs.Reopenings.{Reopens, Restarts, RefusesAgain};
 ghost use Rattle.op_node.specs.declared.node.Node.{Node};
 ghost use Rattle.op_serving.specs.Faults.{Walks};
@@ -20,8 +21,9 @@ use op_outside::Disk;
 
 /// Every node that is opened for a server can be served.
 pub fn opened_nodes_can_be_served<D: Disk>()
-    ensures { (me : ℕ) (members : List ℕ) (first second : D) (n : Node D) (sends : List (ℕ × Msg)) →
-        Opens D.state me members (disks_with D.state first second) n sends → IsPid me → IsServable n }
+    ensures { (kind : Kind) (me : ℕ) (members : List ℕ) (first second : D) (n : Node D)
+        (sends : List (ℕ × Msg)) → OpensAs kind D.state me members (disks_with D.state first second) n sends
+        → IsPid me → IsServable n }
 {}
 
 /// A node that could be served before it failed can be so when it is opened again, and where that is refused.
@@ -34,11 +36,12 @@ pub fn reopened_nodes_can_be_served<D: Disk>()
         RefusesAgain D.state n m cause → IsSoundNode m → IsServable n → IsServable m }
 {}
 
-/// A node that is opened, and whose disks stand for what it has stored, is named in that.
+/// A node that is opened, and whose disks stand for what it has stored, takes that whole.
 pub fn opened_nodes_store<D: Disk>()
-    ensures { (me : ℕ) (members : List ℕ) (first second : D) (n : NodeCore D) (sends : List (ℕ × Msg)) →
-        Opens D.state me members (disks_with D.state first second) n.node sends →
-        IsRepresented D.state n.node → Stores D.state (all_stored (node_of n.node).state) n }
+    ensures { (kind : Kind) (me : ℕ) (members : List ℕ) (first second : D) (n : NodeCore D)
+        (sends : List (ℕ × Msg))
+        → OpensAs kind D.state me members (disks_with D.state first second) n.node sends
+        → IsRepresented D.state n.node → Stores D.state (all_stored (node_of n.node).state) n }
 {}
 
 /// Over each run of a node that is served its disks are themselves. Where they stood for what it had stored, each

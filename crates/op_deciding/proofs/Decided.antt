@@ -17,7 +17,7 @@ use Rattle.op_spec.specs.Service.{Service, service_after, service_with, all_afte
 use Rattle.op_protocol.specs.Parts.{part_after}
 use Rattle.op_protocol.specs.Serving.{reply_of}
 use Rattle.op_plans.proofs.Batches.{after_both}
-use Rattle.op_kv.specs.Over.{service_over}
+use Rattle.op_change.specs.Over.{service_over}
 use Rattle.op_deciding.specs.Deciding.{Continues, ServesNothing, IsServed, replies_to, stop_after}
 use Rattle.op_deciding.specs.declared.served.Served.{Served}
 

@@ -7,7 +7,7 @@ use Rattle.op_types.specs.declared.log.Entry.TheVariants as entry
 use Rattle.op_types.specs.declared.log.StopSign.{StopSign}
 use Rattle.op_spec.specs.Service.{Service, service_with, all_after}
 use Rattle.op_protocol.specs.Serving.{reply_of}
-use Rattle.op_kv.specs.Over.{service_over}
+use Rattle.op_change.specs.Over.{service_over}
 use Rattle.op_deciding.specs.declared.served.Served.{Served}
 
 -- the replies to the commands among these entries, in order, each for whoever waits for it

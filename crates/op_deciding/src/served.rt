@@ -1,8 +1,9 @@
 ghost use Rattle.std.specs.Prelude.{◌≡◌, ◌∷◌, [], None, OnOk};
-ghost use Rattle.op_kv.specs.Over.{nothing_written};
+ghost use Rattle.op_change.specs.Over.{nothing_written};
 ghost use Rattle.op_deciding.specs.Deciding.{Continues};
 
-use op_kv::{KvChange, Map};
+use op_change::KvChange;
+use op_kv::Map;
 use op_types::{Entry, NoMemory, Replies, Reply, StopSign};
 use std::alloc::Global;
 

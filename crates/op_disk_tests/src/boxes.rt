@@ -6,6 +6,7 @@ ghost use Rattle.op_outside.specs.Causes.{FaultsRose};
 use op_journal::Journal;
 use op_memory::MemDisk;
 use op_outside::{Disk, DiskFail};
+use std::alloc::{AllocError, Global};
 use std::test::Fail;
 
 /// A disk whose every call fails.
@@ -72,12 +73,20 @@ fn use_disk<D: Disk>(disk: &mut D) -> Result<[u8; 2], DiskFail> {
     Ok(bytes)
 }
 
+/// What use of a disk gives, its length then, and its faults.
+fn told<D: Disk>(disk: &mut D) -> (Result<[u8; 2], DiskFail>, Result<u64, DiskFail>, u64) {
+    (use_disk(disk), disk.len(), disk.faults())
+}
+
+/// A boxed disk that holds `ab`.
+fn boxed(alloc: Global) -> Result<Box<dyn Disk>, AllocError> {
+    let disk = MemDisk::new(alloc, Vec::from_slice(alloc, b"ab")?)?;
+    Ok(Box::new(alloc, disk)?)
+}
+
 #[test]
 fn a_boxed_disk_is_one(rt: HostRuntime) -> Result<(), Fail> {
-    let alloc = rt.alloc();
-    let bytes = Vec::from_slice(alloc, b"ab")?;
-    let mut disk: Box<dyn Disk> = Box::new(alloc, MemDisk::new(alloc, bytes)?)?;
-    assert_eq!(rt; use_disk(&mut disk), Ok(*b"bc"));
-    assert_eq!(rt; (disk.len(), disk.faults()), (Ok(3), 0));
+    let mut disk = boxed(rt.alloc())?;
+    assert_eq!(rt; told(&mut disk), (Ok(*b"bc"), Ok(3), 0));
     Ok(())
 }

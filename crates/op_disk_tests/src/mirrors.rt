@@ -22,73 +22,114 @@ fn is_left(disk: &MemDisk, lives: bool, left: Left) -> bool {
     lives == left.0 && disk.calls() == left.1 && disk.bytes() == left.2
 }
 
-/// Whether two copies with these bytes, of which each stops at a call, unless that is 0, are left so.
-fn are_left(
-    alloc: Global,
-    first: (&[u8], u64),
-    second: (&[u8], u64),
-    left: (Left, Left),
-) -> Result<bool, AllocError> {
+/// What a copy holds, and the call in which it stops, unless that is 0.
+type Held = (&'static [u8], u64);
+
+/// Both copies, and what an opening leaves of each.
+type Row = (Held, Held, Left<'static>, Left<'static>);
+
+/// Both copies.
+fn copies(alloc: Global, first: &Held, second: &Held) -> Result<(MemDisk, MemDisk), AllocError> {
     let first = copy(alloc, first.0, first.1)?;
-    let second = copy(alloc, second.0, second.1)?;
-    Ok(match Mirror::open(alloc, first, second) {
+    Ok((first, copy(alloc, second.0, second.1)?))
+}
+
+/// Whether an opening leaves these copies so.
+fn are_left(alloc: Global, copies: (MemDisk, MemDisk), row: &Row) -> bool {
+    match Mirror::open(alloc, copies.0, copies.1) {
         Ok(mirror) => {
             let (first, second, halves) = mirror.apart();
-            is_left(&first, halves.has_first(), left.0)
-                && is_left(&second, halves.has_second(), left.1)
+            is_left(&first, halves.has_first(), row.2)
+                && is_left(&second, halves.has_second(), row.3)
         }
         Err(fail) => {
             fail.cause == OpenCause::DiskFail
-                && is_left(&fail.first, false, left.0)
-                && is_left(&fail.second, false, left.1)
+                && is_left(&fail.first, false, row.2)
+                && is_left(&fail.second, false, row.3)
         }
-    })
+    }
+}
+
+/// The first copy is synced, its length is asked, and it is read where it has a byte.
+const EQUAL: [Row; 7] = [
+    // Of the second one the length is asked, and it is synced.
+    ((b"", 0), (b"", 0), (true, 2, b""), (true, 2, b"")),
+    (
+        (b"abcd", 0),
+        (b"abcd", 0),
+        (true, 3, b"abcd"),
+        (true, 3, b"abcd"),
+    ),
+    // It lacks all, or the rest: one write.
+    (
+        (b"abcd", 0),
+        (b"", 0),
+        (true, 3, b"abcd"),
+        (true, 3, b"abcd"),
+    ),
+    (
+        (b"abcd", 0),
+        (b"ab", 0),
+        (true, 3, b"abcd"),
+        (true, 4, b"abcd"),
+    ),
+    // One write for each run that differs.
+    (
+        (b"abcdef", 0),
+        (b"abXdYZ", 0),
+        (true, 3, b"abcdef"),
+        (true, 5, b"abcdef"),
+    ),
+    // It is longer: a cut.
+    (
+        (b"abc", 0),
+        (b"abcdef", 0),
+        (true, 3, b"abc"),
+        (true, 4, b"abc"),
+    ),
+    ((b"", 0), (b"abc", 0), (true, 2, b""), (true, 3, b"")),
+];
+
+/// Copies that differ.
+const ONE: &[u8] = b"abcd";
+
+const TWO: &[u8] = b"aXcY";
+
+/// A copy that fails in an opening is out.
+const FAILING: [Row; 10] = [
+    // Once the first copy has failed only the second one's sync is left.
+    ((ONE, 1), (TWO, 0), (false, 1, ONE), (true, 1, TWO)),
+    ((ONE, 2), (TWO, 0), (false, 2, ONE), (true, 1, TWO)),
+    ((ONE, 3), (TWO, 0), (false, 3, ONE), (true, 2, TWO)),
+    // Once the second one has failed nothing is left.
+    ((ONE, 0), (TWO, 1), (true, 2, ONE), (false, 1, TWO)),
+    ((ONE, 0), (TWO, 2), (true, 3, ONE), (false, 2, TWO)),
+    ((ONE, 0), (TWO, 3), (true, 3, ONE), (false, 3, TWO)),
+    ((ONE, 0), (TWO, 4), (true, 3, ONE), (false, 4, b"abcY")),
+    ((ONE, 0), (TWO, 5), (true, 3, ONE), (false, 5, ONE)),
+    // Both fail.
+    ((ONE, 1), (TWO, 1), (false, 1, ONE), (false, 1, TWO)),
+    ((ONE, 3), (TWO, 2), (false, 3, ONE), (false, 2, TWO)),
+];
+
+/// The first of these rows that goes otherwise.
+fn first_wrong(alloc: Global, rows: &[Row]) -> Result<Option<usize>, AllocError> {
+    for (place, row) in rows.iter().enumerate() {
+        if !are_left(alloc, copies(alloc, &row.0, &row.1)?, row) {
+            return Ok(Some(place));
+        }
+    }
+    Ok(None)
 }
 
 #[test]
 fn an_opening_makes_the_second_copy_equal(rt: HostRuntime) -> Result<(), Fail> {
-    // The first copy is synced, its length is asked, and it is read where it has a byte.
-    let rows: [(&[u8], &[u8], u64, u64); 7] = [
-        // Of the second one the length is asked, and it is synced.
-        (b"", b"", 2, 2),
-        (b"abcd", b"abcd", 3, 3),
-        // It lacks all, or the rest: one write.
-        (b"abcd", b"", 3, 3),
-        (b"abcd", b"ab", 3, 4),
-        // One write for each run that differs.
-        (b"abcdef", b"abXdYZ", 3, 5),
-        // It is longer: a cut.
-        (b"abc", b"abcdef", 3, 4),
-        (b"", b"abc", 2, 3),
-    ];
-    for (first, second, calls, second_calls) in rows {
-        let left = ((true, calls, first), (true, second_calls, first));
-        assert!(rt; are_left(rt.alloc(), (first, 0), (second, 0), left)?);
-    }
+    assert_eq!(rt; first_wrong(rt.alloc(), &EQUAL)?, None);
     Ok(())
 }
 
 #[test]
 fn a_copy_that_fails_in_an_opening_is_out(rt: HostRuntime) -> Result<(), Fail> {
-    let (one, two): (&[u8], &[u8]) = (b"abcd", b"aXcY");
-    let rows: [(u64, u64, Left, Left); 10] = [
-        // Once the first copy has failed only the second one's sync is left.
-        (1, 0, (false, 1, one), (true, 1, two)),
-        (2, 0, (false, 2, one), (true, 1, two)),
-        (3, 0, (false, 3, one), (true, 2, two)),
-        // Once the second one has failed nothing is left.
-        (0, 1, (true, 2, one), (false, 1, two)),
-        (0, 2, (true, 3, one), (false, 2, two)),
-        (0, 3, (true, 3, one), (false, 3, two)),
-        (0, 4, (true, 3, one), (false, 4, b"abcY")),
-        (0, 5, (true, 3, one), (false, 5, one)),
-        // Both fail.
-        (1, 1, (false, 1, one), (false, 1, two)),
-        (3, 2, (false, 3, one), (false, 2, two)),
-    ];
-    for (stop, second_stop, left, second_left) in rows {
-        let left = (left, second_left);
-        assert!(rt; are_left(rt.alloc(), (one, stop), (two, second_stop), left)?);
-    }
+    assert_eq!(rt; first_wrong(rt.alloc(), &FAILING)?, None);
     Ok(())
 }

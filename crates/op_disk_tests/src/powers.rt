@@ -41,43 +41,65 @@ fn append_to_both(first: &mut MemDisk, second: &mut MemDisk) {
     }
 }
 
-/// Whether two disks that stop in these calls, and get the same three bytes in turn, are left so, and run again.
-fn stop_so(
+/// The calls in which two disks stop, unless they are 0, what is left of each, and whether the same is pending of both.
+type Row = ((u64, u64), Left<'static>, Left<'static>, bool);
+
+const ROWS: [Row; 4] = [
+    (
+        (0, 0),
+        (0, b"abcde", b"abcde"),
+        (0, b"abcde", b"abcde"),
+        true,
+    ),
+    // The other one stops in its next call.
+    ((2, 0), (2, b"abcd", b"abc"), (2, b"abcd", b"abc"), true),
+    ((0, 2), (1, b"abcde", b"abcd"), (2, b"abcd", b"abc"), false),
+    ((1, 3), (3, b"abc", b"ab"), (3, b"abc", b"ab"), true),
+];
+
+/// Two disks that share this switch, and stop in these calls.
+fn pair(
     alloc: Global,
-    stops: (u64, u64),
-    left: (Left, Left),
-    is_same: bool,
-) -> Result<bool, AllocError> {
-    let power = Power::new(alloc)?;
-    let mut first = disk(alloc, &power, stops.0)?;
-    let mut second = disk(alloc, &power, stops.1)?;
+    power: &Power,
+    stops: &(u64, u64),
+) -> Result<(MemDisk, MemDisk), AllocError> {
+    let first = disk(alloc, power, stops.0)?;
+    Ok((first, disk(alloc, power, stops.1)?))
+}
+
+/// Whether two disks are left so.
+fn are_left(first: &MemDisk, second: &MemDisk, row: &Row) -> Result<bool, AllocError> {
+    Ok(is_left(first, row.1)? && is_left(second, row.2)? && first.pends_as(second)? == row.3)
+}
+
+/// Whether a disk that is told nothing any more runs again.
+fn runs_again(disk: &mut MemDisk) -> bool {
+    disk.clear_script();
+    disk.sync().is_ok()
+}
+
+/// Whether two disks that share this switch and get the same three bytes in turn are left so, and run again.
+fn stop_so(alloc: Global, power: &Power, row: &Row) -> Result<bool, AllocError> {
+    let (mut first, mut second) = pair(alloc, power, &row.0)?;
     append_to_both(&mut first, &mut second);
-    let are_left = is_left(&first, left.0)? && is_left(&second, left.1)?;
-    let is_right = first.pends_as(&second)? == is_same && power.is_off() == (stops != (0, 0));
-    first.clear_script();
-    second.clear_script();
-    Ok(are_left && is_right && first.sync().is_ok() && second.sync().is_ok())
+    let are_left = are_left(&first, &second, row);
+    let run = runs_again(&mut first) && runs_again(&mut second);
+    Ok(are_left? && run)
+}
+
+/// The first of these rows that goes otherwise, or leaves the switch so.
+fn first_wrong(alloc: Global, rows: &[Row]) -> Result<Option<usize>, AllocError> {
+    for (place, row) in rows.iter().enumerate() {
+        let power = Power::new(alloc)?;
+        if !stop_so(alloc, &power, row)? || power.is_off() == (row.0 == (0, 0)) {
+            return Ok(Some(place));
+        }
+    }
+    Ok(None)
 }
 
 #[test]
 fn a_stop_switches_the_other_disk_off(rt: HostRuntime) -> Result<(), Fail> {
-    let rows: [((u64, u64), Left, Left, bool); 4] = [
-        (
-            (0, 0),
-            (0, b"abcde", b"abcde"),
-            (0, b"abcde", b"abcde"),
-            true,
-        ),
-        // The other one stops in its next call.
-        ((2, 0), (2, b"abcd", b"abc"), (2, b"abcd", b"abc"), true),
-        ((0, 2), (1, b"abcde", b"abcd"), (2, b"abcd", b"abc"), false),
-        ((1, 3), (3, b"abc", b"ab"), (3, b"abc", b"ab"), true),
-    ];
-    for (stops, first, second, is_same) in rows {
-        assert!(rt;
-            stop_so(rt.alloc(), stops, (first, second), is_same)?,
-            "{stops:?}"
-        );
-    }
+    assert_eq!(rt; first_wrong(rt.alloc(), &ROWS)?, None);
     Ok(())
 }

@@ -1,20 +1,42 @@
 ghost use Rattle.std.specs.Prelude.{◌≤◌, ◌+◌, ◌↔◌, IsTrue, IfOk, OnOk, length};
 ghost use Rattle.op_outside.specs.Disks.{disk_end};
 
+use crate::copied::Copied;
 use crate::folders::sync_folder_of;
+use crate::log::Log;
 use op_outside::DISK_END;
 use std::alloc::Global;
-use std::fs::{self, File, OpenOptions};
+use std::fmt::Display;
+use std::fs::{self, File, OpenOptions, TryLockError};
 use std::io::{self, ErrorKind};
 use std::os::unix::fs::FileExt;
 use std::path::PathBuf;
 use std::rt::Files;
+use std::time::Clock;
 
-/// A file that is opened and locked at its first use, and made where there is none.
+/// A sync that takes so long, in milliseconds, is told.
+const SLOW_MILLIS: u64 = 1000;
+
+/// What a file is where there is none.
+#[derive(Clone, Copy, PartialEq, Eq)]
+pub(crate) enum Absent {
+    /// It is made.
+    Made,
+    /// It has no bytes, and isn't made.
+    Empty,
+}
+
+/// A file that is opened and locked at its first use.
 #[derive(Drop)]
-pub(crate) struct LazyFile<R: Files<File = File> + Alloc<A = Global> + Drop> {
+pub(crate) struct LazyFile<R: Files<File = File> + Clock + Eprint + Alloc<A = Global> + Drop> {
     rt: R,
     path: PathBuf,
+    absent: Absent,
+    /// What is known of it as a copy, if it is one of two.
+    copied: Option<Copied>,
+    log: Log,
+    /// Whether its last call failed, which was told.
+    is_failing: bool,
     file: Option<File>,
     /// Whether its length may have changed since the last sync.
     resized: bool,
@@ -22,14 +44,57 @@ pub(crate) struct LazyFile<R: Files<File = File> + Alloc<A = Global> + Drop> {
     lost: bool,
 }
 
-impl<R: Files<File = File> + Alloc<A = Global> + Drop> LazyFile<R> {
-    pub(crate) fn new(rt: R, path: PathBuf) -> Self {
+impl<R: Files<File = File> + Clock + Eprint + Alloc<A = Global> + Drop> LazyFile<R> {
+    pub(crate) fn new(rt: R, path: PathBuf, absent: Absent) -> Self {
         LazyFile {
             rt,
             path,
+            absent,
+            copied: None,
+            log: Log::off(),
+            is_failing: false,
             file: None,
             resized: true,
             lost: false,
+        }
+    }
+
+    /// A file that is one of two copies, and made where there is none.
+    pub(crate) fn copy(rt: R, path: PathBuf, copied: Copied) -> Self {
+        LazyFile {
+            copied: Some(copied),
+            ..LazyFile::new(rt, path, Absent::Made)
+        }
+    }
+
+    /// Tells what fails by these lines.
+    pub(crate) fn set_log(&mut self, log: Log) {
+        self.log = log;
+    }
+
+    fn tell<T: Display + Drop>(&self, what: T) {
+        let name = self.path.as_path().display();
+        self.log.tell(&self.rt, format_args!("{name}: {what}"));
+    }
+
+    /// Notes how a call ended: it is told that calls fail, and that they are answered again; and a copy of which one fails has failed
+    /// for good.
+    pub(crate) fn note(&mut self, call: &str, error: Option<&io::Error>) {
+        let Some(error) = error else {
+            if self.is_failing {
+                self.is_failing = false;
+                self.tell("answers again");
+            }
+            return;
+        };
+        if !self.is_failing {
+            self.is_failing = true;
+            self.tell(format_args!("{call} failed: {error}"));
+        }
+        if let Some(copied) = &mut self.copied {
+            if copied.fails(&self.rt, self.path.as_path(), error) {
+                self.tell("this copy has failed, and is called no more");
+            }
         }
     }
 
@@ -37,6 +102,9 @@ impl<R: Files<File = File> + Alloc<A = Global> + Drop> LazyFile<R> {
     fn opened(&mut self) -> io::Result<&File> {
         if self.lost {
             return Err(ErrorKind::Other.into());
+        }
+        if let Some(copied) = &mut self.copied {
+            copied.lives(&self.rt, self.path.as_path())?;
         }
         if self.file.is_none() {
             self.file = Some(self.open()?);
@@ -48,9 +116,11 @@ impl<R: Files<File = File> + Alloc<A = Global> + Drop> LazyFile<R> {
     /// synced.
     fn open(&self) -> io::Result<File> {
         let mut how = OpenOptions::new();
-        how.read(true).write(true).create(true);
+        how.read(true)
+            .write(true)
+            .create(self.absent == Absent::Made);
         let file = how.open(&self.rt, self.path.as_path())?;
-        file.try_lock()?;
+        lock(&file)?;
         self.sync_folder()?;
         Ok(file)
     }
@@ -70,7 +140,12 @@ impl<R: Files<File = File> + Alloc<A = Global> + Drop> LazyFile<R> {
     pub(crate) fn len(&mut self) -> io::Result<u64>
         ensures { IfOk result (λ n. n ≤ disk_end) }
     {
-        let len = self.opened()?.metadata()?.len();
+        let may_lack = self.absent == Absent::Empty;
+        let len = match self.opened() {
+            Ok(file) => file.metadata()?.len(),
+            Err(error) if may_lack && error.kind() == ErrorKind::NotFound => 0,
+            Err(error) => return Err(error),
+        };
         if len > DISK_END {
             return Err(ErrorKind::FileTooLarge.into());
         }
@@ -81,6 +156,9 @@ impl<R: Files<File = File> + Alloc<A = Global> + Drop> LazyFile<R> {
     pub(crate) fn read(&mut self, at: u64, buf: &mut [u8]) -> io::Result<()> {
         if !ends_by(at, buf.len(), self.len()?) {
             return Err(ErrorKind::UnexpectedEof.into());
+        }
+        if buf.is_empty() {
+            return Ok(());
         }
         self.opened()?.read_exact_at(buf, at)
     }
@@ -110,6 +188,7 @@ impl<R: Files<File = File> + Alloc<A = Global> + Drop> LazyFile<R> {
     /// device then has all else that a read needs, and the file's times are of no use here.
     pub(crate) fn sync(&mut self) -> io::Result<()> {
         let resized = self.resized;
+        let start = self.log.millis(&self.rt);
         let file = self.opened()?;
         let done = if resized {
             file.sync_all()
@@ -118,7 +197,30 @@ impl<R: Files<File = File> + Alloc<A = Global> + Drop> LazyFile<R> {
         };
         self.lost = done.is_err();
         self.resized = false;
+        self.tell_slow(start);
         done
+    }
+
+    /// Tells of a sync that began at this moment and took long.
+    fn tell_slow(&self, start: Option<u64>) {
+        let (Some(start), Some(end)) = (start, self.log.millis(&self.rt)) else {
+            return;
+        };
+        let took = end.saturating_sub(start);
+        if took >= SLOW_MILLIS {
+            self.tell(format_args!("a sync took {took} ms"));
+        }
+    }
+}
+
+/// Locks a file, or says that another process has it.
+fn lock(file: &File) -> io::Result<()> {
+    match file.try_lock() {
+        Ok(()) => Ok(()),
+        Err(TryLockError::WouldBlock) => {
+            Err(io::Error::new(ErrorKind::WouldBlock, "another process has it"))
+        }
+        Err(TryLockError::Error(error)) => Err(error),
     }
 }
 

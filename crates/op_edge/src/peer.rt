@@ -7,8 +7,40 @@ use crate::options::set_options;
 use crate::poller::Poller;
 use mio::event::Event;
 use mio::net::TcpStream;
-use op_outside::{Conn, Got, Happening, Took};
+use op_outside::{Addr, Conn, Got, Happening, Took};
 use std::io::{self, ErrorKind, Read, Write};
+
+/// Whose a connection is.
+#[derive(Clone, Copy, PartialEq, Eq)]
+pub(crate) enum Whose {
+    /// It was dialled here, to a server.
+    Dialled,
+    /// It came, and has said nothing yet.
+    Newcomers,
+    /// It came, and isn't a server's.
+    Clients,
+    /// It came, and says that it is this server's.
+    Servers(u32),
+}
+
+/// The byte with which a server's connection begins; its id follows in four bytes.
+const SERVERS: u8 = b'Q';
+
+impl Whose {
+    /// Whose a connection is that begins with these bytes.
+    pub(crate) fn of(bytes: &[u8]) -> Whose {
+        match bytes {
+            [SERVERS, a, b, c, d, ..] => Whose::Servers(u32::from_be_bytes([*a, *b, *c, *d])),
+            [SERVERS, ..] => Whose::Servers(0),
+            _ => Whose::Clients,
+        }
+    }
+
+    /// Whether it came from elsewhere, and isn't known to be a server's.
+    pub(crate) fn is_guest(self) -> bool {
+        self == Whose::Newcomers || self == Whose::Clients
+    }
+}
 
 /// A connection, and what the system said of it. It says a thing once, at a change: so each is kept until a read or a write
 /// finds it otherwise.
@@ -16,34 +48,49 @@ use std::io::{self, ErrorKind, Read, Write};
 pub(crate) struct Peer {
     /// None once it is closed.
     stream: Option<TcpStream>,
+    pub(crate) whose: Whose,
+    /// The address at its other end.
+    pub(crate) addr: Addr,
+    /// When it came, or last said something, in milliseconds of the net's clock.
+    pub(crate) heard: u64,
     /// Whether a read may find bytes, or the end.
     readable: bool,
     /// Whether there is room again, of which `told_of_room` wasn't called.
     writable: bool,
     ended: bool,
+    /// Whether it was dialled, and has had room since.
+    is_open: bool,
     /// Where it waits for room: when it has ended unless there is room before, in milliseconds of the net's clock.
     pub(crate) deadline: Option<u64>,
 }
 
 impl Peer {
-    /// A connection that waits for room until this time: so does one that was dialled, until it is open.
-    pub(crate) fn new(stream: TcpStream, deadline: Option<u64>) -> Peer {
+    /// A connection with this address, at this time. One that was dialled waits for room until the deadline, and is open then.
+    pub(crate) fn new(
+        stream: TcpStream,
+        whose: Whose,
+        addr: Addr,
+        now: u64,
+        deadline: Option<u64>,
+    ) -> Peer {
         Peer {
             stream: Some(stream),
+            whose,
+            addr,
+            heard: now,
             readable: false,
             writable: false,
             ended: false,
+            is_open: false,
             deadline,
         }
     }
 
-    /// Has the system tell what happens at it, under this key.
-    pub(crate) fn register(&mut self, poller: &Poller, key: usize) -> io::Result<()> {
-        let Some(stream) = &mut self.stream else {
-            return Err(ErrorKind::NotConnected.into());
-        };
-        set_options(stream)?;
-        poller.add(stream, key)
+    /// Ends it, whatever it has still said.
+    pub(crate) fn end(&mut self) {
+        self.deadline = None;
+        self.readable = false;
+        self.ended = true;
     }
 
     /// Closes it: nothing is told of it any more.
@@ -68,13 +115,33 @@ impl Peer {
         }
     }
 
-    /// Notes the time, in milliseconds of the net's clock.
-    pub(crate) fn note_time(&mut self, now: u64) {
-        if self.deadline.is_some_and(|deadline| deadline <= now) {
-            self.deadline = None;
-            self.readable = false;
-            self.ended = true;
+    /// Notes the time, in milliseconds of the net's clock. A client may say nothing for `idle` of them, if that has an end, and who
+    /// has said nothing yet for `newcomers`.
+    pub(crate) fn note_time(&mut self, now: u64, idle: Option<u64>, newcomers: Option<u64>) {
+        let most = match self.whose {
+            Whose::Newcomers => newcomers,
+            Whose::Clients => idle,
+            Whose::Dialled | Whose::Servers(_) => None,
+        };
+        let heard = self.heard;
+        let is_idle = !self.readable && most.is_some_and(|most| heard.saturating_add(most) <= now);
+        if is_idle || self.deadline.is_some_and(|deadline| deadline <= now) {
+            self.end();
         }
+    }
+
+    /// Whether it was dialled, and has been open.
+    pub(crate) fn is_open(&self) -> bool {
+        self.is_open
+    }
+
+    /// Has the system tell what happens at it, under this key.
+    pub(crate) fn register(&mut self, poller: &Poller, key: usize) -> io::Result<()> {
+        let Some(stream) = &mut self.stream else {
+            return Err(ErrorKind::NotConnected.into());
+        };
+        set_options(stream)?;
+        poller.add(stream, key)
     }
 
     /// Whether there is something to tell of it.
@@ -98,8 +165,19 @@ impl Peer {
         self.writable.then_some(Happening::Writable(conn))
     }
 
+    /// Notes that it was told that there is room.
     pub(crate) fn told_of_room(&mut self) {
         self.writable = false;
+    }
+
+    /// Notes that it has room, or took bytes: whether one that was dialled is open now, and wasn't.
+    pub(crate) fn opens(&mut self) -> bool {
+        let is_new = self.whose == Whose::Dialled
+            && !self.is_open
+            && !self.ended
+            && !self.is_closed();
+        self.is_open |= is_new;
+        is_new
     }
 
     pub(crate) fn read(&mut self, buf: &mut [u8]) -> Got

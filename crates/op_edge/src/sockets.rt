@@ -1,17 +1,22 @@
 ghost use Rattle.std.specs.Prelude.{◌≤◌, ◌<◌, length, vec_len, Ok};
 ghost use Rattle.op_outside.specs.Nets.{most_happenings, GotWithin, TookWithin};
 
+use crate::limits::Limits;
+use crate::log::Log;
 use crate::options::UNMOVED_MILLIS;
-use crate::peer::Peer;
+use crate::peer::{Peer, Whose};
 use crate::poller::{LISTENER, Poller};
 use mio::event::Event;
 use mio::net::{TcpListener, TcpStream};
 use op_outside::{Addr, Clock, Conn, Got, Happening, MOST_HAPPENINGS, Took};
 use slab::Slab;
 use std::alloc::Global;
+use std::collections::BTreeMap;
+use std::fmt::Display;
 use std::io::{self, ErrorKind};
 use std::net::{Ipv4Addr, Net, SocketAddr};
 use std::ops::Range;
+use std::time;
 
 /// How long a dial may go without an answer, in milliseconds.
 const UNANSWERED_MILLIS: u64 = 1000;
@@ -22,12 +27,24 @@ const MOST_ACCEPTED: u32 = 16;
 /// How long after an error of the listener it is tried again, in milliseconds.
 const ACCEPT_AGAIN_MILLIS: u64 = 100;
 
+/// How many connections more than clients may be connected are accepted, of which it isn't known yet whose they are: so servers find
+/// room.
+const NEWCOMERS: u64 = 64;
+
+/// How long one of these may say nothing while there are more clients than may be connected, in milliseconds.
+const NEWCOMERS_MILLIS: u64 = 10_000;
+
 /// A listener and connections. A connection's number is its key in the table: no two that are open share it. That of one which is
 /// closed comes again behind the next wait, so that what the last one told is never taken for news of another.
 #[derive(Drop)]
-pub(crate) struct Sockets<R: Net + Drop, C: Clock + Drop> {
+pub(crate) struct Sockets<
+    R: Net + time::Clock + Eprint + Alloc<A = Global> + Drop,
+    C: Clock + Drop,
+> {
     rt: R,
     clock: C,
+    log: Log,
+    limits: Limits,
     /// None where the system gave none.
     poller: Option<Poller>,
     listener: Option<TcpListener>,
@@ -37,27 +54,59 @@ pub(crate) struct Sockets<R: Net + Drop, C: Clock + Drop> {
     /// waits already.
     accept_at: Option<u64>,
     peers: Slab<Peer>,
+    /// How many of them came from elsewhere and aren't known to be a server's.
+    guests: u64,
+    /// How many of these have said something.
+    clients: u64,
+    /// The addresses that were dialled in vain since they last answered, which was told.
+    silent: BTreeMap<(u32, u16), ()>,
+    /// Whether it was told that connections are not kept.
+    is_crowd_told: bool,
     /// With which connection the next happenings begin, so that each has its turn.
     turn: Conn,
 }
 
-impl<R: Net + Drop, C: Clock + Drop> Sockets<R, C> {
+impl<R: Net + time::Clock + Eprint + Alloc<A = Global> + Drop, C: Clock + Drop> Sockets<R, C> {
     pub(crate) fn new(rt: R, alloc: Global, clock: C) -> Self {
         let poller = Poller::new(&rt, alloc).ok();
         Sockets {
             rt,
             clock,
+            log: Log::off(),
+            limits: Limits::of_files(),
             poller,
             listener: None,
             acceptable: false,
             accept_at: None,
             peers: Slab::new(alloc),
+            guests: 0,
+            clients: 0,
+            silent: BTreeMap::new(alloc),
+            is_crowd_told: false,
             turn: 0,
         }
     }
 
+    /// Tells what happens by these lines, and keeps to these limits.
+    pub(crate) fn set(&mut self, log: Log, limits: Limits) {
+        self.log = log;
+        self.limits = limits;
+    }
+
     /// Accepts connections at this address from now on, and at no other.
     pub(crate) fn listen(&mut self, addr: &Addr) -> io::Result<()> {
+        let answer = self.begin_to_listen(addr);
+        let at = socket_addr(addr);
+        match &answer {
+            Ok(()) => self.log.tell(&self.rt, format_args!("listens at {at}")),
+            Err(error) => self
+                .log
+                .tell(&self.rt, format_args!("can't listen at {at}: {error}")),
+        }
+        answer
+    }
+
+    fn begin_to_listen(&mut self, addr: &Addr) -> io::Result<()> {
         let Some(poller) = &self.poller else {
             return Err(ErrorKind::Other.into());
         };
@@ -73,23 +122,29 @@ impl<R: Net + Drop, C: Clock + Drop> Sockets<R, C> {
         if self.poller.is_none() {
             return Err(ErrorKind::Other.into());
         }
-        let deadline = self.clock.millis().saturating_add(UNANSWERED_MILLIS);
-        match TcpStream::connect(&self.rt, socket_addr(addr)) {
-            Ok(stream) => Ok(self.keep(stream, Some(deadline)).ok()),
-            Err(_) => Ok(None),
-        }
+        let now = self.clock.millis();
+        let deadline = Some(now.saturating_add(UNANSWERED_MILLIS));
+        let Ok(stream) = TcpStream::connect(&self.rt, socket_addr(addr)) else {
+            self.note_silent(*addr);
+            return Ok(None);
+        };
+        let peer = Peer::new(stream, Whose::Dialled, *addr, now, deadline);
+        Ok(self.keep(peer).ok())
     }
 
     /// Keeps a connection. One that can't be kept is closed.
-    fn keep(&mut self, stream: TcpStream, deadline: Option<u64>) -> io::Result<Conn> {
+    fn keep(&mut self, mut peer: Peer) -> io::Result<Conn> {
         let Some(poller) = &self.poller else {
             return Err(ErrorKind::Other.into());
         };
+        let is_guest = peer.whose.is_guest();
         let key = self.peers.vacant_key();
-        let mut peer = Peer::new(stream, deadline);
         peer.register(poller, key)?;
         if self.peers.insert(peer).is_err() {
             return Err(ErrorKind::OutOfMemory.into());
+        }
+        if is_guest {
+            self.guests = self.guests.saturating_add(1);
         }
         Ok(key as Conn)
     }
@@ -131,8 +186,14 @@ impl<R: Net + Drop, C: Clock + Drop> Sockets<R, C> {
             self.accept_at = None;
             self.acceptable = true;
         }
+        let idle = self.limits.idle_millis;
+        let newcomers = if self.guests > self.limits.most_clients {
+            Some(NEWCOMERS_MILLIS)
+        } else {
+            idle
+        };
         self.peers.retain(|_, peer| {
-            peer.note_time(now);
+            peer.note_time(now, idle, newcomers);
             !peer.is_closed()
         });
     }
@@ -172,17 +233,49 @@ impl<R: Net + Drop, C: Clock + Drop> Sockets<R, C> {
             return None;
         };
         match listener.accept() {
-            Ok((stream, _)) => self.keep(stream, None).ok(),
+            Ok((stream, from)) => self.keep_newcomer(stream, from),
             Err(error) if error.kind() == ErrorKind::ConnectionAborted => None,
             Err(error) => {
                 self.acceptable = false;
                 if error.kind() != ErrorKind::WouldBlock {
                     let again = self.clock.millis().saturating_add(ACCEPT_AGAIN_MILLIS);
                     self.accept_at = Some(again);
+                    self.tell_crowd(format_args!("can't accept connections: {error}"));
                 }
                 None
             }
         }
+    }
+
+    /// Keeps a connection that came. Where too many came of which it isn't known whose they are it is closed.
+    fn keep_newcomer(&mut self, stream: TcpStream, from: SocketAddr) -> Option<Conn> {
+        let most = self.limits.most_clients;
+        if self.guests >= most.saturating_add(NEWCOMERS) {
+            self.tell_crowd(format_args!("{most} clients are connected: more are closed"));
+            return None;
+        }
+        let now = self.clock.millis();
+        let peer = Peer::new(stream, Whose::Newcomers, addr_of(from), now, None);
+        self.keep(peer).ok()
+    }
+
+    /// Tells that connections are not kept, once until there is room again.
+    fn tell_crowd<D: Display + Drop>(&mut self, what: D) {
+        if !self.is_crowd_told {
+            self.is_crowd_told = true;
+            self.log.tell(&self.rt, what);
+        }
+    }
+
+    /// Tells that this address doesn't answer, once until it does again.
+    fn note_silent(&mut self, addr: Addr) {
+        let key = (addr.host, addr.port);
+        if self.silent.contains_key(&key) {
+            return;
+        }
+        let _ = self.silent.insert(key, ());
+        let at = socket_addr(&addr);
+        self.log.tell(&self.rt, format_args!("no answer at {at}"));
     }
 
     /// Notes that a happening was told.
@@ -191,6 +284,7 @@ impl<R: Net + Drop, C: Clock + Drop> Sockets<R, C> {
             if let Some(peer) = self.peers.get_mut(conn as usize) {
                 peer.told_of_room();
             }
+            self.opens(conn);
         }
         match happening {
             Happening::Accepted(_) => {}
@@ -200,13 +294,64 @@ impl<R: Net + Drop, C: Clock + Drop> Sockets<R, C> {
         }
     }
 
+    /// Notes that a connection has room, or took bytes: one that was dialled is open from the first time on.
+    fn opens(&mut self, conn: Conn) {
+        let Some(peer) = self.peers.get_mut(conn as usize) else {
+            return;
+        };
+        let is_new = peer.opens();
+        let addr = peer.addr;
+        if is_new {
+            self.silent.remove(&(addr.host, addr.port));
+            let at = socket_addr(&addr);
+            self.log.tell(&self.rt, format_args!("a link to {at}"));
+        }
+    }
+
     pub(crate) fn read(&mut self, conn: Conn, buf: &mut [u8]) -> Got
         requires { 0 < length buf.old }
         ensures { GotWithin (length buf.old) (Ok result) }
     {
-        match self.peers.get_mut(conn as usize) {
+        let got = match self.peers.get_mut(conn as usize) {
             Some(peer) => peer.read(buf),
             None => Got::Ended,
+        };
+        match got {
+            Got::Bytes(count) if !self.hears(conn, buf.get(..count).unwrap_or(&[])) => Got::Ended,
+            got => got,
+        }
+    }
+
+    /// Notes what a connection said. One of more clients than may be connected is ended: then it answers false.
+    fn hears(&mut self, conn: Conn, bytes: &[u8]) -> bool {
+        let now = self.clock.millis();
+        let most = self.limits.most_clients;
+        let Some(peer) = self.peers.get_mut(conn as usize) else {
+            return false;
+        };
+        peer.heard = now;
+        if peer.whose != Whose::Newcomers {
+            return true;
+        }
+        match Whose::of(bytes) {
+            Whose::Servers(id) => {
+                peer.whose = Whose::Servers(id);
+                self.guests = self.guests.saturating_sub(1);
+                let at = socket_addr(&peer.addr);
+                self.log
+                    .tell(&self.rt, format_args!("server {id} has a link from {at}"));
+                true
+            }
+            _ if self.clients < most => {
+                peer.whose = Whose::Clients;
+                self.clients = self.clients.saturating_add(1);
+                true
+            }
+            _ => {
+                peer.end();
+                self.tell_crowd(format_args!("{most} clients are connected: more are closed"));
+                false
+            }
         }
     }
 
@@ -216,21 +361,61 @@ impl<R: Net + Drop, C: Clock + Drop> Sockets<R, C> {
     {
         let now = self.clock.millis();
         let deadline = now.saturating_add(u64::from(UNMOVED_MILLIS));
-        match self.peers.get_mut(conn as usize) {
+        let took = match self.peers.get_mut(conn as usize) {
             Some(peer) => peer.write(piece, deadline),
             None => Took::Ended,
+        };
+        if let Took::Bytes(_) = took {
+            self.opens(conn);
         }
+        took
     }
 
     pub(crate) fn close(&mut self, conn: Conn) {
-        if let Some(peer) = self.peers.get_mut(conn as usize) {
-            peer.close();
+        let Some(peer) = self.peers.get_mut(conn as usize) else {
+            return;
+        };
+        if peer.is_closed() {
+            return;
+        }
+        peer.close();
+        let (whose, addr, is_open) = (peer.whose, peer.addr, peer.is_open());
+        if whose.is_guest() {
+            self.guests = self.guests.saturating_sub(1);
+            self.is_crowd_told &= self.guests >= self.limits.most_clients;
+        }
+        if whose == Whose::Clients {
+            self.clients = self.clients.saturating_sub(1);
+        }
+        let at = socket_addr(&addr);
+        match whose {
+            Whose::Dialled if is_open => {
+                self.log
+                    .tell(&self.rt, format_args!("the link to {at} is over"));
+            }
+            Whose::Dialled => self.note_silent(addr),
+            Whose::Servers(id) => {
+                self.log
+                    .tell(&self.rt, format_args!("the link of server {id} is over"));
+            }
+            Whose::Newcomers | Whose::Clients => {}
         }
     }
 }
 
 fn socket_addr(addr: &Addr) -> SocketAddr {
     SocketAddr::from((Ipv4Addr::from(addr.host), addr.port))
+}
+
+/// The address of IPv4; port 0 of any other.
+fn addr_of(addr: SocketAddr) -> Addr {
+    match addr {
+        SocketAddr::V4(addr) => Addr {
+            host: addr.ip().to_bits(),
+            port: addr.port(),
+        },
+        SocketAddr::V6(_) => Addr { host: 0, port: 0 },
+    }
 }
 
 /// Notes what the system says of a connection.

@@ -4,6 +4,7 @@ pub mod Entries
 mod Heartbeats
 mod Majorities
 mod Messages
+mod Observers
 mod Records
 mod Requests
 mod Services

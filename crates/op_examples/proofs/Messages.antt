@@ -4,6 +4,7 @@ use Rattle.op_types.specs.declared.ballot.Ballot.{Ballot}
 use Rattle.op_types.specs.declared.messages.Body.{Body}
 use Rattle.op_types.specs.declared.messages.Body.TheVariants as variant
 use Rattle.op_types.specs.declared.messages.Msg.{Msg}
+use Rattle.op_types.specs.declared.messages.Watch.TheVariants as watch
 use Rattle.op_fields.specs.Form.{encoded, items_read}
 use Rattle.op_examples.proofs.Entries.{IsEncoded, IsRefused, with_byte, one_put, put_bytes}
 use Rattle.op_msg.specs.Forms.{addressed}
@@ -52,7 +53,7 @@ promises_with_another_byte :
     (IsRefused addressed (with_byte 3 0 promise_bytes) 0) ×
     (IsRefused addressed (with_byte 6 4 promise_bytes) 4) ×
     (IsRefused addressed (with_byte 8 12 promise_bytes) 25) ×
-    (IsRefused addressed (with_byte 8 25 promise_bytes) 8) ×
+    (IsRefused addressed (with_byte 8 29 promise_bytes) 8) ×
     (IsRefused addressed (with_byte 8 28 promise_bytes) 21) ×
     (IsRefused addressed (with_byte 24 0 promise_bytes) 21) ×
     (IsRefused addressed (with_byte 37 64 promise_bytes) 37) ×
@@ -186,6 +187,31 @@ a_confirmed :
 unfolding encoded items_read
 a_confirmed = (refl, refl)
 
+-- an observer asks for what is decided behind 258 entries
+an_observer_asks :
+    Says (variant.Watch (watch.Ask 258)) (25 ∷ 0 ∷ 0 ∷ 0 ∷ 4 ∷ 0 ∷ 0 ∷ 0 ∷ 0 ∷ 0 ∷ 0 ∷ 1 ∷ 2 ∷ [])
+unfolding encoded items_read
+an_observer_asks = (refl, refl)
+
+-- it is shown an entry at a position
+an_entry_is_shown :
+    Says (variant.Watch (watch.Shown 6 (one_put ∷ []))) ((26 ∷ 0 ∷ 0 ∷ 0 ∷ 4 ∷ 0 ∷ 0 ∷ 0 ∷ 0 ∷ 0 ∷ 0 ∷ 0 ∷
+    6 ∷ 0 ∷ 0 ∷ 0 ∷ 0 ∷ 0 ∷ 0 ∷ 0 ∷ 1 ∷ []) ++ put_bytes)
+unfolding encoded items_read
+an_entry_is_shown = (refl, refl)
+
+-- or a piece of the base there, of a configuration with members 1 and 4
+a_base_is_shown :
+    Says (variant.Watch (watch.Base (1 ∷ 4 ∷ []) (record {
+      at = 6;
+      total = 258;
+      from = 256;
+      bytes = 97 ∷ 98 ∷ [];
+    }))) (27 ∷ 0 ∷ 0 ∷ 0 ∷ 4 ∷ 2 ∷ 0 ∷ 0 ∷ 0 ∷ 1 ∷ 0 ∷ 0 ∷ 0 ∷ 4 ∷ 0 ∷ 0 ∷ 0 ∷ 0 ∷ 0 ∷ 0 ∷ 0 ∷ 6 ∷ 0 ∷ 0 ∷
+    0 ∷ 0 ∷ 0 ∷ 0 ∷ 1 ∷ 2 ∷ 0 ∷ 0 ∷ 0 ∷ 0 ∷ 0 ∷ 0 ∷ 1 ∷ 0 ∷ 0 ∷ 0 ∷ 0 ∷ 0 ∷ 0 ∷ 0 ∷ 0 ∷ 2 ∷ 97 ∷ 98 ∷ [])
+unfolding encoded items_read
+a_base_is_shown = (refl, refl)
+
 -- two commands together
 forwarded_commands :
     Says (variant.Forwards (one_put ∷ one_put ∷ [])) ((28 ∷ 0 ∷ 0 ∷ 0 ∷ 4 ∷ 0 ∷ 0 ∷ 0 ∷ 0 ∷ 0 ∷ 0 ∷ 0 ∷ 2
@@ -200,12 +226,18 @@ IsBad bytes at = IsRefused addressed ((0 ∷ 0 ∷ 0 ∷ 2 ∷ 0 ∷ 0 ∷ 0 ∷
 -- tags that no message has
 no_tags :
     (IsBad (0 ∷ 0 ∷ 0 ∷ 0 ∷ 4 ∷ []) 8) ×
-    (IsBad (25 ∷ 0 ∷ 0 ∷ 0 ∷ 4 ∷ []) 8) ×
-    (IsBad (26 ∷ 0 ∷ 0 ∷ 0 ∷ 4 ∷ []) 8) ×
-    (IsBad (27 ∷ 0 ∷ 0 ∷ 0 ∷ 4 ∷ []) 8) ×
     (IsBad (29 ∷ 0 ∷ 0 ∷ 0 ∷ 4 ∷ []) 8)
 unfolding encoded items_read
-no_tags = (refl, refl, refl, refl, refl)
+no_tags = (refl, refl)
+
+-- a length above 2^62; no members; no bytes of a base
+nothing_for_observers :
+    (IsBad (25 ∷ 0 ∷ 0 ∷ 0 ∷ 4 ∷ 64 ∷ 0 ∷ 0 ∷ 0 ∷ 0 ∷ 0 ∷ 0 ∷ 1 ∷ []) 13) ×
+    (IsBad (27 ∷ 0 ∷ 0 ∷ 0 ∷ 4 ∷ 0 ∷ []) 13) ×
+    (IsBad (27 ∷ 0 ∷ 0 ∷ 0 ∷ 4 ∷ 1 ∷ 0 ∷ 0 ∷ 0 ∷ 1 ∷ 0 ∷ 0 ∷ 0 ∷ 0 ∷ 0 ∷ 0 ∷ 0 ∷ 6 ∷ 0 ∷ 0 ∷ 0 ∷ 0 ∷ 0 ∷ 0 ∷
+    1 ∷ 2 ∷ 0 ∷ 0 ∷ 0 ∷ 0 ∷ 0 ∷ 0 ∷ 1 ∷ 0 ∷ 0 ∷ 0 ∷ 0 ∷ 0 ∷ 0 ∷ 0 ∷ 0 ∷ 0 ∷ []) 42)
+unfolding encoded items_read
+nothing_for_observers = (refl, refl, refl)
 
 -- news of the first configuration; an empty list; no members
 no_next_configurations :

@@ -176,9 +176,30 @@ a_joined :
 unfolding encoded items_read rising_read
 a_joined = (refl, refl)
 
+-- an observer's new part
+abbrev rebase_bytes : List ℕ
+rebase_bytes =
+    (2 ∷ 1 ∷ 13 ∷ 0 ∷ 0 ∷ 0 ∷ 3 ∷ 2 ∷ 0 ∷ 0 ∷ 0 ∷ 1 ∷ 0 ∷ 0 ∷ 0 ∷ 4 ∷ 0 ∷ 0 ∷ 0 ∷ 0 ∷ 0 ∷ 0 ∷ 0 ∷ 6 ∷ [])
+    ++ counted_base
+
+a_rebase :
+    IsEncoded body (Step (variant.Rebase 3 (1 ∷ 4 ∷ []) 6 no_pairs ∷ [])) rebase_bytes
+unfolding encoded items_read rising_read
+a_rebase = (refl, refl)
+
+-- one other byte in it, and the place that is then named
+rebases_with_another_byte :
+    (IsRefused body (with_byte 6 0 rebase_bytes) 3) ×
+    (IsRefused body (with_byte 7 0 rebase_bytes) 7) ×
+    (IsRefused body (with_byte 15 1 rebase_bytes) 12) ×
+    (IsRefused body (with_byte 16 65 rebase_bytes) 16) ×
+    (IsRefused body (with_byte 31 15 rebase_bytes) 24)
+unfolding encoded items_read rising_read
+rebases_with_another_byte = (refl, refl, refl, refl, refl)
+
 -- a tag that is none; a flag that is none; the first configuration is joined; a base that is none, twice
 no_batches :
-    (IsRefused body (2 ∷ 1 ∷ 13 ∷ []) 2) ×
+    (IsRefused body (2 ∷ 1 ∷ 14 ∷ []) 2) ×
     (IsRefused body ((2 ∷ 1 ∷ 7 ∷ 2 ∷ []) ++ counted_base) 3) ×
     (IsRefused body (2 ∷ 1 ∷ 8 ∷ 0 ∷ 0 ∷ 0 ∷ 1 ∷ 1 ∷ 0 ∷ 0 ∷ 0 ∷ 1 ∷ []) 3) ×
     (IsRefused body (2 ∷ 1 ∷ 12 ∷ 0 ∷ 0 ∷ 0 ∷ 0 ∷ 0 ∷ 0 ∷ 0 ∷ 1 ∷ 0 ∷ []) 3) ×
@@ -199,11 +220,12 @@ forget_bytes =
     1 ∷ 0 ∷ 0 ∷ 0 ∷ 0 ∷ 0 ∷ 0 ∷ 0 ∷ 7 ∷ 0 ∷ 0 ∷ 0 ∷ 0 ∷ 0 ∷ 0 ∷ 0 ∷ 1 ∷ 6 ∷ 0 ∷ 0 ∷ 0 ∷ 0 ∷ 0 ∷ 0 ∷ 0 ∷ 8 ∷
     []
 
--- it has the same bytes for what it can hold, as a put, and has no forget
+-- it has the same bytes for what it can hold, as a put, and has no forget and no observer
 first_steps :
     (IsEncoded first_body first first_bytes) ×
     (IsEncoded first_body (Step (variant.Append (one_put ∷ []) ∷ [])) (appending put_bytes)) ×
     (IsEncoded body (Step (variant.Append (asked (Forget 8) ∷ []) ∷ [])) (appending forget_bytes)) ×
-    (IsRefused first_body (appending forget_bytes) 0)
+    (IsRefused first_body (appending forget_bytes) 0) ×
+    (IsRefused first_body rebase_bytes 0)
 unfolding encoded items_read rising_read
-first_steps = ((refl, refl), (refl, refl), (refl, refl), refl)
+first_steps = ((refl, refl), (refl, refl), (refl, refl), refl, refl)

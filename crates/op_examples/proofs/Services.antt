@@ -9,7 +9,7 @@ use Rattle.op_types.specs.declared.log.Entry.{Entry}
 use Rattle.op_types.specs.declared.log.Entry.TheVariants as entry
 use Rattle.op_types.specs.declared.writes.Write.TheVariants as write
 use Rattle.op_spec.specs.Service.{Service, new_service, base_bytes, all_after}
-use Rattle.op_kv.specs.Over.{answers_of}
+use Rattle.op_change.specs.Over.{answers_of}
 use Rattle.op_kv.specs.Rising.{rising_read}
 use Rattle.op_kv.specs.Bases.{base}
 

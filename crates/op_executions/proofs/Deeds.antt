@@ -1,7 +1,7 @@
--- What a possible event does is done at one of the nodes, and begins with something in range.
+-- What a possible event does is done at one of the servers, and begins with something in range.
 use Rattle.std.proofs.Common.{◌≡◌, ◌<◌, ◌+◌, ℕ, zero, suc, true, nat_eq, List, [], ◌∷◌, ◌++◌, length, get_or, Option, Some, None, All, slice_get, IfSome, refl, sym, ap, subst, ◌∙◌, arith}
 use Rattle.std.proofs.lemmas.Bool.{cond_both, and_parts}
-use Rattle.std.proofs.lemmas.List.Elements.{All-head, All-tail}
+use Rattle.std.proofs.lemmas.List.Elements.{All-nil, All-cons, All-head, All-tail, All-weaker}
 use Rattle.std.specs.Set.{is_member}
 use Rattle.op_types.specs.Ranges.{IsMember}
 use Rattle.op_types.specs.declared.events.Input.TheVariants as input
@@ -9,12 +9,60 @@ use Rattle.op_types.specs.declared.messages.Body.{Body}
 use Rattle.op_runs.specs.declared.events.What.{What}
 use Rattle.op_runs.specs.declared.events.What.TheVariants as what
 use Rattle.op_runs.specs.World.{Node, Sent, Happening, Steps, Deed, delivery, deed_of, node_at}
-use Rattle.op_runs.specs.Possible.{is_possible, proposals_of, proposals_in, WhatInRange}
-use Rattle.op_bounds.specs.Laws.{SentInRange}
-use Rattle.op_bounds.proofs.Known.{possible_names}
+use Rattle.op_runs.specs.Possible.{Named, are_nodes, is_possible, proposals_of, proposals_in, WhatInRange}
+use Rattle.op_bounds.specs.Laws.{SentInRange, WhatNames, WhatNamesKnown}
 use Rattle.op_executions.specs.declared.deed.Deed as deed
 use Rattle.op_executions.specs.Deeds.{deed_shown}
 use Rattle.op_executions.specs.Servers.{DoingInRange, IsPossibleDeed}
+
+-- ---- what an event names
+
+nodes_known : (nodes qs : List ℕ) → are_nodes nodes qs ≡ true → All (IsMember nodes) qs
+nodes_known nodes [] h = All-nil (IsMember nodes)
+nodes_known nodes (q ∷ qs) h = let a = and_parts (is_member nat_eq nodes q) (are_nodes nodes qs) h in All-cons (IsMember nodes) q qs a.0 (nodes_known nodes qs a.1)
+
+-- whom stop-signs may name may be named
+abbrev pub VotersAreServers : Named → Type 0
+VotersAreServers ids = (q : ℕ) → IsMember ids.voters q → IsMember ids.servers q
+
+-- an event that can come names servers alone, and a stop-sign such alone
+pub names_of : (ids : Named) (sent : ℕ) (w : What) → is_possible ids sent w ≡ true → WhatNames (IsMember ids.voters) (IsMember ids.servers) w
+names_of ids sent (what.Stop p members) h = nodes_known ids.voters members (and_parts (is_member nat_eq ids.servers p) (are_nodes ids.voters members) h).1
+names_of ids sent (what.Tick p) h = tt
+names_of ids sent (what.Commands p cs) h = tt
+names_of ids sent (what.Trim p) h = tt
+names_of ids sent (what.Read p a) h = tt
+names_of ids sent (what.Deliver i) h = tt
+names_of ids sent (what.Up p q) h = tt
+names_of ids sent (what.Down p q) h = tt
+names_of ids sent (what.Crash p) h = tt
+names_of ids sent (what.CrashAt p call image) h = tt
+names_of ids sent (what.Fail p call) h = tt
+names_of ids sent (what.Kill p disk) h = tt
+names_of ids sent (what.Start p) h = h
+names_of ids sent (what.Show p) h = tt
+names_of ids sent (what.Ballots p) h = tt
+
+-- names of more ids
+pub names_more : (P Q R S : ℕ → Type 0) → ((q : ℕ) → P q → R q) → ((q : ℕ) → Q q → S q) → (w : What) → WhatNames P Q w → WhatNames R S w
+names_more P Q R S named starts (what.Stop p members) h = All-weaker P R named members h
+names_more P Q R S named starts (what.Tick p) h = tt
+names_more P Q R S named starts (what.Commands p cs) h = tt
+names_more P Q R S named starts (what.Trim p) h = tt
+names_more P Q R S named starts (what.Read p a) h = tt
+names_more P Q R S named starts (what.Deliver i) h = tt
+names_more P Q R S named starts (what.Up p q) h = tt
+names_more P Q R S named starts (what.Down p q) h = tt
+names_more P Q R S named starts (what.Crash p) h = tt
+names_more P Q R S named starts (what.CrashAt p call image) h = tt
+names_more P Q R S named starts (what.Fail p call) h = tt
+names_more P Q R S named starts (what.Kill p disk) h = tt
+names_more P Q R S named starts (what.Start p) h = starts p h
+names_more P Q R S named starts (what.Show p) h = tt
+names_more P Q R S named starts (what.Ballots p) h = tt
+
+pub possible_names : (ids : Named) (sent : ℕ) (w : What) → VotersAreServers ids → is_possible ids sent w ≡ true → WhatNamesKnown (IsMember ids.servers) w
+possible_names ids sent w are h = names_more (IsMember ids.voters) (IsMember ids.servers) (IsMember ids.servers) (IsMember ids.servers) are (λ q x. x) w (names_of ids sent w h)
 
 -- ---- deeds in range
 
@@ -32,28 +80,28 @@ message_found ids [] i each = tt
 message_found ids (m ∷ ms) zero each = All-head (SentInRange (IsMember ids)) m ms each
 message_found ids (m ∷ ms) (suc i) each = message_found ids ms i (All-tail (SentInRange (IsMember ids)) m ms each)
 
-deed_possible : (ids : List ℕ) (ms : List Sent) (sent : ℕ) (w : What) → All (SentInRange (IsMember ids)) ms → is_possible ids sent w ≡ true → WhatInRange w → IfSome (deed_of ms w) (IsPossible ids)
-deed_possible ids ms sent (what.Tick p) each can fit = record { pid = can; doing = tt }
-deed_possible ids ms sent (what.Commands p cs) each can fit = record { pid = can; doing = fit.1 }
-deed_possible ids ms sent (what.Stop p members) each can fit =
-    record { pid = (and_parts (is_member nat_eq ids p) _ can).0; doing = record { range = fit.1; known = possible_names ids sent (what.Stop p members) can } }
-deed_possible ids ms sent (what.Trim p) each can fit = record { pid = can; doing = tt }
-deed_possible ids ms sent (what.Read p r) each can fit = record { pid = can; doing = fit.1 }
-deed_possible ids ms sent (what.Deliver i) each can fit = delivery_possible ids (slice_get ms i) (message_found ids ms i each)
-deed_possible ids ms sent (what.Up p q) each can fit = record { pid = (and_parts (is_member nat_eq ids p) (is_member nat_eq ids q) can).0; doing = fit.1 }
-deed_possible ids ms sent (what.Down p q) each can fit = record { pid = (and_parts (is_member nat_eq ids p) (is_member nat_eq ids q) can).0; doing = fit.1 }
-deed_possible ids ms sent (what.Crash p) each can fit = record { pid = can; doing = tt }
-deed_possible ids ms sent (what.CrashAt p call image) each can fit = tt
-deed_possible ids ms sent (what.Fail p call) each can fit = tt
-deed_possible ids ms sent (what.Kill p disk) each can fit = tt
-deed_possible ids ms sent (what.Start p) each can fit = record { pid = can; doing = tt }
-deed_possible ids ms sent (what.Show p) each can fit = record { pid = can; doing = tt }
-deed_possible ids ms sent (what.Ballots p) each can fit = record { pid = can; doing = tt }
+deed_possible : (ids : Named) (ms : List Sent) (sent : ℕ) (w : What) → VotersAreServers ids → All (SentInRange (IsMember ids.servers)) ms → is_possible ids sent w ≡ true → WhatInRange w → IfSome (deed_of ms w) (IsPossible ids.servers)
+deed_possible ids ms sent (what.Tick p) are each can fit = record { pid = can; doing = tt }
+deed_possible ids ms sent (what.Commands p cs) are each can fit = record { pid = can; doing = fit.1 }
+deed_possible ids ms sent (what.Stop p members) are each can fit =
+    record { pid = (and_parts (is_member nat_eq ids.servers p) _ can).0; doing = record { range = fit.1; known = possible_names ids sent (what.Stop p members) are can } }
+deed_possible ids ms sent (what.Trim p) are each can fit = record { pid = can; doing = tt }
+deed_possible ids ms sent (what.Read p r) are each can fit = record { pid = can; doing = fit.1 }
+deed_possible ids ms sent (what.Deliver i) are each can fit = delivery_possible ids.servers (slice_get ms i) (message_found ids.servers ms i each)
+deed_possible ids ms sent (what.Up p q) are each can fit = record { pid = (and_parts (is_member nat_eq ids.servers p) (is_member nat_eq ids.servers q) can).0; doing = fit.1 }
+deed_possible ids ms sent (what.Down p q) are each can fit = record { pid = (and_parts (is_member nat_eq ids.servers p) (is_member nat_eq ids.servers q) can).0; doing = fit.1 }
+deed_possible ids ms sent (what.Crash p) are each can fit = record { pid = can; doing = tt }
+deed_possible ids ms sent (what.CrashAt p call image) are each can fit = tt
+deed_possible ids ms sent (what.Fail p call) are each can fit = tt
+deed_possible ids ms sent (what.Kill p disk) are each can fit = tt
+deed_possible ids ms sent (what.Start p) are each can fit = record { pid = can; doing = tt }
+deed_possible ids ms sent (what.Show p) are each can fit = record { pid = can; doing = tt }
+deed_possible ids ms sent (what.Ballots p) are each can fit = record { pid = can; doing = tt }
 
--- what a possible event does is done at a node, and begins with something in range
-pub deed_found : (ids : List ℕ) (ms : List Sent) (sent : ℕ) (x : What) → All (SentInRange (IsMember ids)) ms → is_possible ids sent x ≡ true → WhatInRange x → (d : deed.Deed) → deed_of ms x ≡ Some (deed_shown d) → IsPossibleDeed ids d
-deed_found ids ms sent x each can fit d is =
-    let p : IsPossible ids (deed_shown d) = subst (λ (o : Option Deed). IfSome o (IsPossible ids)) is (deed_possible ids ms sent x each can fit) in
+-- what a possible event does is done at a server, and begins with something in range
+pub deed_found : (ids : Named) (ms : List Sent) (sent : ℕ) (x : What) → VotersAreServers ids → All (SentInRange (IsMember ids.servers)) ms → is_possible ids sent x ≡ true → WhatInRange x → (d : deed.Deed) → deed_of ms x ≡ Some (deed_shown d) → IsPossibleDeed ids.servers d
+deed_found ids ms sent x are each can fit d is =
+    let p : IsPossible ids.servers (deed_shown d) = subst (λ (o : Option Deed). IfSome o (IsPossible ids.servers)) is (deed_possible ids ms sent x are each can fit) in
     record { pid = p.pid; doing = p.doing }
 
 -- ---- a delivery

@@ -15,6 +15,10 @@ use Rattle.op_read_laws.proofs.ReadsFresh.{every_read_is_fresh}
 use Rattle.op_read_laws.proofs.ReadsOnce.{every_read_comes_once}
 use Rattle.op_read_laws.proofs.ReadsTold.{every_line_is_fresh}
 use Rattle.op_refinement.proofs.EveryRun.{every_run_meets}
+use Rattle.op_watch_laws.proofs.Apart.{every_observer_is_apart}
+use Rattle.op_watch_laws.proofs.Learning.{every_observer_learns}
+use Rattle.op_watch_laws.proofs.Every.{every_observer_stands, every_shown_is_true, no_observer_falls}
+use Rattle.op_watch_laws.proofs.Unowned.{no_ballot_of_others}
 use Rattle.op_executions.specs.Laws.{KeepsTheLaws}
 
 module _ (members spares : List ℕ) (run : List Happening) (k : RunInRange members spares run) where
@@ -41,4 +45,12 @@ module _ (members spares : List ℕ) (run : List Happening) (k : RunInRange memb
     fresh = every_read_is_fresh members spares run k;
     once = every_read_comes_once members spares run k;
     told = every_line_is_fresh members spares run k;
+    observers = record {
+      stand = every_observer_stands members spares k.first k.others run k.happenings;
+      shown = every_shown_is_true members spares k.first k.others run k.happenings;
+      apart = every_observer_is_apart members spares k.first k.others run k.happenings;
+      unowned = λ q some other there. no_ballot_of_others members spares k.first k.others run k.happenings q some other there;
+    };
+    watch = λ early h late is. no_observer_falls members spares k.first k.others early h (front early (h ∷ late) is).happenings;
+    learns = λ early h late is. every_observer_learns members spares k.first k.others early h (until early h late is).happenings;
   }

@@ -1,10 +1,16 @@
+pub mod Beginning
+pub mod Behind
 pub mod Bounds
 pub mod Deeds
 pub mod Laws
 pub mod Messages
+pub mod NodeDone
 pub mod PlainRuns
 pub mod ScheduleRuns
+pub mod Seated
+pub mod ServerIds
 pub mod Servers
 pub mod Spares
 pub mod ToldLines
+pub mod Watching
 pub mod Worlds

@@ -3,8 +3,8 @@ use Rattle.std.proofs.Common.{◌≤◌, ℕ, Bool, List, ◌++◌, length, Opti
 use Rattle.op_types.specs.declared.durable.Durable.{Durable}
 use Rattle.op_types.specs.declared.events.Input.{Input}
 use Rattle.op_protocol.specs.Rows.{step_plan}
-use Rattle.op_protocol.specs.Starting.{sends_after_restart}
-use Rattle.op_runs.specs.World.{World, Sent, sent_by, Node, NodeStatus, Up, Down, Failed, Fate, Done, Stopped, Faulted, Happening, Doing, Steps, Stops, Opens, Tells, Deed, deed_of, node_at, world_by_fate, world_if_up, world_opening, world_if_down, world_reopening, world_if_failed, world_by_status, world_at_node, world_with, world_after}
+use Rattle.op_protocol.specs.Watching.{watch_plan}
+use Rattle.op_runs.specs.World.{Kind, Votes, Observes, World, Sent, sent_by, sends_as, Node, NodeStatus, Up, Down, Failed, Fate, Done, Stopped, Faulted, Happening, Doing, Steps, Stops, Opens, Tells, Deed, deed_of, node_at, world_with_as, world_by_fate_as, world_if_up_as, world_opening_as, world_if_down_as, world_reopening_as, world_if_failed_as, world_by_status_as, world_beginning, world_at_observer, world_observed, world_at_node, world_with, world_after}
 
 abbrev HasNoFewer : World → World → Type 0
 HasNoFewer w v = length w.messages ≤ length v.messages
@@ -12,47 +12,68 @@ HasNoFewer w v = length w.messages ≤ length v.messages
 more : (ss new : List Sent) → length ss ≤ length (ss ++ new)
 more ss new = omega (arith, length-append ss new)
 
-by_fate : (f : Fate) (at : ℕ) (w : World) (n : Node) (x : Input) → HasNoFewer w (world_by_fate f at w n x)
-by_fate Done at w n x = more w.messages (sent_by n.pid (step_plan n.pid n.state x).sends)
-by_fate Stopped at w n x = omega arith
-by_fate (Faulted count) at w n x = omega arith
+put : (k : Kind) (w : World) (n : Node) → HasNoFewer w (world_with_as k w n)
+put Votes w n = omega arith
+put Observes w n = omega arith
 
-while_up : (d : Doing) (f : Fate) (at : ℕ) (w : World) (n : Node) → HasNoFewer w (world_if_up d f at w n)
-while_up (Steps x) f at w n = by_fate f at w n x
-while_up Stops f at w n = omega arith
-while_up Opens f at w n = omega arith
-while_up (Tells told) f at w n = omega arith
+by_fate : (k : Kind) (f : Fate) (at : ℕ) (w : World) (n : Node) (x : Input) → HasNoFewer w (world_by_fate_as k f at w n x)
+by_fate Votes Done at w n x = more w.messages (sent_by n.pid (step_plan n.pid n.state x).sends)
+by_fate Observes Done at w n x = more w.messages (sent_by n.pid (watch_plan n.pid n.state x).sends)
+by_fate k Stopped at w n x = put k w _
+by_fate k (Faulted count) at w n x = put k w _
 
-opening : (f : Fate) (w : World) (n : Node) (d : Durable) → HasNoFewer w (world_opening f w n d)
-opening Done w n d = more w.messages (sent_by n.pid (sends_after_restart n.pid d))
-opening Stopped w n d = omega arith
-opening (Faulted count) w n d = omega arith
+while_up : (k : Kind) (d : Doing) (f : Fate) (at : ℕ) (w : World) (n : Node) → HasNoFewer w (world_if_up_as k d f at w n)
+while_up k (Steps x) f at w n = by_fate k f at w n x
+while_up k Stops f at w n = put k w _
+while_up k Opens f at w n = omega arith
+while_up k (Tells told) f at w n = omega arith
 
-while_down : (d : Doing) (f : Fate) (b : Bool) (after : Durable) (w : World) (n : Node) → HasNoFewer w (world_if_down d f b after w n)
-while_down (Steps x) f b after w n = omega arith
-while_down Stops f b after w n = omega arith
-while_down Opens f b after w n = opening f w n _
-while_down (Tells told) f b after w n = omega arith
+opening : (k : Kind) (f : Fate) (w : World) (n : Node) (d : Durable) → HasNoFewer w (world_opening_as k f w n d)
+opening k Done w n d = more w.messages (sent_by n.pid (sends_as k n.pid d))
+opening k Stopped w n d = omega arith
+opening k (Faulted count) w n d = omega arith
 
-reopening : (f : Fate) (after : Durable) (w : World) (n : Node) (d : Durable) → HasNoFewer w (world_reopening f after w n d)
-reopening Done after w n d = more w.messages (sent_by n.pid (sends_after_restart n.pid d))
-reopening Stopped after w n d = omega arith
-reopening (Faulted count) after w n d = omega arith
+while_down : (k : Kind) (d : Doing) (f : Fate) (b : Bool) (after : Durable) (w : World) (n : Node) → HasNoFewer w (world_if_down_as k d f b after w n)
+while_down k (Steps x) f b after w n = omega arith
+while_down k Stops f b after w n = omega arith
+while_down k Opens f b after w n = opening k f w n _
+while_down k (Tells told) f b after w n = omega arith
 
-while_failed : (d : Doing) (h : Happening) (count : ℕ) (after : Durable) (w : World) (n : Node) → HasNoFewer w (world_if_failed d h count after w n)
-while_failed (Steps x) h count after w n = omega arith
-while_failed Stops h count after w n = omega arith
-while_failed Opens h count after w n = reopening h.fate after w n _
-while_failed (Tells told) h count after w n = omega arith
+reopening : (k : Kind) (f : Fate) (after : Durable) (w : World) (n : Node) (d : Durable) → HasNoFewer w (world_reopening_as k f after w n d)
+reopening k Done after w n d = more w.messages (sent_by n.pid (sends_as k n.pid d))
+reopening k Stopped after w n d = put k w _
+reopening k (Faulted count) after w n d = put k w _
 
-by_status : (s : NodeStatus) (d : Doing) (h : Happening) (w : World) (n : Node) → HasNoFewer w (world_by_status s d h w n)
-by_status Up d h w n = while_up d h.fate h.event.line w n
-by_status (Down after) d h w n = while_down d h.fate h.finds_after after w n
-by_status (Failed count after) d h w n = while_failed d h count after w n
+while_failed : (k : Kind) (d : Doing) (h : Happening) (count : ℕ) (after : Durable) (w : World) (n : Node) → HasNoFewer w (world_if_failed_as k d h count after w n)
+while_failed k (Steps x) h count after w n = omega arith
+while_failed k Stops h count after w n = put k w _
+while_failed k Opens h count after w n = reopening k h.fate after w n _
+while_failed k (Tells told) h count after w n = omega arith
+
+by_status : (k : Kind) (s : NodeStatus) (d : Doing) (h : Happening) (w : World) (n : Node) → HasNoFewer w (world_by_status_as k s d h w n)
+by_status k Up d h w n = while_up k d h.fate h.event.line w n
+by_status k (Down after) d h w n = while_down k d h.fate h.finds_after after w n
+by_status k (Failed count after) d h w n = while_failed k d h count after w n
+
+begins : (d : Doing) (f : Fate) (pid : ℕ) (w : World) → HasNoFewer w (world_beginning d f pid w)
+begins Opens Done pid w = omega arith
+begins Opens Stopped pid w = omega arith
+begins Opens (Faulted count) pid w = omega arith
+begins (Steps x) f pid w = omega arith
+begins Stops f pid w = omega arith
+begins (Tells told) f pid w = omega arith
+
+at_observer : (o : Option Node) (x : Deed) (h : Happening) (w : World) → HasNoFewer w (world_at_observer o x h w)
+at_observer None x h w = begins x.doing h.fate x.pid w
+at_observer (Some n) x h w = by_status Observes n.status x.doing h w n
+
+observed : (o : Option Deed) (h : Happening) (w : World) → HasNoFewer w (world_observed o h w)
+observed None h w = omega arith
+observed (Some x) h w = at_observer (node_at w.observers x.pid) x h w
 
 there : (o : Option Node) (d : Doing) (h : Happening) (w : World) → HasNoFewer w (world_at_node o d h w)
-there None d h w = omega arith
-there (Some n) d h w = by_status n.status d h w n
+there None d h w = observed (deed_of w.messages h.event.what) h w
+there (Some n) d h w = by_status Votes n.status d h w n
 
 by_deed : (o : Option Deed) (h : Happening) (w : World) → HasNoFewer w (world_with o h w)
 by_deed None h w = omega arith

@@ -1,6 +1,6 @@
 //! What an event does, and at which node.
-ghost use Rattle.std.specs.Prelude.{◌≡◌, ◌<◌, ℕ, List, true, length, Some, slice_get, option_map, IfOk};
-ghost use Rattle.op_runs.specs.Possible.{is_possible};
+ghost use Rattle.std.specs.Prelude.{◌≡◌, ◌<◌, true, length, Some, slice_get, option_map, IfOk};
+ghost use Rattle.op_runs.specs.Possible.{Named, is_possible};
 ghost use Rattle.op_runs.specs.World as runs;
 ghost use Rattle.op_executions.specs.Deeds.{told_of, deed_shown};
 
@@ -44,7 +44,7 @@ pub struct Deed {
 /// delivered is copied.
 #[inline(always)]
 pub fn deed_of(alloc: Global, messages: &[Sent], what: What) -> Result<Option<Deed>, NoMemory>
-    requires { (nodes : List ℕ) × (is_possible nodes (length messages.now) what ≡ true) }
+    requires { (ids : Named) × (is_possible ids (length messages.now) what ≡ true) }
     ensures { IfOk result (λ deed. runs.deed_of messages.now what ≡ option_map deed_shown deed) }
 {
     Ok(Some(match what {

@@ -1,20 +1,20 @@
-//! The ids of a world's nodes.
+//! The ids of a world's servers.
 ghost use Rattle.std.specs.Prelude.{◌≡◌, ◌≤◌, length, IfOk, OnOk};
 ghost use Rattle.std.specs.BTreeSet.{insert_key};
 ghost use Rattle.std.specs.Ordering.{nat_cmp};
 ghost use Rattle.op_runs.specs.World as runs;
 ghost use Rattle.op_executions.specs.Ids.{count_below};
 
-use op_types::{Members, NoMemory, Pid};
+use op_types::{NoMemory, Pid};
 use std::alloc::Global;
 
-/// The ids of all nodes, rising: those of the members, and those of the spares.
-pub fn node_ids(alloc: Global, members: &Members, spares: &Members) -> Result<Vec<Pid>, NoMemory>
-    ensures { IfOk result (λ ids. ids.items ≡ runs.node_ids members.now spares.now) }
+/// These ids with more of them, rising.
+pub fn node_ids(alloc: Global, first: &[Pid], more: &[Pid]) -> Result<Vec<Pid>, NoMemory>
+    ensures { IfOk result (λ ids. ids.items ≡ runs.node_ids first.now more.now) }
 {
     let mut ids = Vec::new(alloc);
-    ids.extend_from_slice(members.as_slice())?;
-    for pid in spares.as_slice() {
+    ids.extend_from_slice(first)?;
+    for pid in more {
         put_id(&mut ids, *pid)?;
     }
     Ok(ids)

@@ -5,9 +5,10 @@ ghost use Rattle.op_runs.specs.Possible.{are_nodes, is_possible, proposals_of};
 use op_runs::What;
 use op_types::{Pid, is_among};
 
-/// Whether the servers that an event names are among these nodes, and the message that it names is one of so many.
-pub fn is_possible(nodes: &[Pid], sent: u64, what: &What) -> bool
-    ensures { result ≡ is_possible nodes.now sent what.now }
+/// Whether the servers that an event names are among these, those that a stop-sign names among those that may vote, and the message
+/// that it names is one of so many.
+pub fn is_possible(servers: &[Pid], voters: &[Pid], sent: u64, what: &What) -> bool
+    ensures { result ≡ is_possible (record { servers = servers.now; voters = voters.now }) sent what.now }
 {
     match what {
         What::Tick(pid)
@@ -20,13 +21,13 @@ pub fn is_possible(nodes: &[Pid], sent: u64, what: &What) -> bool
         | What::Kill(pid, _)
         | What::Start(pid)
         | What::Show(pid)
-        | What::Ballots(pid) => is_among(nodes, *pid),
+        | What::Ballots(pid) => is_among(servers, *pid),
         What::Stop(pid, members) => {
-            is_among(nodes, *pid) && are_nodes(nodes, members.get().as_slice())
+            is_among(servers, *pid) && are_nodes(voters, members.get().as_slice())
         }
         What::Deliver(number) => *number < sent,
         What::Up(pid, peer) | What::Down(pid, peer) => {
-            is_among(nodes, *pid) && is_among(nodes, *peer)
+            is_among(servers, *pid) && is_among(servers, *peer)
         }
     }
 }

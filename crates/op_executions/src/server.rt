@@ -1,8 +1,8 @@
 ghost use Rattle.std.specs.Prelude.{◌≡◌, ◌++◌, [], IfOk, OnOk};
 ghost use Rattle.op_types.specs.Ranges.{MembersInRange};
-ghost use Rattle.op_runs.specs.World as runs;
+ghost use Rattle.op_runs.specs.Possible.{kind_if};
 ghost use Rattle.op_executions.specs.Deeds.{doing_of};
-ghost use Rattle.op_executions.specs.Servers.{Kind, ShowsNode, CanDo, IsToldAt};
+ghost use Rattle.op_executions.specs.Servers.{Kind, ShowsNode, CanDo, IsToldAt, first_as};
 
 use crate::deed::Doing;
 use crate::telling::tell_all;
@@ -40,17 +40,18 @@ impl Done {
     }
 }
 
-/// A server of a world: one of the definitions' nodes, over disks or without.
+/// A server of a world: one of the definitions' nodes or observers, over disks or without.
 pub trait Server: Drop {
     /// What is said of a happening beforehand.
     type Fate: Drop;
 
     ghost kind: { Kind Self Self.Fate };
 
-    /// A server at its start: a member of the first configuration, or a spare.
-    fn first(alloc: Global, pid: Pid, members: &Members) -> Result<Self, NoMemory>
+    /// A server at its start: one that observes, or else a member of the first configuration, or a spare.
+    fn first(alloc: Global, pid: Pid, members: &Members, observes: bool) -> Result<Self, NoMemory>
         requires { MembersInRange members.now }
-        ensures shows { IfOk result (λ s. ShowsNode kind s (runs.first_node members.now pid)) }
+        ensures shows { IfOk result (λ s. ShowsNode kind s (first_as (kind_if observes) members.now pid)) }
+        ensures kind { IfOk result (λ s. kind.kind_of s ≡ kind_if observes) }
         ensures kept { IfOk result (λ s. kind.is_kept s) }
         ensures first { IfOk result (λ s. kind.is_first s) };
 

@@ -1,9 +1,10 @@
 ghost use Rattle.std.specs.Prelude.{◌≡◌, ◌+◌, ◌<◌, ◌≤◌, [], map, true, false, length, All, IfOk, IfNone, IfSome, OnOk};
 ghost use Rattle.op_types.specs.Ranges.{MembersInRange};
-ghost use Rattle.op_runs.specs.Possible.{is_possible, most_proposals, proposals_of, SparesInRange, WhatInRange};
+ghost use Rattle.op_runs.specs.Possible.{is_possible, most_proposals, proposals_of, ObserversInRange, SparesInRange, WhatInRange};
+ghost use Rattle.op_runs.specs.Schedules.{begun};
 ghost use Rattle.op_runs.specs.World as runs;
 ghost use Rattle.op_executions.specs.Failing.{IfBadEvent};
-ghost use Rattle.op_executions.specs.Worlds.{place_of, GoesOn, HappenedAt, HasRun, IsRun, Shows, ShowNodes};
+ghost use Rattle.op_executions.specs.Worlds.{place_of, named_of, GoesOn, HappenedAt, HasRun, IsRun, Shows, AreFirst};
 
 use crate::deed::{Deed, deed_of};
 use crate::fail::RunFail;
@@ -12,7 +13,7 @@ use crate::possible::{is_possible, proposals_of};
 use crate::sent::{Sent, send_all};
 use crate::server::Server;
 use op_runs::{Event, Lines};
-use op_types::{Members, NoMemory, Pid};
+use op_types::{Members, NoMemory, Pid, is_among};
 use std::alloc::Global;
 use std::mem::replace;
 
@@ -22,7 +23,7 @@ const LINES_OF_EVENT: usize = 2;
 /// So many entries are not proposed: of fewer, each of which puts sixteen keys at most, eight bytes count the keys of every service.
 const MOST_PROPOSALS: u64 = 1 << 60;
 
-/// Members and spares, all messages that were sent, and what the events gave to be reported.
+/// Members, spares and observers, all messages that were sent, and what the events gave to be reported.
 #[derive(Drop)]
 pub struct ServerWorld<S> {
     /// The allocator.
@@ -31,6 +32,8 @@ pub struct ServerWorld<S> {
     pub members: Members,
     /// The ids of all servers, rising.
     pub ids: Vec<Pid>,
+    /// Those of members and spares, which stop-signs may name, rising.
+    pub voters: Vec<Pid>,
     /// The server of each id.
     pub servers: Vec<S>,
     /// Every message that was sent, by number.
@@ -42,24 +45,28 @@ pub struct ServerWorld<S> {
 }
 
 impl<S: Server> ServerWorld<S> {
-    /// These members and spares at their start.
+    /// These members, spares and observers at their start.
     pub fn new(
         alloc: Global,
         members: Members,
         spares: &Members,
+        observers: &Members,
     ) -> Result<ServerWorld<S>, NoMemory>
         requires members { MembersInRange members }
         requires spares { SparesInRange members spares.now }
-        ensures run { IfOk result (λ w. HasRun S.kind w spares.now []) }
+        requires observers { ObserversInRange members spares.now observers.now }
+        ensures run { IfOk result (λ w. HasRun S.kind w spares.now observers.now (begun observers.now)) }
         ensures members { IfOk result (λ w. w.members ≡ members) }
         ensures first { IfOk result (λ w. All S.kind.is_first w.servers.items) }
     {
-        let ids = node_ids(alloc, &members, spares)?;
-        let servers = first_servers(alloc, &members, &ids)?;
+        let voters = node_ids(alloc, members.as_slice(), spares.as_slice())?;
+        let ids = node_ids(alloc, &voters, observers.as_slice())?;
+        let servers = first_servers(alloc, &members, &ids, observers.as_slice())?;
         Ok(ServerWorld {
             alloc,
             members,
             ids,
+            voters,
             servers,
             messages: Vec::new(alloc),
             lines: Lines::new(alloc),
@@ -77,7 +84,7 @@ impl<S: Server> ServerWorld<S> {
     }
 
     /// One event, with what is said of it beforehand. It is refused, as the event of number 0, exactly where it names a server
-    /// that is absent or a message that wasn't sent. Gives the place of the server where something was done; a stop or a failure
+    /// that is absent, in a stop-sign an observer, or a message that wasn't sent. Gives the place of the server where something was done; a stop or a failure
     /// in a call of a disk does nothing by itself. There is no memory for 2^60 proposals or more.
     pub fn event(&mut self, event: Event, fate: S::Fate) -> Result<Option<usize>, RunFail>
         requires range { WhatInRange event.what }
@@ -89,11 +96,12 @@ impl<S: Server> ServerWorld<S> {
         ensures proposed { OnOk result ((self.new.proposed ≡ self.old.proposed + proposals_of event.what)
             × (self.new.proposed < most_proposals)) }
         ensures possible { OnOk result
-            (is_possible self.old.ids.items (length self.old.messages.items) event.what ≡ true) }
+            (is_possible (named_of self.old) (length self.old.messages.items) event.what ≡ true) }
         ensures bad { IfBadEvent result (λ index. (index ≡ 0)
-            × (is_possible self.old.ids.items (length self.old.messages.items) event.what ≡ false)) }
+            × (is_possible (named_of self.old) (length self.old.messages.items) event.what ≡ false)) }
     {
-        if !is_possible(&self.ids, self.messages.len() as u64, &event.what) {
+        let sent = self.messages.len() as u64;
+        if !is_possible(&self.ids, &self.voters, sent, &event.what) {
             return Err(RunFail::BadEvent { index: 0 });
         }
         let Some(proposed) = proposed_after(self.proposed, proposals_of(&event.what)) else {
@@ -147,22 +155,20 @@ pub fn place_of(ids: &[Pid], pid: Pid) -> usize
     }
 }
 
-/// All servers at their start.
+/// All servers at their start, of which these observe.
 fn first_servers<S: Server>(
     alloc: Global,
     members: &Members,
     ids: &[Pid],
+    observers: &[Pid],
 ) -> Result<Vec<S>, NoMemory>
     requires { MembersInRange members.now }
-    ensures shows { IfOk result (λ servers.
-        ShowNodes S.kind servers.items (map (runs.first_node members.now) ids.now)) }
-    ensures pids { IfOk result (λ servers. map S.kind.pid_of servers.items ≡ ids.now) }
-    ensures kept { IfOk result (λ servers. All S.kind.is_kept servers.items) }
-    ensures first { IfOk result (λ servers. All S.kind.is_first servers.items) }
+    ensures { IfOk result (λ servers. AreFirst S.kind members.now ids.now observers.now servers.items) }
 {
     let mut servers = Vec::new(alloc);
     'ids: for pid in ids {
-        servers.push(S::first(alloc, *pid, members)?)?;
+        let observes = is_among(observers, *pid);
+        servers.push(S::first(alloc, *pid, members, observes)?)?;
     }
     Ok(servers)
 }

@@ -8,7 +8,7 @@ use Rattle.op_runs.specs.declared.events.What.{What}
 use Rattle.op_runs.specs.declared.events.What.TheVariants as what
 use Rattle.op_runs.specs.declared.events.Event.{Event}
 use Rattle.op_runs.specs.World.{World, Happening, first_world, run_of}
-use Rattle.op_runs.specs.Possible.{images}
+use Rattle.op_runs.specs.Possible.{Named, images}
 use Rattle.op_runs.specs.Schedules.{DiskPlans, no_plans, Becomes, plans_after}
 use Rattle.op_gen.specs.declared.generator.Gen.{Gen}
 use Rattle.op_gen.specs.declared.kind.Kind.{Kind}
@@ -162,6 +162,10 @@ drill_spares = 4 ∷ 5 ∷ []
 
 abbrev pub drill_nodes : List ℕ
 drill_nodes = 1 ∷ 2 ∷ 3 ∷ 4 ∷ 5 ∷ []
+
+-- none of which observes: any of them may be named
+abbrev pub drill_ids : Named
+drill_ids = record { servers = drill_nodes; voters = drill_nodes }
 
 -- the generator of a seed, whose first event has the number 1
 abbrev pub gen_of : ℕ → Gen

@@ -3,7 +3,7 @@ ghost use Rattle.std.specs.Prelude.{◌≡◌, ◌≤◌, ◌<◌, ◌+◌, ◌%
 ghost use Rattle.std.specs.Set.{is_member};
 ghost use Rattle.op_types.specs.Ranges.{AreCommands, IsNumber, IsPid, MembersInRange};
 ghost use Rattle.op_runs.specs.Possible.{WhatInRange, are_nodes, is_possible};
-ghost use Rattle.op_gen.specs.Draws.{crash_drawn, delivery_drawn, drawn_as, drill_nodes, failure_drawn, put_drawn, put_of, servers, session_drawn, stop_drawn, three_from, word_of};
+ghost use Rattle.op_gen.specs.Draws.{crash_drawn, delivery_drawn, drawn_as, drill_ids, drill_nodes, failure_drawn, put_drawn, put_of, servers, session_drawn, stop_drawn, three_from, word_of};
 
 use crate::kind::Kind;
 use op_runs::What;
@@ -42,7 +42,7 @@ pub fn drawn_as(
     ensures what { IfOk result (λ w. w ≡ (drawn_as kind number sent words.old).0) }
     ensures words { words.new ≡ (drawn_as kind number sent words.old).1 }
     ensures range { IfOk result WhatInRange }
-    ensures possible { IfOk result (λ w. is_possible drill_nodes sent w ≡ true) }
+    ensures possible { IfOk result (λ w. is_possible drill_ids sent w ≡ true) }
 {
     match kind {
         Kind::Tick => Ok(What::Tick(server(words))),
@@ -62,7 +62,7 @@ fn delivery(words: &mut Lcg64Xsh32, sent: u64) -> What
     ensures what { result ≡ (delivery_drawn sent words.old).0 }
     ensures words { words.new ≡ (delivery_drawn sent words.old).1 }
     ensures range { WhatInRange result }
-    ensures possible { is_possible drill_nodes sent result ≡ true }
+    ensures possible { is_possible drill_ids sent result ≡ true }
 {
     if sent == 0 {
         return What::Tick(1);
@@ -77,7 +77,7 @@ fn put(alloc: Global, words: &mut Lcg64Xsh32, number: u64) -> Result<What, NoMem
     ensures what { IfOk result (λ w. w ≡ (put_drawn number words.old).0) }
     ensures words { words.new ≡ (put_drawn number words.old).1 }
     ensures range { IfOk result WhatInRange }
-    ensures possible { (sent : ℕ) → IfOk result (λ w. is_possible drill_nodes sent w ≡ true) }
+    ensures possible { (sent : ℕ) → IfOk result (λ w. is_possible drill_ids sent w ≡ true) }
 {
     let pid = server(words);
     let client = 1 + below(words, CLIENTS);
@@ -90,7 +90,7 @@ fn crash(words: &mut Lcg64Xsh32) -> What
     ensures what { result ≡ (crash_drawn words.old).0 }
     ensures words { words.new ≡ (crash_drawn words.old).1 }
     ensures range { WhatInRange result }
-    ensures possible { (sent : ℕ) → is_possible drill_nodes sent result ≡ true }
+    ensures possible { (sent : ℕ) → is_possible drill_ids sent result ≡ true }
 {
     let pid = server(words);
     let call = 1 + below(words, CALLS);
@@ -103,7 +103,7 @@ fn failure(words: &mut Lcg64Xsh32) -> What
     ensures what { result ≡ (failure_drawn words.old).0 }
     ensures words { words.new ≡ (failure_drawn words.old).1 }
     ensures range { WhatInRange result }
-    ensures possible { (sent : ℕ) → is_possible drill_nodes sent result ≡ true }
+    ensures possible { (sent : ℕ) → is_possible drill_ids sent result ≡ true }
 {
     let pid = server(words);
     let call = 1 + below(words, CALLS);
@@ -116,7 +116,7 @@ fn session(words: &mut Lcg64Xsh32) -> What
     ensures what { result ≡ (session_drawn words.old).0 }
     ensures words { words.new ≡ (session_drawn words.old).1 }
     ensures range { WhatInRange result }
-    ensures possible { (sent : ℕ) → is_possible drill_nodes sent result ≡ true }
+    ensures possible { (sent : ℕ) → is_possible drill_ids sent result ≡ true }
 {
     let at = below(words, SERVERS);
     let peer = below(words, SERVERS);
@@ -132,7 +132,7 @@ fn stop(alloc: Global, words: &mut Lcg64Xsh32) -> Result<What, NoMemory>
     ensures what { IfOk result (λ w. w ≡ (stop_drawn words.old).0) }
     ensures words { words.new ≡ (stop_drawn words.old).1 }
     ensures range { IfOk result WhatInRange }
-    ensures possible { (sent : ℕ) → IfOk result (λ w. is_possible drill_nodes sent w ≡ true) }
+    ensures possible { (sent : ℕ) → IfOk result (λ w. is_possible drill_ids sent w ≡ true) }
 {
     let pid = server(words);
     let first = below(words, SERVERS);

@@ -2,7 +2,7 @@
 ghost use Rattle.std.specs.Prelude.{◌≡◌, true, IfOk};
 ghost use Rattle.op_types.specs.Ranges.{IsNumber};
 ghost use Rattle.op_runs.specs.Possible.{WhatInRange, is_possible};
-ghost use Rattle.op_gen.specs.Draws.{drill_nodes, event_drawn, gen_of};
+ghost use Rattle.op_gen.specs.Draws.{drill_ids, event_drawn, gen_of};
 
 use crate::draws::{below, drawn_as};
 use crate::kind::Kind;
@@ -43,7 +43,7 @@ impl Gen {
         ensures event { IfOk result (λ e. e ≡ (event_drawn sent self.old).0) }
         ensures after { self.new ≡ (event_drawn sent self.old).1 }
         ensures range { IfOk result (λ e. WhatInRange e.what) }
-        ensures possible { IfOk result (λ e. is_possible drill_nodes sent e.what ≡ true) }
+        ensures possible { IfOk result (λ e. is_possible drill_ids sent e.what ≡ true) }
     {
         let line = self.number;
         self.number += 1;

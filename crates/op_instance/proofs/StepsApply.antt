@@ -45,7 +45,8 @@ use Rattle.op_protocol.specs.Tick.{requests, remembering, only_asks, elected, by
 use Rattle.op_protocol.proofs.TickCases.{ended_at, begun_at, tick_cases}
 use Rattle.op_protocol.specs.Configurations.{latest_of}
 use Rattle.op_protocol.specs.Joining.{storing, begins, is_new_donor, joins, begins_joining, storing_news, on_next_conf, asks, gives_base, gives_segment, takes_piece, pieces_once, on_base_piece}
-use Rattle.op_protocol.specs.Rows.{on_body, on_message, message_at, is_of_joining, may_be_above, on_older, on_newer, on_latest, message_step, knows_no_leader, entries_of, open_refusal, part_refusal, refusal_after, refusal_of, stop_for, answering, proposal_at, proposal_step, tick_at, trim_at, session_up, up_at, step_at}
+use Rattle.op_protocol.specs.Watched.{is_watching, watch_answers}
+use Rattle.op_protocol.specs.Rows.{on_body, on_message, message_at, is_of_joining, may_be_above, on_older, on_newer, on_latest, member_step, message_step, knows_no_leader, entries_of, open_refusal, part_refusal, refusal_after, refusal_of, stop_for, answering, proposal_at, proposal_step, tick_at, trim_at, session_up, up_at, step_at}
 use Rattle.op_protocol.proofs.PartBatches.{part_batch, propose_of, session_down_of, session_up_of, trim_now_of, tick_of, message_of}
 use Rattle.op_follower.specs.Staging.{StagedIsAdmitted}
 use Rattle.op_follower.proofs.Gaps.{admitted_with, admitted_from, none_admitted, run_small, run_commands, front_small, front_commands}
@@ -173,6 +174,7 @@ body_leaves me p v q (body.Progress n x) sound admitted = by_row p v (on_progres
 body_leaves me p v q (body.Trim x) sound admitted = by_row p v (on_trim p v.role x) sound.staged (trim_leaves p v.role x sound.sound)
 body_leaves me p v q (body.Confirm n number) sound admitted = by_row p v (on_confirm p v.role q n number) sound.staged (confirm_leaves p v.role q n number sound.sound)
 body_leaves me p v q (body.Confirmed n number) sound admitted = remembers p v [] sound
+body_leaves me p v q (body.Watch w) sound admitted = remembers p v [] sound
 body_leaves me p v q (body.NextConf members olds len trimmed) sound admitted = remembers p v [] sound
 body_leaves me p v q body.AskBase sound admitted = remembers p v [] sound
 body_leaves me p v q (body.BasePart at bytes) sound admitted = remembers p v [] sound
@@ -398,10 +400,11 @@ message_sound : (me : ℕ) (o : Option Part) (k : Option Closed) (j : Option Joi
     → (let d : Durable = record { part = o; closed = k; joining = j } in IsSoundNode me d v → All BeginFits (message_step me d v q m).batch → IsSoundStep me d (message_step me d v q m))
 message_sound me o k j v q m sound begin =
     let d : Durable = record { part = o; closed = k; joining = j } in
-    either me d (is_some j && not (is_of_joining m.body)) (remembering v []) _ (λ _ none. still me d v (remembering v []) sound refl refl refl)
+    either me d (is_watching m.body) (remembering v (watch_answers d q m.conf m.body)) (member_step me d v q m) (λ _ none. still me d v (remembering v (watch_answers d q m.conf m.body)) sound refl refl refl)
+    (λ _. either me d (is_some j && not (is_of_joining m.body)) (remembering v []) _ (λ _ none. still me d v (remembering v []) sound refl refl refl)
     (λ _. either me d (nat_lt m.conf (latest_of d)) (remembering v (on_older d k q)) _ (λ _ none. still me d v (remembering v (on_older d k q)) sound refl refl refl)
     (λ _. either me d (nat_lt (latest_of d) m.conf && not (may_be_above m.body)) (remembering v (on_newer d q m.body)) (on_latest me d v q m.conf m.body) (λ _ none. still me d v (remembering v (on_newer d q m.body)) sound refl refl refl)
-    (λ _ rest. latest_sound me o k j v q m.conf m.body sound rest)))
+    (λ _ rest. latest_sound me o k j v q m.conf m.body sound rest))))
     begin
 
 -- ---- all inputs

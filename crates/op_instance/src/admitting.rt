@@ -1,29 +1,9 @@
 //! What a message brings has to fit the log.
 ghost use Rattle.std.specs.Prelude.{◌≡◌, ◌∷◌, []};
-ghost use Rattle.op_protocol.specs.Parts.{has_stop, is_admitted, is_admitted_body};
+ghost use Rattle.op_protocol.specs.Parts.{is_admitted, is_admitted_body};
 
-use op_plans::is_stop;
-use op_types::{Body, Entry, LAST_CONF, POSITIONS_END, Part};
-
-/// Whether some entry is a stop-sign.
-fn has_stop(entries: &[Entry]) -> bool
-    ensures { result ≡ has_stop entries.now }
-{
-    for entry in entries {
-        if is_stop(entry) {
-            return true;
-        }
-    }
-    false
-}
-
-/// Whether entries end within the positions, and are no stop-sign of the last configuration.
-fn is_admitted(part: &Part, at: u64, entries: &[Entry]) -> bool
-    ensures { result ≡ is_admitted part.now at entries.now }
-{
-    at as u128 + entries.len() as u128 <= POSITIONS_END as u128
-        && !(part.conf == LAST_CONF && has_stop(entries))
-}
+use op_plans::{has_stop, is_admitted, is_stop};
+use op_types::{Body, Entry, LAST_CONF, Part};
 
 /// Whether an entry that is forwarded isn't a stop-sign of the last configuration.
 fn is_admitted_entry(part: &Part, entry: &Entry) -> bool
@@ -61,6 +41,7 @@ pub(crate) fn is_admitted_body(part: &Part, body: &Body) -> bool
         | Body::AskSegment(_, _)
         | Body::Segment(_, _)
         | Body::Confirm(_, _)
-        | Body::Confirmed(_, _) => true,
+        | Body::Confirmed(_, _)
+        | Body::Watch(_) => true,
     }
 }

@@ -6,14 +6,15 @@ ghost use Rattle.op_types.specs.Effects.{nothing_plan, effects_of};
 ghost use Rattle.op_types.specs.Roles.{role_of, HasRoom};
 ghost use Rattle.op_protocol.specs.Parts.{is_admitted_body};
 ghost use Rattle.op_protocol.specs.Tick.{on_heartbeat_reply};
-ghost use Rattle.op_protocol.specs.Rows.{on_body, on_message, message_at, on_newer, on_latest, message_step};
+ghost use Rattle.op_protocol.specs.Rows.{on_body, on_message, message_at, on_newer, on_latest, member_step, message_step};
+ghost use Rattle.op_protocol.specs.Watched.{watch_answers};
 ghost use Rattle.op_instance.specs.Memory.{volatile_of, part_step_of, HasRoomIn, IsKeptBy};
 ghost use Rattle.op_instance.specs.Routing.{row_of};
 ghost use Rattle.op_instance.specs.Sound.{IsSound, IsNodeOf, IfNodeOf, IsNode, IfListFits};
 
 use crate::admitting::is_admitted_body;
 use crate::joining::News;
-use crate::routing::{is_of_joining, is_prepare_req, may_be_above};
+use crate::routing::{is_of_joining, is_prepare_req, is_watching, may_be_above};
 use crate::stored::Stored;
 use crate::volatile::Volatile;
 use op_accepting::{Accept, on_accept, on_accept_sync};
@@ -23,11 +24,14 @@ use op_heartbeat::Rounds;
 use op_leader::{on_forward, on_prepare_req, on_promise, on_promise_part};
 use op_plans::{Member, one};
 use op_trim::{on_progress, on_trim, on_trim_ask};
-use op_types::{Ballot, Body, Heard, Msg, Pid, Plan, Promised, Role, Sends, Turn};
+use op_types::{
+    Ballot, Body, ConfNo, Entries, Heard, Msg, Pid, Plan, Promised, Role, Sends, Turn, Watch,
+};
+use op_watch::asked;
 use std::alloc::{AllocError as NoMemory, Global};
 
-/// A message comes. A node that joins handles only what is of joining; of the others, those of an older configuration are
-/// answered with the next one, and those from above the latest are dropped.
+/// A message comes. What an observer asks is answered, whichever configuration it is of, unless the node
+/// joins.
 pub(crate) fn deliver(
     stored: &Stored,
     volatile: &mut Volatile,
@@ -37,6 +41,55 @@ pub(crate) fn deliver(
     requires { IsNode stored.now.me stored.now.durable.now volatile.old }
     ensures step { IfOk result (λ plan. part_step_of plan (volatile_of volatile.old)
         ≡ message_step stored.now.me stored.now.durable.now (volatile_of volatile.old) from message) }
+    ensures rest { volatile.new ≡ record volatile.old {
+      role = volatile.new.role;
+      staged = volatile.new.staged;
+    } }
+    ensures same { volatile_of volatile.new ≡ volatile_of volatile.old }
+    ensures room { IfOk result (λ plan. HasRoomIn plan.turn volatile.new) }
+{
+    if is_watching(&message.body) {
+        return answer_observer(stored, from, &message);
+    }
+    deliver_member(stored, volatile, from, message)
+}
+
+/// What an observer asks is answered. Nothing else of it concerns a node.
+fn answer_observer(stored: &Stored, to: Pid, message: &Msg) -> Result<Plan, NoMemory>
+    ensures { IfOk result (λ plan. plan ≡ record nothing_plan {
+      sends = watch_answers stored.now.durable.now to message.now.conf message.now.body;
+    }) }
+{
+    match &message.body {
+        Body::Watch(watch) => answer(stored, to, message.conf, watch),
+        _ => Ok(stored.nothing()),
+    }
+}
+
+/// The same, by what it says of a configuration.
+fn answer(stored: &Stored, to: Pid, conf: ConfNo, watch: &Watch) -> Result<Plan, NoMemory>
+    ensures { IfOk result (λ plan. plan ≡ record nothing_plan {
+      sends = watch_answers stored.now.durable.now to conf (Body.Watch watch.now);
+    }) }
+{
+    match watch {
+        Watch::Ask(position) => asked(stored.alloc, stored.durable, to, conf, *position),
+        Watch::Shown(_, _) | Watch::Base(_, _) => Ok(stored.nothing()),
+    }
+}
+
+/// A message comes that isn't an observer's. A node that joins handles only what is of joining; of the
+/// others, those of an older configuration are answered with the next one, and those from above the latest
+/// are dropped.
+fn deliver_member(
+    stored: &Stored,
+    volatile: &mut Volatile,
+    from: Pid,
+    message: Msg,
+) -> Result<Plan, NoMemory>
+    requires { IsNode stored.now.me stored.now.durable.now volatile.old }
+    ensures step { IfOk result (λ plan. part_step_of plan (volatile_of volatile.old)
+        ≡ member_step stored.now.me stored.now.durable.now (volatile_of volatile.old) from message) }
     ensures rest { volatile.new ≡ record volatile.old {
       role = volatile.new.role;
       staged = volatile.new.staged;
@@ -217,6 +270,17 @@ fn raise_floor(alloc: Global, ballot: Ballot) -> Plan
     plan
 }
 
+/// Entries that come in a ballot, from a position on.
+fn accept_of(ballot: Ballot, at: u64, entries: Entries) -> Accept
+    ensures { result ≡ record { ballot = ballot; at = at; entries = entries } }
+{
+    Accept {
+        ballot,
+        at,
+        entries,
+    }
+}
+
 /// What a message does to a role. What is of heartbeats, of elections, of what is staged or of joining does nothing here.
 fn route(member: &Member, role: &mut Role, from: Pid, body: Body) -> Result<Plan, NoMemory>
     requires sound { IsSound member.now.part.now (role_of role.old) }
@@ -249,20 +313,10 @@ fn route(member: &Member, role: &mut Role, from: Pid, body: Body) -> Result<Plan
         }
         Body::PromisePart(ballot, part) => on_promise_part(member, role, from, ballot, part),
         Body::AcceptSync(ballot, at, entries) => {
-            let accept = Accept {
-                ballot,
-                at,
-                entries,
-            };
-            on_accept_sync(member, role, from, accept)
+            on_accept_sync(member, role, from, accept_of(ballot, at, entries))
         }
         Body::Accept(ballot, at, entries) => {
-            let accept = Accept {
-                ballot,
-                at,
-                entries,
-            };
-            on_accept(member, role, from, accept)
+            on_accept(member, role, from, accept_of(ballot, at, entries))
         }
         Body::Accepted(ballot, len) => on_accepted(member, role, from, ballot, len),
         Body::Decide(ballot, len) => on_decide(member, role, ballot, len),
@@ -283,6 +337,7 @@ fn route(member: &Member, role: &mut Role, from: Pid, body: Body) -> Result<Plan
         | Body::BasePiece(_)
         | Body::AskSegment(_, _)
         | Body::Segment(_, _)
-        | Body::Confirmed(_, _) => Ok(member.nothing()),
+        | Body::Confirmed(_, _)
+        | Body::Watch(_) => Ok(member.nothing()),
     }
 }

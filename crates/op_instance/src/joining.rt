@@ -1,6 +1,5 @@
 //! A node hears of a configuration, and gives to those that join one.
-ghost use Rattle.std.specs.Prelude.{◌≡◌, ◌∷◌, ◌++◌, ◌+◌, ◌≤◌, ◌<◌, ◌^◌, [], length, take, drop, IfOk, OnOk};
-ghost use Rattle.op_types.specs.Limits.{most_part_bytes};
+ghost use Rattle.std.specs.Prelude.{◌≡◌, ◌∷◌, ◌++◌, ◌+◌, ◌<◌, ◌^◌, [], length, IfOk, OnOk};
 ghost use Rattle.op_protocol.specs.State as steps;
 ghost use Rattle.op_protocol.specs.Parts.{messages};
 ghost use Rattle.op_protocol.specs.Configurations.{next_conf_message};
@@ -12,11 +11,10 @@ ghost use Rattle.op_instance.specs.Sound.{IfListFits, ListFits};
 
 use crate::stored::{Stored, closed_len};
 use op_plans::suffix;
-use op_segments::stage_piece;
+use op_segments::{piece_count, piece_of, stage_piece};
 use op_types::{
-    Batch, Blob, Body, Change, Closed, ConfNo, Entry, Joining, ListLen, MOST_DONORS,
-    MOST_PART_BYTES, Members, Msg, Pid, Piece, Pieces, Plan, Sends, Shared, Turn, copy_entries,
-    first_run, is_among,
+    Batch, Body, Change, Closed, ConfNo, Entry, Joining, ListLen, MOST_DONORS, MOST_PART_BYTES,
+    Members, Msg, Pid, Piece, Pieces, Plan, Sends, Shared, Turn, copy_entries, first_run, is_among,
 };
 use std::alloc::{AllocError as NoMemory, Global};
 
@@ -198,42 +196,11 @@ fn push_pieces(
     let bytes = closed.base.as_slice();
     let count = piece_count(bytes.len());
     for i in 0..count {
-        let from = i * MOST_PART_BYTES;
-        let piece = Piece {
-            at: closed.trimmed,
-            total: bytes.len() as u64,
-            from: from as u64,
-            bytes: Blob::from_slice(alloc, piece_at(bytes, from))?,
-        };
+        let piece = piece_of(alloc, closed.trimmed, bytes, i * MOST_PART_BYTES)?;
         let body = Body::BasePiece(piece);
         sends.push((to, Msg { conf, body }))?;
     }
     Ok(())
-}
-
-/// How many pieces so many bytes make.
-fn piece_count(total: usize) -> usize
-    ensures { result ≡ piece_count total }
-{
-    total.div_ceil(MOST_PART_BYTES)
-}
-
-/// The piece of a base from a place on: as many bytes as go into one, or as there are.
-fn piece_at(bytes: &[u8], from: usize) -> &[u8]
-    requires { from ≤ length bytes.now }
-    ensures { result.now ≡ take most_part_bytes (drop from bytes.now) }
-{
-    let rest = bytes_from(bytes, from);
-    let count = rest.len().min(MOST_PART_BYTES);
-    &rest[..count]
-}
-
-/// The bytes from a place on.
-fn bytes_from(bytes: &[u8], from: usize) -> &[u8]
-    requires { from ≤ length bytes.now }
-    ensures { result.now ≡ drop from bytes.now }
-{
-    &bytes[from..]
 }
 
 /// Adds a segment for each run of these entries, which begin at a position.

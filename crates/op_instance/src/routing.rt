@@ -1,6 +1,7 @@
 //! What a message is of, by what it says.
 ghost use Rattle.std.specs.Prelude.{◌≡◌};
 ghost use Rattle.op_protocol.specs.Rows.{is_of_joining, may_be_above, is_prepare_req};
+ghost use Rattle.op_protocol.specs.Watched.{is_watching};
 
 use op_types::Body;
 
@@ -28,6 +29,16 @@ pub(crate) fn may_be_above(body: &Body) -> bool
         | Body::BasePart(_, _)
         | Body::BasePiece(_)
         | Body::Segment(_, _) => true,
+        _ => false,
+    }
+}
+
+/// Whether it is an observer's, or to one.
+pub(crate) fn is_watching(body: &Body) -> bool
+    ensures { result ≡ is_watching body.now }
+{
+    match body {
+        Body::Watch(_) => true,
         _ => false,
     }
 }

@@ -13,11 +13,11 @@ use Rattle.std.proofs.lemmas.Map.Lookups.{CmpEqualImpliesEq, exact_unsigned, exa
 use Rattle.op_fields.specs.Form.{Read, ◌>>=◌, Form, number_read, pair}
 use Rattle.op_fields.proofs.Formats.{bind_ok, ok_is, passed}
 use Rattle.op_entry.specs.Forms.{key_value, client_number}
-use Rattle.op_kv.specs.Over.{entries_over}
+use Rattle.op_overlay.specs.Entries.{entries_over}
 use Rattle.op_kv.specs.Rising.{greatest_count, rising_read, rising}
 use Rattle.op_kv.specs.Bases.{applied, pair_above, rising_pairs, client_above, rising_clients}
 use Rattle.op_types.specs.declared.answers.Applied.{Applied}
-use Rattle.op_kv.proofs.Entries.{over-nothing}
+use Rattle.op_overlay.proofs.Entries.{over-nothing}
 use Rattle.op_kv.proofs.Climbs.{Climbs, climbs_rise, is_less, nat_less}
 use Rattle.op_kv.proofs.RisingSteps.{made_of}
 

@@ -1,5 +1,5 @@
 -- How often a command takes effect: once, until its client is forgotten.
-use Rattle.std.specs.Prelude.{◌≡◌, ◌<◌, ℕ, List, Option, Some, None, All}
+use Rattle.std.specs.Prelude.{◌≡◌, ◌<◌, ℕ, List, Some, None, All}
 use Rattle.op_types.specs.declared.answers.Applied.{Applied}
 use Rattle.op_types.specs.declared.log.Command.{Command}
 use Rattle.op_types.specs.declared.log.Entry.{Entry}

@@ -5,7 +5,7 @@ ghost use Rattle.op_kv.specs.Bases.{base, rising_pairs, rising_clients};
 ghost use Rattle.op_kv.specs.Looked.{end_of};
 
 use crate::reading::{client_at, pair_at, u64_at};
-use crate::tables::Tables;
+use op_change::Tables;
 use op_types::{Applied, Blob, NoMemory};
 use std::alloc::Global;
 use std::collections::BTreeMap;
@@ -54,7 +54,7 @@ pub(crate) fn tables_of(alloc: Global, bytes: &[u8]) -> Result<Option<Tables>, N
     let Some((clients, _)) = clients_from(alloc, bytes, at)? else {
         return Ok(None);
     };
-    Ok(Some(Tables { pairs, clients }))
+    Ok(Some(Tables::of(pairs, clients)))
 }
 
 fn pairs_from(

@@ -7,13 +7,12 @@ ghost use Rattle.std.specs.Map.Iter.{deref_pair};
 ghost use Rattle.op_spec.specs.Service.{new_service, value_at, answer_of, service_with, all_after, base_bytes};
 ghost use Rattle.op_spec.specs.ServiceRanges.{ServiceInRange, ServiceIsOrdered};
 ghost use Rattle.op_kv.specs.Bases.{IsBase};
-ghost use Rattle.op_kv.specs.Over.{service_over, answers_of};
+ghost use Rattle.op_change.specs.Over.{service_over, answers_of};
 
+use crate::Pairs;
 use crate::base::{base_end, tables_of};
-use crate::change::KvChange;
-use crate::tables::Tables;
 use crate::writing::{put_clients, put_pairs};
-use crate::{Answers, Pairs};
+use op_change::{Answers, KvChange, Tables};
 use op_types::{Answer, Blob, Command, Entry, NoMemory};
 use std::alloc::Global;
 use std::collections::BTreeMap;
@@ -28,7 +27,8 @@ pub struct Map {
 
 impl Model for Map {
     ghost use Rattle.std.specs.Prelude.{◌+◌, length};
-    ghost use Rattle.op_kv.specs.Over.{MapState, service_over};
+    ghost use Rattle.op_change.specs.Over.{service_over};
+    ghost use Rattle.op_kv.specs.Maps.{MapState};
 
     ghost Value = { MapState };
 

@@ -1,7 +1,7 @@
 -- No message that a run sends to fill a log is past the limits: a receiver takes each.
 use Rattle.std.proofs.Common.{◌≡◌, ◌≤◌, inl, inr, ⊎_elim, ℕ, ◌+◌, ◌==◌, ◌&&◌, Bool, true, false, cond, not, is_some, fold, List, [], ◌∷◌, ◌++◌, length, Option, Some, None, refl, sym, ap, ◌∙◌, subst, slice_get}
 use Rattle.std.specs.Prelude.{nat_le}
-use Rattle.std.proofs.lemmas.Bool.{cond_both, cases_Bool, eqb-true, le-leb, false≢true, both_ways}
+use Rattle.std.proofs.lemmas.Bool.{eqb-true, le-leb, false≢true}
 use Rattle.op_types.specs.Limits.{positions_end, last_conf}
 use Rattle.op_types.specs.Stops.{stop_of}
 use Rattle.op_types.specs.Changes.{len_of}
@@ -229,6 +229,7 @@ admitted first ks t b none n s p got conf_is kind = of_letter (slice_get (world_
     by l at same (body.Trim x) k said = absurd k
     by l at same (body.Confirm z r) k said = absurd k
     by l at same (body.Confirmed z r) k said = absurd k
+    by l at same (body.Watch w) k said = absurd k
 
     of_letter : (o : Option Letter) → slice_get (world_of first ks).soup n ≡ o → IfLetter lists (Some s) o → is_admitted_body p s.message.body ≡ true
     of_letter None at z = absurd z

@@ -45,7 +45,7 @@ use Rattle.op_laws.specs.Proposals.{Proposal, entries_for}
 use Rattle.op_laws.specs.Proposals as proposed
 use Rattle.op_laws.specs.Alone.{TakesAlone, HasClosed}
 use Rattle.op_laws.proofs.Proposals.{input_of, deed_is, step_is, brings_nothing}
-use Rattle.op_laws.proofs.AdoptedLogs.{is_same}
+use Rattle.op_types.proofs.Order.{is_same}
 use Rattle.op_laws.proofs.Adoptions.{last_end}
 use Rattle.op_laws.proofs.ReplyLines.{line_of}
 use Rattle.op_laws.proofs.TriedReads.{AreTried, tells_of_none}

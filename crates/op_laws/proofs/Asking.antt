@@ -26,7 +26,7 @@ use Rattle.op_protocol.specs.State.{State, Planned}
 use Rattle.op_protocol.specs.Rows.{table_plan}
 use Rattle.op_protocol.specs.Reading.{leading_at, reads_at, Asking, asks_members, read_asked, read_confirmed, asking_by, decided_of, leads_on, adopted_of, answered_of, answered_by, reads_after}
 use Rattle.op_spec.specs.Machine.{IsAmong}
-use Rattle.op_laws.proofs.AdoptedLogs.{same_is}
+use Rattle.op_types.proofs.Order.{same_is}
 
 none_some : {A : Type 0} (a : A) → None ≡ Some a → ⊥
 none_some a e = cc
@@ -112,6 +112,7 @@ module _ (me : ℕ) (s : State) where
   of_message : (q : ℕ) (m : Msg) (o : Option (Part × state.Leading)) → leading_at s ≡ o → (b : Body) → m.body ≡ b → Asked me s (input.Deliver q m) (read_confirmed me o s.reads q m.conf b)
   of_message q m None e b says = Keeps refl
   of_message q m (Some (p, l)) e (body.Confirmed n number) says = of_confirmed q m p l e n number says
+  of_message q m (Some (p, l)) e (body.Watch w) says = Keeps refl
   of_message q m (Some (p, l)) e (body.Confirm n number) says = Keeps refl
   of_message q m (Some (p, l)) e (body.HeartbeatRequest r) says = Keeps refl
   of_message q m (Some (p, l)) e (body.HeartbeatReply r z g) says = Keeps refl

@@ -1,5 +1,5 @@
 -- Inside a configuration members alone are elected.
-use Rattle.std.proofs.Common.{◌≡◌, ◌⊎◌, ⊎_elim, ℕ, ◌+◌, Bool, true, false, cond, not, ◌&&◌, ◌||◌, ◌==◌, List, [], ◌∷◌, ◌++◌, length, Option, Some, None, is_some, refl, sym, ap, ◌∙◌, subst}
+use Rattle.std.proofs.Common.{◌≡◌, ◌⊎◌, ⊎_elim, ℕ, ◌+◌, Bool, true, false, cond, not, ◌&&◌, ◌||◌, ◌==◌, List, [], ◌∷◌, ◌++◌, length, Option, Some, None, is_some, refl, sym, ◌∙◌, subst}
 use Rattle.std.specs.Prelude.{nat_eq, nat_lt, nat_le, slice_get}
 use Rattle.std.specs.Set.{is_member}
 use Rattle.std.proofs.lemmas.Bool.{cond_both, eqb-true, cases_Bool}
@@ -8,20 +8,20 @@ use Rattle.op_spec.specs.Machine.{Machine, IsAmong, first_machine}
 use Rattle.op_paxos.specs.Worlds as paxos
 use Rattle.op_paxos.specs.Messages.{Msg}
 use Rattle.op_paxos.specs.Worlds.{Input, Elected, Proposal, Comes, Up, CutOff, Down, Starts, TrimNow}
-use Rattle.op_configurations.specs.Servers.{Part, Closed, Joining, BaseStage, State, Letter, Body, Inner, HeartbeatRequest, HeartbeatReply, NextConf, AskBase, BasePart, BasePiece, AskSegment, Segment, Fate, Done as ServerDone, Stopped as ServerStopped, Stepped, Inside, Event, Ticks, TicksAlone, Proposes, Trims, Links, Unlinks, Reads, ReadsLong, acted, acted_in, restarted, started, based, has_all, completed, is_piece, pieced, without_pieces, got_segment, inner, answers_beat, takes, is_request, sought, seeks, reads, asks_base, answers_long, is_for_joining, is_ahead, latest, led, ticks_in, ticks_alone_in, links_in, step, may_propose}
+use Rattle.op_configurations.specs.Servers.{Part, Closed, Joining, BaseStage, State, Letter, Body, Inner, HeartbeatRequest, HeartbeatReply, NextConf, AskBase, BasePart, BasePiece, AskSegment, Segment, Fate, Done as ServerDone, Stopped as ServerStopped, Stepped, Inside, Event, Ticks, TicksAlone, Proposes, Trims, Links, Unlinks, Reads, ReadsLong, acted, acted_in, restarted, started, based, has_all, completed, is_piece, pieced, without_pieces, got_segment, inner, answers_beat, takes, is_request, sought, seeks, reads, asks_base, answers_long, is_for_joining, is_ahead, latest, led, ticks_in, ticks_alone_in, links_in, step, may_propose, Notes}
 use Rattle.op_configurations.specs.Worlds as worlds
-use Rattle.op_configurations.specs.Worlds.{Life, Running, World, Happening, At, Delivers, DeliversLong, Stops, Opens, is_letter, with_fate, plain_event, place_in, event_in, events_in, stepped, at_server, delivered, stops, found, opening_fate, opened, opens, happens, run, start, machine_with, machine_after, machine_of}
+use Rattle.op_configurations.specs.Worlds.{Life, Running, World, Happening, At, Delivers, DeliversLong, Stops, Opens, is_letter, with_fate, plain_event, event_in, events_in, stepped, at_server, delivered, stops, found, opening_fate, opened, opens, happens, run, start, machine_with, machine_after, machine_of}
 use Rattle.op_configurations.proofs.Tale.{Tale, StateOk, Onward}
 use Rattle.op_configurations.proofs.Goes.{Good, start_good, first_tale}
 use Rattle.op_configurations.proofs.Book.{BookOk, Next, next, first_book}
 use Rattle.op_laws.proofs.MemberBallots.{LedAmong, AllLed}
 
 -- who is elected has the part of the configuration
-abbrev IfElected : Option Part → ℕ → Input → Type 0
+abbrev pub IfElected : Option Part → ℕ → Input → Type 0
 IfElected o c (Elected n) = (pt : Part) × (o ≡ Some pt) × (c ≡ pt.conf)
 IfElected o c _ = Unit {0}
 
-abbrev AllOwn : Option Part → List Inside → Type 0
+abbrev pub AllOwn : Option Part → List Inside → Type 0
 AllOwn o [] = Unit {0}
 AllOwn o (x ∷ xs) = IfElected o x.conf x.input × AllOwn o xs
 
@@ -153,28 +153,29 @@ module _ (f : Fate) (p : ℕ) (st : State) where
   step_own Trims = acted_in_own st.part refl TrimNow
   step_own (Links q) = links_own st.joining q st.part refl
   step_own (Unlinks q) = acted_in_own st.part refl (Down q)
+  step_own (Notes xs) = tt
   step_own (Reads n l) = reads_own n l
   step_own (ReadsLong n total l) = long_own total l
 
 -- ---- as events of a configuration
 
-fated_led : (ms : List ℕ) (f : Fate) (e : paxos.Event) → LedAmong ms e → LedAmong ms (with_fate f e)
-fated_led ms ServerDone e k = k
-fated_led ms ServerStopped e k = k
+pub fated_led : (O : ℕ → Type 0) (f : Fate) (e : paxos.Event) → LedAmong O e → LedAmong O (with_fate f e)
+fated_led O ServerDone e k = k
+fated_led O ServerStopped e k = k
 
-led_append : (ms : List ℕ) (xs ys : List paxos.Event) → AllLed ms xs → AllLed ms ys → AllLed ms (xs ++ ys)
-led_append ms [] ys a b = b
-led_append ms (x ∷ xs) ys a b = (a.0, led_append ms xs ys a.1 b)
+pub led_append : (O : ℕ → Type 0) (xs ys : List paxos.Event) → AllLed O xs → AllLed O ys → AllLed O (xs ++ ys)
+led_append O [] ys a b = b
+led_append O (x ∷ xs) ys a b = (a.0, led_append O xs ys a.1 b)
 
 -- each configuration's events
 abbrev pub LedIn : Tale → World → Type 0
-LedIn t w = (c : ℕ) → AllLed (t.members c) (w.inner c)
+LedIn t w = (c : ℕ) → AllLed (IsAmong (t.members c)) (w.inner c)
 
 module _ (t t' : Tale) (on : Onward t t') (soup : List Letter) (p : ℕ) (st : State) (ok : StateOk t p st) where
   mine : (pt : Part) → st.part ≡ Some pt → IsAmong (t'.members pt.conf) p
   mine pt has = let k = ok.part pt has in subst (λ (ms : List ℕ). IsAmong ms p) (k.members ∙ sym (on.members pt.conf k.opened)) k.mine
 
-  input_led : (c i : ℕ) (x : Input) → IfElected st.part c x → LedAmong (t'.members c) (plain_event i p x)
+  input_led : (c i : ℕ) (x : Input) → IfElected st.part c x → LedAmong (IsAmong (t'.members c)) (plain_event i p x)
   input_led c i (Elected n) k = subst (λ (d : ℕ). IsAmong (t'.members d) p) (sym k.2) (mine k.0 k.1)
   input_led c i (Proposal es) k = tt
   input_led c i (Comes q m) k = tt
@@ -184,17 +185,17 @@ module _ (t t' : Tale) (on : Onward t t') (soup : List Letter) (p : ℕ) (st : S
   input_led c i Starts k = tt
   input_led c i TrimNow k = tt
 
-  inside_led : (c : ℕ) (xs : List Inside) → AllOwn st.part xs → AllLed (t'.members c) (events_in soup p c xs)
+  inside_led : (c : ℕ) (xs : List Inside) → AllOwn st.part xs → AllLed (IsAmong (t'.members c)) (events_in soup p c xs)
   inside_led c [] k = tt
   inside_led c (x ∷ xs) k =
-      cond_both (c == x.conf) _ _ (AllLed (t'.members c))
-      (λ e. (subst (λ (d : ℕ). LedAmong (t'.members d) (event_in soup p x)) (sym (eqb-true c x.conf e)) (fated_led (t'.members x.conf) x.fate _ (input_led x.conf _ x.input k.0)), inside_led c xs k.1))
+      cond_both (c == x.conf) _ _ (AllLed (IsAmong (t'.members c)))
+      (λ e. (subst (λ (d : ℕ). LedAmong (IsAmong (t'.members d)) (event_in soup p x)) (sym (eqb-true c x.conf e)) (fated_led (IsAmong (t'.members x.conf)) x.fate _ (input_led x.conf _ x.input k.0)), inside_led c xs k.1))
       (λ e. inside_led c xs k.1)
 
 -- ---- whatever happens
 
 -- what an event adds inside
-abbrev Adds : World → World → ℕ → Type 0
+abbrev pub Adds : World → World → ℕ → Type 0
 Adds w w' c = (p : ℕ) × (xs : List Inside) × AllOwn ((w.servers p).state).part xs × (w'.inner c ≡ w.inner c ++ events_in w.soup p c xs)
 
 module _ (w : World) (c : ℕ) where
@@ -237,7 +238,7 @@ module _ (w : World) (c : ℕ) where
       let k = restarted (opening_fate z.joining) p z z.part in
       (p, s.inside ++ k.inside, own_append ((w.servers p).state).part s.inside k.inside (found_own p after (w.servers p).state o) (restarted_own (opening_fate z.joining) p z z.part ((w.servers p).state).part), refl)
 
-  happens_adds : (h : Happening) → Adds w (happens w h) c
+  pub happens_adds : (h : Happening) → Adds w (happens w h) c
   unfolding happens
   happens_adds (At f p e) = cond_both (is_letter e) w (at_server w f p (w.servers p).life e) (λ (u : World). Adds w u c) (λ _. adds_none) (λ _. at_adds f p (w.servers p).life e)
   happens_adds (Delivers f n) = delivered_adds f (Reads n) (slice_get w.soup n)
@@ -250,11 +251,11 @@ module _ (w : World) (c : ℕ) where
 next_led : (first : List ℕ) (t : Tale) (w : World) (m : Machine) (good : Good first m.proposed t w) (h : Happening) → (s : Next first t w m h) → LedIn t w → LedIn s.tale (happens w h)
 next_led first t w m good h s k c =
     let a = happens_adds w c h in
-    let old : AllLed ((s.tale).members c) (w.inner c) = ⊎_elim
-    (λ (o : t.opened c ≡ true). subst (λ (ms : List ℕ). AllLed ms (w.inner c)) (sym ((s.onward).members c o)) (k c))
-    (λ (o : t.opened c ≡ false). subst (AllLed ((s.tale).members c)) (sym ((good.tale).empty c o) ∙ good.events c) tt) (cases_Bool (t.opened c)) in
-    subst (AllLed ((s.tale).members c)) (sym a.3)
-    (led_append ((s.tale).members c) (w.inner c) (events_in w.soup a.0 c a.1) old (inside_led t s.tale s.onward w.soup a.0 (w.servers a.0).state (good.servers a.0).state c a.1 a.2))
+    let old : AllLed (IsAmong ((s.tale).members c)) (w.inner c) = ⊎_elim
+    (λ (o : t.opened c ≡ true). subst (λ (ms : List ℕ). AllLed (IsAmong ms) (w.inner c)) (sym ((s.onward).members c o)) (k c))
+    (λ (o : t.opened c ≡ false). subst (AllLed (IsAmong ((s.tale).members c))) (sym ((good.tale).empty c o) ∙ good.events c) tt) (cases_Bool (t.opened c)) in
+    subst (AllLed (IsAmong ((s.tale).members c))) (sym a.3)
+    (led_append (IsAmong ((s.tale).members c)) (w.inner c) (events_in w.soup a.0 c a.1) old (inside_led t s.tale s.onward w.soup a.0 (w.servers a.0).state (good.servers a.0).state c a.1 a.2))
 
 -- a world that a run comes to, with its configurations' events
 pub record Led (first : List ℕ) (w : World) (m : Machine) : Type 0 where

@@ -1,12 +1,12 @@
 -- A step either goes on to a later configuration, or keeps the part: then the leader's ballot and the promise never fall.
-use Rattle.std.proofs.Common.{◌≡◌, ◌<◌, ◌≤◌, ◌⊎◌, inl, inr, ℕ, ◌+◌, Bool, true, false, cond, not, ◌&&◌, eqb, ltb, leb, is_some, nat_eq, List, [], ◌∷◌, ◌++◌, All, map, Option, Some, None, refl, sym, ap, ◌∙◌, subst, arith}
+use Rattle.std.proofs.Common.{◌≡◌, ◌<◌, ◌⊎◌, inl, inr, ℕ, ◌+◌, Bool, true, false, cond, not, ◌&&◌, eqb, ltb, leb, is_some, nat_eq, List, [], ◌∷◌, ◌++◌, All, map, Option, Some, None, refl, sym, ap, ◌∙◌, subst, arith}
 use Rattle.std.proofs.lemmas.Bool.{cond_both, cond-true, cond-false, cases_Bool}
 use Rattle.std.specs.Prelude.{nat_lt}
 use Rattle.std.specs.Set.{is_member}
 use Rattle.op_types.specs.Ballots.{is_below, is_same_ballot}
 use Rattle.op_types.specs.Limits.{greatest_number}
 use Rattle.op_types.specs.Roles.{Idle}
-use Rattle.op_types.specs.Changes.{len_of, closed_by, part_after_closed, durable_closing, durable_joined, durable_with, durable_after, closed_joined}
+use Rattle.op_types.specs.Changes.{len_of, closed_by, part_after_closed, durable_closing, durable_joined, durable_after}
 use Rattle.op_types.specs.Joinings.{Held, Base, cover_of}
 use Rattle.op_types.specs.Stages.{with_piece, whole_bytes}
 use Rattle.op_types.specs.Stops.{stop_at_end}
@@ -39,12 +39,13 @@ use Rattle.op_protocol.specs.Joining.{storing, begins_joining, storing_news, new
 use Rattle.op_protocol.specs.Parts.{is_run_to, is_admitted_body, part_after, decided_since}
 use Rattle.op_protocol.specs.Tick.{candidate_of, by_verdict}
 use Rattle.op_protocol.proofs.TickCases.{begun_at}
-use Rattle.op_protocol.specs.Rows.{refusal_of, stop_for, entries_of, on_body, message_at, is_of_joining, may_be_above, on_older, on_newer, on_latest, message_step, brought_by, proposal_at, tick_at, trim_at, up_at, step_at, waiting_at, based, planned, plan_of, step_bringing, table_plan, step_plan}
+use Rattle.op_protocol.specs.Rows.{refusal_of, stop_for, entries_of, on_body, message_at, is_of_joining, may_be_above, on_latest, message_step, brought_by, proposal_at, tick_at, trim_at, up_at, step_at, waiting_at, based, planned, plan_of, step_bringing, table_plan, step_plan}
 use Rattle.op_protocol.proofs.Plans.{after_both}
 use Rattle.op_protocol.proofs.StepBatches.{IsInside, inside_after, inside_closed, inside_none, inside_all_based, step_inside, Rises, above_after, step_above}
 use Rattle.op_protocol.proofs.Based.{based_after}
 use Rattle.op_laws.specs.Elected.{elected_of, elected_by}
 use Rattle.op_laws.proofs.Placed.{conf_after, members_after}
+use Rattle.op_protocol.specs.Watched.{is_watching}
 
 none_some : {A : Type 0} (a : A) → None ≡ Some a → ⊥
 none_some a e = cc
@@ -113,6 +114,7 @@ body_stays me p v q (body.AskSegment from to) = refl
 body_stays me p v q (body.Segment at es) = refl
 body_stays me p v q (body.Confirm n r) = refl
 body_stays me p v q (body.Confirmed n r) = refl
+body_stays me p v q (body.Watch w) = refl
 
 message_stays : (me : ℕ) (o : Option Part) (v : Volatile) (q : ℕ) (m : Msg) → Stays v (message_at me o v q m)
 message_stays me None v q m = refl
@@ -144,12 +146,14 @@ latest_stays me d v q c (body.BasePart at bytes) = message_stays me d.part v q _
 latest_stays me d v q c (body.Segment at es) = message_stays me d.part v q _
 latest_stays me d v q c (body.Confirm z r) = message_stays me d.part v q _
 latest_stays me d v q c (body.Confirmed z r) = message_stays me d.part v q _
+latest_stays me d v q c (body.Watch w) = message_stays me d.part v q _
 
 delivery_stays : (me : ℕ) (d : Durable) (v : Volatile) (q : ℕ) (m : Msg) → Stays v (message_step me d v q m)
 delivery_stays me d v q m =
-    either v (is_some d.joining && not (is_of_joining m.body)) _ _ refl
+    either v (is_watching m.body) _ _ refl
+    (either v (is_some d.joining && not (is_of_joining m.body)) _ _ refl
     (either v (ltb m.conf (latest_of d)) _ _ refl
-    (either v (ltb (latest_of d) m.conf && not (may_be_above m.body)) _ _ refl (latest_stays me d v q m.conf m.body)))
+    (either v (ltb (latest_of d) m.conf && not (may_be_above m.body)) _ _ refl (latest_stays me d v q m.conf m.body))))
 
 proposal_stays : (me : ℕ) (o : Option Part) (v : Volatile) (es : List Entry) (r : Option Refusal) → Stays v (proposal_at me o v es r)
 proposal_stays me o v es (Some r) = refl
@@ -447,6 +451,7 @@ module _ (me : ℕ) (s : State) (x : Input) (above : JoiningIsAbove s.durable) w
   brought_more j e c (body.Trim g) batch k = absurd (none_some batch k)
   brought_more j e c (body.Confirm z r) batch k = absurd (none_some batch k)
   brought_more j e c (body.Confirmed z r) batch k = absurd (none_some batch k)
+  brought_more j e c (body.Watch w) batch k = absurd (none_some batch k)
   brought_more j e c (body.NextConf members olds len trimmed) batch k = absurd (none_some batch k)
   brought_more j e c body.AskBase batch k = absurd (none_some batch k)
   brought_more j e c (body.AskSegment from to) batch k = absurd (none_some batch k)
@@ -458,6 +463,7 @@ module _ (me : ℕ) (s : State) (x : Input) (above : JoiningIsAbove s.durable) w
       nothing_to c (body.BasePart at bytes) = refl
       nothing_to c (body.BasePiece y) = refl
       nothing_to c (body.Segment at es) = refl
+      nothing_to c (body.Watch w) = refl
       nothing_to c (body.HeartbeatRequest r) = refl
       nothing_to c (body.HeartbeatReply r z g) = refl
       nothing_to c (body.Prepare z na nl nd) = refl

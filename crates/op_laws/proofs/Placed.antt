@@ -1,11 +1,11 @@
 -- What a step newly decides stands in its configuration's list behind what its node had decided.
-use Rattle.std.proofs.Common.{◌≡◌, ◌<◌, ◌≤◌, ℕ, ◌+◌, ◌-◌, max, Bool, true, false, cond, is_some, List, [], ◌∷◌, ◌++◌, All, length, take, drop, map, Option, Some, None, refl, sym, ap, ◌∙◌, subst, ⊎_elim, ◌⊎◌, arith, length-take, take-append-drop, drop_of_length-le}
+use Rattle.std.proofs.Common.{◌≡◌, ◌<◌, ◌≤◌, ℕ, ◌+◌, ◌-◌, Bool, true, false, cond, is_some, List, [], ◌∷◌, ◌++◌, All, length, take, drop, map, Option, Some, refl, sym, ap, ◌∙◌, subst, ⊎_elim, ◌⊎◌, arith, length-take, take-append-drop, drop_of_length-le}
 use Rattle.std.proofs.lemmas.Bool.{cases_lt, cond-true, cond-false}
 use Rattle.std.proofs.lemmas.List.{drop-take}
 use Rattle.std.specs.Prelude.{nat_eq}
 use Rattle.std.specs.Set.{is_member}
 use Rattle.op_types.specs.Stops.{stop_at_end}
-use Rattle.op_types.specs.Changes.{part_with, decided_tail, closed_by, part_after_closed, durable_after}
+use Rattle.op_types.specs.Changes.{part_with, closed_by, durable_after}
 use Rattle.op_types.specs.declared.changes.Change.{Change}
 use Rattle.op_types.specs.declared.changes.Change.TheVariants as change
 use Rattle.op_types.specs.declared.durable.Part.{Part}
@@ -53,6 +53,7 @@ conf_one p (change.JoinDonor q t) = refl
 conf_one p (change.JoinBase at b) = refl
 conf_one p (change.JoinPart at es) = refl
 conf_one p (change.JoinDone b) = refl
+conf_one p (change.Rebase conf members at base) = refl
 
 -- changes of a part leave its configuration
 pub conf_after : (p : Part) (batch : List Change) → (part_after p batch).conf ≡ p.conf
@@ -73,6 +74,7 @@ members_one p (change.JoinDonor q trimmed) = refl
 members_one p (change.JoinBase at base) = refl
 members_one p (change.JoinPart at es) = refl
 members_one p (change.JoinDone base) = refl
+members_one p (change.Rebase conf members at base) = refl
 
 pub members_after : (p : Part) (batch : List Change) → (part_after p batch).members ≡ p.members
 members_after p [] = refl

@@ -49,6 +49,7 @@ use Rattle.op_protocol.specs.Trimming.{least_reported, trims, trims_reported, tr
 use Rattle.op_protocol.proofs.StepBatches.{Rises}
 use Rattle.op_refinement.proofs.View.{Each, Each-append}
 use Rattle.op_laws.proofs.Leads.{lead_rises}
+use Rattle.op_protocol.specs.Watched.{is_watching}
 
 -- ---- batches that decide nothing
 abbrev IsUndecided : Change → Type 0
@@ -356,8 +357,9 @@ module _ (me : ℕ) (p : Part) (c : Option Closed) (v : Volatile) where
   step_quiet input.Tick =
       tick_cases (λ (x : PartStep). StepIsQuiet p v x) me p v (λ _. verdict_quiet me p (begun_at me p v) (ended_at me p v).verdict) (λ _. same_role p v.role _ refl refl tt)
   step_quiet (input.Deliver q m) =
-      cond_both (ltb m.conf (latest_of here)) _ _ (λ (x : PartStep). StepIsQuiet p v x) (λ _. same_role p v.role _ refl refl tt)
-      (λ _. cond_both (ltb (latest_of here) m.conf && not (may_be_above m.body)) _ _ (λ (x : PartStep). StepIsQuiet p v x) (λ _. same_role p v.role _ refl refl tt) (λ _. latest_quiet q m.conf m.body))
+      cond_both (is_watching m.body) _ _ (λ (x : PartStep). StepIsQuiet p v x) (λ _. same_role p v.role _ refl refl tt)
+      (λ _. cond_both (ltb m.conf (latest_of here)) _ _ (λ (x : PartStep). StepIsQuiet p v x) (λ _. same_role p v.role _ refl refl tt)
+      (λ _. cond_both (ltb (latest_of here) m.conf && not (may_be_above m.body)) _ _ (λ (x : PartStep). StepIsQuiet p v x) (λ _. same_role p v.role _ refl refl tt) (λ _. latest_quiet q m.conf m.body)))
   step_quiet (input.Commands cs) = proposal_quiet me p v (entries_of cs) (refusal_of me v.role here (entries_of cs))
   step_quiet (input.Stop members) = proposal_quiet me p v (entry.Stop (stop_for (Some p) members) ∷ []) (refusal_of me v.role here (entry.Stop (stop_for (Some p) members) ∷ []))
   step_quiet input.TrimNow = trim_now_quiet me p v.role

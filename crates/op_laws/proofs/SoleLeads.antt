@@ -51,8 +51,8 @@ own_promise first ks pid pt has rising many =
     let k = all_led first ks in
     let x = (((k.good).servers pid).state).part pt has in
     let ms : List ℕ = (k.tale).members pt.conf in
-    let ours = (ballots_are_ours ms ((k.tale).events pt.conf) (subst (AllLed ms) (sym ((k.good).events pt.conf)) (k.led pt.conf))).nodes pid in
-    let here : IsOurs ms (pt.node).promised = subst (λ (n : pure.Node). IsOurs ms n.promised) x.node ours.promised in
+    let ours = (ballots_are_ours (IsAmong ms) ms ((k.tale).events pt.conf) (subst (AllLed (IsAmong ms)) (sym ((k.good).events pt.conf)) (k.led pt.conf))).nodes pid in
+    let here : IsOurs (IsAmong ms) (pt.node).promised = subst (λ (n : pure.Node). IsOurs (IsAmong ms) n.promised) x.node ours.promised in
     ⊎_elim (λ (z : (pt.node).promised ≡ 0). inl z)
     (λ (i : IsAmong ms (owner (pt.node).promised)). inr (only_member pid pt.members rising many (owner (pt.node).promised) (subst (λ (l : List ℕ). IsAmong l (owner (pt.node).promised)) (sym x.members) i))) here
 

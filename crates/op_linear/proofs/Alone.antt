@@ -1,14 +1,12 @@
 -- A node alone, over all its lives: where each is a run by the loop's rules and nothing that it reads is a peer's, it is a cluster.
-use Rattle.std.proofs.Common.{◌≡◌, ◌<◌, ◌^◌, ◌==◌, ◌⊎◌, ℕ, zero, suc, Bool, true, false, List, [], ◌∷◌, ◌++◌, map, fold, Option, Some, None, if◌then◌else◌, refl, sym, ◌∙◌, ap, subst, arith, append_assoc, append-nil, nat_eq, inl, inr}
-use Rattle.std.specs.Prelude.{All}
+use Rattle.std.proofs.Common.{◌≡◌, ◌<◌, ◌^◌, ◌==◌, ◌⊎◌, ℕ, Bool, true, false, List, [], ◌∷◌, ◌++◌, map, fold, Option, Some, None, if◌then◌else◌, refl, sym, ◌∙◌, ap, subst, arith, append_assoc, append-nil, nat_eq, inl, inr}
 use Rattle.std.proofs.lemmas.Bool.{cases_eq, eq-eqb, ne_eqb}
 use Rattle.std.proofs.lemmas.List.Elements.{All-nil}
 use Rattle.std.proofs.lemmas.List.Sums.{fold-append}
 use Rattle.op_types.specs.Ranges.{IsMember}
 use Rattle.op_fields.specs.Form.{encoded}
 use Rattle.op_setup.specs.declared.config.Settings.{Settings}
-use Rattle.op_runs.specs.Possible.{most_proposals}
-use Rattle.op_runs.specs.World.{node_ids}
+use Rattle.op_runs.specs.Possible.{most_proposals, server_ids}
 use Rattle.op_serving.specs.Inputs.{Deed, begins, hears, enters, says, takes}
 use Rattle.op_serving.specs.Promise.{Life, newborn, and_then, life}
 use Rattle.op_serving.specs.Reopenings.{FindStored}
@@ -89,9 +87,9 @@ cut_at (d ∷ es) (x ∷ now) later e =
 -- ---- a cluster
 
 abbrev pub born : Lived
-born = first_life one none_failed 1
+born = first_life one [] none_failed 1
 
-two_nodes : (p : ℕ) → IsMember (node_ids one spare) p → (p ≡ 1) ⊎ (p ≡ 2)
+two_nodes : (p : ℕ) → IsMember (server_ids one spare []) p → (p ≡ 1) ⊎ (p ≡ 2)
 two_nodes p h = elim (cases_eq p 1) [
   | inl e ↦ inl e
   | inr n ↦ elim (cases_eq p 2) [
@@ -102,9 +100,9 @@ two_nodes p h = elim (cases_eq p 1) [
 
 -- the spare does nothing
 abbrev idle : Settings
-idle = record { tick_ms = 100; turns = 10; members = one; peers = []; is_mirrored = false; trim_every = None }
+idle = record { tick_ms = 100; turns = 10; members = one; peers = []; is_mirrored = false; observers = []; trim_every = None; cluster = None }
 
-idle_life : IsLife (first_life one none_failed 2)
+idle_life : IsLife (first_life one [] none_failed 2)
 idle_life = record {
   serves = record {
     settings = idle;
@@ -120,22 +118,22 @@ idle_life = record {
   stored = tt;
 }
 
-idle_reads : (conn : ℕ) → ReadsPeer (record { pid = 2; conn = conn; lived = first_life one none_failed 2 }) → ⊥
+idle_reads : (conn : ℕ) → ReadsPeer (record { pid = 2; conn = conn; lived = first_life one [] none_failed 2 }) → ⊥
 idle_reads conn (inl k) = absurd (k.1 refl)
 idle_reads conn (inr k) = absurd (let bad = k.0 in cc)
 
 pub record Ranges (es : List Event) : Type 0 where
-  pub messages : messages_behind one none_failed [] (map at_one es) < 2 ^ 64
-  pub proposals : proposed_behind one none_failed [] (map at_one es) < most_proposals
+  pub messages : messages_behind one [] none_failed [] (map at_one es) < 2 ^ 64
+  pub proposals : proposed_behind one [] none_failed [] (map at_one es) < most_proposals
 
 module _ (es : List Event) (goes : Goes born es) (few : Ranges es) where
-  lived_one : (now later : List Happened) (k : CutAt es now later) (p : ℕ) → p ≡ 1 → lived_at one none_failed p now ≡ ends_in born k.first
+  lived_one : (now later : List Happened) (k : CutAt es now later) (p : ℕ) → p ≡ 1 → lived_at one [] none_failed p now ≡ ends_in born k.first
   lived_one now later k p e =
-      ap (λ q. lived_at one none_failed q now) e ∙ ap (λ t. lived_at one none_failed 1 t) k.now_is ∙ own born k.first
+      ap (λ q. lived_at one [] none_failed q now) e ∙ ap (λ t. lived_at one [] none_failed 1 t) k.now_is ∙ own born k.first
 
-  lived_two : (now later : List Happened) (k : CutAt es now later) (p : ℕ) → p ≡ 2 → lived_at one none_failed p now ≡ first_life one none_failed 2
+  lived_two : (now later : List Happened) (k : CutAt es now later) (p : ℕ) → p ≡ 2 → lived_at one [] none_failed p now ≡ first_life one [] none_failed 2
   lived_two now later k p e =
-      ap (λ q. lived_at one none_failed q now) e ∙ ap (λ t. lived_at one none_failed 2 t) k.now_is ∙ other (first_life one none_failed 2) k.first
+      ap (λ q. lived_at one [] none_failed q now) e ∙ ap (λ t. lived_at one [] none_failed 2 t) k.now_is ∙ other (first_life one [] none_failed 2) k.first
 
   goes_then : (now later : List Happened) (k : CutAt es now later) → Goes (ends_in born k.first) k.rest
   goes_then now later k = goes_at born k.first k.rest (subst (Goes born) k.split goes)
@@ -143,7 +141,7 @@ module _ (es : List Event) (goes : Goes born es) (few : Ranges es) where
   fine_then : (now later : List Happened) (k : CutAt es now later) → Fine (ends_in born k.first)
   fine_then now later k = goes_first (ends_in born k.first) k.rest (goes_then now later k)
 
-  nodes_each : (fs : List Event) → Each (λ x. IsMember (node_ids one spare) x.pid) (map at_one fs)
+  nodes_each : (fs : List Event) → Each (λ x. IsMember (server_ids one spare []) x.pid) (map at_one fs)
   nodes_each [] = tt
   nodes_each (e ∷ fs) = (refl, nodes_each fs)
 
@@ -153,9 +151,9 @@ module _ (es : List Event) (goes : Goes born es) (few : Ranges es) where
       let same : x ≡ at_one d = head_is x (at_one d) later (map at_one rest) e in
       (ap (λ (y : Happened). y.pid) same, subst (λ (y : Happened). MayHappen l y.event) (sym same) g.1)
 
-  pub a_cluster : IsCluster one spare none_failed (map at_one es)
+  pub a_cluster : IsCluster one spare [] none_failed (map at_one es)
   a_cluster = record {
-    nodes = each_all (λ x. IsMember (node_ids one spare) x.pid) (map at_one es) (nodes_each es);
+    nodes = each_all (λ x. IsMember (server_ids one spare []) x.pid) (map at_one es) (nodes_each es);
     lives = λ now later split p is.
         (let k = cut_at es now later split in elim (two_nodes p is) [
           | inl e ↦ subst IsLife (sym (lived_one now later k p e)) (fine_then now later k).life
@@ -168,9 +166,9 @@ module _ (es : List Event) (goes : Goes born es) (few : Ranges es) where
     joined = λ now later split p conn is reads.
         (let k = cut_at es now later split in elim (two_nodes p is) [
           | inl e ↦ absurd ((fine_then now later k).alone conn (subst (λ (l : Lived). ReadsPeer (record { pid = 1; conn = conn; lived = l })) (lived_one now later k 1 refl)
-              (subst (λ q. ReadsPeer (end_at one none_failed q conn now)) e reads)))
+              (subst (λ q. ReadsPeer (end_at one [] none_failed q conn now)) e reads)))
           | inr e ↦ absurd (idle_reads conn (subst (λ (l : Lived). ReadsPeer (record { pid = 2; conn = conn; lived = l })) (lived_two now later k 2 refl)
-              (subst (λ q. ReadsPeer (end_at one none_failed q conn now)) e reads)))
+              (subst (λ q. ReadsPeer (end_at one [] none_failed q conn now)) e reads)))
         ]);
     messages = few.messages;
     proposals = few.proposals;

@@ -15,9 +15,9 @@ use Rattle.op_types.specs.declared.log.Entry.TheVariants as entry
 use Rattle.op_types.specs.declared.read.Read.{Read}
 use Rattle.op_spec.specs.Machine.{IsAmong}
 use Rattle.op_spec.specs.Service.{told_value, service_of, value_at}
-use Rattle.op_runs.specs.Possible.{SparesInRange}
+use Rattle.op_runs.specs.Possible.{SparesInRange, ObserversInRange}
 use Rattle.op_runs.specs.Replies.{IsServed}
-use Rattle.op_runs.specs.World.{Happening}
+use Rattle.op_runs.specs.World.{Kind, Votes, Observes, Happening, plan_as}
 use Rattle.op_reads.specs.declared.asked_read.AskedRead.{AskedRead}
 use Rattle.op_types.specs.Changes.{durable_after}
 use Rattle.op_protocol.specs.Configurations.{latest_of}
@@ -30,6 +30,7 @@ use Rattle.op_read_laws.proofs.ReadsFresh.{among_map}
 use Rattle.op_serving.specs.Cores.{Failure, Standing, gives, given_again}
 use Rattle.op_serving.specs.Fates.{done, finds, faults, shares, damaged, lost}
 use Rattle.op_serving.specs.Inputs.{Deed, begins, hears, enters, says, takes}
+use Rattle.op_connections.proofs.Observing.{watch_quiet}
 use Rattle.op_cluster_laws.specs.Clusters.{IsCluster}
 use Rattle.op_cluster_laws.specs.Currency.{WasAskedOf}
 use Rattle.op_cluster_laws.specs.Orders.{IsAnswer}
@@ -72,18 +73,23 @@ given_up_none s p r k i = by (leads_on s.volatile.role p.volatile.role) (why_giv
     by true why xs m = m
     by false why xs m = dropped_none why xs r m i
 
+-- what a server's step answers reads: an observer answers none
+plan_gives : (seat : Kind) (me : ℕ) (s : State) (i : Input) (r : Reply) → IsAmong (plan_as seat me s i).read_replies r → IsResult r.answer → IsGiven r.answer
+plan_gives Votes me s i r m result =
+    let p : Planned = table_plan me s i in
+    elim (from_both r (map (read_reply p.service) (answered_by me s i p)) (given_up_in s p) m) [
+      | inl a ↦ read_given p (answered_by me s i p) r a
+      | inr b ↦ absurd (given_up_none s p r b result)
+    ]
+plan_gives Observes me s i r m result = absurd (subst (λ l. IsAmong l r) (watch_quiet me s i).read_replies m)
+
 step_gives : (n : Standing) (i : Input) (r : Reply) → IsAmong (gives n i).read_replies r → IsResult r.answer → IsGiven r.answer
 unfolding gives
 step_gives n i r k result = by_failed n.failed refl k
   where
     by_failed : (o : Option Failure) → n.failed ≡ o → IsAmong (gives n i).read_replies r → IsGiven r.answer
     by_failed (Some f) e m = absurd (rw e at m)
-    by_failed None e m =
-        let p : Planned = table_plan n.me n.state i in
-        elim (from_both r (map (read_reply p.service) (answered_by n.me n.state i p)) (given_up_in n.state p) (rw e at m)) [
-          | inl a ↦ read_given p (answered_by n.me n.state i p) r a
-          | inr b ↦ absurd (given_up_none n.state p r b result)
-        ]
+    by_failed None e m = plan_gives n.kind n.me n.state i r (rw e at m) result
 
 again_gives : (n : Standing) (d : _) (r : Reply) → IsAmong (given_again n d).read_replies r → ⊥
 unfolding given_again
@@ -121,15 +127,15 @@ result_answers (answer.Dropped why) i = absurd i
 
 -- ---- a cluster
 
-module _ (members spares : List ℕ) (ms : MembersInRange members) (ss : SparesInRange members spares) (faulted : ℕ → ℕ) (trace : List Happened) (c : IsCluster members spares faulted trace) where
+module _ (members spares observers : List ℕ) (ms : MembersInRange members) (ss : SparesInRange members spares) (os : ObserversInRange members spares observers) (faulted : ℕ → ℕ) (trace : List Happened) (c : IsCluster members spares observers faulted trace) where
   abbrev requested : ℕ → ClientCall → Type 0
-  requested = IsRequested members spares faulted trace
+  requested = IsRequested members spares observers faulted trace
 
   abbrev answered : ℕ → ClientCall → Answer → Type 0
-  answered = IsGivenOut members spares faulted trace
+  answered = IsGivenOut members spares observers faulted trace
 
-  linear : LinearRun members spares faulted trace
-  linear = linear_run members spares ms ss faulted trace c
+  linear : LinearRun members spares observers faulted trace
+  linear = linear_run members spares observers ms ss os faulted trace c
 
   abbrev at : ℕ → List Happening
   at = linear.at
@@ -143,7 +149,7 @@ module _ (members spares : List ℕ) (ms : MembersInRange members) (ss : SparesI
   abbrev cut : ℕ → List Entry
   cut k = history_after members spares (at k)
 
-  each : (k : ℕ) → IsLinearAt members spares faulted trace hs at k
+  each : (k : ℕ) → IsLinearAt members spares observers faulted trace hs at k
   each k = linear.each k
 
   later : (j k : ℕ) (x : ClientCall) → j ≤ k → requested j x → requested k x
@@ -155,7 +161,7 @@ module _ (members spares : List ℕ) (ms : MembersInRange members) (ss : SparesI
   asked_ever : (b : Command) → IsAmong whole (entry.Command b) → (k : ℕ) × requested k (commands b)
   asked_ever b k = (
     length trace,
-    subst (λ l. WasAskedOf members spares faulted l (request.Command b)) (sym (take_all (length trace) trace (omega arith))) (linear.asked b k),
+    subst (λ l. WasAskedOf members spares observers faulted l (request.Command b)) (sym (take_all (length trace) trace (omega arith))) (linear.asked b k),
   )
 
   -- who forgets the client of a command between two of its places lets it come again
@@ -170,7 +176,7 @@ module _ (members spares : List ℕ) (ms : MembersInRange members) (ss : SparesI
         (in_right (entry.Command f) before (entry.Command b ∷ (mid ++ entry.Command f ∷ [])) (inr (in_right (entry.Command f) mid (entry.Command f ∷ []) (inl refl)))) k,
   )
 
-  module _ (h : History) (clients : IsClientHistory members spares faulted trace h) where
+  module _ (h : History) (clients : IsClientHistory members spares observers faulted trace h) where
     -- what returns was called
     returns_called : (x : ClientCall) (a : Answer) → IsAmong h (returns x a) → IsAmong h (calls x)
     returns_called x a k =
@@ -202,14 +208,14 @@ module _ (members spares : List ℕ) (ms : MembersInRange members) (ss : SparesI
       where
         given : IsGiven n.reply.answer
         given =
-            let l : Lived = lived_at members faulted n.pid (take n.moment trace) in
+            let l : Lived = lived_at members observers faulted n.pid (take n.moment trace) in
             reads_give l.first l.deeds n.reply (contains_among (answered_in true l.first l.deeds) n.reply n.given) (subst IsResult (sym n.is) n.result)
 
         -- a read of that key that a node read is this one
         is_it : (q : Read) (j : ℕ) → requested j (reads q) → ◌≡◌ {A = ℕ × ℕ} (q.client, q.seq) (n.reply.client, n.reply.seq) → q ≡ x
         is_it q j r e = same_read q x (clients.numbers (reads q) (reads x) (clients.called j (reads q) r) (returns_called (reads x) a called) refl (e ∙ n.key))
 
-        by_sight : IsSeen members spares faulted trace at n.moment n.reply → SeenAt requested cut n.moment x a
+        by_sight : IsSeen members spares observers faulted trace at n.moment n.reply → SeenAt requested cut n.moment x a
         by_sight s =
             let same : s.read ≡ x = is_it s.read n.moment s.asked (same_pair s.read.client s.read.seq n.reply.client n.reply.seq s.client_is s.seq_is) in record {
               asked = subst (λ z. requested n.moment (reads z)) same s.asked;
@@ -233,15 +239,15 @@ forgets_caller members spares hs f (commands b) l = l.0
 forgets_caller members spares hs f (reads r) l = l
 
 pub clusters_are_linearizable : ClustersAreLinearizable
-clusters_are_linearizable members spares ms ss faulted trace c h clients none =
-    linearizable members spares ms ss faulted trace c h clients
-    (λ f x k m l. none f x k m (forgets_caller members spares (hs members spares ms ss faulted trace c) f x l))
+clusters_are_linearizable members spares observers ms ss os faulted trace c h clients none =
+    linearizable members spares observers ms ss os faulted trace c h clients
+    (λ f x k m l. none f x k m (forgets_caller members spares (hs members spares observers ms ss os faulted trace c) f x l))
 
 pub clusters_let_again : ClustersLetAgain
-clusters_let_again members spares ms ss faulted trace c =
-    let r : LinearRun members spares faulted trace = linear members spares ms ss faulted trace c in (
+clusters_let_again members spares observers ms ss os faulted trace c =
+    let r : LinearRun members spares observers faulted trace = linear members spares observers ms ss os faulted trace c in (
       r.happenings,
       r.run,
       r.events,
-      λ h clients. (until members spares ms ss faulted trace c h clients, λ none. linearizable members spares ms ss faulted trace c h clients none),
+      λ h clients. (until members spares observers ms ss os faulted trace c h clients, λ none. linearizable members spares observers ms ss os faulted trace c h clients none),
     )

@@ -1,8 +1,7 @@
 -- A cluster that is computed: a member alone is killed while it stores a put, is opened again, answers a get, ends, is opened
 -- again, and goes to a configuration of two members.
-use Rattle.std.proofs.Common.{◌≡◌, ◌≤◌, ◌<◌, ◌&&◌, ℕ, zero, suc, Bool, true, false, List, [], ◌∷◌, ◌++◌, map, length, Some, None, nat_lt, refl, sym, ◌∙◌, ap, subst, arith, append_assoc, get_or, inl, inr}
+use Rattle.std.proofs.Common.{◌≡◌, ℕ, zero, suc, true, false, List, [], ◌∷◌, ◌++◌, map, length, Some, None, nat_lt, refl, ◌∙◌, arith, append_assoc, inl, inr}
 use Rattle.std.specs.List.{list_all}
-use Rattle.std.specs.Prelude.{All}
 use Rattle.std.proofs.lemmas.Bool.{and_parts, ltb-true}
 use Rattle.std.proofs.lemmas.List.Elements.{All-nil, All-cons}
 use Rattle.op_types.specs.Ranges.{IsPid}
@@ -27,8 +26,8 @@ use Rattle.op_outside.specs.Nets.{SawBytes}
 use Rattle.op_outside.specs.declared.net.Addr.{Addr}
 use Rattle.op_outside.specs.declared.net.Happening.TheVariants.{Accepted, Readable}
 use Rattle.op_outside.specs.declared.net.Took.TheVariants as took
-use Rattle.op_serving.specs.Cores.{Standing, gives, after_input}
-use Rattle.op_serving.specs.Fates.{Fate, done}
+use Rattle.op_serving.specs.Cores.{gives, after_input}
+use Rattle.op_serving.specs.Fates.{done}
 use Rattle.op_serving.specs.Inputs.{State, Deed, Taken, begins, hears, enters, says, takes, takes_in, taken_as, handing, released, drained, rest, frames_after_all}
 use Rattle.op_serving.specs.Reading.{greeting, first_frame}
 use Rattle.op_serving.specs.Room.{moved, frames_moved}
@@ -43,9 +42,9 @@ use Rattle.op_connections.proofs.Folding.{Folds, folds_none, folding}
 use Rattle.op_connections.proofs.Walking.{drained_holds}
 use Rattle.op_cluster_laws.specs.Clusters.{Coming}
 use Rattle.op_cluster_laws.specs.Lives.{Serves}
-use Rattle.op_cluster_laws.specs.Traces.{Event, does, ends, killed, opens, Happened, Lived, stands, lived_by}
-use Rattle.op_linear.specs.Inhabited.{one, spare, none_failed, a_put, a_get, GoesOn, SomeClusterGoesOn}
-use Rattle.op_linear.proofs.Alone.{at_one, ends_in, Goes, born, Ranges, a_cluster, AllMild, AreMild, all_mild, none_mild, fine, goes_by}
+use Rattle.op_cluster_laws.specs.Traces.{Event, does, ends, killed, opens, Lived, lived_by}
+use Rattle.op_linear.specs.Inhabited.{one, a_put, a_get, GoesOn, SomeClusterGoesOn}
+use Rattle.op_linear.proofs.Alone.{at_one, Goes, born, Ranges, a_cluster, AreMild, all_mild, none_mild, fine, goes_by}
 use Rattle.op_linear.proofs.Worked.{no_line, no_luck}
 
 -- ---- what it is given
@@ -54,7 +53,7 @@ abbrev nowhere : Addr
 nowhere = record { host = 0; port = 1 }
 
 abbrev o : Settings
-o = record { tick_ms = 100; turns = 10; members = one; peers = (1, nowhere) ∷ (2, nowhere) ∷ []; is_mirrored = false; trim_every = None }
+o = record { tick_ms = 100; turns = 10; members = one; peers = (1, nowhere) ∷ (2, nowhere) ∷ []; is_mirrored = false; observers = []; trim_every = None; cluster = None }
 
 peers_fit : PeersInRange o
 peers_fit = All-cons (λ p. IsPid p.0) (1, nowhere) ((2, nowhere) ∷ []) (omega arith, omega arith) (All-cons (λ p. IsPid p.0) (2, nowhere) [] (omega arith, omega arith) (All-nil (λ p. IsPid p.0)))

@@ -12,11 +12,11 @@ use Rattle.op_types.specs.declared.log.Entry.TheVariants as entry
 use Rattle.op_spec.specs.Machine.{IsAmong}
 use Rattle.op_spec.specs.Service.{service_of, value_at, told_value}
 use Rattle.op_spec.specs.Stands.{prefix_of}
-use Rattle.op_runs.specs.Possible.{SparesInRange, HappeningsInRange}
+use Rattle.op_runs.specs.Possible.{SparesInRange, HappeningsInRange, server_ids}
 use Rattle.op_runs.specs.Run.{Execution, first_execution, execution_of, MeetsFrom}
 use Rattle.op_runs.specs.Fresh.{IsFresh, CameFresh}
 use Rattle.op_runs.specs.Summary.{greatest_conf}
-use Rattle.op_runs.specs.World.{World, Happening, node_ids}
+use Rattle.op_runs.specs.World.{World, Happening}
 use Rattle.op_runs.specs.declared.summary.Line.TheVariants as line
 use Rattle.op_laws.specs.Runs.{RunInRange}
 use Rattle.op_laws.proofs.Greatest.{greatest_stays}
@@ -24,7 +24,7 @@ use Rattle.op_laws.proofs.Histories.{history_grows}
 use Rattle.op_laws.proofs.Reached.{world_of_run, execution_append}
 use Rattle.op_read_laws.specs.Told.{IsGiven, ToldFresh}
 use Rattle.op_read_laws.proofs.ReadsTold.{every_line_is_fresh}
-use Rattle.op_cluster_laws.specs.Becoming.{BecomeBehind}
+use Rattle.op_cluster_laws.specs.Becoming.{TraceBecomes}
 use Rattle.op_cluster_laws.specs.Currency.{WasAskedOf, IsUnasked}
 use Rattle.op_cluster_laws.specs.Outputs.{answered_in}
 use Rattle.op_cluster_laws.specs.Taken.{WasTakenIn}
@@ -36,9 +36,9 @@ use Rattle.op_cluster_laws.proofs.Reaching.{sound_behind, meets_behind, lists_gr
 use Rattle.op_cluster_laws.proofs.Current.{contains_among, before_or_in, reads_here, in_run, seen_place, seen_value, seen_past, same_key}
 use Rattle.op_linear.specs.Linear.{IsSeen, IsLinearAt, IsLinear}
 
-module _ (members spares : List ℕ) (ms : MembersInRange members) (ss : SparesInRange members spares) (counts : ℕ → ℕ) (trace : List Happened) (hs : List Happening)
-    (run : IsRun members spares counts trace hs) (reach : ReachedAlways members spares counts trace hs) where
-  abbrev then_at : (k : ℕ) → Reached members spares counts (take k trace) hs
+module _ (members spares observers : List ℕ) (ms : MembersInRange members) (ss : SparesInRange members spares) (counts : ℕ → ℕ) (trace : List Happened) (hs : List Happening)
+    (run : IsRun members spares observers counts trace hs) (reach : ReachedAlways members spares observers counts trace hs) where
+  abbrev then_at : (k : ℕ) → Reached members spares observers counts (take k trace) hs
   then_at k = reach (take k trace) (drop k trace) (sym (take-append-drop k trace))
 
   abbrev at : ℕ → List Happening
@@ -81,9 +81,9 @@ module _ (members spares : List ℕ) (ms : MembersInRange members) (ss : SparesI
         | inr asked ↦ asked
       ]
 
-  module _ (k p : ℕ) (is : IsMember (node_ids members spares) p) (a : Reply)
-      (there : Contains (answered_in true (lived_at members counts p (take k trace)).first (lived_at members counts p (take k trace)).deeds) a) (given : IsGiven a.answer) where
-    abbrev n : Reached members spares counts (take k trace) hs
+  module _ (k p : ℕ) (is : IsMember (server_ids members spares observers) p) (a : Reply)
+      (there : Contains (answered_in true (lived_at members observers counts p (take k trace)).first (lived_at members observers counts p (take k trace)).deeds) a) (given : IsGiven a.answer) where
+    abbrev n : Reached members spares observers counts (take k trace) hs
     n = then_at k
 
     range_then : RunInRange members spares n.first
@@ -112,7 +112,7 @@ module _ (members spares : List ℕ) (ms : MembersInRange members) (ss : SparesI
     abbrev seen : List Entry
     seen = prefix_of (execution_of start n.first).machine.lists f.read.conf fresh.len
 
-    asked_then : WasAskedOf members spares counts (take k trace) (request.Read f.read.asked.read)
+    asked_then : WasAskedOf members spares observers counts (take k trace) (request.Read f.read.asked.read)
     asked_then = n.read f.read.asked.read (subst (λ l. IsAmong (reads_in l) f.read.asked.read) (sym front) (reads_here g.before g.came (g.after ++ f.after) f.read.asked.read c.among))
 
     place_then : (rest : List Entry) × (history_after members spares n.first ≡ seen ++ rest)
@@ -126,7 +126,7 @@ module _ (members spares : List ℕ) (ms : MembersInRange members) (ss : SparesI
     whole_then : hs ≡ g.before ++ g.came ∷ (g.after ++ (f.after ++ n.later))
     whole_then = n.split ∙ ap (λ l. l ++ n.later) front ∙ append_assoc g.before (g.came ∷ (g.after ++ f.after)) n.later ∙ ap (λ l. g.before ++ g.came ∷ l) (append_assoc g.after f.after n.later)
 
-    by_place : (j : ℕ) → IsUnasked members spares counts (take j trace) (a.client, a.seq)
+    by_place : (j : ℕ) → IsUnasked members spares observers counts (take j trace) (a.client, a.seq)
         → ((us : List Happening) × (g.before ≡ (then_at j).first ++ us)) ⊎ ((us : List Happening) × ((then_at j).first ≡ g.before ++ g.came ∷ us))
         → (more : List Entry) × (seen ≡ history_after members spares (then_at j).first ++ more)
     by_place j unread (inr (us, e)) = absurd (unread f.read.asked.read (same_key f.read.asked.read (a.client, a.seq) f.client_is f.seq_is)
@@ -135,7 +135,7 @@ module _ (members spares : List ℕ) (ms : MembersInRange members) (ss : SparesI
         (front ∙ ap (λ l. l ++ g.came ∷ (g.after ++ f.after)) e ∙ append_assoc (then_at j).first us (g.came ∷ (g.after ++ f.after))) front us e
         (reads_of g.came.event.what) f.read a.answer c fresh
 
-    seen_at : IsSeen members spares counts trace at k a
+    seen_at : IsSeen members spares observers counts trace at k a
     seen_at = record {
       read = f.read.asked.read;
       client_is = f.client_is;
@@ -148,7 +148,7 @@ module _ (members spares : List ℕ) (ms : MembersInRange members) (ss : SparesI
       sees = λ j unread. by_place j unread (before_or_in (then_at j).first (then_at j).later g.before g.came (g.after ++ (f.after ++ n.later)) (sym (then_at j).split ∙ whole_then));
     }
 
-  linear_at : (k : ℕ) → IsLinearAt members spares counts trace hs at k
+  linear_at : (k : ℕ) → IsLinearAt members spares observers counts trace hs at k
   linear_at k = record {
     moment = (then_at k).moment;
     goes_on = goes_on_at (then_at k).first (then_at k).later (then_at k).split;
@@ -158,27 +158,27 @@ module _ (members spares : List ℕ) (ms : MembersInRange members) (ss : SparesI
   }
 
 -- a cluster is one run with one history, event by event
-pub record LinearRun (members spares : List ℕ) (counts : ℕ → ℕ) (trace : List Happened) : Type 0 where
+pub record LinearRun (members spares observers : List ℕ) (counts : ℕ → ℕ) (trace : List Happened) : Type 0 where
   pub happenings : List Happening
-  pub run : IsRun members spares counts trace happenings
-  pub events : BecomeBehind members spares counts [] [] trace happenings
+  pub run : IsRun members spares observers counts trace happenings
+  pub events : TraceBecomes members spares observers counts trace happenings
   pub at : ℕ → List Happening
-  pub each : (k : ℕ) → IsLinearAt members spares counts trace happenings at k
-  pub asked : (b : Command) → IsAmong (history_after members spares happenings) (entry.Command b) → WasAskedOf members spares counts trace (request.Command b)
-  pub taken : (b : Command) → IsAmong (history_after members spares happenings) (entry.Command b) → WasTakenIn members spares counts trace b
+  pub each : (k : ℕ) → IsLinearAt members spares observers counts trace happenings at k
+  pub asked : (b : Command) → IsAmong (history_after members spares happenings) (entry.Command b) → WasAskedOf members spares observers counts trace (request.Command b)
+  pub taken : (b : Command) → IsAmong (history_after members spares happenings) (entry.Command b) → WasTakenIn members spares observers counts trace b
 
 pub linear_run : OfClusters LinearRun
-linear_run members spares ms ss counts trace c =
-    let k = always_reached members spares ms ss counts trace c in record {
+linear_run members spares observers ms ss os counts trace c =
+    let k = always_reached members spares observers ms ss os counts trace c in record {
       happenings = k.0;
       run = k.1;
       events = k.4;
-      at = at members spares ms ss counts trace k.0 k.1 k.2;
-      each = λ n. linear_at members spares ms ss counts trace k.0 k.1 k.2 n;
-      asked = λ b among. k.3 b (commands_there members spares ms ss counts trace k.0 k.1 k.2 k.0 [] (sym (append-nil k.0)) b among);
-      taken = λ b among. (let x = proposed_then members spares ms ss counts trace k.0 k.1 k.2 k.0 [] (sym (append-nil k.0)) b among in k.5 b x.0 x.1);
+      at = at members spares observers ms ss counts trace k.0 k.1 k.2;
+      each = λ n. linear_at members spares observers ms ss counts trace k.0 k.1 k.2 n;
+      asked = λ b among. k.3 b (commands_there members spares observers ms ss counts trace k.0 k.1 k.2 k.0 [] (sym (append-nil k.0)) b among);
+      taken = λ b among. (let x = proposed_then members spares observers ms ss counts trace k.0 k.1 k.2 k.0 [] (sym (append-nil k.0)) b among in k.5 b x.0 x.1);
     }
 
 pub clusters_are_linear : OfClusters IsLinear
-clusters_are_linear members spares ms ss counts trace c =
-    let r : LinearRun members spares counts trace = linear_run members spares ms ss counts trace c in (r.happenings, r.run, (r.at, r.each), λ b k. (r.asked b k, r.taken b k))
+clusters_are_linear members spares observers ms ss os counts trace c =
+    let r : LinearRun members spares observers counts trace = linear_run members spares observers ms ss os counts trace c in (r.happenings, r.run, (r.at, r.each), λ b k. (r.asked b k, r.taken b k))

@@ -13,8 +13,8 @@ use Rattle.op_types.specs.declared.log.Op.TheVariants as op
 use Rattle.op_types.specs.declared.writes.Write.{Write}
 use Rattle.op_types.specs.declared.writes.Write.TheVariants as write
 use Rattle.op_spec.specs.Service.{Pairs, value_at, is_value, told_value, pairs_written, all_written, pairs_after, effect_answer}
-use Rattle.op_kv.proofs.Entries.{rises-insert_entry, find-insert_entry}
-use Rattle.op_kv.proofs.Deletes.{rises-remove_entry, find-remove_entry}
+use Rattle.op_overlay.proofs.Entries.{rises-insert_entry, find-insert_entry}
+use Rattle.op_overlay.proofs.Deletes.{rises-remove_entry, find-remove_entry}
 use Rattle.op_linear.specs.Linearizable.{Map, empty_map, map_with, map_written, map_after, map_answer}
 
 -- The map has the pairs' values, and the pairs are in order.

@@ -8,7 +8,8 @@ use Rattle.op_types.specs.declared.answers.Answer.{Answer}
 use Rattle.op_types.specs.declared.answers.Reply.{Reply}
 use Rattle.op_types.specs.declared.log.Entry.{Entry}
 use Rattle.op_runs.specs.Replies.{IsServed}
-use Rattle.op_runs.specs.World.{Happening, node_ids}
+use Rattle.op_runs.specs.Possible.{server_ids}
+use Rattle.op_runs.specs.World.{Happening}
 use Rattle.op_command.specs.declared.reply.ClientReply.{ClientReply}
 use Rattle.op_command.specs.declared.said.Said.TheVariants as said
 use Rattle.op_serving.specs.Handing.{answered}
@@ -31,20 +32,20 @@ use Rattle.op_linear.proofs.Linear.{clusters_are_linear}
 same_answer : (b a : Answer) → said.Answer b ≡ said.Answer a → b ≡ a
 same_answer b a e = cc
 
-module _ (members spares : List ℕ) (faulted : ℕ → ℕ) (trace now later : List Happened) (split : trace ≡ now ++ later) (p conn : ℕ) (is : IsMember (node_ids members spares) p)
+module _ (members spares observers : List ℕ) (faulted : ℕ → ℕ) (trace now later : List Happened) (split : trace ≡ now ++ later) (p conn : ℕ) (is : IsMember (server_ids members spares observers) p)
     (r : ClientReply) (a : Answer) (says : r.said ≡ said.Answer a) (result : IsResult a) where
   abbrev l : Lived
-  l = lived_at members faulted p now
+  l = lived_at members observers faulted p now
 
   abbrev Returns : Type 0
-  Returns = MayReturn members spares faulted trace (length now) l conn r a
+  Returns = MayReturn members spares observers faulted trace (length now) l conn r a
 
   then_now : take (length now) trace ≡ now
   then_now = ap (λ t. take (length now) t) split ∙ take_at now later (length now) refl
 
   then_given : (read : Bool) (b : Reply) → Contains (answered_in read l.first l.deeds) b
-      → Contains (answered_in read (lived_at members faulted p (take (length now) trace)).first (lived_at members faulted p (take (length now) trace)).deeds) b
-  then_given read b k = subst (λ t. Contains (answered_in read (lived_at members faulted p t).first (lived_at members faulted p t).deeds) b) (sym then_now) k
+      → Contains (answered_in read (lived_at members observers faulted p (take (length now) trace)).first (lived_at members observers faulted p (take (length now) trace)).deeds) b
+  then_given read b k = subst (λ t. Contains (answered_in read (lived_at members observers faulted p t).first (lived_at members observers faulted p t).deeds) b) (sym then_now) k
 
   returning : (x : ClientCall) (b : Reply) → Contains (answered_in (is_read_call x) l.first l.deeds) b → WasAsked l.deeds conn (request_of x) → call_key x ≡ (b.client, b.seq) → r ≡ answered b → Returns
   returning x b there was key e = record {
@@ -73,14 +74,14 @@ module _ (members spares : List ℕ) (faulted : ℕ → ℕ) (trace now later : 
   told_so (inr none) = absurd (none a says)
 
 pub clients_see_results : OfClusters ClientsSeeResults
-clients_see_results members spares ms ss faulted trace c now later split p conn is client bytes body first h r a fits says same result =
-    let l : Lived = lived_at members faulted p now in
-    let k : ReadsTold l conn body = clients_read_replies members spares ms ss faulted trace c now later split p conn is client bytes body first h in
-    told_so members spares faulted trace now later split p conn is r a says result (subst (λ z. IsTold l.first l.deeds conn z) (sym (k.answer r fits (a, says) same)) k.is)
+clients_see_results members spares observers ms ss os faulted trace c now later split p conn is client bytes body first h r a fits says same result =
+    let l : Lived = lived_at members observers faulted p now in
+    let k : ReadsTold l conn body = clients_read_replies members spares observers ms ss os faulted trace c now later split p conn is client bytes body first h in
+    told_so members spares observers faulted trace now later split p conn is r a says result (subst (λ z. IsTold l.first l.deeds conn z) (sym (k.answer r fits (a, says) same)) k.is)
 
 pub stale_is_past : OfClusters StaleIsPast
-stale_is_past members spares ms ss faulted trace c k p is r there stale =
-    let linear : IsLinear members spares faulted trace = clusters_are_linear members spares ms ss faulted trace c in
+stale_is_past members spares observers ms ss os faulted trace c k p is r there stale =
+    let linear : IsLinear members spares observers faulted trace = clusters_are_linear members spares observers ms ss os faulted trace c in
     let at : ℕ → List Happening = linear.2.0 in
     let cut : List Entry = history_after members spares (at k) in
     let each = linear.2.1 k in

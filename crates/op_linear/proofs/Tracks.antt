@@ -30,8 +30,8 @@ obeys members spares ms ss hs range = record {
     front first rest split = front_in_range members spares first rest (subst (λ l. RunInRange members spares l) split (record { first = ms; others = ss; happenings = range }))
 
 pub traces_are_runs : OfClusters TracesAreRuns
-traces_are_runs members spares ms ss faulted trace c =
-    let k = always_reached members spares ms ss faulted trace c in (
+traces_are_runs members spares observers ms ss os faulted trace c =
+    let k = always_reached members spares observers ms ss os faulted trace c in (
       k.0,
       k.1,
       k.4,

@@ -6,8 +6,7 @@ use Rattle.std.proofs.lemmas.List.Elements.{All-nil}
 use Rattle.op_types.specs.Ranges.{IsMember}
 use Rattle.op_types.specs.declared.events.Input.TheVariants as input
 use Rattle.op_setup.specs.declared.config.Settings.{Settings}
-use Rattle.op_runs.specs.Possible.{most_proposals}
-use Rattle.op_runs.specs.World.{node_ids}
+use Rattle.op_runs.specs.Possible.{most_proposals, server_ids}
 use Rattle.op_serving.specs.Cores.{Standing}
 use Rattle.op_serving.specs.Fates.{after_fate, done}
 use Rattle.op_serving.specs.Inputs.{Deed, Luck, begins, hears, enters, says, takes}
@@ -42,7 +41,7 @@ use Rattle.op_kv.specs.Rising.{rising_read}
 -- ---- a sole member
 
 abbrev born : Lived
-born = first_life one none_failed 1
+born = first_life one [] none_failed 1
 
 abbrev here : Deed → Happened
 here d = record { pid = 1; event = does d }
@@ -80,7 +79,7 @@ life_then : (l : Lived) (ds : List Deed) → fold (lived_then 1) l (map here ds)
 life_then l [] = ap (λ z. record l { deeds = z }) (sym (append-nil l.deeds))
 life_then l (d ∷ ds) = life_then (record l { deeds = l.deeds ++ d ∷ [] }) ds ∙ ap (λ z. record l { deeds = z }) (append_assoc l.deeds (d ∷ []) ds)
 
-only_one : (p : ℕ) → IsMember (node_ids one []) p → p ≡ 1
+only_one : (p : ℕ) → IsMember (server_ids one [] []) p → p ≡ 1
 only_one p h = elim (cases_eq p 1) [
   | inl e ↦ e
   | inr n ↦ absurd (let r : nat_eq p 1 ≡ false = ne_eqb p 1 n in let bad : false ≡ true = rw r at h in cc)
@@ -113,17 +112,17 @@ with_deeds first = record born { deeds = first }
 
 module _ (ds : List Deed) (serves : Serves born.first ds) (found : FindStored born.first born.unstored ds)
     (alone : (first rest : List Deed) → ds ≡ first ++ rest → (conn : ℕ) → ReadsPeer (record { pid = 1; conn = conn; lived = with_deeds first }) → ⊥)
-    (few : messages_behind one none_failed [] (map here ds) < 2 ^ 64) (fewer : proposed_behind one none_failed [] (map here ds) < most_proposals) where
+    (few : messages_behind one [] none_failed [] (map here ds) < 2 ^ 64) (fewer : proposed_behind one [] none_failed [] (map here ds) < most_proposals) where
   abbrev trace : List Happened
   trace = map here ds
 
-  nodes_each : (es : List Deed) → Each (λ x. IsMember (node_ids one []) x.pid) (map here es)
+  nodes_each : (es : List Deed) → Each (λ x. IsMember (server_ids one [] []) x.pid) (map here es)
   nodes_each [] = tt
   nodes_each (d ∷ es) = (refl, nodes_each es)
 
-  lived_so : (now later : List Happened) (k : Cut ds now later) (p : ℕ) → p ≡ 1 → lived_at one none_failed p now ≡ with_deeds k.first
+  lived_so : (now later : List Happened) (k : Cut ds now later) (p : ℕ) → p ≡ 1 → lived_at one [] none_failed p now ≡ with_deeds k.first
   lived_so now later k p e =
-      ap (λ q. lived_at one none_failed q now) e ∙ ap (λ l. lived_at one none_failed 1 l) k.now_is ∙ life_then born k.first
+      ap (λ q. lived_at one [] none_failed q now) e ∙ ap (λ l. lived_at one [] none_failed 1 l) k.now_is ∙ life_then born k.first
 
   life_so : (first rest : List Deed) → ds ≡ first ++ rest → IsLife (with_deeds first)
   life_so first rest e = record {
@@ -135,21 +134,21 @@ module _ (ds : List Deed) (serves : Serves born.first ds) (found : FindStored bo
   event_is x later [] e = absurd cc
   event_is x later (d ∷ rest) e = (d, head_is x (here d) later (map here rest) e)
 
-  a_cluster : IsCluster one [] none_failed trace
+  a_cluster : IsCluster one [] [] none_failed trace
   a_cluster = record {
-    nodes = each_all (λ x. IsMember (node_ids one []) x.pid) trace (nodes_each ds);
+    nodes = each_all (λ x. IsMember (server_ids one [] []) x.pid) trace (nodes_each ds);
     lives = λ now later split p is.
         (let k = cut_map ds now later split in subst IsLife (sym (lived_so now later k p (only_one p is))) (life_so k.first k.rest k.split));
     may = λ now later x split.
         (let k = cut_map ds now (x ∷ later) split in
         let d = event_is x later k.rest k.later_is in
-        subst (λ (y : Happened). MayHappen (lived_at one none_failed y.pid now) y.event) (sym d.1)
+        subst (λ (y : Happened). MayHappen (lived_at one [] none_failed y.pid now) y.event) (sym d.1)
         (ap (λ (l : Lived). l.left) (lived_so now (x ∷ later) k 1 refl)));
     joined = λ now later split p conn is reads.
         (let k = cut_map ds now later split in
         absurd (alone k.first k.rest k.split conn
         (subst (λ (l : Lived). ReadsPeer (record { pid = 1; conn = conn; lived = l })) (lived_so now later k 1 refl)
-        (subst (λ q. ReadsPeer (end_at one none_failed q conn now)) (only_one p is) reads))));
+        (subst (λ q. ReadsPeer (end_at one [] none_failed q conn now)) (only_one p is) reads))));
     messages = few;
     proposals = fewer;
   }
@@ -157,7 +156,7 @@ module _ (ds : List Deed) (serves : Serves born.first ds) (found : FindStored bo
 -- ---- what it may do
 
 abbrev o : Settings
-o = record { tick_ms = 100; turns = 10; members = one; peers = []; is_mirrored = false; trim_every = None }
+o = record { tick_ms = 100; turns = 10; members = one; peers = []; is_mirrored = false; observers = []; trim_every = None; cluster = None }
 
 abbrev pub no_line : Standing → List ℕ
 no_line n = []
@@ -166,7 +165,7 @@ abbrev pub no_luck : Luck
 no_luck = record { marks = []; fates = [] }
 
 -- nothing happens
-nothing_happens : IsCluster one [] none_failed []
+nothing_happens : IsCluster one [] [] none_failed []
 nothing_happens = a_cluster [] (record {
   settings = o;
   peers = All-nil (λ p. _);
@@ -277,7 +276,7 @@ quiet n conn reads = elim (cases_eq conn 7) [
     never (suc (suc (suc (suc zero)))) conn e = rw e refl
     never (suc (suc (suc (suc (suc n))))) conn e = ap (λ l. began conn l) (all_of n) ∙ (rw e refl)
 
-a_client_is_told : IsCluster one [] none_failed (map here done_then)
+a_client_is_told : IsCluster one [] [] none_failed (map here done_then)
 unfolding gives after_input
 a_client_is_told = a_cluster done_then (record {
   settings = o;

@@ -1,12 +1,12 @@
 -- Which command lets another client's call take effect again in a cluster: one that forgets its client, in no
 -- other configurations than those in which the call comes.
-use Rattle.std.specs.Prelude.{◌≡◌, ◌≤◌, ◌++◌, ◌∷◌, [], ℕ, List}
+use Rattle.std.specs.Prelude.{◌≡◌, ◌≤◌, ◌++◌, ◌∷◌, ℕ, List}
 use Rattle.op_types.specs.declared.log.Command.{Command}
 use Rattle.op_spec.specs.Machine.{IsAmong}
 use Rattle.op_runs.specs.declared.events.What.TheVariants as what
 use Rattle.op_runs.specs.Run.{latest_at}
 use Rattle.op_runs.specs.World.{Happening, first_world, run_of, node_at}
-use Rattle.op_cluster_laws.specs.Becoming.{BecomeBehind}
+use Rattle.op_cluster_laws.specs.Becoming.{TraceBecomes}
 use Rattle.op_cluster_laws.specs.Worlds.{OfClusters, IsRun}
 use Rattle.op_linear.specs.Calls.{IsClientHistory}
 use Rattle.op_linear.specs.Forgetting.{IsForgetOf, LinearizableUntil, NoneLets}
@@ -39,9 +39,9 @@ LetsAgain members spares hs f (reads r) = ⊥
 -- A trace is a run, in which each history of clients is linearizable until a call may come again; and where
 -- none may, it is linearizable.
 abbrev pub ClustersLetAgain : Type 0
-ClustersLetAgain = OfClusters (λ members spares faulted trace.
-    (hs : List Happening) × IsRun members spares faulted trace hs
-    × BecomeBehind members spares faulted [] [] trace hs
-    × ((h : History) → IsClientHistory members spares faulted trace h
+ClustersLetAgain = OfClusters (λ members spares observers faulted trace.
+    (hs : List Happening) × IsRun members spares observers faulted trace hs
+    × TraceBecomes members spares observers faulted trace hs
+    × ((h : History) → IsClientHistory members spares observers faulted trace h
     → LinearizableUntil (LetsAgain members spares hs) h
     × (NoneLets (LetsAgain members spares hs) h → Linearizable h)))

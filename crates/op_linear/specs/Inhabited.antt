@@ -28,8 +28,8 @@ none_failed p = 0
 -- a client asks a node that is a member alone for its status, and its connection takes the reply
 abbrev pub SomeClusterAnswers : Type 0
 SomeClusterAnswers =
-    (trace : List Happened) × IsCluster one [] none_failed trace
-    × ((life 7 (lived_at one none_failed 1 trace).deeds).taken
+    (trace : List Happened) × IsCluster one [] [] none_failed trace
+    × ((life 7 (lived_at one [] none_failed 1 trace).deeds).taken
     ≡ client_frame (record { client = 0; seq = 0; said = said.Status [] }))
 
 -- client 7 puts a value
@@ -58,11 +58,11 @@ pub record GoesOn (trace : List Happened) : Type 0 where
   pub now : List Happened
   pub later : List Happened
   pub split : trace ≡ now ++ later
-  pub gets : let l : Lived = lived_at one none_failed 1 now in answered_in false l.first l.deeds
+  pub gets : let l : Lived = lived_at one [] none_failed 1 now in answered_in false l.first l.deeds
       ≡ record { client = 7; seq = 2; answer = answer.Value (120 ∷ []) } ∷ []
-  pub part : let l : Lived = lived_at one none_failed 1 trace in
+  pub part : let l : Lived = lived_at one [] none_failed 1 trace in
       conf_of (stored_in l).durable.part ≡ Some (2, one ++ spare)
 
 -- such a cluster there is
 abbrev pub SomeClusterGoesOn : Type 0
-SomeClusterGoesOn = (trace : List Happened) × IsCluster one spare none_failed trace × GoesOn trace
+SomeClusterGoesOn = (trace : List Happened) × IsCluster one spare [] none_failed trace × GoesOn trace

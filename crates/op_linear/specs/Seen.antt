@@ -5,7 +5,7 @@ use Rattle.op_types.specs.declared.answers.Answer.{Answer}
 use Rattle.op_types.specs.declared.answers.Answer.TheVariants as answer
 use Rattle.op_types.specs.declared.answers.Reply.{Reply}
 use Rattle.op_types.specs.declared.log.Command.{Command}
-use Rattle.op_runs.specs.World.{node_ids}
+use Rattle.op_runs.specs.Possible.{server_ids}
 use Rattle.op_command.specs.Ranges.{ReplyInRange}
 use Rattle.op_command.specs.Replies.{reply_form}
 use Rattle.op_command.specs.declared.reply.ClientReply.{ClientReply}
@@ -22,28 +22,29 @@ use Rattle.op_linear.specs.Calls.{request_of, IsRequested, IsGivenOut}
 
 -- it was given out by this moment, to a call of that client and number that a node has read at this
 -- connection
-pub record MayReturn (members spares : List ℕ) (faulted : ℕ → ℕ) (trace : List Happened) (k : ℕ)
+pub record MayReturn (members spares observers : List ℕ) (faulted : ℕ → ℕ) (trace : List Happened) (k : ℕ)
     (l : Lived) (conn : ℕ) (r : ClientReply) (a : Answer) : Type 0 where
   pub call : ClientCall
   pub asked : WasAsked l.deeds conn (request_of call)
   pub key : call_key call ≡ (r.client, r.seq)
-  pub given : IsGivenOut members spares faulted trace k call a
+  pub given : IsGivenOut members spares observers faulted trace k call a
 
 -- so may each result that is read whole from the first part of what a client's connection took
-abbrev pub ClientsSeeResults : List ℕ → List ℕ → (ℕ → ℕ) → List Happened → Type 0
-ClientsSeeResults members spares faulted trace =
-    (now later : List Happened) → trace ≡ now ++ later → (p conn : ℕ) → IsMember (node_ids members spares) p
-    → let l : Lived = lived_at members faulted p now in IsClients conn l.deeds
+abbrev pub ClientsSeeResults : List ℕ → List ℕ → List ℕ → (ℕ → ℕ) → List Happened → Type 0
+ClientsSeeResults members spares observers faulted trace =
+    (now later : List Happened) → trace ≡ now ++ later → (p conn : ℕ)
+    → IsMember (server_ids members spares observers) p
+    → let l : Lived = lived_at members observers faulted p now in IsClients conn l.deeds
     → (bytes body : List ℕ) → IsPrefix bytes (life conn l.deeds).taken → HasFrame client_head bytes [] body
     → (r : ClientReply) (a : Answer) → ReplyInRange r → r.said ≡ said.Answer a → body ≡ reply_form.text r
-    → IsResult a → MayReturn members spares faulted trace (length now) l conn r a
+    → IsResult a → MayReturn members spares observers faulted trace (length now) l conn r a
 
 -- A command is answered that it is stale only where its client has gone on: by that moment a node has read a
 -- request of a higher number of it.
-abbrev pub StaleIsPast : List ℕ → List ℕ → (ℕ → ℕ) → List Happened → Type 0
-StaleIsPast members spares faulted trace =
-    (k p : ℕ) → IsMember (node_ids members spares) p → (r : Reply)
-    → let l : Lived = lived_at members faulted p (take k trace) in
+abbrev pub StaleIsPast : List ℕ → List ℕ → List ℕ → (ℕ → ℕ) → List Happened → Type 0
+StaleIsPast members spares observers faulted trace =
+    (k p : ℕ) → IsMember (server_ids members spares observers) p → (r : Reply)
+    → let l : Lived = lived_at members observers faulted p (take k trace) in
     Contains (answered_in false l.first l.deeds) r → r.answer ≡ answer.Stale
     → (c : Command) × (c.client ≡ r.client) × (r.seq < c.seq)
-    × IsRequested members spares faulted trace k (commands c)
+    × IsRequested members spares observers faulted trace k (commands c)

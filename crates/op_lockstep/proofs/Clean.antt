@@ -52,7 +52,9 @@ use Rattle.op_protocol.proofs.TickCases.{ended_at, begun_at, tick_cases}
 use Rattle.op_protocol.specs.Configurations.{latest_of}
 use Rattle.op_protocol.specs.Joining.{on_base_piece, gives_base, gives_segment}
 use Rattle.op_protocol.specs.Reading.{on_confirm}
-use Rattle.op_protocol.specs.Rows.{on_body, message_at, is_of_joining, is_prepare_req, may_be_above, on_older, on_newer, on_latest, message_step, entries_of, proposal_at, refusal_of, tick_at, trim_at, session_up, up_at, step_at}
+use Rattle.op_protocol.specs.Rows.{on_body, message_at, is_of_joining, is_prepare_req, may_be_above, on_older, on_newer, on_latest, member_step, message_step, entries_of, proposal_at, refusal_of, tick_at, trim_at, session_up, up_at, step_at}
+use Rattle.op_protocol.specs.Watched.{is_watching, watch_answers}
+use Rattle.op_lockstep.proofs.Watched.{answers_hold}
 use Rattle.op_lockstep.proofs.Staged.{NoStops, IsCleanStage, stage_clean, IfRun, run_clean, front_clean, filter_clean}
 use Rattle.op_lockstep.proofs.Lists.{Each, Each-append, Each-flat_map, All-front, All-behind}
 
@@ -517,12 +519,17 @@ module _ (me : ℕ) (d : Durable) (v : Volatile) (stays : d.joining ≡ None) (f
   newer_clean : (q : ℕ) (b : Body) → Each IsCleanSend (on_newer d q b)
   newer_clean q b = cond_both (is_some d.joining || (is_of_joining b || is_prepare_req b)) [] (message (latest_of d) q body.PrepareReq ∷ []) (Each IsCleanSend) (λ _. tt) (λ _. (tt, tt))
 
-  message_clean : (q : ℕ) (m : Msg) → IsCleanBody m.body → IsCleanStep (message_step me d v q m)
-  message_clean q m x =
+  member_clean : (q : ℕ) (m : Msg) → IsCleanBody m.body → IsCleanStep (member_step me d v q m)
+  member_clean q m x =
       cond_both (is_some d.joining && not (is_of_joining m.body)) _ _ IsCleanStep (λ _. clean_remembering v [] k tt)
       (λ _. cond_both (ltb m.conf (latest_of d)) _ _ IsCleanStep
       (λ _. clean_remembering v (on_older d d.closed q) k (subst (λ (o : Option Closed). Each IsCleanSend (on_older d o q)) (sym first_of_all) tt))
       (λ _. cond_both (ltb (latest_of d) m.conf && not (may_be_above m.body)) _ _ IsCleanStep (λ _. clean_remembering v (on_newer d q m.body) k (newer_clean q m.body)) (λ _. latest_step q m.conf m.body x)))
+
+  message_clean : (q : ℕ) (m : Msg) → IsCleanBody m.body → IsCleanStep (message_step me d v q m)
+  message_clean q m x =
+      let told : List (ℕ × Msg) = watch_answers d q m.conf m.body in
+      cond_both (is_watching m.body) (remembering v told) (member_step me d v q m) IsCleanStep (λ _. clean_remembering v told k (answers_hold IsCleanSend (λ to c w. tt) d q m.conf m.body)) (λ _. member_clean q m x)
 
   -- ---- inputs
   proposal_clean : (o : Option Part) (es : List Entry) (r : Option Refusal) → NoStops es → IsCleanStep (proposal_at me o v es r)

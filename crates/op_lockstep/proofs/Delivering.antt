@@ -17,7 +17,8 @@ use Rattle.op_types.specs.declared.messages.Msg.{Msg}
 use Rattle.op_protocol.specs.State.{Volatile, PartStep}
 use Rattle.op_protocol.specs.Heartbeats.{is_other, heard_with}
 use Rattle.op_protocol.specs.Parts.{is_admitted_body, message, decided_since}
-use Rattle.op_protocol.specs.Rows.{on_body, message_at, is_of_joining, may_be_above, on_older, on_newer, on_latest}
+use Rattle.op_protocol.specs.Rows.{on_body, message_at, is_of_joining, may_be_above, on_older, on_newer, on_latest, member_step}
+use Rattle.op_protocol.specs.Watched.{is_watching, watch_answers}
 use Rattle.op_protocol.specs.Configurations.{latest_in, latest_of}
 use Rattle.op_protocol.specs.Tick.{remembering}
 use Rattle.op_runs.specs.World.{World, Node, Sent, Steps, node_at, delivery, world_after, done_event}
@@ -40,9 +41,9 @@ longer : {A : Type 0} (pre : List A) (x : A) (n : ℕ) → length pre ≡ n → 
 longer pre x n e = length-append pre (x ∷ []) ∙ ap (λ (k : ℕ). k + 1) e
 
 -- a message of the part's configuration, which is always admitted, comes to the part
-pub admitted : (me : ℕ) (p : Part) (v : Volatile) (q : ℕ) (m : Msg) (b : Body) → m.conf ≡ p.conf → m.body ≡ b → is_admitted_body p b ≡ true
+pub admitted : (me : ℕ) (p : Part) (v : Volatile) (q : ℕ) (m : Msg) (b : Body) → m.conf ≡ p.conf → m.body ≡ b → is_watching b ≡ false → is_admitted_body p b ≡ true
     → ((d : Durable) (c : ℕ) → on_latest me d v q c b ≡ message_at me d.part v q (record { conf = c; body = b })) → IsRow me p v (input.Deliver q m) (on_body me p v q b)
-admitted me p v q m b same is ok plain d has stays =
+admitted me p v q m b same is unwatched ok plain d has stays =
     let c : ℕ = m.conf in
     let latest : latest_of d ≡ c = ap (λ (o : Option Part). latest_in o d.closed) has ∙ sym same in
     let level : ltb c (latest_of d) ≡ false = ap (ltb c) latest ∙ le-ltb c c (omega arith) in
@@ -51,7 +52,8 @@ admitted me p v q m b same is ok plain d has stays =
     let older : PartStep = remembering v (on_older d d.closed q) in
     let newer : PartStep = remembering v (on_newer d q m.body) in
     let last : PartStep = on_latest me d v q c m.body in
-    ap (λ (o : Option Joining). cond (is_some o && not (is_of_joining m.body)) kept (cond (ltb c (latest_of d)) older (cond (ltb (latest_of d) c && not (may_be_above m.body)) newer last))) stays
+    ap (λ (t : Bool). cond t (remembering v (watch_answers d q c m.body)) (member_step me d v q m)) (ap is_watching is ∙ unwatched)
+    ∙ ap (λ (o : Option Joining). cond (is_some o && not (is_of_joining m.body)) kept (cond (ltb c (latest_of d)) older (cond (ltb (latest_of d) c && not (may_be_above m.body)) newer last))) stays
     ∙ ap (λ (t : Bool). cond t older (cond (ltb (latest_of d) c && not (may_be_above m.body)) newer last)) level
     ∙ ap (λ (t : Bool). cond (t && not (may_be_above m.body)) newer last) low
     ∙ ap (λ (x : Body). on_latest me d v q c x) is
@@ -83,7 +85,7 @@ module _ (conf : ℕ) (group : List ℕ) (a : ℕ → Part) (v : ℕ → Volatil
   request_step : (m : Sent) → IsRequest m → IsRow m.to (a m.to) (v m.to) (input.Deliver m.from m.message) (remembering (v m.to) (message conf m.from (body.HeartbeatReply (v m.from).round (v m.to).own (v m.to).flag) ∷ []))
   request_step m k d has stays =
       let there : (a m.to).conf ≡ conf = confs m.to k.to in
-      admitted m.to (a m.to) (v m.to) m.from m.message (body.HeartbeatRequest (v m.from).round) (k.conf_is ∙ sym there) k.body_is refl (λ _ _. refl) d has stays
+      admitted m.to (a m.to) (v m.to) m.from m.message (body.HeartbeatRequest (v m.from).round) (k.conf_is ∙ sym there) k.body_is refl refl (λ _ _. refl) d has stays
       ∙ ap (λ (c : ℕ). remembering (v m.to) (message c m.from (body.HeartbeatReply (v m.from).round (v m.to).own (v m.to).flag) ∷ [])) there
 
   same_seats : (w u : World) (p : ℕ) (sends : List (ℕ × Msg)) → AllSit w a v group → After w u p (a p) (v p) sends → AllSit u a v group
@@ -144,7 +146,7 @@ module _ (conf : ℕ) (group : List ℕ) (a : ℕ → Part) (v : ℕ → Volatil
     reply_step m hs k d has stays =
         let p : ℕ = m.from in
         let r : ℕ = (v p).round in
-        admitted p (a p) (hearing (v p) hs) m.to (reply_to m).message (body.HeartbeatReply r (v m.to).own (v m.to).flag) (sym (confs p k.from)) refl refl (λ _ _. refl) d has stays
+        admitted p (a p) (hearing (v p) hs) m.to (reply_to m).message (body.HeartbeatReply r (v m.to).own (v m.to).flag) (sym (confs p k.from)) refl refl refl (λ _ _. refl) d has stays
         ∙ ap (λ (t : Bool). remembering (hearing (v p) (cond t (heard_with hs (told v m.to)) hs)) [])
         (and_from (eqb r r) (is_other p (a p).members m.to) (eq-eqb r r refl) (ap (λ (l : List ℕ). is_other p l m.to) (named p k.from) ∙ k.other))
 

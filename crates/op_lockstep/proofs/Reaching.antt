@@ -1,7 +1,7 @@
 -- Over links that let one member alone hear a majority, that member takes its own ballot for the leader's
 -- after the tick that ends the second or the third round.
 use Rattle.std.proofs.Common.{◌≡◌, ◌==◌, ◌<◌, ◌-◌, ◌⊎◌, inl, inr, ⊎_elim, ℕ, suc, Bool, true, false, eqb, ltb, nat_eq, List, [], ◌∷◌, ◌++◌, length, Option, refl, sym, ap, ◌∙◌, subst, arith}
-use Rattle.std.proofs.lemmas.Bool.{lt-ltb, or_left, or_right, or_parts, or_cases, and_parts, eqb-false, not-true, ne_eqb, false≢true, both_ways}
+use Rattle.std.proofs.lemmas.Bool.{lt-ltb, or_left, or_right, or_parts, or_cases, and_parts, eqb-false, not-true, false≢true}
 use Rattle.std.specs.Set.{is_member}
 use Rattle.op_quorum.specs.Quorums.{is_majority, passing}
 use Rattle.op_types.specs.Limits.{greatest_number}

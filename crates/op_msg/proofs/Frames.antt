@@ -15,15 +15,17 @@ use Rattle.op_types.specs.declared.log.Entry.TheVariants as entry_of
 use Rattle.op_types.specs.declared.ballot.Ballot.{Ballot}
 use Rattle.op_types.specs.declared.messages.Body.{Body}
 use Rattle.op_types.specs.declared.messages.Body.TheVariants as variant
+use Rattle.op_types.specs.declared.messages.Watch.TheVariants as watch
 use Rattle.op_types.specs.declared.messages.Msg.{Msg}
 use Rattle.op_types.specs.declared.runs.PromisedRun.{PromisedRun}
 use Rattle.op_types.specs.declared.runs.SyncRun.{SyncRun}
+use Rattle.op_types.specs.declared.runs.Piece.{Piece}
 use Rattle.op_fields.specs.Form.{encoded}
 use Rattle.op_fields.proofs.Formats.{wide8, wide32, wide64}
 use Rattle.op_entry.specs.Forms.{ballot, members, entries}
 use Rattle.op_entry.proofs.Sizes.{ballot_len, members_len, entry_len, each_len, entries_len}
 use Rattle.op_msg.specs.Ranges.{BodyInRange, AddressedInRange}
-use Rattle.op_msg.specs.Forms.{flag, told, told_run, promised_run, sync_run, forwarded, body_tag, body_text, msg, addressed}
+use Rattle.op_msg.specs.Forms.{flag, told, told_run, promised_run, sync_run, piece, forwarded, body_tag, body_text, msg, addressed}
 use Rattle.op_msg.specs.Sizes.{carried_size}
 
 -- ---- what stands beside them
@@ -65,6 +67,10 @@ sync_run_len r = told_len r.start r.end r.at r.run
 counted_len : (b : List ℕ) → length (encoded w64 (length b) ++ b) ≡ 8 + length b
 counted_len b = after64 (length b) b
 
+piece_len : (p : Piece) → length (piece.text p) ≡ 32 + length p.bytes
+piece_len p =
+    omega (arith, after64 p.at (encoded w64 p.total ++ (encoded w64 p.from ++ (encoded w64 (length p.bytes) ++ p.bytes))), after64 p.total (encoded w64 p.from ++ (encoded w64 (length p.bytes) ++ p.bytes)), after64 p.from (encoded w64 (length p.bytes) ++ p.bytes), counted_len p.bytes)
+
 -- whatever is said takes little more than what it carries
 body_len : (b : Body) → BodyInRange b → length (body_text b) ≤ 300 + carried_size b
 body_len (variant.HeartbeatRequest r) fit = omega (arith, wide64.len r)
@@ -92,9 +98,12 @@ body_len (variant.AskSegment from to) fit = omega (arith, after64 from (encoded 
 body_len (variant.Segment at es) fit = omega (arith, from_len at es)
 body_len (variant.PromisePart n part) fit = omega (arith, after_ballot n (promised_run.text part), promised_run_len part)
 body_len (variant.AcceptSyncPart n part) fit = omega (arith, after_ballot n (sync_run.text part), sync_run_len part)
-body_len (variant.BasePiece p) fit = omega (arith, after64 p.at (encoded w64 p.total ++ (encoded w64 p.from ++ (encoded w64 (length p.bytes) ++ p.bytes))), after64 p.total (encoded w64 p.from ++ (encoded w64 (length p.bytes) ++ p.bytes)), after64 p.from (encoded w64 (length p.bytes) ++ p.bytes), counted_len p.bytes)
+body_len (variant.BasePiece p) fit = omega (arith, piece_len p)
 body_len (variant.Confirm n number) fit = omega (arith, length_in_len n number)
 body_len (variant.Confirmed n number) fit = omega (arith, length_in_len n number)
+body_len (variant.Watch (watch.Ask from)) fit = omega (arith, wide64.len from)
+body_len (variant.Watch (watch.Shown at es)) fit = omega (arith, from_len at es)
+body_len (variant.Watch (watch.Base ms p)) fit = omega (arith, after_members ms (piece.text p) fit.0, piece_len p)
 body_len (variant.Forwards es) fit = omega (arith, after64 (length es) (flat_map forwarded.text es), each_len es)
 
 pub frame_fits : (x : ℕ × ℕ × Msg) → AddressedInRange x → carried_size x.2.body ≤ most_part_bytes → length (addressed.text x) ≤ most_peer_body

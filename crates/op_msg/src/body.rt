@@ -15,10 +15,11 @@ use crate::confirming::{confirm_at, confirmed_at, put_read_in};
 use crate::forwards::{forwards_at, put_forwards};
 use crate::heartbeats::{heartbeat_reply_at, heartbeat_request_at, put_heartbeat_reply};
 use crate::parts::{
-    piece_at, promise_part_at, put_piece, put_promise_part, put_sync_part, sync_part_at,
+    base_piece_at, promise_part_at, put_piece, put_promise_part, put_sync_part, sync_part_at,
 };
 use crate::preparing::{prepare_at, promise_at, put_prepare, put_promise, put_refuse, refuse_at};
 use crate::trimming::{progress_at, trim_ask_at, trim_at};
+use crate::watching::{put_watch, watch_ask_at, watch_base_at, watch_shown_at, watch_tag_of};
 use op_entry::{entry_at, put as put_entry, put_ballot};
 use op_fields::{NoMemory, TakeFail, put_u64};
 use op_types::Body;
@@ -72,8 +73,16 @@ const BASE_PIECE: u8 = 22;
 
 const CONFIRM: u8 = 23;
 
-/// The last of the tags that stand in a row.
-pub const CONFIRMED: u8 = 24;
+const CONFIRMED: u8 = 24;
+
+/// The tag of what an observer asks.
+pub const WATCH_ASK: u8 = 25;
+
+/// The tag of decided entries that it is shown.
+pub const WATCH_SHOWN: u8 = 26;
+
+/// The tag of a piece of a base that it is shown.
+pub const WATCH_BASE: u8 = 27;
 
 /// The greatest tag of a message.
 pub const FORWARDS: u8 = 28;
@@ -107,6 +116,7 @@ pub fn tag_of(body: &Body) -> u8
         Body::BasePiece(_) => BASE_PIECE,
         Body::Confirm(_, _) => CONFIRM,
         Body::Confirmed(_, _) => CONFIRMED,
+        Body::Watch(watch) => watch_tag_of(watch),
         Body::Forwards(_) => FORWARDS,
     }
 }
@@ -142,7 +152,7 @@ pub fn put_body(out: &mut Vec<u8>, body: &Body) -> Result<(), NoMemory>
         }
         Body::Accepted(ballot, len) => put_length_in(out, *ballot, *len),
         Body::Decide(ballot, len) => put_length_in(out, *ballot, *len),
-        Body::PrepareReq => Ok(()),
+        Body::PrepareReq | Body::AskBase => Ok(()),
         Body::Refuse(refused, promised) => put_refuse(out, *refused, *promised),
         Body::Forward(entry) => put_entry(out, entry),
         Body::TrimAsk(ballot) => put_ballot(out, *ballot),
@@ -151,7 +161,6 @@ pub fn put_body(out: &mut Vec<u8>, body: &Body) -> Result<(), NoMemory>
         Body::NextConf(members, olds, len, trimmed) => {
             put_next_conf(out, members.get(), olds.get(), *len, *trimmed)
         }
-        Body::AskBase => Ok(()),
         Body::BasePart(place, base) => put_base_part(out, *place, base),
         Body::AskSegment(from, to) => put_ask_segment(out, *from, *to),
         Body::Segment(start, entries) => put_segment(out, *start, entries.as_slice()),
@@ -160,6 +169,7 @@ pub fn put_body(out: &mut Vec<u8>, body: &Body) -> Result<(), NoMemory>
         Body::BasePiece(piece) => put_piece(out, piece),
         Body::Confirm(ballot, number) => put_read_in(out, *ballot, *number),
         Body::Confirmed(ballot, number) => put_read_in(out, *ballot, *number),
+        Body::Watch(watch) => put_watch(out, watch),
         Body::Forwards(entries) => put_forwards(out, entries.as_slice()),
     }
 }
@@ -193,9 +203,12 @@ pub fn body_at(alloc: Global, bytes: &[u8], at: usize, tag: u8) -> Result<(Body,
         SEGMENT => segment_at(alloc, bytes, at),
         PROMISE_PART => promise_part_at(alloc, bytes, at),
         ACCEPT_SYNC_PART => sync_part_at(alloc, bytes, at),
-        BASE_PIECE => piece_at(alloc, bytes, at),
+        BASE_PIECE => base_piece_at(alloc, bytes, at),
         CONFIRM => confirm_at(bytes, at),
         CONFIRMED => confirmed_at(bytes, at),
+        WATCH_ASK => watch_ask_at(bytes, at),
+        WATCH_SHOWN => watch_shown_at(alloc, bytes, at),
+        WATCH_BASE => watch_base_at(alloc, bytes, at),
         FORWARDS => forwards_at(alloc, bytes, at),
         _ => Err(TakeFail::Bad { at }),
     }

@@ -6,7 +6,7 @@ ghost use Rattle.op_fields.specs.Taken.{Gives, IfBad};
 ghost use Rattle.op_msg.specs.Ranges.{MsgInRange, AddressedInRange};
 ghost use Rattle.op_msg.specs.Forms.{pid, kind, conf, msg, addressed};
 
-use crate::body::{CONFIRMED, FORWARDS, HEARTBEAT_REQUEST, NEXT_CONF, body_at, put_body, tag_of};
+use crate::body::{FORWARDS, HEARTBEAT_REQUEST, NEXT_CONF, body_at, put_body, tag_of};
 use op_fields::{NoMemory, TakeFail, put_u8, put_u32, u8_in, u32_in};
 use op_types::{ConfNo, GREATEST_PID, LAST_CONF, Msg, Pid};
 use std::alloc::Global;
@@ -105,12 +105,7 @@ fn msg_at(alloc: Global, bytes: &[u8], at: usize) -> Result<(Msg, usize), TakeFa
 fn tag_at(bytes: &[u8], at: usize) -> Result<(u8, usize), TakeFail>
     ensures { Gives result (kind.read bytes.now at) }
 {
-    let (tag, next) = u8_in(bytes, at, HEARTBEAT_REQUEST, FORWARDS)?;
-    if tag <= CONFIRMED || tag == FORWARDS {
-        Ok((tag, next))
-    } else {
-        Err(TakeFail::Bad { at })
-    }
+    u8_in(bytes, at, HEARTBEAT_REQUEST, FORWARDS)
 }
 
 /// The configuration of a message with this tag.

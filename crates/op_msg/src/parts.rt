@@ -120,9 +120,17 @@ fn sync_run_at(alloc: Global, bytes: &[u8], at: usize) -> Result<(SyncRun, usize
     Ok((part, at))
 }
 
-/// A piece of a base, at a byte offset, and the offset after it.
-pub fn piece_at(alloc: Global, bytes: &[u8], at: usize) -> Result<(Body, usize), TakeFail>
+/// A piece of a closed list's base, at a byte offset, and the offset after it.
+pub fn base_piece_at(alloc: Global, bytes: &[u8], at: usize) -> Result<(Body, usize), TakeFail>
     ensures { Gives result (body_options 22 bytes.now at) }
+{
+    let (piece, at) = piece_at(alloc, bytes, at)?;
+    Ok((Body::BasePiece(piece), at))
+}
+
+/// A piece of a base, at a byte offset, and the offset after it.
+pub fn piece_at(alloc: Global, bytes: &[u8], at: usize) -> Result<(Piece, usize), TakeFail>
+    ensures { Gives result (piece.read bytes.now at) }
 {
     let (place, at) = u64_in(bytes, at, 0, POSITIONS_END)?;
     let (total, at) = u64_in(bytes, at, 0, u64::MAX)?;
@@ -134,5 +142,5 @@ pub fn piece_at(alloc: Global, bytes: &[u8], at: usize) -> Result<(Body, usize),
         from,
         bytes: blob_of(alloc, piece)?,
     };
-    Ok((Body::BasePiece(piece), at))
+    Ok((piece, at))
 }

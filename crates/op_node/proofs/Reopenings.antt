@@ -5,7 +5,6 @@ use Rattle.op_types.specs.declared.changes.Change.{Change}
 use Rattle.op_types.specs.declared.durable.Durable.{Durable}
 use Rattle.op_types.specs.declared.messages.Msg.{Msg}
 use Rattle.op_record.specs.Ranges.{DurableInRange}
-use Rattle.op_protocol.specs.Starting.{sends_after_restart}
 use Rattle.op_runs.specs.World.{state_after_reopening}
 use Rattle.op_outside.specs.Disks.{DiskState, MayLeave}
 use Rattle.op_store.specs.Stored.{Disks, IsStored, StoreNothing, Obey, HaveImages, KeepBoth}
@@ -17,11 +16,11 @@ use Rattle.op_store.specs.declared.fail.StoreFail.{StoreFail}
 use Rattle.op_store.specs.declared.fail.StoreFail.TheVariants.{DiskFault, Damaged, NewerVersion, NoMemory}
 use Rattle.op_store.proofs.CommitCrashes.{image_stored, rests_first, rests_second}
 use Rattle.op_store.proofs.UniquePairs.{one_stored, nothing_or_stored, stored_or_damage, stored_or_newer}
-use Rattle.op_server.specs.Servers.{state_of}
-use Rattle.op_server.specs.declared.server.Server.{Server}
+use Rattle.op_server.specs.Seats.{kind_of, me_of, state_of}
+use Rattle.op_server.specs.declared.seat.Seat.{Seat}
 use Rattle.op_node.specs.Nodes.{node_of}
-use Rattle.op_node.specs.Openings.{RefusesNode, durable_for}
-use Rattle.op_node.specs.Reopenings.{IsOneOf, StoreOneOf, count_kept, Reopens, RefusesAgain, FindsOneOf}
+use Rattle.op_node.specs.Openings.{RefusesNode, taken_as}
+use Rattle.op_node.specs.Reopenings.{IsOneOf, StoreOneOf, count_kept, reopening_sends, Reopens, RefusesAgain, FindsOneOf}
 use Rattle.op_node.specs.Steps.{Steps}
 use Rattle.op_node.specs.declared.node.Node.{Node}
 use Rattle.op_node.specs.declared.fail.StepFail.TheVariants as fails
@@ -162,34 +161,34 @@ module _ {D : Type 0} (state : D → DiskState) where
 
   -- it is opened again
   pub reopens : (old new : Node D) (kept d : Durable) (is_new : Bool) (sends : List (ℕ × Msg)) → kept ≡ (node_of old).state.durable → Opened state kept (disks_of state old.store) new.store d is_new → DurableInRange d
-      → new.server.chain.me ≡ old.server.chain.me → state_of new.server ≡ state_after_reopening old.server.chain.me (state_of old.server) (durable_for old.server.chain.me d) → new.failed ≡ None
-      → sends ≡ sends_after_restart old.server.chain.me (durable_for old.server.chain.me d) → Reopens state d is_new old new sends
-  reopens old new kept d is_new sends is opened range me state_is runs sends_are =
+      → (kind_of new.seat ≡ kind_of old.seat) × (me_of new.seat ≡ me_of old.seat) → state_of new.seat ≡ state_after_reopening (me_of old.seat) (state_of old.seat) (taken_as (kind_of old.seat) (me_of old.seat) d) → new.failed ≡ None
+      → sends ≡ reopening_sends d (node_of old) → Reopens state d is_new old new sends
+  reopens old new kept d is_new sends is opened range who state_is runs sends_are =
       record {
         opened = subst (λ (k : Durable). Opened state k (disks_of state old.store) new.store d is_new) is opened;
         range = range;
-        node = node_same new.server.chain.me old.server.chain.me (state_of new.server) (state_after_reopening old.server.chain.me (state_of old.server) (durable_for old.server.chain.me d)) new.failed None me state_is runs;
+        node = node_same (kind_of new.seat) (kind_of old.seat) (me_of new.seat) (me_of old.seat) (state_of new.seat) (state_after_reopening (me_of old.seat) (state_of old.seat) (taken_as (kind_of old.seat) (me_of old.seat) d)) new.failed None who.0 who.1 state_is runs;
         sends_are = sends_are;
       }
 
   -- it isn't
-  stays : (old new : Node D) (cause : StoreFail) → new.server ≡ old.server → new.failed ≡ count_kept old.failed cause → node_of new ≡ record (node_of old) { failed = count_kept (node_of old).failed cause }
-  stays old new cause server failed =
-      node_same new.server.chain.me old.server.chain.me (state_of new.server) (state_of old.server) new.failed (count_kept old.failed cause) (ap (λ (c : Server). c.chain.me) server) (ap (λ (c : Server). state_of c) server) failed
+  stays : (old new : Node D) (cause : StoreFail) → new.seat ≡ old.seat → new.failed ≡ count_kept old.failed cause → node_of new ≡ record (node_of old) { failed = count_kept (node_of old).failed cause }
+  stays old new cause seat failed =
+      node_same (kind_of new.seat) (kind_of old.seat) (me_of new.seat) (me_of old.seat) (state_of new.seat) (state_of old.seat) new.failed (count_kept old.failed cause) (ap (λ (c : Seat). kind_of c) seat) (ap (λ (c : Seat). me_of c) seat) (ap (λ (c : Seat). state_of c) seat) failed
 
   -- since the store isn't
   pub refuses_store : (old new : Node D) (kept : Durable) (cause : StoreFail) → kept ≡ (node_of old).state.durable → Refused state kept (disks_of state old.store) (refused_by new.store cause)
-      → new.server ≡ old.server → new.failed ≡ count_kept old.failed cause → RefusesAgain state old new cause
-  refuses_store old new kept cause is refused server failed =
+      → new.seat ≡ old.seat → new.failed ≡ count_kept old.failed cause → RefusesAgain state old new cause
+  refuses_store old new kept cause is refused seat failed =
       record {
         disks = inl (subst (λ (k : Durable). Refused state k (disks_of state old.store) (refused_by new.store cause)) is refused);
-        node = stays old new cause server failed;
+        node = stays old new cause seat failed;
       }
 
   -- or for want of memory once it is
   pub refuses_opened : (old new : Node D) (kept d : Durable) (is_new : Bool) → kept ≡ (node_of old).state.durable → Opened state kept (disks_of state old.store) new.store d is_new
-      → new.server ≡ old.server → new.failed ≡ old.failed → RefusesAgain state old new NoMemory
-  refuses_opened old new kept d is_new is opened server failed =
+      → new.seat ≡ old.seat → new.failed ≡ old.failed → RefusesAgain state old new NoMemory
+  refuses_opened old new kept d is_new is opened seat failed =
       record {
         disks = inr
             (record {
@@ -203,5 +202,5 @@ module _ {D : Type 0} (state : D → DiskState) where
                     same = (refl, refl);
                   });
             });
-        node = stays old new NoMemory server failed;
+        node = stays old new NoMemory seat failed;
       }

@@ -3,8 +3,8 @@ use Rattle.std.specs.Prelude.{◌≡◌, ◌⊎◌, ℕ, Bool, false, List, Opti
 use Rattle.op_types.specs.declared.durable.Durable.{Durable}
 use Rattle.op_types.specs.declared.messages.Msg.{Msg}
 use Rattle.op_record.specs.Ranges.{DurableInRange}
-use Rattle.op_protocol.specs.Starting.{state_after_restart, sends_after_restart}
-use Rattle.op_runs.specs.World.{state_after_reopening}
+use Rattle.op_protocol.specs.Starting.{state_after_restart}
+use Rattle.op_runs.specs.World.{state_after_reopening, sends_as}
 use Rattle.op_outside.specs.Disks.{DiskState, MayLeave}
 use Rattle.op_store.specs.Stored.{Disks, IsStored, Obey}
 use Rattle.op_store.specs.Stores.{disks_of}
@@ -12,7 +12,7 @@ use Rattle.op_store.specs.Openings.{Opened, refused_by}
 use Rattle.op_store.specs.declared.fail.StoreFail.{StoreFail}
 use Rattle.op_store.specs.declared.fail.StoreFail.TheVariants.{DiskFault, Damaged, NewerVersion, NoMemory}
 use Rattle.op_node.specs.Nodes.{NodeState, node_of}
-use Rattle.op_node.specs.Openings.{durable_for, RefusesNode}
+use Rattle.op_node.specs.Openings.{taken_as, RefusesNode}
 use Rattle.op_node.specs.declared.node.Node.{Node}
 
 -- ---- what the disks of a node store that failed
@@ -30,15 +30,19 @@ pub record StoreOneOf (before after : Durable) (disks : Disks) : Type 0 where
 
 -- ---- an opening
 
+-- what it sends that is opened again with what it takes of this durable state
+abbrev pub reopening_sends : Durable → NodeState → List (ℕ × Msg)
+reopening_sends d n = sends_as n.kind n.me (taken_as n.kind n.me d)
+
 -- the node, opened again with what it takes of this durable state: its clients wait still
 abbrev pub reopened_with : Durable → NodeState → NodeState
 reopened_with d n =
-    record { me = n.me; state = state_after_reopening n.me n.state (durable_for n.me d); failed = None }
+    record n { state = state_after_reopening n.me n.state (taken_as n.kind n.me d); failed = None }
 
 -- the same as after a restart: nobody waits
 abbrev pub restarted_with : Durable → NodeState → NodeState
 restarted_with d n =
-    record { me = n.me; state = state_after_restart n.me (durable_for n.me d); failed = None }
+    record n { state = state_after_restart n.me (taken_as n.kind n.me d); failed = None }
 
 -- The count of faults that a node keeps whose opening is refused: the new one, where a call of a disk failed.
 abbrev pub count_kept : Option ℕ → StoreFail → Option ℕ
@@ -54,14 +58,14 @@ module _ {D : Type 0} (state : D → DiskState) where
     pub opened : Opened state (node_of old).state.durable (disks_of state old.store) new.store d is_new
     pub range : DurableInRange d
     pub node : node_of new ≡ reopened_with d (node_of old)
-    pub sends_are : sends ≡ sends_after_restart (node_of old).me (durable_for (node_of old).me d)
+    pub sends_are : sends ≡ reopening_sends d (node_of old)
 
   -- The same, but that it begins as after a restart.
   pub record Restarts (d : Durable) (is_new : Bool) (old new : Node D) (sends : List (ℕ × Msg)) : Type 0 where
     pub opened : Opened state (node_of old).state.durable (disks_of state old.store) new.store d is_new
     pub range : DurableInRange d
     pub node : node_of new ≡ restarted_with d (node_of old)
-    pub sends_are : sends ≡ sends_after_restart (node_of old).me (durable_for (node_of old).me d)
+    pub sends_are : sends ≡ reopening_sends d (node_of old)
 
   -- An opening that is refused, as that of a node that is down: it has failed still, in its state of before.
   pub record RefusesAgain (old new : Node D) (cause : StoreFail) : Type 0 where

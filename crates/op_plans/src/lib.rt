@@ -1,6 +1,8 @@
-//! Pieces of plans: a node at its part, the log and its changes, messages, and lists that are put together.
+//! Pieces of plans: a node at its part, the log and its changes, what may come to it, messages, and lists
+//! that are put together.
 #![tactic(auto)]
 
+mod admitting;
 mod dropping;
 mod head;
 mod joining;
@@ -10,6 +12,7 @@ mod member;
 mod parts;
 mod sends;
 
+pub use admitting::{has_stop, is_admitted};
 pub use dropping::{given_up, push_dropped};
 pub use head::Head;
 pub use joining::{first, one};

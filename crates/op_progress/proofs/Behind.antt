@@ -24,6 +24,7 @@ use Rattle.op_protocol.specs.Follower.{suffix_start, on_prepare}
 use Rattle.op_protocol.specs.Leader.{on_promise}
 use Rattle.op_protocol.specs.Rows.{on_body, on_latest, message_at, step_plan, step_at}
 use Rattle.op_protocol.specs.Starting.{first_volatile, state_after_restart}
+use Rattle.op_protocol.specs.Watched.{is_watching}
 use Rattle.op_runs.specs.declared.events.What.{What}
 use Rattle.op_runs.specs.declared.events.What.TheVariants as what
 use Rattle.op_runs.specs.World.{World, Node, NodeStatus, Up, Down, Failed, Fate, Done, Stopped, Faulted, Happening, Doing, Steps, Stops, Opens, Tells, Told, ThePairs, TheBallots, Deed, Sent, delivery, deed_of, node_at, with_node, stored_by, state_after_reopening, world_by_fate, world_opening, world_reopening, world_by_status, world_at_node, world_with, world_after, run_of}
@@ -361,11 +362,11 @@ module _ (members : List ℕ) (links : Links) (group : List ℕ) (hear : HearOne
     by_status done pid x plain own brings n at (Failed count after) is = same_nodes w (world_by_status (Failed count after) (Steps x) h w n) k refl
 
     at_steps : h.fate ≡ Done → (pid : ℕ) (x : Input) → IsPlain x → OwnAt pid (node_at w.nodes pid) (prepared_by x) → Brings w pid x → (o : Option Node) → node_at w.nodes pid ≡ o → Later w (world_at_node o (Steps x) h w)
-    at_steps done pid x plain own brings None at = same_nodes w w k refl
+    at_steps done pid x plain own brings None at = same_nodes w (world_at_node None (Steps x) h w) k refl
     at_steps done pid x plain own brings (Some n) at = by_status done pid x plain own brings n at n.status refl
 
     at_tells : (t : Told) (o : Option Node) → Later w (world_at_node o (Tells t) h w)
-    at_tells t None = same_nodes w w k refl
+    at_tells t None = same_nodes w (world_at_node None (Tells t) h w) k refl
     at_tells t (Some n) = tells n.status
       where
         tells : (s : NodeStatus) → Later w (world_by_status s (Tells t) h w n)
@@ -486,11 +487,11 @@ module _ (members : List ℕ) (links : Links) (group : List ℕ) (hear : HearOne
     abbrev body_does : PartStep
     body_does = on_body (((k).up q m).node).pid ((k).up q m).part (((k).up q m).node).state.volatile from msg.body
 
-    module _ (ok : is_admitted_body ((k).up q m).part msg.body ≡ true) (plain : (d : Durable) (c : ℕ) → on_latest (((k).up q m).node).pid d (((k).up q m).node).state.volatile from c msg.body ≡ message_at (((k).up q m).node).pid d.part (((k).up q m).node).state.volatile from (record { conf = c; body = msg.body })) where
+    module _ (unwatched : is_watching msg.body ≡ false) (ok : is_admitted_body ((k).up q m).part msg.body ≡ true) (plain : (d : Durable) (c : ℕ) → on_latest (((k).up q m).node).pid d (((k).up q m).node).state.volatile from c msg.body ≡ message_at (((k).up q m).node).pid d.part (((k).up q m).node).state.volatile from (record { conf = c; body = msg.body })) where
       row_is : step_at (((k).up q m).node).pid (((k).up q m).node).state.durable (((k).up q m).node).state.volatile input_is ≡ body_does
       row_is =
           let u = (k).up q m in
-          admitted u.node.pid u.part u.node.state.volatile from msg msg.body (conf_is ∙ sym (subst (IfFirst members) u.has ((clean_here).stored).part).conf_is) refl ok plain u.node.state.durable u.has ((clean_here).stored).joining
+          admitted u.node.pid u.part u.node.state.volatile from msg msg.body (conf_is ∙ sym (subst (IfFirst members) u.has ((clean_here).stored).part).conf_is) refl unwatched ok plain u.node.state.durable u.has ((clean_here).stored).joining
 
       memory_then : (memory_of (node_at (world_after w h).nodes q)) ≡ (body_does).volatile
       memory_then =
@@ -508,7 +509,7 @@ module _ (members : List ℕ) (links : Links) (group : List ℕ) (hear : HearOne
       let u = (k).up q m in
       let a : PrepareSent = asked.asking in
       let has : HasSuffix a (Some u.part) = subst (HasSuffix a) u.has (subst (HasSuffixAt a) u.at asked.has) in
-      subst (AtMost b) (sym (promise_then w k h s q m (prepare_of a) asked.comes refl no_stop done refl (λ _ _. refl)))
+      subst (AtMost b) (sym (promise_then w k h s q m (prepare_of a) asked.comes refl no_stop done refl refl (λ _ _. refl)))
       (subst (λ (c : Ballot). AtMost c (part_after u.part (on_prepare u.part u.node.state.volatile.role s a.ballot a.accepted a.len a.decided).batch).promised) asked.is (promises u.part u.node.state.volatile.role s a has))
 
   -- a Promise that comes is kept, where the ballot is prepared or led
@@ -518,7 +519,7 @@ module _ (members : List ℕ) (links : Links) (group : List ℕ) (hear : HearOne
       let j : Promised = comes.told in
       let may : MayAdopt j (Some u.part) = subst (MayAdopt j) u.has (subst (MayAdoptAt j) u.at comes.may) in
       let here : RoleIn (only b) u.node.state.volatile.role = subst (λ (o : Option Node). RoleIn (only b) (memory_of o).role) u.at head in
-      subst (λ (v : Volatile). RoleIn (keeping q b) v.role) (sym (memory_then w k h j.from s m (promise_of_ballot b j) comes.comes refl no_stop done may.0 (λ _ _. refl)))
+      subst (λ (v : Volatile). RoleIn (keeping q b) v.role) (sym (memory_then w k h j.from s m (promise_of_ballot b j) comes.comes refl no_stop done refl may.0 (λ _ _. refl)))
       (subst (λ (p : ℕ). RoleIn (keeping p b) (on_promise u.node.pid u.part u.node.state.volatile.role b j).role) comes.from (promise_comes u.node.pid u.part u.node.state.volatile.role b j may.1 here))
 
   later_then : (w u t : World) → Later w u → Later u t → Later w t

@@ -30,14 +30,16 @@ use Rattle.op_protocol.specs.Joining.{gives_base, gives_segment, on_base_piece}
 use Rattle.op_protocol.specs.Leader.{session_down}
 use Rattle.op_protocol.specs.Parts.{part_after, message, others}
 use Rattle.op_protocol.specs.Reading.{Asking, read_asked, reads_at, leading_at, asking_by, reading}
-use Rattle.op_protocol.specs.Rows.{based, based_batch, planned, waiting_at, table_plan, step_plan, message_at, is_of_joining, is_prepare_req, may_be_above, on_older, on_newer, on_latest, message_step, entries_of, proposal_at, refusal_of, tick_at, trim_at, up_at, step_at}
+use Rattle.op_protocol.specs.Rows.{based, based_batch, planned, waiting_at, table_plan, step_plan, message_at, is_of_joining, is_prepare_req, may_be_above, on_older, on_newer, on_latest, member_step, message_step, entries_of, proposal_at, refusal_of, tick_at, trim_at, up_at, step_at}
 use Rattle.op_protocol.specs.Tick.{remembering, on_tick}
+use Rattle.op_protocol.specs.Watched.{is_watching, watch_answers}
 use Rattle.op_protocol.proofs.Based.{based_after}
 use Rattle.op_protocol.proofs.StepBatches.{inside_after, inside_none, inside_all_based, above_after, step_above, step_inside}
 use Rattle.op_lockstep.proofs.Changes.{keeps_members, tick_covers}
 use Rattle.op_lockstep.proofs.Clean.{IsCleanBody, IsCleanMemory, IsCleanInput}
 use Rattle.op_lockstep.proofs.Lists.{Each, Each-append, Each-more}
 use Rattle.op_lockstep.proofs.Reached.{IsStored, plain_step}
+use Rattle.op_lockstep.proofs.Watched.{answers_hold}
 use Rattle.op_progress.proofs.Orders.{AtMost, same_at_most, at_most_then, rises_at_most}
 use Rattle.op_progress.proofs.Rows.{Claim, RoleIn, SendIn, up_to, up_to_kept, only, waiting, waiting_kept, Implies, up_to_more, role_more, body_more, to_each_in}
 use Rattle.op_progress.proofs.Steps.{prepared_by, step_in, IfOwn, known_in, heads_in}
@@ -101,14 +103,20 @@ module _ (P : Claim) (me : ℕ) (d : Durable) (v : Volatile) (none : d.part ≡ 
   latest_bare q conf (body.BasePiece piece) x = subst (λ (j : Option Joining). Bare (on_base_piece j v conf piece)) (sym stays) (keeps [] tt)
   latest_bare q conf b x = at_none q (record { conf = conf; body = b })
 
-  message_bare : (q : ℕ) (m : Msg) → IsCleanBody m.body → Bare (message_step me d v q m)
-  message_bare q m x =
+  member_bare : (q : ℕ) (m : Msg) → IsCleanBody m.body → Bare (member_step me d v q m)
+  member_bare q m x =
       cond_both (is_some d.joining && not (is_of_joining m.body)) _ _ Bare (λ _. keeps [] tt)
       (λ _. cond_both (ltb m.conf (latest_of d)) _ _ Bare
       (λ _. keeps (on_older d d.closed q) (subst (λ (o : Option Closed). Each (SendIn P) (on_older d o q)) (sym open_) tt))
       (λ _. cond_both (ltb (latest_of d) m.conf && not (may_be_above m.body)) _ _ Bare
       (λ _. keeps (on_newer d q m.body) (cond_both (is_some d.joining || (is_of_joining m.body || is_prepare_req m.body)) [] (message (latest_of d) q body.PrepareReq ∷ []) (Each (SendIn P)) (λ _. tt) (λ _. (tt, tt))))
       (λ _. latest_bare q m.conf m.body x)))
+
+  message_bare : (q : ℕ) (m : Msg) → IsCleanBody m.body → Bare (message_step me d v q m)
+  message_bare q m x =
+      let told : List (ℕ × Msg) = watch_answers d q m.conf m.body in
+      cond_both (is_watching m.body) (remembering v told) (member_step me d v q m) Bare
+      (λ _. keeps told (answers_hold (SendIn P) (λ to c w. tt) d q m.conf m.body)) (λ _. member_bare q m x)
 
   proposal_bare : (es : List Entry) (r : Option Refusal) → Bare (proposal_at me d.part v es r)
   proposal_bare es (Some r) = record { own = refl; sends = tt }

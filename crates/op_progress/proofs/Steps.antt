@@ -23,11 +23,13 @@ use Rattle.op_protocol.specs.Configurations.{latest_of}
 use Rattle.op_protocol.specs.Joining.{gives_base, gives_segment, on_base_piece}
 use Rattle.op_protocol.specs.Parts.{part_after, message, is_admitted_body}
 use Rattle.op_protocol.specs.Leader.{session_down}
-use Rattle.op_protocol.specs.Rows.{on_body, message_at, is_of_joining, is_prepare_req, may_be_above, on_older, on_newer, on_latest, message_step, entries_of, proposal_at, refusal_of, trim_at, up_at, step_at}
+use Rattle.op_protocol.specs.Rows.{on_body, message_at, is_of_joining, is_prepare_req, may_be_above, on_older, on_newer, on_latest, member_step, message_step, entries_of, proposal_at, refusal_of, trim_at, up_at, step_at}
 use Rattle.op_protocol.specs.Tick.{remembering}
+use Rattle.op_protocol.specs.Watched.{is_watching, watch_answers}
 use Rattle.op_lockstep.specs.Lockstep.{is_reply}
 use Rattle.op_lockstep.proofs.Clean.{IsCleanBody, IsCleanInput}
 use Rattle.op_lockstep.proofs.Lists.{Each}
+use Rattle.op_lockstep.proofs.Watched.{answers_hold}
 use Rattle.op_progress.proofs.Orders.{AtMost, at_most_then, greater_at_most, first_at_most, second_at_most}
 use Rattle.op_progress.proofs.Rows.{Claim, IsKept, RoleIn, SendIn, IsFree, only, only_kept, propose_in, down_in, up_in, trim_now_in, free_after, prepared_in, refused_in, Promises, floor_rises, StepIn, remembers, does_row, body_step}
 
@@ -64,14 +66,20 @@ module _ (P : Claim) (me : ℕ) (d : Durable) (p : Part) (v : Volatile) (has : d
   latest q conf (body.BasePiece piece) x = subst (λ (j : Option Joining). Brings (body.BasePiece piece) (on_base_piece j v conf piece)) (sym stays) (keeps (body.BasePiece piece) [] tt)
   latest q conf b x = at_part q (record { conf = conf; body = b })
 
-  message_in : (q : ℕ) (m : Msg) → IsCleanBody m.body → Brings m.body (message_step me d v q m)
-  message_in q m x =
+  member_in : (q : ℕ) (m : Msg) → IsCleanBody m.body → Brings m.body (member_step me d v q m)
+  member_in q m x =
       cond_both (is_some d.joining && not (is_of_joining m.body)) _ _ (Brings m.body) (λ _. keeps m.body [] tt)
       (λ _. cond_both (ltb m.conf (latest_of d)) _ _ (Brings m.body)
       (λ _. keeps m.body (on_older d d.closed q) (subst (λ (o : Option Closed). Each (SendIn P) (on_older d o q)) (sym open_) tt))
       (λ _. cond_both (ltb (latest_of d) m.conf && not (may_be_above m.body)) _ _ (Brings m.body)
       (λ _. keeps m.body (on_newer d q m.body) (cond_both (is_some d.joining || (is_of_joining m.body || is_prepare_req m.body)) [] (message (latest_of d) q body.PrepareReq ∷ []) (Each (SendIn P)) (λ _. tt) (λ _. (tt, tt))))
       (λ _. latest q m.conf m.body x)))
+
+  message_in : (q : ℕ) (m : Msg) → IsCleanBody m.body → Brings m.body (message_step me d v q m)
+  message_in q m x =
+      let told : List (ℕ × Msg) = watch_answers d q m.conf m.body in
+      cond_both (is_watching m.body) (remembering v told) (member_step me d v q m) (Brings m.body)
+      (λ _. keeps m.body told (answers_hold (SendIn P) (λ to c w. tt) d q m.conf m.body)) (λ _. member_in q m x)
 
   abbrev Asks : PartStep → Type 0
   Asks y = StepIn P p v None None false y

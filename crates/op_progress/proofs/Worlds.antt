@@ -16,16 +16,18 @@ use Rattle.op_types.specs.declared.events.Input.{Input}
 use Rattle.op_types.specs.declared.messages.Body.{Body}
 use Rattle.op_types.specs.declared.messages.Body.TheVariants as body
 use Rattle.op_types.specs.declared.messages.Msg.{Msg}
+use Rattle.op_types.specs.declared.messages.Watch.{Watch}
 use Rattle.op_protocol.specs.State.{Waiting, Planned, state_after}
 use Rattle.op_protocol.specs.Parts.{others}
 use Rattle.op_protocol.specs.Rows.{step_plan}
 use Rattle.op_protocol.specs.Starting.{restart_ballot, volatile_after_restart, requests_to_prepare, sends_after_restart, state_after_restart}
 use Rattle.op_runs.specs.declared.events.What.{What}
 use Rattle.op_runs.specs.declared.events.What.TheVariants as what
-use Rattle.op_runs.specs.World.{World, Node, NodeStatus, Up, Down, Failed, Fate, Done, Stopped, Faulted, Happening, Doing, Steps, Stops, Opens, Tells, Deed, Sent, first_durable, first_node, first_world, node_ids, delivery, deed_of, node_at, with_node, world_opened, sent_by, stored_by, world_by_fate, world_if_up, world_opening, world_if_down, world_reopening, world_if_failed, world_by_status, world_at_node, world_with, world_after, run_of}
+use Rattle.op_runs.specs.World.{World, Node, NodeStatus, Up, Down, Failed, Fate, Done, Stopped, Faulted, Happening, Doing, Steps, Stops, Opens, Tells, Deed, Sent, first_durable, first_node, first_world, node_ids, delivery, deed_of, node_at, with_node, world_opened, sent_by, stored_by, world_by_fate, world_if_up, world_opening, world_if_down, world_reopening, world_if_failed, world_by_status, world_observed, world_at_node, world_with, world_after, run_of}
 use Rattle.op_lockstep.specs.Reach.{IsNoStop, ProposeNoStop}
 use Rattle.op_lockstep.proofs.Lists.{Each, Each-append, Each-map, Each-more, Each-get, each, by_test}
 use Rattle.op_lockstep.proofs.Reached.{IsCleanDoing, IfDone, deed_clean, IsCleanNode, IsCleanWorld, clean_after, begins}
+use Rattle.op_lockstep.proofs.Watched.{observed_hold}
 use Rattle.op_lockstep.proofs.Seats.{node_at-other, node_at-here, found_id, with_each, found_of}
 use Rattle.op_progress.proofs.Orders.{AtMost, same_at_most, first_at_most}
 use Rattle.op_progress.proofs.Rows.{Claim, BodyIn, SendIn, of_ballots, up_to, up_to_more, body_more, to_each_in, prepared_in}
@@ -255,6 +257,19 @@ module _ (members : List ℕ) where
     by_status (Down after) is d h may = if_down d h.fate h.finds_after after (subst (Finds n.state.durable) is k.finds)
     by_status (Failed count after) is d h may = if_failed d h count after (subst (Finds n.state.durable) is k.finds)
 
+  -- ---- a happening at an observer
+  -- it tells of no ballot
+  watch_up_to : (from : ℕ) (o : Option Node) (x : Watch) → IsUpTo from o (body.Watch x)
+  watch_up_to from None x = tt
+  watch_up_to from (Some n) x = tt
+
+  observed : (w : World) (h : Happening) → AreBallots w → AreBallots (record (world_observed (deed_of w.messages h.event.what) h w) { nodes = w.nodes; members = w.members })
+  observed w h e =
+      record {
+        nodes = e.nodes;
+        bounds = observed_hold (IsBounded w.nodes) (λ me q c x. watch_up_to me (node_at w.nodes me) x) (deed_of w.messages h.event.what) h w e.bounds;
+      }
+
   -- ---- runs
   -- what may come at a node that is found
   may_do : (w : World) (pid : ℕ) (n : Node) (at : node_at w.nodes pid ≡ Some n) (e : AreBallots w) (k : IsSoundNode n) (c : IsCleanNode members n) (found : node_at w.nodes n.pid ≡ Some n) (d : Doing) → IsCleanDoing d → IsOwnDoing w.nodes pid d → MayDo w n found e k c d
@@ -265,7 +280,7 @@ module _ (members : List ℕ) where
   may_do w pid n at e k c found (Tells t) clean own = tt
 
   at_node : (w : World) → IsSoundWorld w → (pid : ℕ) (o : Option Node) → node_at w.nodes pid ≡ o → (d : Doing) (h : Happening) → IsCleanDoing d → IsOwnDoing w.nodes pid d → AreBallots (world_at_node o d h w)
-  at_node w e pid None at d h clean own = e.ballots
+  at_node w e pid None at d h clean own = observed w h e.ballots
   at_node w e pid (Some n) at d h clean own =
       let here : node_at w.nodes n.pid ≡ Some n = ap (node_at w.nodes) (found_id w.nodes pid n at) ∙ at in
       let k : IsSoundNode n = found_of IsSoundNode w.nodes pid n at e.ballots.nodes in

@@ -8,3 +8,5 @@ pub mod StepBatches
 pub mod Asked
 pub mod Unread
 pub mod TwoRuns
+pub mod Admitted
+pub mod Watching

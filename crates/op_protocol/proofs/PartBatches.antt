@@ -56,6 +56,7 @@ one_change d p (change.JoinDonor q t) of = absurd of
 one_change d p (change.JoinBase at b) of = absurd of
 one_change d p (change.JoinPart at es) of = absurd of
 one_change d p (change.JoinDone b) of = absurd of
+one_change d p (change.Rebase c members at b) of = absurd of
 
 -- a batch of such changes takes the part to where it takes the part alone, and nothing else changes
 pub part_batch : (d : Durable) (p : Part) (batch : List Change) → All IsOfPart batch → (let old : Durable = record d { part = Some p } in let new : Durable = record d { part = Some (part_after p batch) } in durable_after old batch ≡ new)
@@ -327,6 +328,7 @@ module _ (P : Change → Type 0) (limit : ℕ) (promised : Ballot) (may : RowsHa
   body_of me p v q (body.BasePart at bytes) low same = quiet none
   body_of me p v q (body.AskSegment a b) low same = quiet none
   body_of me p v q (body.Segment at es) low same = quiet none
+  body_of me p v q (body.Watch w) low same = quiet none
 
   pub message_is : (me : ℕ) (p : Part) (v : Volatile) (q : ℕ) (m : Msg) → p.decided ≤ limit → p.promised ≡ promised → StepIs P (on_message me p v q m)
   message_is me p v q m low same = either (m.conf == p.conf && is_admitted_body p m.body) _ _ (body_of me p v q m.body low same) (quiet none)

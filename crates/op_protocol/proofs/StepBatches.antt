@@ -26,6 +26,7 @@ use Rattle.op_protocol.specs.State.{Volatile, PartStep}
 use Rattle.op_protocol.specs.Parts.{part_after}
 use Rattle.op_protocol.specs.Configurations.{latest_of}
 use Rattle.op_protocol.specs.Joining.{begins, is_new_donor, joins, takes_piece, on_base_piece}
+use Rattle.op_protocol.specs.Watched.{is_watching}
 use Rattle.op_protocol.specs.Rows.{message_at, is_of_joining, may_be_above, on_latest, refusal_of, stop_for, entries_of, proposal_at, tick_at, trim_at, up_at, step_at, based}
 use Rattle.op_protocol.proofs.PartBatches.{RowsHave, StepIs, propose_is, session_down_is, session_up_is, trim_now_is, tick_is, message_is}
 
@@ -47,6 +48,7 @@ low_one limit p (change.JoinDonor q t) k l = l
 low_one limit p (change.JoinBase at b) k l = l
 low_one limit p (change.JoinPart at es) k l = l
 low_one limit p (change.JoinDone b) k l = l
+low_one limit p (change.Rebase c members at b) k l = l
 
 -- so does a batch of such changes
 pub low_after : (limit : ℕ) (p : Part) (batch : List Change) → All (IsLow limit) batch → p.trimmed ≤ limit → (part_after p batch).trimmed ≤ limit
@@ -58,6 +60,7 @@ low_after limit p (c ∷ batch) all l =
 abbrev pub IsInside : Change → Type 0
 IsInside (change.Close named base) = ⊥
 IsInside (change.JoinDone base) = ⊥
+IsInside (change.Rebase c members at b) = ⊥
 IsInside c = Unit {0}
 
 inside_one : (d : Durable) (p : Part) (c : Change) → IsInside c → d.part ≡ Some p → (durable_with d c).part ≡ Some (part_with p c)
@@ -73,6 +76,7 @@ inside_one d p (change.JoinDonor q t) k e = e
 inside_one d p (change.JoinBase at b) k e = e
 inside_one d p (change.JoinPart at es) k e = e
 inside_one d p (change.JoinDone b) k e = absurd k
+inside_one d p (change.Rebase c members at b) k e = absurd k
 
 -- a batch of such changes leaves the part that they make
 pub inside_after : (d : Durable) (p : Part) (batch : List Change) → All IsInside batch → d.part ≡ Some p → (durable_after d batch).part ≡ Some (part_after p batch)
@@ -93,6 +97,7 @@ inside_one_closed d (change.JoinDonor q t) k = refl
 inside_one_closed d (change.JoinBase at b) k = refl
 inside_one_closed d (change.JoinPart at es) k = refl
 inside_one_closed d (change.JoinDone b) k = absurd k
+inside_one_closed d (change.Rebase c members at b) k = absurd k
 
 -- and the closed list
 pub inside_closed : (d : Durable) (batch : List Change) → All IsInside batch → (durable_after d batch).closed ≡ d.closed
@@ -112,6 +117,7 @@ inside_one_none d (change.JoinDonor q t) k e = e
 inside_one_none d (change.JoinBase at b) k e = e
 inside_one_none d (change.JoinPart at es) k e = e
 inside_one_none d (change.JoinDone b) k e = absurd k
+inside_one_none d (change.Rebase c members at b) k e = absurd k
 
 -- and no part where there is none
 pub inside_none : (d : Durable) (batch : List Change) → All IsInside batch → d.part ≡ None → (durable_after d batch).part ≡ None
@@ -131,6 +137,7 @@ inside_based p (change.JoinDonor q t) k = k
 inside_based p (change.JoinBase at b) k = k
 inside_based p (change.JoinPart at es) k = k
 inside_based p (change.JoinDone b) k = absurd k
+inside_based p (change.Rebase c members at b) k = absurd k
 
 -- so are they with their bases put in
 pub inside_all_based : (p : Part) (batch : List Change) → All IsInside batch → All IsInside (map (based p) batch)
@@ -207,6 +214,7 @@ module _ (P : Change → Type 0) (limit : ℕ) (promised : Ballot) (has : StepsH
   latest_has me d v q c (body.BasePiece p) k = piece_has d.joining v c p
   latest_has me d v q c (body.BasePart at bytes) k = message_has me d.part v q _ k
   latest_has me d v q c (body.Segment at es) k = message_has me d.part v q _ k
+  latest_has me d v q c (body.Watch w) k = message_has me d.part v q _ k
 
   proposal_has : (me : ℕ) (o : Option Part) (v : Volatile) (es : List Entry) (r : Option Refusal) → StepIs P (proposal_at me o v es r)
   proposal_has me o v es (Some r) = quiet none
@@ -233,9 +241,10 @@ module _ (P : Change → Type 0) (limit : ℕ) (promised : Ballot) (has : StepsH
   step_has : (me : ℕ) (d : Durable) (v : Volatile) (x : Input) → IfWithin limit promised d.part → StepIs P (step_at me d v x)
   step_has me d v input.Tick k = tick_has me d.part d.joining v k
   step_has me d v (input.Deliver q m) k =
-      either (StepIs P) (is_some d.joining && not (is_of_joining m.body)) _ _ (quiet none)
+      either (StepIs P) (is_watching m.body) _ _ (quiet none)
+      (either (StepIs P) (is_some d.joining && not (is_of_joining m.body)) _ _ (quiet none)
       (either (StepIs P) (nat_lt m.conf (latest_of d)) _ _ (quiet none)
-      (either (StepIs P) (nat_lt (latest_of d) m.conf && not (may_be_above m.body)) _ _ (quiet none) (latest_has me d v q m.conf m.body k)))
+      (either (StepIs P) (nat_lt (latest_of d) m.conf && not (may_be_above m.body)) _ _ (quiet none) (latest_has me d v q m.conf m.body k))))
   step_has me d v (input.Commands cs) k = proposal_has me d.part v (entries_of cs) (refusal_of me v.role d (entries_of cs))
   step_has me d v (input.Stop members) k =
       proposal_has me d.part v (entry.Stop (stop_for d.part members) ∷ []) (refusal_of me v.role d (entry.Stop (stop_for d.part members) ∷ []))
@@ -305,6 +314,7 @@ above_one b p (change.JoinDonor q t) k r = r
 above_one b p (change.JoinBase at base) k r = r
 above_one b p (change.JoinPart at es) k r = r
 above_one b p (change.JoinDone base) k r = r
+above_one b p (change.Rebase c members at base) k r = r
 
 pub above_after : (b : Ballot) (p : Part) (batch : List Change) → All (IsAbove b) batch → Rises b p.promised → Rises b (part_after p batch).promised
 above_after b p [] all r = r

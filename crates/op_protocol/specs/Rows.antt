@@ -35,6 +35,7 @@ use Rattle.op_protocol.specs.Bases.{service_at}
 use Rattle.op_protocol.specs.Trimming.{trim_now, on_progress, on_trim_ask, on_trim}
 use Rattle.op_protocol.specs.Configurations.{latest_of, latest_members, next_conf_message, closing}
 use Rattle.op_protocol.specs.Reading.{on_confirm, reading}
+use Rattle.op_protocol.specs.Watched.{is_watching, watch_answers}
 use Rattle.op_protocol.specs.Joining.{on_next_conf, asks, gives_base, gives_segment, brought_to, on_base_piece, holds_more}
 
 -- ---- messages at a part
@@ -122,14 +123,21 @@ on_latest me d v q c (body.AskSegment from to) = remembering v (gives_segment d.
 on_latest me d v q c (body.BasePiece p) = on_base_piece d.joining v c p
 on_latest me d v q c b = message_at me d.part v q (record { conf = c; body = b })
 
--- A message comes. A node that joins handles only what is of joining; of the others, those of an older
--- configuration are answered with the next one, and those from above the latest are dropped.
-abbrev pub message_step : ℕ → Durable → Volatile → ℕ → Msg → PartStep
-message_step me d v q m =
+-- A message comes that isn't an observer's. A node that joins handles only what is of joining; of the
+-- others, those of an older configuration are answered with the next one, and those from above the latest
+-- are dropped.
+abbrev pub member_step : ℕ → Durable → Volatile → ℕ → Msg → PartStep
+member_step me d v q m =
     if is_some d.joining && not (is_of_joining m.body) then remembering v []
     else if nat_lt m.conf (latest_of d) then remembering v (on_older d d.closed q)
     else if nat_lt (latest_of d) m.conf && not (may_be_above m.body) then remembering v (on_newer d q m.body)
     else on_latest me d v q m.conf m.body
+
+-- A message comes. What an observer asks is answered, whichever configuration it is of, unless the node
+-- joins.
+abbrev pub message_step : ℕ → Durable → Volatile → ℕ → Msg → PartStep
+message_step me d v q m =
+    if is_watching m.body then remembering v (watch_answers d q m.conf m.body) else member_step me d v q m
 
 -- the changes by which a node that joins holds what an input brings, if it brings something that it takes
 abbrev pub brought_by : Durable → Volatile → Input → Option (List Change)

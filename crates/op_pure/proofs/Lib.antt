@@ -1,3 +1,4 @@
+pub mod Finding
 pub mod NodeSteps
 pub mod NodesDone
 pub mod Runs

@@ -2,13 +2,15 @@
 ghost use Rattle.std.specs.Prelude.{◌≡◌, ℕ, Bool, [], IfOk};
 ghost use Rattle.op_types.specs.Ranges.{MembersInRange};
 ghost use Rattle.op_record.specs.Ranges.{DurableInRange};
-ghost use Rattle.op_server.specs.Servers.{state_of, Admits, IsSame};
-ghost use Rattle.op_protocol.specs.Rows.{step_plan};
+ghost use Rattle.op_chain.specs.Chains.{first_state};
+ghost use Rattle.op_server.specs.Seats.{planned_at, state_of, Admits, IsSame};
+ghost use Rattle.op_runs.specs.Possible.{kind_if};
 ghost use Rattle.op_runs.specs.World as runs;
 ghost use Rattle.op_executions.specs.Deeds.{told_of, doing_of};
-ghost use Rattle.op_executions.specs.Servers.{CanDo, IsDoneAt};
+ghost use Rattle.op_executions.specs.Servers.{CanDo, IsDoneAt, first_as};
 ghost use Rattle.op_pure.specs.Happenings.{fate_of};
-ghost use Rattle.op_pure.specs.Nodes.{pure_nodes, up_node, HasDone, IsFailed, IsStopped, IsUp};
+ghost use Rattle.op_pure.specs.Nodes.{pure_nodes, up_node, CanOpenAs, HasDone, IsFailed, IsStopped, IsUp, SeatKept};
+ghost use Rattle.op_pure.specs.declared.node.PureNode as nodes;
 
 mod opening;
 
@@ -16,16 +18,18 @@ use crate::happening::{Fate, Foretold};
 use op_executions::{Doing, Done, Told, ballot_lines, pair_lines, push_step_lines};
 use op_plans::put;
 use op_runs::{Line, Lines};
-use op_server::{Given, Server, empty_durable, first_durable};
+use op_server::{Given, Observer, Seat, Server, empty_durable, first_durable};
 use op_types::{Batch, Durable, Input, Members, NoMemory, Outcome, Pid, Refusal, Sends, is_among};
 use std::alloc::Global;
 use std::mem::replace;
 
-/// A node.
+/// A node, which votes or observes.
 #[derive(Drop)]
 pub struct PureNode {
     /// Its id.
     pub pid: Pid,
+    /// Whether it observes, and so never votes.
+    pub observes: bool,
     /// How it runs, and what it has then.
     pub status: Status,
 }
@@ -34,12 +38,12 @@ pub struct PureNode {
 #[derive(Drop)]
 pub enum Status {
     /// It is up.
-    Up(Server),
+    Up(Seat),
     /// It is down, and has stored this. The step in which it stopped or failed was to store this batch, which is empty where it
     /// stopped between two steps.
     Down(Durable, Batch),
     /// A disk of it failed: it keeps what it had before, the count of its disks' faults, and the batch that the step was to store.
-    Failed(Server, u64, Batch),
+    Failed(Seat, u64, Batch),
 }
 
 impl op_executions::Server for PureNode {
@@ -47,12 +51,18 @@ impl op_executions::Server for PureNode {
 
     ghost kind = { pure_nodes };
 
-    fn first(alloc: Global, pid: Pid, members: &Members) -> Result<PureNode, NoMemory> {
-        let durable = durable_at_start(alloc, pid, members)?;
-        let server = Server::first(alloc, pid, durable)?;
+    fn first(
+        alloc: Global,
+        pid: Pid,
+        members: &Members,
+        observes: bool,
+    ) -> Result<PureNode, NoMemory> {
+        let durable = durable_at_start(alloc, pid, members, observes)?;
+        let seat = first_seat(alloc, pid, observes, durable)?;
         Ok(PureNode {
             pid,
-            status: Status::Up(server),
+            observes,
+            status: Status::Up(seat),
         })
     }
 
@@ -102,19 +112,19 @@ impl PureNode {
             (fate_of fate) finds_after line self.new r.sends r.told) }
     {
         let pid = self.pid;
-        let Status::Up(server) = &mut self.status else {
+        let Status::Up(seat) = &mut self.status else {
             return self.refuse(alloc, &input, line);
         };
         match fate {
-            Fate::Done => step_whole(alloc, pid, server, input, line),
+            Fate::Done => step_whole(alloc, pid, seat, input, line),
             Fate::Stopped => {
-                let batch = to_store(server, input)?;
+                let batch = to_store(seat, input)?;
                 self.stop(alloc, batch);
                 Ok(Done::nothing(alloc))
             }
             Fate::Faulted(count) => {
                 let outcome = refusal(count, &input);
-                let batch = to_store(server, input)?;
+                let batch = to_store(seat, input)?;
                 self.fail(alloc, count, batch);
                 saying(alloc, outcome, line)
             }
@@ -140,9 +150,9 @@ impl PureNode {
     {
         let nothing = Status::Down(empty_durable(), Batch::new(alloc));
         let status = match replace(&mut self.status, nothing) {
-            Status::Up(server) => Status::Down(server.into_durable(), batch),
+            Status::Up(seat) => Status::Down(seat.into_durable(), batch),
             Status::Down(durable, kept) => Status::Down(durable, kept),
-            Status::Failed(server, _, kept) => Status::Down(server.into_durable(), kept),
+            Status::Failed(seat, _, kept) => Status::Down(seat.into_durable(), kept),
         };
         put(&mut self.status, status);
     }
@@ -153,7 +163,7 @@ impl PureNode {
     {
         let nothing = Status::Down(empty_durable(), Batch::new(alloc));
         let status = match replace(&mut self.status, nothing) {
-            Status::Up(server) => Status::Failed(server, count, batch),
+            Status::Up(seat) => Status::Failed(seat, count, batch),
             status => status,
         };
         put(&mut self.status, status);
@@ -166,57 +176,75 @@ impl PureNode {
             (runs.Tells (told_of told)) fate finds_after line self.now r.sends r.told) }
     {
         match &self.status {
-            Status::Up(server) => telling(alloc, self.pid, server, told),
-            Status::Failed(server, _, _) => telling(alloc, self.pid, server, told),
+            Status::Up(seat) => telling(alloc, self.pid, seat, told),
+            Status::Failed(seat, _, _) => telling(alloc, self.pid, seat, told),
             Status::Down(..) => Ok(Done::nothing(alloc)),
         }
     }
 }
 
-/// What a node has stored at its start: a member of the first configuration has its part.
-fn durable_at_start(alloc: Global, pid: Pid, members: &Members) -> Result<Durable, NoMemory>
+/// What a node has stored at its start: a member of the first configuration has its part, and so has an observer.
+fn durable_at_start(
+    alloc: Global,
+    pid: Pid,
+    members: &Members,
+    observes: bool,
+) -> Result<Durable, NoMemory>
     requires { MembersInRange members.now }
-    ensures durable { IfOk result (λ d. d ≡ runs.durable_at_start members.now pid) }
+    ensures durable { IfOk result (λ d. d ≡ (first_as (kind_if observes) members.now pid).state.durable) }
     ensures range { IfOk result DurableInRange }
 {
-    if is_among(members.as_slice(), pid) {
+    if observes || is_among(members.as_slice(), pid) {
         return first_durable(alloc, members);
     }
     Ok(empty_durable())
 }
 
-/// A step of a node that is up.
+/// What a node is at its start, which has stored this.
+fn first_seat(alloc: Global, pid: Pid, observes: bool, durable: Durable) -> Result<Seat, NoMemory>
+    requires { CanOpenAs (kind_if observes) pid durable }
+    ensures kept { IfOk result (SeatKept (kind_if observes) pid) }
+    ensures state { IfOk result (λ c. state_of c ≡ first_state pid durable) }
+{
+    if observes {
+        return Ok(Seat::Observes(Observer::first(alloc, pid, durable)));
+    }
+    Ok(Seat::Votes(Server::first(alloc, pid, durable)?))
+}
+
+/// A step of a node that is up: of the one that has this id and kind.
 fn step_whole(
     alloc: Global,
     pid: Pid,
-    server: &mut Server,
+    seat: &mut Seat,
     input: Input,
     line: u64,
 ) -> Result<Done, NoMemory>
-    requires { CanDo pure_nodes (up_node pid server.old) (runs.Steps input) }
-    ensures { IfOk result (λ r. (finds_after : Bool) → HasDone (up_node pid server.old) (runs.Steps input)
-        runs.Done finds_after line (up_node pid server.new) r.sends r.told) }
+    requires { (n : nodes.PureNode) × CanDo pure_nodes (up_node n seat.old) (runs.Steps input) }
+    ensures { IfOk result (λ r. (n : nodes.PureNode) → n.pid ≡ pid
+        → CanDo pure_nodes (up_node n seat.old) (runs.Steps input) → (finds_after : Bool)
+        → HasDone (up_node n seat.old) (runs.Steps input) runs.Done finds_after line (up_node n seat.new)
+        r.sends r.told) }
 {
-    let plan = server.plan(input)?;
+    let plan = seat.plan(input)?;
     let Given {
         sends,
         replies,
         read_replies,
         outcome,
-    } = server.adopt(plan);
+    } = seat.adopt(plan);
     let mut told = Lines::new(alloc);
     push_step_lines(&mut told, line, pid, outcome, replies, read_replies)?;
     Ok(Done { sends, told })
 }
 
 /// What a step is to store that isn't done.
-fn to_store(server: &mut Server, input: Input) -> Result<Batch, NoMemory>
-    requires { Admits server.old input }
-    ensures same { IsSame server.old server.new }
-    ensures batch { IfOk result (λ batch.
-        batch ≡ (step_plan server.old.chain.me (state_of server.old) input).batch) }
+fn to_store(seat: &mut Seat, input: Input) -> Result<Batch, NoMemory>
+    requires { Admits seat.old input }
+    ensures same { IsSame seat.old seat.new }
+    ensures batch { IfOk result (λ batch. batch ≡ (planned_at seat.old input).batch) }
 {
-    let plan = server.plan(input)?;
+    let plan = seat.plan(input)?;
     Ok(plan.into_batch())
 }
 
@@ -244,11 +272,11 @@ fn saying(alloc: Global, outcome: Option<Outcome>, line: u64) -> Result<Done, No
 }
 
 /// What a node tells.
-fn telling(alloc: Global, pid: Pid, server: &Server, told: Told) -> Result<Done, NoMemory>
-    ensures { IfOk result (λ r. let s = state_of server.now in
+fn telling(alloc: Global, pid: Pid, seat: &Seat, told: Told) -> Result<Done, NoMemory>
+    ensures { IfOk result (λ r. let s = state_of seat.now in
         r ≡ record { sends = []; told = runs.told_lines (told_of told) pid s s.durable.part }) }
 {
-    let told = told_lines(alloc, pid, server, told)?;
+    let told = told_lines(alloc, pid, seat, told)?;
     Ok(Done {
         sends: Sends::new(alloc),
         told,
@@ -256,12 +284,12 @@ fn telling(alloc: Global, pid: Pid, server: &Server, told: Told) -> Result<Done,
 }
 
 /// The lines of what a node tells.
-fn told_lines(alloc: Global, pid: Pid, server: &Server, told: Told) -> Result<Lines, NoMemory>
-    ensures { IfOk result (λ lines. let s = state_of server.now in
+fn told_lines(alloc: Global, pid: Pid, seat: &Seat, told: Told) -> Result<Lines, NoMemory>
+    ensures { IfOk result (λ lines. let s = state_of seat.now in
         lines ≡ runs.told_lines (told_of told) pid s s.durable.part) }
 {
     match told {
-        Told::Pairs => pair_lines(alloc, pid, server.pairs()),
-        Told::Ballots => ballot_lines(alloc, pid, server.ballots()),
+        Told::Pairs => pair_lines(alloc, pid, seat.pairs()),
+        Told::Ballots => ballot_lines(alloc, pid, seat.ballots()),
     }
 }

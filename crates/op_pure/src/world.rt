@@ -1,6 +1,7 @@
-ghost use Rattle.std.specs.Prelude.{◌≡◌, All, IfOk};
+ghost use Rattle.std.specs.Prelude.{◌≡◌, ◌++◌, All, IfOk};
 ghost use Rattle.op_types.specs.Ranges.{MembersInRange};
-ghost use Rattle.op_runs.specs.Possible.{SparesInRange, WhatInRange};
+ghost use Rattle.op_runs.specs.Possible.{ObserversInRange, SparesInRange, WhatInRange};
+ghost use Rattle.op_runs.specs.Schedules.{begun};
 ghost use Rattle.op_runs.specs.World as runs;
 ghost use Rattle.op_executions.specs.Failing.{IfBadEvent};
 ghost use Rattle.op_pure.specs.Happenings.{happenings_of, IsFirstBad};
@@ -15,7 +16,7 @@ use op_types::Members;
 use std::alloc::Global;
 use std::marker::Model;
 
-/// Members and spares without disks, all messages that were sent, and what the happenings gave to be reported.
+/// Members, spares and observers without disks, all messages that were sent, and what the happenings gave to be reported.
 #[derive(Drop)]
 pub struct PureWorld {
     world: ServerWorld<PureNode>,
@@ -34,23 +35,28 @@ impl Model for PureWorld {
 }
 
 impl PureWorld {
-    /// Runs these happenings at these members and spares, from their start on. It is refused exactly where an event names a
-    /// server that is neither or a message that wasn't sent: the first such event is told.
+    /// Runs these happenings at these members, spares and observers, from their start on. It is refused exactly where an event
+    /// names a server that is none of these, in a stop-sign an observer, or a message that wasn't sent: the first such event is told.
     pub fn run(
         alloc: Global,
         members: Members,
         spares: Members,
+        observers: Members,
         happenings: Happenings,
     ) -> Result<PureWorld, RunFail>
         requires members { MembersInRange members }
         requires spares { SparesInRange members spares }
+        requires observers { ObserversInRange members spares observers }
         requires happenings { All (λ h. WhatInRange h.event.what) happenings }
         ensures world { IfOk result (λ w.
-            Shows w (runs.run_of (runs.first_world members spares) (happenings_of happenings))) }
-        ensures laws { IfOk result (λ _. KeepsTheLaws members spares (happenings_of happenings)) }
-        ensures bad { IfBadEvent result (IsFirstBad members spares (happenings_of happenings)) }
+            Shows w (runs.run_of (runs.first_world members spares)
+            (begun observers ++ happenings_of happenings))) }
+        ensures laws { IfOk result (λ _. KeepsTheLaws members spares observers (happenings_of happenings)) }
+        ensures bad { IfBadEvent result (IsFirstBad members spares observers (happenings_of happenings)) }
     {
-        let mut world: ServerWorld<PureNode> = ServerWorld::new(alloc, members, &spares)?;
+        let mut world: ServerWorld<PureNode> = ServerWorld::new(
+            alloc, members, &spares, &observers,
+        )?;
         let mut index = 0;
         for happening in happenings.into_vec() {
             let Happening {

@@ -7,8 +7,8 @@ use Rattle.op_serving.specs.declared.session.Session.{Session}
 use Rattle.op_serving.specs.State.{Askers, Awaited, Key, Table, Loop, find, without, without_asker, is_open, waits_for, left_at}
 use Rattle.op_serving.specs.Losses.{most_marks, mark_at, noted, lost_by, lost_if_open}
 use Rattle.op_serving.specs.Wire.{peer_frame}
-use Rattle.op_serving.specs.Room.{Frame, has_room, count_at, goes_ahead, kept, placed, without_first, first_moved, moved_in, moved, begins_anew, cleared}
-use Rattle.op_serving.specs.Handing.{sent_behind, sent_at, forgotten, asked_by_one}
+use Rattle.op_serving.specs.Room.{Frame, has_room, count_at, goes_ahead, kept, placed, without_first, first_moved, moved_in, moved, begins_anew, cleared, is_excess}
+use Rattle.op_serving.specs.Handing.{sent_behind, sent_if, sent_at, forgotten, asked_by_one}
 use Rattle.op_queues.proofs.Tables.{same_or_not, find_without, find_apart, without_short, without_none, without_either, without_pushed, open_without}
 use Rattle.op_queues.proofs.Frames.{count_apart, without_both, first_none, first_less}
 use Rattle.op_queues.proofs.Askers.{asks_if, without_asks, nobody_left, none_removed}
@@ -187,16 +187,24 @@ moved_empty c s e = moved_none (count_at c s.behind) c s e
 
 -- ---- a message that goes to a connection
 
--- what waits behind makes way, what is left moves up, and then the message
-pub quiet_sent_at : (c : ℕ) (m : ℕ × Msg) → Quiet (sent_at (Some c) m)
-quiet_sent_at c m = quiet_then (quiet_cleared (begins_anew m.1.body) c) (quiet_then (quiet_moved c) (quiet_behind c m))
-
 -- nothing comes of one that goes to a connection of which nothing is left
 cleared_none : (b : Bool) (c : ℕ) (s : Loop) → find c s.behind ≡ None → cleared b c s ≡ s
 cleared_none true c s e = ap (λ r. record s { behind = r }) (without_none c s.behind e)
 cleared_none false c s e = refl
 
-pub idle_at : (c : ℕ) (m : ℕ × Msg) (s : Loop) → Spoils c s → sent_at (Some c) m s ≡ s
-idle_at c m s k =
+idle_if : (b : Bool) (c : ℕ) (m : ℕ × Msg) (s : Loop) → Spoils c s → sent_if b c m s ≡ s
+idle_if true c m s k = refl
+idle_if false c m s k =
     ap (λ x. sent_behind c m (moved c x)) (cleared_none (begins_anew m.1.body) c s k.first) ∙ ap (sent_behind c m) (moved_empty c s k.first)
     ∙ shut_placed (goes_ahead m.1 (find c s.sessions) (count_at c s.behind)) (c, peer_frame s.me m.0 m.1) s k.session
+
+pub idle_at : (c : ℕ) (m : ℕ × Msg) (s : Loop) → Spoils c s → sent_at (Some c) m s ≡ s
+idle_at c m s k = idle_if (is_excess m.1.body (count_at c s.behind)) c m s k
+
+-- it is dropped, or what waits behind makes way, what is left moves up, and then the message waits
+pub quiet_sent_if : (b : Bool) (c : ℕ) (m : ℕ × Msg) → Quiet (sent_if b c m)
+quiet_sent_if true c m = quiet_same
+quiet_sent_if false c m = quiet_then (quiet_cleared (begins_anew m.1.body) c) (quiet_then (quiet_moved c) (quiet_behind c m))
+
+pub quiet_sent_at : (c : ℕ) (m : ℕ × Msg) → Quiet (sent_at (Some c) m)
+quiet_sent_at c m = quiet_at c (λ (b : Bool). sent_if b c m) (λ e. is_excess m.1.body e.2) (λ b. quiet_sent_if b c m) (λ b u k. idle_if b c m u k)

@@ -3,7 +3,7 @@ ghost use Rattle.op_fields.specs.Prefixes.{KeepsPrefix};
 ghost use Rattle.op_types.specs.Limits.{most_part_bytes};
 ghost use Rattle.op_types.specs.Ranges.{IsPid};
 ghost use Rattle.op_frame.specs.Framing.{frame_of};
-ghost use Rattle.op_msg.specs.Sizes.{carried_size};
+ghost use Rattle.op_msg.specs.Sizes.{carried_size, shown_size};
 ghost use Rattle.op_msg.specs.Ranges.{greatest_length, CountsAreShort, MsgInRange};
 ghost use Rattle.op_command.specs.Ranges.{ReplyInRange};
 ghost use Rattle.op_serving.specs.Wire.{fits_peer, peer_frame, client_frame, peer_head, client_head};
@@ -11,7 +11,7 @@ ghost use Rattle.op_serving.specs.Wire.{fits_peer, peer_frame, client_frame, pee
 use op_command::ClientReply;
 use op_fields::{NoMemory, put_u32, put_u64};
 use op_serving::{CLIENT_HEAD, PEER_HEAD};
-use op_types::{Body, MOST_PART_BYTES, MOST_PEER_BODY, Msg, Pid, fits_part};
+use op_types::{Body, MOST_PART_BYTES, MOST_PEER_BODY, Msg, Pid, Watch, fits_part};
 use std::alloc::Global;
 
 /// Appends a message as a frame. Without memory nothing is appended.
@@ -73,7 +73,19 @@ fn carries_part(body: &Body) -> bool
         Body::Forward(entry) => entry.size() <= MOST_PART_BYTES as u128,
         Body::BasePart(_, base) => base.as_slice().len() <= MOST_PART_BYTES,
         Body::BasePiece(piece) => piece.bytes.as_slice().len() <= MOST_PART_BYTES,
+        Body::Watch(watch) => shows_part(watch),
         _ => true,
+    }
+}
+
+/// The same, of what a member shows an observer.
+fn shows_part(watch: &Watch) -> bool
+    ensures { result ≡ nat_le (shown_size watch.now) most_part_bytes }
+{
+    match watch {
+        Watch::Ask(_) => true,
+        Watch::Shown(_, entries) => fits_part(entries.as_slice()),
+        Watch::Base(_, piece) => piece.bytes.as_slice().len() <= MOST_PART_BYTES,
     }
 }
 
@@ -81,9 +93,16 @@ fn carries_part(body: &Body) -> bool
 fn read_counts(body: &Body)
     ensures { CountsAreShort body.now }
 {
-    if let Body::BasePiece(piece) = body {
-        read_count(piece.total);
-        read_count(piece.from);
+    match body {
+        Body::BasePiece(piece) => {
+            read_count(piece.total);
+            read_count(piece.from);
+        }
+        Body::Watch(Watch::Base(_, piece)) => {
+            read_count(piece.total);
+            read_count(piece.from);
+        }
+        _ => {}
     }
 }
 

@@ -19,12 +19,14 @@ use Rattle.op_spec.specs.Machine.{IsAmong}
 use Rattle.op_spec.specs.Service.{Pairs}
 use Rattle.op_protocol.specs.State.{State, Planned, state_after}
 use Rattle.op_protocol.specs.Rows.{step_plan}
+use Rattle.op_protocol.specs.Watching.{watch_plan}
 use Rattle.op_protocol.specs.Starting.{volatile_after_restart, sends_after_restart, state_after_restart}
-use Rattle.op_runs.specs.World.{World, Node, NodeStatus, Up, Down, Failed, Sent, Fate, Done, Stopped, Faulted, Happening, Doing, Steps, Stops, Opens, Tells, Deed, delivery, deed_of, Told, ThePairs, TheBallots, node_at, with_node, sent_by, outcome_lines, answer_line, lines_of, pair_lines, told_lines, failed_outcome, state_after_reopening, stored_by, world_by_fate, world_if_up, world_if_down, world_if_failed, world_opening, world_reopening, world_by_status, world_at_node, world_with, world_after}
+use Rattle.op_runs.specs.World.{World, Node, NodeStatus, Up, Down, Failed, Sent, Fate, Done, Stopped, Faulted, Happening, Doing, Steps, Stops, Opens, Tells, Deed, delivery, deed_of, Told, ThePairs, TheBallots, node_at, with_node, sent_by, outcome_lines, answer_line, lines_of, pair_lines, told_lines, failed_outcome, state_after_reopening, stored_by, world_by_fate, world_if_up, world_if_down, world_if_failed, world_opening, world_reopening, world_by_status, world_at_node, world_with, world_after, Observes, world_by_fate_as, world_opening_as, world_reopening_as, world_by_status_as, world_beginning, world_at_observer, world_observed}
 use Rattle.op_runs.specs.Fresh.{Stepping, stepping_if, stepping_at, stepping_by, stepping}
 use Rattle.op_paxos.proofs.Membership.{in_append}
 use Rattle.op_refinement.proofs.View.{Each, Each-append}
 use Rattle.op_refinement.proofs.NodeLists.{IfThere, found, node_at-other, node_at-here}
+use Rattle.op_refinement.proofs.Observing.{AddsAsks, observed_adds, watch_lines}
 use Rattle.op_laws.proofs.Elections.{each_unit}
 
 -- ---- lines
@@ -118,6 +120,7 @@ pub record Begins (w u : World) : Type 0 where
 
 pub data Happened (w : World) (o : Option Deed) (y : Option Stepping) (u : World) : Type 0 where
   Rested : u.nodes ≡ w.nodes → u.messages ≡ w.messages → TellsNoRead w u → y ≡ None → Happened w o y u
+  Observed : u.nodes ≡ w.nodes → (q : ℕ) → AddsAsks w u q → TellsNoRead w u → y ≡ None → Happened w o y u
   Halted : Halts w u → y ≡ None → Happened w o y u
   Acted : Acts w o y u → Happened w o y u
   Begun : Begins w u → y ≡ None → Happened w o y u
@@ -198,8 +201,67 @@ module _ (w : World) (h : Happening) (n : Node) (at : node_at w.nodes n.pid ≡ 
   by_status (Down after) d = if_down after d
   by_status (Failed count after) d = if_failed count after d
 
+-- what happens at an observer tells of no read
+module _ (w : World) (h : Happening) where
+  observer_refuses : (u : World) (count : ℕ) (x : Input) → u.lines ≡ w.lines ++ outcome_lines h.event.line (failed_outcome count x) → TellsNoRead w u
+  observer_refuses u count x e = adds_others w u (outcome_lines h.event.line (failed_outcome count x)) e (outcome_others h.event.line (failed_outcome count x))
+
+  observer_steps : (n : Node) (x : Input) (f : Fate) → TellsNoRead w (world_by_fate_as Observes f h.event.line w n x)
+  observer_steps n x Done =
+      let p : Planned = watch_plan n.pid n.state x in
+      adds_others w (world_by_fate_as Observes Done h.event.line w n x) (lines_of h.event.line n.pid p) refl
+      (subst (λ (ls : List Line). Each IsOther ls) (sym (watch_lines h.event.line n.pid n.state x)) (outcome_others h.event.line p.outcome))
+  observer_steps n x Stopped = tells_none w
+  observer_steps n x (Faulted count) = observer_refuses (world_by_fate_as Observes (Faulted count) h.event.line w n x) count x refl
+
+  observer_tells : (n : Node) (told : Told) → TellsNoRead w (record w { lines = w.lines ++ told_lines told n.pid n.state n.state.durable.part })
+  observer_tells n told = adds_others w (record w { lines = w.lines ++ told_lines told n.pid n.state n.state.durable.part }) (told_lines told n.pid n.state n.state.durable.part) refl (told_others told n.pid n.state n.state.durable.part)
+
+  observer_opens : (n : Node) (f : Fate) (d : Durable) → TellsNoRead w (world_opening_as Observes f w n d)
+  observer_opens n Done d = tells_none w
+  observer_opens n Stopped d = tells_none w
+  observer_opens n (Faulted count) d = tells_none w
+
+  observer_reopens : (n : Node) (f : Fate) (after d : Durable) → TellsNoRead w (world_reopening_as Observes f after w n d)
+  observer_reopens n Done after d = tells_none w
+  observer_reopens n Stopped after d = tells_none w
+  observer_reopens n (Faulted count) after d = tells_none w
+
+  observer_does : (n : Node) (s : NodeStatus) (d : Doing) → TellsNoRead w (world_by_status_as Observes s d h w n)
+  observer_does n Up (Steps x) = observer_steps n x h.fate
+  observer_does n Up Stops = tells_none w
+  observer_does n Up Opens = tells_none w
+  observer_does n Up (Tells told) = observer_tells n told
+  observer_does n (Down after) (Steps x) = tells_none w
+  observer_does n (Down after) Stops = tells_none w
+  observer_does n (Down after) Opens = observer_opens n h.fate (cond h.finds_after after n.state.durable)
+  observer_does n (Down after) (Tells told) = tells_none w
+  observer_does n (Failed count after) (Steps x) = observer_refuses (world_by_status_as Observes (Failed count after) (Steps x) h w n) count x refl
+  observer_does n (Failed count after) Stops = tells_none w
+  observer_does n (Failed count after) Opens = observer_reopens n h.fate after (cond h.finds_after after n.state.durable)
+  observer_does n (Failed count after) (Tells told) = observer_tells n told
+
+  beginning_tells : (d : Doing) (f : Fate) (pid : ℕ) → TellsNoRead w (world_beginning d f pid w)
+  beginning_tells (Steps x) f pid = tells_none w
+  beginning_tells Stops f pid = tells_none w
+  beginning_tells Opens Done pid = tells_none w
+  beginning_tells Opens Stopped pid = tells_none w
+  beginning_tells Opens (Faulted count) pid = tells_none w
+  beginning_tells (Tells told) f pid = tells_none w
+
+  found_tells : (x : Deed) (o : Option Node) → TellsNoRead w (world_at_observer o x h w)
+  found_tells x None = beginning_tells x.doing h.fate x.pid
+  found_tells x (Some n) = observer_does n n.status x.doing
+
+  -- so it adds asks, and tells of no read
+  observed : (e : Option Deed) (o : Option Deed) → Happened w o None (record (world_observed e h w) { nodes = w.nodes; members = w.members })
+  observed None o = Rested refl refl (tells_none w) refl
+  observed (Some x) o =
+      let a = observed_adds w x h in
+      Observed refl x.pid (record { sends = a.sends; asks = a.asks; messages = a.messages }) (found_tells x (node_at w.observers x.pid)) refl
+
 there : (w : World) (h : Happening) (pid : ℕ) (d : Doing) (o : Option Node) → node_at w.nodes pid ≡ o → IfThere (λ n. Unit {0}) pid o → Happened w (Some (record { pid = pid; doing = d })) (stepping_at o h.fate d) (world_at_node o d h w)
-there w h pid d None at k = Rested refl refl (tells_none w) refl
+there w h pid d None at k = observed w h (deed_of w.messages h.event.what) (Some (record { pid = pid; doing = d }))
 there w h pid d (Some n) at k =
     subst (λ (q : ℕ). Happened w (Some (record { pid = q; doing = d })) (stepping_if n.status h.fate d n) (world_by_status n.status d h w n)) k.0 (by_status w h n (ap (node_at w.nodes) k.0 ∙ at) n.status d)
 
@@ -233,6 +295,7 @@ placed {P} w u n k q m at same is there other here =
 
 pub becomes : (w : World) (o : Option Deed) (y : Option Stepping) (u : World) → Happened w o y u → (q : ℕ) (m : Node) → node_at u.nodes q ≡ Some m → Becomes w o y u q m
 becomes w o y u (Rested e s lines none) q m there = Stayed m (ap (λ (ns : List Node). node_at ns q) (sym e) ∙ there) refl refl
+becomes w o y u (Observed e p s lines none) q m there = Stayed m (ap (λ (ns : List Node). node_at ns q) (sym e) ∙ there) refl refl
 becomes w o y u (Halted h none) q m there =
     placed w u h.node (record (h.node) { status = h.status }) q m h.at refl h.nodes there (λ was. Stayed m was refl refl)
     (λ here is. Stayed h.node (ap (node_at w.nodes) (sym here) ∙ h.at) (ap (λ (x : Node). x.state) is) (ap (λ (x : Node). x.pid) is))

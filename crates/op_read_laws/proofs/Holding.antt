@@ -1,10 +1,9 @@
 -- What holds at each moment of a run of the reads that wait, of the questions and confirmations that were sent, and of numbers.
 use Rattle.std.proofs.Common.{◌≡◌, ◌<◌, ◌≤◌, ℕ, suc, inl, inr, ⊎_elim, Bool, true, false, cond, eqb, List, [], ◌∷◌, filter, Option, Some, None, refl, sym, ap, ◌∙◌, subst, arith, slice_get}
-use Rattle.std.proofs.lemmas.Bool.{cases_lt}
+use Rattle.std.proofs.lemmas.Bool.{cases_lt, false≢true}
 use Rattle.op_types.specs.Limits.{positions_end}
 use Rattle.op_types.specs.RoleStates.{Leading}
 use Rattle.op_types.specs.Roles as role
-use Rattle.op_types.specs.Roles.{Role}
 use Rattle.op_types.specs.declared.ballot.Ballot.{Ballot}
 use Rattle.op_types.specs.declared.durable.Part.{Part}
 use Rattle.op_types.specs.declared.events.Input.{Input}
@@ -17,16 +16,17 @@ use Rattle.op_reads.specs.declared.asked_read.AskedRead.{AskedRead}
 use Rattle.op_reads.specs.Reads.{WaitingRead, Reads}
 use Rattle.op_spec.specs.Machine.{IsAmong}
 use Rattle.op_protocol.specs.State.{State}
+use Rattle.op_protocol.specs.Watched.{is_watching}
 use Rattle.op_protocol.specs.Reading.{leading_at, reads_at}
 use Rattle.op_protocol.proofs.Asked.{leads_is}
 use Rattle.op_runs.specs.World as product
-use Rattle.op_runs.specs.World.{World, Node, Up, Sent, Deed, Steps, deed_of, node_at, with_node, sent_by, world_after}
+use Rattle.op_runs.specs.World.{World, Node, Up, Sent, Deed, Steps, deed_of, node_at}
 use Rattle.op_runs.specs.Run.{Execution}
 use Rattle.op_runs.specs.Fresh.{ReadAt, Stepping, stepping, Comes, reads_of_leader, taken_at, read_taken}
 use Rattle.op_refinement.proofs.View.{Each, rank}
-use Rattle.op_read_laws.proofs.Happened.{Acts, Happened, Rested, Halted, Acted, Begun, happened, delivered_sent}
+use Rattle.op_read_laws.proofs.Happened.{Acts, Happened, Rested, Observed, Halted, Acted, Begun, happened, delivered_sent}
 use Rattle.op_read_laws.proofs.Moments.{Followed, world_at, run_next, run_over, Promises, Leads}
-use Rattle.op_read_laws.proofs.PlainSends.{IsPlain}
+use Rattle.op_laws.proofs.PlainSends.{IsPlain}
 
 some_same : {A : Type 0} (a b : A) → Some a ≡ Some b → a ≡ b
 some_same a b e = cc
@@ -134,6 +134,7 @@ module _ (r : Followed) where
     where
       by : Happened (world_at r j) m.deed m.step (world_at r (suc j)) → Taken j m.deed m.step x
       by (Rested nodes messages lines none) = absurd (subst (Comes x) none c)
+      by (Observed nodes q adds lines none) = absurd (subst (Comes x) none c)
       by (Halted h none) = absurd (subst (Comes x) none c)
       by (Begun b none) = absurd (subst (Comes x) none c)
       by (Acted a) = acts_taken j m.deed m.step x a (subst (Comes x) a.steps c)
@@ -276,6 +277,7 @@ module _ (r : Followed) where
   pub true_later : (j : ℕ) → Holds j → (q p c : ℕ) (y : Body) → IsTrue j q p c y → IsTrue (suc j) q p c y
   true_later j h q p c (body.Confirm b number) k = asked_later j q c b number k
   true_later j h q p c (body.Confirmed b number) k = (asked_later j p c b number k.0, vouched_later j h q p c b number k.0 k.1)
+  true_later j h q p c (body.Watch w) k = tt
   true_later j h q p c (body.HeartbeatRequest x) k = tt
   true_later j h q p c (body.HeartbeatReply x z g) k = tt
   true_later j h q p c (body.Prepare z na nl nd) k = tt
@@ -300,9 +302,15 @@ module _ (r : Followed) where
   true_later j h q p c (body.AskSegment from to) k = tt
   true_later j h q p c (body.Segment at es) k = tt
 
+  -- what is to an observer says nothing of reads
+  pub watch_true : (j q p c : ℕ) (y : Body) → is_watching y ≡ true → IsTrue j q p c y
+  watch_true j q p c (body.Watch w) is = tt
+  watch_true j q p c _ is = absurd (false≢true is)
+
   pub plain_true : (j q p c : ℕ) (y : Body) → IsPlain y → IsTrue j q p c y
   plain_true j q p c (body.Confirm b number) k = absurd k
   plain_true j q p c (body.Confirmed b number) k = absurd k
+  plain_true j q p c (body.Watch w) k = tt
   plain_true j q p c (body.HeartbeatRequest x) k = tt
   plain_true j q p c (body.HeartbeatReply x z g) k = tt
   plain_true j q p c (body.Prepare z na nl nd) k = tt

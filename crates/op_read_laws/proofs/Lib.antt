@@ -1,4 +1,3 @@
-pub mod PlainSends
 pub mod Happened
 pub mod Moments
 pub mod Holding

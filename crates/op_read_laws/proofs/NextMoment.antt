@@ -5,13 +5,13 @@ use Rattle.std.proofs.lemmas.Bool.{eqb-true, both_ways, cases_lt, eq-eqb}
 use Rattle.op_types.specs.Limits.{positions_end}
 use Rattle.op_types.specs.RoleStates.{Leading}
 use Rattle.op_types.specs.Roles as role
-use Rattle.op_types.specs.Roles.{Role}
 use Rattle.op_types.specs.declared.answers.Outcome.TheVariants as outcome
 use Rattle.op_types.specs.declared.answers.Refusal.TheVariants as refusal
 use Rattle.op_types.specs.declared.ballot.Ballot.{Ballot}
 use Rattle.op_types.specs.declared.durable.Part.{Part}
 use Rattle.op_types.specs.declared.events.Input.{Input}
 use Rattle.op_types.specs.declared.events.Input.TheVariants as input
+use Rattle.op_types.specs.declared.messages.Body.{Body}
 use Rattle.op_types.specs.declared.messages.Body.TheVariants as body
 use Rattle.op_types.specs.declared.messages.Msg.{Msg}
 use Rattle.op_types.specs.declared.read.Read.{Read}
@@ -28,15 +28,16 @@ use Rattle.op_runs.specs.World.{World, Node, Steps, node_at, sent_by}
 use Rattle.op_runs.specs.Fresh.{ReadAt, Comes, numbered, reads_of_leader, taken_at, read_taken}
 use Rattle.op_refinement.proofs.View.{Each, Each-append, rank, is_same-rank, RoleIsSmall}
 use Rattle.op_refinement.proofs.NodeLists.{node_at-here}
-use Rattle.op_laws.proofs.AdoptedLogs.{same_is}
+use Rattle.op_refinement.proofs.Observing.{IsAsk, IsAsked}
+use Rattle.op_types.proofs.Order.{same_is}
 use Rattle.op_laws.proofs.Moves.{JoiningIsAbove, IfKept, Moves, step_moves}
 use Rattle.op_laws.proofs.Reached.{joining_above}
-use Rattle.op_read_laws.proofs.Happened.{Acts, Happened, Rested, Halted, Acted, Begun, Becomes, Stayed, Stepped, Opened, becomes}
+use Rattle.op_read_laws.proofs.Happened.{Acts, Happened, Rested, Observed, Halted, Acted, Begun, Becomes, Stayed, Stepped, Opened, becomes}
 use Rattle.op_read_laws.proofs.Moments.{Followed, world_at, ks, Seat, seen, node_rel, members_stay, Promises, Leads, leader_promises, leads_middle}
 use Rattle.op_laws.proofs.Asking.{TakesRead, TakesConfirmed, Asked, Keeps, Takes, Confirms, asked, asked_counts, leads_on_is, plan, decided, adopted, left_is, left_goes}
-use Rattle.op_read_laws.proofs.PlainSends as plain
-use Rattle.op_read_laws.proofs.PlainSends.{IsPlain, ArePlain, Answers, Says, table_says, opening_plain}
-use Rattle.op_read_laws.proofs.Holding.{Came, MomentWith, moment_at, taken, leads_seat, came_leads, Confirmed, confirmed_later, Waits, waits_later, AreReads, reads_later, AllWait, WasAsked, asked_later, Vouched, IsTrue, SentIsTrue, true_later, plain_true, AreCounted, Holds}
+use Rattle.op_laws.proofs.PlainSends as plain
+use Rattle.op_laws.proofs.PlainSends.{ArePlain, Answers, Says, table_says, opening_plain, shown_watches}
+use Rattle.op_read_laws.proofs.Holding.{Came, MomentWith, moment_at, taken, leads_seat, came_leads, Confirmed, confirmed_later, Waits, waits_later, AreReads, reads_later, AllWait, WasAsked, asked_later, Vouched, IsTrue, SentIsTrue, true_later, plain_true, watch_true, AreCounted, Holds}
 
 some_same : {A : Type 0} (a b : A) → Some a ≡ Some b → a ≡ b
 some_same a b e = cc
@@ -376,7 +377,11 @@ module _ (r : Followed) (j : ℕ) (h : Holds r j) where
 
     answers_true : (q : ℕ) (m : Msg) → x ≡ input.Deliver q m → (sends : List (ℕ × Msg)) → Answers s.durable q m sends → SendsTrue sends
     answers_true q m e [] y = tt
-    answers_true q m e (z ∷ sends) y = (⊎_elim (plain_true r (suc j) n.pid z.0 (z.1).conf (z.1).body) (confirmation_true q m e z.0 z.1) y.0, answers_true q m e sends y.1)
+    answers_true q m e (z ∷ sends) y = (
+      ⊎_elim (plain_true r (suc j) n.pid z.0 (z.1).conf (z.1).body)
+          (⊎_elim (confirmation_true q m e z.0 z.1) (λ i. watch_true r (suc j) n.pid z.0 (z.1).conf (z.1).body (shown_watches s.durable q m z i))) y.0,
+      answers_true q m e sends y.1,
+    )
 
     table_true : SendsTrue (table_plan n.pid s x).sends
     table_true = by x refl (table_says n.pid s x)
@@ -421,8 +426,18 @@ module _ (r : Followed) (j : ℕ) (h : Holds r j) where
       more : (p : ℕ) (sends : List (ℕ × Msg)) → u.messages ≡ w.messages ++ sent_by p sends → Each (λ z. IsTrue r (suc j) p z.0 (z.1).conf (z.1).body) sends → Each (SentIsTrue r (suc j)) u.messages
       more p sends e y = subst (Each (SentIsTrue r (suc j))) (sym e) (Each-append (SentIsTrue r (suc j)) w.messages (sent_by p sends) still (sent_each p sends y))
 
+      -- what an observer asks is of no read
+      ask_true : (p q c : ℕ) (y : Body) → IsAsk y → IsTrue r (suc j) p q c y
+      ask_true p q c (body.Watch x) y = tt
+      ask_true p q c _ y = absurd y
+
+      asks_true : (p : ℕ) (sends : List (ℕ × Msg)) → Each IsAsked sends → Each (λ z. IsTrue r (suc j) p z.0 (z.1).conf (z.1).body) sends
+      asks_true p [] y = tt
+      asks_true p (z ∷ sends) y = (ask_true p z.0 (z.1).conf (z.1).body y.0, asks_true p sends y.1)
+
       by : Happened w k.moment.deed k.moment.step u → Each (SentIsTrue r (suc j)) u.messages
       by (Rested nodes messages lines none) = subst (Each (SentIsTrue r (suc j))) (sym messages) still
+      by (Observed nodes q adds lines none) = more q adds.sends adds.messages (asks_true q adds.sends adds.asks)
       by (Halted y none) = subst (Each (SentIsTrue r (suc j))) (sym y.messages) still
       by (Begun b none) = more b.node.pid _ b.messages (opening_true b.node.pid _ (opening_plain b.node.pid b.state.durable))
       by (Acted a) = more a.node.pid _ a.messages (sends_true a)

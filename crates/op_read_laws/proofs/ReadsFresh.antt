@@ -16,7 +16,7 @@ use Rattle.op_protocol.specs.Rows.{table_plan, step_plan}
 use Rattle.op_protocol.specs.Reading.{leading_at, read_reply, answered_by, adopted_of, decided_of}
 use Rattle.op_protocol.proofs.Asked.{leads_is}
 use Rattle.op_runs.specs.World as product
-use Rattle.op_runs.specs.World.{World, Node, node_at, first_node, node_ids}
+use Rattle.op_runs.specs.World.{Node, node_at, first_node, node_ids}
 use Rattle.op_runs.specs.Run.{Execution, first_execution, execution_of, ServesDecided}
 use Rattle.op_runs.specs.Fresh.{ReadAt, stepping, Comes, reads_of_leader, IsAnswered, IsFresh, CameFresh}
 use Rattle.op_paxos.specs.Nodes.{majority_passes}
@@ -33,7 +33,7 @@ use Rattle.op_laws.specs.Runs.{RunInRange}
 use Rattle.op_fresh_lists.specs.FreshLists.{machine_at, MayAnswerIn, IsFreshIn}
 use Rattle.op_fresh_lists.proofs.InLists.{lists_reads_fresh}
 use Rattle.op_read_laws.specs.Fresh.{EveryReadIsFresh}
-use Rattle.op_read_laws.proofs.Happened.{Acts, Happened, Rested, Halted, Acted, Begun}
+use Rattle.op_read_laws.proofs.Happened.{Acts, Happened, Rested, Observed, Halted, Acted, Begun}
 use Rattle.op_read_laws.proofs.Moments.{Followed, run_at, world_at, ks, n_up, front, Seat, there, takes, node_rel, Leads, pure_leads, confirms_in}
 use Rattle.op_read_laws.proofs.Moments as moments
 use Rattle.op_laws.proofs.Asking.{plan, Ready, ready_is, LeadsOn, leads_on_is}
@@ -261,6 +261,7 @@ module _ (r : Followed) (j : ℕ) (x : ReadAt) (a : Answer) where
 
       by : Happened (world_at r j) (moment_at r j).moment.deed (moment_at r j).moment.step (world_at r (suc j)) → AnsweredFresh r j x a
       by (Rested nodes messages lines none) = absurd (subst (IsAnswered x a) none here)
+      by (Observed nodes q adds lines none) = absurd (subst (IsAnswered x a) none here)
       by (Halted z none) = absurd (subst (IsAnswered x a) none here)
       by (Begun z none) = absurd (subst (IsAnswered x a) none here)
       by (Acted z) = of_acts z (subst (IsAnswered x a) z.steps here)

@@ -87,6 +87,7 @@ change_is_short (variant.Trim x b) h = counted_is_short b (third (encoded w8 6) 
 change_is_short (variant.Close named b) h = counted_is_short b (third (encoded w8 7) (flag.text named) (base.text b) h)
 change_is_short (variant.JoinBase n b) h = counted_is_short b (third (encoded w8 10) (place.text n) (base.text b) h)
 change_is_short (variant.JoinDone b) h = counted_is_short b (right (encoded w8 12) (base.text b) h)
+change_is_short (variant.Rebase c ms n b) h = counted_is_short b (fifth (encoded w8 13) (conf.text c) (members.text ms) (place.text n) (base.text b) h)
 change_is_short _ h = tt
 
 changes_are_short : (cs : List Change) → Few (flat_map change.text cs) → All ChangeIsShort cs

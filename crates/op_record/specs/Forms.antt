@@ -250,6 +250,10 @@ new_donor = pair (number w32 1 greatest_pid) (λ _. place)
 abbrev pub place_entries : Form (ℕ × List Entry)
 place_entries = pair place (λ _. entry_forms.entries)
 
+-- a configuration, its members, a position of its list and the base there
+abbrev pub rebased : Form (ℕ × (List ℕ × (ℕ × List ℕ)))
+rebased = pair conf (λ _. pair members (λ _. place_base))
+
 -- a change's tag
 abbrev pub change_tag : Change → ℕ
 change_tag (variant.Promise b) = 1
@@ -264,6 +268,7 @@ change_tag (variant.JoinDonor q trimmed) = 9
 change_tag (variant.JoinBase at b) = 10
 change_tag (variant.JoinPart at es) = 11
 change_tag (variant.JoinDone b) = 12
+change_tag (variant.Rebase c ms at b) = 13
 
 -- what stands after it
 abbrev pub change_body : Change → List ℕ
@@ -279,6 +284,7 @@ change_body (variant.JoinDonor q trimmed) = new_donor.text (q, trimmed)
 change_body (variant.JoinBase at b) = place_base.text (at, b)
 change_body (variant.JoinPart at es) = place_entries.text (at, es)
 change_body (variant.JoinDone b) = base.text b
+change_body (variant.Rebase c ms at b) = rebased.text (c, (ms, (at, b)))
 
 -- what is read after a tag
 abbrev pub change_options : Options Change
@@ -295,11 +301,12 @@ change_options =
     (option 10 place_base (λ x. variant.JoinBase x.0 x.1)
     (option 11 place_entries (λ x. variant.JoinPart x.0 x.1)
     (option 12 base (λ b. variant.JoinDone b)
-    no_option)))))))))))
+    (option 13 rebased (λ x. variant.Rebase x.0 x.1.0 x.1.1.0 x.1.1.1)
+    no_option))))))))))))
 
 -- a change
 abbrev pub change : Form Change
-change = choice 12 change_tag change_body ChangeFits change_options
+change = choice 13 change_tag change_body ChangeFits change_options
 
 -- a batch of changes
 abbrev pub batch : Form (List Change)

@@ -93,6 +93,8 @@ ChangeInRange (variant.JoinDonor q trimmed) = IsPid q × IsPlace trimmed
 ChangeInRange (variant.JoinBase at base) = IsPlace at × IsBase base
 ChangeInRange (variant.JoinPart at es) = IsPlace at × EntriesInRange positions_end es
 ChangeInRange (variant.JoinDone base) = IsBase base
+ChangeInRange (variant.Rebase conf members at base) =
+    IsConf conf × MembersInRange members × IsPlace at × IsBase base
 
 -- how many changes a batch has at most: their count is one byte
 abbrev pub most_changes : ℕ
@@ -146,6 +148,7 @@ ChangeIsShort (variant.Trim x base) = IsShort base
 ChangeIsShort (variant.Close named base) = IsShort base
 ChangeIsShort (variant.JoinBase at base) = IsShort base
 ChangeIsShort (variant.JoinDone base) = IsShort base
+ChangeIsShort (variant.Rebase conf members at base) = IsShort base
 ChangeIsShort _ = Unit {0}
 
 -- a change in range, and short enough

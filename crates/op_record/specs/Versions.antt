@@ -1,5 +1,5 @@
 -- Which records the first version of areas can hold. They are encoded as they are now.
-use Rattle.std.specs.Prelude.{◌&&◌, ℕ, Bool, true, List, Option, Some, None}
+use Rattle.std.specs.Prelude.{◌&&◌, ℕ, Bool, true, false, List, Option, Some, None}
 use Rattle.std.specs.List.{list_all}
 use Rattle.op_types.specs.Versions.{are_first_members, is_first_entry, are_first_entries}
 use Rattle.op_types.specs.declared.durable.Part.{Part}
@@ -34,7 +34,7 @@ is_first_joining (Some j) =
 abbrev pub is_first_durable : Durable → Bool
 is_first_durable d = is_first_part d.part && (is_first_closed d.closed && is_first_joining d.joining)
 
--- a change
+-- a change; there were no observers
 abbrev pub is_first_change : Change → Bool
 is_first_change (variant.Promise b) = true
 is_first_change (variant.Accept b) = true
@@ -48,6 +48,7 @@ is_first_change (variant.JoinDonor q trimmed) = true
 is_first_change (variant.JoinBase at b) = true
 is_first_change (variant.JoinPart at es) = are_first_entries es
 is_first_change (variant.JoinDone b) = true
+is_first_change (variant.Rebase c members at base) = false
 
 -- a record
 abbrev pub is_first_rec : Rec → Bool

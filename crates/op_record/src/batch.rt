@@ -1,17 +1,21 @@
 ghost use Rattle.std.specs.Prelude.{◌≡◌, ◌++◌, OnOk, OnErr};
+ghost use Rattle.op_types.specs.Ranges.{MembersInRange};
 ghost use Rattle.op_fields.specs.Prefixes.{KeepsPrefix};
 ghost use Rattle.op_fields.specs.Form.{items_read};
 ghost use Rattle.op_fields.specs.Items.{GivesItem};
 ghost use Rattle.op_fields.specs.Taken.{Gives, GivesVec};
 ghost use Rattle.op_record.specs.Ranges.{ChangeInRange, BatchInRange};
-ghost use Rattle.op_record.specs.Forms.{flag, change_options, change, batch};
+ghost use Rattle.op_record.specs.Forms.{flag, place_base, begun, rebased, change_options, change, batch};
 
 use crate::base::{base_at, put_base};
 use crate::growing::put_changes;
 use crate::part::place_at;
 use op_entry::{ballot_at, entries_at, members_at, put_ballot, put_entries, put_members};
 use op_fields::{NoMemory, TakeFail, items_at, put_u8, put_u32, put_u64, u8_in, u32_in, u64_in};
-use op_types::{Batch, Change, GREATEST_PID, LAST_CONF, ListLen, POSITIONS_END, Seq, Shared};
+use op_types::{
+    Batch, Blob, Change, ConfNo, GREATEST_PID, LAST_CONF, ListLen, Members, POSITIONS_END, Seq,
+    Shared,
+};
 use std::alloc::Global;
 
 /// How many changes a batch has at most: their count is one byte.
@@ -41,6 +45,8 @@ const JOIN_BASE: u8 = 10;
 const JOIN_PART: u8 = 11;
 
 const JOIN_DONE: u8 = 12;
+
+const REBASE: u8 = 13;
 
 /// Appends a batch. Without memory a part of it may be appended.
 #[tactic(auto, using(op_fields::proofs::Prefixes::kept_through))]
@@ -82,8 +88,7 @@ pub fn put_change(out: &mut Vec<u8>, c: &Change) -> Result<(), NoMemory>
         }
         Change::Trim(len, base) => {
             put_u8(out, TRIM)?;
-            put_u64(out, *len)?;
-            put_base(out, base)
+            put_place_base(out, *len, base)
         }
         Change::Close(named, base) => {
             put_u8(out, CLOSE)?;
@@ -92,10 +97,7 @@ pub fn put_change(out: &mut Vec<u8>, c: &Change) -> Result<(), NoMemory>
         }
         Change::JoinBegin(conf, members, olds, len) => {
             put_u8(out, JOIN_BEGIN)?;
-            put_u32(out, *conf)?;
-            put_members(out, members.get())?;
-            put_members(out, olds.get())?;
-            put_u64(out, len.get())
+            put_begun(out, *conf, members.get(), olds.get(), len.get())
         }
         Change::JoinDonor(donor, trimmed) => {
             put_u8(out, JOIN_DONOR)?;
@@ -104,8 +106,7 @@ pub fn put_change(out: &mut Vec<u8>, c: &Change) -> Result<(), NoMemory>
         }
         Change::JoinBase(place, base) => {
             put_u8(out, JOIN_BASE)?;
-            put_u64(out, *place)?;
-            put_base(out, base)
+            put_place_base(out, *place, base)
         }
         Change::JoinPart(place, entries) => {
             put_u8(out, JOIN_PART)?;
@@ -116,7 +117,62 @@ pub fn put_change(out: &mut Vec<u8>, c: &Change) -> Result<(), NoMemory>
             put_u8(out, JOIN_DONE)?;
             put_base(out, base)
         }
+        Change::Rebase(conf, members, place, base) => {
+            put_u8(out, REBASE)?;
+            put_rebased(out, *conf, members.get(), *place, base)
+        }
     }
+}
+
+/// A configuration, its members, those before, and the closed list's length.
+#[tactic(auto, using(op_fields::proofs::Prefixes::kept_through))]
+fn put_begun(
+    out: &mut Vec<u8>,
+    conf: ConfNo,
+    members: &Members,
+    olds: &Members,
+    len: u64,
+) -> Result<(), NoMemory>
+    requires members { MembersInRange members.now }
+    requires olds { MembersInRange olds.now }
+    ensures ok { OnOk result (out.new.items
+        ≡ out.old.items ++ begun.text (conf, (members.now, (olds.now, len)))) }
+    ensures err { OnErr result (KeepsPrefix out.old.items out.new.items) }
+{
+    put_u32(out, conf)?;
+    put_members(out, members)?;
+    put_members(out, olds)?;
+    put_u64(out, len)
+}
+
+/// A configuration, its members, a position of its list and the base there.
+#[tactic(auto, using(op_fields::proofs::Prefixes::kept_through))]
+fn put_rebased(
+    out: &mut Vec<u8>,
+    conf: ConfNo,
+    members: &Members,
+    place: u64,
+    base: &Blob,
+) -> Result<(), NoMemory>
+    requires { MembersInRange members.now }
+    ensures ok { OnOk result (out.new.items
+        ≡ out.old.items ++ rebased.text (conf, (members.now, (place, base.now)))) }
+    ensures err { OnErr result (KeepsPrefix out.old.items out.new.items) }
+{
+    put_u32(out, conf)?;
+    put_members(out, members)?;
+    put_place_base(out, place, base)
+}
+
+/// A position and the base there.
+#[tactic(auto, using(op_fields::proofs::Prefixes::kept_through))]
+fn put_place_base(out: &mut Vec<u8>, place: u64, base: &Blob) -> Result<(), NoMemory>
+    ensures ok { OnOk result (out.new.items
+        ≡ out.old.items ++ place_base.text (place, base.now)) }
+    ensures err { OnErr result (KeepsPrefix out.old.items out.new.items) }
+{
+    put_u64(out, place)?;
+    put_base(out, base)
 }
 
 fn put_flag(out: &mut Vec<u8>, yes: bool) -> Result<(), NoMemory>
@@ -159,7 +215,7 @@ fn change_items_at(
 fn change_at(alloc: Global, bytes: &[u8], at: usize) -> Result<(Change, usize), TakeFail>
     ensures { Gives result (change.read bytes.now at) }
 {
-    let (tag, at) = u8_in(bytes, at, PROMISE, JOIN_DONE)?;
+    let (tag, at) = u8_in(bytes, at, PROMISE, REBASE)?;
     match tag {
         PROMISE => {
             let (ballot, at) = ballot_at(bytes, at)?;
@@ -191,6 +247,7 @@ fn change_at(alloc: Global, bytes: &[u8], at: usize) -> Result<(Change, usize), 
             let (base, at) = base_at(alloc, bytes, at)?;
             Ok((Change::JoinDone(base), at))
         }
+        REBASE => rebase_at(alloc, bytes, at),
         _ => Err(TakeFail::Bad { at }),
     }
 }
@@ -252,4 +309,15 @@ fn place_entries_at(alloc: Global, bytes: &[u8], at: usize) -> Result<(Change, u
     let (place, at) = place_at(bytes, at)?;
     let (entries, at) = entries_at(alloc, bytes, at)?;
     Ok((Change::JoinPart(place, entries), at))
+}
+
+fn rebase_at(alloc: Global, bytes: &[u8], at: usize) -> Result<(Change, usize), TakeFail>
+    ensures { Gives result (change_options 13 bytes.now at) }
+{
+    let (conf, at) = u32_in(bytes, at, 1, LAST_CONF)?;
+    let (members, at) = members_at(alloc, bytes, at)?;
+    let (place, at) = place_at(bytes, at)?;
+    let (base, at) = base_at(alloc, bytes, at)?;
+    let members = Shared::new(alloc, members)?;
+    Ok((Change::Rebase(conf, members, place, base), at))
 }

@@ -97,5 +97,6 @@ fn is_first_change(change: &Change) -> bool
         | Change::JoinDonor(..)
         | Change::JoinBase(..)
         | Change::JoinDone(_) => true,
+        Change::Rebase(..) => false,
     }
 }

@@ -1,5 +1,5 @@
 -- An execution beside a run of the pure machine, and what a node that moves leaves of that.
-use Rattle.std.proofs.Common.{◌≡◌, ◌<◌, ℕ, List, ◌++◌, Some, None, sym, ◌∙◌, subst, slice_get}
+use Rattle.std.proofs.Common.{◌≡◌, ◌<◌, ℕ, List, ◌++◌, Some, None, refl, sym, ◌∙◌, subst, slice_get}
 use Rattle.op_types.specs.Changes.{durable_after}
 use Rattle.op_types.specs.declared.durable.Durable.{Durable}
 use Rattle.op_types.specs.declared.events.Input.{Input}
@@ -8,18 +8,18 @@ use Rattle.op_runs.specs.declared.summary.Line.{Line}
 use Rattle.op_spec.specs.Machine.{Machine}
 use Rattle.op_protocol.specs.State as table
 use Rattle.op_protocol.specs.Rows.{step_plan}
-use Rattle.op_runs.specs.World.{Node, NodeStatus, Up, Down, Failed, Sent, with_node}
+use Rattle.op_runs.specs.World.{Node, NodeStatus, Up, Down, Failed, Sent, node_at, with_node}
 use Rattle.op_runs.specs.Run.{Execution}
 use Rattle.op_configurations.specs.Servers.{Letter}
 use Rattle.op_configurations.specs.Worlds as worlds
-use Rattle.op_configurations.specs.Worlds.{Life, Running, Server, World, Happening, machine_of}
+use Rattle.op_configurations.specs.Worlds.{Life, Running, Server, Happening, start, machine_of}
 use Rattle.op_configurations.proofs.Tale.{slice_more}
 use Rattle.op_refinement.proofs.Pure as pure
 use Rattle.op_refinement.proofs.View.{Each}
 use Rattle.op_refinement.proofs.Relation.{StateRel, IfServes, AreLetters}
 use Rattle.op_refinement.proofs.Letters.{letters-append}
 use Rattle.op_refinement.proofs.Inputs.{event_of}
-use Rattle.op_refinement.proofs.NodeLists.{Apart, with-each, with-apart}
+use Rattle.op_refinement.proofs.NodeLists.{Apart, with-each, with-apart, with-none}
 use Rattle.op_refinement.proofs.Worlds.{lists_of, world_of, state_of, state_on, serves_on, letters_on}
 
 -- ---- a node beside a server
@@ -53,6 +53,13 @@ pub record IsBeside (first : List ℕ) (ks : List Happening) (t : Execution) : T
   pub nodes : Each (NodeRel first ks t.world.messages) t.world.nodes
   pub apart : Apart t.world.nodes
   pub letters : AreLetters (lists_of first ks) t.world.messages (world_of first ks).soup
+  -- a server that no node is stays as it began
+  pub elsewhere : (q : ℕ) → node_at t.world.nodes q ≡ None → (world_of first ks).servers q ≡ (start first).servers q
+
+-- where it runs
+pub start_runs : (first : List ℕ) (q : ℕ) → ((start first).servers q).life ≡ Running
+unfolding start
+start_runs first q = refl
 
 -- ---- one server moves
 
@@ -97,12 +104,13 @@ module _ (first : List ℕ) (ks late : List Happening) (p : ℕ) (g : Goes first
       }
 
   -- a node moves: all are beside the run that goes on
-  pub beside_moved : (t : Execution) (b : IsBeside first ks t) (n : Node) → n.pid ≡ p → (more : List Sent) → AreLetters (lists_of first (ks ++ late)) more g.sends → NodeRel first (ks ++ late) (t.world.messages ++ more) n
-      → (lines : List Line) (m : Machine) → m ≡ machine_of first (ks ++ late) → IsBeside first (ks ++ late) (record { world = record { nodes = with_node t.world.nodes n; messages = t.world.messages ++ more; lines = lines }; machine = m })
-  beside_moved t b n own more said new lines m is = record {
+  pub beside_moved : (t : Execution) (b : IsBeside first ks t) (n : Node) → ((q : ℕ) → q ≡ n.pid → node_at (with_node t.world.nodes n) q ≡ None → ⊥) → n.pid ≡ p → (more : List Sent) → AreLetters (lists_of first (ks ++ late)) more g.sends → NodeRel first (ks ++ late) (t.world.messages ++ more) n
+      → (lines : List Line) (m : Machine) → m ≡ machine_of first (ks ++ late) → IsBeside first (ks ++ late) (record { world = record t.world { nodes = with_node t.world.nodes n; messages = t.world.messages ++ more; lines = lines }; machine = m })
+  beside_moved t b n here own more said new lines m is = record {
     machine = is;
     nodes = with-each (NodeRel first ks t.world.messages) (NodeRel first (ks ++ late) (t.world.messages ++ more)) t.world.nodes n b.apart b.nodes (λ j d k. other_rel t.world.messages more j (λ e. d (e ∙ sym own)) k) new;
     apart = with-apart t.world.nodes n b.apart;
     letters = subst (λ (soup : List Letter). AreLetters (lists_of first (ks ++ late)) (t.world.messages ++ more) soup) (sym g.soup)
         (letters-append (lists_of first (ks ++ late)) t.world.messages more (world_of first ks).soup g.sends (letters_on first ks late t.world.messages b.letters) said);
+    elsewhere = λ q none. g.others q (λ e. here q (e ∙ sym own) none) ∙ b.elsewhere q (with-none t.world.nodes n q none);
   }

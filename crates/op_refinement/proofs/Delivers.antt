@@ -1,7 +1,7 @@
 -- A message inside the part's configuration is a message of its run.
 use Rattle.std.proofs.Common.{◌≡◌, ◌<◌, inl, ℕ, Bool, true, false, not, cond, ◌&&◌, ltb, is_some, List, [], Option, Some, None, refl, sym, ap, ◌∙◌, subst, arith, slice_get}
 use Rattle.std.specs.Prelude.{IfSome}
-use Rattle.std.proofs.lemmas.Bool.{cond_both, eqb-true, eq-eqb, le-ltb, both_ways, and_parts, and_cases, cases_Bool}
+use Rattle.std.proofs.lemmas.Bool.{eq-eqb, le-ltb}
 use Rattle.op_types.specs.declared.durable.Part.{Part as StoredPart}
 use Rattle.op_types.specs.declared.durable.Joining.{Joining as StoredJoining}
 use Rattle.op_types.specs.declared.durable.Durable.{Durable}
@@ -16,9 +16,9 @@ use Rattle.op_protocol.specs.Parts.{is_admitted_body}
 use Rattle.op_protocol.specs.Tick.{remembering}
 use Rattle.op_protocol.specs.Configurations.{latest_in as stored_latest_in, latest_of}
 use Rattle.op_protocol.specs.Joining.{brought_to}
-use Rattle.op_protocol.specs.Rows.{on_body, on_message, message_at, is_of_joining, may_be_above, on_latest, message_step, brought_by, plan_of, step_bringing, table_plan, step_at, waiting_at}
+use Rattle.op_protocol.specs.Rows.{on_body, message_at, is_of_joining, may_be_above, on_latest, message_step, brought_by, plan_of, step_bringing, table_plan}
 use Rattle.op_configurations.specs.Servers as server
-use Rattle.op_configurations.specs.Servers.{Part, Joining, State, Letter, Fate, Stepped, letter, says, unchanged, acted}
+use Rattle.op_configurations.specs.Servers.{Part, Joining, State, Letter, Fate, Stepped, says, unchanged, acted}
 use Rattle.op_configurations.specs.Worlds.{inner_of, place_in}
 use Rattle.op_configurations.proofs.PartFacts.{Comable}
 use Rattle.op_configurations.proofs.Inside.{inner_place}
@@ -28,6 +28,7 @@ use Rattle.op_refinement.proofs.TrimRows.{StepMatches}
 use Rattle.op_refinement.proofs.PartRows.{body_matches}
 use Rattle.op_refinement.proofs.Relation.{PartRel, all_before, IsSaid, IsLetter, StepRel}
 use Rattle.op_refinement.proofs.Inputs.{NodeFacts, counts_at, is_past, delivery_event, step_by, WholeAfter, rest_rel, known_there, acted_there}
+use Rattle.op_refinement.proofs.Watching.{member_row, view_plain}
 
 none_some : {A : Type 0} (a : A) → None ≡ Some a → ⊥
 none_some a e = cc
@@ -43,6 +44,7 @@ said_of lists conf (body.HeartbeatRequest r) y m pos e k = absurd (none_some m e
 said_of lists conf (body.HeartbeatReply r n f) y m pos e k = absurd (none_some m e)
 said_of lists conf (body.Confirm z r) y m pos e k = absurd (none_some m e)
 said_of lists conf (body.Confirmed n r) y m pos e k = absurd (none_some m e)
+said_of lists conf (body.Watch w) y m pos e k = absurd (none_some m e)
 said_of lists conf (body.Prepare n na nl nd) y m pos e k = k.2 ∙ ap server.Inner (some_is k.0 m (sym k.1 ∙ e))
 said_of lists conf (body.Promise n fa fl fd s es) y m pos e k = k.2 ∙ ap server.Inner (some_is k.0 m (sym k.1 ∙ e))
 said_of lists conf (body.AcceptSync n x es) y m pos e k = k.2 ∙ ap server.Inner (some_is k.0 m (sym k.1 ∙ e))
@@ -72,6 +74,7 @@ latest_inner me d v q c (body.HeartbeatRequest r) m e = refl
 latest_inner me d v q c (body.HeartbeatReply r n f) m e = refl
 latest_inner me d v q c (body.Confirm z r) m e = refl
 latest_inner me d v q c (body.Confirmed n r) m e = refl
+latest_inner me d v q c (body.Watch w) m e = refl
 latest_inner me d v q c (body.Prepare n na nl nd) m e = refl
 latest_inner me d v q c (body.Promise n fa fl fd s es) m e = refl
 latest_inner me d v q c (body.AcceptSync n x es) m e = refl
@@ -100,6 +103,7 @@ counts_inner p (body.HeartbeatRequest r) m e = refl
 counts_inner p (body.HeartbeatReply r n f) m e = refl
 counts_inner p (body.Confirm z r) m e = absurd (none_some m e)
 counts_inner p (body.Confirmed n r) m e = absurd (none_some m e)
+counts_inner p (body.Watch w) m e = absurd (none_some m e)
 counts_inner p (body.Prepare n na nl nd) m e = refl
 counts_inner p (body.Promise n fa fl fd s es) m e = refl
 counts_inner p (body.AcceptSync n x es) m e = refl
@@ -159,7 +163,8 @@ module _ (lists : ℕ → List Entry) (soup : List Letter) (me : ℕ) (f : Fate)
   -- the table comes to the part
   stored_row : message_step me s.durable s.volatile q msg ≡ message_at me (Some p) s.volatile q msg
   stored_row =
-      ap (λ (o : Option StoredJoining). cond (is_some o && not (is_of_joining msg.body)) (remembering s.volatile []) rest) hj
+      member_row me s.durable s.volatile q msg (view_plain msg.body y e)
+      ∙ ap (λ (o : Option StoredJoining). cond (is_some o && not (is_of_joining msg.body)) (remembering s.volatile []) rest) hj
       ∙ ap (λ (b : Bool). cond b (remembering s.volatile (Rattle.op_protocol.specs.Rows.on_older s.durable s.durable.closed q)) (cond (ltb (latest_of s.durable) msg.conf && not (may_be_above msg.body)) (remembering s.volatile (Rattle.op_protocol.specs.Rows.on_newer s.durable q msg.body)) (on_latest me s.durable s.volatile q msg.conf msg.body)))
       (le-ltb msg.conf (latest_of s.durable) (omega (arith, here, latest_stored)))
       ∙ ap (λ (b : Bool). cond (b && not (may_be_above msg.body)) (remembering s.volatile (Rattle.op_protocol.specs.Rows.on_newer s.durable q msg.body)) (on_latest me s.durable s.volatile q msg.conf msg.body))

@@ -15,7 +15,7 @@ use Rattle.op_protocol.specs.Configurations.{latest_of}
 use Rattle.op_protocol.specs.Joining.{brought_to}
 use Rattle.op_protocol.specs.Rows.{is_of_joining, may_be_above, on_older, on_newer, on_latest, message_at, message_step, brought_by, plan_of, step_bringing, table_plan}
 use Rattle.op_configurations.specs.Servers as server
-use Rattle.op_configurations.specs.Servers.{Part, Closed, Joining, State, Letter, Fate, Stepped, says, unchanged}
+use Rattle.op_configurations.specs.Servers.{Closed, Joining, State, Letter, Fate, Stepped, says, unchanged}
 use Rattle.op_refinement.proofs.Pure as pure
 use Rattle.op_refinement.proofs.View.{view_body}
 use Rattle.op_refinement.proofs.Relation.{IsSaid, IsLetter, StepRel}
@@ -23,6 +23,8 @@ use Rattle.op_refinement.proofs.Inputs.{NodeFacts, WholeAfter, counts_at, is_pas
 use Rattle.op_refinement.proofs.Delivers.{latest_inner}
 use Rattle.op_refinement.proofs.Others.{ahead_same, latest_is, older_rel, newer_rel}
 use Rattle.op_refinement.proofs.Outside.{Joins, run_rel, outside_rel}
+use Rattle.op_protocol.specs.Watched.{is_watching}
+use Rattle.op_refinement.proofs.Watching.{member_row}
 
 none_some : {A : Type 0} (a : A) → None ≡ Some a → ⊥
 none_some a e = cc
@@ -59,6 +61,7 @@ said_or lists conf (body.HeartbeatRequest r) y x e i = absurd (none_some x e)
 said_or lists conf (body.HeartbeatReply r z g) y x e i = absurd (none_some x e)
 said_or lists conf (body.Confirm z r) y x e i = absurd (none_some x e)
 said_or lists conf (body.Confirmed z r) y x e i = absurd (none_some x e)
+said_or lists conf (body.Watch w) y x e i = absurd (none_some x e)
 said_or lists conf (body.NextConf members olds len trimmed) y x e i = absurd (none_some x e)
 said_or lists conf body.AskBase y x e i = absurd (none_some x e)
 said_or lists conf (body.BasePart at bytes) y x e i = absurd (none_some x e)
@@ -87,6 +90,7 @@ above_not (body.HeartbeatRequest r) x e = absurd (none_some x e)
 above_not (body.HeartbeatReply r z g) x e = absurd (none_some x e)
 above_not (body.Confirm z r) x e = absurd (none_some x e)
 above_not (body.Confirmed z r) x e = absurd (none_some x e)
+above_not (body.Watch w) x e = absurd (none_some x e)
 above_not (body.NextConf members olds len trimmed) x e = absurd (none_some x e)
 above_not body.AskBase x e = absurd (none_some x e)
 above_not (body.BasePart at bytes) x e = absurd (none_some x e)
@@ -98,7 +102,7 @@ module _ (lists : ℕ → List Entry) (soup : List Letter) (me : ℕ) (f : Fate)
     (is : IsLetter lists (record { from = q; to = me; message = msg }) m) (hj : s.durable.joining ≡ None) (tj : st.joining ≡ None) (low : (c : Closed) → st.closed ≡ Some c → c.trimmed ≤ length c.list)
     (joins : Joins lists soup me f s st k q low n msg.conf)
     (plain : (x : pure.Msg) → view_body msg.body ≡ Some x → msg.conf ≡ latest_of s.durable → s.durable.part ≡ None)
-    (counts : (p : StoredPart) → s.durable.part ≡ Some p → msg.conf ≡ p.conf → counts_at p msg.body ≡ true) (short : long_in s.durable msg ≡ None) where
+    (counts : (p : StoredPart) → s.durable.part ≡ Some p → msg.conf ≡ p.conf → counts_at p msg.body ≡ true) (short : long_in s.durable msg ≡ None) (votes : is_watching msg.body ≡ false) where
   abbrev Goes : PartStep → Stepped → Type 0
   Goes x o = StepRel lists me f s.durable (plan_of me s s.waiting x) o
 
@@ -172,7 +176,7 @@ module _ (lists : ℕ → List Entry) (soup : List Letter) (me : ℕ) (f : Fate)
       ∙ ap (λ (b : Bool). cond is_older (says st (server.refers me st st.closed q)) (cond (ltb (latest_of s.durable) msg.conf && not b) (server.seeks f me st q m.body) (server.takes f me st n q msg.conf m.body))) (sym (ahead_same lists msg.conf msg.body m.body said))
 
   step_is : message_step me s.durable s.volatile q msg ≡ cond is_older (remembering s.volatile (on_older s.durable s.durable.closed q)) (cond is_newer (remembering s.volatile (on_newer s.durable q msg.body)) (on_latest me s.durable s.volatile q msg.conf msg.body))
-  step_is = ap (λ (o : Option StoredJoining). cond (is_some o && not (is_of_joining msg.body)) (remembering s.volatile []) (cond is_older (remembering s.volatile (on_older s.durable s.durable.closed q)) (cond is_newer (remembering s.volatile (on_newer s.durable q msg.body)) (on_latest me s.durable s.volatile q msg.conf msg.body)))) hj
+  step_is = member_row me s.durable s.volatile q msg votes ∙ ap (λ (o : Option StoredJoining). cond (is_some o && not (is_of_joining msg.body)) (remembering s.volatile []) (cond is_older (remembering s.volatile (on_older s.durable s.durable.closed q)) (cond is_newer (remembering s.volatile (on_newer s.durable q msg.body)) (on_latest me s.durable s.volatile q msg.conf msg.body)))) hj
 
   brings_nothing : brought_by s.durable s.volatile (input.Deliver q msg) ≡ None
   brings_nothing = by is_older

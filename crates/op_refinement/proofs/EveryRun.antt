@@ -1,6 +1,6 @@
 -- Every run of members and spares in range, of happenings in range, meets the list machine.
 use Rattle.std.proofs.Common.{List, [], ◌∷◌, ◌++◌, ◌≡◌, ◌+◌, ℕ, All, arith}
-use Rattle.std.proofs.lemmas.List.Elements.{All-head, All-tail}
+use Rattle.std.proofs.lemmas.List.Elements.{All-nil, All-cons, All-head, All-tail}
 use Rattle.op_types.specs.Ranges.{MembersInRange, CommandInRange}
 use Rattle.op_types.specs.declared.log.Command.{Command}
 use Rattle.op_protocol.specs.Rows.{entries_of}
@@ -68,6 +68,15 @@ fits_front (h ∷ early) hs k = let r = fits_front early hs k.1 in ((k.0, r.0), 
 sum_of : (early hs : List Happening) → proposals_in (early ++ hs) ≡ proposals_in early + proposals_in hs
 sum_of [] hs = omega arith
 sum_of (h ∷ early) hs = omega (arith, sum_of early hs)
+
+-- what begins a run in range is in range
+pub range_front : (early hs : List Happening) → HappeningsInRange (early ++ hs) → HappeningsInRange early
+range_front early hs k = record { few = omega (arith, sum_of early hs, k.few); each = each_front early k.each }
+  where
+    each_front : (early : List Happening) → All (λ h. WhatInRange h.event.what) (early ++ hs) → All (λ h. WhatInRange h.event.what) early
+    each_front [] e = All-nil (λ h. WhatInRange h.event.what)
+    each_front (h ∷ early) e =
+        All-cons (λ x. WhatInRange x.event.what) h early (All-head (λ x. WhatInRange x.event.what) h (early ++ hs) e) (each_front early (All-tail (λ x. WhatInRange x.event.what) h (early ++ hs) e))
 
 -- each run is followed by happenings of the pure machine, number by number, from each moment on
 pub every_track : (members spares : List ℕ) → MembersInRange members → SparesInRange members spares → (early hs : List Happening) → HappeningsInRange (early ++ hs)

@@ -1,5 +1,6 @@
 -- Each happening of a world goes with a happening of the pure machine, or with none.
-use Rattle.std.proofs.Common.{◌≡◌, ◌<◌, ◌≤◌, ◌⊎◌, inl, inr, ℕ, suc, ◌+◌, ◌^◌, Bool, true, false, cond, is_some, List, [], ◌∷◌, ◌++◌, length, Option, Some, None, refl, sym, ap, ◌∙◌, subst, arith, slice_get, append-nil, length-append}
+use Rattle.std.proofs.Common.{◌≡◌, ◌<◌, ◌≤◌, ◌⊎◌, inl, inr, ⊎_elim, ℕ, suc, ◌+◌, ◌^◌, Bool, true, false, cond, is_some, List, [], ◌∷◌, ◌++◌, length, Option, Some, None, refl, sym, ap, ◌∙◌, subst, arith, slice_get, append-nil, length-append}
+use Rattle.std.proofs.lemmas.Bool.{cases_eq}
 use Rattle.op_types.specs.declared.durable.Durable.{Durable}
 use Rattle.op_runs.specs.declared.events.What.{What}
 use Rattle.op_runs.specs.declared.events.What.TheVariants as what
@@ -18,28 +19,31 @@ use Rattle.op_runs.specs.Possible.{proposals_of}
 use Rattle.op_refinement.proofs.Proposed.{proposal, proposals, proposals-length}
 use Rattle.op_protocol.specs.Starting.{state_after_restart, sends_after_restart}
 use Rattle.op_runs.specs.World as product
-use Rattle.op_runs.specs.World.{Node, NodeStatus, Up, Down, Failed, Sent, sent_by, node_at, with_node, Deed, Doing, Steps, Stops, Opens, Tells, Told, deed_of, delivery, world_with, world_at_node, world_by_status, world_if_up, world_if_down, world_if_failed, world_by_fate, world_opening, world_reopening}
+use Rattle.op_runs.specs.World.{Node, NodeStatus, Up, Down, Failed, Sent, sent_by, node_at, with_node, Deed, Doing, Steps, Stops, Opens, Tells, Told, deed_of, delivery, world_with, world_at_node, world_by_status, world_by_fate, world_opening, world_reopening, world_observed}
 use Rattle.op_runs.specs.Run.{Execution, execution_with, machine_showing_all, machine_proposing_by, machine_proposing_at, machine_proposing_if, machine_proposing_input}
 use Rattle.op_configurations.specs.Servers as server
 use Rattle.op_configurations.specs.Servers.{State, Letter, Fate, Done, Stopped, Event, letter}
 use Rattle.op_configurations.specs.Worlds as worlds
-use Rattle.op_configurations.specs.Worlds.{Life, Running, Server, World, Happening, actor, proposed_by, machine_of}
+use Rattle.op_configurations.specs.Worlds.{Life, Running, Server, World, Happening, start, actor, proposed_by, machine_of}
 use Rattle.op_refinement.proofs.View.{Each, Each-append}
 use Rattle.op_refinement.proofs.Relation.{StateRel, IfServes, AreLetters}
-use Rattle.op_refinement.proofs.Letters.{IfLetter, letter_at}
+use Rattle.op_refinement.proofs.Letters.{IfLetter, letter_at, letters-append}
 use Rattle.op_protocol.specs.Reading.{leading_at}
 use Rattle.op_protocol.proofs.Asked.{takes_read}
 use Rattle.op_refinement.proofs.Inputs.{event_of, ballot_at, asks_some_at, tick_event, is_past, long_in, read_as, proposal_event}
 use Rattle.op_refinement.proofs.Steps.{AllRead, StepsGo}
-use Rattle.op_refinement.proofs.Worlds.{lists_of, world_of, state_of, state_on, serves_on, facts_of}
-use Rattle.op_refinement.proofs.Beside.{IfSent, IfStatus, StoppedAs, Between, NodeRel, IsBeside, Goes, beside_moved}
-use Rattle.op_refinement.proofs.NodeLists.{IfThere, found, with-kept}
+use Rattle.op_refinement.proofs.Worlds.{lists_of, world_of, state_of, state_on, serves_on, letters_on, facts_of}
+use Rattle.op_refinement.proofs.Observing.{AddsAsks, observed_adds, asks_letters, none_apart, notes_late, notes_to, notes_same}
+use Rattle.op_refinement.proofs.Beside.{IfSent, IfStatus, StoppedAs, Between, NodeRel, IsBeside, Goes, other_rel, beside_moved, start_runs}
+use Rattle.op_refinement.proofs.NodeLists.{IfThere, Each-map, Each-both, found, with-kept, node_at-here}
 use Rattle.op_refinement.proofs.PureMoves.{GoesTo, late_of, happening_of, IfReads, goes_none, stopped_goes}
 use Rattle.op_refinement.proofs.NodeSteps.{storing, IsHalted, done_to, done_said, done_rel, stopped_to, stopped_rel}
 use Rattle.op_refinement.proofs.Openings.{open_goes, open_said, open_rel}
 use Rattle.op_refinement.proofs.Finds.{Found, finds_before, finds_after}
 use Rattle.op_refinement.proofs.Machines.{all_same, moved_same, moved_shows}
 use Rattle.op_refinement.proofs.Proposals.{proposed_first, proposals_late}
+use Rattle.op_protocol.specs.Watched.{is_watching, watch_answers}
+use Rattle.op_refinement.proofs.Inputs.{noted}
 
 -- what is proposed is fine, as far as bases are read back
 abbrev pub IsFine : (Entry → Type 0) → Happening → Type 0
@@ -93,6 +97,9 @@ none_deed x e = cc
 
 same_node : (x y : Node) → Some x ≡ Some y → x ≡ y
 same_node x y e = cc
+
+some_none_node : (x : Node) → Some x ≡ None → ⊥
+some_none_node x e = cc
 
 none_node : (x : Node) → None ≡ Some x → ⊥
 none_node x e = cc
@@ -193,6 +200,7 @@ module _ (go : StepsGo) (Fine : Entry → Type 0) (reads : FineRuns Fine) (first
         nodes = rels;
         apart = (b.beside).apart;
         letters = (b.beside).letters;
+        elsewhere = (b.beside).elsewhere;
       };
       fine = b.fine;
       short = omega (arith, b.short);
@@ -208,11 +216,15 @@ module _ (go : StepsGo) (Fine : Entry → Type 0) (reads : FineRuns Fine) (first
     abbrev p : ℕ
     p = n.pid
 
+    -- it is found then
+    here : (new : Node) → new.pid ≡ p → (q : ℕ) → q ≡ new.pid → node_at (with_node t.world.nodes new) q ≡ None → ⊥
+    here new own q e none = some_none_node new (sym (node_at-here t.world.nodes new n (ap (node_at t.world.nodes) own ∙ at)) ∙ ap (node_at (with_node t.world.nodes new)) (sym e) ∙ none)
+
     -- with this happening
     moves_with : (h : Happening) (sv : Server) (sends : List Letter) → (g : GoesTo first ks (h ∷ []) p sv sends) → actor (world_of first ks) h ≡ Some p → IsFine Fine h → length (proposal h) ≤ size → By (h ∷ [])
         → (m : Machine) → m ≡ proposed_by (machine_of first ks) (world_of first ks) h → (new : Node) → new.pid ≡ p → (more : List Sent) → AreLetters (lists_of first (ks ++ h ∷ [])) more sends
         → NodeRel first (ks ++ h ∷ []) (t.world.messages ++ more) new → (lines : List Line)
-        → After ph (record { world = record { nodes = with_node t.world.nodes new; messages = t.world.messages ++ more; lines = lines }; machine = machine_showing_all m (with_node t.world.nodes new) })
+        → After ph (record { world = record t.world { nodes = with_node t.world.nodes new; messages = t.world.messages ++ more; lines = lines }; machine = machine_showing_all m (with_node t.world.nodes new) })
     moves_with h sv sends g acts fine little by m is new own more said rel lines =
         let said' : AreLetters (lists_of first (ks ++ h ∷ [])) more (g.goes).sends = subst (λ (ms : List Letter). AreLetters (lists_of first (ks ++ h ∷ [])) more ms) (sym g.is) said in
         let shows = moved_shows first ks t.world.messages t.world.nodes (b.beside).apart rels h new n (ap (node_at t.world.nodes) own ∙ at) (subst (λ (q : ℕ). Goes first ks (h ∷ []) q) (sym own) g.goes) (acts ∙ ap Some (sym own)) (t.world.messages ++ more) rel in
@@ -224,7 +236,7 @@ module _ (go : StepsGo) (Fine : Entry → Type 0) (reads : FineRuns Fine) (first
           by = by;
           beside = record {
             happenings = ks ++ h ∷ [];
-            beside = beside_moved first ks (h ∷ []) p g.goes t b.beside new own more said' rel lines _ (ap (λ (x : Machine). machine_showing_all x (with_node t.world.nodes new)) is ∙ shows);
+            beside = beside_moved first ks (h ∷ []) p g.goes t b.beside new (here new own) own more said' rel lines _ (ap (λ (x : Machine). machine_showing_all x (with_node t.world.nodes new)) is ∙ shows);
             fine = Each-append (IsFine Fine) ks (h ∷ []) b.fine (fine, tt);
             short = omega (arith, b.short, little, one_proposes ks h);
           };
@@ -233,7 +245,7 @@ module _ (go : StepsGo) (Fine : Entry → Type 0) (reads : FineRuns Fine) (first
     -- with none
     moves_alone : (sv : Server) (sends : List Letter) (g : GoesTo first ks [] p sv sends) → By [] → (m : Machine) → m ≡ t.machine → (new : Node) → new.pid ≡ p → (more : List Sent) → AreLetters (lists_of first (ks ++ [])) more (g.goes).sends
         → NodeRel first (ks ++ []) (t.world.messages ++ more) new → (lines : List Line)
-        → After ph (record { world = record { nodes = with_node t.world.nodes new; messages = t.world.messages ++ more; lines = lines }; machine = machine_showing_all m (with_node t.world.nodes new) })
+        → After ph (record { world = record t.world { nodes = with_node t.world.nodes new; messages = t.world.messages ++ more; lines = lines }; machine = machine_showing_all m (with_node t.world.nodes new) })
     moves_alone sv sends g by m is new own more said rel lines =
         let same : ks ++ [] ≡ ks = append-nil ks in
         let rel' : NodeRel first ks (t.world.messages ++ more) new = subst (λ (hs : List Happening). NodeRel first hs (t.world.messages ++ more) new) same rel in
@@ -246,7 +258,7 @@ module _ (go : StepsGo) (Fine : Entry → Type 0) (reads : FineRuns Fine) (first
           by = by;
           beside = record {
             happenings = ks ++ [];
-            beside = beside_moved first ks [] p g.goes t b.beside new own more said rel lines _ (ap (λ (x : Machine). machine_showing_all x (with_node t.world.nodes new)) (is ∙ machine_is) ∙ shows ∙ ap (machine_of first) (sym same));
+            beside = beside_moved first ks [] p g.goes t b.beside new (here new own) own more said rel lines _ (ap (λ (x : Machine). machine_showing_all x (with_node t.world.nodes new)) (is ∙ machine_is) ∙ shows ∙ ap (machine_of first) (sym same));
             fine = Each-append (IsFine Fine) ks [] b.fine tt;
             short = omega (arith, b.short, ap (λ (hs : List Happening). length (proposals hs)) (append-nil ks));
           };
@@ -260,7 +272,7 @@ module _ (go : StepsGo) (Fine : Entry → Type 0) (reads : FineRuns Fine) (first
 
     moves : (late : List Happening) → IsOne late → By late → (sv : Server) (sends : List Letter) (g : GoesTo first ks late p sv sends) → (m : Machine) → m ≡ proposed_first (machine_of first ks) (world_of first ks) late
         → (new : Node) → new.pid ≡ p → (more : List Sent) → AreLetters (lists_of first (ks ++ late)) more sends → NodeRel first (ks ++ late) (t.world.messages ++ more) new → (lines : List Line)
-        → After ph (record { world = record { nodes = with_node t.world.nodes new; messages = t.world.messages ++ more; lines = lines }; machine = machine_showing_all m (with_node t.world.nodes new) })
+        → After ph (record { world = record t.world { nodes = with_node t.world.nodes new; messages = t.world.messages ++ more; lines = lines }; machine = machine_showing_all m (with_node t.world.nodes new) })
     moves [] one by sv sends g m is new own more said rel lines =
         moves_alone sv sends g by m (is ∙ sym machine_is) new own more (subst (λ (ms : List Letter). AreLetters (lists_of first (ks ++ [])) more ms) (sym g.is) said) rel lines
     moves (h ∷ []) one by sv sends g m is new own more said rel lines = moves_with h sv sends g one.0 one.1 one.2 by m is new own more said rel lines
@@ -301,13 +313,17 @@ module _ (go : StepsGo) (Fine : Entry → Type 0) (reads : FineRuns Fine) (first
           ticking true = tt
           ticking false = tt
 
+          watched : (xs : List (ℕ × ℕ)) (a c : Bool) (t : Option ℕ) → IfFine (cond a (Some (server.Notes xs)) (cond c None (Some (read_as i l t))))
+          watched xs true c t = tt
+          watched xs false c t = delivered c t
+
           asking : (c : Bool) → IfFine (cond c (Some (server.Ticks None)) None)
           asking true = tt
           asking false = tt
 
           by : (y : Input) → InputIsFine Fine size y → IfFine (event_of p n.state i l y)
           by input.Tick f = ticking (asks_some_at p n.state.durable.part n.state.durable.joining n.state.volatile)
-          by (input.Deliver q msg) f = delivered (is_past n.state.durable.part n.state.durable.joining msg) (long_in n.state.durable msg)
+          by (input.Deliver q msg) f = watched (noted (watch_answers n.state.durable q msg.conf msg.body)) (is_watching msg.body) (is_past n.state.durable.part n.state.durable.joining msg) (long_in n.state.durable msg)
           by (input.Commands cs) f = proposed (entries_of cs) (refusal_of p n.state.volatile.role n.state.durable (entries_of cs)) f
           by (input.Stop members) f = proposed (entry.Stop (stop_for n.state.durable.part members) ∷ []) (refusal_of p n.state.volatile.role n.state.durable (entry.Stop (stop_for n.state.durable.part members) ∷ [])) ((f.0 (stop_for n.state.durable.part members), tt), f.1)
           by input.TrimNow f = tt
@@ -324,6 +340,7 @@ module _ (go : StepsGo) (Fine : Entry → Type 0) (reads : FineRuns Fine) (first
       one_event f server.Trims r k = (refl, tt, omega arith)
       one_event f (server.Links q) r k = (refl, tt, omega arith)
       one_event f (server.Unlinks q) r k = (refl, tt, omega arith)
+      one_event f (server.Notes xs) r k = (refl, tt, omega arith)
 
       one_late : (f : Fate) (o : Option Event) → IfReads first ks p running o → IfFine o → IsOne (late_of first ks p running f o)
       one_late Done None r k = tt
@@ -341,7 +358,7 @@ module _ (go : StepsGo) (Fine : Entry → Type 0) (reads : FineRuns Fine) (first
 
       pub step_done : By (late Done) → (lines : List Line)
           → After ph (record {
-            world = record { nodes = with_node t.world.nodes (Rattle.op_refinement.proofs.NodeSteps.done go first ks t.world.messages (b.beside).letters n k running x i l sent); messages = t.world.messages ++ sent_by p (step_plan p n.state x).sends; lines = lines };
+            world = record t.world { nodes = with_node t.world.nodes (Rattle.op_refinement.proofs.NodeSteps.done go first ks t.world.messages (b.beside).letters n k running x i l sent); messages = t.world.messages ++ sent_by p (step_plan p n.state x).sends; lines = lines };
             machine = machine_showing_all (machine_proposing_input t.machine p n.state x) (with_node t.world.nodes (Rattle.op_refinement.proofs.NodeSteps.done go first ks t.world.messages (b.beside).letters n k running x i l sent));
           })
       step_done by lines =
@@ -353,7 +370,7 @@ module _ (go : StepsGo) (Fine : Entry → Type 0) (reads : FineRuns Fine) (first
       -- the node stops or fails inside it
       pub step_stopped : (status : NodeStatus) → IsHalted go first ks t.world.messages (b.beside).letters n k running x i l sent status → By (late Stopped) → (lines : List Line)
           → After ph (record {
-            world = record { nodes = with_node t.world.nodes (record n { status = status }); messages = t.world.messages ++ []; lines = lines };
+            world = record t.world { nodes = with_node t.world.nodes (record n { status = status }); messages = t.world.messages ++ []; lines = lines };
             machine = machine_showing_all (machine_proposing_input t.machine p n.state x) (with_node t.world.nodes (record n { status = status }));
           })
       step_stopped status halted by lines =
@@ -364,7 +381,7 @@ module _ (go : StepsGo) (Fine : Entry → Type 0) (reads : FineRuns Fine) (first
     -- ---- a crash
     pub crashed : ((world_of first ks).servers p).life ≡ Running → By (worlds.Stops p ∷ []) → (lines : List Line)
         → After ph (record {
-          world = record { nodes = with_node t.world.nodes (record n { status = Down n.state.durable }); messages = t.world.messages ++ []; lines = lines };
+          world = record t.world { nodes = with_node t.world.nodes (record n { status = Down n.state.durable }); messages = t.world.messages ++ []; lines = lines };
           machine = machine_showing_all t.machine (with_node t.world.nodes (record n { status = Down n.state.durable }));
         })
     crashed running by lines =
@@ -382,7 +399,7 @@ module _ (go : StepsGo) (Fine : Entry → Type 0) (reads : FineRuns Fine) (first
     -- ---- another status, of a node whose server is down and stays so
     pub restatused : (status : NodeStatus) → IfStatus t.world.messages (world_of first ks).soup p n.state status ((world_of first ks).servers p).life → By [] → (lines : List Line)
         → After ph (record {
-          world = record { nodes = with_node t.world.nodes (record n { status = status }); messages = t.world.messages ++ []; lines = lines };
+          world = record t.world { nodes = with_node t.world.nodes (record n { status = status }); messages = t.world.messages ++ []; lines = lines };
           machine = machine_showing_all t.machine (with_node t.world.nodes (record n { status = status }));
         })
     restatused status is by lines =
@@ -395,7 +412,7 @@ module _ (go : StepsGo) (Fine : Entry → Type 0) (reads : FineRuns Fine) (first
     -- ---- an opening, after which these wait
     opened_with : (c : Bool) (d : Durable) → Found first ks p c d → (waiting : Waiting) → By (worlds.Opens p c ∷ []) → (lines : List Line)
         → After ph (record {
-          world = record { nodes = with_node t.world.nodes (record n { state = record (state_after_restart p d) { waiting = waiting }; status = Up }); messages = t.world.messages ++ sent_by p (sends_after_restart p d); lines = lines };
+          world = record t.world { nodes = with_node t.world.nodes (record n { state = record (state_after_restart p d) { waiting = waiting }; status = Up }); messages = t.world.messages ++ sent_by p (sends_after_restart p d); lines = lines };
           machine = machine_showing_all t.machine (with_node t.world.nodes (record n { state = record (state_after_restart p d) { waiting = waiting }; status = Up }));
         })
     opened_with c d y waiting by lines =
@@ -406,7 +423,7 @@ module _ (go : StepsGo) (Fine : Entry → Type 0) (reads : FineRuns Fine) (first
 
     pub opened : (after : Durable) → StoppedAs t.world.messages (world_of first ks).soup p n.state after ((world_of first ks).servers p).life → (c : Bool) (waiting : Waiting) → By (worlds.Opens p c ∷ []) → (lines : List Line)
         → After ph (record {
-          world = record { nodes = with_node t.world.nodes (record n { state = record (state_after_restart p (cond c after n.state.durable)) { waiting = waiting }; status = Up }); messages = t.world.messages ++ sent_by p (sends_after_restart p (cond c after n.state.durable)); lines = lines };
+          world = record t.world { nodes = with_node t.world.nodes (record n { state = record (state_after_restart p (cond c after n.state.durable)) { waiting = waiting }; status = Up }); messages = t.world.messages ++ sent_by p (sends_after_restart p (cond c after n.state.durable)); lines = lines };
           machine = machine_showing_all t.machine (with_node t.world.nodes (record n { state = record (state_after_restart p (cond c after n.state.durable)) { waiting = waiting }; status = Up }));
         })
     opened after s true waiting by lines = opened_with true after (finds_after go first ks t.world.messages (b.beside).letters n k after s (read_late (worlds.Opens p true ∷ []) (refl, tt, omega arith))) waiting by lines
@@ -418,8 +435,8 @@ module _ (go : StepsGo) (Fine : Entry → Type 0) (reads : FineRuns Fine) (first
     abbrev Goes_on : product.World → Machine → Type 0
     Goes_on w m = After ph (record { world = w; machine = machine_showing_all m w.nodes })
 
-    nothing_sent : (nodes : List Node) (lines : List Line) (m : Machine) → Goes_on (record { nodes = nodes; messages = t.world.messages ++ []; lines = lines }) m → Goes_on (record { nodes = nodes; messages = t.world.messages; lines = lines }) m
-    nothing_sent nodes lines m y = subst (λ (ms : List Sent). Goes_on (record { nodes = nodes; messages = ms; lines = lines }) m) (append-nil t.world.messages) y
+    nothing_sent : (nodes : List Node) (lines : List Line) (m : Machine) → Goes_on (record t.world { nodes = nodes; messages = t.world.messages ++ []; lines = lines }) m → Goes_on (record t.world { nodes = nodes; messages = t.world.messages; lines = lines }) m
+    nothing_sent nodes lines m y = subst (λ (ms : List Sent). Goes_on (record t.world { nodes = nodes; messages = ms; lines = lines }) m) (append-nil t.world.messages) y
 
     -- the input, with its number and its letter
     record Sending (x : Input) : Type 0 where
@@ -536,15 +553,81 @@ module _ (go : StepsGo) (Fine : Entry → Type 0) (reads : FineRuns Fine) (first
   IfDoingIs None = Unit {0}
   IfDoingIs (Some x) = DoingIs Fine size t.world.messages x.pid x.doing
 
+  -- what is done at an id that no node has: an observer asks, or nothing is sent
+  module _ (h : product.Happening) (pid : ℕ) (at : node_at t.world.nodes pid ≡ None) (d : Doing) (is : deed_of t.world.messages h.event.what ≡ Some (record { pid = pid; doing = d })) where
+    abbrev v : product.World
+    v = record (world_observed (Some (record { pid = pid; doing = d })) h t.world) { nodes = t.world.nodes; members = t.world.members }
+
+    runs : ((world_of first ks).servers pid).life ≡ Running
+    runs = ap (λ (sv : Server). sv.life) ((b.beside).elsewhere pid at) ∙ start_runs first pid
+
+    module _ (a : AddsAsks t.world (world_observed (Some (record { pid = pid; doing = d })) h t.world) pid) where
+      abbrev said : Happening
+      said = notes_late first ks pid runs (noted a.sends)
+
+      abbrev more : List Sent
+      more = sent_by pid a.sends
+
+      abbrev goes_late : Goes first ks (said ∷ []) pid
+      goes_late = (notes_to first ks pid runs (noted a.sends)).goes
+
+      rels_late : Each (NodeRel first (ks ++ said ∷ []) (t.world.messages ++ more)) t.world.nodes
+      rels_late = Each-map (λ j. (j.pid ≡ pid → ⊥) × NodeRel first ks t.world.messages j) (NodeRel first (ks ++ said ∷ []) (t.world.messages ++ more))
+          (λ j x. other_rel first ks (said ∷ []) pid goes_late t.world.messages more j x.0 x.1) t.world.nodes
+          (Each-both (λ j. j.pid ≡ pid → ⊥) (NodeRel first ks t.world.messages) t.world.nodes (none_apart t.world.nodes pid at) rels)
+
+      letters_late : AreLetters (lists_of first (ks ++ said ∷ [])) (t.world.messages ++ more) (world_of first (ks ++ said ∷ [])).soup
+      letters_late =
+          subst (λ (soup : List Letter). AreLetters (lists_of first (ks ++ said ∷ [])) (t.world.messages ++ more) soup)
+          (sym (goes_late.soup ∙ ap (λ (ms : List Letter). (world_of first ks).soup ++ ms) (notes_to first ks pid runs (noted a.sends)).is))
+          (letters-append (lists_of first (ks ++ said ∷ [])) t.world.messages more (world_of first ks).soup (server.notes pid (noted a.sends)) (letters_on first ks (said ∷ []) t.world.messages (b.beside).letters)
+          (asks_letters (lists_of first (ks ++ said ∷ [])) pid a.sends a.asks))
+
+      abbrev living : Life → Server
+      living l = record { state = state_of first ks pid; life = l }
+
+      was : living Running ≡ (world_of first ks).servers pid
+      was = ap living (sym runs)
+
+      elsewhere_late : (q : ℕ) → node_at t.world.nodes q ≡ None → (world_of first (ks ++ said ∷ [])).servers q ≡ (start first).servers q
+      elsewhere_late q none =
+          ⊎_elim
+          (λ (e : q ≡ pid). ap (λ (r : ℕ). (world_of first (ks ++ said ∷ [])).servers r) e ∙ (notes_to first ks pid runs (noted a.sends)).here
+          ∙ was ∙ (b.beside).elsewhere pid at ∙ ap (λ (r : ℕ). (start first).servers r) (sym e))
+          (λ (n : q ≡ pid → ⊥). goes_late.others q n ∙ (b.beside).elsewhere q none)
+          (cases_eq q pid)
+
+      observed : Next_is h v t.machine
+      observed = record {
+        late = said ∷ [];
+        few = inr (said, refl);
+        is = refl;
+        kept = λ pid e. e;
+        by = record {
+          steps = λ e m x is' at' up doing. absurd (none_node m (sym at ∙ ap (λ (y : Deed). node_at t.world.nodes y.pid) (same_deed (record { pid = pid; doing = d }) e (sym is ∙ is')) ∙ at'));
+          still = λ e m is' at' up calm. absurd (none_node m (sym at ∙ ap (λ (y : Deed). node_at t.world.nodes y.pid) (same_deed (record { pid = pid; doing = d }) e (sym is ∙ is')) ∙ at'));
+          actor_is = λ y l. (record { pid = pid; doing = d }, is, ap (actor (world_of first ks)) (sym (same_one said y l)));
+        };
+        beside = record {
+          happenings = ks ++ said ∷ [];
+          beside = record {
+            machine = ap (λ (x : Machine). machine_showing_all x t.world.nodes) (machine_is ∙ sym (notes_same first ks pid runs (noted a.sends)))
+                ∙ all_same first (ks ++ said ∷ []) (t.world.messages ++ more) t.world.nodes (b.beside).apart rels_late;
+            nodes = subst (λ (ms : List Sent). Each (NodeRel first (ks ++ said ∷ []) ms) t.world.nodes) (sym a.messages) rels_late;
+            apart = (b.beside).apart;
+            letters = subst (λ (ms : List Sent). AreLetters (lists_of first (ks ++ said ∷ [])) ms (world_of first (ks ++ said ∷ [])).soup) (sym a.messages) letters_late;
+            elsewhere = elsewhere_late;
+          };
+          fine = Each-append (IsFine Fine) ks (said ∷ []) b.fine (tt, tt);
+          short = omega (arith, b.short, one_proposes ks said);
+        };
+      }
+
   at_node : (h : product.Happening) (pid : ℕ) (o : Option Node) → node_at t.world.nodes pid ≡ o → IfThere (NodeRel first ks t.world.messages) pid o → (d : Doing) → deed_of t.world.messages h.event.what ≡ Some (record { pid = pid; doing = d })
       → DoingIs Fine size t.world.messages pid d → Next_is h (world_at_node o d h t.world) (machine_proposing_at t.machine o d)
   at_node h pid None at r d is f =
-      stays h
-      (record {
-        steps = λ e m x is' at' up doing. absurd (none_node m (sym at ∙ ap (λ (y : Deed). node_at t.world.nodes y.pid) (same_deed (record { pid = pid; doing = d }) e (sym is ∙ is')) ∙ at'));
-        still = λ e m is' at' up calm. refl;
-        actor_is = λ y l. absurd (no_one y l);
-      }) t.world.lines t.machine refl
+      subst (λ (o : Option Deed). Next_is h (record (world_observed o h t.world) { nodes = t.world.nodes; members = t.world.members }) t.machine) (sym is)
+      (observed h pid at d is (observed_adds t.world (record { pid = pid; doing = d }) h))
   at_node h pid (Some n) at r d is f =
       by_status h n (ap (node_at t.world.nodes) r.0 ∙ at) r.1 n.status refl (r.1).status d (is ∙ ap (λ (q : ℕ). Some (record { pid = q; doing = d })) (sym r.0)) (subst (λ (q : ℕ). DoingIs Fine size t.world.messages q d) (sym r.0) f)
 

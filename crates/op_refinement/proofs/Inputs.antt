@@ -1,7 +1,5 @@
 -- Each input of a node is an event of the server, or nothing that the pure machine sees; and the step goes with it.
 use Rattle.std.proofs.Common.{◌≡◌, ◌<◌, ◌⊎◌, inr, ℕ, ◌-◌, ◌+◌, Bool, true, false, not, cond, ◌&&◌, eqb, leb, is_some, List, [], ◌∷◌, ◌++◌, length, take, Option, Some, None, refl, sym, ap, ◌∙◌, subst, arith, length-take}
-use Rattle.std.specs.Prelude.{IfSome}
-use Rattle.std.specs.Set.{is_member}
 use Rattle.std.proofs.Math.ListN.{drop_of_length-le}
 use Rattle.op_types.specs.Stops.{stop_at_end}
 use Rattle.op_types.specs.Stages.{Pieces}
@@ -30,7 +28,8 @@ use Rattle.op_protocol.specs.State.{Volatile, Waiting, PartStep, Planned}
 use Rattle.op_protocol.specs.Serving.{dropping}
 use Rattle.op_protocol.specs.Parts.{is_admitted_body, part_after, decided_since}
 use Rattle.op_protocol.specs.Configurations.{closing_from, closing}
-use Rattle.op_protocol.specs.Rows.{refusal_of, stop_for, entries_of, planned, plan_of, newly_decided, step_plan, trim_at, step_at, waiting_at}
+use Rattle.op_protocol.specs.Watched.{is_watching, watch_answers}
+use Rattle.op_protocol.specs.Rows.{refusal_of, stop_for, entries_of, planned, plan_of, newly_decided, trim_at}
 use Rattle.op_protocol.specs.Reading.{leading_at}
 use Rattle.op_protocol.specs.Heartbeats.{has_replied}
 use Rattle.op_protocol.proofs.Asked.{takes_read}
@@ -39,7 +38,7 @@ use Rattle.op_runs.specs.World.{sent_by}
 use Rattle.op_paxos.specs.Steps.{IsQuiet}
 use Rattle.op_paxos.proofs.StepKeeping.{quiet_keeps_vote}
 use Rattle.op_configurations.specs.Servers as server
-use Rattle.op_configurations.specs.Servers.{Part, Closed, Joining, State, Letter, Fate, Done, Stopped, Stepped, Event, fated, decided_list, says, unchanged, acted, acted_in}
+use Rattle.op_configurations.specs.Servers.{Part, Closed, State, Letter, Fate, Stepped, Event, fated, decided_list, says, unchanged, acted}
 use Rattle.op_configurations.specs.Worlds.{inner_of}
 use Rattle.op_configurations.proofs.PartFacts.{Comable, PartIs}
 use Rattle.op_refinement.proofs.Pure as pure
@@ -109,12 +108,22 @@ read_as n m (Some total) = server.ReadsLong n total m
 abbrev pub delivery_event : table.State → ℕ → Letter → Msg → Option ℕ → Option Event
 delivery_event s n m msg o = cond (is_past s.durable.part s.durable.joining msg) None (Some (read_as n m o))
 
+-- whom messages go to, and of which configuration they are
+abbrev pub noted : List (ℕ × Msg) → List (ℕ × ℕ)
+noted [] = []
+noted (s ∷ sends) = (s.0, s.1.conf) ∷ noted sends
+
+-- what an observer asks is answered by letters that have no effect on servers
+abbrev pub message_event : table.State → ℕ → Letter → ℕ → Msg → Option Event
+message_event s n m q msg =
+    cond (is_watching msg.body) (Some (server.Notes (noted (watch_answers s.durable q msg.conf msg.body)))) (delivery_event s n m msg (long_in s.durable msg))
+
 -- The event that an input is, where a message is this letter, of this number. A leader that takes a read asks its
 -- members as a tick does.
 abbrev pub event_of : ℕ → table.State → ℕ → Letter → Input → Option Event
 event_of me s n m input.Tick =
     Some (tick_event (asks_some_at me s.durable.part s.durable.joining s.volatile) (ballot_at me s.durable.part s.durable.joining s.volatile) s.volatile.heard)
-event_of me s n m (input.Deliver q msg) = delivery_event s n m msg (long_in s.durable msg)
+event_of me s n m (input.Deliver q msg) = message_event s n m q msg
 event_of me s n m (input.Commands cs) = proposal_event (entries_of cs) (refusal_of me s.volatile.role s.durable (entries_of cs))
 event_of me s n m (input.Stop members) = proposal_event (entry.Stop (stop_for s.durable.part members) ∷ []) (refusal_of me s.volatile.role s.durable (entry.Stop (stop_for s.durable.part members) ∷ []))
 event_of me s n m input.TrimNow = Some server.Trims

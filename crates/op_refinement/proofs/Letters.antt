@@ -1,5 +1,5 @@
 -- Messages as letters: those inside a configuration, and the news of the next one.
-use Rattle.std.proofs.Common.{◌≡◌, ◌<◌, ◌≤◌, ℕ, suc, ◌+◌, ◌-◌, Bool, true, false, not, cond, eqb, nat_eq, is_some, List, [], ◌∷◌, ◌++◌, length, drop, map, filter, Option, Some, None, refl, sym, ap, ◌∙◌, subst, arith, slice_get}
+use Rattle.std.proofs.Common.{◌≡◌, ◌<◌, ◌≤◌, ℕ, suc, ◌+◌, ◌-◌, Bool, true, false, not, cond, eqb, nat_eq, is_some, List, [], ◌∷◌, ◌++◌, length, filter, Option, Some, None, refl, sym, ap, ◌∙◌, subst, arith, slice_get}
 use Rattle.std.specs.Set.{is_member}
 use Rattle.std.proofs.lemmas.Bool.{ne_eqb, both_ways}
 use Rattle.std.proofs.lemmas.List.{length-drop}
@@ -13,7 +13,7 @@ use Rattle.op_protocol.specs.Parts.{others, to_each}
 use Rattle.op_protocol.specs.Configurations.{next_conf_body}
 use Rattle.op_runs.specs.World.{Sent, sent_by}
 use Rattle.op_configurations.specs.Servers as server
-use Rattle.op_configurations.specs.Servers.{Closed, Letter, letter, wrap, tell, next_conf, to_all}
+use Rattle.op_configurations.specs.Servers.{Closed, Letter, wrap, tell, next_conf, to_all}
 use Rattle.op_configurations.specs.Stored.{HoldsClosed}
 use Rattle.op_refinement.proofs.Pure as pure
 use Rattle.op_refinement.proofs.View.{Each, view_body, BodyIsSmall, SentIsSmall, IsInner, packet_more, packets_of, Says, sent_by-append}
@@ -58,6 +58,7 @@ said_inner lists conf (body.HeartbeatRequest round) m pos e = absurd (none_some 
 said_inner lists conf (body.HeartbeatReply round n flag) m pos e = absurd (none_some m e)
 said_inner lists conf (body.Confirm z round) m pos e = absurd (none_some m e)
 said_inner lists conf (body.Confirmed n round) m pos e = absurd (none_some m e)
+said_inner lists conf (body.Watch w) m pos e = absurd (none_some m e)
 said_inner lists conf (body.Prepare n na nl nd) m pos e = (m, e, refl)
 said_inner lists conf (body.Promise n fa fl fd s es) m pos e = (m, e, refl)
 said_inner lists conf (body.AcceptSync n x es) m pos e = (m, e, refl)

@@ -11,9 +11,9 @@ use Rattle.op_protocol.specs.State.{Volatile, Planned, state_after}
 use Rattle.op_protocol.specs.Rows.{step_plan, refusal_of, stop_for}
 use Rattle.op_runs.specs.World.{Node, NodeStatus, Up, Sent, sent_by}
 use Rattle.op_configurations.specs.Servers as server
-use Rattle.op_configurations.specs.Servers.{State, Letter, Fate, Done, Stopped, Stepped, Event}
+use Rattle.op_configurations.specs.Servers.{State, Letter, Fate, Done, Stopped, Event}
 use Rattle.op_configurations.specs.Worlds as worlds
-use Rattle.op_configurations.specs.Worlds.{Life, Running, Server, World, Happening}
+use Rattle.op_configurations.specs.Worlds.{Running, Server, Happening}
 use Rattle.op_configurations.specs.Laws.{StateStands}
 use Rattle.op_configurations.proofs.Standing.{stands, letters_stand}
 use Rattle.op_paxos.proofs.Membership.{in_from_get}
@@ -26,6 +26,8 @@ use Rattle.op_refinement.proofs.Steps.{IfComes, AllRead, StepsGo}
 use Rattle.op_refinement.proofs.Worlds.{lists_of, world_of, state_of, grows_of, letters_on, facts_of}
 use Rattle.op_refinement.proofs.Beside.{IfSent, IfStatus, StoppedAs, Inside, NodeRel}
 use Rattle.op_refinement.proofs.PureMoves.{GoesTo, late_of, IfReads, done_goes, stopped_goes}
+use Rattle.op_protocol.specs.Watched.{is_watching, watch_answers}
+use Rattle.op_refinement.proofs.Inputs.{noted}
 
 module _ (go : StepsGo) (first : List ℕ) (ks : List Happening) (messages : List Sent) (letters : AreLetters (lists_of first ks) messages (world_of first ks).soup)
     (n : Node) (k : NodeRel first ks messages n) (x : Input) (i : ℕ) (m : Letter) (sent : IfSent messages (world_of first ks).soup n.pid i m x) where
@@ -106,7 +108,11 @@ module _ (go : StepsGo) (first : List ℕ) (ks : List Happening) (messages : Lis
 
       by : (y : Input) → IfSent messages (world_of first ks).soup own i m y → IfReads first ks own running (event_of own n.state i m y)
       by input.Tick s = ticking (asks_some_at own n.state.durable.part n.state.durable.joining n.state.volatile)
-      by (input.Deliver q msg) s = delivered q msg s (is_past n.state.durable.part n.state.durable.joining msg) (long_in n.state.durable msg)
+      by (input.Deliver q msg) s = watched (is_watching msg.body)
+        where
+          watched : (a : Bool) → IfReads first ks own running (cond a (Some (server.Notes (noted (watch_answers n.state.durable q msg.conf msg.body)))) (cond (is_past n.state.durable.part n.state.durable.joining msg) None (Some (read_as i m (long_in n.state.durable msg)))))
+          watched true = tt
+          watched false = delivered q msg s (is_past n.state.durable.part n.state.durable.joining msg) (long_in n.state.durable msg)
       by (input.Commands cs) s = proposed _ (refusal_of own n.state.volatile.role n.state.durable (Rattle.op_protocol.specs.Rows.entries_of cs))
       by (input.Stop members) s = proposed _ (refusal_of own n.state.volatile.role n.state.durable (Rattle.op_types.specs.declared.log.Entry.TheVariants.Stop (stop_for n.state.durable.part members) ∷ []))
       by input.TrimNow s = tt

@@ -8,14 +8,14 @@ use Rattle.op_types.specs.declared.log.Entry.{Entry}
 use Rattle.op_types.specs.declared.messages.Body.{Body}
 use Rattle.op_types.specs.declared.messages.Body.TheVariants as body
 use Rattle.op_protocol.specs.State as table
-use Rattle.op_protocol.specs.State.{Volatile, PartStep, Planned, with_effects}
+use Rattle.op_protocol.specs.State.{Volatile, PartStep, with_effects}
 use Rattle.op_protocol.specs.Parts.{message, saying}
 use Rattle.op_protocol.specs.Tick.{remembering}
 use Rattle.op_protocol.specs.Configurations.{latest_of, latest_in as stored_latest_in, latest_members}
 use Rattle.op_protocol.specs.Rows.{is_of_joining, may_be_above, is_prepare_req, on_older, on_newer, plan_of}
 use Rattle.op_runs.specs.World.{sent_by}
 use Rattle.op_configurations.specs.Servers as server
-use Rattle.op_configurations.specs.Servers.{Part, Closed, Joining, State, Letter, Fate, Stepped, letter, says, unchanged, acted}
+use Rattle.op_configurations.specs.Servers.{Part, Closed, Joining, State, Letter, Fate, letter, says, unchanged, acted}
 use Rattle.op_configurations.specs.Worlds.{inner_of}
 use Rattle.op_configurations.specs.Stored.{HoldsIfClosed}
 use Rattle.op_refinement.proofs.Pure as pure
@@ -34,6 +34,7 @@ ahead_same lists conf (body.HeartbeatRequest r) y i = ap server.is_ahead (sym i)
 ahead_same lists conf (body.HeartbeatReply r n f) y i = ap server.is_ahead (sym i)
 ahead_same lists conf (body.Confirm z r) y i = ap server.is_ahead (sym i)
 ahead_same lists conf (body.Confirmed n r) y i = ap server.is_ahead (sym i)
+ahead_same lists conf (body.Watch w) y i = ap server.is_ahead (sym i)
 ahead_same lists conf (body.Prepare n na nl nd) y i = ap server.is_ahead (sym i.2)
 ahead_same lists conf (body.Promise n fa fl fd s es) y i = ap server.is_ahead (sym i.2)
 ahead_same lists conf (body.AcceptSync n x es) y i = ap server.is_ahead (sym i.2)
@@ -75,6 +76,7 @@ view_request (body.HeartbeatRequest r) x e f = absurd (none_some x e)
 view_request (body.HeartbeatReply r n g) x e f = absurd (none_some x e)
 view_request (body.Confirm z r) x e f = absurd (none_some x e)
 view_request (body.Confirmed n r) x e f = absurd (none_some x e)
+view_request (body.Watch w) x e f = absurd (none_some x e)
 view_request (body.Prepare n na nl nd) x e f = ap asks_for (sym e)
 view_request (body.Promise n fa fl fd s es) x e f = ap asks_for (sym e)
 view_request (body.AcceptSync n y es) x e f = ap asks_for (sym e)
@@ -103,6 +105,7 @@ request_same lists conf (body.HeartbeatRequest r) y pos n i = ap server.is_reque
 request_same lists conf (body.HeartbeatReply r z f) y pos n i = ap server.is_request (sym i)
 request_same lists conf (body.Confirm z r) y pos n i = ap server.is_request (sym i)
 request_same lists conf (body.Confirmed z r) y pos n i = ap server.is_request (sym i)
+request_same lists conf (body.Watch w) y pos n i = ap server.is_request (sym i)
 request_same lists conf (body.Prepare z na nl nd) y pos n i = sym (view_request (body.Prepare z na nl nd) i.0 i.1 refl) ∙ ap server.is_request (sym i.2)
 request_same lists conf (body.Promise z fa fl fd s es) y pos n i = sym (view_request (body.Promise z fa fl fd s es) i.0 i.1 refl) ∙ ap server.is_request (sym i.2)
 request_same lists conf (body.AcceptSync z x es) y pos n i = sym (view_request (body.AcceptSync z x es) i.0 i.1 refl) ∙ ap server.is_request (sym i.2)

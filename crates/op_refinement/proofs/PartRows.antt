@@ -18,7 +18,7 @@ use Rattle.op_types.specs.declared.messages.Body.TheVariants as body
 use Rattle.op_types.specs.declared.verdict.Verdict.{Verdict}
 use Rattle.op_types.specs.declared.verdict.Verdict.TheVariants as verdict
 use Rattle.op_protocol.specs.State.{Volatile, PartStep, with_effects, staged_after}
-use Rattle.op_protocol.specs.Election.{Ended, round_end}
+use Rattle.op_protocol.specs.Election.{round_end}
 use Rattle.op_protocol.specs.Parts.{pending, is_admitted_body, message, nothing, saying, first, has_stop as parts_has_stop}
 use Rattle.op_protocol.specs.Leader.{lead, on_forward, on_forward_leading, session_down, propose, extends}
 use Rattle.op_protocol.specs.Tick.{candidate_of, requests, only_asks, elected, by_verdict, asks_heard, also_sending, on_tick}
@@ -162,6 +162,7 @@ module _ (packets : List pure.Packet) (me : ℕ) (front : List Entry) (p : Part)
   body_matches q (body.HeartbeatReply r b f) s a = tt
   body_matches q (body.Confirm z r) s a = tt
   body_matches q (body.Confirmed b r) s a = tt
+  body_matches q (body.Watch w) s a = tt
   body_matches q (body.Prepare n na nl nd) s a = λ c. row_matches front me p v _ _ (inl (prepare_matches front me p v.staged v.role k.fits k.small k.small_role q n na nl nd s.0 s.1))
   body_matches q (body.Promise n fa fl fd st es) s a = λ c.
       row_matches front me p v _ _ (inl (promise_matches front me p v.staged k.fits k.unended k.small v.role n (record { from = q; accepted = fa; len = fl; decided = fd; start = st; entries = es }) k.small_role s.0 s.1

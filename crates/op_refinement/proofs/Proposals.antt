@@ -28,6 +28,8 @@ use Rattle.op_protocol.proofs.Asked.{takes_read}
 use Rattle.op_refinement.proofs.Inputs.{NodeFacts, event_of, ballot_at, asks_some_at, tick_event, is_past, long_in, read_as, proposal_event, known_there}
 use Rattle.op_refinement.proofs.Worlds.{world_of, state_of}
 use Rattle.op_refinement.proofs.PureMoves.{late_of}
+use Rattle.op_protocol.specs.Watched.{is_watching, watch_answers}
+use Rattle.op_refinement.proofs.Inputs.{noted}
 
 some_none : {A : Type 0} (a : A) → Some a ≡ None → ⊥
 some_none a e = cc
@@ -118,6 +120,11 @@ module _ (lists : ℕ → List Entry) (first : List ℕ) (ks : List Happening) (
   deliver_late Stopped n x false None = refl
   deliver_late Stopped n x false (Some total) = refl
 
+  message_late : (g : Fate) (n : ℕ) (x : Letter) (xs : List (ℕ × ℕ)) (a b : Bool) (t : Option ℕ) → m ≡ proposed_first m w (late_of first ks me running g (cond a (Some (server.Notes xs)) (cond b None (Some (read_as n x t)))))
+  message_late g n x xs false b t = deliver_late g n x b t
+  message_late Done n x xs true b t = refl
+  message_late Stopped n x xs true b t = refl
+
   asking_late : (g : Fate) (b : Bool) → m ≡ proposed_first m w (late_of first ks me running g (cond b (Some (server.Ticks None)) None))
   asking_late Done true = refl
   asking_late Done false = refl
@@ -137,6 +144,8 @@ module _ (lists : ℕ → List Entry) (first : List ℕ) (ks : List Happening) (
   plain_late Stopped (server.Links q) d = refl
   plain_late Done (server.Unlinks q) d = refl
   plain_late Stopped (server.Unlinks q) d = refl
+  plain_late Done (server.Notes xs) d = refl
+  plain_late Stopped (server.Notes xs) d = refl
   plain_late Done (server.Reads n x) d = refl
   plain_late Stopped (server.Reads n x) d = refl
   plain_late Done (server.ReadsLong n total x) d = refl
@@ -148,7 +157,8 @@ module _ (lists : ℕ → List Entry) (first : List ℕ) (ks : List Happening) (
       let b : Bool = asks_some_at me s.durable.part s.durable.joining s.volatile in
       let o : Option ℕ = ballot_at me s.durable.part s.durable.joining s.volatile in
       plain_late f (tick_event b o s.volatile.heard) (λ p e. tick_differs b o s.volatile.heard p e)
-  proposals_late (input.Deliver q msg) n l = deliver_late f n l (is_past s.durable.part s.durable.joining msg) (long_in s.durable msg)
+  proposals_late (input.Deliver q msg) n l =
+      message_late f n l (noted (watch_answers s.durable q msg.conf msg.body)) (is_watching msg.body) (is_past s.durable.part s.durable.joining msg) (long_in s.durable msg)
   proposals_late (input.Commands cs) n l = entry_late (entries_of cs) (commands_end cs) (refusal_of me s.volatile.role s.durable (entries_of cs)) refl
   proposals_late (input.Stop members) n l = entry_late (entry.Stop (stop_for s.durable.part members) ∷ []) refl (refusal_of me s.volatile.role s.durable (entry.Stop (stop_for s.durable.part members) ∷ [])) refl
   proposals_late input.TrimNow n l = plain_late f server.Trims (λ p e. differ p e)

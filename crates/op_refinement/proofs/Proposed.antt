@@ -14,6 +14,7 @@ event_proposal (server.TicksAlone heard) = []
 event_proposal server.Trims = []
 event_proposal (server.Links q) = []
 event_proposal (server.Unlinks q) = []
+event_proposal (server.Notes xs) = []
 event_proposal (server.Reads n m) = []
 event_proposal (server.ReadsLong n total m) = []
 

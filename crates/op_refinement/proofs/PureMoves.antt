@@ -2,9 +2,9 @@
 use Rattle.std.proofs.Common.{◌≡◌, ℕ, Bool, false, cond, List, [], ◌∷◌, ◌++◌, Option, Some, None, refl, sym, ap, ◌∙◌, subst, slice_get, append-nil}
 use Rattle.op_paxos.proofs.Updates.{upd_at, upd_other}
 use Rattle.op_configurations.specs.Servers as server
-use Rattle.op_configurations.specs.Servers.{State, Letter, Fate, Done, Stopped, Stepped, Inside, Event}
+use Rattle.op_configurations.specs.Servers.{State, Letter, Fate, Done, Stopped, Inside, Event}
 use Rattle.op_configurations.specs.Worlds as worlds
-use Rattle.op_configurations.specs.Worlds.{Life, Running, Server, World, Happening, At, Delivers, Stops, Opens, is_letter, with_server, stepped, at_server, delivered, stops, opened, opens, happens, run, start, actor, reader}
+use Rattle.op_configurations.specs.Worlds.{Life, Running, Server, World, Happening, At, Delivers, Stops, is_letter, with_server, stepped, at_server, delivered, stops, happens, run, start}
 use Rattle.op_configurations.proofs.Standing.{run_append}
 use Rattle.op_refinement.proofs.Inputs.{step_by}
 use Rattle.op_refinement.proofs.Worlds.{world_of, state_of}
@@ -114,6 +114,7 @@ module _ (first : List ℕ) (ks : List Happening) (p : ℕ) (running : ((world_o
   event_goes f server.Trims k = goes_with first ks (At f p server.Trims) p _ _ _ (event_is f server.Trims refl)
   event_goes f (server.Links q) k = goes_with first ks (At f p (server.Links q)) p _ _ _ (event_is f (server.Links q) refl)
   event_goes f (server.Unlinks q) k = goes_with first ks (At f p (server.Unlinks q)) p _ _ _ (event_is f (server.Unlinks q) refl)
+  event_goes f (server.Notes xs) k = goes_with first ks (At f p (server.Notes xs)) p _ _ _ (event_is f (server.Notes xs) refl)
 
   -- the world after an event with its fate
   pub event_world : (f : Fate) (e : Event) → IfReads (Some e) → happens w (happening_of f e) ≡ with_server w p (left_by f e) (sent_in f e) (inside_by f e)
@@ -125,6 +126,7 @@ module _ (first : List ℕ) (ks : List Happening) (p : ℕ) (running : ((world_o
   event_world f server.Trims k = event_is f server.Trims refl
   event_world f (server.Links q) k = event_is f (server.Links q) refl
   event_world f (server.Unlinks q) k = event_is f (server.Unlinks q) refl
+  event_world f (server.Notes xs) k = event_is f (server.Notes xs) refl
 
   -- a step that is done
   pub done_goes : (e : Option Event) → IfReads e → GoesTo first ks (late_of Done e) p (record { state = (step_by Done p st e).state; life = Running }) (step_by Done p st e).sends

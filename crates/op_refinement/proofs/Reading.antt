@@ -54,6 +54,7 @@ event_was m sv p (server.TicksAlone heard) l x c i = inl (c, i)
 event_was m sv p server.Trims l x c i = inl (c, i)
 event_was m sv p (server.Links q) l x c i = inl (c, i)
 event_was m sv p (server.Unlinks q) l x c i = inl (c, i)
+event_was m sv p (server.Notes xs) l x c i = inl (c, i)
 event_was m sv p (server.Reads n y) l x c i = inl (c, i)
 event_was m sv p (server.ReadsLong n total y) l x c i = inl (c, i)
 
@@ -106,6 +107,7 @@ event_fit f p (server.TicksAlone heard) k x i = absurd i
 event_fit f p server.Trims k x i = absurd i
 event_fit f p (server.Links q) k x i = absurd i
 event_fit f p (server.Unlinks q) k x i = absurd i
+event_fit f p (server.Notes xs) k x i = absurd i
 event_fit f p (server.Reads n m) k x i = absurd i
 event_fit f p (server.ReadsLong n total m) k x i = absurd i
 

@@ -1,5 +1,5 @@
 -- Each step of a node is the step of the server.
-use Rattle.std.proofs.Common.{◌≡◌, ℕ, Bool, true, false, cond, not, ◌&&◌, eqb, List, [], ◌∷◌, Option, Some, None, refl, sym, ap, ◌∙◌, subst}
+use Rattle.std.proofs.Common.{◌≡◌, ◌⊎◌, inl, inr, ℕ, Bool, true, false, cond, not, ◌&&◌, eqb, List, [], ◌∷◌, Option, Some, None, refl, sym, ap, ◌∙◌, subst}
 use Rattle.std.proofs.lemmas.Bool.{both_ways, eqb-true, eqb-false, eq-eqb}
 use Rattle.op_types.specs.declared.durable.Part.{Part as StoredPart}
 use Rattle.op_types.specs.declared.durable.Joining.{Joining as StoredJoining}
@@ -16,7 +16,7 @@ use Rattle.op_types.specs.declared.ballot.Ballot.{Ballot}
 use Rattle.op_protocol.specs.Configurations.{latest_of, latest_in as stored_latest_in}
 use Rattle.op_protocol.specs.Rows.{refusal_of, stop_for, entries_of, table_plan, step_plan, waiting_at}
 use Rattle.op_configurations.specs.Servers as server
-use Rattle.op_configurations.specs.Servers.{Part, Closed, Joining, State, Letter, Fate, Stepped}
+use Rattle.op_configurations.specs.Servers.{Part, Joining, State, Letter, Fate, Stepped}
 use Rattle.op_configurations.specs.Laws.{StateStands}
 use Rattle.op_configurations.specs.Stored.{HoldsIfJoining}
 use Rattle.op_refinement.proofs.Pure as pure
@@ -34,6 +34,10 @@ use Rattle.op_refinement.proofs.Joining.{joins_rel}
 use Rattle.op_paxos.specs.Agreement.{IsPrefix}
 use Rattle.op_refinement.proofs.Elsewhere.{elsewhere_rel}
 use Rattle.op_refinement.proofs.WhileJoining.{while_joining}
+use Rattle.op_types.specs.declared.messages.Watch.{Watch}
+use Rattle.op_protocol.specs.Watched.{is_watching, watch_answers}
+use Rattle.op_refinement.proofs.Inputs.{noted, message_event}
+use Rattle.op_refinement.proofs.Watching.{plain_or, watch_rel}
 
 none_some : {A : Type 0} (a : A) → None ≡ Some a → ⊥
 none_some a e = cc
@@ -69,6 +73,7 @@ uncounted p (body.HeartbeatRequest r) e c = absurd (both_ways true c refl)
 uncounted p (body.HeartbeatReply r z g) e c = absurd (both_ways true c refl)
 uncounted p (body.Confirm z r) e c = record { ballot = z; number = r; says_so = refl; other = c }
 uncounted p (body.Confirmed z r) e c = absurd (both_ways true c refl)
+uncounted p (body.Watch w) e c = absurd (both_ways true c refl)
 uncounted p (body.NextConf members olds len trimmed) e c = absurd (both_ways true c refl)
 uncounted p body.AskBase e c = absurd (both_ways true c refl)
 uncounted p (body.BasePart at bytes) e c = absurd (both_ways true c refl)
@@ -87,8 +92,8 @@ module _ (first : List ℕ) (lists : ℕ → List Entry) (soup : List Letter) (m
   Delivered q msg = StepRel lists me f s.durable (table_plan me s (input.Deliver q msg)) (step_by f me st (delivery_event s n m msg None))
 
   deliver_rel : (q : ℕ) (msg : Msg) → IfComes first old lists soup me n m (input.Deliver q msg) → StateStands first lists (step_by f me st (delivery_event s n m msg None)).state
-      → long_in s.durable msg ≡ None → Delivered q msg
-  deliver_rel q msg comes a short = joins s.durable.joining refl st.joining refl (k.rel).joining
+      → long_in s.durable msg ≡ None → is_watching msg.body ≡ false → Delivered q msg
+  deliver_rel q msg comes a short votes = joins s.durable.joining refl st.joining refl (k.rel).joining
     where
       and_false : (b : Bool) → (b && false) ≡ false
       and_false true = refl
@@ -101,7 +106,7 @@ module _ (first : List ℕ) (lists : ℕ → List Entry) (soup : List Letter) (m
           (joins_rel lists soup me f s st k q hj tj (λ c e. (before.closed c e).trimmed) n msg.conf) plain
           (λ p hs at. not_false (counts_at p msg.body)
           (ap (λ (b : Bool). b && not (counts_at p msg.body)) (sym (eq-eqb msg.conf p.conf at)) ∙ ap (λ (o : Option StoredJoining). is_past (Some p) o msg) (sym hj) ∙ ap (λ (o : Option StoredPart). is_past o s.durable.joining msg) (sym hs) ∙ past))
-          short past (whole (step_by f me st (delivery_event s n m msg None)) a)
+          short votes past (whole (step_by f me st (delivery_event s n m msg None)) a)
 
       at_body : (p : StoredPart) (pt : Part) → s.durable.part ≡ Some p → st.part ≡ Some pt → PartRel (all_before lists pt.conf) p s.volatile pt → s.durable.joining ≡ None → st.joining ≡ None → msg.conf ≡ p.conf
           → (o : Option pure.Msg) → view_body msg.body ≡ o → Delivered q msg
@@ -133,21 +138,34 @@ module _ (first : List ℕ) (lists : ℕ → List Entry) (soup : List Letter) (m
 
       joins : (d : Option StoredJoining) → s.durable.joining ≡ d → (j : Option Joining) → st.joining ≡ j → HoldsIfJoining lists d j → Delivered q msg
       joins (Some d) hj None tj y = absurd y
-      joins (Some d) hj (Some j) tj y = while_joining first lists soup me f s st k read old before grown q msg n m comes.1 comes.2 d hj j tj y short a
+      joins (Some d) hj (Some j) tj y = while_joining first lists soup me f s st k read old before grown q msg n m comes.1 comes.2 d hj j tj y short votes a
       joins None hj (Some j) tj y = absurd y
       joins None hj None tj y = parts hj tj s.durable.part refl st.part refl (k.rel).part
 
   -- a delivery, whether it asks for a base in pieces or not
-  any_deliver_rel : (q : ℕ) (msg : Msg) → IfComes first old lists soup me n m (input.Deliver q msg) → (o : Option ℕ) → long_in s.durable msg ≡ o → StateStands first lists (step_by f me st (delivery_event s n m msg o)).state
+  any_deliver_rel : (q : ℕ) (msg : Msg) → IfComes first old lists soup me n m (input.Deliver q msg) → is_watching msg.body ≡ false → (o : Option ℕ) → long_in s.durable msg ≡ o → StateStands first lists (step_by f me st (delivery_event s n m msg o)).state
       → StepRel lists me f s.durable (table_plan me s (input.Deliver q msg)) (step_by f me st (delivery_event s n m msg o))
-  any_deliver_rel q msg comes None e a = deliver_rel q msg comes a e
-  any_deliver_rel q msg comes (Some total) e a = long_rel lists soup me f s st k q msg n m comes.1 (λ c h. (before.closed c h).trimmed) total e
+  any_deliver_rel q msg comes votes None e a = deliver_rel q msg comes a e votes
+  any_deliver_rel q msg comes votes (Some total) e a = long_rel lists soup me f s st k q msg n m comes.1 (λ c h. (before.closed c h).trimmed) total e
+
+  -- whatever message comes, an observer's or another
+  message_rel : (q : ℕ) (msg : Msg) → IfComes first old lists soup me n m (input.Deliver q msg) → (is_watching msg.body ≡ false) ⊎ ((w : Watch) × (msg.body ≡ body.Watch w)) → StateStands first lists (step_by f me st (message_event s n m q msg)).state
+      → StepRel lists me f s.durable (table_plan me s (input.Deliver q msg)) (step_by f me st (message_event s n m q msg))
+  message_rel q msg comes (inl votes) a =
+      let same : message_event s n m q msg ≡ delivery_event s n m msg (long_in s.durable msg) =
+      ap (λ (b : Bool). cond b (Some (server.Notes (noted (watch_answers s.durable q msg.conf msg.body)))) (delivery_event s n m msg (long_in s.durable msg))) votes in
+      subst (λ (o : Option server.Event). StepRel lists me f s.durable (table_plan me s (input.Deliver q msg)) (step_by f me st o)) (sym same)
+      (any_deliver_rel q msg comes votes (long_in s.durable msg) refl (subst (λ (o : Option server.Event). StateStands first lists (step_by f me st o).state) same a))
+  message_rel q msg comes (inr (w, e)) a =
+      let same : message_event s n m q msg ≡ Some (server.Notes (noted (watch_answers s.durable q msg.conf msg.body))) =
+      ap (λ (b : Bool). cond b (Some (server.Notes (noted (watch_answers s.durable q msg.conf msg.body)))) (delivery_event s n m msg (long_in s.durable msg))) (ap is_watching e) in
+      subst (λ (o : Option server.Event). StepRel lists me f s.durable (table_plan me s (input.Deliver q msg)) (step_by f me st o)) (sym same) (watch_rel lists soup me f s st k q msg w e)
 
   step_rel : (x : Input) → IfComes first old lists soup me n m x → StateStands first lists (step_by f me st (event_of me s n m x)).state
       → StepRel lists me f s.durable (step_plan me s x) (step_by f me st (event_of me s n m x))
   unfolding server.step
   step_rel input.Tick c a = reads_rel lists me f s input.Tick _ refl (tick_rel lists soup me f s st k (whole (step_by f me st (event_of me s n m input.Tick)) a))
-  step_rel (input.Deliver q msg) c a = reads_rel lists me f s (input.Deliver q msg) _ refl (any_deliver_rel q msg c (long_in s.durable msg) refl a)
+  step_rel (input.Deliver q msg) c a = reads_rel lists me f s (input.Deliver q msg) _ refl (message_rel q msg c (plain_or msg.body) a)
   step_rel (input.Commands cs) c a = reads_rel lists me f s (input.Commands cs) _ refl (proposal_rel lists soup me f s st k (entries_of cs) (commands_end cs) (waiting_at me s (input.Commands cs)) (refusal_of me s.volatile.role s.durable (entries_of cs)) refl (whole (step_by f me st (event_of me s n m (input.Commands cs))) a))
   step_rel (input.Stop members) c a = reads_rel lists me f s (input.Stop members) _ refl (proposal_rel lists soup me f s st k (entry.Stop (stop_for s.durable.part members) ∷ []) refl s.waiting (refusal_of me s.volatile.role s.durable (entry.Stop (stop_for s.durable.part members) ∷ [])) refl (whole (step_by f me st (event_of me s n m (input.Stop members))) a))
   step_rel input.TrimNow c a = reads_rel lists me f s input.TrimNow _ refl (trim_now_rel lists soup me f s st k (whole (step_by f me st (event_of me s n m input.TrimNow)) a))

@@ -31,7 +31,7 @@ use Rattle.op_protocol.specs.Configurations.{latest_of}
 use Rattle.op_protocol.specs.Joining.{storing, storing_news, on_base_piece, takes_piece, base_once, pieces_once, begins, is_new_donor, joins, new_entries, are_some, takes_base, takes_entries, brought_to, holds_more}
 use Rattle.op_protocol.specs.Rows.{is_of_joining, may_be_above, is_prepare_req, on_older, on_newer, on_latest, message_step, brought_by, plan_of, step_bringing, table_plan}
 use Rattle.op_configurations.specs.Servers as server
-use Rattle.op_configurations.specs.Servers.{Part, Closed, Base, BaseStage, Joining, State, Letter, Fate, Stepped, says, unchanged, with_joining, staged_piece, has_all, is_piece, start_if_whole}
+use Rattle.op_configurations.specs.Servers.{Closed, Base, BaseStage, Joining, State, Letter, Fate, Stepped, says, unchanged, with_joining, staged_piece, has_all, is_piece, start_if_whole}
 use Rattle.op_configurations.specs.Laws.{BaseStands, StateStands, BodyStands}
 use Rattle.op_configurations.specs.Stored.{HoldsIfBase, HoldsJoining}
 use Rattle.op_configurations.proofs.Fronts.{some_same}
@@ -48,6 +48,8 @@ use Rattle.op_refinement.proofs.Joining.{storing_rel, begins_rel}
 use Rattle.op_refinement.proofs.Elsewhere.{not_so}
 use Rattle.op_refinement.proofs.Gathered.{donor_is, donor_put, held_more, held_all}
 use Rattle.op_refinement.proofs.Bringing.{front_read, front_of, holds_rel}
+use Rattle.op_protocol.specs.Watched.{is_watching}
+use Rattle.op_refinement.proofs.Watching.{member_row}
 
 -- ---- messages and letters
 
@@ -57,6 +59,7 @@ joining_same lists conf (body.HeartbeatRequest r) y i = ap server.is_for_joining
 joining_same lists conf (body.HeartbeatReply r z g) y i = ap server.is_for_joining (sym i)
 joining_same lists conf (body.Confirm z r) y i = ap server.is_for_joining (sym i)
 joining_same lists conf (body.Confirmed z r) y i = ap server.is_for_joining (sym i)
+joining_same lists conf (body.Watch w) y i = ap server.is_for_joining (sym i)
 joining_same lists conf (body.Prepare z na nl nd) y i = ap server.is_for_joining (sym i.2)
 joining_same lists conf (body.Promise z fa fl fd a es) y i = ap server.is_for_joining (sym i.2)
 joining_same lists conf (body.AcceptSync z g es) y i = ap server.is_for_joining (sym i.2)
@@ -89,6 +92,7 @@ brings_not d o c (body.HeartbeatRequest r) e = refl
 brings_not d o c (body.HeartbeatReply r z g) e = refl
 brings_not d o c (body.Confirm z r) e = refl
 brings_not d o c (body.Confirmed z r) e = refl
+brings_not d o c (body.Watch w) e = refl
 brings_not d o c (body.Prepare z na nl nd) e = refl
 brings_not d o c (body.Promise z fa fl fd a es) e = refl
 brings_not d o c (body.AcceptSync z g es) e = refl
@@ -518,6 +522,7 @@ module _ (first : List ℕ) (lists : ℕ → List Entry) (soup : List Letter) (m
   body_rel (body.HeartbeatReply r z g) y e i true_of older short v = absurd (true≢false (sym e))
   body_rel (body.Confirm z r) y e i true_of older short v = absurd (true≢false (sym e))
   body_rel (body.Confirmed z r) y e i true_of older short v = absurd (true≢false (sym e))
+  body_rel (body.Watch w) y e i true_of older short v = absurd (true≢false (sym e))
   body_rel (body.Prepare z na nl nd) y e i true_of older short v = absurd (true≢false (sym e))
   body_rel (body.Promise z fa fl fd a es) y e i true_of older short v = absurd (true≢false (sym e))
   body_rel (body.AcceptSync z g es) y e i true_of older short v = absurd (true≢false (sym e))
@@ -538,7 +543,7 @@ module _ (first : List ℕ) (lists : ℕ → List Entry) (soup : List Letter) (m
 
 module _ (first : List ℕ) (lists : ℕ → List Entry) (soup : List Letter) (me : ℕ) (f : Fate) (s : table.State) (st : State) (k : NodeFacts lists soup me s st) (read : AllRead lists)
     (old : ℕ → List Entry) (before : StateStands first old st) (grown : (x : ℕ) → IsPrefix (old x) (lists x)) (q : ℕ) (msg : Msg) (n : ℕ) (m : Letter) (is : IsLetter lists (record { from = q; to = me; message = msg }) m) (stood : BodyStands first old m.conf m.body)
-    (d : StoredJoining) (hj : s.durable.joining ≡ Some d) (j : Joining) (tj : st.joining ≡ Some j) (h : HoldsJoining lists d j) (short : long_in s.durable msg ≡ None) where
+    (d : StoredJoining) (hj : s.durable.joining ≡ Some d) (j : Joining) (tj : st.joining ≡ Some j) (h : HoldsJoining lists d j) (short : long_in s.durable msg ≡ None) (votes : is_watching msg.body ≡ false) where
   low_list : (l : Closed) → st.closed ≡ Some l → l.trimmed ≤ length l.list
   low_list l e = (before.closed l e).trimmed
 
@@ -579,7 +584,7 @@ module _ (first : List ℕ) (lists : ℕ → List Entry) (soup : List Letter) (m
       (cond is_above (remembering s.volatile (on_newer s.durable q msg.body)) (on_latest me s.durable s.volatile q msg.conf msg.body)))
 
   step_is : message_step me s.durable s.volatile q msg ≡ row_by (is_of_joining msg.body) is_older
-  step_is = ap (λ (o : Option StoredJoining). cond (is_some o && not (is_of_joining msg.body)) (remembering s.volatile []) (cond is_older (remembering s.volatile (on_older s.durable s.durable.closed q))
+  step_is = member_row me s.durable s.volatile q msg votes ∙ ap (λ (o : Option StoredJoining). cond (is_some o && not (is_of_joining msg.body)) (remembering s.volatile []) (cond is_older (remembering s.volatile (on_older s.durable s.durable.closed q))
       (cond is_above (remembering s.volatile (on_newer s.durable q msg.body)) (on_latest me s.durable s.volatile q msg.conf msg.body)))) hj
 
   brings_is : brought_by s.durable s.volatile (input.Deliver q msg) ≡ cond is_older None (brought_to (Some d) s.volatile.pieces msg.conf msg.body)

@@ -14,8 +14,8 @@ use Rattle.op_status.specs.declared.status.Status.{Status}
 use Rattle.op_status.specs.declared.status.Status.TheVariants as status
 
 -- a schedule's events
-abbrev Of : (List ℕ → List ℕ → Bool → List Event → Type 0) → Schedule → Type 0
-Of P s = P s.members s.spares s.is_mirrored s.events
+abbrev Of : (List ℕ → List ℕ → List ℕ → Bool → List Event → Type 0) → Schedule → Type 0
+Of P s = P s.members s.spares s.observers s.is_mirrored s.events
 
 pub not_bad : (input : List ℕ) (n : ℕ) → IsValid input → IsBadAt input n → ⊥
 not_bad input n v (inl bad) = schedules.no_bad_line input v.0 n v.1 bad
@@ -25,7 +25,7 @@ not_bad input n v (inr bad) = subst (Of HaveNoBadLine) (schedules.one_schedule i
 not_bad_in_all : (input text : List ℕ) (n : ℕ) → Reports input text → IsBadInAllRunsAt input n → ⊥
 not_bad_in_all input text n r (few, inl bad) = schedules.no_bad_line input r.0 n r.1 bad
 not_bad_in_all input text n r (few, inr bad) =
-    let all = subst (Of (λ members spares mirrored events. IsTheBadLine members spares mirrored events n)) (schedules.one_schedule input bad.0 r.0 bad.1 r.1) bad.2 in
+    let all = subst (Of (λ members spares observers mirrored events. IsTheBadLine members spares observers mirrored events n)) (schedules.one_schedule input bad.0 r.0 bad.1 r.1) bad.2 in
     all.no_run r.2.run.happenings r.2.run.run
 
 -- the bad line of all runs is that of each
@@ -34,7 +34,7 @@ one_bad input m n (inl p) (few, inl q) = schedules.one_bad_line input m n p q
 one_bad input m n (inl p) (few, inr q) = absurd (schedules.no_bad_line input q.0 m q.1 p)
 one_bad input m n (inr p) (few, inl q) = absurd (schedules.no_bad_line input p.0 n p.1 q)
 one_bad input m n (inr p) (few, inr q) =
-    q.2.no_other m (subst (Of (λ members spares mirrored events. IsLineOfFirstBad members spares mirrored events m)) (schedules.one_schedule input p.0 q.0 p.1 q.1) p.2)
+    q.2.no_other m (subst (Of (λ members spares observers mirrored events. IsLineOfFirstBad members spares observers mirrored events m)) (schedules.one_schedule input p.0 q.0 p.1 q.1) p.2)
 
 -- ---- where the source tells its bytes
 

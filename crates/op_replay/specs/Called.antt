@@ -17,11 +17,11 @@ IsWithinLimit input = length input ≤ input_limit
 -- the text is the report of a run of this schedule
 pub record IsReportOf (s : Schedule) (text : List ℕ) : Type 0 where
   pub summary : Summary
-  -- it is what a run of the events leaves, each of which names members or spares, and messages that were
-  -- sent; the run keeps the laws of every run: it meets the list machine, each client is answered by the
-  -- lists that are reported, each exchange of a leader with a majority decides, wherever it is in the run,
-  -- and each line of a read's value is fresh
-  pub run : IsReportOfRun s.members s.spares s.is_mirrored s.events summary
+  -- it is what a run of the events leaves, each of which names members, spares or observers, a stop-sign no
+  -- observers, and messages that were sent; the run keeps the laws of every run: it meets the list machine,
+  -- each client is answered by the lists that are reported, each exchange of a leader with a majority
+  -- decides, wherever it is in the run, each line of a read's value is fresh, and each observer stands
+  pub run : IsReportOfRun s.members s.spares s.observers s.is_mirrored s.events summary
   -- the text says it
   pub written : text ≡ report_of summary
 
@@ -39,11 +39,13 @@ IsReportedPrefix input old new =
     (text : List ℕ) × IsWithinLimit input × Reports input text × AppendsPrefix old new text
 
 -- line n is the first that isn't in the grammar or, where all are, in some run that of the first event that
--- names a server that is neither member nor spare, or a message that wasn't sent
+-- names a server that is neither member, nor spare, nor observer, in a stop-sign an observer, or a message
+-- that wasn't sent
 abbrev pub IsBadAt : List ℕ → ℕ → Type 0
 IsBadAt input n =
     IsFirstBadLine input n
-    ⊎ ((s : Schedule) × IsSchedule input s × IsLineOfFirstBad s.members s.spares s.is_mirrored s.events n)
+    ⊎ ((s : Schedule) × IsSchedule input s
+    × IsLineOfFirstBad s.members s.spares s.observers s.is_mirrored s.events n)
 
 -- the input isn't too long, and is refused at this line
 abbrev pub IsRefusedAt : List ℕ → ℕ → Type 0
@@ -54,9 +56,12 @@ abbrev pub IsBadInAllRunsAt : List ℕ → ℕ → Type 0
 IsBadInAllRunsAt input n =
     IsWithinLimit input
     × (IsFirstBadLine input n
-    ⊎ ((s : Schedule) × IsSchedule input s × IsTheBadLine s.members s.spares s.is_mirrored s.events n))
+    ⊎ ((s : Schedule) × IsSchedule input s
+    × IsTheBadLine s.members s.spares s.observers s.is_mirrored s.events n))
 
--- the input is a schedule, each event of which names members or spares, and messages that were sent, in every
--- run
+-- the input is a schedule, each event of which names members, spares or observers, a stop-sign no observers,
+-- and messages that were sent, in every run
 abbrev pub IsValid : List ℕ → Type 0
-IsValid input = (s : Schedule) × IsSchedule input s × HaveNoBadLine s.members s.spares s.is_mirrored s.events
+IsValid input =
+    (s : Schedule) × IsSchedule input s
+    × HaveNoBadLine s.members s.spares s.observers s.is_mirrored s.events

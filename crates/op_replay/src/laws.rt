@@ -7,6 +7,6 @@ ghost use Rattle.op_replay.specs.Replay.{EndInOneWay};
 /// Such a schedule is run, whatever is told of its events, or it is refused, at one line: in each of its runs an event can come or
 /// can't as in any other.
 pub fn plain_schedules_end_in_one_way()
-    ensures { (members spares : List ℕ) (mirrored : Bool) (events : List Event) → ArePlain events
-        → EndInOneWay members spares mirrored events }
+    ensures { (members spares observers : List ℕ) (mirrored : Bool) (events : List Event) → ArePlain events
+        → EndInOneWay members spares observers mirrored events }
 {}

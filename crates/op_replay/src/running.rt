@@ -1,7 +1,7 @@
 //! From a schedule's bytes to the report of its run.
 ghost use Rattle.std.specs.Prelude.{◌≡◌, map, IfOk};
 ghost use Rattle.op_types.specs.Ranges.{MembersInRange};
-ghost use Rattle.op_runs.specs.Possible.{SparesInRange};
+ghost use Rattle.op_runs.specs.Possible.{ObserversInRange, SparesInRange};
 ghost use Rattle.op_sched.specs.Failing.{IfBadLine};
 ghost use Rattle.op_sched.specs.Grammar.{AreInRange};
 ghost use Rattle.op_world.specs.Runs.{IsReportOfRun};
@@ -25,24 +25,26 @@ fn lines_of(alloc: Global, events: &[Event]) -> Result<Vec<u64>, AllocError>
     Ok(lines)
 }
 
-/// Runs the events at these members and spares, whose disks are mirrored or not. A refusal tells the line of the first event that can't come in this run.
+/// Runs the events at these members, spares and observers, whose disks are mirrored or not. A refusal tells the line of the first event that can't come in this run.
 fn run(
     alloc: Global,
     members: Members,
     spares: Members,
+    observers: Members,
     is_mirrored: bool,
     events: Events,
 ) -> Result<Summary, SchedFail>
     requires members { MembersInRange members }
     requires spares { SparesInRange members spares }
+    requires observers { ObserversInRange members spares observers }
     requires range { AreInRange events }
-    ensures report { IfOk result (IsReportOfRun members spares is_mirrored events) }
-    ensures bad { IfBadLine result (IsLineOfFirstBad members spares is_mirrored events) }
+    ensures report { IfOk result (IsReportOfRun members spares observers is_mirrored events) }
+    ensures bad { IfBadLine result (IsLineOfFirstBad members spares observers is_mirrored events) }
 {
     let Ok(lines) = lines_of(alloc, events.as_slice()) else {
         return Err(SchedFail::NoMemory);
     };
-    match World::run(alloc, members, spares, is_mirrored, events) {
+    match World::run(alloc, members, spares, observers, is_mirrored, events) {
         Ok(summary) => Ok(summary),
         Err(RunFail::BadEvent { index }) => Err(SchedFail::BadLine {
             line: lines[index as usize],
@@ -62,6 +64,7 @@ pub fn replayed(alloc: Global, bytes: Vec<u8>) -> Result<Vec<u8>, SchedFail>
         alloc,
         schedule.members,
         schedule.spares,
+        schedule.observers,
         schedule.is_mirrored,
         schedule.events,
     )?;

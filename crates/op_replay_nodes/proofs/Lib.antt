@@ -2,5 +2,4 @@ pub mod Becoming
 pub mod Doings
 pub mod Happenings
 pub mod NodeDisks
-pub mod Nodes
 pub mod Openings

@@ -9,7 +9,7 @@ use Rattle.op_store.specs.Stored.{RestsAs, disks_with}
 use Rattle.op_store.specs.Stores.{Represents, disks_of}
 use Rattle.op_store.specs.declared.store.Store.{Store}
 use Rattle.op_store.proofs.CommitCrashes.{open_stored, image_stored, rests_first, rests_second}
-use Rattle.op_server.specs.Servers.{state_of}
+use Rattle.op_server.specs.Seats.{kind_of, me_of, state_of}
 use Rattle.op_node.specs.Nodes.{NodeState, node_of, rest_of, IsSoundNode}
 use Rattle.op_node.specs.Reopenings.{IsOneOf, StoreOneOf}
 use Rattle.op_node.specs.declared.node.Node.{Node}
@@ -19,7 +19,7 @@ use Rattle.op_replay_nodes.specs.declared.node_state.DownNode.{DownNode}
 
 -- the node of what it is without its disks
 abbrev node_in : Rest → NodeState
-node_in r = record { me = r.server.chain.me; state = state_of r.server; failed = r.failed }
+node_in r = record { kind = kind_of r.seat; me = me_of r.seat; state = state_of r.seat; failed = r.failed }
 
 -- ---- areas
 

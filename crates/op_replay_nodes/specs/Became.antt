@@ -1,6 +1,5 @@
 -- What becomes of a step or an opening of a node, by what is planned for its disks.
 use Rattle.std.specs.Prelude.{◌≡◌, ◌⊎◌, ℕ, Bool, true, false, List, [], ◌++◌, map, Option, Some, None, if◌then◌else◌}
-use Rattle.op_types.specs.Ranges.{IsMember}
 use Rattle.op_types.specs.declared.answers.Outcome.{Outcome}
 use Rattle.op_types.specs.declared.answers.Outcome.TheVariants as outcome
 use Rattle.op_types.specs.declared.answers.Refusal.TheVariants as refusal
@@ -9,13 +8,12 @@ use Rattle.op_types.specs.declared.messages.Msg.{Msg}
 use Rattle.op_areas.specs.Media.{Medium}
 use Rattle.op_runs.specs.declared.summary.Line.{Line}
 use Rattle.op_runs.specs.declared.summary.Line.TheVariants as said
-use Rattle.op_runs.specs.World.{Node, Fate, Told, Doing, outcome_lines, answer_line, told_lines}
+use Rattle.op_runs.specs.World.{Kind, Node, Fate, Told, Doing, outcome_lines, answer_line, told_lines}
 use Rattle.op_runs.specs.Schedules.{MayEnd}
 use Rattle.op_types.specs.declared.given.Given.{Given}
 use Rattle.op_node.specs.Nodes.{node_of}
 use Rattle.op_node.specs.declared.node.Node as nodes
-use Rattle.op_bounds.specs.Laws.{NodeInRange}
-use Rattle.op_executions.specs.Servers.{IsNodeDone}
+use Rattle.op_executions.specs.Servers.{IsNodeDone, ServerInRange}
 use Rattle.op_executions.specs.declared.server.Done.{Done}
 use Rattle.op_replay_nodes.specs.Disks.{IsClosedAs, StaysDown, StaysNode}
 use Rattle.op_replay_nodes.specs.Plans.{awaited_of, is_stop, killed_with, lets_fail, lost_in, plan_with}
@@ -74,30 +72,31 @@ HasFaulted mirrored p is_due = (lets_fail mirrored p ≡ true) × (is_due ≡ is
 module _ {D C : Type 0} (M : Medium D C) where
   -- ---- one of the definitions' nodes
 
-  -- a node that the server shows is in range, where some ids are known
-  pub record IsInRange (pid : ℕ) (s : NodeState D C) : Type 0 where
+  -- a node of this id and kind that is shown so is in range, where some ids are known
+  pub record IsInRange (kind : Kind) (pid : ℕ) (s : NodeState D C) : Type 0 where
     pub ids : List ℕ
     pub node : Node
     pub pid_is : node.pid ≡ pid
     pub shown : IsShown M s node.state node.status
-    pub range : NodeInRange (IsMember ids) node
+    pub range : ServerInRange ids kind node
 
-  -- what is done at a node by one of these fates: it is shown so then, with these messages and lines
-  pub record DoneAs (comes : Fate → Type 0) (x : Node) (d : Doing) (line : ℕ) (new : NodeState D C)
-      (sends : List (ℕ × Msg)) (told : List Line) : Type 0 where
+  -- what is done at a node of this kind by one of these fates: it is shown so then, with these messages and
+  -- lines
+  pub record DoneAs (kind : Kind) (comes : Fate → Type 0) (x : Node) (d : Doing) (line : ℕ)
+      (new : NodeState D C) (sends : List (ℕ × Msg)) (told : List Line) : Type 0 where
     pub fate : Fate
     pub finds_after : Bool
     pub may : comes fate
     pub node : Node
     pub shown : IsShown M new node.state node.status
-    pub done : IsNodeDone x d fate finds_after line node sends told
+    pub done : IsNodeDone kind x d fate finds_after line node sends told
 
-  -- what is done at the node of this id and state, by one of these fates, whichever node is shown
-  pub record IsDoneOf (pid : ℕ) (comes : Fate → Type 0) (old : NodeState D C) (d : Doing) (line : ℕ)
-      (new : NodeState D C) (sends : List (ℕ × Msg)) (told : List Line) : Type 0 where
+  -- what is done at the node of this kind, id and state, by one of these fates, whichever node is shown
+  pub record IsDoneOf (kind : Kind) (pid : ℕ) (comes : Fate → Type 0) (old : NodeState D C) (d : Doing)
+      (line : ℕ) (new : NodeState D C) (sends : List (ℕ × Msg)) (told : List Line) : Type 0 where
     pub after : (x : Node) → x.pid ≡ pid → IsShown M old x.state x.status
-        → DoneAs comes x d line new sends told
-    pub kept : IsKept M pid new
+        → DoneAs kind comes x d line new sends told
+    pub kept : IsKept M kind pid new
 
   -- these fates may come where what is done is what this plan awaits
   abbrev pub MayComeOf : Plan → Type 0 → Bool → Fate → Type 0
@@ -105,9 +104,9 @@ module _ {D C : Type 0} (M : Medium D C) where
       MayEnd (awaited_of p.awaited) (lost_in M.is_mirrored p.killed) calls fate is_due
 
   -- what became of a step or an opening that this plan awaits
-  abbrev pub BecomesOf : ℕ → Plan → NodeState D C → Doing → ℕ → Became D C → Type 0
-  BecomesOf pid p old d line r =
-      IsDoneOf pid (MayComeOf p (CallsAt old d) r.is_due) old d line r.state r.sends r.told
+  abbrev pub BecomesOf : Kind → ℕ → Plan → NodeState D C → Doing → ℕ → Became D C → Type 0
+  BecomesOf kind pid p old d line r =
+      IsDoneOf kind pid (MayComeOf p (CallsAt old d) r.is_due) old d line r.state r.sends r.told
 
   -- ---- what is left
 
@@ -159,6 +158,7 @@ module _ {D C : Type 0} (M : Medium D C) where
   -- a server adopted what became of it: nothing awaits it any more
   pub record HasAdopted (became : Became D C) (old new : WorldNode D C) (done : Done) : Type 0 where
     pub pid : new.pid ≡ old.pid
+    pub observes : new.observes ≡ old.observes
     pub plan : new.plan ≡ record old.plan { awaited = told.Nothing }
     pub due : new.is_due ≡ became.is_due
     pub state : StaysSame M became.state new.state
@@ -168,6 +168,7 @@ module _ {D C : Type 0} (M : Medium D C) where
   -- a server goes on, and this is planned for its disks then
   pub record GoesOnWith (plan : Plan) (old new : WorldNode D C) : Type 0 where
     pub pid : new.pid ≡ old.pid
+    pub observes : new.observes ≡ old.observes
     pub plan_is : new.plan ≡ plan
     pub is_due : new.is_due ≡ old.is_due
     pub state : StaysSame M old.state new.state

@@ -8,7 +8,9 @@ use Rattle.op_store.specs.Stores.{disks_of}
 use Rattle.op_node.specs.Nodes.{node_of, stores, IsRepresented, IsSoundNode}
 use Rattle.op_node.specs.Reopenings.{StoreOneOf}
 use Rattle.op_node.specs.declared.node.Node as nodes
+use Rattle.op_runs.specs.World as runs
 use Rattle.op_runs.specs.World.{NodeStatus, Up, Down, Failed, Fate, Doing, Steps, Stops, Opens, Tells}
+use Rattle.op_runs.specs.Possible.{kind_if}
 use Rattle.op_runs.specs.Schedules.{Nothing, MayEnd, is_awaited}
 use Rattle.op_executions.specs.Servers.{Kind}
 use Rattle.op_replay_nodes.specs.Disks.{HoldOneOf, StaysDown, StaysNode}
@@ -21,8 +23,13 @@ use Rattle.op_replay_nodes.specs.declared.node_state.WorldNode.{WorldNode}
 
 -- ---- a node of any kind of area
 
--- the node of this server that has failed
-pub record HasFailed {D : Type 0} (pid : ℕ) (n : nodes.Node D) : Type 0 where
+-- whether it votes
+abbrev pub kind_of : {D C : Type 0} → WorldNode D C → runs.Kind
+kind_of n = kind_if n.observes
+
+-- the node of this server, of this kind, that has failed
+pub record HasFailed {D : Type 0} (kind : runs.Kind) (pid : ℕ) (n : nodes.Node D) : Type 0 where
+  pub kind_is : (node_of n).kind ≡ kind
   pub me : (node_of n).me ≡ pid
   pub sound : IsSoundNode n
 
@@ -75,18 +82,20 @@ module _ {D C : Type 0} (M : Medium D C) where
   IsShown (node.Failed n) s status = ShowsFailed n s status
   IsShown (node.Down d) s status = ShowsDown d s status
 
-  -- the open node of this server, which hasn't failed; each image of its disks stands for what it has stored
-  pub record RunsAs (pid : ℕ) (n : nodes.Node D) : Type 0 where
+  -- the open node of this server, of this kind, which hasn't failed; each image of its disks stands for what
+  -- it has stored
+  pub record RunsAs (kind : runs.Kind) (pid : ℕ) (n : nodes.Node D) : Type 0 where
+    pub kind_is : (node_of n).kind ≡ kind
     pub me : (node_of n).me ≡ pid
     pub failed : (node_of n).failed ≡ None
     pub sound : IsSoundNode n
     pub stored : IsRepresented M.state n
 
-  -- a node that isn't down is this server's
-  abbrev pub IsKept : ℕ → NodeState D C → Type 0
-  IsKept pid (node.Up n) = RunsAs pid n
-  IsKept pid (node.Failed n) = HasFailed pid n
-  IsKept pid (node.Down d) = Unit {0}
+  -- a node that isn't down is this server's, and of its kind
+  abbrev pub IsKept : runs.Kind → ℕ → NodeState D C → Type 0
+  IsKept kind pid (node.Up n) = RunsAs kind pid n
+  IsKept kind pid (node.Failed n) = HasFailed kind pid n
+  IsKept kind pid (node.Down d) = Unit {0}
 
   -- ---- what is done at a node
 
@@ -109,9 +118,10 @@ module _ {D C : Type 0} (M : Medium D C) where
   area_nodes =
       record {
         pid_of = λ n. n.pid;
+        kind_of = kind_of;
         is_first = λ n. n.plan ≡ nothing_planned;
         is_shown = λ n x. IsShown n.state x.state x.status;
-        is_kept = λ n. IsKept n.pid n.state;
+        is_kept = λ n. IsKept (kind_of n) n.pid n.state;
         lets = λ f old d new fate finds_after. LetsCome old d new fate;
       }
 
@@ -132,6 +142,7 @@ module _ {D C : Type 0} (M : Medium D C) where
   -- so does the server, whatever is planned for its disks
   pub record GoesOn (old new : WorldNode D C) : Type 0 where
     pub pid : new.pid ≡ old.pid
+    pub observes : new.observes ≡ old.observes
     pub plan : new.plan ≡ old.plan
     pub is_due : new.is_due ≡ old.is_due
     pub state : StaysSame old.state new.state

@@ -1,10 +1,11 @@
 //! A step and an opening of a node that stops in a call of its disks, or one of whose calls fails.
-ghost use Rattle.std.specs.Prelude.{◌≡◌, ℕ, [], false, IfOk};
+ghost use Rattle.std.specs.Prelude.{◌≡◌, ◌≢◌, ℕ, [], false, None, IfOk};
 ghost use Rattle.op_types.specs.Ranges.{MembersInRange};
 ghost use Rattle.op_areas.specs.Media.{medium};
+ghost use Rattle.op_runs.specs.Possible.{kind_if};
 ghost use Rattle.op_runs.specs.World as runs;
 ghost use Rattle.op_runs.specs.World.{failed_outcome};
-ghost use Rattle.op_node.specs.Nodes.{AdmitsInput};
+ghost use Rattle.op_node.specs.Nodes.{node_of, AdmitsInput, IsSoundNode};
 ghost use Rattle.op_replay_nodes.specs.Plans.{is_stop};
 ghost use Rattle.op_replay_nodes.specs.Became.{BecomesOf, IsAfterFault, IsClosedAgain, IsDownAgain, GoesOnUp, IsInRange, IsNotUp, fault_lines, refused_if, given_lines};
 ghost use Rattle.op_replay_nodes.specs.Nodes.{RunsAs, HasFailed, IsKept};
@@ -15,6 +16,7 @@ use crate::disks::{
 };
 use crate::given::done_by;
 use crate::node_state::{DownNode, NodeState};
+use crate::opening::open_node;
 use crate::plan::Plan;
 use crate::told::Told;
 use op_areas::{Area, Arming};
@@ -76,10 +78,11 @@ pub fn step_told<A: Area>(
     plan: Plan,
     line: u64,
 ) -> Result<Became<A, A::Copies>, NoMemory>
-    requires runs { RunsAs (medium A.state A.holds A.IS_MIRRORED) pid node }
-    requires admits { AdmitsInput node input }
-    ensures { IfOk result (BecomesOf (medium A.state A.holds A.IS_MIRRORED) pid plan
-        (states.Up node) (runs.Steps input) line) }
+    requires { AdmitsInput node input }
+    ensures { IfOk result (λ r. (kind : runs.Kind)
+        → RunsAs (medium A.state A.holds A.IS_MIRRORED) kind pid node
+        → BecomesOf (medium A.state A.holds A.IS_MIRRORED) kind pid plan
+        (states.Up node) (runs.Steps input) line r) }
 {
     let is_proposal = is_proposal(&input);
     let Ok((mut node, told)) = told_node(alloc, node, plan) else {
@@ -126,15 +129,16 @@ pub fn opened_any<A: Area>(
     alloc: Global,
     pid: Pid,
     members: &Members,
+    observes: bool,
     state: NodeState<A, A::Copies>,
     plan: Plan,
 ) -> Result<Became<A, A::Copies>, NoMemory>
     requires members { MembersInRange members.now }
-    requires kept { IsKept (medium A.state A.holds A.IS_MIRRORED) pid state }
-    requires range { IsInRange (medium A.state A.holds A.IS_MIRRORED) pid state }
+    requires kept { IsKept (medium A.state A.holds A.IS_MIRRORED) (kind_if observes) pid state }
+    requires range { IsInRange (medium A.state A.holds A.IS_MIRRORED) (kind_if observes) pid state }
     requires down { IsNotUp state }
-    ensures { IfOk result (λ r. (line : ℕ) →
-        BecomesOf (medium A.state A.holds A.IS_MIRRORED) pid plan state runs.Opens line r) }
+    ensures { IfOk result (λ r. (line : ℕ) → BecomesOf (medium A.state A.holds A.IS_MIRRORED)
+        (kind_if observes) pid plan state runs.Opens line r) }
 {
     match state {
         NodeState::Up(node) => {
@@ -145,7 +149,7 @@ pub fn opened_any<A: Area>(
             Ok(fallen.quietly(alloc))
         }
         NodeState::Failed(node) => reopened(alloc, pid, node, plan),
-        NodeState::Down(down) => opened_again::<A>(alloc, pid, members, down, plan),
+        NodeState::Down(down) => { opened_again::<A>(alloc, pid, members, observes, down, plan) }
     }
 }
 
@@ -156,10 +160,12 @@ fn reopened<A: Area>(
     node: Node<A>,
     plan: Plan,
 ) -> Result<Became<A, A::Copies>, NoMemory>
-    requires kept { HasFailed pid node }
-    requires range { IsInRange (medium A.state A.holds A.IS_MIRRORED) pid (states.Failed node) }
-    ensures { IfOk result (λ r. (line : ℕ) →
-        BecomesOf (medium A.state A.holds A.IS_MIRRORED) pid plan (states.Failed node) runs.Opens line r) }
+    requires sound { IsSoundNode node }
+    requires failed { (node_of node).failed ≢ None }
+    ensures { IfOk result (λ r. (kind : runs.Kind) → HasFailed kind pid node
+        → IsInRange (medium A.state A.holds A.IS_MIRRORED) kind pid (states.Failed node) → (line : ℕ)
+        → BecomesOf (medium A.state A.holds A.IS_MIRRORED) kind pid plan (states.Failed node) runs.Opens
+        line r) }
 {
     let (mut node, told) = told_node(alloc, node, plan)?;
     match node.reopen() {
@@ -173,18 +179,20 @@ fn reopened<A: Area>(
 }
 
 /// The opening of a node that is down, for whose disks this is planned: its areas are opened, and it goes on with what they
-/// store, and asks to be prepared.
+/// store. One that votes asks to be prepared.
 fn opened_again<A: Area>(
     alloc: Global,
     pid: Pid,
     members: &Members,
+    observes: bool,
     down: DownNode<A::Copies>,
     plan: Plan,
 ) -> Result<Became<A, A::Copies>, NoMemory>
     requires members { MembersInRange members.now }
-    requires range { IsInRange (medium A.state A.holds A.IS_MIRRORED) pid (states.Down down) }
-    ensures { IfOk result (λ r. (line : ℕ) →
-        BecomesOf (medium A.state A.holds A.IS_MIRRORED) pid plan (states.Down down) runs.Opens line r) }
+    requires range { IsInRange (medium A.state A.holds A.IS_MIRRORED) (kind_if observes) pid
+        (states.Down down) }
+    ensures { IfOk result (λ r. (line : ℕ) → BecomesOf (medium A.state A.holds A.IS_MIRRORED)
+        (kind_if observes) pid plan (states.Down down) runs.Opens line r) }
 {
     let (down, told) = told_down::<A>(alloc, down, plan)?;
     let DownNode {
@@ -196,16 +204,18 @@ fn opened_again<A: Area>(
         return Err(starved(shown));
     };
     match areas {
-        Areas::Opened(first, second) => match Node::open(alloc, pid, members, first, second) {
-            Ok((node, sends)) => {
-                let_go(shown);
-                opened(alloc, node, sends, plan)
+        Areas::Opened(first, second) => {
+            match open_node(alloc, pid, members, observes, first, second) {
+                Ok((node, sends)) => {
+                    let_go(shown);
+                    opened(alloc, node, sends, plan)
+                }
+                Err(returned) => {
+                    let fallen = closed_again(alloc, shown, returned, &told)?;
+                    Ok(fallen.quietly(alloc))
+                }
             }
-            Err(returned) => {
-                let fallen = closed_again(alloc, shown, returned, &told)?;
-                Ok(fallen.quietly(alloc))
-            }
-        },
+        }
         Areas::Failed(first, second) => {
             let down = DownNode {
                 shown,

@@ -9,13 +9,14 @@ ghost use Rattle.op_executions.specs.Servers.{CanDo, IsDoneAt, IsToldAt};
 ghost use Rattle.op_replay_nodes.specs.Became.{GoesOnKilled, GoesOnPlanned, HasAdopted, IsLeftDown, IsNotUp, TellsIn};
 ghost use Rattle.op_replay_nodes.specs.Disks.{IsClosedAs};
 ghost use Rattle.op_replay_nodes.specs.Plans.{is_quiet};
-ghost use Rattle.op_replay_nodes.specs.Nodes.{area_nodes, GoesOn, IsKept};
+ghost use Rattle.op_replay_nodes.specs.Nodes.{area_nodes, kind_of, GoesOn, IsKept};
 
 use crate::awaited::{Awaited, Planned};
 use crate::became::{Became, opened_any, step_told};
 use crate::disks::{Areas, armed_state, closed_node, left_of, open_areas};
 use crate::given::{done_by, tell_given};
 use crate::node_state::{DownNode, NodeState, WorldNode};
+use crate::opening::open_node;
 use crate::plan::Plan;
 use crate::told::{Faults, Which, killing};
 use op_areas::{Area, Arming};
@@ -41,17 +42,19 @@ impl<A: Area> Server for WorldNode<A, A::Copies> {
         alloc: Global,
         pid: Pid,
         members: &Members,
+        observes: bool,
     ) -> Result<WorldNode<A, A::Copies>, NoMemory> {
         let first = A::empty(alloc)?;
         let second = A::empty(alloc)?;
         let Areas::Opened(first, second) = open_areas::<A>(alloc, first, second)? else {
             return Err(NoMemory);
         };
-        let Ok((node, _)) = Node::open(alloc, pid, members, first, second) else {
+        let Ok((node, _)) = open_node(alloc, pid, members, observes, first, second) else {
             return Err(NoMemory);
         };
         Ok(WorldNode {
             pid,
+            observes,
             state: NodeState::Up(node),
             plan: Plan::NONE,
             is_due: false,
@@ -208,7 +211,8 @@ impl<A: Area> WorldNode<A, A::Copies> {
     /// Stops between two steps: what a crash leaves of its disks is left, and nothing awaits it any more.
     #[inline(never)]
     fn stop(&mut self, alloc: Global) -> Result<Done, NoMemory>
-        requires kept { IsKept (medium A.state A.holds A.IS_MIRRORED) self.old.pid self.old.state }
+        requires kept { IsKept (medium A.state A.holds A.IS_MIRRORED) (kind_of self.old) self.old.pid
+            self.old.state }
         requires due { self.old.is_due ≡ false }
         ensures { IfOk result (λ r. (line : ℕ)
             → IsDoneAt (area_nodes (medium A.state A.holds A.IS_MIRRORED)) tt self.old runs.Stops line
@@ -235,7 +239,7 @@ impl<A: Area> WorldNode<A, A::Copies> {
             return Ok(Done::nothing(alloc));
         }
         let state = replace(&mut self.state, nothing::<A>(alloc)?);
-        let became = opened_any(alloc, self.pid, members, state, self.plan)?;
+        let became = opened_any(alloc, self.pid, members, self.observes, state, self.plan)?;
         self.adopt(alloc, became)
     }
 
@@ -279,7 +283,8 @@ impl<A: Area> WorldNode<A, A::Copies> {
     /// Tells this, if it isn't down.
     #[inline(never)]
     fn tell(&self, alloc: Global, told: Told) -> Result<Done, NoMemory>
-        requires kept { IsKept (medium A.state A.holds A.IS_MIRRORED) self.now.pid self.now.state }
+        requires kept { IsKept (medium A.state A.holds A.IS_MIRRORED) (kind_of self.now) self.now.pid
+            self.now.state }
         requires due { self.now.is_due ≡ false }
         ensures { IfOk result (λ r. (line : ℕ)
             → IsDoneAt (area_nodes (medium A.state A.holds A.IS_MIRRORED)) tt self.now

@@ -7,6 +7,7 @@ mod disks;
 mod given;
 mod happening;
 mod node_state;
+mod opening;
 mod plan;
 mod told;
 

@@ -3,11 +3,13 @@ use crate::plan::Plan;
 use op_node::Node;
 use op_types::{Durable, Pid};
 
-/// A node of a world: over these areas while it isn't down, and over these closed copies while it is.
+/// A node of a world, which votes or observes: over these areas while it isn't down, and over these closed copies while it is.
 #[derive(Drop)]
 pub struct WorldNode<D, C> {
     /// Its id.
     pub pid: Pid,
+    /// Whether it observes, and so never votes.
+    pub observes: bool,
     /// How it runs, with its areas.
     pub state: NodeState<D, C>,
     /// What is planned for its disks.

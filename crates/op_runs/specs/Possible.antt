@@ -1,46 +1,73 @@
 -- Which events can come: those that name nodes of the world, and messages that were sent.
 -- And which worlds and happenings the laws are about.
-use Rattle.std.specs.Prelude.{◌≡◌, ◌≤◌, ◌<◌, ◌+◌, ◌*◌, ◌^◌, ◌&&◌, ℕ, nat_eq, nat_lt, Bool, true, List, [], ◌∷◌, length, All}
+use Rattle.std.specs.Prelude.{◌≡◌, ◌≤◌, ◌<◌, ◌+◌, ◌*◌, ◌^◌, ◌&&◌, ℕ, nat_eq, nat_lt, Bool, true, false, List, [], ◌∷◌, length, All}
 use Rattle.std.specs.Set.{is_member}
 use Rattle.op_runs.specs.declared.events.Event.{Event}
 use Rattle.op_runs.specs.declared.events.What.{What}
 use Rattle.op_runs.specs.declared.events.What.TheVariants as what
 use Rattle.op_types.specs.Ranges.{AreRising, IsMember, IsPid, AreCommands, ReadInRange, MembersInRange}
-use Rattle.op_runs.specs.World.{World, Happening, world_after, done_event}
+use Rattle.op_runs.specs.World.{Kind, Votes, Observes, World, Happening, node_ids, world_after, done_event}
+
+-- ---- ids
+
+-- whether a server votes, by whether it is to observe
+abbrev pub kind_if : Bool → Kind
+kind_if true = Observes
+kind_if false = Votes
+
+-- the same, where these observe
+abbrev pub kind_in : List ℕ → ℕ → Kind
+kind_in observers pid = kind_if (is_member nat_eq observers pid)
+
+-- the ids that events may name: those of all servers, and those that stop-signs may name
+pub record Named : Type 0 where
+  pub servers : List ℕ
+  pub voters : List ℕ
+
+-- the ids of all servers, rising: those of members, spares and observers
+abbrev pub server_ids : List ℕ → List ℕ → List ℕ → List ℕ
+server_ids members spares observers = node_ids (node_ids members spares) observers
+
+-- any of them may be named, but stop-signs name members and spares alone
+abbrev pub named_ids : List ℕ → List ℕ → List ℕ → Named
+named_ids members spares observers =
+    record { servers = server_ids members spares observers; voters = node_ids members spares }
 
 -- all of these are among the nodes
 abbrev pub are_nodes : List ℕ → List ℕ → Bool
 are_nodes nodes [] = true
 are_nodes nodes (q ∷ qs) = is_member nat_eq nodes q && are_nodes nodes qs
 
--- whether the servers that an event names are nodes of the world,
+-- ---- events
+
+-- whether the servers that an event names may be named,
 -- and the message that it names is one of so many that were sent
-abbrev pub is_possible : List ℕ → ℕ → What → Bool
-is_possible nodes sent (what.Tick p) = is_member nat_eq nodes p
-is_possible nodes sent (what.Commands p cs) = is_member nat_eq nodes p
-is_possible nodes sent (what.Stop p members) = is_member nat_eq nodes p && are_nodes nodes members
-is_possible nodes sent (what.Trim p) = is_member nat_eq nodes p
-is_possible nodes sent (what.Read p r) = is_member nat_eq nodes p
-is_possible nodes sent (what.Deliver i) = nat_lt i sent
-is_possible nodes sent (what.Up p q) = is_member nat_eq nodes p && is_member nat_eq nodes q
-is_possible nodes sent (what.Down p q) = is_member nat_eq nodes p && is_member nat_eq nodes q
-is_possible nodes sent (what.Crash p) = is_member nat_eq nodes p
-is_possible nodes sent (what.CrashAt p call image) = is_member nat_eq nodes p
-is_possible nodes sent (what.Fail p call) = is_member nat_eq nodes p
-is_possible nodes sent (what.Kill p disk) = is_member nat_eq nodes p
-is_possible nodes sent (what.Start p) = is_member nat_eq nodes p
-is_possible nodes sent (what.Show p) = is_member nat_eq nodes p
-is_possible nodes sent (what.Ballots p) = is_member nat_eq nodes p
+abbrev pub is_possible : Named → ℕ → What → Bool
+is_possible ids sent (what.Tick p) = is_member nat_eq ids.servers p
+is_possible ids sent (what.Commands p cs) = is_member nat_eq ids.servers p
+is_possible ids sent (what.Stop p members) = is_member nat_eq ids.servers p && are_nodes ids.voters members
+is_possible ids sent (what.Trim p) = is_member nat_eq ids.servers p
+is_possible ids sent (what.Read p r) = is_member nat_eq ids.servers p
+is_possible ids sent (what.Deliver i) = nat_lt i sent
+is_possible ids sent (what.Up p q) = is_member nat_eq ids.servers p && is_member nat_eq ids.servers q
+is_possible ids sent (what.Down p q) = is_member nat_eq ids.servers p && is_member nat_eq ids.servers q
+is_possible ids sent (what.Crash p) = is_member nat_eq ids.servers p
+is_possible ids sent (what.CrashAt p call image) = is_member nat_eq ids.servers p
+is_possible ids sent (what.Fail p call) = is_member nat_eq ids.servers p
+is_possible ids sent (what.Kill p disk) = is_member nat_eq ids.servers p
+is_possible ids sent (what.Start p) = is_member nat_eq ids.servers p
+is_possible ids sent (what.Show p) = is_member nat_eq ids.servers p
+is_possible ids sent (what.Ballots p) = is_member nat_eq ids.servers p
 
 -- whether an event can come in this world
-abbrev pub is_possible_in : List ℕ → World → Event → Bool
-is_possible_in nodes w e = is_possible nodes (length w.messages) e.what
+abbrev pub is_possible_in : Named → World → Event → Bool
+is_possible_in ids w e = is_possible ids (length w.messages) e.what
 
 -- from this world on, each event can come where it stands, and is done
-abbrev pub ArePossibleFrom : List ℕ → World → List Event → Type 0
-ArePossibleFrom nodes w [] = Unit {0}
-ArePossibleFrom nodes w (e ∷ es) =
-    (is_possible_in nodes w e ≡ true) × ArePossibleFrom nodes (world_after w (done_event e)) es
+abbrev pub ArePossibleFrom : Named → World → List Event → Type 0
+ArePossibleFrom ids w [] = Unit {0}
+ArePossibleFrom ids w (e ∷ es) =
+    (is_possible_in ids w e ≡ true) × ArePossibleFrom ids (world_after w (done_event e)) es
 
 -- ---- ranges
 
@@ -86,6 +113,12 @@ WhatInRange (what.Ballots p) = IsPid p
 pub record SparesInRange (members spares : List ℕ) : Type 0 where
   pub rising : AreRising 0 spares
   pub apart : (q : ℕ) → IsMember spares q → IsMember members q → ⊥
+
+-- observers are rising, and none of them is a member or a spare
+pub record ObserversInRange (members spares observers : List ℕ) : Type 0 where
+  pub rising : AreRising 0 observers
+  pub no_member : (q : ℕ) → IsMember observers q → IsMember members q → ⊥
+  pub no_spare : (q : ℕ) → IsMember observers q → IsMember spares q → ⊥
 
 -- how many entries an event proposes
 abbrev pub proposals_of : What → ℕ

@@ -1,13 +1,31 @@
 -- The runs of a schedule: which happenings its events become, where a stop or a failure in a call of a disk
 -- may await a node, and some of its disks may be dead.
-use Rattle.std.specs.Prelude.{◌≡◌, ◌≢◌, ◌==◌, ◌&&◌, ◌||◌, ◌⊎◌, ℕ, suc, nat_eq, Bool, true, false, List, [], ◌∷◌, ◌++◌, Option, Some, None, if◌then◌else◌}
+use Rattle.std.specs.Prelude.{◌≡◌, ◌≢◌, ◌==◌, ◌&&◌, ◌||◌, ◌⊎◌, ℕ, suc, nat_eq, Bool, true, false, List, [], ◌∷◌, ◌++◌, map, Option, Some, None, if◌then◌else◌}
 use Rattle.std.specs.Set.{is_member}
-use Rattle.op_protocol.specs.Rows.{step_plan}
 use Rattle.op_runs.specs.declared.events.Event.{Event}
 use Rattle.op_runs.specs.declared.events.What.{What}
 use Rattle.op_runs.specs.declared.events.What.TheVariants as what
-use Rattle.op_runs.specs.World.{World, Node, NodeStatus, Up, Down, Failed, Fate, Done, Stopped, Faulted, Happening, Doing, Steps, Stops, Opens, Tells, Deed, node_ids, first_world, node_at, deed_of, run_of, done_event}
-use Rattle.op_runs.specs.Possible.{is_possible_in}
+use Rattle.op_runs.specs.World.{Kind, Votes, Observes, World, Node, NodeStatus, Up, Down, Failed, Fate, Done, Stopped, Faulted, Happening, Doing, Steps, Stops, Opens, Tells, Deed, first_world, node_at, plan_as, deed_of, run_of, done_event, all_done}
+use Rattle.op_runs.specs.Possible.{Named, named_ids, is_possible_in}
+
+-- ---- servers
+
+-- a server, and whether it votes
+pub record Seated : Type 0 where
+  pub kind : Kind
+  pub node : Node
+
+-- a node, or else an observer
+abbrev pub seated : Option Node → Option Node → Option Seated
+seated (Some n) o = Some (record { kind = Votes; node = n })
+seated None (Some n) = Some (record { kind = Observes; node = n })
+seated None None = None
+
+-- the server of this id, if there is one
+abbrev pub seated_at : World → ℕ → Option Seated
+seated_at w pid = seated (node_at w.nodes pid) (node_at w.observers pid)
+
+-- ---- what is planned for disks
 
 -- what awaits a node's next step or opening: nothing, a stop in a call of a disk, or a call that fails
 pub data Awaited : Type 0 where
@@ -72,12 +90,12 @@ is_awaited (Failed count after) Stops = false
 is_awaited (Failed count after) Opens = true
 is_awaited (Failed count after) (Tells t) = false
 
--- it calls the node's disks, but for a step that has nothing to store
-abbrev pub CallsDisks : Node → Doing → Type 0
-CallsDisks n (Steps x) = (step_plan n.pid n.state x).batch ≢ []
-CallsDisks n Stops = Unit {0}
-CallsDisks n Opens = Unit {0}
-CallsDisks n (Tells t) = Unit {0}
+-- it calls the server's disks, but for a step that has nothing to store
+abbrev pub CallsDisks : Seated → Doing → Type 0
+CallsDisks s (Steps x) = (plan_as s.kind s.node.pid s.node.state x).batch ≢ []
+CallsDisks s Stops = Unit {0}
+CallsDisks s Opens = Unit {0}
+CallsDisks s (Tells t) = Unit {0}
 
 -- the event, with this fate; an opening finds the state after the step in which the node stopped or failed,
 -- or that before
@@ -110,20 +128,20 @@ happenings_of e pid fate is_due finds_after =
 abbrev pub plan_for : NodeStatus → Doing → DiskPlan → DiskPlan
 plan_for status d plan = if is_awaited status d then plan else no_plan
 
--- what becomes of what an event does at a node, for whose disks this is planned
-abbrev pub BecomesAt : Bool → Option Node → DiskPlan → Doing → Event → List Happening → Type 0
+-- what becomes of what an event does at a server, for whose disks this is planned
+abbrev pub BecomesAt : Bool → Option Seated → DiskPlan → Doing → Event → List Happening → Type 0
 BecomesAt mirrored None plan d e hs = hs ≡ done_event e ∷ []
-BecomesAt mirrored (Some n) plan d e hs =
+BecomesAt mirrored (Some s) plan d e hs =
     (fate : Fate) × (is_due : Bool) × (finds_after : Bool)
-    × let now = plan_for n.status d plan in
-    MayEnd now.awaited (is_lost mirrored now) (CallsDisks n d) fate is_due
-    × (hs ≡ happenings_of e n.pid fate is_due finds_after)
+    × let now = plan_for s.node.status d plan in
+    MayEnd now.awaited (is_lost mirrored now) (CallsDisks s d) fate is_due
+    × (hs ≡ happenings_of e s.node.pid fate is_due finds_after)
 
 -- the same, of what an event does, if it does something
 abbrev pub BecomesBy : Bool → Option Deed → World → DiskPlans → Event → List Happening → Type 0
 BecomesBy mirrored None w plans e hs = hs ≡ []
 BecomesBy mirrored (Some x) w plans e hs =
-    BecomesAt mirrored (node_at w.nodes x.pid) (plans x.pid) x.doing e hs
+    BecomesAt mirrored (seated_at w x.pid) (plans x.pid) x.doing e hs
 
 -- which happenings an event may become in this world, where the disks are mirrored or not
 abbrev pub Becomes : Bool → World → DiskPlans → Event → List Happening → Type 0
@@ -131,17 +149,17 @@ Becomes mirrored w plans e hs = BecomesBy mirrored (deed_of w.messages e.what) w
 
 -- ---- what is planned afterwards
 
--- whether what is done at a node drops what awaits it: it is what was awaited, or the node stops
-abbrev pub drops : Doing → Option Node → Bool
-drops Stops n = true
+-- whether what is done at a server drops what awaits it: it is what was awaited, or the server stops
+abbrev pub drops : Doing → Option Seated → Bool
+drops Stops s = true
 drops d None = false
-drops d (Some n) = is_awaited n.status d
+drops d (Some s) = is_awaited s.node.status d
 
 -- what is planned after what an event does
 abbrev pub plans_by : Option Deed → World → DiskPlans → DiskPlans
 plans_by None w plans = plans
 plans_by (Some x) w plans =
-    if drops x.doing (node_at w.nodes x.pid) then plans_with plans x.pid (awaiting (plans x.pid) Nothing)
+    if drops x.doing (seated_at w x.pid) then plans_with plans x.pid (awaiting (plans x.pid) Nothing)
     else plans
 
 -- what is planned after an event that comes in this world
@@ -153,14 +171,14 @@ plans_after w plans x = plans_by (deed_of w.messages x) w plans
 
 -- ---- runs
 
--- where the disks are mirrored or not, at these nodes
-module _ (mirrored : Bool) (nodes : List ℕ) where
+-- where the disks are mirrored or not, and these ids may be named
+module _ (mirrored : Bool) (ids : Named) where
   -- from this world on each event can come where it stands, and they become these happenings
   abbrev pub RunsFrom : World → DiskPlans → List Event → List Happening → Type 0
   RunsFrom w plans [] hs = hs ≡ []
   RunsFrom w plans (e ∷ es) hs =
       (now : List Happening) × (later : List Happening) × (hs ≡ now ++ later)
-      × (is_possible_in nodes w e ≡ true) × Becomes mirrored w plans e now
+      × (is_possible_in ids w e ≡ true) × Becomes mirrored w plans e now
       × RunsFrom (run_of w now) (plans_after w plans e.what) es later
 
   -- from this world on, where those before it become some happenings, the event of this number, from 0, is
@@ -168,20 +186,39 @@ module _ (mirrored : Bool) (nodes : List ℕ) where
   abbrev pub FailsFrom : World → DiskPlans → List Event → ℕ → Type 0
   FailsFrom w plans [] i = ⊥
   FailsFrom w plans (e ∷ es) i =
-      ((i ≡ 0) × (is_possible_in nodes w e ≡ false))
-      ⊎ ((j : ℕ) × (i ≡ suc j) × (is_possible_in nodes w e ≡ true)
+      ((i ≡ 0) × (is_possible_in ids w e ≡ false))
+      ⊎ ((j : ℕ) × (i ≡ suc j) × (is_possible_in ids w e ≡ true)
       × (now : List Happening) × Becomes mirrored w plans e now
       × FailsFrom (run_of w now) (plans_after w plans e.what) es j)
 
--- a schedule's events at these members and spares, with mirrored disks or not, become these happenings
-abbrev pub IsRunOf : List ℕ → List ℕ → Bool → List Event → List Happening → Type 0
-IsRunOf members spares mirrored events hs =
-    RunsFrom mirrored (node_ids members spares) (first_world members spares) no_plans events hs
+-- the start of an id that no server has: an observer begins
+abbrev pub beginning : ℕ → Event
+beginning pid = record { line = 0; what = what.Start pid }
+
+-- these observers begin
+abbrev pub beginnings : List ℕ → List Event
+beginnings observers = map beginning observers
+
+abbrev pub begun : List ℕ → List Happening
+begun observers = all_done (beginnings observers)
+
+-- the world in which these observers have begun, before a schedule's first event
+abbrev pub started_world : List ℕ → List ℕ → List ℕ → World
+started_world members spares observers = run_of (first_world members spares) (begun observers)
+
+-- a schedule's events at these members, spares and observers, with mirrored disks or not, become these
+-- happenings behind those in which the observers begin
+abbrev pub IsRunOf : List ℕ → List ℕ → List ℕ → Bool → List Event → List Happening → Type 0
+IsRunOf members spares observers mirrored events hs =
+    (later : List Happening) × (hs ≡ begun observers ++ later)
+    × RunsFrom mirrored (named_ids members spares observers) (started_world members spares observers) no_plans
+    events later
 
 -- the event of this number, from 0, is the first of a schedule's that can't come
-abbrev pub IsFirstRefused : List ℕ → List ℕ → Bool → List Event → ℕ → Type 0
-IsFirstRefused members spares mirrored events i =
-    FailsFrom mirrored (node_ids members spares) (first_world members spares) no_plans events i
+abbrev pub IsFirstRefused : List ℕ → List ℕ → List ℕ → Bool → List Event → ℕ → Type 0
+IsFirstRefused members spares observers mirrored events i =
+    FailsFrom mirrored (named_ids members spares observers) (started_world members spares observers) no_plans
+    events i
 
 -- no stop and no failure in a call of a disk is told, and no disk is killed
 abbrev pub TellsNoFault : What → Type 0

@@ -1,5 +1,5 @@
 -- A world of nodes: what happens to them, one event after the other.
-use Rattle.std.specs.Prelude.{◌==◌, ℕ, nat_eq, Bool, false, List, [], ◌∷◌, ◌++◌, map, fold, Option, Some, None, slice_get, if◌then◌else◌}
+use Rattle.std.specs.Prelude.{◌==◌, ℕ, nat_eq, nat_lt, Bool, false, List, [], ◌∷◌, ◌++◌, map, fold, Option, Some, None, slice_get, if◌then◌else◌}
 use Rattle.std.specs.Set.{is_member}
 use Rattle.std.specs.BTreeSet.{insert_key}
 use Rattle.std.specs.Ordering.{nat_cmp}
@@ -22,6 +22,7 @@ use Rattle.op_spec.specs.Service.{Pairs, new_service, base_bytes}
 use Rattle.op_types.specs.declared.messages.Msg.{Msg}
 use Rattle.op_protocol.specs.State.{State, Planned, state_after}
 use Rattle.op_protocol.specs.Rows.{step_plan}
+use Rattle.op_protocol.specs.Watching.{watch_plan}
 use Rattle.op_protocol.specs.Starting.{first_volatile, state_after_restart, sends_after_restart}
 
 -- How a node runs. One that stopped is down; one of which a disk failed has failed, and keeps the count of
@@ -38,6 +39,11 @@ pub record Sent : Type 0 where
   pub to : ℕ
   pub message : Msg
 
+-- whether a server votes, or only observes
+pub data Kind : Type 0 where
+  Votes : Kind
+  Observes : Kind
+
 -- a server, its state, and how it runs
 pub record Node : Type 0 where
   pub pid : ℕ
@@ -49,6 +55,8 @@ pub record World : Type 0 where
   pub nodes : List Node  -- rising by id
   pub messages : List Sent  -- every message that was ever sent, by number
   pub lines : List Line  -- what the events gave, to be reported
+  pub observers : List Node  -- which never vote; rising by id, and none of them among the nodes
+  pub members : List ℕ  -- of configuration 1
 
 -- What becomes of an event's step, or of an opening: it is done; or the node stops inside it, and nothing is
 -- given out; or a disk fails inside it, and this is the count of its disks' faults then. Any count may come.
@@ -88,6 +96,21 @@ first_node members pid =
       status = Up;
     }
 
+-- an observer at its start has an empty part of configuration 1
+abbrev pub first_observer : List ℕ → ℕ → Node
+first_observer members pid =
+    record {
+      pid = pid;
+      state = record {
+        durable = first_durable members;
+        volatile = first_volatile pid;
+        service = new_service;
+        waiting = [];
+        reads = None;
+      };
+      status = Up;
+    }
+
 -- all nodes, rising by id: the members of configuration 1, and the spares
 abbrev pub node_ids : List ℕ → List ℕ → List ℕ
 node_ids members spares = fold (insert_key nat_cmp) members spares
@@ -95,7 +118,13 @@ node_ids members spares = fold (insert_key nat_cmp) members spares
 -- all nodes at their start
 abbrev pub first_world : List ℕ → List ℕ → World
 first_world members spares =
-    record { nodes = map (first_node members) (node_ids members spares); messages = []; lines = [] }
+    record {
+      nodes = map (first_node members) (node_ids members spares);
+      messages = [];
+      lines = [];
+      observers = [];
+      members = members;
+    }
 
 -- ---- events
 
@@ -187,18 +216,32 @@ abbrev pub told_lines : Told → ℕ → State → Option Part → List Line
 told_lines t pid s None = []
 told_lines t pid s (Some p) = part_lines t pid s p
 
--- the world with this node in the place of the one of its id
-abbrev pub world_with_node : World → Node → World
-world_with_node w n = record w { nodes = with_node w.nodes n }
+-- ---- a server moves
 
--- the world after a node's step that is done
-abbrev pub world_stepped : ℕ → World → Node → Planned → World
-world_stepped at w n p =
-    record {
-      nodes = with_node w.nodes (record n { state = state_after n.state p });
-      messages = w.messages ++ sent_by n.pid p.sends;
-      lines = w.lines ++ lines_of at n.pid p;
-    }
+-- a server's step, by whether it votes
+abbrev pub plan_as : Kind → ℕ → State → Input → Planned
+plan_as Votes me s x = step_plan me s x
+plan_as Observes me s x = watch_plan me s x
+
+-- what it sends when it is opened again: an observer sends nothing
+abbrev pub sends_as : Kind → ℕ → Durable → List (ℕ × Msg)
+sends_as Votes me d = sends_after_restart me d
+sends_as Observes me d = []
+
+-- the world with this server in the place of the one of its id and kind
+abbrev pub world_with_as : Kind → World → Node → World
+world_with_as Votes w n = record w { nodes = with_node w.nodes n }
+world_with_as Observes w n = record w { observers = with_node w.observers n }
+
+-- with more messages and lines
+abbrev pub world_telling_more : World → List Sent → List Line → World
+world_telling_more w sent told = record w { messages = w.messages ++ sent; lines = w.lines ++ told }
+
+-- the world after a server's step that is done
+abbrev pub world_stepped_as : Kind → ℕ → World → Node → Planned → World
+world_stepped_as k at w n p =
+    world_telling_more (world_with_as k w (record n { state = state_after n.state p }))
+    (sent_by n.pid p.sends) (lines_of at n.pid p)
 
 -- what is answered where disks have failed so often: proposals, wishes to trim and reads are refused
 abbrev pub failed_outcome : ℕ → Input → Option Outcome
@@ -212,80 +255,136 @@ failed_outcome count _ = None
 abbrev pub world_refusing : ℕ → ℕ → World → Input → World
 world_refusing at count w x = record w { lines = w.lines ++ outcome_lines at (failed_outcome count x) }
 
--- what a node's step is to store
-abbrev pub stored_by : Node → Input → Durable
-stored_by n x = durable_after n.state.durable (step_plan n.pid n.state x).batch
+-- what a server's step is to store
+abbrev pub stored_as : Kind → Node → Input → Durable
+stored_as k n x = durable_after n.state.durable (plan_as k n.pid n.state x).batch
 
--- the world after a node's step, by its fate
-abbrev pub world_by_fate : Fate → ℕ → World → Node → Input → World
-world_by_fate Done at w n x = world_stepped at w n (step_plan n.pid n.state x)
-world_by_fate Stopped at w n x = world_with_node w (record n { status = Down (stored_by n x) })
-world_by_fate (Faulted count) at w n x =
-    world_refusing at count (world_with_node w (record n { status = Failed count (stored_by n x) })) x
+-- the world after a server's step, by its fate
+abbrev pub world_by_fate_as : Kind → Fate → ℕ → World → Node → Input → World
+world_by_fate_as k Done at w n x = world_stepped_as k at w n (plan_as k n.pid n.state x)
+world_by_fate_as k Stopped at w n x = world_with_as k w (record n { status = Down (stored_as k n x) })
+world_by_fate_as k (Faulted count) at w n x =
+    world_refusing at count (world_with_as k w (record n { status = Failed count (stored_as k n x) })) x
 
--- the world after a node told something
+-- the world after a server told something
 abbrev pub world_telling : Told → World → Node → World
 world_telling t w n = record w { lines = w.lines ++ told_lines t n.pid n.state n.state.durable.part }
 
--- what happens at a node that is up, where an opening does nothing
-abbrev pub world_if_up : Doing → Fate → ℕ → World → Node → World
-world_if_up (Steps x) f at w n = world_by_fate f at w n x
-world_if_up Stops f at w n = world_with_node w (record n { status = Down n.state.durable })
-world_if_up Opens f at w n = w
-world_if_up (Tells t) f at w n = world_telling t w n
+-- what happens at a server that is up, where an opening does nothing
+abbrev pub world_if_up_as : Kind → Doing → Fate → ℕ → World → Node → World
+world_if_up_as k (Steps x) f at w n = world_by_fate_as k f at w n x
+world_if_up_as k Stops f at w n = world_with_as k w (record n { status = Down n.state.durable })
+world_if_up_as k Opens f at w n = w
+world_if_up_as k (Tells t) f at w n = world_telling t w n
 
--- the world in which a node is opened again, in this state
-abbrev pub world_opened : World → Node → State → World
-world_opened w n s =
-    record {
-      nodes = with_node w.nodes (record n { state = s; status = Up });
-      messages = w.messages ++ sent_by n.pid (sends_after_restart n.pid s.durable);
-      lines = w.lines;
-    }
+-- the world in which a server is opened again, in this state
+abbrev pub world_opened_as : Kind → World → Node → State → World
+world_opened_as k w n s =
+    record (world_with_as k w (record n { state = s; status = Up }))
+    { messages = w.messages ++ sent_by n.pid (sends_as k n.pid s.durable) }
 
--- the opening of a node that is down: unless it is done the node stays down, and waiting clients are lost
-abbrev pub world_opening : Fate → World → Node → Durable → World
-world_opening Done w n found = world_opened w n (state_after_restart n.pid found)
-world_opening Stopped w n found = w
-world_opening (Faulted count) w n found = w
+-- the opening of a server that is down: unless it is done the server stays down, and waiting clients are lost
+abbrev pub world_opening_as : Kind → Fate → World → Node → Durable → World
+world_opening_as k Done w n found = world_opened_as k w n (state_after_restart n.pid found)
+world_opening_as k Stopped w n found = w
+world_opening_as k (Faulted count) w n found = w
 
--- what happens at a node that is down: only an opening has an effect
-abbrev pub world_if_down : Doing → Fate → Bool → Durable → World → Node → World
-world_if_down (Steps x) f finds_after after w n = w
-world_if_down Stops f finds_after after w n = w
-world_if_down Opens f finds_after after w n =
-    world_opening f w n (if finds_after then after else n.state.durable)
-world_if_down (Tells t) f finds_after after w n = w
+-- what happens at a server that is down: only an opening has an effect
+abbrev pub world_if_down_as : Kind → Doing → Fate → Bool → Durable → World → Node → World
+world_if_down_as k (Steps x) f finds_after after w n = w
+world_if_down_as k Stops f finds_after after w n = w
+world_if_down_as k Opens f finds_after after w n =
+    world_opening_as k f w n (if finds_after then after else n.state.durable)
+world_if_down_as k (Tells t) f finds_after after w n = w
 
--- a node that failed is opened again, and finds this: its clients wait still, and its reads are lost
+-- a server that failed is opened again, and finds this: its clients wait still, and its reads are lost
 abbrev pub state_after_reopening : ℕ → State → Durable → State
 state_after_reopening me s found = record (state_after_restart me found) { waiting = s.waiting }
 
--- the opening of a node that failed: where it isn't done, the next one finds what this one could have found
+-- the opening of a server that failed: where it isn't done, the next one finds what this one could have found
+abbrev pub world_reopening_as : Kind → Fate → Durable → World → Node → Durable → World
+world_reopening_as k Done after w n found = world_opened_as k w n (state_after_reopening n.pid n.state found)
+world_reopening_as k Stopped after w n found = world_with_as k w (record n { status = Down after })
+world_reopening_as k (Faulted count) after w n found =
+    world_with_as k w (record n { status = Failed count after })
+
+-- what happens at a server that failed: it refuses what is proposed, to trim and to read, a stop takes it
+-- down, and it tells its state of before
+abbrev pub world_if_failed_as : Kind → Doing → Happening → ℕ → Durable → World → Node → World
+world_if_failed_as k (Steps x) h count after w n = world_refusing h.event.line count w x
+world_if_failed_as k Stops h count after w n = world_with_as k w (record n { status = Down after })
+world_if_failed_as k Opens h count after w n =
+    world_reopening_as k h.fate after w n (if h.finds_after then after else n.state.durable)
+world_if_failed_as k (Tells t) h count after w n = world_telling t w n
+
+-- what happens at a server, by how it runs
+abbrev pub world_by_status_as : Kind → NodeStatus → Doing → Happening → World → Node → World
+world_by_status_as k Up d h w n = world_if_up_as k d h.fate h.event.line w n
+world_by_status_as k (Down after) d h w n = world_if_down_as k d h.fate h.finds_after after w n
+world_by_status_as k (Failed count after) d h w n = world_if_failed_as k d h count after w n
+
+-- ---- the same, of one that votes
+
+abbrev pub world_with_node : World → Node → World
+world_with_node w n = record w { nodes = with_node w.nodes n }
+
+abbrev pub world_stepped : ℕ → World → Node → Planned → World
+world_stepped at w n p = world_stepped_as Votes at w n p
+
+abbrev pub stored_by : Node → Input → Durable
+stored_by n x = stored_as Votes n x
+
+abbrev pub world_by_fate : Fate → ℕ → World → Node → Input → World
+world_by_fate f at w n x = world_by_fate_as Votes f at w n x
+
+abbrev pub world_if_up : Doing → Fate → ℕ → World → Node → World
+world_if_up d f at w n = world_if_up_as Votes d f at w n
+
+abbrev pub world_opened : World → Node → State → World
+world_opened w n s = world_opened_as Votes w n s
+
+abbrev pub world_opening : Fate → World → Node → Durable → World
+world_opening f w n found = world_opening_as Votes f w n found
+
+abbrev pub world_if_down : Doing → Fate → Bool → Durable → World → Node → World
+world_if_down d f finds_after after w n = world_if_down_as Votes d f finds_after after w n
+
 abbrev pub world_reopening : Fate → Durable → World → Node → Durable → World
-world_reopening Done after w n found = world_opened w n (state_after_reopening n.pid n.state found)
-world_reopening Stopped after w n found = world_with_node w (record n { status = Down after })
-world_reopening (Faulted count) after w n found =
-    world_with_node w (record n { status = Failed count after })
+world_reopening f after w n found = world_reopening_as Votes f after w n found
 
--- what happens at a node that failed: it refuses what is proposed, to trim and to read, a stop takes it down,
--- and it tells its state of before
 abbrev pub world_if_failed : Doing → Happening → ℕ → Durable → World → Node → World
-world_if_failed (Steps x) h count after w n = world_refusing h.event.line count w x
-world_if_failed Stops h count after w n = world_with_node w (record n { status = Down after })
-world_if_failed Opens h count after w n =
-    world_reopening h.fate after w n (if h.finds_after then after else n.state.durable)
-world_if_failed (Tells t) h count after w n = world_telling t w n
+world_if_failed d h count after w n = world_if_failed_as Votes d h count after w n
 
--- what happens at a node, by how it runs
 abbrev pub world_by_status : NodeStatus → Doing → Happening → World → Node → World
-world_by_status Up d h w n = world_if_up d h.fate h.event.line w n
-world_by_status (Down after) d h w n = world_if_down d h.fate h.finds_after after w n
-world_by_status (Failed count after) d h w n = world_if_failed d h count after w n
+world_by_status s d h w n = world_by_status_as Votes s d h w n
 
--- the same, where the node is there
+-- ---- at a node, or at an observer
+
+-- servers with one more, rising by id
+abbrev pub insert_node : List Node → Node → List Node
+insert_node [] m = m ∷ []
+insert_node (n ∷ nodes) m = if nat_lt m.pid n.pid then m ∷ n ∷ nodes else n ∷ insert_node nodes m
+
+-- an id that no server has is opened: an observer begins
+abbrev pub world_beginning : Doing → Fate → ℕ → World → World
+world_beginning Opens Done pid w =
+    record w { observers = insert_node w.observers (first_observer w.members pid) }
+world_beginning d f pid w = w
+
+-- what happens at an observer, or where one may begin
+abbrev pub world_at_observer : Option Node → Deed → Happening → World → World
+world_at_observer None x h w = world_beginning x.doing h.fate x.pid w
+world_at_observer (Some n) x h w = world_by_status_as Observes n.status x.doing h w n
+
+-- what is done at an id that no node has
+abbrev pub world_observed : Option Deed → Happening → World → World
+world_observed None h w = w
+world_observed (Some x) h w = world_at_observer (node_at w.observers x.pid) x h w
+
+-- what happens at a node, if there is one of this id; what happens elsewhere leaves the nodes as they are
 abbrev pub world_at_node : Option Node → Doing → Happening → World → World
-world_at_node None d h w = w
+world_at_node None d h w =
+    record (world_observed (deed_of w.messages h.event.what) h w) { nodes = w.nodes; members = w.members }
 world_at_node (Some n) d h w = world_by_status n.status d h w n
 
 -- the world after what is done at a node

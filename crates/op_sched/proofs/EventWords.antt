@@ -134,6 +134,21 @@ no_form_of_spares f e = absurd (false≢true ((bytes_eq-Decides (codes "spares")
 pub no_spares : (words ids : List (List ℕ)) (w : What) → words ≡ codes "spares" ∷ ids → AreWordsOf words w → ⊥
 no_spares words ids w e h = no_form_of_spares (form_by w) (ap first (sym e ∙ h.written) ∙ named w h.one)
 
+-- nor are observers' lines: they mirror nothing, name no spares, and are no event's
+pub no_mirror_of_observers : (line : List ℕ) (ids : List (List ℕ)) → IsMirrorLine line → words_of line ≡ codes "observers" ∷ ids → ⊥
+no_mirror_of_observers line ids e is =
+    false≢true ((bytes_eq-Decides (codes "mirror") (codes "observers")).1 (ap (λ (l : List ℕ). first (words_of l)) (sym e) ∙ ap first is))
+
+pub no_spares_of_observers : (words ids others : List (List ℕ)) → words ≡ codes "spares" ∷ ids → words ≡ codes "observers" ∷ others → ⊥
+no_spares_of_observers words ids others a b = false≢true ((bytes_eq-Decides (codes "spares") (codes "observers")).1 (ap first (sym a ∙ b)))
+
+no_form_of_observers : (f : Form) → codes "observers" ≡ form_name f → ⊥
+no_form_of_observers (form.Command f) e = false≢true (ap is_op_name e ∙ form_has_op_name f)
+no_form_of_observers f e = absurd (false≢true ((bytes_eq-Decides (codes "observers") (form_name f)).1 e))
+
+pub no_observers : (words ids : List (List ℕ)) (w : What) → words ≡ codes "observers" ∷ ids → AreWordsOf words w → ⊥
+no_observers words ids w e h = no_form_of_observers (form_by w) (ap first (sym e ∙ h.written) ∙ named w h.one)
+
 -- ---- how many words
 
 few_words : (w : What) → WhatInRange w → ProposesOne w → length (what_words w) < MOST_WORDS

@@ -1,8 +1,9 @@
+pub mod Courses
 pub mod EntryLines
+pub mod EventWords
 pub mod FirstParts
 pub mod LineEnds
-pub mod UnambiguousSchedules
-pub mod WordLists
-pub mod EventWords
 pub mod RisingIds
 pub mod Spares
+pub mod UnambiguousSchedules
+pub mod WordLists

@@ -10,7 +10,7 @@ use Rattle.op_sched.specs.declared.reading.forms.Form.{Form}
 use Rattle.op_sched.specs.declared.reading.forms.Form.TheVariants as form
 use Rattle.op_sched.specs.declared.reading.operations.OpForm.{OpForm}
 use Rattle.op_sched.specs.declared.reading.operations.OpForm.TheVariants as op_form
-use Rattle.op_sched.specs.Grammar.{AreSpares}
+use Rattle.op_sched.specs.Grammar.{AreSpares, AreObservers}
 
 -- the name of an operation's form
 abbrev pub op_form_name : OpForm → List ℕ
@@ -71,6 +71,15 @@ are_apart members (id ∷ ids) = not (is_member nat_eq members id) && are_apart 
 -- the words are the ids of spares beside these members
 abbrev pub AreSparesOf : List ℕ → List (List ℕ) → List ℕ → Type 0
 AreSparesOf members words ids = (1 ≤ length ids) × AreSpares members ids × (words ≡ map decimal ids)
+
+-- none of these ids is a member or a spare
+abbrev pub are_beside : List ℕ → List ℕ → List ℕ → Bool
+are_beside members spares ids = are_apart members ids && are_apart spares ids
+
+-- the words are the ids of observers beside these members and spares
+abbrev pub AreObserversOf : List ℕ → List ℕ → List (List ℕ) → List ℕ → Type 0
+AreObserversOf members spares words ids =
+    (1 ≤ length ids) × AreObservers members spares ids × (words ≡ map decimal ids)
 
 -- what happens by this line, of which P holds, was added to events, or P holds of nothing
 abbrev pub Adds : (What → Type 0) → ℕ → List Event → List Event → Bool → Type 0

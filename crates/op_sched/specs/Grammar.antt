@@ -1,11 +1,11 @@
--- The schedule grammar: a header line, perhaps one of spares, perhaps one that mirrors the disks, and then a
--- line for each event.
+-- The schedule grammar: a header line, perhaps one of spares, perhaps one of observers, perhaps one that
+-- mirrors the disks, and then a line for each event.
 -- Empty lines and comments may stand anywhere.
 use Rattle.std.specs.Prelude.{◌≡◌, ◌==◌, ◌≤◌, ◌⊎◌, ℕ, ◌+◌, ◌*◌, Bool, true, false, if◌then◌else◌}
 use Rattle.std.specs.Prelude.{List, [], ◌∷◌, length, map, All, codes, decimal}
 use Rattle.std.specs.List.{slice_split}
 use Rattle.op_types.specs.Ranges.{MembersInRange}
-use Rattle.op_runs.specs.Possible.{WhatInRange, SparesInRange, most_disks, calls_of_disk}
+use Rattle.op_runs.specs.Possible.{WhatInRange, SparesInRange, ObserversInRange, most_disks, calls_of_disk}
 use Rattle.op_types.specs.declared.log.Op.{Op}
 use Rattle.op_types.specs.declared.log.Command.{Command}
 use Rattle.op_runs.specs.declared.events.What.{What}
@@ -87,6 +87,26 @@ pub record AreSpareWords (members : List ℕ) (words : List (List ℕ)) (spares 
 -- the line names spares beside these members
 abbrev pub IsSpareLine : List ℕ → List ℕ → List ℕ → Type 0
 IsSpareLine members line spares = AreSpareWords members (words_of line) spares
+
+-- how many observers a schedule has at most
+abbrev pub most_observers : ℕ
+most_observers = 22
+
+-- these may be a schedule's observers beside these members and spares
+pub record AreObservers (members spares observers : List ℕ) : Type 0 where
+  pub few : length observers ≤ most_observers
+  pub in_range : ObserversInRange members spares observers
+
+-- the words name observers beside these members and spares
+pub record AreObserverWords (members spares : List ℕ) (words : List (List ℕ)) (observers : List ℕ)
+    : Type 0 where
+  pub some : 1 ≤ length observers
+  pub in_range : AreObservers members spares observers
+  pub written : words ≡ codes "observers" ∷ map decimal observers
+
+-- the line names observers beside these members and spares
+abbrev pub IsObserverLine : List ℕ → List ℕ → List ℕ → List ℕ → Type 0
+IsObserverLine members spares line observers = AreObserverWords members spares (words_of line) observers
 
 -- the line mirrors the disks
 abbrev pub IsMirrorLine : List ℕ → Type 0
@@ -194,33 +214,61 @@ AreEvents mirrored (line ∷ lines) (e ∷ events) =
     (e.line ≡ line.0) × IsEventLine mirrored line.1 e.what × AreEvents mirrored lines events
 
 -- the numbered lines are these events' and, where the disks are mirrored, a line before them says so
-abbrev pub AreAfterSpares : List (ℕ × List ℕ) → Bool → List Event → Type 0
-AreAfterSpares lines false events = AreEvents false lines events
-AreAfterSpares [] true events = ⊥
-AreAfterSpares (line ∷ lines) true events = IsMirrorLine line.1 × AreEvents true lines events
+abbrev pub AreAfterObservers : List (ℕ × List ℕ) → Bool → List Event → Type 0
+AreAfterObservers lines false events = AreEvents false lines events
+AreAfterObservers [] true events = ⊥
+AreAfterObservers (line ∷ lines) true events = IsMirrorLine line.1 × AreEvents true lines events
+
+-- what a schedule says after its members and its spares
+pub record Course : Type 0 where
+  pub observers : List ℕ
+  pub mirrored : Bool
+  pub events : List Event
+
+-- the first of the numbered lines names the observers beside these members and spares, and the others come
+-- after it
+abbrev pub AreObserversAndMore : List ℕ → List ℕ → List (ℕ × List ℕ) → Course → Type 0
+AreObserversAndMore members spares [] c = ⊥
+AreObserversAndMore members spares (line ∷ lines) c =
+    IsObserverLine members spares line.1 c.observers × AreAfterObservers lines c.mirrored c.events
+
+-- the numbered lines after these members and spares are of the observers, if there are any, of mirrored disks
+-- or not, and of events
+abbrev pub AreAfterSpares : List ℕ → List ℕ → List (ℕ × List ℕ) → Course → Type 0
+AreAfterSpares members spares lines c =
+    AreObserversAndMore members spares lines c
+    ⊎ ((c.observers ≡ []) × AreAfterObservers lines c.mirrored c.events)
 
 -- the first of the numbered lines names these spares beside these members, and the others come after it
-abbrev pub AreSparesAndMore : List ℕ → List (ℕ × List ℕ) → List ℕ → Bool → List Event → Type 0
-AreSparesAndMore members [] spares mirrored events = ⊥
-AreSparesAndMore members (line ∷ lines) spares mirrored events =
-    IsSpareLine members line.1 spares × AreAfterSpares lines mirrored events
+abbrev pub AreSparesAndMore : List ℕ → List (ℕ × List ℕ) → List ℕ → Course → Type 0
+AreSparesAndMore members [] spares c = ⊥
+AreSparesAndMore members (line ∷ lines) spares c =
+    IsSpareLine members line.1 spares × AreAfterSpares members spares lines c
 
--- the numbered lines after the header are of these spares, if there are any, of mirrored disks or not, and of
--- these events
-abbrev pub AreAfterHeader : List ℕ → List (ℕ × List ℕ) → List ℕ → Bool → List Event → Type 0
-AreAfterHeader members lines spares mirrored events =
-    AreSparesAndMore members lines spares mirrored events
-    ⊎ ((spares ≡ []) × AreAfterSpares lines mirrored events)
+-- the numbered lines after the header are of these spares, if there are any, and of what comes after them
+abbrev pub AreAfterHeader : List ℕ → List (ℕ × List ℕ) → List ℕ → Course → Type 0
+AreAfterHeader members lines spares c =
+    AreSparesAndMore members lines spares c ⊎ ((spares ≡ []) × AreAfterSpares members [] lines c)
+
+-- what this schedule says after its members and its spares
+abbrev pub course_of : Schedule → Course
+course_of s = record { observers = s.observers; mirrored = s.is_mirrored; events = s.events }
 
 -- the numbered lines are this schedule's
 abbrev pub AreLines : List (ℕ × List ℕ) → Schedule → Type 0
 AreLines [] s = ⊥
 AreLines (header ∷ lines) s =
-    IsHeader header.1 s.members × AreAfterHeader s.members lines s.spares s.is_mirrored s.events
+    IsHeader header.1 s.members × AreAfterHeader s.members lines s.spares (course_of s)
 
 -- the text is this schedule's
 abbrev pub IsSchedule : List ℕ → Schedule → Type 0
 IsSchedule text s = AreLines (numbered_lines 1 text) s
+
+-- its members, spares and observers are so many at most, and in range
+pub record HasServers (s : Schedule) : Type 0 where
+  pub members : MembersInRange s.members
+  pub spares : AreSpares s.members s.spares
+  pub observers : AreObservers s.members s.spares s.observers
 
 -- ---- the first line that isn't in the grammar
 
@@ -239,12 +287,24 @@ IsFirstBadEvent mirrored (line ∷ lines) n =
     ((n ≡ line.0) × (IsAnEvent mirrored line.1 → ⊥))
     ⊎ (IsAnEvent mirrored line.1 × IsFirstBadEvent mirrored lines n)
 
--- of numbered lines after the members and the spares, n is the number of the first that isn't in the grammar
-abbrev pub IsFirstBadAfterSpares : List (ℕ × List ℕ) → ℕ → Type 0
-IsFirstBadAfterSpares [] n = ⊥
-IsFirstBadAfterSpares (line ∷ lines) n =
+-- of numbered lines after members, spares and observers, n is the number of the first that isn't in the
+-- grammar
+abbrev pub IsFirstBadAfterObservers : List (ℕ × List ℕ) → ℕ → Type 0
+IsFirstBadAfterObservers [] n = ⊥
+IsFirstBadAfterObservers (line ∷ lines) n =
     (IsMirrorLine line.1 × IsFirstBadEvent true lines n)
     ⊎ ((IsMirrorLine line.1 → ⊥) × IsFirstBadEvent false (line ∷ lines) n)
+
+-- the line names some observers beside these members and spares
+abbrev pub NamesObservers : List ℕ → List ℕ → List ℕ → Type 0
+NamesObservers members spares line = (observers : List ℕ) × IsObserverLine members spares line observers
+
+-- of numbered lines after these members and spares, n is the number of the first that isn't in the grammar
+abbrev pub IsFirstBadAfterSpares : List ℕ → List ℕ → List (ℕ × List ℕ) → ℕ → Type 0
+IsFirstBadAfterSpares members spares [] n = ⊥
+IsFirstBadAfterSpares members spares (line ∷ lines) n =
+    (NamesObservers members spares line.1 × IsFirstBadAfterObservers lines n)
+    ⊎ ((NamesObservers members spares line.1 → ⊥) × IsFirstBadAfterObservers (line ∷ lines) n)
 
 -- the line names some spares beside these members
 abbrev pub NamesSpares : List ℕ → List ℕ → Type 0
@@ -254,8 +314,8 @@ NamesSpares members line = (spares : List ℕ) × IsSpareLine members line spare
 abbrev pub IsFirstBadAfter : List ℕ → List (ℕ × List ℕ) → ℕ → Type 0
 IsFirstBadAfter members [] n = ⊥
 IsFirstBadAfter members (line ∷ lines) n =
-    (NamesSpares members line.1 × IsFirstBadAfterSpares lines n)
-    ⊎ ((NamesSpares members line.1 → ⊥) × IsFirstBadAfterSpares (line ∷ lines) n)
+    ((spares : List ℕ) × IsSpareLine members line.1 spares × IsFirstBadAfterSpares members spares lines n)
+    ⊎ ((NamesSpares members line.1 → ⊥) × IsFirstBadAfterSpares members [] (line ∷ lines) n)
 
 -- n is the number of the first that isn't in the grammar,
 -- and where there are no lines the number after the last

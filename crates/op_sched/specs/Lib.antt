@@ -1,3 +1,4 @@
+pub mod Courses
 pub mod Failing
 pub mod Forms
 pub mod Grammar

@@ -1,8 +1,7 @@
 //! What the schedule grammar promises of any text.
 ghost use Rattle.std.specs.Prelude.{◌≡◌, ℕ, List};
-ghost use Rattle.op_types.specs.Ranges.{MembersInRange};
 ghost use Rattle.op_sched.specs.declared.schedule.Schedule.{Schedule};
-ghost use Rattle.op_sched.specs.Grammar.{IsSchedule, IsFirstBadLine, AreSpares, AreInRange, AreOfBytes, AreBetweenTwo, EachSuitsDisks};
+ghost use Rattle.op_sched.specs.Grammar.{IsSchedule, IsFirstBadLine, HasServers, AreInRange, AreOfBytes, AreBetweenTwo, EachSuitsDisks};
 
 /// A text that is a schedule's has no bad line, and is no other schedule's. What a schedule says is in range, and
 /// its sessions are each between two servers.
@@ -10,8 +9,7 @@ pub fn schedule_is_unambiguous()
     ensures apart { (text : List ℕ) (s : Schedule) (n : ℕ) → IsSchedule text s → IsFirstBadLine text n → ⊥ }
     ensures one { (text : List ℕ) (s t : Schedule) → IsSchedule text s → IsSchedule text t → s ≡ t }
     ensures first { (text : List ℕ) (m n : ℕ) → IsFirstBadLine text m → IsFirstBadLine text n → m ≡ n }
-    ensures members { (text : List ℕ) (s : Schedule) → IsSchedule text s → MembersInRange s.members }
-    ensures spares { (text : List ℕ) (s : Schedule) → IsSchedule text s → AreSpares s.members s.spares }
+    ensures servers { (text : List ℕ) (s : Schedule) → IsSchedule text s → HasServers s }
     ensures in_range { (text : List ℕ) (s : Schedule) → IsSchedule text s → AreInRange s.events }
     ensures of_bytes { (text : List ℕ) (s : Schedule) → IsSchedule text s → AreOfBytes s.events }
     ensures between { (text : List ℕ) (s : Schedule) → IsSchedule text s → AreBetweenTwo s.events }

@@ -11,6 +11,8 @@ pub struct Schedule {
     pub members: Members,
     /// The servers beside them, which a later configuration may name.
     pub spares: Members,
+    /// The servers that never vote, and keep what is decided.
+    pub observers: Members,
     /// Whether the nodes' disks are mirrored.
     pub is_mirrored: bool,
     /// What happens, in the order of the lines.

@@ -1,5 +1,6 @@
 -- How a piece of a base is staged, and the base that it completes.
-use Rattle.std.specs.Prelude.{◌≡◌, ◌==◌, ◌&&◌, ◌+◌, ◌≤◌, ℕ, Bool, false, List, [], length, replicate, Option, Some, None, if◌then◌else◌}
+use Rattle.std.specs.Prelude.{◌≡◌, ◌==◌, ◌&&◌, ◌+◌, ◌≤◌, ℕ, Bool, false, List, [], length, take, drop, replicate, Option, Some, None, if◌then◌else◌}
+use Rattle.op_types.specs.Limits.{most_part_bytes}
 use Rattle.op_types.specs.Stages.{Pieces, with_piece, whole_bytes}
 use Rattle.op_types.specs.declared.durable.Joining.{Joining}
 use Rattle.op_types.specs.declared.runs.Piece.{Piece}
@@ -7,6 +8,11 @@ use Rattle.op_types.specs.declared.turn.Turn.{Turn}
 use Rattle.op_types.specs.declared.turn.Turn.TheVariants as turn
 use Rattle.op_protocol.specs.State.{Volatile, PartStep}
 use Rattle.op_protocol.specs.Joining.{storing, takes_piece}
+
+-- the piece of the base at a position, from a place among its bytes on
+abbrev pub piece_of : ℕ → List ℕ → ℕ → Piece
+piece_of at bytes from =
+    record { at = at; total = length bytes; from = from; bytes = take most_part_bytes (drop from bytes) }
 
 -- the bytes of a piece's base, if with the piece all of them are there
 abbrev pub whole_with : Option Pieces → Piece → Option (List ℕ)

@@ -1,7 +1,8 @@
 //! A base that comes in pieces is staged until all of its bytes are there.
 ghost use Rattle.std.specs.Prelude.{◌≡◌, ◌≤◌, ◌+◌, length, false, Some, is_some, IfOk};
+ghost use Rattle.op_types.specs.Stages.{with_piece};
 ghost use Rattle.op_protocol.specs.Joining.{takes_piece, on_base_piece};
-ghost use Rattle.op_segments.specs.Staging.{whole_with, completed, are_of, none_came, StagesAs, HasRoomToPiece};
+ghost use Rattle.op_segments.specs.Staging.{whole_with, completed, are_of, none_came, StagesAs, PieceHasRoom, HasRoomToPiece};
 
 use op_types::{Blob, ConfNo, Joining, Piece, Pieces, Turn};
 use std::alloc::{AllocError as NoMemory, Global};
@@ -56,6 +57,19 @@ fn takes_piece(joining: &Joining, conf: ConfNo, piece: &Piece) -> bool
         && piece.from as u128 + piece.bytes.as_slice().len() as u128 <= piece.total as u128
 }
 
+/// A piece comes to those of its base that are staged, or else to these. It takes no memory.
+pub fn add_piece(staged: &mut Option<Pieces>, piece: Piece, fresh: Option<Pieces>)
+    requires { PieceHasRoom piece fresh staged.old }
+    ensures { staged.new ≡ Some (with_piece staged.old piece) }
+{
+    if !are_of(&piece, staged) {
+        *staged = fresh;
+    }
+    if let Some(pieces) = staged {
+        pieces.fill(piece.from as usize, piece.bytes.as_slice());
+    }
+}
+
 /// Whether these pieces are of a piece's base.
 fn are_of(piece: &Piece, pieces: &Option<Pieces>) -> bool
     ensures { result ≡ are_of piece.now pieces.now }
@@ -67,7 +81,7 @@ fn are_of(piece: &Piece, pieces: &Option<Pieces>) -> bool
 }
 
 /// Room for a piece's base, where no piece of it is staged.
-fn fresh_pieces(
+pub fn fresh_pieces(
     alloc: Global,
     pieces: &Option<Pieces>,
     piece: &Piece,
@@ -100,7 +114,7 @@ fn completes(pieces: &Option<Pieces>, piece: &Piece) -> bool
 
 #[tactic(auto, using(crate::proofs::Completing::with_staged, crate::proofs::Completing::with_fresh, crate::proofs::Completing::with_lack))]
 /// The bytes of a piece's base, if all of them are there with it.
-fn whole_with(
+pub fn whole_with(
     alloc: Global,
     pieces: &Option<Pieces>,
     piece: &Piece,

@@ -1,5 +1,5 @@
 -- What stands of a mirrored node's disks between two processes is what the one before left.
-use Rattle.std.proofs.Common.{◌≡◌, ◌⊎◌, ◌<◌, inl, inr, ⊎_elim, ℕ, List, [], ◌∷◌, refl, sym, subst, arith}
+use Rattle.std.proofs.Common.{◌≡◌, ◌⊎◌, ◌<◌, inl, inr, ⊎_elim, ℕ, List, [], ◌∷◌, Option, refl, sym, subst, arith}
 use Rattle.op_outside.specs.declared.disk.Disk.{Ghosts}
 use Rattle.op_outside.specs.Pendings.{IsMixed}
 use Rattle.op_outside.specs.Disks.{DiskState, MayLeave, TornOf}
@@ -224,14 +224,14 @@ module _ {D : Type 0} (disk : Ghosts D) where
   refused_left cause.DiskFail a b x y r = inl r.6
   refused_left cause.NoMemory a b x y r = inr r
 
-  left_by : (id : ℕ) (o : Settings) (old new : Environment D) (s : Status) (lost : List Mark) → EndsOverMirrors disk id o old new s lost → AreKept disk old.disks new.disks → AllObey disk old.disks
+  left_by : (begins : Option ℕ) (id : ℕ) (o : Settings) (old new : Environment D) (s : Status) (lost : List Mark) → EndsOverMirrors disk begins id o old new s lost → AreKept disk old.disks new.disks → AllObey disk old.disks
       → LeavesNext disk id o old new s lost
-  left_by id o old new s lost (first_refused c x y r same) kept obey = rw same (not_begun (refused_left c _ _ x y r) (inr (refl, refl)))
-  left_by id o old new s lost (second_refused c a x y opens r same) kept obey = rw same (not_begun (inl opens.leaves) (refused_left c _ _ x y r))
-  left_by id o old new s lost (are_open a b c d at_a at_b ends copies failed) kept obey =
+  left_by begins id o old new s lost (first_refused c x y r same) kept obey = rw same (not_begun (refused_left c _ _ x y r) (inr (refl, refl)))
+  left_by begins id o old new s lost (second_refused c a x y opens r same) kept obey = rw same (not_begun (inl opens.leaves) (refused_left c _ _ x y r))
+  left_by begins id o old new s lost (are_open a b c d at_a at_b ends copies marked failed) kept obey =
       let there = subst (AreKept disk old.disks) copies.are kept in
       has_ended a b c d at_a at_b ends copies (passes_on c (there.first.model.1 obey.0) copies.first_mixes) (passes_on d (there.second.model.1 obey.1) copies.second_mixes)
 
   -- what a process leaves to the next
-  pub leaves_next : (id : ℕ) (o : Settings) (old new : Environment D) (s : Status) (lost : List Mark) → EndsMirrored disk id o old new s lost → AllObey disk old.disks → LeavesNext disk id o old new s lost
-  leaves_next id o old new s lost e obey = left_by id o old new s lost e.ends e.kept obey
+  pub leaves_next : (begins : Option ℕ) (id : ℕ) (o : Settings) (old new : Environment D) (s : Status) (lost : List Mark) → EndsMirrored disk begins id o old new s lost → AllObey disk old.disks → LeavesNext disk id o old new s lost
+  leaves_next begins id o old new s lost e obey = left_by begins id o old new s lost e.ends e.kept obey

@@ -20,8 +20,10 @@ use Rattle.op_store.proofs.KeptDisks.{keep_same}
 use Rattle.op_store.specs.declared.fail.Returned.{Returned}
 use Rattle.op_store.specs.declared.fail.StoreFail.{StoreFail}
 use Rattle.op_store.specs.declared.fail.StoreFail.TheVariants as refusals
+use Rattle.op_runs.specs.Possible.{kind_in}
+use Rattle.op_runs.specs.World.{Kind}
 use Rattle.op_node.specs.Nodes.{NodeState, node_of}
-use Rattle.op_node.specs.Openings.{Opens, RefusesNode, disks_with, fresh_for}
+use Rattle.op_node.specs.Openings.{OpensAs, RefusesNode, disks_with, fresh_as}
 use Rattle.op_node.specs.declared.node.Node.{Node}
 use Rattle.op_node.proofs.Refusals.{refusal_tells}
 use Rattle.op_node.proofs.Represented.{opened_represented}
@@ -43,7 +45,8 @@ use Rattle.op_status.specs.declared.status.Status.{Status}
 use Rattle.op_status.specs.declared.status.Status.TheVariants as status
 use Rattle.op_serve.proofs.Living.{count_of, faults_at, up_at, served_lives, unserved_lives}
 use Rattle.op_serve.specs.Lives.{opened_at}
-use Rattle.op_serve.specs.Nodes.{Around, Goes, is_unheard, cannot_begin, has_served, Ends, cannot_open, is_damaged, is_newer, has_no_memory, is_opened, IsHeard, IsNodeOf, IsOwn, IsReady, Holds, HoldsOf, HoldsOver, KeepsStored, around, status_of, status_of_refusal}
+use Rattle.op_serve.specs.Folders.{Marking, is_marked, is_unmarked, not_opened}
+use Rattle.op_serve.specs.Nodes.{Around, Goes, is_unheard, cannot_begin, has_served, EndsMarked, cannot_open, is_damaged, is_newer, has_no_memory, is_opened, is_not_marked, IsOpened, IsHeard, IsNodeOf, IsOwn, IsReady, DisksHold, HoldsOf, HoldsOver, KeepsStored, around, status_of, status_of_refusal}
 
 module _ {D : Type 0} (state : D → DiskState) where
   -- what stood for what was stored may be known by less
@@ -56,7 +59,7 @@ module _ {D : Type 0} (state : D → DiskState) where
   -- ---- what an opening keeps
 
   -- what a store represents is on its disks
-  holds : (k : Node D) (d : Durable) (net : NetSeen) (clock : Option (List ℕ)) (out : StreamSeen) → Represents state d k.store → Holds state (around k.store.first k.store.second net clock out) d
+  holds : (k : Node D) (d : Durable) (net : NetSeen) (clock : Option (List ℕ)) (out : StreamSeen) → Represents state d k.store → DisksHold state (around k.store.first k.store.second net clock out) d
   holds k d net clock out r =
       let s = k.store in
       record {
@@ -74,10 +77,10 @@ module _ {D : Type 0} (state : D → DiskState) where
   no_less : (a b : ℕ) → b ≡ a → a ≤ b
   no_less a b e = omega arith
 
-  opened_keeps : (id : ℕ) (members : List ℕ) (first second : D) (s : Store D) (d : Durable) (is_new : Bool) (net : NetSeen) (clock : Option (List ℕ)) (out : StreamSeen)
-      → Opened state (fresh_for id members) (disks_with state first second) s d is_new
-      → KeepsStored state id members (around first second net clock out) (around s.first s.second net clock out)
-  opened_keeps id members first second s d is_new net clock out opened =
+  opened_keeps : (kind : Kind) (id : ℕ) (members : List ℕ) (first second : D) (s : Store D) (d : Durable) (is_new : Bool) (net : NetSeen) (clock : Option (List ℕ)) (out : StreamSeen)
+      → Opened state (fresh_as kind id members) (disks_with state first second) s d is_new
+      → KeepsStored state kind id members (around first second net clock out) (around s.first s.second net clock out)
+  opened_keeps kind id members first second s d is_new net clock out opened =
       record {
         only_disks = refl;
         kept = opened.kept;
@@ -86,91 +89,119 @@ module _ {D : Type 0} (state : D → DiskState) where
         images = λ obey had. represented_images d s (opened.stored obey);
       }
 
-  module _ (id : ℕ) (members : List ℕ) (first second : D) (net : NetSeen) (clock : Option (List ℕ)) (out : StreamSeen) where
+  module _ (kind : Kind) (id : ℕ) (members : List ℕ) (first second : D) (net : NetSeen) (clock : Option (List ℕ)) (out : StreamSeen) where
     -- around the node with these disks
     abbrev with_disks : D → D → Around D
     with_disks a b = around a b net clock out
 
     -- no call was made
-    uncalled_keeps : KeepsStored state id members (with_disks first second) (with_disks first second)
+    uncalled_keeps : KeepsStored state kind id members (with_disks first second) (with_disks first second)
     uncalled_keeps =
         record {
           only_disks = refl;
           kept = keep_same (disks_with state first second);
           later = omega arith;
-          crash = λ obey. pairs_same (Remains (fresh_for id members) (state first).content (state second).content) (disks_with state first second);
+          crash = λ obey. pairs_same (Remains (fresh_as kind id members) (state first).content (state second).content) (disks_with state first second);
           images = λ obey had. had;
         }
 
     -- the disks are these others
-    handed : (a b x y : D) → x ≡ a → y ≡ b → KeepsStored state id members (with_disks first second) (with_disks a b)
-        → KeepsStored state id members (with_disks first second) (with_disks x y)
+    handed : (a b x y : D) → x ≡ a → y ≡ b → KeepsStored state kind id members (with_disks first second) (with_disks a b)
+        → KeepsStored state kind id members (with_disks first second) (with_disks x y)
     handed a b x y is_first is_second h = rw (is_first, is_second) h
 
-    refusal_keeps : (e : Returned D) → RefusesNode state (fresh_for id members) first second e
-        → KeepsStored state id members (with_disks first second) (with_disks e.first e.second)
+    refusal_keeps : (e : Returned D) → RefusesNode state (fresh_as kind id members) first second e
+        → KeepsStored state kind id members (with_disks first second) (with_disks e.first e.second)
     refusal_keeps e (inl r) =
         record { only_disks = refl; kept = r.kept; later = r.later; crash = r.crash; images = λ obey had. r.images obey }
     refusal_keeps e (inr s) =
         ⊎_elim (λ same. handed first second e.first e.second same.0 same.1 uncalled_keeps)
         (λ h. handed h.store.first h.store.second e.first e.second h.same.0 h.same.1
-        (opened_keeps id members first second h.store h.durable h.is_new net clock out h.opened))
+        (opened_keeps kind id members first second h.store h.durable h.is_new net clock out h.opened))
         s.left
 
   -- ---- how an opening goes on
 
-  -- an opened node goes on
-  pub ends_opened : (id : ℕ) (o : Settings) (first second : D) (found : Node D) (k : NodeCore D) (sends : List (ℕ × Msg)) (net : NetSeen) (clock : Option (List ℕ)) (out : StreamSeen) (new : Around D) (s : Status) (lost : List Mark)
-      → k.node ≡ found → Opens state id o.members (disks_with state first second) found sends
-      → Goes state id o (node_of k.node) (Stores state (all_stored (node_of k.node).state) k) (around k.node.store.first k.node.store.second net clock out) new s lost
-      → Ends state id o (around first second net clock out) new s lost
-  ends_opened id o first second found k sends net clock out new s lost same is goes =
-      let n : Node D = k.node in
-      let opens : Opens state id o.members (disks_with state first second) n sends = subst (λ (m : Node D). Opens state id o.members (disks_with state first second) m sends) (sym same) is in
-      is_opened (around n.store.first n.store.second net clock out)
-      (record {
+  -- came of telling the folder
+  module _ (came : Marking → Type 0) where
+    module _ (id : ℕ) (o : Settings) (first second : D) (found : Node D) (k : NodeCore D) (sends : List (ℕ × Msg)) (net : NetSeen) (clock : Option (List ℕ)) (out : StreamSeen)
+        (same : k.node ≡ found) (is : OpensAs (kind_in o.observers id) state id o.members (disks_with state first second) found sends) where
+      abbrev kind : Kind
+      kind = kind_in o.observers id
+
+      opens : OpensAs kind state id o.members (disks_with state first second) k.node sends
+      opens = subst (λ (m : Node D). OpensAs kind state id o.members (disks_with state first second) m sends) (sym same) is
+
+      -- around the node that is open
+      abbrev opened_around : Around D
+      opened_around = around k.node.store.first k.node.store.second net clock out
+
+      opened : IsOpened state kind id o.members (around first second net clock out) opened_around (node_of k.node)
+      opened = record {
         durable = opens.durable;
         is_new = opens.is_new;
         found = opens.opened.found;
-        holds = λ obey. holds n opens.durable net clock out (opens.opened.stored obey);
+        holds = λ obey. holds k.node opens.durable net clock out (opens.opened.stored obey);
         node = opens.node;
         no_fault = opens.opened.no_fault;
-        keeps = opened_keeps id o.members first second n.store opens.durable opens.is_new net clock out opens.opened;
-      })
-      (goes_by id o (node_of n) (Stores state (all_stored (node_of n).state) k) (IsOwn state id (around first second net clock out) opens.durable) _ new s lost
-      (λ own. opened_stores_so state id o.members first second k sends opens (opened_represented state id o.members (disks_with state first second) n sends opens own.0 own.1)) goes)
+        keeps = opened_keeps kind id o.members first second k.node.store opens.durable opens.is_new net clock out opens.opened;
+      }
 
-  -- a node that was not opened ends
-  refused_by : (id : ℕ) (o : Settings) (first second : D) (cause : StoreFail) (a b : D) (net : NetSeen) (clock : Option (List ℕ)) (out : StreamSeen)
-      → KeepsStored state id o.members (around first second net clock out) (around a b net clock out)
-      → IsFaultOf (faults (disks_with state first second)) (faults (disks_with state a b)) cause
-      → (Obey (disks_with state first second) → IsRefusal (disks_with state first second) (disks_with state a b) cause)
-      → Ends state id o (around first second net clock out) (around a b net clock out) (status_of_refusal cause) []
-  refused_by id o first second (refusals.DiskFault count) a b net clock out keeps fault refusal = cannot_open keeps fault.1
-  refused_by id o first second (refusals.Damaged area at) a b net clock out keeps fault refusal =
-      is_damaged keeps fault (λ obey. let r = refusal obey in record { damage = r.0; same_first = r.1; same_second = r.2 })
-  refused_by id o first second (refusals.NewerVersion area version) a b net clock out keeps fault refusal =
-      is_newer keeps fault (λ obey. let r = refusal obey in record { newer = r.0; same_first = r.1; same_second = r.2 })
-  refused_by id o first second refusals.NoMemory a b net clock out keeps fault refusal = has_no_memory keeps fault
+      -- the disks of one that took what is its own stand for what it has stored
+      stands : IsOwn state kind id (around first second net clock out) opens.durable → Stores state (all_stored (node_of k.node).state) k
+      stands own = opened_stores_so state kind id o.members first second k sends opens (opened_represented kind state id o.members (disks_with state first second) k.node sends opens own.0 own.1)
 
-  refusal_of : (id : ℕ) (o : Settings) (first second : D) (e : Returned D) → RefusesNode state (fresh_for id o.members) first second e
-      → Obey (disks_with state first second) → IsRefusal (disks_with state first second) (disks_with state e.first e.second) e.cause
-  refusal_of id o first second e (inl r) obey = r.refusal obey
-  refusal_of id o first second e (inr r) obey = rw r.cause tt
+      -- an opened node goes on
+      pub ends_opened : (new : Around D) (s : Status) (lost : List Mark) → came is_marked
+          → Goes state id o (node_of k.node) (Stores state (all_stored (node_of k.node).state) k) opened_around new s lost
+          → EndsMarked state came id o (around first second net clock out) new s lost
+      unfolding opened opens
+      ends_opened new s lost told goes = record {
+        ends = is_opened opened_around opened
+            (goes_by id o (node_of k.node) (Stores state (all_stored (node_of k.node).state) k) (IsOwn state kind id (around first second net clock out) opens.durable) _ new s lost stands goes);
+        marked = told;
+      }
 
-  refused : (id : ℕ) (o : Settings) (first second : D) (e : Returned D) (net : NetSeen) (clock : Option (List ℕ)) (out : StreamSeen)
-      → RefusesNode state (fresh_for id o.members) first second e
-      → Ends state id o (around first second net clock out) (around e.first e.second net clock out) (status_of_refusal e.cause) []
-  refused id o first second e net clock out r =
-      refused_by id o first second e.cause e.first e.second net clock out (refusal_keeps id o.members first second net clock out e r)
-      (refusal_tells state (fresh_for id o.members) first second e r) (refusal_of id o first second e r)
+      -- it doesn't, where the folder couldn't be told
+      pub ends_unmarked : (up : (node_of k.node).failed ≡ None) (peers : PeersInRange o) (a b : D) (s : Status) (lost : List Mark) → came is_unmarked
+          → a ≡ k.node.store.first → b ≡ k.node.store.second → s ≡ status.DiskFault → lost ≡ []
+          → EndsMarked state came id o (around first second net clock out) (around a b net clock out) s lost
+      unfolding opened opens
+      ends_unmarked up peers a b s lost untold at_first at_second is no_loss =
+          rw (at_first, at_second, is, no_loss)
+          (record { ends = is_not_marked opened (λ own. unserved_lives state o k peers up (stands own)); marked = untold })
 
-  pub ends_refused : (id : ℕ) (o : Settings) (first second : D) (e : Returned D) (net : NetSeen) (clock : Option (List ℕ)) (out : StreamSeen)
-      (a b : D) (s : Status) (lost : List Mark)
-      → RefusesNode state (fresh_for id o.members) first second e → a ≡ e.first → b ≡ e.second → s ≡ status_of_refusal e.cause → lost ≡ []
-      → Ends state id o (around first second net clock out) (around a b net clock out) s lost
-  ends_refused id o first second e net clock out a b s lost r at_first at_second is no_loss =
-      rw (at_first, at_second, is, no_loss) (refused id o first second e net clock out r)
+    -- a node that was not opened ends
+    refused_by : (id : ℕ) (o : Settings) (first second : D) (cause : StoreFail) (a b : D) (net : NetSeen) (clock : Option (List ℕ)) (out : StreamSeen)
+        → KeepsStored state (kind_in o.observers id) id o.members (around first second net clock out) (around a b net clock out)
+        → IsFaultOf (faults (disks_with state first second)) (faults (disks_with state a b)) cause
+        → (Obey (disks_with state first second) → IsRefusal (disks_with state first second) (disks_with state a b) cause) → came not_opened
+        → EndsMarked state came id o (around first second net clock out) (around a b net clock out) (status_of_refusal cause) []
+    refused_by id o first second (refusals.DiskFault count) a b net clock out keeps fault refusal untold = record { ends = cannot_open keeps fault.1; marked = untold }
+    refused_by id o first second (refusals.Damaged area at) a b net clock out keeps fault refusal untold =
+        record { ends = is_damaged keeps fault (λ obey. let r = refusal obey in record { damage = r.0; same_first = r.1; same_second = r.2 }); marked = untold }
+    refused_by id o first second (refusals.NewerVersion area version) a b net clock out keeps fault refusal untold =
+        record { ends = is_newer keeps fault (λ obey. let r = refusal obey in record { newer = r.0; same_first = r.1; same_second = r.2 }); marked = untold }
+    refused_by id o first second refusals.NoMemory a b net clock out keeps fault refusal untold = record { ends = has_no_memory keeps fault; marked = untold }
+
+    refusal_of : (id : ℕ) (o : Settings) (first second : D) (e : Returned D) → RefusesNode state (fresh_as (kind_in o.observers id) id o.members) first second e
+        → Obey (disks_with state first second) → IsRefusal (disks_with state first second) (disks_with state e.first e.second) e.cause
+    refusal_of id o first second e (inl r) obey = r.refusal obey
+    refusal_of id o first second e (inr r) obey = rw r.cause tt
+
+    refused : (id : ℕ) (o : Settings) (first second : D) (e : Returned D) (net : NetSeen) (clock : Option (List ℕ)) (out : StreamSeen)
+        → RefusesNode state (fresh_as (kind_in o.observers id) id o.members) first second e → came not_opened
+        → EndsMarked state came id o (around first second net clock out) (around e.first e.second net clock out) (status_of_refusal e.cause) []
+    refused id o first second e net clock out r =
+        refused_by id o first second e.cause e.first e.second net clock out (refusal_keeps (kind_in o.observers id) id o.members first second net clock out e r)
+        (refusal_tells state (fresh_as (kind_in o.observers id) id o.members) first second e r) (refusal_of id o first second e r)
+
+    pub ends_refused : (id : ℕ) (o : Settings) (first second : D) (e : Returned D) (net : NetSeen) (clock : Option (List ℕ)) (out : StreamSeen)
+        (a b : D) (s : Status) (lost : List Mark)
+        → RefusesNode state (fresh_as (kind_in o.observers id) id o.members) first second e → came not_opened → a ≡ e.first → b ≡ e.second → s ≡ status_of_refusal e.cause → lost ≡ []
+        → EndsMarked state came id o (around first second net clock out) (around a b net clock out) s lost
+    ends_refused id o first second e net clock out a b s lost r untold at_first at_second is no_loss =
+        rw (at_first, at_second, is, no_loss) (refused id o first second e net clock out r untold)
 
   -- ---- how an open node ends
 
@@ -243,7 +274,7 @@ module _ {D : Type 0} (state : D → DiskState) where
 
         -- what is stored at the end
         held : (out : StreamSeen) (u : Unstored) → Stores state u m → (f : Option ℕ) → (node_of m.node).failed ≡ f
-            → HoldsOf state (with_node m net1 clock1 out) (standing_by f (node_of m.node).me (node_of m.node).state m.stood (count_of state m)) u
+            → HoldsOf state (with_node m net1 clock1 out) (standing_by f (node_of m.node).kind (node_of m.node).me (node_of m.node).state m.stood (count_of state m)) u
         held out u h None e = record { up = λ _. holds m.node (node_of m.node).state.durable net1 clock1 out (h.up e); failed = λ not. absurd (not refl) }
         held out u h (Some c) e = record { up = λ none. absurd cc; failed = λ _. h.failed (λ none. let bad : None ≡ Some c = sym none ∙ e in absurd cc) }
 

@@ -2,6 +2,8 @@ pub mod Peers
 pub mod Living
 pub mod Processes
 pub mod Endings
+pub mod Folders
+pub mod Looking
 pub mod Mirrors
 pub mod Between
 pub mod Told

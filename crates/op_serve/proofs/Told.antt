@@ -1,5 +1,5 @@
 -- What an opening does not read is told, and where a node was opened nothing of it.
-use Rattle.std.proofs.Common.{◌≡◌, ◌⊎◌, inl, inr, ℕ, Bool, true, false, List, Err, refl, subst, ap₂}
+use Rattle.std.proofs.Common.{◌≡◌, inl, inr, ℕ, Bool, true, false, List, Err, refl, subst, ap₂}
 use Rattle.op_types.specs.declared.durable.Durable.{Durable}
 use Rattle.op_outside.specs.Disks.{DiskState}
 use Rattle.op_outside.specs.Seen.{NetSeen, StreamSeen}
@@ -10,11 +10,12 @@ use Rattle.op_store.specs.Openings.{IsOpenedAs}
 use Rattle.op_store.specs.Readings.{IsDamageOf, IsNewerOf}
 use Rattle.op_store.proofs.UniquePairs.{stored_or_damage, nothing_or_damage, one_damage, stored_or_newer, nothing_or_newer, one_newer_at, newer_or_damage}
 use Rattle.op_node.specs.Nodes.{NodeState}
-use Rattle.op_node.specs.Openings.{fresh_for}
+use Rattle.op_node.specs.Openings.{fresh_as}
+use Rattle.op_runs.specs.Possible.{kind_in}
 use Rattle.op_serving.specs.declared.mark.Mark.{Mark}
 use Rattle.op_serving.specs.declared.serve_end.ServeEnd.{ServeEnd}
 use Rattle.op_serving.specs.declared.serve_end.ServeEnd.TheVariants as ends
-use Rattle.op_serve.specs.Nodes.{Around, Ends, cannot_open, is_damaged, is_newer, has_no_memory, is_opened, Goes, is_unheard, cannot_begin, has_served, IsDamaged, IsHeard, IsNewer, IsOwn, ObeyIn, TellsOrStops, status_of}
+use Rattle.op_serve.specs.Nodes.{Around, Ends, cannot_open, is_damaged, is_newer, has_no_memory, is_opened, is_not_marked, Goes, is_unheard, cannot_begin, has_served, IsDamaged, IsHeard, IsNewer, IsOwn, ObeyIn, TellsOrStops, status_of}
 
 -- ---- disks that an opening read
 
@@ -68,7 +69,8 @@ module _ {T : Type 0} (known : T → DiskState) (id : ℕ) (o : Settings) where
       let one = one_newer_at (known old.first).content (known old.second).content a area v version (newer obey).newer here in inl (ap₂ (λ (k : ℕ) (j : ℕ). status.NewerVersion k j) one.0 one.1)
   newer_is_told old new s lost (has_no_memory keeps same) obey area version here = inr (inr refl)
   newer_is_told old new s lost (is_opened {n = n} mid opened goes) obey area version here =
-      absurd (read_is_not_newer (fresh_for id o.members) opened.durable opened.is_new (known old.first).content (known old.second).content area version (opened.found obey) here)
+      absurd (read_is_not_newer (fresh_as (kind_in o.observers id) id o.members) opened.durable opened.is_new (known old.first).content (known old.second).content area version (opened.found obey) here)
+  newer_is_told old new s lost (is_not_marked opened lives) obey area version here = inr (inl refl)
 
   pub newer_is_there : (old new : Around T) (s : Status) (lost : List Mark) → Ends known id o old new s lost → ObeyIn known old → (area version : ℕ) → s ≡ status.NewerVersion area version → IsNewer known old new area version
   newer_is_there old new s lost (cannot_open keeps rose) obey area version is = absurd cc
@@ -79,7 +81,8 @@ module _ {T : Type 0} (known : T → DiskState) (id : ℕ) (o : Settings) where
       subst (λ (k : ℕ). IsNewer known old new area k) two (subst (λ (k : ℕ). IsNewer known old new k v) one (newer obey))
   newer_is_there old new s lost (has_no_memory keeps same) obey area version is = absurd cc
   newer_is_there old new s lost (is_opened {n = n} mid opened goes) obey area version is =
-      absurd (goes_to_no_version area version n (IsOwn known id old opened.durable) mid new s lost goes is)
+      absurd (goes_to_no_version area version n (IsOwn known (kind_in o.observers id) id old opened.durable) mid new s lost goes is)
+  newer_is_there old new s lost (is_not_marked opened lives) obey area version is = absurd cc
 
   -- ---- damage
 
@@ -92,7 +95,8 @@ module _ {T : Type 0} (known : T → DiskState) (id : ℕ) (o : Settings) where
       absurd (newer_or_damage (known old.first).content (known old.second).content a v area at (newer obey).newer here)
   damage_is_told old new s lost (has_no_memory keeps same) obey area at here = inr (inr refl)
   damage_is_told old new s lost (is_opened {n = n} mid opened goes) obey area at here =
-      absurd (read_is_not_damaged (fresh_for id o.members) opened.durable opened.is_new (known old.first).content (known old.second).content area at (opened.found obey) here)
+      absurd (read_is_not_damaged (fresh_as (kind_in o.observers id) id o.members) opened.durable opened.is_new (known old.first).content (known old.second).content area at (opened.found obey) here)
+  damage_is_told old new s lost (is_not_marked opened lives) obey area at here = inr (inl refl)
 
   pub damage_is_there : (old new : Around T) (s : Status) (lost : List Mark) → Ends known id o old new s lost → ObeyIn known old → (area at : ℕ) → s ≡ status.Damaged area at → IsDamaged known old new area at
   damage_is_there old new s lost (cannot_open keeps rose) obey area at is = absurd cc
@@ -103,4 +107,5 @@ module _ {T : Type 0} (known : T → DiskState) (id : ℕ) (o : Settings) where
   damage_is_there old new s lost (is_newer keeps same newer) obey area at is = absurd cc
   damage_is_there old new s lost (has_no_memory keeps same) obey area at is = absurd cc
   damage_is_there old new s lost (is_opened {n = n} mid opened goes) obey area at is =
-      absurd (goes_to_no_damage area at n (IsOwn known id old opened.durable) mid new s lost goes is)
+      absurd (goes_to_no_damage area at n (IsOwn known (kind_in o.observers id) id old opened.durable) mid new s lost goes is)
+  damage_is_there old new s lost (is_not_marked opened lives) obey area at is = absurd cc

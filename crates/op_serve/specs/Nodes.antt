@@ -19,7 +19,9 @@ use Rattle.op_store.specs.Stored.{Disks, Obey, IsStored, HaveImages, KeepBoth}
 use Rattle.op_store.specs.declared.fail.StoreFail.{StoreFail}
 use Rattle.op_store.specs.declared.fail.StoreFail.TheVariants as refusals
 use Rattle.op_node.specs.Nodes.{NodeState}
-use Rattle.op_node.specs.Openings.{disks_with, durable_for, fresh_for, opening_state}
+use Rattle.op_runs.specs.Possible.{kind_in}
+use Rattle.op_runs.specs.World.{Kind}
+use Rattle.op_node.specs.Openings.{disks_with, fresh_as, opening_state, TakesWhole}
 use Rattle.op_node.specs.Reopenings.{StoreOneOf}
 use Rattle.op_core.specs.NodeCores.{status_line}
 use Rattle.op_pump.specs.Counts.{IsLimited}
@@ -31,6 +33,7 @@ use Rattle.op_serving.specs.declared.mark.Mark.{Mark}
 use Rattle.op_serving.specs.Cores.{Standing}
 use Rattle.op_serving.specs.Inputs.{Deed}
 use Rattle.op_serving.specs.Reopenings.{Unstored, all_stored, FindStored, unstored_behind}
+use Rattle.op_serve.specs.Folders.{Marking, not_opened, is_marked, is_unmarked}
 use Rattle.op_serve.specs.Lives.{Lives, opened_at}
 use Rattle.op_status.specs.declared.status.Status.{Status}
 use Rattle.op_status.specs.declared.status.Status.TheVariants as status
@@ -120,7 +123,7 @@ module _ {D : Type 0} (state : D → DiskState) where
   ObeyIn a = Obey (disks_in a)
 
   -- they store this durable state, and a crash leaves nothing else
-  pub record Holds (a : Around D) (d : Durable) : Type 0 where
+  pub record DisksHold (a : Around D) (d : Durable) : Type 0 where
     pub rests_first : IsAtRest (state a.first)
     pub rests_second : IsAtRest (state a.second)
     pub stored : IsStored d (state a.first).content (state a.second).content
@@ -128,7 +131,7 @@ module _ {D : Type 0} (state : D → DiskState) where
   -- They hold what a node has stored. Of one that has failed they store what it had stored before the inputs
   -- that were to be stored together then, or what is behind all of these, and so does what a crash leaves.
   pub record HoldsOf (a : Around D) (n : Standing) (unstored : Unstored) : Type 0 where
-    pub up : n.failed ≡ None → Holds a n.state.durable
+    pub up : n.failed ≡ None → DisksHold a n.state.durable
     pub failed : n.failed ≢ None →
         StoreOneOf unstored.before.durable unstored.ahead.durable (disks_in a)
 
@@ -143,11 +146,11 @@ module _ {D : Type 0} (state : D → DiskState) where
   -- What an opening leaves, however it ends: nothing but the disks was called, each of them is itself, and
   -- the count of faults didn't fall. A crash leaves what it might have left before, or what they stored;
   -- and a read gives what a crash may leave, if it did so before.
-  pub record KeepsStored (id : ℕ) (members : List ℕ) (old new : Around D) : Type 0 where
+  pub record KeepsStored (kind : Kind) (id : ℕ) (members : List ℕ) (old new : Around D) : Type 0 where
     pub only_disks : new ≡ record old { first = new.first; second = new.second }
     pub kept : KeepBoth (disks_in old) (disks_in new)
     pub later : faults_of old ≤ faults_of new
-    pub crash : ObeyIn old → Keeps (fresh_for id members) (disks_in old) (disks_in new)
+    pub crash : ObeyIn old → Keeps (fresh_as kind id members) (disks_in old) (disks_in new)
     pub images : ObeyIn old → HaveImages (disks_in old) → HaveImages (disks_in new)
 
   -- an area is damaged at this place, and a read of each disk gives what it gave before
@@ -164,19 +167,22 @@ module _ {D : Type 0} (state : D → DiskState) where
 
   -- A node was opened: it takes what the disks store, or begins with its first state, which they hold then,
   -- and no disk failed.
-  pub record IsOpened (id : ℕ) (members : List ℕ) (old new : Around D) (n : NodeState) : Type 0 where
+  pub record IsOpened (kind : Kind) (id : ℕ) (members : List ℕ) (old new : Around D) (n : NodeState)
+      : Type 0 where
     pub durable : Durable
     pub is_new : Bool
     pub found : ObeyIn old →
-        IsOpenedAs (fresh_for id members) (state old.first).content (state old.second).content durable is_new
-    pub holds : ObeyIn old → Holds new durable
-    pub node : n ≡ record { me = id; state = opening_state id is_new durable; failed = None }
+        IsOpenedAs (fresh_as kind id members) (state old.first).content (state old.second).content durable
+        is_new
+    pub holds : ObeyIn old → DisksHold new durable
+    pub node : n
+        ≡ record { kind = kind; me = id; state = opening_state kind id is_new durable; failed = None }
     pub no_fault : faults_of new ≡ faults_of old
-    pub keeps : KeepsStored id members old new
+    pub keeps : KeepsStored kind id members old new
 
   -- the disks obey the model, and what they store is of this node
-  abbrev pub IsOwn : ℕ → Around D → Durable → Type 0
-  IsOwn id old durable = ObeyIn old × (durable_for id durable ≡ durable)
+  abbrev pub IsOwn : Kind → ℕ → Around D → Durable → Type 0
+  IsOwn kind id old durable = ObeyIn old × TakesWhole kind id durable
 
   -- How an open node ends: it could not listen, or could not tell that it does;
   -- there was no memory to begin; or it has served, and each disk is itself at the end.
@@ -204,16 +210,39 @@ module _ {D : Type 0} (state : D → DiskState) where
   -- How a node ends, and what it leaves. Each end has its cause,
   -- and nothing is asked of the outside after it.
   pub data Ends (id : ℕ) (o : Settings) (old new : Around D) : Status → List Mark → Type 0 where
-    cannot_open : KeepsStored id o.members old new → FaultsRose (faults_of old) (faults_of new)
+    cannot_open : KeepsStored (kind_in o.observers id) id o.members old new
+        → FaultsRose (faults_of old) (faults_of new)
         → Ends id o old new status.DiskFault []
-    is_damaged : {area at : ℕ} → KeepsStored id o.members old new → faults_of new ≡ faults_of old
+    is_damaged : {area at : ℕ} → KeepsStored (kind_in o.observers id) id o.members old new
+        → faults_of new ≡ faults_of old
         → (ObeyIn old → IsDamaged old new area at)
         → Ends id o old new (status.Damaged area at) []
-    is_newer : {area version : ℕ} → KeepsStored id o.members old new → faults_of new ≡ faults_of old
+    is_newer : {area version : ℕ} → KeepsStored (kind_in o.observers id) id o.members old new
+        → faults_of new ≡ faults_of old
         → (ObeyIn old → IsNewer old new area version)
         → Ends id o old new (status.NewerVersion area version) []
-    has_no_memory : KeepsStored id o.members old new → faults_of new ≡ faults_of old
+    has_no_memory : KeepsStored (kind_in o.observers id) id o.members old new → faults_of new ≡ faults_of old
         → Ends id o old new status.NoMemory []
     is_opened : {n : NodeState} {s : Status} {lost : List Mark} (mid : Around D)
-        (opened : IsOpened id o.members old mid n)
-        → Goes id o n (IsOwn id old opened.durable) mid new s lost → Ends id o old new s lost
+        (opened : IsOpened (kind_in o.observers id) id o.members old mid n)
+        → Goes id o n (IsOwn (kind_in o.observers id) id old opened.durable) mid new s lost
+        → Ends id o old new s lost
+    is_not_marked : {n : NodeState} (opened : IsOpened (kind_in o.observers id) id o.members old new n)
+        → (IsOwn (kind_in o.observers id) id old opened.durable → Lives n (faults_of new) [] (disks_in new))
+        → Ends id o old new status.DiskFault []
+
+  -- what came of telling its folder that it has begun: that failed in an end before it would listen
+  abbrev pub marking_in : {id : ℕ} {o : Settings} {old new : Around D} {s : Status} {lost : List Mark} →
+      Ends id o old new s lost → Marking
+  marking_in (cannot_open keeps rose) = not_opened
+  marking_in (is_damaged keeps same damage) = not_opened
+  marking_in (is_newer keeps same newer) = not_opened
+  marking_in (has_no_memory keeps same) = not_opened
+  marking_in (is_opened mid opened goes) = is_marked
+  marking_in (is_not_marked opened lives) = is_unmarked
+
+  -- the same, and this came of telling its folder
+  pub record EndsMarked (came : Marking → Type 0) (id : ℕ) (o : Settings) (old new : Around D) (s : Status)
+      (lost : List Mark) : Type 0 where
+    pub ends : Ends id o old new s lost
+    pub marked : came (marking_in ends)

@@ -4,54 +4,52 @@ ghost use Rattle.op_mirror.specs.Crashes.{LeavesAllMixes};
 ghost use Rattle.op_serve.specs.Mirrored.{EndsAlone, EndsMirrored, EndsWith, HaveFailed, environment, status_of_cause};
 ghost use Rattle.op_serve.specs.Nodes.{IsNodeOf};
 
+use crate::duty::Duty;
 use crate::ended::Ended;
 use crate::ending::Ending;
 use crate::node_disks::NodeDisks;
 use crate::serving::serve_on;
 use op_mirror::{Mirror, OpenCause};
 use op_outside::{Clock, Disk, Net, Sink};
-use op_setup::Settings;
 use op_status::Status;
-use op_types::Pid;
 use std::alloc::Global;
 
-/// Serves as the node of this id, over mirrors where its settings say so.
+/// Serves, over mirrors where the settings say so.
 pub(crate) fn serve_node<D: Disk, N: Net, C: Clock, K: Sink>(
     alloc: Global,
-    id: Pid,
-    settings: &Settings,
+    duty: Duty<'_>,
     disks: NodeDisks<D>,
     net: &mut N,
     clock: &mut C,
     out: &mut K,
 ) -> Ending<D>
-    requires { IsNodeOf id settings.now }
-    ensures { EndsWith D.Disk settings.now.is_mirrored id settings.now
+    requires { IsNodeOf duty.id duty.settings.now }
+    ensures { EndsWith D.Disk duty.entry.settings.now.is_mirrored duty.entry.begins_at
+        duty.entry.id duty.entry.settings.now
         (environment disks (N.told net.old, N.fault_count net.old) (C.answers clock.old)
         (K.held out.old, K.fault_count out.old))
         (environment result.disks (N.told net.new, N.fault_count net.new) (C.answers clock.new)
         (K.held out.new, K.fault_count out.new))
         result.status result.lost.items }
 {
-    if settings.is_mirrored {
-        serve_mirrored(alloc, id, settings, disks, net, clock, out)
+    if duty.settings.is_mirrored {
+        serve_mirrored(alloc, duty, disks, net, clock, out)
     } else {
-        serve_alone(alloc, id, settings, disks, net, clock, out)
+        serve_alone(alloc, duty, disks, net, clock, out)
     }
 }
 
 /// Serves over the first copy of each area alone.
 fn serve_alone<D: Disk, N: Net, C: Clock, K: Sink>(
     alloc: Global,
-    id: Pid,
-    settings: &Settings,
+    duty: Duty<'_>,
     disks: NodeDisks<D>,
     net: &mut N,
     clock: &mut C,
     out: &mut K,
 ) -> Ending<D>
-    requires { IsNodeOf id settings.now }
-    ensures { EndsAlone D.Disk id settings.now
+    requires { IsNodeOf duty.id duty.settings.now }
+    ensures { EndsAlone D.Disk duty.entry.begins_at duty.entry.id duty.entry.settings.now
         (environment disks (N.told net.old, N.fault_count net.old) (C.answers clock.old)
         (K.held out.old, K.fault_count out.old))
         (environment result.disks (N.told net.new, N.fault_count net.new) (C.answers clock.new)
@@ -63,13 +61,14 @@ fn serve_alone<D: Disk, N: Net, C: Clock, K: Sink>(
         second,
         first_copy,
         second_copy,
+        mut identity,
     } = disks;
     let Ended {
         status,
         first,
         second,
         lost,
-    } = serve_on(alloc, id, settings, first, second, net, clock, out);
+    } = serve_on(alloc, duty, first, second, &mut identity, net, clock, out);
     Ending {
         status,
         disks: NodeDisks {
@@ -77,6 +76,7 @@ fn serve_alone<D: Disk, N: Net, C: Clock, K: Sink>(
             second,
             first_copy,
             second_copy,
+            identity,
         },
         lost,
     }
@@ -85,15 +85,14 @@ fn serve_alone<D: Disk, N: Net, C: Clock, K: Sink>(
 /// Opens the mirror of each area, and serves over the two.
 fn serve_mirrored<D: Disk, N: Net, C: Clock, K: Sink>(
     alloc: Global,
-    id: Pid,
-    settings: &Settings,
+    duty: Duty<'_>,
     disks: NodeDisks<D>,
     net: &mut N,
     clock: &mut C,
     out: &mut K,
 ) -> Ending<D>
-    requires { IsNodeOf id settings.now }
-    ensures { EndsMirrored D.Disk id settings.now
+    requires { IsNodeOf duty.id duty.settings.now }
+    ensures { EndsMirrored D.Disk duty.entry.begins_at duty.entry.id duty.entry.settings.now
         (environment disks (N.told net.old, N.fault_count net.old) (C.answers clock.old)
         (K.held out.old, K.fault_count out.old))
         (environment result.disks (N.told net.new, N.fault_count net.new) (C.answers clock.new)
@@ -105,25 +104,28 @@ fn serve_mirrored<D: Disk, N: Net, C: Clock, K: Sink>(
         second,
         first_copy,
         second_copy,
+        mut identity,
     } = disks;
     let first = match Mirror::open(alloc, first, first_copy) {
         Ok(mirror) => mirror,
         Err(refused) => {
-            let disks = NodeDisks::of_areas((refused.first, refused.second), (second, second_copy));
+            let area = (refused.first, refused.second);
+            let disks = NodeDisks::of_areas(area, (second, second_copy), identity);
             return Ending::early(alloc, status_of_cause(refused.cause), disks);
         }
     };
     let second = match Mirror::open(alloc, second, second_copy) {
         Ok(mirror) => mirror,
         Err(refused) => {
-            let disks = NodeDisks::of_areas(copies_of(first), (refused.first, refused.second));
+            let area = (refused.first, refused.second);
+            let disks = NodeDisks::of_areas(copies_of(first), area, identity);
             return Ending::early(alloc, status_of_cause(refused.cause), disks);
         }
     };
-    let ended = serve_on(alloc, id, settings, first, second, net, clock, out);
+    let ended = serve_on(alloc, duty, first, second, &mut identity, net, clock, out);
     Ending {
         status: ended.status,
-        disks: NodeDisks::of_areas(copies_of(ended.first), copies_of(ended.second)),
+        disks: NodeDisks::of_areas(copies_of(ended.first), copies_of(ended.second), identity),
         lost: ended.lost,
     }
 }

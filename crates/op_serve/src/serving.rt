@@ -1,39 +1,47 @@
-ghost use Rattle.std.specs.Prelude.{◌≡◌, [], None, IfSome, OnOk, Some, Contains};
+ghost use Rattle.std.specs.Prelude.{◌≡◌, [], None, IfErr, IfOk, IfSome, OnOk, Some, Contains};
 ghost use Rattle.std.specs.Io.KnownBytes.{Appends};
 ghost use Rattle.op_outside.specs.Causes.{FailsOnlyOnFault};
 ghost use Rattle.op_outside.specs.Streams.{AppendsPrefix};
+ghost use Rattle.op_types.specs.Ranges.{MembersInRange};
+ghost use Rattle.op_runs.specs.Possible.{kind_in};
 ghost use Rattle.op_setup.specs.Settings.{IsAmong};
 ghost use Rattle.op_node.specs.Nodes.{node_of};
+ghost use Rattle.op_node.specs.Openings.{OpensAs, RefusesNode, disks_with, fresh_as};
 ghost use Rattle.op_core.specs.Disks.{Stores};
 ghost use Rattle.op_core.specs.NodeCores.{IsServable};
 ghost use Rattle.op_serving.specs.Reopenings.{all_stored};
-ghost use Rattle.op_serve.specs.Nodes.{Ends, Goes, IsHeard, IsNodeOf, around, ready_line, status_of, status_of_refusal};
+ghost use Rattle.op_serve.specs.Nodes.{EndsMarked, Goes, IsHeard, IsNodeOf, around, ready_line, status_of, status_of_refusal};
+ghost use Rattle.op_serve.specs.Folders.{IsMarking};
 
+use crate::duty::Duty;
 use crate::ended::Ended;
+use crate::folder::mark;
 use itoa::Buffer;
 use op_core::{NodeCore, opened_nodes_can_be_served};
 use op_node::Node;
-use op_outside::{Addr, Clock, Disk, Net, Sink, WriteFail, write_parts};
+use op_outside::{Addr, Clock, Disk, DiskFail, Net, Sink, WriteFail, write_parts};
 use op_pump::{ServeEnd, Served, serve};
 use op_setup::Settings;
 use op_status::Status;
-use op_store::StoreFail;
-use op_types::Pid;
+use op_store::{Returned, StoreFail};
+use op_types::{Pid, Sends, is_among};
 use std::alloc::Global;
 
-/// Opens the node of this id on the disks of its two areas, listens, tells that it is ready, and serves.
-pub(crate) fn serve_on<D: Disk, N: Net, C: Clock, K: Sink>(
+/// Opens the node on the disks of its two areas, tells its folder that it has begun if that is to be told, listens, tells that it is
+/// ready, and serves.
+pub(crate) fn serve_on<D: Disk, G: Disk, N: Net, C: Clock, K: Sink>(
     alloc: Global,
-    id: Pid,
-    settings: &Settings,
+    duty: Duty<'_>,
     first: D,
     second: D,
+    identity: &mut G,
     net: &mut N,
     clock: &mut C,
     out: &mut K,
 ) -> Ended<D>
-    requires { IsNodeOf id settings.now }
-    ensures { Ends D.state id settings.now
+    requires { IsNodeOf duty.id duty.settings.now }
+    ensures { EndsMarked D.state (IsMarking G.state duty.entry.begins_at identity.old identity.new)
+        duty.entry.id duty.entry.settings.now
         (around first second (N.told net.old, N.fault_count net.old) (C.answers clock.old)
         (K.held out.old, K.fault_count out.old))
         (around result.first result.second (N.told net.new, N.fault_count net.new) (C.answers clock.new)
@@ -41,8 +49,14 @@ pub(crate) fn serve_on<D: Disk, N: Net, C: Clock, K: Sink>(
         result.status result.lost.items }
 {
     opened_nodes_can_be_served::<D>();
-    match Node::open(alloc, id, &settings.members, first, second) {
-        Ok((node, _)) => serve_opened(alloc, id, settings, NodeCore::new(node), net, clock, out),
+    match open_node(alloc, duty.id, duty.settings, first, second) {
+        Ok((node, _)) => {
+            let core = NodeCore::new(node);
+            match mark(duty.begins_at, identity) {
+                Ok(()) => serve_opened(alloc, duty, core, net, clock, out),
+                Err(DiskFail) => handed_back(alloc, Status::DiskFault, core.node),
+            }
+        }
         Err(refused) => {
             let status = status_of_refusal(refused.cause);
             Ended::early(alloc, status, refused.first, refused.second)
@@ -50,20 +64,40 @@ pub(crate) fn serve_on<D: Disk, N: Net, C: Clock, K: Sink>(
     }
 }
 
-/// A node that is open listens, tells that it is ready, and serves. Its disks are handed back.
-fn serve_opened<D: Disk, N: Net, C: Clock, K: Sink>(
+/// Opens the node of this id, which observes where the settings name it. Gives the node, and what it sends. A refusal hands back the
+/// disks with its cause.
+fn open_node<D: Disk>(
     alloc: Global,
     id: Pid,
     settings: &Settings,
+    first: D,
+    second: D,
+) -> Result<(Node<D>, Sends), Returned<D>>
+    requires { MembersInRange settings.now.members }
+    ensures opened { IfOk result (λ r. OpensAs (kind_in settings.now.observers id) D.state id
+        settings.now.members (disks_with D.state first second) r.0 r.1) }
+    ensures refused { IfErr result (RefusesNode D.state
+        (fresh_as (kind_in settings.now.observers id) id settings.now.members) first second) }
+{
+    if is_among(settings.observers.as_slice(), id) {
+        return Node::open_observer(alloc, id, &settings.members, first, second);
+    }
+    Node::open(alloc, id, &settings.members, first, second)
+}
+
+/// A node that is open listens, tells that it is ready, and serves. Its disks are handed back.
+fn serve_opened<D: Disk, N: Net, C: Clock, K: Sink>(
+    alloc: Global,
+    duty: Duty<'_>,
     core: NodeCore<D>,
     net: &mut N,
     clock: &mut C,
     out: &mut K,
 ) -> Ended<D>
-    requires settings { IsNodeOf id settings.now }
+    requires settings { IsNodeOf duty.id duty.settings.now }
     requires ready { IsServable core.node }
     requires up { (node_of core.node).failed ≡ None }
-    ensures { Goes D.state id settings.now (node_of core.node)
+    ensures { Goes D.state duty.entry.id duty.entry.settings.now (node_of core.node)
         (Stores D.state (all_stored (node_of core.node).state) core)
         (around core.node.store.first core.node.store.second (N.told net.old, N.fault_count net.old)
         (C.answers clock.old) (K.held out.old, K.fault_count out.old))
@@ -71,7 +105,8 @@ fn serve_opened<D: Disk, N: Net, C: Clock, K: Sink>(
         (K.held out.new, K.fault_count out.new))
         result.status result.lost.items }
 {
-    if let Err(status) = listen(id, settings, net, out) {
+    let settings = duty.settings;
+    if let Err(status) = listen(duty.id, settings, net, out) {
         return handed_back(alloc, status, core.node);
     }
     let Served { core, end } = serve(alloc, core, net, clock, settings);

@@ -3,3 +3,4 @@ pub mod Answers
 pub mod Asks
 pub mod Planned
 pub mod Sound
+pub mod Seats

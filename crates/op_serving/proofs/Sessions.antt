@@ -17,6 +17,8 @@ use Rattle.op_protocol.specs.Leader.{session_down}
 use Rattle.op_protocol.specs.Serving.{Served, serving}
 use Rattle.op_protocol.specs.Configurations.{closing}
 use Rattle.op_protocol.specs.Rows.{based_batch, newly_decided, plan_of, step_plan, on_older, up_at}
+use Rattle.op_protocol.specs.Watching.{watch_if, watch_plan}
+use Rattle.op_runs.specs.World.{Kind, Votes, Observes, plan_as}
 use Rattle.op_serving.specs.Fates.{is_session}
 
 -- ---- a plan that changes nothing that is stored, and answers nobody
@@ -79,7 +81,25 @@ down_stores me q s = by_role s.volatile.role
     by_role (Preparing x) = none_stored me s (record s.volatile { role = Preparing x }) []
     by_role (Leading x) = none_stored me s (record s.volatile { role = Leading (without_synced x q) }) []
 
-pub session_stores : (me : ℕ) (i : Input) (s : State) → is_session i ≡ true → (step_plan me s i).batch ≡ []
-session_stores me (input.Up q) s is = up_stores me q s
-session_stores me (input.Down q) s is = down_stores me q s
-session_stores me _ s is = absurd cc
+-- nor does an observer store anything
+watching_up : (me q : ℕ) (s : State) → (watch_plan me s (input.Up q)).batch ≡ []
+watching_up me q s = by_part s.durable.part
+  where
+    by_part : (o : Option Part) → (watch_if me s o (input.Up q)).batch ≡ []
+    by_part None = refl
+    by_part (Some p) = refl
+
+watching_down : (me q : ℕ) (s : State) → (watch_plan me s (input.Down q)).batch ≡ []
+watching_down me q s = by_part s.durable.part
+  where
+    by_part : (o : Option Part) → (watch_if me s o (input.Down q)).batch ≡ []
+    by_part None = refl
+    by_part (Some p) = refl
+
+pub session_stores : (k : Kind) (me : ℕ) (i : Input) (s : State) → is_session i ≡ true → (plan_as k me s i).batch ≡ []
+session_stores Votes me (input.Up q) s is = up_stores me q s
+session_stores Votes me (input.Down q) s is = down_stores me q s
+session_stores Votes me _ s is = absurd cc
+session_stores Observes me (input.Up q) s is = watching_up me q s
+session_stores Observes me (input.Down q) s is = watching_down me q s
+session_stores Observes me _ s is = absurd cc

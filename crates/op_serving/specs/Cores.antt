@@ -8,10 +8,9 @@ use Rattle.op_types.specs.declared.answers.Outcome.{Outcome}
 use Rattle.op_types.specs.declared.events.Input.{Input}
 use Rattle.op_types.specs.declared.events.Input.TheVariants as input
 use Rattle.op_protocol.specs.State.{State, Planned, state_after}
-use Rattle.op_protocol.specs.Rows.{step_plan}
-use Rattle.op_protocol.specs.Starting.{state_after_restart, sends_after_restart}
+use Rattle.op_protocol.specs.Starting.{state_after_restart}
 use Rattle.op_runs.specs.Summary.{stands_at, joining_conf}
-use Rattle.op_runs.specs.World.{failed_outcome}
+use Rattle.op_runs.specs.World.{Kind, plan_as, sends_as, failed_outcome}
 use Rattle.op_types.specs.declared.given.Given.{Given}
 
 -- what a node shows of which a disk failed: with which count, and where it stood before
@@ -20,13 +19,18 @@ pub record Failure : Type 0 where
   pub at : Option (ℕ × ℕ × ℕ)  -- the configuration, how much of it was decided, and how much was trimmed
   pub joining : Option ℕ
 
--- whose node it is, its state in the step table, what it shows if a disk failed, and the count of its disks'
--- faults
+-- whether it votes, whose node it is, its state in the step table, what it shows if a disk failed, and the
+-- count of its disks' faults
 pub record Standing : Type 0 where
+  pub kind : Kind
   pub me : ℕ
   pub state : State
   pub failed : Option Failure
   pub faults : ℕ
+
+-- what it plans for an input, by the step table
+abbrev pub plan_at : Standing → Input → Planned
+plan_at n x = plan_as n.kind n.me n.state x
 
 -- what a plan gives out
 abbrev pub given_of : Planned → Given
@@ -43,13 +47,13 @@ refused_with count x = saying (failed_outcome count x)
 
 -- what an input gives out
 unfoldable pub gives : Standing → Input → Given
-gives n x = elim n.failed [ None ↦ given_of (step_plan n.me n.state x) | Some f ↦ refused_with f.count x ]
+gives n x = elim n.failed [ None ↦ given_of (plan_at n x) | Some f ↦ refused_with f.count x ]
 
 -- the node after an input
 unfoldable pub after_input : Standing → Input → Standing
 after_input n x =
     elim n.failed
-    [ None ↦ record n { state = state_after n.state (step_plan n.me n.state x) } | Some f ↦ n ]
+    [ None ↦ record n { state = state_after n.state (plan_at n x) } | Some f ↦ n ]
 
 -- ---- trimming by itself
 
@@ -103,4 +107,4 @@ reopened d n = record n { state = state_after_restart n.me d; failed = None }
 -- and it sends what it does after a restart
 unfoldable pub given_again : Standing → Durable → Given
 given_again n d =
-    record { sends = sends_after_restart n.me d; replies = []; read_replies = []; outcome = None }
+    record { sends = sends_as n.kind n.me d; replies = []; read_replies = []; outcome = None }

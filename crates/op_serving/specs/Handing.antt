@@ -16,7 +16,7 @@ use Rattle.op_serving.specs.declared.wanted.Wanted.TheVariants.{Commands, Stop, 
 use Rattle.op_types.specs.declared.given.Given.{Given}
 use Rattle.op_serving.specs.Wire.{fits_peer, peer_frame, client_frame}
 use Rattle.op_serving.specs.State.{Key, Awaited, Askers, Loop, find, is_open, session_of, waits_for}
-use Rattle.op_serving.specs.Room.{Frame, count_at, goes_ahead, placed, frames_placed, begins_anew, cleared, moved, frames_moved}
+use Rattle.op_serving.specs.Room.{Frame, count_at, goes_ahead, placed, frames_placed, begins_anew, cleared, is_excess, moved, frames_moved}
 
 abbrev pub frame_at : Option ℕ → List ℕ → List Frame
 frame_at None bytes = []
@@ -41,9 +41,14 @@ abbrev pub sent_behind : ℕ → ℕ × Msg → Loop → Loop
 sent_behind c m s =
     placed (goes_ahead m.1 (find c s.sessions) (count_at c s.behind)) (c, peer_frame s.me m.0 m.1) s
 
+-- one that is dropped changes nothing
+abbrev pub sent_if : Bool → ℕ → ℕ × Msg → Loop → Loop
+sent_if true c m s = s
+sent_if false c m s = sent_behind c m (moved c (made_way c m.1 s))
+
 abbrev pub sent_at : Option ℕ → ℕ × Msg → Loop → Loop
 sent_at None m s = s
-sent_at (Some c) m s = sent_behind c m (moved c (made_way c m.1 s))
+sent_at (Some c) m s = sent_if (is_excess m.1.body (count_at c s.behind)) c m s
 
 abbrev pub sent : ℕ × Msg → Loop → Loop
 sent m s = sent_at (goes_to m s) m s
@@ -57,10 +62,14 @@ abbrev pub frames_behind : ℕ → ℕ × Msg → Loop → List Frame
 frames_behind c m s =
     frames_placed (goes_ahead m.1 (find c s.sessions) (count_at c s.behind)) (c, peer_frame s.me m.0 m.1)
 
+abbrev pub frames_sent_if : Bool → ℕ → ℕ × Msg → Loop → List Frame
+frames_sent_if true c m s = []
+frames_sent_if false c m s =
+    frames_moved c (made_way c m.1 s) ++ frames_behind c m (moved c (made_way c m.1 s))
+
 abbrev pub frames_sent_at : Option ℕ → ℕ × Msg → Loop → List Frame
 frames_sent_at None m s = []
-frames_sent_at (Some c) m s =
-    frames_moved c (made_way c m.1 s) ++ frames_behind c m (moved c (made_way c m.1 s))
+frames_sent_at (Some c) m s = frames_sent_if (is_excess m.1.body (count_at c s.behind)) c m s
 
 abbrev pub frames_sent : List (ℕ × Msg) → Loop → List Frame
 frames_sent [] s = []

@@ -2,8 +2,8 @@
 use Rattle.std.specs.Prelude.{◌≡◌, ◌⊎◌, [], ◌∷◌, List, Some, None}
 use Rattle.op_types.specs.declared.events.Input.{Input}
 use Rattle.op_protocol.specs.State.{State, state_after}
-use Rattle.op_protocol.specs.Rows.{step_plan}
-use Rattle.op_serving.specs.Cores.{Standing}
+use Rattle.op_runs.specs.World.{plan_as}
+use Rattle.op_serving.specs.Cores.{Standing, plan_at}
 use Rattle.op_serving.specs.Fates.{Fate, finds, faults, shares, damaged, after_fate}
 use Rattle.op_serving.specs.Inputs.{Deed, enters}
 
@@ -20,10 +20,10 @@ all_stored s = record { before = s; ahead = s }
 -- so it is after an input with this fate; where they fail again, nothing more is stored
 abbrev pub unstored_after : Standing → Input → Fate → Unstored → Unstored
 unstored_after n i (faults k) u = elim n.failed [
-  | None ↦ record { before = n.state; ahead = state_after n.state (step_plan n.me n.state i) }
+  | None ↦ record { before = n.state; ahead = state_after n.state (plan_at n i) }
   | Some f ↦ u
 ]
-unstored_after n i (shares k) u = record u { ahead = state_after u.ahead (step_plan n.me u.ahead i) }
+unstored_after n i (shares k) u = record u { ahead = state_after u.ahead (plan_as n.kind n.me u.ahead i) }
 unstored_after n i f u = u
 
 -- An opening finds what was stored before the inputs for which they failed, or all that these were to store;

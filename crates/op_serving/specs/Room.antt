@@ -1,12 +1,14 @@
 -- Frames for which there is no room wait behind what waits for a connection, so that no more bytes wait there
 -- than are soon taken. What is urgent goes ahead of them, and what begins a new ballot takes their place.
-use Rattle.std.specs.Prelude.{◌++◌, ◌∷◌, [], ℕ, zero, suc, Bool, true, false, not, List, length, ◌==◌, ◌&&◌, ◌||◌, nat_lt, nat_le, if◌then◌else◌, Option, Some, None}
+use Rattle.std.specs.Prelude.{◌++◌, ◌∷◌, ◌*◌, [], ℕ, zero, suc, Bool, true, false, not, List, length, ◌==◌, ◌&&◌, ◌||◌, nat_lt, nat_le, if◌then◌else◌, Option, Some, None}
 use Rattle.std.specs.BTreeMap.{is_at}
 use Rattle.std.specs.Ordering.{nat_cmp}
 use Rattle.op_types.specs.Ballots.{is_same_ballot}
 use Rattle.op_types.specs.declared.messages.Body.{Body}
 use Rattle.op_types.specs.declared.messages.Body.TheVariants as body
 use Rattle.op_types.specs.declared.messages.Msg.{Msg}
+use Rattle.op_types.specs.declared.messages.Watch.TheVariants as watch
+use Rattle.op_types.specs.Limits.{most_part_bytes}
 use Rattle.op_serving.specs.declared.session.Session.{Session}
 use Rattle.op_serving.specs.State.{Table, Loop, find, without, is_open, waits_for}
 
@@ -70,15 +72,24 @@ frames_placed false f = []
 -- ---- what begins anew
 
 -- A ballot is prepared in which its leader has adopted no log yet: what was sent in ballots before is of no
--- use any more, and all else that may wait behind is asked for again.
+-- use any more, and all else that may wait behind is asked for again. An observer is shown entries: it has
+-- asked from where it is, and all else that waits behind for it answers what it asked before.
 abbrev pub begins_anew : Body → Bool
 begins_anew (body.Prepare n accepted len decided) = not (is_same_ballot accepted n)
+begins_anew (body.Watch (watch.Shown at es)) = true
 begins_anew _ = false
 
 -- what waits behind for a connection is dropped, if it is to be
 abbrev pub cleared : Bool → ℕ → Loop → Loop
 cleared true c s = record s { behind = without c s.behind }
 cleared false c s = s
+
+-- A piece of an observer's base is dropped where more frames wait behind than pieces of that base come before
+-- it: those are pieces of a base already, or are soon taken, and the observer asks again. So one base waits
+-- behind at most, and its pieces go in order, however often it is asked for.
+abbrev pub is_excess : Body → ℕ → Bool
+is_excess (body.Watch (watch.Base members p)) n = nat_lt p.from (n * most_part_bytes)
+is_excess _ n = false
 
 -- ---- what moves up
 

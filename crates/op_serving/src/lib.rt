@@ -2,6 +2,7 @@
 #![tactic(auto)]
 
 mod anew;
+mod excess;
 mod greeting;
 mod hearing;
 mod keys;
@@ -14,6 +15,7 @@ mod urgent;
 mod wanted;
 
 pub use anew::begins_anew;
+pub use excess::is_excess;
 pub use greeting::{Greeting, HELLO_LEN, read_greeting};
 pub use hearing::Heard;
 pub use keys::{Awaited, Key, Keys};

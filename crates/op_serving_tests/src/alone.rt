@@ -1,6 +1,6 @@
 //! A node that is the only member, on disks in memory.
 
-use crate::scripts::{Row, Server, Step, Wrote, first_other, seen_of};
+use crate::scripts::{Row, Server, Step, Wrote, seen_of};
 use op_outside::Happening;
 use op_pump::ServeEnd;
 use std::test::Fail;
@@ -29,7 +29,7 @@ const ZEROS_AND_HALVES: &[Step] = &[
 const LINE: &[u8] = b"\x0c\x00\x23node 1 config 1 decided 0 trimmed 0";
 
 /// A bad request, and a frame that is too long.
-const ROWS: [Row<'static>; 1] = [Row {
+pub const ROWS: &[Row] = &[Row {
     server: Server::Alone,
     steps: ZEROS_AND_HALVES,
     turns: 2,
@@ -40,12 +40,6 @@ const ROWS: [Row<'static>; 1] = [Row {
     end: ServeEnd::TurnsOver,
     lost: 0,
 }];
-
-#[test]
-fn a_bad_request_and_a_frame_that_is_too_long(rt: HostRuntime) -> Result<(), Fail> {
-    assert_eq!(rt; first_other(rt.alloc(), &ROWS)?, None);
-    Ok(())
-}
 
 /// Runs on which nothing comes, and the calls of the net: three waits without a happening, and a second wait that fails.
 const CALLS: [(Row<'static>, usize); 2] = [

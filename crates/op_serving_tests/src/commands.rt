@@ -1,8 +1,7 @@
 //! Commands that are read one after another are given as one list, each answered at its own connection.
-use crate::scripts::{Row, Server, Step, Wrote, first_other};
+use crate::scripts::{Row, Server, Step, Wrote};
 use op_outside::Happening;
 use op_pump::ServeEnd;
-use std::test::Fail;
 
 /// After so many turns there is a tick, at which the only member leads.
 const TICK: usize = 10;
@@ -65,7 +64,7 @@ const CUT_BY_END: &[Step] = &[
     Step::Comes(OTHER_PUT),
 ];
 
-const ROWS: [Row<'static>; 3] = [
+pub const ROWS: &[Row] = &[
     // Sixty-four commands, and one more.
     Row {
         server: Server::Alone,
@@ -106,9 +105,3 @@ const ROWS: [Row<'static>; 3] = [
         lost: 0,
     },
 ];
-
-#[test]
-fn commands_are_given_as_lists(rt: HostRuntime) -> Result<(), Fail> {
-    assert_eq!(rt; first_other(rt.alloc(), &ROWS)?, None);
-    Ok(())
-}

@@ -1,8 +1,7 @@
 //! A node that is the only member, and of whose disks a call fails.
-use crate::scripts::{Row, Server, Step, Wrote, first_other};
+use crate::scripts::{Row, Server, Step, Wrote};
 use op_outside::Happening;
 use op_pump::ServeEnd;
-use std::test::Fail;
 
 /// After so many turns there is a tick, at which the only member leads.
 const TICK: usize = 10;
@@ -60,7 +59,7 @@ const FAULT_AND_OPENING: &[Step] = &[
     Step::Comes(STATUS),
 ];
 
-const ROWS: [Row<'static>; 1] = [Row {
+pub const ROWS: &[Row] = &[Row {
     server: Server::Failing(SECOND_OF_PUT),
     steps: FAULT_AND_OPENING,
     turns: 31,
@@ -87,9 +86,3 @@ const ROWS: [Row<'static>; 1] = [Row {
     end: ServeEnd::TurnsOver,
     lost: 0,
 }];
-
-#[test]
-fn a_node_that_failed_is_opened_again_at_a_tick(rt: HostRuntime) -> Result<(), Fail> {
-    assert_eq!(rt; first_other(rt.alloc(), &ROWS)?, None);
-    Ok(())
-}

@@ -1,12 +1,11 @@
 //! A client that asks a node to end.
 
-use crate::scripts::{Row, Server, Step, Wrote, first_other};
+use crate::scripts::{Row, Server, Step, Wrote};
 use op_outside::Happening;
 use op_pump::ServeEnd;
-use std::test::Fail;
 
 /// The reply is the tag of Ended.
-const ROWS: [Row<'static>; 1] = [Row {
+pub const ROWS: &[Row] = &[Row {
     server: Server::Alone,
     steps: &[
         Step::Happens(&[Happening::Accepted(5), Happening::Readable(5)]),
@@ -17,9 +16,3 @@ const ROWS: [Row<'static>; 1] = [Row {
     end: ServeEnd::Ended,
     lost: 0,
 }];
-
-#[test]
-fn an_end_request_is_answered(rt: HostRuntime) -> Result<(), Fail> {
-    assert_eq!(rt; first_other(rt.alloc(), &ROWS)?, None);
-    Ok(())
-}

@@ -68,7 +68,8 @@ fn stops_in_a_put(alloc: Global, finds_after: bool) -> Result<Happenings, NoMemo
 /// Where the put that is sent last is appended, if the run ends and tells that line and its reply.
 fn appended_at(alloc: Global, finds_after: bool) -> Result<Option<u64>, NoMemory> {
     let happenings = stops_in_a_put(alloc, finds_after)?;
-    let Ok(world) = PureWorld::run(alloc, sole()?, Members::new(), happenings) else {
+    let Ok(world) = PureWorld::run(alloc, sole()?, Members::new(), Members::new(), happenings)
+    else {
         return Ok(None);
     };
     Ok(match world.lines() {
@@ -101,7 +102,7 @@ fn two_ticks(alloc: Global) -> Result<Happenings, NoMemory>
 fn refusal(alloc: Global, happenings: Happenings) -> Result<Option<RunFail>, NoMemory>
     requires { All (λ h. WhatInRange h.event.what) happenings }
 {
-    Ok(PureWorld::run(alloc, sole()?, Members::new(), happenings).err())
+    Ok(PureWorld::run(alloc, sole()?, Members::new(), Members::new(), happenings).err())
 }
 
 #[test]

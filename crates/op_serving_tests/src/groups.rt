@@ -1,6 +1,6 @@
 //! Messages of a peer and commands of clients that come in one turn are stored by one commit, whatever is read between
 //! them.
-use crate::scripts::{Row, Server, Step, Wrote, first_other, seen_of};
+use crate::scripts::{Row, Server, Step, Wrote, seen_of};
 use op_outside::Happening;
 use op_pump::ServeEnd;
 use std::alloc::Global;
@@ -174,7 +174,7 @@ const FAULT_WHILE_ONE_WAITS: &[Step] = &[
     Step::Comes(STATUS),
 ];
 
-const ROWS: [Row<'static>; 1] = [Row {
+pub const ROWS: &[Row] = &[Row {
     server: Server::FailingBeside(CALLS_BEFORE + 2),
     steps: FAULT_WHILE_ONE_WAITS,
     turns: 31,
@@ -196,9 +196,3 @@ const ROWS: [Row<'static>; 1] = [Row {
     end: ServeEnd::TurnsOver,
     lost: 0,
 }];
-
-#[test]
-fn a_fault_refuses_all_who_wait(rt: HostRuntime) -> Result<(), Fail> {
-    assert_eq!(rt; first_other(rt.alloc(), &ROWS)?, None);
-    Ok(())
-}

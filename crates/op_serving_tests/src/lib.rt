@@ -27,6 +27,8 @@ mod requests;
 #[cfg(test)]
 mod room;
 #[cfg(test)]
+mod rows;
+#[cfg(test)]
 mod scripts;
 #[cfg(test)]
 mod strangers;

@@ -1,8 +1,7 @@
 //! What no client and no peer sends, or not so: each closes its own session, or waits, and changes no other.
-use crate::scripts::{Conduct, Row, Server, Step, Wrote, first_other};
+use crate::scripts::{Conduct, Row, Server, Step, Wrote};
 use op_outside::{Happening, Took};
 use op_pump::ServeEnd;
-use std::test::Fail;
 
 /// A client's first byte, and a request for the status.
 const STATUS: &[u8] = b"C\0\0\0\x01\x04";
@@ -90,7 +89,7 @@ const IT_ALONE: &[Conduct] = &[
     (5, Wrote::Reply(LINE), 0),
 ];
 
-const ROWS: [Row<'static>; 2] = [
+pub const ROWS: &[Row] = &[
     Row {
         server: Server::Alone,
         steps: MALFORMED,
@@ -108,9 +107,3 @@ const ROWS: [Row<'static>; 2] = [
         lost: 0,
     },
 ];
-
-#[test]
-fn each_malformed_session_is_closed_or_waits_alone(rt: HostRuntime) -> Result<(), Fail> {
-    assert_eq!(rt; first_other(rt.alloc(), &ROWS)?, None);
-    Ok(())
-}

@@ -1,8 +1,7 @@
 //! A client that asks for more than may wait for it.
-use crate::scripts::{Row, Server, Step, Wrote, first_other};
+use crate::scripts::{Row, Server, Step, Wrote};
 use op_outside::Happening;
 use op_pump::ServeEnd;
-use std::test::Fail;
 
 /// After so many turns there is a tick, at which the only member leads.
 const TICK: usize = 10;
@@ -31,7 +30,7 @@ const TWO_SESSIONS: &[Happening] = &[
 ];
 
 /// Session 6 gets a value of 4096 bytes so often in one turn, in which session 7 puts: nothing is written before its end.
-const ROWS: [Row<'static>; 2] = [
+pub const ROWS: &[Row] = &[
     // The most replies wait, and go out.
     Row {
         server: Server::Alone,
@@ -70,9 +69,3 @@ const ROWS: [Row<'static>; 2] = [
         lost: 0,
     },
 ];
-
-#[test]
-fn the_most_replies_wait_and_go_out(rt: HostRuntime) -> Result<(), Fail> {
-    assert_eq!(rt; first_other(rt.alloc(), &ROWS)?, None);
-    Ok(())
-}

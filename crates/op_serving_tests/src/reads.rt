@@ -1,5 +1,5 @@
 //! Reads, each answered without an entry of the log, behind the commands of its own connection that came before it.
-use crate::scripts::{Conduct, Row, Server, Step, Wrote, first_other, seen_of};
+use crate::scripts::{Conduct, Row, Server, Step, Wrote, seen_of};
 use op_outside::{Conn, Happening};
 use op_pump::ServeEnd;
 use std::alloc::Global;
@@ -60,7 +60,7 @@ const READ_AND_PUT: &[Step] = &[
     Step::Comes(PUT),
 ];
 
-const ROWS: [Row<'static>; 3] = [
+pub const ROWS: &[Row] = &[
     // A leader answers reads.
     Row {
         server: Server::Alone,
@@ -129,12 +129,6 @@ const ROWS: [Row<'static>; 3] = [
         lost: 0,
     },
 ];
-
-#[test]
-fn reads_are_answered_or_refused(rt: HostRuntime) -> Result<(), Fail> {
-    assert_eq!(rt; first_other(rt.alloc(), &ROWS)?, None);
-    Ok(())
-}
 
 /// Node 2's first bytes.
 const HELLO: &[u8] = b"Q\0\0\0\x02";

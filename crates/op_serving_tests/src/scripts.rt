@@ -11,7 +11,7 @@ use op_node::Node;
 use op_outside::{Addr, Conn, Happening, Took};
 use op_pump::{ServeEnd, Served, serve};
 use op_setup::{MOST_TURNS, Peers, Settings};
-use op_types::{Members, NoMemory};
+use op_types::{Members, NoMemory, Pid, Seq};
 use std::alloc::Global;
 use std::collections::VecDeque;
 use std::test::Fail;
@@ -102,7 +102,9 @@ fn settings(alloc: Global, turns: u64, trim_every: Option<u64>) -> Result<Settin
         members: sole()?,
         peers: Peers::from_vec(peers),
         is_mirrored: false,
+        observers: Seq::new(alloc),
         trim_every,
+        cluster: None,
     })
 }
 

@@ -1,9 +1,8 @@
 //! Sessions of nobody that a node knows, and a second one of a peer.
 
-use crate::scripts::{Conduct, Row, Server, Step, Wrote, first_other};
+use crate::scripts::{Conduct, Row, Server, Step, Wrote};
 use op_outside::Happening;
 use op_pump::ServeEnd;
-use std::test::Fail;
 
 /// Sessions 3 to 9 send another first byte, an unknown id, the own id, a frame that is no message, one to
 /// another node, a status, and the hello of a node of the version before.
@@ -46,7 +45,7 @@ const CLOSED_ALONE: &[Conduct] = &[
     (9, Wrote::Bytes(b""), 1),
 ];
 
-const ROWS: [Row<'static>; 2] = [
+pub const ROWS: &[Row] = &[
     // Malformed sessions are closed alone.
     Row {
         server: Server::Alone,
@@ -75,9 +74,3 @@ const ROWS: [Row<'static>; 2] = [
         lost: 0,
     },
 ];
-
-#[test]
-fn strange_sessions_are_closed_alone(rt: HostRuntime) -> Result<(), Fail> {
-    assert_eq!(rt; first_other(rt.alloc(), &ROWS)?, None);
-    Ok(())
-}

@@ -1,8 +1,7 @@
 //! A node that trims by itself, right behind a tick, once so many decided entries are not trimmed.
-use crate::scripts::{Row, Server, Step, Wrote, first_other};
+use crate::scripts::{Row, Server, Step, Wrote};
 use op_outside::Happening;
 use op_pump::ServeEnd;
-use std::test::Fail;
 
 /// After so many turns there is a tick, at which the only member leads.
 const TICK: usize = 10;
@@ -36,7 +35,7 @@ const THREE_PUTS: &[Step] = &[
     Step::Comes(STATUS),
 ];
 
-const ROWS: [Row<'static>; 1] = [
+pub const ROWS: &[Row] = &[
     // It trims at three entries.
     Row {
         server: Server::Trimming(3),
@@ -64,9 +63,3 @@ const ROWS: [Row<'static>; 1] = [
         lost: 0,
     },
 ];
-
-#[test]
-fn a_leader_trims_by_itself(rt: HostRuntime) -> Result<(), Fail> {
-    assert_eq!(rt; first_other(rt.alloc(), &ROWS)?, None);
-    Ok(())
-}

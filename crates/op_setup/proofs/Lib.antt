@@ -1,4 +1,7 @@
 pub mod AddressTexts
+pub mod Apart
+pub mod FirstBytes
+pub mod Identities
 pub mod KeyValues
 pub mod OnePeers
 pub mod PeerIds

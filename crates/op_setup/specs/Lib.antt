@@ -2,5 +2,8 @@ pub mod Tasks
 pub mod Requests
 pub mod Commands
 pub mod Addresses
+pub mod Identities
+pub mod Names
+pub mod Splits
 pub mod Settings
 pub mod Causes

@@ -1,14 +1,15 @@
 -- What a text of settings sets.
-use Rattle.std.specs.Prelude.{◌≡◌, ◌⊎◌, ◌≤◌, ◌^◌, ℕ, Bool, false, List, length, map, codes, decimal, pos, Option, Some, None, IsUtf8, All, Contains}
+use Rattle.std.specs.Prelude.{◌≡◌, ◌⊎◌, ◌≤◌, ◌^◌, ℕ, Bool, false, List, [], length, map, codes, decimal, pos, Option, Some, None, IsUtf8, All, Contains}
 use Rattle.std.specs.Map.{keys_of}
 use Rattle.toml.specs.Data.{Data, Members as Table, integer, array, string, boolean, get_member}
 use Rattle.toml.specs.Data.{table as subtable}
 use Rattle.toml.specs.Parse.{parse_document}
 use Rattle.toml.specs.View.{items_of}
-use Rattle.op_types.specs.Ranges.{IsPid, AreRising, MembersInRange}
+use Rattle.op_types.specs.Ranges.{IsPid, IsMember, AreRising, MembersInRange}
 use Rattle.op_outside.specs.declared.net.Addr.{Addr}
 use Rattle.op_setup.specs.declared.config.Settings.{Settings}
 use Rattle.op_setup.specs.Addresses.{AddrInRange, addr_text}
+use Rattle.op_setup.specs.Identities.{IsClusterName}
 
 -- the most milliseconds between two ticks
 abbrev pub most_tick_ms : ℕ
@@ -97,10 +98,28 @@ SetsMirror table b =
     let value = get_member (codes "mirror") table in
     (value ≡ Some (boolean b)) ⊎ ((value ≡ None) × (b ≡ false))
 
+-- the nodes that never vote, as an array of rising ids: each is a peer's, and none is a member's, too
+pub record HasObservers (table : Table) (members : List ℕ) (peers : List Peer) (ids : List ℕ) : Type 0 where
+  pub there : get_member (codes "observers") table ≡ Some (array (items_of (map id_data ids)))
+  pub rising : AreRising 0 ids
+  pub peers_are : All (Contains (keys_of peers)) ids
+  pub apart : (id : ℕ) → IsMember ids id → IsMember members id → ⊥
+
+-- these nodes never vote; absent, the key says that there are none
+abbrev pub SetsObservers : Table → List ℕ → List Peer → List ℕ → Type 0
+SetsObservers table members peers ids =
+    HasObservers table members peers ids
+    ⊎ ((get_member (codes "observers") table ≡ None) × (ids ≡ []))
+
 -- at how many untrimmed entries a leader trims by itself; absent, it never does
 abbrev pub SetsTrimEvery : Table → Option ℕ → Type 0
 SetsTrimEvery table None = get_member (codes "trim_every") table ≡ None
 SetsTrimEvery table (Some n) = HasNumber table (codes "trim_every") most_trim_every n
+
+-- the name of the cluster; absent, it has none
+abbrev pub SetsCluster : Table → Option (List ℕ) → Type 0
+SetsCluster table None = get_member (codes "cluster") table ≡ None
+SetsCluster table (Some name) = (get_member (codes "cluster") table ≡ Some (string name)) × IsClusterName name
 
 -- the own id, where there is one, is a peer's
 abbrev pub IsAmong : List Peer → Option ℕ → Type 0
@@ -114,7 +133,9 @@ pub record AreSettings (table : Table) (id : Option ℕ) (s : Settings) : Type 0
   pub members : SetsMembers table s.members
   pub peers : SetsPeers table s.members s.peers
   pub mirror : SetsMirror table s.is_mirrored
+  pub observers : SetsObservers table s.members s.peers s.observers
   pub trim_every : SetsTrimEvery table s.trim_every
+  pub cluster : SetsCluster table s.cluster
   pub own : IsAmong s.peers id
 
 -- the text sets these; other keys are ignored

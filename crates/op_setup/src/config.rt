@@ -1,7 +1,7 @@
 //! What a text of settings sets.
 
 use op_outside::Addr;
-use op_types::{Members, Pid, Seq};
+use op_types::{Blob, Members, Pid, Seq};
 
 /// The most milliseconds between two ticks.
 pub const MOST_TICK_MS: u64 = 60_000;
@@ -14,6 +14,18 @@ pub const MOST_TRIM_EVERY: u64 = 1_000_000_000_000;
 
 /// The most nodes of a cluster.
 pub const MOST_PEERS: usize = 62;
+
+/// The keys that settings have.
+pub const KEYS: [&str; 8] = [
+    "tick_ms",
+    "turns",
+    "members",
+    "peers",
+    "mirror",
+    "observers",
+    "trim_every",
+    "cluster",
+];
 
 /// Each node's id and its address, by rising id.
 pub type Peers = Seq<(Pid, Addr)>;
@@ -31,7 +43,12 @@ pub struct Settings {
     pub peers: Peers,
     /// Each of the node's two areas is kept twice, on disks of their own.
     pub is_mirrored: bool,
+    /// The nodes that never vote, rising: each is among the peers, and none is a member.
+    pub observers: Seq<Pid>,
     /// At how many decided entries that are not trimmed, from 1 to 10^12, the leader trims by itself, behind
     /// a tick. None: it trims only where it is asked to.
     pub trim_every: Option<u64>,
+    /// The name of the cluster, of 1 to 64 letters, digits, `.` or `_`, which a node's folder has to say, too.
+    /// None: nothing is asked of the folder.
+    pub cluster: Option<Blob>,
 }

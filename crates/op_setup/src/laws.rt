@@ -5,6 +5,7 @@ ghost use Rattle.op_setup.specs.declared.config.Settings.{Settings};
 ghost use Rattle.op_setup.specs.declared.config_cause.ConfigCause.{ConfigCause};
 ghost use Rattle.op_setup.specs.Settings.{IsSettings};
 ghost use Rattle.op_setup.specs.Causes.{IsFirstCause};
+ghost use Rattle.op_setup.specs.Identities.{IsIdentity};
 ghost use Rattle.op_setup.specs.Tasks.{DrillsLinks, IsTaskOf, has_flag};
 
 /// No two tasks have the same words, and words of which one begins with `-` are no other task's than a drill's of links.
@@ -22,4 +23,10 @@ pub fn settings_are_unambiguous()
         IsFirstCause text id c → IsFirstCause text id d → c ≡ d }
     ensures apart { (text : List ℕ) (id : Option ℕ) (s : Settings) (c : ConfigCause) →
         IsSettings text id s → IsFirstCause text id c → ⊥ }
+{}
+
+/// A text tells one identity: no two ids, names or rests.
+pub fn identities_are_unambiguous()
+    ensures { (text : List ℕ) (i j : ℕ) (m n a b : List ℕ) → IsIdentity text i m a → IsIdentity text j n b →
+        (i ≡ j) × (m ≡ n) × (a ≡ b) }
 {}

@@ -9,10 +9,10 @@ use Rattle.std.specs.BTreeMap.{insert_entry}
 use Rattle.std.proofs.lemmas.List.Elements.{All-cons, All-head, All-tail, All-append, All-take, All-drop}
 use Rattle.std.proofs.lemmas.List.{length-take-le}
 use Rattle.op_types.specs.Limits.{greatest_pid, last_conf}
-use Rattle.op_types.specs.Ranges.{MembersInRange, EntryInRange}
+use Rattle.op_types.specs.Ranges.{IsPlace, MembersInRange, EntryInRange}
 use Rattle.op_types.specs.Stops.{stop_of, stop_at_end, named_by}
 use Rattle.op_types.specs.Joinings.{Base, held_at, held_with_entry, held_with, with_first, held_run, covered}
-use Rattle.op_types.specs.Changes.{IsCommand, IsEnded, decided_tail, part_with, part_option_with, new_part, closed_by, part_after_closed, durable_closing, durable_joined, joining_with, joining_option_with, durable_joining, durable_with, durable_after, PartApplies, PartOptionApplies, JoiningApplies, JoiningOptionApplies, ChangeApplies, Applies}
+use Rattle.op_types.specs.Changes.{IsCommand, IsEnded, decided_tail, part_with, part_option_with, new_part, part_based, closed_by, part_after_closed, durable_closing, durable_joined, joining_with, joining_option_with, durable_joining, durable_with, durable_after, PartApplies, PartOptionApplies, JoiningApplies, JoiningOptionApplies, ChangeApplies, Applies}
 use Rattle.op_types.specs.declared.log.Entry.{Entry}
 use Rattle.op_types.specs.declared.log.Entry.TheVariants as entry
 use Rattle.op_types.specs.declared.durable.Part.{Part}
@@ -81,6 +81,7 @@ part_after p (change.JoinDonor q trimmed) r range applies = absurd applies
 part_after p (change.JoinBase at base) r range applies = absurd applies
 part_after p (change.JoinPart at es) r range applies = absurd applies
 part_after p (change.JoinDone base) r range applies = absurd applies
+part_after p (change.Rebase conf members at base) r range applies = absurd applies
 
 option_after : (o : Option Part) (c : Change) → IfSome o PartInRange → ChangeInRange c → PartOptionApplies o c → IfSome (part_option_with o c) PartInRange
 option_after None c r range applies = absurd applies
@@ -102,20 +103,23 @@ ended_some : (es : List Entry) → is_some (stop_at_end es) ≡ true → 1 ≤ l
 ended_some [] is = absurd (cc)
 ended_some (e ∷ es) is = omega arith
 
-new_part_in_range : (conf : ℕ) (members base : List ℕ) → 1 ≤ conf → conf ≤ last_conf → MembersInRange members → IsBase base → PartInRange (new_part conf members base)
-new_part_in_range conf members base low high range is =
+based_in_range : (conf : ℕ) (members : List ℕ) (at : ℕ) (base : List ℕ) → 1 ≤ conf → conf ≤ last_conf → MembersInRange members → IsPlace at → IsBase base → PartInRange (part_based conf members at base)
+based_in_range conf members at base low high range place is =
     record {
       conf = (low, high);
       members = range;
       promised = record { number = omega arith; pid = omega arith; owner = λ some. absurd (omega arith) };
       accepted = record { number = omega arith; pid = omega arith; owner = λ some. absurd (omega arith) };
       base = is;
-      len = omega arith;
+      len = omega (arith, place);
       entries = λ k d lt. absurd (omega arith);
       ends = λ last k d lt. absurd (omega arith);
       decided = (omega arith, omega arith);
       room = refl;
     }
+
+new_part_in_range : (conf : ℕ) (members base : List ℕ) → 1 ≤ conf → conf ≤ last_conf → MembersInRange members → IsBase base → PartInRange (new_part conf members base)
+new_part_in_range conf members base low high range is = based_in_range conf members 0 base low high range (omega arith) is
 
 closed_in_range : (p : Part) → PartInRange p → IsEnded p → ClosedInRange (closed_by p)
 closed_in_range p r ended =
@@ -248,6 +252,7 @@ joining_after j (change.Decided x) r range applies = absurd applies
 joining_after j (change.Trim x base) r range applies = absurd applies
 joining_after j (change.Close named base) r range applies = absurd applies
 joining_after j (change.JoinBegin conf members olds len) r range applies = absurd applies
+joining_after j (change.Rebase conf members at base) r range applies = absurd applies
 
 joining_option_after : (o : Option Joining) (c : Change) → IfSome o JoiningInRange → ChangeInRange c → JoiningOptionApplies o c → IfSome (joining_option_with o c) JoiningInRange
 joining_option_after None c r range applies = absurd applies
@@ -315,6 +320,7 @@ change_after d (change.JoinBase at base) r range applies =
 change_after d (change.JoinPart at es) r range applies =
     record { part = r.part; closed = r.closed; joining = joining_option_after d.joining (change.JoinPart at es) r.joining range applies }
 change_after d (change.JoinDone base) r range applies = joining_ends d.joining d base r.joining range r
+change_after d (change.Rebase conf members at base) r range applies = record { part = based_in_range conf members at base range.0.0 range.0.1 range.1 range.2 range.3; closed = r.closed; joining = r.joining }
 
 pub batch_after : (d : Durable) (batch : List Change) → DurableInRange d → All ChangeInRange batch → Applies d batch → DurableInRange (durable_after d batch)
 batch_after d [] r range applies = r

@@ -2,6 +2,10 @@
 #![tactic(auto)]
 
 #[cfg(test)]
+mod copies;
+#[cfg(test)]
 mod edges;
+#[cfg(test)]
+mod limits;
 #[cfg(test)]
 mod streams;

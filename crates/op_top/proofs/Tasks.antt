@@ -1,5 +1,5 @@
 -- What is done, by what the words ask.
-use Rattle.std.proofs.Common.{◌≡◌, ℕ, List, [], Bool, true, false, Option, Some, None, Err, refl, sym, subst, inl, inr}
+use Rattle.std.proofs.Common.{◌≡◌, ℕ, List, [], Bool, true, false, Option, Some, None, Result, Ok, Err, refl, sym, subst, inl, inr}
 use Rattle.op_outside.specs.Disks.{DiskState}
 use Rattle.op_outside.specs.declared.disk.Disk.{Ghosts}
 use Rattle.op_setup.specs.Tasks.{IsTask, IsTaskOf, TaskInRange, task_words}
@@ -11,6 +11,7 @@ use Rattle.op_serving.specs.declared.mark.Mark.{Mark}
 use Rattle.op_client.specs.declared.call_fail.CallFail.{CallFail}
 use Rattle.op_client.specs.declared.call_fail.CallFail.TheVariants as fail
 use Rattle.op_node.specs.Nodes.{NodeState}
+use Rattle.op_runs.specs.Possible.{kind_in}
 use Rattle.op_serving.specs.declared.serve_end.ServeEnd.{ServeEnd}
 use Rattle.op_serving.specs.declared.serve_end.ServeEnd.TheVariants as ends
 use Rattle.op_status.specs.declared.status.Status.{Status}
@@ -20,6 +21,7 @@ use Rattle.op_replay.specs.Answers.{AnswersReplay, Replays}
 use Rattle.op_mirror.specs.Mirrors.{known_mirror}
 use Rattle.op_mirror.specs.declared.opening.OpenCause.{OpenCause}
 use Rattle.op_mirror.specs.declared.opening.OpenCause.TheVariants as cause
+use Rattle.op_serve.specs.Folders as folder
 use Rattle.op_serve.specs.Nodes as node
 use Rattle.op_serve.specs.Mirrored as mirrored
 use Rattle.op_serve.specs.declared.node_disks.NodeDisks.{NodeDisks}
@@ -58,6 +60,8 @@ misconfigured left id before now (status.Damaged area place) h = tt
 misconfigured left id before now status.ChildFault h = tt
 misconfigured left id before now status.NoReply h = tt
 misconfigured left id before now (status.NewerVersion area version) h = tt
+misconfigured left id before now status.NoIdentity h = tt
+misconfigured left id before now (status.OtherIdentity i n) h = tt
 
 served : (end : ServeEnd) → IsNoUsage (node.status_of end)
 served ends.Ended = tt
@@ -81,6 +85,8 @@ heard id o status.ChildFault net0 net1 out0 out1 h = tt
 heard id o status.InputLimit net0 net1 out0 out1 h = tt
 heard id o status.NoReply net0 net1 out0 out1 h = tt
 heard id o (status.NewerVersion area version) net0 net1 out0 out1 h = tt
+heard id o status.NoIdentity net0 net1 out0 out1 h = tt
+heard id o (status.OtherIdentity i n) net0 net1 out0 out1 h = tt
 
 node_goes : {D : Type 0} (state : D → DiskState) (id : ℕ) (o : Settings) (n : NodeState) (stood : Type 0) (old new : node.Around D) (s : Status) (lost : List Mark) → node.Goes state id o n stood old new s lost → IsNoUsage s
 node_goes state id o n stood old new s lost (node.is_unheard h same lives) = heard id o s old.net new.net old.output new.output h
@@ -93,25 +99,60 @@ node_ends state id o old new s lost (node.is_damaged a b c) = tt
 node_ends state id o old new s lost (node.is_newer a b c) = tt
 node_ends state id o old new s lost (node.has_no_memory a b) = tt
 node_ends state id o old new s lost (node.is_opened {n} mid opened goes) =
-    node_goes state id o n (node.IsOwn state id old opened.durable) mid new s lost goes
+    node_goes state id o n (node.IsOwn state (kind_in o.observers id) id old opened.durable) mid new s lost goes
+node_ends state id o old new s lost (node.is_not_marked opened lives) = tt
 
 unopened : (c : OpenCause) → IsNoUsage (mirrored.status_of_cause c)
 unopened cause.DiskFail = tt
 unopened cause.NoMemory = tt
 
 module _ {D : Type 0} (disk : Ghosts D) (id : ℕ) where
-  mirrors_end : (o : Settings) (old new : mirrored.Environment D) (s : Status) (lost : List Mark) → mirrored.EndsOverMirrors disk id o old new s lost → IsNoUsage s
-  mirrors_end o old new s lost (mirrored.first_refused c x y r same) = unopened c
-  mirrors_end o old new s lost (mirrored.second_refused c a x y opens r same) = unopened c
-  mirrors_end o old new s lost (mirrored.are_open a b c d at_a at_b ends copies failed) = node_ends (known_mirror disk.state) id o _ _ s lost ends
+  mirrors_end : (begins : Option ℕ) (o : Settings) (old new : mirrored.Environment D) (s : Status) (lost : List Mark) → mirrored.EndsOverMirrors disk begins id o old new s lost → IsNoUsage s
+  mirrors_end begins o old new s lost (mirrored.first_refused c x y r same) = unopened c
+  mirrors_end begins o old new s lost (mirrored.second_refused c a x y opens r same) = unopened c
+  mirrors_end begins o old new s lost (mirrored.are_open a b c d at_a at_b ends copies marked failed) = node_ends (known_mirror disk.state) id o _ _ s lost ends
 
-  ends_with : (b : Bool) (o : Settings) (old new : mirrored.Environment D) (s : Status) (lost : List Mark) → mirrored.EndsWith disk b id o old new s lost → IsNoUsage s
-  ends_with false o old new s lost e = node_ends disk.state id o _ _ s lost e.ends
-  ends_with true o old new s lost e = mirrors_end o old new s lost e.ends
+  ends_with : (b : Bool) (begins : Option ℕ) (o : Settings) (old new : mirrored.Environment D) (s : Status) (lost : List Mark) → mirrored.EndsWith disk b begins id o old new s lost → IsNoUsage s
+  ends_with false begins o old new s lost e = node_ends disk.state id o _ _ s lost e.ends
+  ends_with true begins o old new s lost e = mirrors_end begins o old new s lost e.ends
+
+  -- a node that may not begin ends so
+  abbrev IsNoUsageIn : Result (Option ℕ) Status → Type 0
+  IsNoUsageIn (Ok begins) = Unit {0}
+  IsNoUsageIn (Err s) = IsNoUsage s
+
+  without_areas : (b : Bool) (old new : NodeDisks D) (r : Result (Option ℕ) Status) → folder.HasAreas disk b old new r → IsNoUsageIn r
+  without_areas b old new (Ok begins) h = tt
+  without_areas b old new (Err status.Usage) h = absurd h
+  without_areas b old new (Err status.Ended) h = tt
+  without_areas b old new (Err (status.BadConfig c)) h = tt
+  without_areas b old new (Err (status.BadSchedule n)) h = tt
+  without_areas b old new (Err status.ReadFault) h = tt
+  without_areas b old new (Err status.WriteFault) h = tt
+  without_areas b old new (Err status.DiskFault) h = tt
+  without_areas b old new (Err status.NetFault) h = tt
+  without_areas b old new (Err status.NoMemory) h = tt
+  without_areas b old new (Err status.TurnsOver) h = tt
+  without_areas b old new (Err (status.Damaged area place)) h = tt
+  without_areas b old new (Err status.ChildFault) h = tt
+  without_areas b old new (Err status.InputLimit) h = tt
+  without_areas b old new (Err status.NoReply) h = tt
+  without_areas b old new (Err (status.NewerVersion area version)) h = tt
+  without_areas b old new (Err status.NoIdentity) h = tt
+  without_areas b old new (Err (status.OtherIdentity i n)) h = tt
+
+  may_begin : (o : Settings) (old new : NodeDisks D) (r : Result (Option ℕ) Status) → folder.MayBegin disk id o old new r → IsNoUsageIn r
+  may_begin o old new r (folder.has_no_name none same) = tt
+  may_begin o old new r (folder.is_to_begin at asks) = tt
+  may_begin o old new r (folder.has_begun mid asks areas) = without_areas o.is_mirrored mid new r areas
+  may_begin o old new r (folder.is_nobodys asks) = tt
+  may_begin o old new r (folder.is_others i n asks) = tt
+  may_begin o old new r (folder.is_unreadable e asks) = tt
 
   pub node_serves : (in0 in1 : StreamSeen) (old new : mirrored.Environment D) (s : Status) (lost : List Mark) → mirrored.Serves disk id in0 in1 old new s lost → IsNoUsage s
   node_serves in0 in1 old new s lost (mirrored.is_misconfigured h rises most same) = misconfigured in0.0 (Some id) in0.1 in1.1 s h
-  node_serves in0 in1 old new s lost (mirrored.is_configured o c same e) = ends_with o.is_mirrored o old new s lost e
+  node_serves in0 in1 old new s lost (mirrored.is_not_admitted o c same may only) = may_begin o old.disks new.disks (Err s) may
+  node_serves in0 in1 old new s lost (mirrored.is_configured o begins seen c same may e) = ends_with o.is_mirrored begins o _ new s lost e
 
 failed : (why : CallFail) → IsNoUsage (call.status_of why)
 failed fail.NoReply = tt
@@ -156,6 +197,8 @@ replayed status.ChildFault h = tt
 replayed status.InputLimit h = tt
 replayed status.NoReply h = tt
 replayed (status.NewerVersion area version) h = tt
+replayed status.NoIdentity h = tt
+replayed (status.OtherIdentity i n) h = tt
 
 -- ---- what is done
 

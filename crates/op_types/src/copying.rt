@@ -103,6 +103,9 @@ impl Change {
                 Change::JoinPart(*at, copy_entries(alloc, entries.as_slice())?)
             }
             Change::JoinDone(base) => Change::JoinDone(base.copy()?),
+            Change::Rebase(conf, members, at, base) => {
+                Change::Rebase(*conf, members.copy()?, *at, base.copy()?)
+            }
         })
     }
 }

@@ -3,7 +3,7 @@ ghost use Rattle.std.specs.Prelude.{◌≡◌, ◌+◌, ◌≤◌, ◌<◌, ◌^
 ghost use Rattle.std.specs.Option.{option_copied};
 ghost use Rattle.op_types.specs.Stops.{stop_of, stop_at_end, named_by};
 ghost use Rattle.op_types.specs.Joinings.{Base, donor_at, DonorApplies, IsWhole, cover_of, first_joining};
-ghost use Rattle.op_types.specs.Changes.{IsCommand, EndsNowhere, IsEnded, PartApplies, PartOptionApplies, JoiningApplies, JoiningOptionApplies, ChangeApplies, len_of, decided_tail, part_with, part_trimmed, new_part, closed_by, closed_joined, durable_closing, durable_joining};
+ghost use Rattle.op_types.specs.Changes.{IsCommand, EndsNowhere, IsEnded, PartApplies, PartOptionApplies, JoiningApplies, JoiningOptionApplies, ChangeApplies, len_of, decided_tail, part_with, part_trimmed, new_part, part_based, closed_by, closed_joined, durable_closing, durable_joining};
 ghost use Rattle.op_types.specs.Rooms.{needed_by, part_room, joining_room};
 ghost use Rattle.op_types.specs.Adopting.{part_taking, joining_taking, durable_taking};
 
@@ -69,15 +69,22 @@ impl Part {
     fn first(alloc: Global, conf: ConfNo, members: Members, base: Blob) -> Part
         ensures { result ≡ new_part conf members base }
     {
+        Part::based(alloc, conf, members, 0, base)
+    }
+
+    /// A part that begins at a position of its configuration's list.
+    fn based(alloc: Global, conf: ConfNo, members: Members, at: u64, base: Blob) -> Part
+        ensures { result ≡ part_based conf members at base }
+    {
         Part {
             conf,
             members,
             promised: Ballot::NONE,
             accepted: Ballot::NONE,
             base,
-            trimmed: 0,
+            trimmed: at,
             tail: Reserved::new(alloc),
-            decided: 0,
+            decided: at,
         }
     }
 
@@ -153,7 +160,8 @@ impl Part {
             | Change::JoinDonor(_, _)
             | Change::JoinBase(_, _)
             | Change::JoinPart(_, _)
-            | Change::JoinDone(_) => false,
+            | Change::JoinDone(_)
+            | Change::Rebase(_, _, _, _) => false,
         }
     }
 
@@ -191,7 +199,8 @@ impl Part {
             | Change::JoinDonor(_, _)
             | Change::JoinBase(_, _)
             | Change::JoinPart(_, _)
-            | Change::JoinDone(_) => {}
+            | Change::JoinDone(_)
+            | Change::Rebase(_, _, _, _) => {}
         }
     }
 
@@ -265,7 +274,8 @@ impl Joining {
             | Change::Decided(_)
             | Change::Trim(_, _)
             | Change::Close(_, _)
-            | Change::JoinBegin(_, _, _, _) => false,
+            | Change::JoinBegin(_, _, _, _)
+            | Change::Rebase(_, _, _, _) => false,
         }
     }
 
@@ -291,7 +301,8 @@ impl Joining {
             | Change::Trim(_, _)
             | Change::Close(_, _)
             | Change::JoinBegin(_, _, _, _)
-            | Change::JoinDone(_) => {}
+            | Change::JoinDone(_)
+            | Change::Rebase(_, _, _, _) => {}
         }
     }
 
@@ -337,6 +348,7 @@ impl Durable {
     {
         match change {
             Change::JoinBegin(_, _, _, _) => true,
+            Change::Rebase(_, _, at, _) => *at as u128 <= POSITIONS_END,
             Change::JoinDonor(_, _)
             | Change::JoinBase(_, _)
             | Change::JoinPart(_, _)
@@ -371,6 +383,9 @@ impl Durable {
                 self.joining = Some(Joining::first(alloc, conf, members, olds, len));
             }
             Change::JoinDone(base) => self.join(alloc, base),
+            Change::Rebase(conf, members, at, base) => {
+                self.part = Some(Part::based(alloc, conf, members.get().copy(), at, base));
+            }
             Change::JoinDonor(_, _) | Change::JoinBase(_, _) | Change::JoinPart(_, _) => {
                 match &mut self.joining {
                     Some(joining) => joining.take(change),

@@ -6,7 +6,7 @@ ghost use Rattle.op_types.specs.Roles.{role_of, turned, if_preparing, if_leading
 
 use crate::staging::remove_stages;
 use crate::{
-    Acknowledged, Ballot, Buffer, ElectionState, Entries, Heard, Held, Pid, Piece, Pieces,
+    Acknowledged, Ballot, Buffer, ConfNo, ElectionState, Entries, Heard, Held, Pid, Piece, Pieces,
     Promised, PromisedRun, Report, Reserved, Role,
 };
 
@@ -43,6 +43,9 @@ pub enum Turn {
     Stage(u64, Entries, u64),
     /// A node that joins stages a piece of a base: among those before it, or as the first of these.
     StagePiece(Piece, Option<Pieces>),
+    /// An observer stages a piece of a base of this configuration: among those before it, or as the first of
+    /// these.
+    StageBase(ConfNo, Piece, Option<Pieces>),
     /// No piece of a base is staged.
     DropPieces,
     /// A heartbeat reply of the current round is kept.
@@ -63,6 +66,7 @@ impl Turn {
             Turn::Stay
             | Turn::Stage(_, _, _)
             | Turn::StagePiece(_, _)
+            | Turn::StageBase(_, _, _)
             | Turn::DropPieces
             | Turn::Hear(_)
             | Turn::RaiseFloor(_)

@@ -10,18 +10,19 @@ use Rattle.op_runs.specs.declared.events.Event.{Event}
 use Rattle.op_runs.specs.declared.summary.Summary.{Summary}
 use Rattle.op_runs.specs.World.{World, Sent, Happening, first_world, world_after, run_of, done_event, all_done, deed_of}
 use Rattle.op_runs.specs.Run.{Execution, first_execution, execution_of}
-use Rattle.op_runs.specs.Possible.{is_possible, is_possible_in, most_proposals, proposals_of, SparesInRange, WhatInRange}
+use Rattle.op_runs.specs.Possible.{is_possible, is_possible_in, most_proposals, proposals_of, ObserversInRange, SparesInRange, WhatInRange}
 use Rattle.op_areas.specs.Media.{Medium}
 use Rattle.op_runs.specs.Schedules.{DiskPlans, no_plans, plans_after, Becomes, TellsNoFault}
 use Rattle.op_runs.specs.Summary.{summary_of}
 use Rattle.op_gen.specs.declared.generator.Gen.{Gen}
-use Rattle.op_gen.specs.Draws.{drill_members, drill_spares, drill_nodes, drill_mirrored, gen_of, event_drawn, DrawnFrom, AreDrawn}
+use Rattle.op_gen.specs.Draws.{drill_members, drill_spares, drill_ids, drill_mirrored, gen_of, event_drawn, DrawnFrom, AreDrawn}
 use Rattle.op_laws.proofs.Reached.{world_of_run}
 use Rattle.op_executions.specs.PlainRuns.{ArePlain}
 use Rattle.op_executions.proofs.PlainRuns.{StopsBetween, NothingIsPlanned, first_plain, stays_plain, nothing_after, done_one, is_done, same_deed}
 use Rattle.op_world.specs.Events.{EventComes}
 use Rattle.op_world.specs.Runs.{IsReportOfDrawn}
 use Rattle.op_world.specs.Worlds.{Parts, Shows}
+use Rattle.op_executions.proofs.Behind.{no_observers}
 use Rattle.op_world.proofs.Runs.{Ran, ran_first, ran_next, whether_plain, plain_report, other_report}
 
 -- ---- the drill's servers
@@ -40,6 +41,9 @@ drill_beside = record {
   rising = (omega arith, omega arith, (omega arith, omega arith, tt));
   apart = λ q spare. no_member q (IsAmong-is_member drill_spares q spare);
 }
+
+pub drill_alone : ObserversInRange drill_members drill_spares []
+drill_alone = no_observers drill_members drill_spares
 
 -- ---- lists
 
@@ -72,7 +76,7 @@ pub record IsDrawn (seed count : ℕ) (g : Gen) (t : Execution) (plans : DiskPla
   pub numbered : g.number ≡ count + 1
   pub draws : DrawsOn seed t.world plans g events happenings
   pub plainly : ArePlain events → DrawsPlainly seed t.world plans g events
-  pub ran : Ran drill_members drill_spares drill_mirrored t plans events happenings proposed
+  pub ran : Ran drill_members drill_spares [] drill_mirrored t plans events happenings proposed
 
 pub drawn_first : (seed : ℕ) (g : Gen) (proposed : ℕ) → g ≡ gen_of seed → proposed ≡ 0 → IsDrawn seed 0 g (first_execution drill_members drill_spares) no_plans proposed
 drawn_first seed g proposed is none =
@@ -85,11 +89,11 @@ drawn_first seed g proposed is none =
       numbered = ap (λ (h : Gen). h.number) is;
       draws = draws;
       plainly = λ plain. record { stops = first_plain drill_members drill_spares; nothing = λ pid. refl; draws = draws };
-      ran = ran_first drill_members drill_spares drill_mirrored proposed none;
+      ran = ran_first drill_members drill_spares [] drill_mirrored proposed none;
     }
 
 module _ {D C : Type 0} (M : Medium D C) (unmirrored : M.is_mirrored ≡ drill_mirrored) (seed count : ℕ) (g : Gen) (old new : Parts D C) (t : Execution) (plans : DiskPlans) (e : Event) (proposed more : ℕ) (d : IsDrawn seed count g t plans proposed) (show : Shows M old t) (drawn : e ≡ (event_drawn (length old.messages) g).0)
-    (can : is_possible drill_nodes (length old.messages) e.what ≡ true) (comes : EventComes M old e t plans new) where
+    (can : is_possible drill_ids (length old.messages) e.what ≡ true) (comes : EventComes M old e t plans new) where
   abbrev now : List Happening
   now = comes.happenings
 
@@ -103,8 +107,8 @@ module _ {D C : Type 0} (M : Medium D C) (unmirrored : M.is_mirrored ≡ drill_m
   drawn_there : e ≡ (event_drawn (length t.world.messages) g).0
   drawn_there = drawn ∙ ap (λ (n : ℕ). (event_drawn n g).0) seen
 
-  possible : is_possible_in drill_nodes t.world e ≡ true
-  possible = ap (λ (n : ℕ). is_possible drill_nodes n e.what) (sym seen) ∙ can
+  possible : is_possible_in drill_ids t.world e ≡ true
+  possible = ap (λ (n : ℕ). is_possible drill_ids n e.what) (sym seen) ∙ can
 
   -- what is drawn later, in the world that the happenings come to
   drawn_later : (w : World) (es : List Event) (later : List Happening) → (execution_of t now).world ≡ w → DrawnFrom (execution_of t now).world (plans_after t.world plans e.what) next_gen es later
@@ -127,7 +131,7 @@ module _ {D C : Type 0} (M : Medium D C) (unmirrored : M.is_mirrored ≡ drill_m
       let before : ArePlain d.events = all_front (λ (x : Event). TellsNoFault x.what) d.events (e ∷ []) plain in
       let here : TellsNoFault e.what = All-head (λ (x : Event). TellsNoFault x.what) e [] (all_back (λ (x : Event). TellsNoFault x.what) d.events (e ∷ []) plain) in
       let p = d.plainly before in
-      let one = done_one drill_mirrored drill_nodes t.world plans e now p.nothing here possible becomes in
+      let one = done_one drill_mirrored drill_ids t.world plans e now p.nothing here possible becomes in
       let w : World = world_after t.world (done_event e) in
       let same : run_of t.world now ≡ w = ap (λ (xs : List Happening). run_of t.world xs) one.is ∙ same_deed (deed_of t.world.messages e.what) e one.finds_after t.world p.stops in
       let world : (execution_of t now).world ≡ w = world_of_run t now ∙ same in
@@ -140,7 +144,7 @@ module _ {D C : Type 0} (M : Medium D C) (unmirrored : M.is_mirrored ≡ drill_m
             (subst (λ (xs : List Happening). DrawnFrom first no_plans (gen_of seed) ((d.events ++ e ∷ []) ++ es) xs) (sym (append_assoc (all_done d.events) (done_event e ∷ []) later))
             (subst (λ (xs : List Event). DrawnFrom first no_plans (gen_of seed) xs (all_done d.events ++ (done_event e ∷ [] ++ later))) (sym (append_assoc d.events (e ∷ []) es))
             (p.draws (e ∷ es) (done_event e ∷ [] ++ later)
-            (done_event e ∷ [], later, refl, drawn_there, is_done drill_mirrored drill_nodes t.world plans e p.nothing here possible, drawn_later w es later world rest))));
+            (done_event e ∷ [], later, refl, drawn_there, is_done drill_mirrored drill_ids t.world plans e p.nothing here possible, drawn_later w es later world rest))));
       }
 
   pub drawn_next : WhatInRange e.what → more ≡ proposed + proposals_of e.what → more < most_proposals → IsDrawn seed (count + 1) next_gen (execution_of t now) (plans_after t.world plans e.what) more
@@ -151,9 +155,9 @@ module _ {D C : Type 0} (M : Medium D C) (unmirrored : M.is_mirrored ≡ drill_m
     numbered = ap (λ (n : ℕ). n + 1) d.numbered;
     draws = draws_next;
     plainly = plainly_next;
-    ran = subst (λ (b : Bool). Ran drill_members drill_spares b (execution_of t now) (plans_after t.world plans e.what) (d.events ++ e ∷ []) (d.happenings ++ now) more) unmirrored
-        (ran_next M drill_members drill_spares old new t plans d.events d.happenings e proposed more
-        (subst (λ (b : Bool). Ran drill_members drill_spares b t plans d.events d.happenings proposed) (sym unmirrored) d.ran) comes possible fit sum few);
+    ran = subst (λ (b : Bool). Ran drill_members drill_spares [] b (execution_of t now) (plans_after t.world plans e.what) (d.events ++ e ∷ []) (d.happenings ++ now) more) unmirrored
+        (ran_next M drill_members drill_spares [] old new t plans d.events d.happenings e proposed more
+        (subst (λ (b : Bool). Ran drill_members drill_spares [] b t plans d.events d.happenings proposed) (sym unmirrored) d.ran) comes possible fit sum few);
   }
 
 -- where all are drawn, their run is reported
@@ -169,6 +173,6 @@ drawn_end seed count g t plans proposed s d left = by (whether_plain d.events)
 
     by : ArePlain d.events ⊎ (ArePlain d.events → ⊥) → IsReportOfDrawn seed count s
     by (inl plain) =
-        record { events = d.events; report = plain_report drill_members drill_spares drill_range drill_beside drill_mirrored t plans d.events d.happenings proposed s d.ran left plain; drawn = whole (all_done d.events) (d.plainly plain).draws }
+        record { events = d.events; report = plain_report drill_members drill_spares [] drill_range drill_beside drill_alone drill_mirrored t plans d.events d.happenings proposed s d.ran left plain; drawn = whole (all_done d.events) (d.plainly plain).draws }
     by (inr other) =
-        record { events = d.events; report = other_report drill_members drill_spares drill_range drill_beside drill_mirrored t plans d.events d.happenings proposed s d.ran left other; drawn = whole d.happenings d.draws }
+        record { events = d.events; report = other_report drill_members drill_spares [] drill_range drill_beside drill_alone drill_mirrored t plans d.events d.happenings proposed s d.ran left other; drawn = whole d.happenings d.draws }

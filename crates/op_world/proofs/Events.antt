@@ -9,13 +9,12 @@ use Rattle.op_types.specs.declared.log.Entry.{Entry}
 use Rattle.op_runs.specs.declared.events.Event.{Event}
 use Rattle.op_runs.specs.declared.events.What.{What}
 use Rattle.op_runs.specs.declared.events.What.TheVariants as what
-use Rattle.op_runs.specs.Possible.{is_possible, WhatInRange}
-use Rattle.op_runs.specs.World.{World, Node, NodeStatus, Up, Down, Failed, Fate, Done, Happening, Doing, Steps, Stops, Opens, Tells, Deed, deed_of, node_at, done_event, node_ids, world_by_status, world_by_fate, world_at_node, world_with}
+use Rattle.op_runs.specs.Possible.{Named, ObserversInRange, named_ids, kind_if, is_possible, WhatInRange}
+use Rattle.op_runs.specs.World.{Kind, Votes, Observes, world_by_status_as, world_by_fate_as, world_beginning, world_at_observer, world_observed, World, Node, NodeStatus, Up, Down, Failed, Fate, Done, Happening, Doing, Steps, Stops, Opens, Tells, Deed, deed_of, node_at, done_event, world_at_node, world_with}
 use Rattle.op_runs.specs.Run.{Execution, execution_with, machine_showing_all, machine_proposing_by}
-use Rattle.op_runs.specs.Schedules.{Nothing, DiskPlan, DiskPlans, MayEnd, no_plans, plans_with, awaiting, is_lost, plan_for, is_awaited, drops, happening_of, happenings_of, stop_after, CallsDisks, BecomesAt, BecomesBy, Becomes, plans_by, plans_after}
+use Rattle.op_runs.specs.Schedules.{Seated, seated, seated_at, Nothing, DiskPlan, DiskPlans, MayEnd, no_plans, plans_with, awaiting, is_lost, plan_for, is_awaited, drops, happening_of, happenings_of, stop_after, CallsDisks, BecomesAt, BecomesBy, Becomes, plans_by, plans_after}
 use Rattle.op_bounds.specs.Laws.{HappeningInRange}
 use Rattle.op_laws.specs.Runs.{RunInRange}
-use Rattle.op_bounds.proofs.Known.{nodes_are_ids}
 use Rattle.op_executions.specs.Failing.{IfBadEvent}
 use Rattle.op_executions.specs.declared.fail.RunFail.{RunFail}
 use Rattle.op_executions.specs.declared.fail.RunFail.TheVariants as run_fail
@@ -23,14 +22,15 @@ use Rattle.op_executions.specs.Laws.{reached}
 use Rattle.op_executions.specs.Worlds.{KeepsServers, Happened, HappenedAt, place_of}
 use Rattle.op_executions.specs.Worlds as worlds
 use Rattle.op_executions.specs.declared.world.ServerWorld.{ServerWorld}
+use Rattle.op_executions.proofs.Bounds.{servers_are_ids}
 use Rattle.op_executions.proofs.Servers.{pids-set, all_set, shown_set}
 use Rattle.op_executions.proofs.Worlds.{place_in}
 use Rattle.op_replay_nodes.specs.Plans.{told_by}
 use Rattle.op_world.specs.Plans.{plan_at, disk_plan_with, ArePlanned, IsPlan}
 use Rattle.op_replay_nodes.specs.declared.plan.Plan.{Plan}
 use Rattle.op_world.specs.Events.{parts_of, IsPlannedAt, CanCome, IsBadEvent, EventComes, Happens, HappensAt, StopsAt}
-use Rattle.op_replay_nodes.specs.Nodes.{IsKept, area_nodes}
-use Rattle.op_world.specs.Worlds.{Parts, Shows, ShowsNode, ShowNodes, IsWorld}
+use Rattle.op_replay_nodes.specs.Nodes.{IsKept, kind_of, area_nodes}
+use Rattle.op_world.specs.Worlds.{Parts, Shows, ShowsSeated, ShowSeated, ShowServers, IsWorld}
 use Rattle.op_replay_nodes.specs.declared.awaited.Planned.{Planned}
 use Rattle.op_replay_nodes.specs.declared.awaited.Planned.TheVariants as planned
 use Rattle.op_replay_nodes.specs.declared.node_state.WorldNode.{WorldNode}
@@ -42,23 +42,32 @@ use Rattle.op_areas.specs.Media.{Medium}
 module _ {D C : Type 0} (M : Medium D C) where
   -- ---- whichever state an opening is said to find, where nothing is opened
 
-  same_status : (s : NodeStatus) (d : Doing) (h : Happening) (w : World) (n : Node) → (d ≡ Opens → ⊥) → h.fate ≡ Done → world_by_status s d h w n ≡ world_by_status s d (done_event h.event) w n
-  same_status Up (Steps x) h w n closed done = ap (λ (f : Fate). world_by_fate f h.event.line w n x) done
-  same_status Up Stops h w n closed done = refl
-  same_status Up Opens h w n closed done = absurd (closed refl)
-  same_status Up (Tells t) h w n closed done = refl
-  same_status (Down after) (Steps x) h w n closed done = refl
-  same_status (Down after) Stops h w n closed done = refl
-  same_status (Down after) Opens h w n closed done = absurd (closed refl)
-  same_status (Down after) (Tells t) h w n closed done = refl
-  same_status (Failed count after) (Steps x) h w n closed done = refl
-  same_status (Failed count after) Stops h w n closed done = refl
-  same_status (Failed count after) Opens h w n closed done = absurd (closed refl)
-  same_status (Failed count after) (Tells t) h w n closed done = refl
+  same_status : (k : Kind) (s : NodeStatus) (d : Doing) (h : Happening) (w : World) (n : Node) → (d ≡ Opens → ⊥) → h.fate ≡ Done → world_by_status_as k s d h w n ≡ world_by_status_as k s d (done_event h.event) w n
+  same_status k Up (Steps x) h w n closed done = ap (λ (f : Fate). world_by_fate_as k f h.event.line w n x) done
+  same_status k Up Stops h w n closed done = refl
+  same_status k Up Opens h w n closed done = absurd (closed refl)
+  same_status k Up (Tells t) h w n closed done = refl
+  same_status k (Down after) (Steps x) h w n closed done = refl
+  same_status k (Down after) Stops h w n closed done = refl
+  same_status k (Down after) Opens h w n closed done = absurd (closed refl)
+  same_status k (Down after) (Tells t) h w n closed done = refl
+  same_status k (Failed count after) (Steps x) h w n closed done = refl
+  same_status k (Failed count after) Stops h w n closed done = refl
+  same_status k (Failed count after) Opens h w n closed done = absurd (closed refl)
+  same_status k (Failed count after) (Tells t) h w n closed done = refl
 
-  same_node : (o : Option Node) (d : Doing) (h : Happening) (w : World) → (d ≡ Opens → ⊥) → h.fate ≡ Done → world_at_node o d h w ≡ world_at_node o d (done_event h.event) w
-  same_node None d h w closed done = refl
-  same_node (Some n) d h w closed done = same_status n.status d h w n closed done
+  same_observer : (o : Option Node) (x : Deed) (h : Happening) (w : World) → (x.doing ≡ Opens → ⊥) → h.fate ≡ Done → world_at_observer o x h w ≡ world_at_observer o x (done_event h.event) w
+  same_observer None x h w closed done = ap (λ (f : Fate). world_beginning x.doing f x.pid w) done
+  same_observer (Some n) x h w closed done = same_status Observes n.status x.doing h w n closed done
+
+  same_observed : (o : Option Deed) (h : Happening) (w : World) → IfSome o (λ x. x.doing ≡ Opens → ⊥) → h.fate ≡ Done → world_observed o h w ≡ world_observed o (done_event h.event) w
+  same_observed None h w closed done = refl
+  same_observed (Some x) h w closed done = same_observer (node_at w.observers x.pid) x h w closed done
+
+  same_node : (o : Option Node) (d : Doing) (h : Happening) (w : World) → IfSome (deed_of w.messages h.event.what) (λ x. x.doing ≡ Opens → ⊥) → (d ≡ Opens → ⊥) → h.fate ≡ Done → world_at_node o d h w ≡ world_at_node o d (done_event h.event) w
+  same_node None d h w shut closed done =
+      ap (λ (u : World). let z : World = record u { nodes = w.nodes; members = w.members } in z) (same_observed (deed_of w.messages h.event.what) h w shut done)
+  same_node (Some n) d h w shut closed done = same_status Votes n.status d h w n closed done
 
   -- a run after a happening of this event, with this world
   abbrev with_world : Execution → Event → World → Execution
@@ -69,7 +78,7 @@ module _ {D C : Type 0} (M : Medium D C) where
     where
       by : (o : Option Deed) → IfSome o (λ d. d.doing ≡ Opens → ⊥) → world_with o h t.world ≡ world_with o (done_event h.event) t.world
       by None k = refl
-      by (Some d) k = same_node (node_at t.world.nodes d.pid) d.doing h t.world k done
+      by (Some d) k = same_node (node_at t.world.nodes d.pid) d.doing h t.world closed k done
 
   -- ---- an event that does something
 
@@ -81,6 +90,17 @@ module _ {D C : Type 0} (M : Medium D C) where
       by true h rest = let same : Some x ≡ Some n = sym (cond-true (eqb x.pid pid) (Some x) (node_at xs pid) h) ∙ there in let is : x ≡ n = cc in ap (λ (y : Node). y.pid) (sym is) ∙ eqb-true x.pid pid h
       by false h rest = rest (sym (cond-false (eqb x.pid pid) (Some x) (node_at xs pid) h) ∙ there)
 
+  seated_by : (a b : Option Node) (pid : ℕ) (s : Seated) → ((n : Node) → a ≡ Some n → n.pid ≡ pid) → ((n : Node) → b ≡ Some n → n.pid ≡ pid) → seated a b ≡ Some s → s.node.pid ≡ pid
+  seated_by (Some n) b pid s voter observer is =
+      let it : Seated = record { kind = Votes; node = n } in let same : it ≡ s = cc in ap (λ (x : Seated). x.node.pid) (sym same) ∙ voter n refl
+  seated_by None (Some n) pid s voter observer is =
+      let it : Seated = record { kind = Observes; node = n } in let same : it ≡ s = cc in ap (λ (x : Seated). x.node.pid) (sym same) ∙ observer n refl
+  seated_by None None pid s voter observer is = absurd (cc)
+
+  -- the server of an id has it
+  seated_pid : (w : World) (pid : ℕ) (s : Seated) → seated_at w pid ≡ Some s → s.node.pid ≡ pid
+  seated_pid w pid s there = seated_by (node_at w.nodes pid) (node_at w.observers pid) pid s (at_pid w.nodes pid) (at_pid w.observers pid) there
+
   -- what is planned after it
   after_deed : (w : World) (plans : DiskPlans) (x : What) (d : Deed) → deed_of w.messages x ≡ Some d → plans_by (Some d) w plans ≡ plans_after w plans x
   after_deed w plans (what.CrashAt p call image) d does = absurd (cc)
@@ -89,15 +109,15 @@ module _ {D C : Type 0} (M : Medium D C) where
   after_deed w plans x d does = ap (λ (o : Option Deed). plans_by o w plans) (sym does)
 
   module _ (old new : Parts D C) (e : Event) (t : Execution) (plans : DiskPlans) (k : ℕ) (h : Happens M old e t plans k new) where
-    becomes_at : (due : Bool) → h.is_due ≡ due → Becomes M.is_mirrored t.world plans e (happenings_of e h.node.pid h.happening.fate due h.happening.finds_after)
+    becomes_at : (due : Bool) → h.is_due ≡ due → Becomes M.is_mirrored t.world plans e (happenings_of e h.seated.node.pid h.happening.fate due h.happening.finds_after)
     becomes_at due is =
-        subst (λ (o : Option Deed). BecomesBy M.is_mirrored o t.world plans e (happenings_of e h.node.pid h.happening.fate due h.happening.finds_after)) (sym h.does)
-        (subst (λ (o : Option Node). BecomesAt M.is_mirrored o (plans h.deed.pid) h.deed.doing e (happenings_of e h.node.pid h.happening.fate due h.happening.finds_after)) (sym h.there) (
+        subst (λ (o : Option Deed). BecomesBy M.is_mirrored o t.world plans e (happenings_of e h.seated.node.pid h.happening.fate due h.happening.finds_after)) (sym h.does)
+        (subst (λ (o : Option Seated). BecomesAt M.is_mirrored o (plans h.deed.pid) h.deed.doing e (happenings_of e h.seated.node.pid h.happening.fate due h.happening.finds_after)) (sym h.there) (
           h.happening.fate,
           due,
           h.happening.finds_after,
           (
-            subst (λ (b : Bool). let now : DiskPlan = plan_for h.node.status h.deed.doing (plans h.deed.pid) in MayEnd now.awaited (is_lost M.is_mirrored now) (CallsDisks h.node h.deed.doing) h.happening.fate b) is h.comes,
+            subst (λ (b : Bool). let now : DiskPlan = plan_for h.seated.node.status h.deed.doing (plans h.deed.pid) in MayEnd now.awaited (is_lost M.is_mirrored now) (CallsDisks h.seated h.deed.doing) h.happening.fate b) is h.comes,
             refl,
           ),
         ))
@@ -123,19 +143,19 @@ module _ {D C : Type 0} (M : Medium D C) where
     pub two_come : WhatInRange e.what → IsPid h.deed.pid → h.is_due ≡ true → (end : Parts D C) → ((d : WorldNode D C) → (get_or new.nodes k d).pid ≡ h.deed.pid) → (WorldNode D C)
         → StopsAt M new k e.line (execution_with t h.happening) (plans_by (Some h.deed) t.world plans) end → EventComes M old e t plans end
     two_come fit is_pid due end pid some stops =
-        let here : h.deed.pid ≡ h.node.pid = sym (at_pid t.world.nodes h.deed.pid h.node h.there) in
-        let may = subst (λ (b : Bool). let now : DiskPlan = plan_for h.node.status h.deed.doing (plans h.deed.pid) in MayEnd now.awaited (is_lost M.is_mirrored now) (CallsDisks h.node h.deed.doing) h.happening.fate b) due h.comes in
-        let awaited : is_awaited h.node.status h.deed.doing ≡ true = due_awaited (is_awaited h.node.status h.deed.doing) M.is_mirrored (plans h.deed.pid) _ h.happening.fate may in
-        let dropped : drops h.deed.doing (node_at t.world.nodes h.deed.pid) ≡ true = ap (λ (o : Option Node). drops h.deed.doing o) h.there ∙ awaited_drops h.node h.deed.doing awaited in
+        let here : h.deed.pid ≡ h.seated.node.pid = sym (seated_pid t.world h.deed.pid h.seated h.there) in
+        let may = subst (λ (b : Bool). let now : DiskPlan = plan_for h.seated.node.status h.deed.doing (plans h.deed.pid) in MayEnd now.awaited (is_lost M.is_mirrored now) (CallsDisks h.seated h.deed.doing) h.happening.fate b) due h.comes in
+        let awaited : is_awaited h.seated.node.status h.deed.doing ≡ true = due_awaited (is_awaited h.seated.node.status h.deed.doing) M.is_mirrored (plans h.deed.pid) _ h.happening.fate may in
+        let dropped : drops h.deed.doing (seated_at t.world h.deed.pid) ≡ true = ap (λ (o : Option Seated). drops h.deed.doing o) h.there ∙ awaited_drops h.seated h.deed.doing awaited in
         let next : plans_by (Some h.deed) t.world plans ≡ plans_with plans h.deed.pid (awaiting (plans h.deed.pid) Nothing) =
-        cond-true (drops h.deed.doing (node_at t.world.nodes h.deed.pid)) (plans_with plans h.deed.pid (awaiting (plans h.deed.pid) Nothing)) plans dropped in
+        cond-true (drops h.deed.doing (seated_at t.world h.deed.pid)) (plans_with plans h.deed.pid (awaiting (plans h.deed.pid) Nothing)) plans dropped in
         let stop : ℕ → Happening = λ p. done_event (record { line = e.line; what = what.Crash p }) in
         record {
-          happenings = happening_of e h.happening.fate h.happening.finds_after ∷ stop_after e h.node.pid ∷ [];
-          range = in_range (stop_after e h.node.pid ∷ []) fit
-              (All-cons (λ (g : Happening). WhatInRange g.event.what) (stop_after e h.node.pid) [] (subst IsPid here is_pid) (All-nil (λ (g : Happening). WhatInRange g.event.what)));
+          happenings = happening_of e h.happening.fate h.happening.finds_after ∷ stop_after e h.seated.node.pid ∷ [];
+          range = in_range (stop_after e h.seated.node.pid ∷ []) fit
+              (All-cons (λ (g : Happening). WhatInRange g.event.what) (stop_after e h.seated.node.pid) [] (subst IsPid here is_pid) (All-nil (λ (g : Happening). WhatInRange g.event.what)));
           becomes = becomes_at true due;
-          shows = subst (λ (g : Happening). Shows M end (execution_with (execution_with t g) (stop h.node.pid))) happening_is
+          shows = subst (λ (g : Happening). Shows M end (execution_with (execution_with t g) (stop h.seated.node.pid))) happening_is
               (subst (λ (p : ℕ). Shows M end (execution_with (execution_with t h.happening) (stop p))) (pid some ∙ here) (stops.shows some));
           planned = subst (λ (ps : DiskPlans). ArePlanned end.nodes ps) (sym next ∙ after_deed t.world plans e.what h.deed h.does) (dropped_twice (stops.planned some) next);
         }
@@ -165,8 +185,8 @@ module _ {D C : Type 0} (M : Medium D C) where
       let does : Some (record { pid = pid; doing = Stops }) ≡ Some h.deed = h.does in
       let here : record { pid = pid; doing = Stops } ≡ h.deed = cc in
       let doing : h.deed.doing ≡ Stops = ap (λ (d : Deed). d.doing) (sym here) in
-      let unawaited : is_awaited h.node.status h.deed.doing ≡ false = ap (λ (d : Doing). is_awaited h.node.status d) doing ∙ stops_unawaited h.node.status in
-      let done : h.happening.fate ≡ Done = may_nothing (is_awaited h.node.status h.deed.doing) M.is_mirrored (plans h.deed.pid) _ h.happening.fate h.is_due unawaited h.comes in
+      let unawaited : is_awaited h.seated.node.status h.deed.doing ≡ false = ap (λ (d : Doing). is_awaited h.seated.node.status d) doing ∙ stops_unawaited h.seated.node.status in
+      let done : h.happening.fate ≡ Done = may_nothing (is_awaited h.seated.node.status h.deed.doing) M.is_mirrored (plans h.deed.pid) _ h.happening.fate h.is_due unawaited h.comes in
       let same : execution_with t h.happening ≡ execution_with t (done_event (stop_event line pid)) =
       same_done t h.happening (subst (λ (o : Option Deed). IfSome o (λ d. d.doing ≡ Opens → ⊥)) (sym (ap (λ (e : Event). deed_of t.world.messages e.what) h.event ∙ h.does)) (λ opens. let no : Stops ≡ Opens = sym doing ∙ opens in cc)) done
       ∙ ap (λ (e : Event). execution_with t (done_event e)) h.event in
@@ -187,11 +207,12 @@ module _ {D C : Type 0} (M : Medium D C) where
       or_later true b is = refl
       or_later false b is = is
 
-  pub stop_possible : (w : Parts D C) (k : ℕ) (d : WorldNode D C) → IsWorld M w → k < length w.nodes → IsMember w.ids (get_or w.nodes k d).pid
+  pub stop_possible : (w : Parts D C) (k : ℕ) (d : WorldNode D C) → IsWorld M w → k < length w.nodes → IsMember w.ids.servers (get_or w.nodes k d).pid
   stop_possible w k d i there = subst (λ (ids : List ℕ). is_member nat_eq ids (get_or w.nodes k d).pid ≡ true) i.pids (member_at w.nodes k d there)
 
-  pub stop_in_range : (w : Parts D C) (pid : ℕ) → IsWorld M w → IsMember w.ids pid → IsPid pid
-  stop_in_range w pid i member = nodes_are_ids w.members i.spares (i.range).first (i.range).others pid (subst (λ (ids : List ℕ). IsMember ids pid) i.ids member)
+  pub stop_in_range : (w : Parts D C) (pid : ℕ) → IsWorld M w → IsMember w.ids.servers pid → IsPid pid
+  stop_in_range w pid i member =
+      servers_are_ids w.members i.spares i.observers (i.range).first (i.range).others i.observers_are pid (subst (λ (ids : Named). IsMember ids.servers pid) i.ids member)
 
   -- ---- an event that does nothing by itself
 
@@ -270,26 +291,33 @@ module _ {D C : Type 0} (M : Medium D C) where
     same : (x : WorldNode D C) → get_or w.servers.items place x ≡ was
     same x = get_any w.servers.items place x is there
 
-    pub armed_nodes : (xs : List Node) → ShowNodes M w.servers.items xs → ShowNodes M new.servers.items xs
-    armed_nodes xs shown =
-        subst (λ (ns : List (WorldNode D C)). ShowNodes M ns xs) (sym told_so.servers)
+    armed_seats : (xs : List Seated) → ShowSeated M w.servers.items xs → ShowSeated M new.servers.items xs
+    armed_seats xs shown =
+        subst (λ (ns : List (WorldNode D C)). ShowSeated M ns xs) (sym told_so.servers)
         (shown_set (area_nodes M) w.servers.items xs place is
         (λ x y s.
-        let z : ShowsNode M was y = subst (λ (n : WorldNode D C). ShowsNode M n y) (same x) s in
+        let z : ShowsSeated M was y = subst (λ (n : WorldNode D C). ShowsSeated M n y) (same x) s in
         let g = told_so.goes_on is in
-        record { pid = z.pid ∙ sym g.pid; state = stays_shown M was.state is.state g.state y z.state })
+        record {
+          kind = z.kind ∙ ap kind_if (sym g.observes);
+          node = record { pid = z.node.pid ∙ sym g.pid; state = stays_shown M was.state is.state g.state y.node z.node.state };
+        })
         shown)
+
+    pub armed_servers : (nodes observers : List Node) → ShowServers M w.servers.items nodes observers → ShowServers M new.servers.items nodes observers
+    armed_servers nodes observers show = record { seats = show.seats; shown = armed_seats show.seats show.shown; nodes_are = show.nodes_are; observers_are = show.observers_are }
 
     pub armed_keeps : KeepsServers (area_nodes M) new
     armed_keeps = record {
-      pids = ap (λ (ns : List (WorldNode D C)). ids_of ns) told_so.servers ∙ pids-set (area_nodes M) w.servers.items place is (λ x. ap (λ (n : WorldNode D C). n.pid) (same x) ∙ sym (told_so.goes_on is).pid) ∙ keeps.pids ∙ ap (λ v. v.items) (sym told_so.ids);
+      pids = ap (λ (ns : List (WorldNode D C)). ids_of ns) told_so.servers ∙ pids-set (area_nodes M) w.servers.items place is (λ x. ap (λ (n : WorldNode D C). n.pid) (same x) ∙ sym (told_so.goes_on is).pid) ∙ keeps.pids ∙ ap (λ (n : Named). n.servers) (sym told_so.ids);
       kept = subst (λ (ns : List (WorldNode D C)). All (area_nodes M).is_kept ns) (sym told_so.servers) (all_set (area_nodes M) (area_nodes M).is_kept w.servers.items place is
-          (subst (λ (p : ℕ). IsKept M p is.state) (sym (told_so.goes_on is).pid) (stays_kept M was.pid was.state is.state (told_so.goes_on is).state (keeps.kept place is there))) keeps.kept);
+          (subst (λ (b : Bool). IsKept M (kind_if b) is.pid is.state) (sym (told_so.goes_on is).observes)
+          (subst (λ (p : ℕ). IsKept M (kind_of was) p is.state) (sym (told_so.goes_on is).pid) (stays_kept M (kind_of was) was.pid was.state is.state (told_so.goes_on is).state (keeps.kept place is there)))) keeps.kept);
     }
 
     pub armed_shows : (t : Execution) → Shows M (parts_of w lists) t → Shows M (parts_of new lists) t
     armed_shows t show = record {
-      nodes = armed_nodes t.world.nodes show.nodes;
+      servers = armed_servers t.world.nodes t.world.observers show.servers;
       messages = show.messages ∙ ap (λ v. v.items) (sym told_so.messages);
       lines = show.lines ∙ sym told_so.lines;
       lists = show.lists;
@@ -298,10 +326,12 @@ module _ {D C : Type 0} (M : Medium D C) where
     pub armed_kept : IsWorld M (parts_of w lists) → IsWorld M (parts_of new lists)
     armed_kept i = record {
       spares = i.spares;
+      observers = i.observers;
       happenings = i.happenings;
+      observers_are = subst (λ (ms : List ℕ). ObserversInRange ms i.spares i.observers) (sym told_so.members) i.observers_are;
       range = subst (λ (ms : List ℕ). RunInRange ms i.spares i.happenings) (sym told_so.members) i.range;
-      ids = ap (λ v. v.items) told_so.ids ∙ i.ids ∙ ap (λ (ms : List ℕ). node_ids ms i.spares) (sym told_so.members);
-      known = subst (λ (ids : List ℕ). All (HappeningInRange (IsMember ids)) i.happenings) (ap (λ v. v.items) (sym told_so.ids)) i.known;
+      ids = told_so.ids ∙ i.ids ∙ ap (λ (ms : List ℕ). named_ids ms i.spares i.observers) (sym told_so.members);
+      known = subst (λ (ids : Named). All (HappeningInRange (IsMember ids.servers)) i.happenings) (sym told_so.ids) i.known;
       pids = armed_keeps.pids;
       proposed = told_so.proposed ∙ i.proposed;
       kept = armed_keeps.kept;
@@ -382,16 +412,16 @@ module _ {D C : Type 0} (M : Medium D C) where
       (λ d. (g.server d).0) s (stops (execution_with t g.happening) (plans_by (Some g.deed) t.world plans) g.shows g.planned)
 
   -- a node that is told of is one of the world's
-  told_member : (ids : List ℕ) (sent : ℕ) (x : What) (pid : ℕ) (c : Planned) → told_by x ≡ Some (pid, c) → is_possible ids sent x ≡ true → IsMember ids pid
+  told_member : (ids : Named) (sent : ℕ) (x : What) (pid : ℕ) (c : Planned) → told_by x ≡ Some (pid, c) → is_possible ids sent x ≡ true → IsMember ids.servers pid
   told_member ids sent (what.CrashAt p call image) pid c is can =
       let first : Option (ℕ × Planned) → ℕ = λ o. elim o [ None ↦ p | Some z ↦ z.0 ] in
-      subst (λ (q : ℕ). IsMember ids q) (ap first is) can
+      subst (λ (q : ℕ). IsMember ids.servers q) (ap first is) can
   told_member ids sent (what.Fail p call) pid c is can =
       let first : Option (ℕ × Planned) → ℕ = λ o. elim o [ None ↦ p | Some z ↦ z.0 ] in
-      subst (λ (q : ℕ). IsMember ids q) (ap first is) can
+      subst (λ (q : ℕ). IsMember ids.servers q) (ap first is) can
   told_member ids sent (what.Kill p disk) pid c is can =
       let first : Option (ℕ × Planned) → ℕ = λ o. elim o [ None ↦ p | Some z ↦ z.0 ] in
-      subst (λ (q : ℕ). IsMember ids q) (ap first is) can
+      subst (λ (q : ℕ). IsMember ids.servers q) (ap first is) can
   told_member ids sent x pid c is can = absurd (cc)
 
   -- something is planned for a node's disks
@@ -400,7 +430,7 @@ module _ {D C : Type 0} (M : Medium D C) where
     keeps = record { pids = i.pids; kept = i.kept }
 
     pub told_known : IsMember w.ids.items pid
-    told_known = subst (λ (ids : List ℕ). IsMember ids pid) (sym can.counted.ids) (told_member old.ids (length old.messages) e.what pid c tells can.possible)
+    told_known = subst (λ (ids : Named). IsMember ids.servers pid) (sym can.counted.ids) (told_member old.ids (length old.messages) e.what pid c tells can.possible)
 
     pub told_comes : WhatInRange e.what → (o : Option ℕ) → o ≡ None → (t : Execution) (plans : DiskPlans) → Shows M old t → ArePlanned old.nodes plans → HappensAt M old e t plans o (parts_of w lists) → IsPlannedAt M pid c w new → EventComes M old e t plans (parts_of new lists)
     told_comes fit o none t plans show planned h awaits =

@@ -89,7 +89,7 @@ longer conf l more (n ∷ nodes) each =
 adds_none : (conf : ℕ) (l : List Entry) (d : Durable) → HasNoMore conf l d → l ++ decided_entries d conf (length l) ≡ l
 adds_none conf l d none = ap (λ (es : List Entry). l ++ es) (none (length l) (omega arith)) ∙ append-nil l
 
-none_shows : (conf : ℕ) (l : List Entry) (nodes : List Node) → HaveNoMore conf l nodes → shown_list conf l nodes ≡ l
+pub none_shows : (conf : ℕ) (l : List Entry) (nodes : List Node) → HaveNoMore conf l nodes → shown_list conf l nodes ≡ l
 none_shows conf l [] each = refl
 none_shows conf l (n ∷ nodes) each =
     let here = All-head (λ (x : Node). HasNoMore conf l x.state.durable) n nodes each in

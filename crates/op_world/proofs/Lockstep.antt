@@ -1,5 +1,5 @@
 -- Lockstep rounds of the code's world.
-use Rattle.std.proofs.Common.{◌≡◌, ℕ, suc, ◌+◌, ◌<◌, Bool, true, false, List, [], ◌∷◌, ◌++◌, length, map, take, get_or, Option, Some, None, All, IfSome, Err, slice_get, refl, sym, ap, ◌∙◌, subst, arith}
+use Rattle.std.proofs.Common.{◌≡◌, ℕ, suc, ◌+◌, ◌<◌, Bool, true, false, List, [], ◌∷◌, ◌++◌, length, map, take, get_or, Option, Some, None, All, IfSome, Result, Ok, Err, slice_get, refl, sym, ap, ◌∙◌, subst, arith}
 use Rattle.std.proofs.lemmas.List.{map-append, take_more}
 use Rattle.std.proofs.lemmas.List.Elements.{All-nil, All-cons, All-append, All-head, All-tail}
 use Rattle.op_types.specs.Ranges.{IsMember, IsPid, MembersInRange}
@@ -11,7 +11,7 @@ use Rattle.op_runs.specs.declared.summary.Summary.{Summary}
 use Rattle.op_gen.specs.Links.{Links, all_links}
 use Rattle.op_runs.specs.World.{World, Sent, Happening, Done, Steps, Stops, Opens, Tells, ThePairs, TheBallots, deed_of, delivery, first_world, world_after, done_event, all_done}
 use Rattle.op_runs.specs.Run.{Execution, first_execution, execution_with, execution_of}
-use Rattle.op_runs.specs.Possible.{is_possible, is_possible_in, most_proposals, ArePossibleFrom, WhatInRange, SparesInRange, proposals_in}
+use Rattle.op_runs.specs.Possible.{Named, named_ids, is_possible, is_possible_in, most_proposals, ArePossibleFrom, WhatInRange, SparesInRange, proposals_in}
 use Rattle.op_areas.specs.Media.{Medium}
 use Rattle.op_runs.specs.Schedules.{DiskPlan, DiskPlans, no_plans, plans_after, happening_of, RunsFrom, TellsNoFault}
 use Rattle.op_runs.specs.Summary.{run_summary, summary_of}
@@ -21,14 +21,16 @@ use Rattle.op_lockstep.proofs.Reached.{every_lockstep_reaches}
 use Rattle.op_executions.specs.Failing.{IfBadEvent}
 use Rattle.op_executions.specs.declared.fail.RunFail.{RunFail}
 use Rattle.op_executions.specs.declared.fail.RunFail.TheVariants as run_fail
-use Rattle.op_executions.proofs.Bounds.{member_ids, members_known}
+use Rattle.op_executions.proofs.Bounds.{member_ids}
+use Rattle.op_executions.proofs.ServerIds.{members_known}
 use Rattle.op_executions.proofs.PlainRuns.{NothingIsPlanned, done_one, is_done, nothing_after}
 use Rattle.op_world.specs.Plans.{plan_at, IsPlan}
 use Rattle.op_world.specs.Drills.{IsCalm, IsQuiet, IsReportOfDrill, OpensNothing, followed}
 use Rattle.op_world.specs.Events.{EventComes}
 use Rattle.op_world.specs.Worlds.{Parts, IsWorld, Shows}
 use Rattle.op_world.proofs.Events.{same_done}
-use Rattle.op_world.proofs.LockstepEvents.{Follows, follows_here, followed_append, followed_world, ticks_possible, ballots_possible, deliveries_possible, one_more_round, drill_possible, drill_proposes_nothing}
+use Rattle.op_world.proofs.LockstepEvents.{Follows, follows_here, followed_append, followed_world, ticks_possible, ballots_possible, deliveries_possible, one_more_round, drill_possible, names_from, drill_proposes_nothing}
+use Rattle.op_executions.proofs.Behind.{no_observers}
 use Rattle.op_world.proofs.Runs.{done_report}
 
 -- ---- lists of events
@@ -83,7 +85,7 @@ tells_no_fault (what.Kill p disk) quiet = absurd quiet
 tells_no_fault x quiet = tt
 
 -- where nothing awaits any node it is done
-pub quiet_comes : {D C : Type 0} (M : Medium D C) (ids : List ℕ) (old new : Parts D C) (e : Event) (t : Execution) → OpensNothing e.what → is_possible_in ids t.world e ≡ true → EventComes M old e t no_plans new
+pub quiet_comes : {D C : Type 0} (M : Medium D C) (ids : Named) (old new : Parts D C) (e : Event) (t : Execution) → OpensNothing e.what → is_possible_in ids t.world e ≡ true → EventComes M old e t no_plans new
     → Shows M new (execution_with t (done_event e)) × IsCalm new
 quiet_comes M ids old new e t quiet can c =
     let plain : TellsNoFault e.what = tells_no_fault e.what quiet in
@@ -98,33 +100,33 @@ quiet_comes M ids old new e t quiet can c =
 
 -- ---- a run of such events
 
-runs_done : (mirrored : Bool) (nodes : List ℕ) (w : World) (plans : DiskPlans) (events : List Event) → NothingIsPlanned plans → All IsQuiet events → ArePossibleFrom nodes w events → RunsFrom mirrored nodes w plans events (all_done events)
-runs_done mirrored nodes w plans [] none each can = refl
-runs_done mirrored nodes w plans (e ∷ events) none each can =
+runs_done : (mirrored : Bool) (ids : Named) (w : World) (plans : DiskPlans) (events : List Event) → NothingIsPlanned plans → All IsQuiet events → ArePossibleFrom ids w events → RunsFrom mirrored ids w plans events (all_done events)
+runs_done mirrored ids w plans [] none each can = refl
+runs_done mirrored ids w plans (e ∷ events) none each can =
     let plain : TellsNoFault e.what = tells_no_fault e.what (All-head IsQuiet e events each).1 in (
       done_event e ∷ [],
       all_done events,
       refl,
       can.0,
-      is_done mirrored nodes w plans e none plain can.0,
-      runs_done mirrored nodes (world_after w (done_event e)) (plans_after w plans e.what) events (nothing_after w plans e.what plain none) (All-tail IsQuiet e events each) can.1,
+      is_done mirrored ids w plans e none plain can.0,
+      runs_done mirrored ids (world_after w (done_event e)) (plans_after w plans e.what) events (nothing_after w plans e.what plain none) (All-tail IsQuiet e events each) can.1,
     )
 
 -- ---- events that can come
 
 -- the members are among the ids
-pub all_known : {D C : Type 0} (M : Medium D C) (w : Parts D C) → IsWorld M w → (p : ℕ) → IsMember w.members p → IsMember w.ids p
-all_known M w i p h = subst (λ (ids : List ℕ). IsMember ids p) (sym i.ids) (members_known w.members i.spares (i.range).first (i.range).others p h)
+pub all_known : {D C : Type 0} (M : Medium D C) (w : Parts D C) → IsWorld M w → (p : ℕ) → IsMember w.members p → IsMember w.ids.servers p
+all_known M w i p h = subst (λ (ids : Named). IsMember ids.servers p) (sym i.ids) (members_known w.members i.spares i.observers p h)
 
 pub ticks_follow : {D C : Type 0} (M : Medium D C) (w v : Parts D C) → IsWorld M w → (x : World) (es : List Event) (ms : List ℕ) → es ≡ ticks ms → ms ≡ w.members → v.ids ≡ w.ids → ArePossibleFrom v.ids x es
 ticks_follow M w v i x es ms are same ids =
-    subst (λ (ps : List ℕ). ArePossibleFrom ps x es) (sym ids) (subst (λ (l : List Event). ArePossibleFrom w.ids x l) (sym (are ∙ ap (λ (ps : List ℕ). ticks ps) same)) (ticks_possible w.ids w.members (all_known M w i) x))
+    subst (λ (ps : Named). ArePossibleFrom ps x es) (sym ids) (subst (λ (l : List Event). ArePossibleFrom w.ids x l) (sym (are ∙ ap (λ (ps : List ℕ). ticks ps) same)) (ticks_possible w.ids w.members (all_known M w i) x))
 
 pub ballots_follow : {D C : Type 0} (M : Medium D C) (w v : Parts D C) → IsWorld M w → (x : World) (es : List Event) (ms : List ℕ) → es ≡ ballots ms → ms ≡ w.members → v.ids ≡ w.ids → ArePossibleFrom v.ids x es
 ballots_follow M w v i x es ms are same ids =
-    subst (λ (ps : List ℕ). ArePossibleFrom ps x es) (sym ids) (subst (λ (l : List Event). ArePossibleFrom w.ids x l) (sym (are ∙ ap (λ (ps : List ℕ). ballots ps) same)) (ballots_possible w.ids w.members (all_known M w i) x))
+    subst (λ (ps : Named). ArePossibleFrom ps x es) (sym ids) (subst (λ (l : List Event). ArePossibleFrom w.ids x l) (sym (are ∙ ap (λ (ps : List ℕ). ballots ps) same)) (ballots_possible w.ids w.members (all_known M w i) x))
 
-pub deliveries_follow : (ids : List ℕ) (x : World) (es : List Event) (test : Sent → Bool) (since : ℕ) (messages : List Sent) → es ≡ deliveries test since messages → x.messages ≡ messages → ArePossibleFrom ids x es
+pub deliveries_follow : (ids : Named) (x : World) (es : List Event) (test : Sent → Bool) (since : ℕ) (messages : List Sent) → es ≡ deliveries test since messages → x.messages ≡ messages → ArePossibleFrom ids x es
 deliveries_follow ids x es test since messages are same =
     subst (λ (l : List Event). ArePossibleFrom ids x l) (sym (are ∙ ap (λ (l : List Sent). deliveries test since l) (sym same))) (deliveries_possible ids test since x)
 
@@ -135,13 +137,18 @@ pub passed_on : (T U : Type 0) (f : RunFail) (P Q : ℕ → Type 0) → ((i : �
 passed_on T U (run_fail.BadEvent index) P Q more bad = more index bad
 passed_on T U run_fail.NoMemory P Q more bad = tt
 
+-- the same of a whole result
+pub bad_weaker : {T : Type 0} (r : Result T RunFail) (P Q : ℕ → Type 0) → ((i : ℕ) → P i → Q i) → IfBadEvent r P → IfBadEvent r Q
+bad_weaker (Ok x) P Q more bad = tt
+bad_weaker {T} (Err f) P Q more bad = passed_on T T f P Q more bad
+
 -- the next event of those that follow isn't refused
-pub not_refused : {D C : Type 0} (M : Medium D C) (w : Parts D C) (ids : List ℕ) (t u : Execution) (left rest events : List Event) (e : Event) → w.ids ≡ ids → Shows M w u → Follows ids t u left events → left ≡ e ∷ rest
+pub not_refused : {D C : Type 0} (M : Medium D C) (w : Parts D C) (ids : Named) (t u : Execution) (left rest events : List Event) (e : Event) → w.ids ≡ ids → Shows M w u → Follows ids t u left events → left ≡ e ∷ rest
     → is_possible w.ids (length w.messages) e.what ≡ false → ⊥
 not_refused M w ids t u left rest events e same s f first refused =
     let can : is_possible_in ids u.world e ≡ true = follows_here ids t u left rest events e f first in
     let seen : is_possible_in ids u.world e ≡ is_possible w.ids (length w.messages) e.what =
-    ap (λ (ms : List Sent). is_possible ids (length ms) e.what) s.messages ∙ ap (λ (ps : List ℕ). is_possible ps (length w.messages) e.what) (sym same) in
+    ap (λ (ms : List Sent). is_possible ids (length ms) e.what) s.messages ∙ ap (λ (ps : Named). is_possible ps (length w.messages) e.what) (sym same) in
     let wrong : true ≡ false = sym can ∙ seen ∙ refused in absurd (cc)
 
 -- ---- ticks, and then ballots
@@ -268,16 +275,19 @@ drill_report M members range links all rounds new linked late told s s0 m0 all_i
     let parts : followed t0 events ≡ followed (followed t2 (ticks members)) (ballots members) =
     followed_append t0 (fs ++ ls ++ ticks members) (ballots members)
     ∙ ap (λ (u : Execution). followed u (ballots members)) (followed_append t0 (fs ++ ls) (ticks members) ∙ ap (λ (u : Execution). followed u (ticks members)) (followed_append t0 fs ls)) in
-    let left : s ≡ run_summary members [] events =
+    let left : s ≡ run_summary members [] [] events =
     h4 (followed t0 events) (subst (λ (u : Execution). Shows M told u) (sym parts) s3) ∙ ap (λ (ms : List ℕ). summary_of ms (followed t0 events)) at_told in
     let ids = member_ids members range in
     let each : All IsQuiet events =
     All-append IsQuiet (fs ++ ls ++ ticks members) (ballots members)
     (All-append IsQuiet (fs ++ ls) (ticks members) (All-append IsQuiet fs ls d1.range (subst (All IsQuiet) ls_are d2.range)) (ids_mapped (λ p. event_of (what.Tick p)) members ids (λ p k. (k, tt))))
     (ids_mapped (λ p. event_of (what.Ballots p)) members ids (λ p k. (k, tt))) in
+    let can = drill_possible members links rounds in
     let few : proposals_in (all_done events) < most_proposals = omega (arith, drill_proposes_nothing members links rounds) in
     record {
-      run = done_report members [] range none_beside false events s (runs_done false members (first_world members []) no_plans events (λ pid. refl) each (drill_possible members links rounds)) (All-weaker events each) few left;
+      run = done_report members [] [] range none_beside (no_observers members []) false events s
+          (all_done events, refl, runs_done false (named_ids members [] []) (first_world members []) no_plans events (λ pid. refl) each can)
+          (All-weaker events each) (names_from (named_ids members [] []) (first_world members []) events can) few left;
       reaches = every_lockstep_reaches members [] range (all_done events) (drill_quiet members links rounds);
     }
   where

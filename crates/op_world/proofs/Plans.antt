@@ -5,10 +5,10 @@ use Rattle.std.proofs.lemmas.List.Elements.{All-head, All-tail}
 use Rattle.std.proofs.Math.Path.{fun_ext}
 use Rattle.op_areas.specs.Media.{Medium}
 use Rattle.op_protocol.specs.State.{State}
-use Rattle.op_runs.specs.World.{World, Node, NodeStatus, Up, Down, Failed, Fate, Done, Stopped, Faulted, Doing, Steps, Stops, Opens, Tells}
+use Rattle.op_runs.specs.World.{Node, NodeStatus, Up, Down, Failed, Fate, Done, Doing, Steps, Stops, Opens, Tells}
 use Rattle.op_runs.specs.World as runs
 use Rattle.op_runs.specs.Possible.{IsDisk}
-use Rattle.op_runs.specs.Schedules.{Awaited, Nothing, Stop, Failure, DiskPlan, DiskPlans, no_plan, no_plans, plans_with, awaiting, killing, is_killed, is_lost, is_awaited, drops, MayFail, MayEnd}
+use Rattle.op_runs.specs.Schedules.{Awaited, Nothing, Stop, Failure, Seated, DiskPlan, DiskPlans, no_plan, no_plans, plans_with, awaiting, killing, is_killed, is_lost, is_awaited, drops, MayFail, MayEnd}
 use Rattle.op_executions.specs.Worlds.{place_of}
 use Rattle.op_replay_nodes.specs.Plans.{awaited_of, lost_in, killed_with, nothing_planned, plan_with}
 use Rattle.op_world.specs.Plans.{plan_at, disk_plan_with, ArePlanned, IsPlan}
@@ -210,11 +210,11 @@ pub planned_more : (planned : Planned) (p : Plan) (plan : DiskPlan) → PlansInR
 planned_more (planned.Awaits awaited) p plan fit is = record { awaited = refl; first = is.first; second = is.second; third = is.third; fourth = is.fourth }
 planned_more (planned.Kills disk) p plan fit is = killed_more disk p plan (which_disk disk fit) is
 
-pub awaited_drops : (n : Node) (d : Doing) → is_awaited n.status d ≡ true → drops d (Some n) ≡ true
-awaited_drops n (Steps i) is = is
-awaited_drops n Stops is = refl
-awaited_drops n Opens is = is
-awaited_drops n (Tells t) is = is
+pub awaited_drops : (s : Seated) (d : Doing) → is_awaited s.node.status d ≡ true → drops d (Some s) ≡ true
+awaited_drops s (Steps i) is = is
+awaited_drops s Stops is = refl
+awaited_drops s Opens is = is
+awaited_drops s (Tells t) is = is
 
 tells_nothing : (status : NodeStatus) (n : Node) → n.status ≡ status → (t : runs.Told) → is_awaited n.status (Tells t) ≡ false
 tells_nothing Up n is t = ap (λ (st : NodeStatus). is_awaited st (Tells t)) is
@@ -241,11 +241,11 @@ module _ {D C : Type 0} (M : Medium D C) where
       stopped (Tells t) = refl
 
   -- so it drops what awaits the node
-  pub dropped_there : (s : NodeState D C) (n : Node) (d : Doing) → IsShown M s n.state n.status → drops_at s d ≡ drops d (Some n)
-  dropped_there s n (Steps i) shown = awaited_there s n.state n.status (Steps i) shown
-  dropped_there s n Stops shown = refl
-  dropped_there s n Opens shown = awaited_there s n.state n.status Opens shown
-  dropped_there s n (Tells t) shown = sym (tells_nothing n.status n refl t)
+  pub dropped_there : (s : NodeState D C) (x : Seated) (d : Doing) → IsShown M s x.node.state x.node.status → drops_at s d ≡ drops d (Some x)
+  dropped_there s x (Steps i) shown = awaited_there s x.node.state x.node.status (Steps i) shown
+  dropped_there s x Stops shown = refl
+  dropped_there s x Opens shown = awaited_there s x.node.state x.node.status Opens shown
+  dropped_there s x (Tells t) shown = sym (tells_nothing x.node.status x.node refl t)
 
 -- ---- what may come
 

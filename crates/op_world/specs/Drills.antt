@@ -20,7 +20,7 @@ use Rattle.op_world.specs.declared.world.lockstep.Delivered.TheVariants as deliv
 -- this is reported of the drill of these links at these members
 pub record IsReportOfDrill (members : List ℕ) (links : Links) (rounds : ℕ) (s : Summary) : Type 0 where
   -- it is the report of the drill's events
-  pub run : IsReportOfRun members [] false (links_drill members links rounds) s
+  pub run : IsReportOfRun members [] [] false (links_drill members links rounds) s
   -- wherever three lockstep rounds are in them, whoever alone hears a majority takes its own ballot for the
   -- leader's
   pub reaches : EachLockstepReaches members [] (all_done (links_drill members links rounds))

@@ -3,11 +3,11 @@ use Rattle.std.specs.Prelude.{◌≡◌, ◌+◌, ◌<◌, ℕ, Bool, true, fals
 use Rattle.op_types.specs.declared.log.Entry.{Entry}
 use Rattle.op_runs.specs.declared.events.Event.{Event}
 use Rattle.op_runs.specs.declared.events.What.TheVariants as what
-use Rattle.op_runs.specs.World.{Node, Happening, Deed, deed_of, node_at, done_event}
+use Rattle.op_runs.specs.World.{Happening, Deed, deed_of, done_event}
 use Rattle.op_runs.specs.Possible.{is_possible, most_proposals, proposals_of, WhatInRange}
 use Rattle.op_runs.specs.Run.{Execution, execution_with, execution_of}
-use Rattle.op_runs.specs.Schedules.{DiskPlan, DiskPlans, Nothing, Becomes, CallsDisks, MayEnd, awaiting, is_lost, plan_for, plans_after, plans_by, plans_with}
-use Rattle.op_executions.specs.Worlds.{place_of}
+use Rattle.op_runs.specs.Schedules.{DiskPlan, DiskPlans, Nothing, Seated, seated_at, Becomes, CallsDisks, MayEnd, awaiting, is_lost, plan_for, plans_after, plans_by, plans_with}
+use Rattle.op_executions.specs.Worlds.{named_of, place_of}
 use Rattle.op_executions.specs.declared.world.ServerWorld.{ServerWorld}
 use Rattle.op_areas.specs.Media.{Medium}
 use Rattle.op_replay_nodes.specs.Became.{GoesOnPlanned}
@@ -23,7 +23,7 @@ abbrev pub parts_of : {D C : Type 0} → ServerWorld (WorldNode D C) → List (L
 parts_of w lists =
     record {
       members = w.members;
-      ids = w.ids.items;
+      ids = named_of w;
       nodes = w.servers.items;
       messages = w.messages.items;
       lines = w.lines;
@@ -66,13 +66,13 @@ module _ {D C : Type 0} (M : Medium D C) where
     pub event : happening.event ≡ e
     pub deed : Deed
     pub does : deed_of t.world.messages e.what ≡ Some deed
-    pub node : Node
-    pub there : node_at t.world.nodes deed.pid ≡ Some node
+    pub seated : Seated
+    pub there : seated_at t.world deed.pid ≡ Some seated
     pub is_due : Bool
     pub server : (d : WorldNode D C) → ((get_or new.nodes place d).pid ≡ deed.pid)
         × ((get_or new.nodes place d).is_due ≡ is_due)
-    pub comes : let now : DiskPlan = plan_for node.status deed.doing (plans deed.pid) in
-        MayEnd now.awaited (is_lost M.is_mirrored now) (CallsDisks node deed.doing) happening.fate is_due
+    pub comes : let now : DiskPlan = plan_for seated.node.status deed.doing (plans deed.pid) in
+        MayEnd now.awaited (is_lost M.is_mirrored now) (CallsDisks seated deed.doing) happening.fate is_due
     pub planned : ArePlanned new.nodes (plans_by (Some deed) t.world plans)
     pub shows : Shows M new (execution_with t happening)
 
@@ -92,7 +92,7 @@ module _ {D C : Type 0} (M : Medium D C) where
   -- only the server of this id is another one then: this is planned for its disks beside what was
   pub record IsPlannedAt (pid : ℕ) (planned : Planned) (old new : ServerWorld (WorldNode D C)) : Type 0 where
     pub members : new.members ≡ old.members
-    pub ids : new.ids ≡ old.ids
+    pub ids : named_of new ≡ named_of old
     pub messages : new.messages ≡ old.messages
     pub lines : new.lines ≡ old.lines
     pub proposed : new.proposed ≡ old.proposed

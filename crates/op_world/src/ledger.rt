@@ -5,10 +5,10 @@ ghost use Rattle.op_types.specs.Stops.{stop_at_end};
 ghost use Rattle.op_types.specs.declared.log.Entry.{Entry};
 ghost use Rattle.op_spec.specs.Ledger.{part_entries, closed_entries};
 ghost use Rattle.op_runs.specs.Summary.{listed_from};
-ghost use Rattle.op_world.specs.Ledgers.{list_at, ShowsMore, NodeShowsMore};
+ghost use Rattle.op_world.specs.Ledgers.{list_at, ShowsMore, NodeShowsMore, ServerShowsMore};
 
 use op_outside::Disk;
-use op_replay_nodes::NodeState;
+use op_replay_nodes::{NodeState, WorldNode};
 use op_runs::{Listed, Lists};
 use op_types::{Closed, ConfNo, Durable, Entries, Entry, Members, NoMemory, Part, last_stop};
 use std::alloc::Global;
@@ -42,9 +42,19 @@ impl Ledger {
         }
     }
 
+    /// A server shows what it has stored, if it votes and is up.
+    pub fn show_server<D: Disk, C>(&mut self, server: &WorldNode<D, C>) -> Result<(), NoMemory>
+        ensures { OnOk result (ServerShowsMore self.old server.now self.new) }
+    {
+        if server.observes {
+            return Ok(());
+        }
+        self.show_node(&server.state)
+    }
+
     /// A node shows what it has stored, if it is up: each list that it has decided more of gets these entries. One that isn't up
     /// showed it before.
-    pub fn show_node<D: Disk, C>(&mut self, node: &NodeState<D, C>) -> Result<(), NoMemory>
+    fn show_node<D: Disk, C>(&mut self, node: &NodeState<D, C>) -> Result<(), NoMemory>
         ensures { OnOk result (NodeShowsMore self.old node.now self.new) }
     {
         match node {

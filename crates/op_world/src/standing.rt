@@ -1,10 +1,13 @@
-ghost use Rattle.std.specs.Prelude.{◌≡◌, ◌++◌, ◌∷◌, [], List, map, max, All, IfSome, IfOk, OnOk};
+ghost use Rattle.std.specs.Prelude.{◌≡◌, ◌++◌, ◌∷◌, [], List, map, All, IfSome, IfOk, OnOk};
 ghost use Rattle.op_areas.specs.Media.{medium};
 ghost use Rattle.op_record.specs.Ranges.{ClosedInRange};
 ghost use Rattle.op_protocol.specs.Configurations.{latest_of};
-ghost use Rattle.op_runs.specs.World as runs;
+ghost use Rattle.op_runs.specs.World.{Votes};
+ghost use Rattle.op_runs.specs.Possible.{kind_if};
+ghost use Rattle.op_runs.specs.Schedules.{Seated};
 ghost use Rattle.op_runs.specs.Summary.{greatest_conf, stands_at, joining_conf, node_line};
-ghost use Rattle.op_world.specs.Worlds.{ShowsNode, ShowNodes, line_of};
+ghost use Rattle.op_executions.specs.Worlds.{seated_as};
+ghost use Rattle.op_world.specs.Worlds.{ShowsSeated, ShowSeated, greatest_with, line_of};
 
 use op_areas::Area;
 use op_replay_nodes::{NodeState, WorldNode};
@@ -12,26 +15,26 @@ use op_runs::{NodeLine, NodeLines, Running};
 use op_types::{ConfNo, Durable, NoMemory, Pid};
 use std::alloc::Global;
 
-/// What nodes leave to be reported of themselves.
+/// What servers leave to be reported of themselves.
 #[derive(Drop)]
 pub struct Standing {
-    /// The greatest configuration that one of them knows.
+    /// The greatest configuration that one of them that votes knows.
     pub latest: ConfNo,
     /// Where each of them stands.
     pub lines: NodeLines,
 }
 
 impl Standing {
-    /// Where these nodes stand.
+    /// Where these servers stand.
     pub fn of_nodes<A: Area>(
         alloc: Global,
         nodes: &[WorldNode<A, A::Copies>],
     ) -> Result<Standing, NoMemory>
-        requires { (xs : List runs.Node) × ShowNodes (medium A.state A.holds A.IS_MIRRORED) nodes.now xs
-            × All (λ x. IfSome x.state.durable.closed ClosedInRange) xs }
-        ensures { IfOk result (λ s. (xs : List runs.Node)
-            → ShowNodes (medium A.state A.holds A.IS_MIRRORED) nodes.now xs
-            → (s.latest ≡ greatest_conf xs) × (s.lines ≡ map node_line xs)) }
+        requires { (xs : List Seated) × ShowSeated (medium A.state A.holds A.IS_MIRRORED) nodes.now xs
+            × All (λ x. IfSome x.node.state.durable.closed ClosedInRange) xs }
+        ensures { IfOk result (λ s. (xs : List Seated)
+            → ShowSeated (medium A.state A.holds A.IS_MIRRORED) nodes.now xs
+            → (s.latest ≡ greatest_conf (seated_as Votes xs)) × (s.lines ≡ map (λ x. node_line x.node) xs)) }
     {
         let mut standing = Standing {
             latest: 0,
@@ -43,34 +46,42 @@ impl Standing {
         Ok(standing)
     }
 
-    /// Adds a node: one that isn't up is told with what it had stored before the step in which it stopped or failed.
+    /// Adds a server: one that isn't up is told with what it had stored before the step in which it stopped or failed.
     fn add_node<A: Area>(&mut self, node: &WorldNode<A, A::Copies>) -> Result<(), NoMemory>
-        requires { (x : runs.Node) × ShowsNode (medium A.state A.holds A.IS_MIRRORED) node.now x
-            × IfSome x.state.durable.closed ClosedInRange }
-        ensures latest { OnOk result ((x : runs.Node)
-            → ShowsNode (medium A.state A.holds A.IS_MIRRORED) node.now x
-            → self.new.latest ≡ max self.old.latest (latest_of x.state.durable)) }
-        ensures lines { OnOk result ((x : runs.Node)
-            → ShowsNode (medium A.state A.holds A.IS_MIRRORED) node.now x
-            → self.new.lines ≡ self.old.lines ++ node_line x ∷ []) }
+        requires { (x : Seated) × ShowsSeated (medium A.state A.holds A.IS_MIRRORED) node.now x
+            × IfSome x.node.state.durable.closed ClosedInRange }
+        ensures latest { OnOk result ((x : Seated)
+            → ShowsSeated (medium A.state A.holds A.IS_MIRRORED) node.now x
+            → self.new.latest ≡ greatest_with x.kind self.old.latest x.node.state.durable) }
+        ensures lines { OnOk result ((x : Seated)
+            → ShowsSeated (medium A.state A.holds A.IS_MIRRORED) node.now x
+            → self.new.lines ≡ self.old.lines ++ node_line x.node ∷ []) }
     {
-        let pid = node.pid;
+        let WorldNode { pid, observes, .. } = node;
         match &node.state {
-            NodeState::Up(node) => self.add(pid, Running::Up, node.shown()),
-            NodeState::Failed(node) => self.add(pid, Running::Failed, node.shown()),
-            NodeState::Down(down) => self.add(pid, Running::Down, &down.shown),
+            NodeState::Up(node) => self.add(*pid, *observes, Running::Up, node.shown()),
+            NodeState::Failed(node) => self.add(*pid, *observes, Running::Failed, node.shown()),
+            NodeState::Down(down) => self.add(*pid, *observes, Running::Down, &down.shown),
         }
     }
 
-    /// Adds a node that runs so and has stored this.
-    fn add(&mut self, pid: Pid, running: Running, durable: &Durable) -> Result<(), NoMemory>
+    /// Adds a server that observes or votes, runs so and has stored this.
+    fn add(
+        &mut self,
+        pid: Pid,
+        observes: bool,
+        running: Running,
+        durable: &Durable,
+    ) -> Result<(), NoMemory>
         requires { IfSome durable.now.closed ClosedInRange }
         ensures latest { OnOk result
-            (self.new.latest ≡ max self.old.latest (latest_of durable.now)) }
+            (self.new.latest ≡ greatest_with (kind_if observes) self.old.latest durable.now) }
         ensures lines { OnOk result
             (self.new.lines ≡ self.old.lines ++ line_of pid running durable.now ∷ []) }
     {
-        self.latest = self.latest.max(latest(durable));
+        if !observes {
+            self.latest = self.latest.max(latest(durable));
+        }
         self.lines.push(NodeLine {
             pid,
             at: place(durable),

@@ -35,9 +35,9 @@ impl<D: Disk> Node<D> {
             OnErr result (LaysOut changes gathered.new) }
         ensures sound { IsSoundNode self.new }
     {
-        let plan = self.server.plan(input)?;
+        let plan = self.seat.plan(input)?;
         gathered.add(plan.batch())?;
-        Ok(self.server.adopt(plan))
+        Ok(self.seat.adopt(plan))
     }
 
     /// Stores what was taken, at once. Where the area becomes too long a checkpoint follows; without memory for one it answers
@@ -58,7 +58,7 @@ impl<D: Disk> Node<D> {
             return Ok(Bound::Kept);
         }
         let framed = gathered.into_framed();
-        match commit_all(self.alloc, &mut self.store, self.server.durable(), &framed) {
+        match commit_all(self.alloc, &mut self.store, self.seat.durable(), &framed) {
             Ok(bound) => Ok(bound),
             Err(fault) => {
                 self.failed = Some(fault.count);

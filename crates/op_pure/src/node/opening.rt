@@ -2,18 +2,19 @@
 ghost use Rattle.std.specs.Prelude.{◌≡◌, ℕ, Bool, [], IfOk};
 ghost use Rattle.op_types.specs.Changes.{Applies, durable_after};
 ghost use Rattle.op_types.specs.Rooms.{IsAtRest};
-ghost use Rattle.op_server.specs.Servers.{state_of};
+ghost use Rattle.op_server.specs.Seats.{kind_of, me_of, state_of};
 ghost use Rattle.op_protocol.specs.Starting as starts;
+ghost use Rattle.op_runs.specs.Possible.{kind_if};
 ghost use Rattle.op_runs.specs.World as runs;
 ghost use Rattle.op_executions.specs.Servers.{CanDo};
 ghost use Rattle.op_pure.specs.Happenings.{fate_of};
-ghost use Rattle.op_pure.specs.Nodes.{pure_nodes, found_by, CanFind, HasDone, IsOpened};
+ghost use Rattle.op_pure.specs.Nodes.{pure_nodes, found_by, CanFind, CanOpenAs, HasDone, IsOpened};
 
 use super::{PureNode, Status};
 use crate::happening::{Fate, Foretold};
 use op_executions::Done;
 use op_plans::{put, starved};
-use op_server::{Server, empty_durable, sends_after_restart};
+use op_server::{Observer, Seat, Server, empty_durable, sends_after_restart};
 use op_types::{Batch, Durable, NoMemory, Pid, Sends};
 use std::alloc::Global;
 use std::mem::replace;
@@ -38,7 +39,7 @@ impl PureNode {
         }
     }
 
-    /// Is opened, if it isn't up, and asks to be prepared. The clients that wait at one that has failed wait still.
+    /// Is opened, if it isn't up; one that votes asks to be prepared. The clients that wait at one that has failed wait still.
     fn open_whole(&mut self, alloc: Global, finds_after: bool) -> Result<Done, NoMemory>
         requires { CanDo pure_nodes self.old runs.Opens }
         ensures { IfOk result (λ r. (line : ℕ) → HasDone self.old runs.Opens
@@ -46,20 +47,21 @@ impl PureNode {
     {
         let mut done = Done::nothing(alloc);
         let nothing = Status::Down(empty_durable(), Batch::new(alloc));
-        let server = match replace(&mut self.status, nothing) {
-            Status::Up(server) => server,
+        let seat = match replace(&mut self.status, nothing) {
+            Status::Up(seat) => seat,
             Status::Down(durable, batch) => {
-                let (server, sends) = opened(alloc, self.pid, durable, batch, finds_after)?;
+                let durable = found(durable, batch, finds_after)?;
+                let (seat, sends) = opened(alloc, self.pid, self.observes, durable)?;
                 done.sends = sends;
-                server
+                seat
             }
-            Status::Failed(server, _, batch) => {
-                let (server, sends) = reopened(alloc, server, batch, finds_after)?;
+            Status::Failed(seat, _, batch) => {
+                let (seat, sends) = reopened(alloc, seat, batch, finds_after)?;
                 done.sends = sends;
-                server
+                seat
             }
         };
-        put(&mut self.status, Status::Up(server));
+        put(&mut self.status, Status::Up(seat));
         Ok(done)
     }
 
@@ -86,50 +88,71 @@ impl PureNode {
     }
 }
 
-/// A node that is down is opened with what it finds.
+/// A node that is down is opened with what it finds: one of this id, which observes or votes.
 fn opened(
     alloc: Global,
     pid: Pid,
+    observes: bool,
     durable: Durable,
-    batch: Batch,
-    finds_after: bool,
-) -> Result<(Server, Sends), NoMemory>
-    requires finds { CanFind pid durable batch finds_after }
+) -> Result<(Seat, Sends), NoMemory>
+    requires { CanOpenAs (kind_if observes) pid durable }
     ensures { IfOk result (λ o.
-        IsOpened pid (starts.state_after_restart pid (found_by finds_after durable batch)) o.0 o.1) }
+        IsOpened (kind_if observes) pid (starts.state_after_restart pid durable) o.0 o.1) }
 {
-    let durable = found(durable, batch, finds_after)?;
+    if observes {
+        let observer = Observer::again(alloc, pid, durable)?;
+        return Ok((Seat::Observes(observer), Sends::new(alloc)));
+    }
     let Ok(sends) = sends_after_restart(alloc, pid, &durable) else {
         return Err(starved(durable));
     };
     let server = Server::again(alloc, pid, durable)?;
-    Ok((server, sends))
+    Ok((Seat::Votes(server), sends))
 }
 
 /// A node that has failed is opened in place with what it finds.
 fn reopened(
     alloc: Global,
-    mut server: Server,
+    mut seat: Seat,
     batch: Batch,
     finds_after: bool,
-) -> Result<(Server, Sends), NoMemory>
-    requires finds { CanFind server.chain.me (state_of server).durable batch finds_after }
-    ensures { IfOk result (λ o. let d = found_by finds_after (state_of server).durable batch in
-        IsOpened server.chain.me (runs.state_after_reopening server.chain.me (state_of server) d) o.0 o.1) }
+) -> Result<(Seat, Sends), NoMemory>
+    requires finds { CanFind (kind_of seat) (me_of seat) (state_of seat).durable batch finds_after }
+    ensures { IfOk result (λ o. let d = found_by finds_after (state_of seat).durable batch in
+        IsOpened (kind_of seat) (me_of seat)
+        (runs.state_after_reopening (me_of seat) (state_of seat) d) o.0 o.1) }
 {
-    let Ok(copy) = server.durable().copy(alloc) else {
-        return Err(starved((server, batch)));
+    let Ok(copy) = seat.durable().copy(alloc) else {
+        return Err(starved((seat, batch)));
     };
     let Ok(durable) = found(copy, batch, finds_after) else {
-        return Err(starved(server));
+        return Err(starved(seat));
     };
-    let Ok(sends) = sends_after_restart(alloc, server.me(), &durable) else {
-        return Err(starved((server, durable)));
+    let Ok(sends) = reopened_with(alloc, &mut seat, durable) else {
+        return Err(starved(seat));
     };
-    let Ok(()) = server.reopen(durable) else {
-        return Err(starved((server, sends)));
-    };
-    Ok((server, sends))
+    Ok((seat, sends))
+}
+
+/// The same with this, and what it sends then: an observer sends nothing.
+fn reopened_with(alloc: Global, seat: &mut Seat, durable: Durable) -> Result<Sends, NoMemory>
+    requires { CanOpenAs (kind_of seat.old) (me_of seat.old) durable }
+    ensures { IfOk result (λ sends. IsOpened (kind_of seat.old) (me_of seat.old)
+        (runs.state_after_reopening (me_of seat.old) (state_of seat.old) durable) seat.new sends) }
+{
+    match seat {
+        Seat::Votes(server) => {
+            let Ok(sends) = sends_after_restart(alloc, server.me(), &durable) else {
+                return Err(starved(durable));
+            };
+            server.reopen(durable)?;
+            Ok(sends)
+        }
+        Seat::Observes(observer) => {
+            observer.reopen(durable)?;
+            Ok(Sends::new(alloc))
+        }
+    }
 }
 
 /// What an opening finds.

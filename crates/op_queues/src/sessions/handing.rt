@@ -23,7 +23,7 @@ use crate::untold::Untold;
 use op_command::{ClientReply, Said};
 use op_conns::Encode;
 use op_outside::Conn;
-use op_serving::{Awaited, Key, MOST_BEHIND, Wanted, begins_anew, is_urgent};
+use op_serving::{Awaited, Key, MOST_BEHIND, Wanted, begins_anew, is_excess, is_urgent};
 use op_types::{Msg, NoMemory, Outcome, Pid, Refusal, Replies, Reply, Sends};
 use std::collections::BTreeMap;
 use std::mem;
@@ -70,12 +70,16 @@ impl Sessions {
         fits_peer(self.alloc, self.me, message.0, &message.1)
     }
 
-    /// What waits behind for a connection makes way for a message that begins anew, or else moves up, as far as
-    /// there is room; then the message waits, too.
+    /// A message that is too much for what waits behind for a connection is dropped. For each other one what waits
+    /// behind makes way, where it begins anew, or else moves up, as far as there is room; then it waits, too.
     fn send_fitting(&mut self, conn: Conn, message: (Pid, Msg))
         requires { SendInRange message }
         ensures { Does (λ marks s. settled marks (sent_at (Some conn) message s)) self.old self.new }
     {
+        if is_excess(&message.1.body, self.behind.count(conn)) {
+            drop(message);
+            return;
+        }
         self.make_way(conn, &message.1);
         self.move_up(conn);
         let is_ahead = self.goes_ahead(conn, &message.1);

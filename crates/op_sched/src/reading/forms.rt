@@ -3,8 +3,8 @@ ghost use Rattle.std.specs.Prelude.{◌≡◌, ◌∷◌, [], map, codes, decima
 ghost use Rattle.op_types.specs.Ranges.{IsPid};
 ghost use Rattle.op_runs.specs.declared.events.What.TheVariants as what;
 ghost use Rattle.op_text.specs.Found.{IsFound};
-ghost use Rattle.op_sched.specs.Grammar.{AreHeaderWords, AreSpareWords, AreWordsOf};
-ghost use Rattle.op_sched.specs.Forms.{op_form_name, form_name, ArePeers, AreCallOf, AreDiskOf, AreIdsOf, AreMembersOf, AreStopOf, AreSparesOf, are_apart};
+ghost use Rattle.op_sched.specs.Grammar.{AreHeaderWords, AreObserverWords, AreSpareWords, AreWordsOf};
+ghost use Rattle.op_sched.specs.Forms.{op_form_name, form_name, ArePeers, AreCallOf, AreDiskOf, AreIdsOf, AreMembersOf, AreStopOf, AreSparesOf, AreObserversOf, are_apart, are_beside};
 
 use crate::reading::calls::{call, disk, image};
 use crate::reading::operations::{OpForm, op_form_of, operation};
@@ -16,6 +16,9 @@ use std::alloc::Global;
 
 /// How many spares a schedule has at most; `most_spares` is the same for clauses.
 const MOST_SPARES: usize = 31;
+
+/// How many observers a schedule has at most; `most_observers` is the same for clauses.
+const MOST_OBSERVERS: usize = 22;
 
 /// The one server that words name.
 fn one_server(words: &[&[u8]]) -> Option<Pid>
@@ -109,6 +112,50 @@ fn spare_ids(words: &[&[u8]], members: &Members) -> Result<Option<Members>, NoMe
     } else {
         Ok(None)
     }
+}
+
+/// The observers that the words of a header name, none of them a member or a spare.
+pub fn observers(
+    words: &[&[u8]],
+    members: &Members,
+    spares: &Members,
+) -> Result<Option<Members>, NoMemory>
+    ensures { IfOk result (IsFound
+        (AreObserverWords members.now spares.now (map (λ x. x.now) words.now))) }
+{
+    let Some((name, words)) = words.split_first() else {
+        return Ok(None);
+    };
+    if !is_name(name, b"observers") {
+        return Ok(None);
+    }
+    observer_ids(words, members, spares)
+}
+
+/// The ids that words name, none of them a member or a spare.
+fn observer_ids(
+    words: &[&[u8]],
+    members: &Members,
+    spares: &Members,
+) -> Result<Option<Members>, NoMemory>
+    ensures { IfOk result (IsFound
+        (AreObserversOf members.now spares.now (map (λ x. x.now) words.now))) }
+{
+    let Some(ids) = rising_ids(words, MOST_OBSERVERS)? else {
+        return Ok(None);
+    };
+    if are_beside(members, spares, ids.as_slice()) {
+        Ok(Some(ids))
+    } else {
+        Ok(None)
+    }
+}
+
+/// Whether none of these ids is a member or a spare.
+fn are_beside(members: &Members, spares: &Members, ids: &[Pid]) -> bool
+    ensures { result ≡ are_beside members.now spares.now ids.now }
+{
+    are_apart(members.as_slice(), ids) && are_apart(spares.as_slice(), ids)
 }
 
 /// Whether none of these ids is a member.

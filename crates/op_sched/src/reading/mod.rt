@@ -3,9 +3,10 @@ ghost use Rattle.std.specs.Prelude.{◌≡◌, false, [], ◌+◌, ◌<◌, ◌^
 ghost use Rattle.op_sched.specs.Failing.{IfBadLine};
 ghost use Rattle.op_sched.specs.Forms.{Adds};
 ghost use Rattle.op_text.specs.Found.{IsFound};
-ghost use Rattle.op_sched.specs.Grammar.{numbered_lines, IsHeader, IsSpareLine, IsEventLine, AreEvents};
-ghost use Rattle.op_sched.specs.Grammar.{AreAfterSpares, AreAfterHeader, IsSchedule};
-ghost use Rattle.op_sched.specs.Grammar.{IsFirstBadEvent, IsFirstBadAfterSpares, IsFirstBadAfter, IsFirstBadLine};
+ghost use Rattle.op_sched.specs.Grammar.{numbered_lines, IsHeader, IsSpareLine, IsObserverLine, IsEventLine, AreEvents};
+ghost use Rattle.op_sched.specs.Grammar.{AreAfterObservers, AreAfterSpares, AreAfterHeader, IsSchedule};
+ghost use Rattle.op_sched.specs.Grammar.{IsFirstBadEvent, IsFirstBadAfterObservers, IsFirstBadAfterSpares, IsFirstBadAfter, IsFirstBadLine};
+ghost use Rattle.op_sched.specs.Courses.{course_in};
 
 mod adding;
 mod calls;
@@ -43,6 +44,7 @@ pub fn read(alloc: Global, text: &[u8]) -> Result<Schedule, SchedFail>
     Ok(Schedule {
         members,
         spares,
+        observers: course.observers,
         is_mirrored: course.is_mirrored,
         events: course.events,
     })
@@ -60,6 +62,8 @@ fn members(line: &[u8]) -> Result<Option<Members>, NoMemory>
 /// What the lines after the members and the spares say.
 #[derive(Drop)]
 struct Course {
+    /// The observers.
+    observers: Members,
     /// Whether the nodes' disks are mirrored.
     is_mirrored: bool,
     /// What happens, in the order of the lines.
@@ -76,15 +80,22 @@ fn after_header(
 ) -> Result<(Members, Course), SchedFail>
     requires fits { number + length text.now < 2 ^ 64 }
     ensures found { IfOk result (λ x.
-        AreAfterHeader members.now (numbered_lines number text.now) x.0 x.1.is_mirrored x.1.events) }
+        AreAfterHeader members.now (numbered_lines number text.now) x.0 (course_in x.1)) }
     ensures bad { IfBadLine result (IsFirstBadAfter members.now (numbered_lines number text.now)) }
 {
     let Ok(next) = next_numbered(number, text) else {
         return Ok((Members::new(), no_course(alloc)));
     };
     match spares(members, next.line)? {
-        Some(spares) => Ok((spares, after_spares(alloc, next.number + 1, next.after)?)),
-        None => Ok((Members::new(), after_spares(alloc, number, text)?)),
+        Some(spares) => {
+            let course = after_spares(alloc, members, &spares, next.number + 1, next.after)?;
+            Ok((spares, course))
+        }
+        None => {
+            let spares = Members::new();
+            let course = after_spares(alloc, members, &spares, number, text)?;
+            Ok((spares, course))
+        }
     }
 }
 
@@ -97,23 +108,69 @@ fn spares(members: &Members, line: &[u8]) -> Result<Option<Members>, NoMemory>
     forms::spares(&words[..count], members)
 }
 
-/// Whether the disks are mirrored, which a first line says, and the events, of a text whose first line has this number.
-fn after_spares(alloc: Global, number: u64, text: &[u8]) -> Result<Course, SchedFail>
+/// The observers, and what comes after them, behind these members and spares, of a text whose first line has this number.
+#[tactic(none)]
+fn after_spares(
+    alloc: Global,
+    members: &Members,
+    spares: &Members,
+    number: u64,
+    text: &[u8],
+) -> Result<Course, SchedFail>
     requires fits { number + length text.now < 2 ^ 64 }
     ensures found { IfOk result (λ x.
-        AreAfterSpares (numbered_lines number text.now) x.is_mirrored x.events) }
-    ensures bad { IfBadLine result (IsFirstBadAfterSpares (numbered_lines number text.now)) }
+        AreAfterSpares members.now spares.now (numbered_lines number text.now) (course_in x)) }
+    ensures bad { IfBadLine result
+        (IsFirstBadAfterSpares members.now spares.now (numbered_lines number text.now)) }
 {
     let Ok(next) = next_numbered(number, text) else {
         return Ok(no_course(alloc));
     };
+    match observers(members, spares, next.line)? {
+        Some(observers) => after_observers(alloc, observers, next.number + 1, next.after),
+        None => after_observers(alloc, Members::new(), number, text),
+    }
+}
+
+/// The observers that a line names, beside these members and spares.
+fn observers(members: &Members, spares: &Members, line: &[u8]) -> Result<Option<Members>, NoMemory>
+    ensures { IfOk result (IsFound (IsObserverLine members.now spares.now line.now)) }
+{
+    let mut words: Words = [&[]; MOST_WORDS];
+    let count = split_words(&mut words, line);
+    forms::observers(&words[..count], members, spares)
+}
+
+/// Behind these observers, whether the disks are mirrored, which a first line says, and the events, of a text whose first line
+/// has this number.
+fn after_observers(
+    alloc: Global,
+    observers: Members,
+    number: u64,
+    text: &[u8],
+) -> Result<Course, SchedFail>
+    requires fits { number + length text.now < 2 ^ 64 }
+    ensures observers { IfOk result (λ x. x.observers ≡ observers) }
+    ensures found { IfOk result (λ x.
+        AreAfterObservers (numbered_lines number text.now) x.is_mirrored x.events) }
+    ensures bad { IfBadLine result (IsFirstBadAfterObservers (numbered_lines number text.now)) }
+{
+    let Ok(next) = next_numbered(number, text) else {
+        return Ok(Course {
+            observers,
+            is_mirrored: false,
+            events: Events::new(alloc),
+        });
+    };
     if is_name(next.line, b"mirror") {
         Ok(Course {
+            observers,
             is_mirrored: true,
             events: events(alloc, true, next.number + 1, next.after)?,
         })
     } else {
         Ok(Course {
+            observers,
             is_mirrored: false,
             events: events(alloc, false, number, text)?,
         })
@@ -122,9 +179,10 @@ fn after_spares(alloc: Global, number: u64, text: &[u8]) -> Result<Course, Sched
 
 /// What no lines say.
 fn no_course(alloc: Global) -> Course
-    ensures { result ≡ record { is_mirrored = false; events = [] } }
+    ensures { result ≡ record { observers = []; is_mirrored = false; events = [] } }
 {
     Course {
+        observers: Members::new(),
         is_mirrored: false,
         events: Events::new(alloc),
     }

@@ -41,7 +41,7 @@ fn rising_ids(values: &[Value]) -> Result<Option<Members>, NoMemory>
 }
 
 /// The id of a value, if it is greater than `low`.
-fn id_above(low: Pid, value: &Value) -> Option<Pid>
+pub fn id_above(low: Pid, value: &Value) -> Option<Pid>
     ensures { IsFound (λ id. (view value.now ≡ integer (pos id)) × (low < id) × (id ≤ greatest_pid)) result }
 {
     let n = value.as_integer()?;

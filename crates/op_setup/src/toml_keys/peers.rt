@@ -44,11 +44,11 @@ fn are_few(peers: &[(Pid, Addr)]) -> bool
     !peers.is_empty() && peers.len() <= MOST_PEERS
 }
 
-/// Whether every member is among the peers.
-fn are_with_all(peers: &[(Pid, Addr)], members: &[Pid]) -> bool
-    ensures { result ≡ list_all (λ id. list_any (λ p. p.0 == id) peers.now) members.now }
+/// Whether each of these ids is among the peers.
+pub fn are_with_all(peers: &[(Pid, Addr)], ids: &[Pid]) -> bool
+    ensures { result ≡ list_all (λ id. list_any (λ p. p.0 == id) peers.now) ids.now }
 {
-    members.iter().all(|id| any_is(peers, *id))
+    ids.iter().all(|id| any_is(peers, *id))
 }
 
 /// Whether the own id, where there is one, is among the peers.

@@ -1,10 +1,10 @@
 //! A drill of events that are drawn one at a time.
-ghost use Rattle.std.specs.Prelude.{◌≡◌, ◌≤◌, false, IfOk};
+ghost use Rattle.std.specs.Prelude.{◌≡◌, ◌≤◌, [], false, IfOk};
 ghost use Rattle.op_types.specs.Limits.{greatest_number};
 ghost use Rattle.op_runs.specs.Run.{first_execution};
 ghost use Rattle.op_areas.specs.Media.{medium};
 ghost use Rattle.op_runs.specs.Schedules.{no_plans};
-ghost use Rattle.op_gen.specs.Draws.{drill_members, drill_nodes, drill_spares};
+ghost use Rattle.op_gen.specs.Draws.{drill_ids, drill_members, drill_spares};
 ghost use Rattle.op_executions.specs.Failing.{IfBadEvent};
 ghost use Rattle.op_world.specs.Plans.{ArePlanned};
 ghost use Rattle.op_world.specs.Runs.{IsReportOfDrawn};
@@ -23,13 +23,14 @@ fn first_world<A: Area>(alloc: Global) -> Result<World<A>, NoMemory>
     ensures shows { IfOk result (λ w.
         Shows (medium A.state A.holds A.IS_MIRRORED) w (first_execution drill_members drill_spares)) }
     ensures members { IfOk result (λ w. w.members ≡ drill_members) }
-    ensures ids { IfOk result (λ w. w.ids ≡ drill_nodes) }
+    ensures ids { IfOk result (λ w. w.ids ≡ drill_ids) }
     ensures proposed { IfOk result (λ w. w.proposed ≡ 0) }
     ensures planned { IfOk result (λ w. ArePlanned w.nodes no_plans) }
 {
     let members = Members::from_slice(&[1, 2, 3])?;
     let spares = Members::from_slice(&[4, 5])?;
-    World::<A>::new(alloc, members, &spares)
+    let none = Members::new();
+    World::<A>::new(alloc, members, &spares, &none)
 }
 
 impl<A: Area> World<A> {

@@ -81,7 +81,7 @@ fn happen<A: Area>(
 {
     match world.event(event, ())? {
         Some(place) => {
-            ledger.show_node(&world.servers[place].state)?;
+            ledger.show_server(&world.servers[place])?;
             Ok(Some(place))
         }
         None => Ok(None),

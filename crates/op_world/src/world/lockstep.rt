@@ -94,7 +94,9 @@ impl<A: Area> World<A> {
     {
         let pairs = all_links(alloc, members.as_slice())?;
         let all = Links { pairs: &pairs };
-        let linked = World::<A>::new(alloc, members, &Members::new())?.rounds(&all, FIRST_ROUNDS)?;
+        let none = Members::new();
+        let start = World::<A>::new(alloc, members, &none, &none)?;
+        let linked = start.rounds(&all, FIRST_ROUNDS)?;
         let drilled = linked.rounds(links, rounds)?;
         Ok(drilled.tell_ballots()?.summary()?)
     }

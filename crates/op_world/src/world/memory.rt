@@ -2,7 +2,7 @@
 ghost use Rattle.std.specs.Prelude.{◌≤◌, All, IfOk};
 ghost use Rattle.op_types.specs.Limits.{greatest_number};
 ghost use Rattle.op_types.specs.Ranges.{MembersInRange};
-ghost use Rattle.op_runs.specs.Possible.{SparesInRange, WhatInRange};
+ghost use Rattle.op_runs.specs.Possible.{ObserversInRange, SparesInRange, WhatInRange};
 ghost use Rattle.op_runs.specs.Schedules.{IsFirstRefused};
 ghost use Rattle.op_executions.specs.Failing.{IfBadEvent};
 ghost use Rattle.op_world.specs.Drills.{IsReportOfDrill};
@@ -18,26 +18,28 @@ use op_types::Members;
 use std::alloc::Global;
 
 impl World<MemDisk> {
-    /// Runs events at these members and spares, whose areas are mirrored or not, from their start on, and reports what the run
-    /// leaves. It is refused exactly where an event names a server that is neither or a message that wasn't sent: the first such
-    /// event is told.
+    /// Runs events at these members, spares and observers, whose areas are mirrored or not, from their start on, and reports what
+    /// the run leaves. It is refused exactly where an event names a server that is none of these, in a stop-sign an observer, or a
+    /// message that wasn't sent: the first such event is told.
     pub fn run(
         alloc: Global,
         members: Members,
         spares: Members,
+        observers: Members,
         is_mirrored: bool,
         events: Events,
     ) -> Result<Summary, RunFail>
         requires members { MembersInRange members }
         requires spares { SparesInRange members spares }
+        requires observers { ObserversInRange members spares observers }
         requires events { All (λ e. WhatInRange e.what) events }
-        ensures report { IfOk result (IsReportOfRun members spares is_mirrored events) }
-        ensures bad { IfBadEvent result (IsFirstRefused members spares is_mirrored events) }
+        ensures report { IfOk result (IsReportOfRun members spares observers is_mirrored events) }
+        ensures bad { IfBadEvent result (IsFirstRefused members spares observers is_mirrored events) }
     {
         if is_mirrored {
-            return World::<MemMirror>::run_over(alloc, members, spares, events);
+            return World::<MemMirror>::run_over(alloc, members, spares, observers, events);
         }
-        World::<MemDisk>::run_over(alloc, members, spares, events)
+        World::<MemDisk>::run_over(alloc, members, spares, observers, events)
     }
 
     /// Runs so many events at the drill's members and spares, from their start on, and reports what they leave. The seed

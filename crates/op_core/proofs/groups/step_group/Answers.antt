@@ -2,7 +2,7 @@ use Rattle.std.proofs.Common.{◌≡◌, ◌++◌, ◌∷◌, [], List, length, 
 use Rattle.std.proofs.lemmas.List.Elements.{All-nil, All-cons, All-append}
 use Rattle.op_node.specs.Nodes.{node_of}
 use Rattle.op_node.specs.declared.node.Node.{Node}
-use Rattle.op_core.specs.Groups.{Told, ToldInRange, starved, changes_all}
+use Rattle.op_core.specs.Groups.{Told, ToldInRange, starved, changes_at}
 use Rattle.op_core.specs.NodeCores.{place_at}
 use Rattle.op_core.specs.declared.node_core.NodeCore.{NodeCore}
 use Rattle.op_core.proofs.Came.{none_stores, goes_lost}
@@ -42,7 +42,7 @@ returns-then-is_whole-clause-goes g c =
     let runs : mid.node.failed ≡ None = ap (λ (k : Node _). k.failed) noted.node ∙ c.requires.up in
     let place : c.len-from.result ≡ length before = search rules in
     let stood : mid.stood ≡ place_at (node_of mid.node).state = noted.place c.requires.up ∙ ap (λ (k : Node _). place_at (node_of k).state) (sym noted.node) in
-    let x = gone state mid new n t.ts before after h runs t.took c.store-end.result c.len-from.result later place stood (c.store-end.ensures.stored (node_of mid.node).state.durable (changes_all (node_of mid.node).me (node_of mid.node).state t.ts) t.took.leads) in
+    let x = gone state mid new n t.ts before after h runs t.took c.store-end.result c.len-from.result later place stood (c.store-end.ensures.stored (node_of mid.node).state.durable (changes_at (node_of mid.node) t.ts) t.took.leads) in
     goes_whole state old mid new n t.ts before after later h runs t.took noted.node noted.standing c.store-end.result x (c.args.first ∷ c.args.inputs.now.items) c.take_all-is_whole.new.inputs.items t.left t.is_left t.split (t.full refl)
 
 pub returns-then-is_whole-clause-given : goal.returns-then-is_whole-clause-given
@@ -61,7 +61,7 @@ returns-then-is_whole-clause-given g c all =
     let runs : mid.node.failed ≡ None = ap (λ (k : Node _). k.failed) noted.node ∙ c.requires.up in
     let place : c.len-from.result ≡ length before = search rules in
     let stood : mid.stood ≡ place_at (node_of mid.node).state = noted.place c.requires.up ∙ ap (λ (k : Node _). place_at (node_of k).state) (sym noted.node) in
-    let x = gone state mid new n t.ts before after h runs t.took c.store-end.result c.len-from.result later place stood (c.store-end.ensures.stored (node_of mid.node).state.durable (changes_all (node_of mid.node).me (node_of mid.node).state t.ts) t.took.leads) in
+    let x = gone state mid new n t.ts before after h runs t.took c.store-end.result c.len-from.result later place stood (c.store-end.ensures.stored (node_of mid.node).state.durable (changes_at (node_of mid.node) t.ts) t.took.leads) in
     subst (All ToldInRange) (sym x.added) (All-append ToldInRange before x.told all x.given)
 
 pub returns-clause-goes : goal.returns-clause-goes
@@ -80,7 +80,7 @@ returns-clause-goes g c =
     let runs : mid.node.failed ≡ None = ap (λ (k : Node _). k.failed) noted.node ∙ c.requires.up in
     let place : c.len-from.result ≡ length before = search rules in
     let stood : mid.stood ≡ place_at (node_of mid.node).state = noted.place c.requires.up ∙ ap (λ (k : Node _). place_at (node_of k).state) (sym noted.node) in
-    let x = gone state mid new n t.ts before after h runs t.took c.store-end.result c.len-from.result later place stood (c.store-end.ensures.stored (node_of mid.node).state.durable (changes_all (node_of mid.node).me (node_of mid.node).state t.ts) t.took.leads) in
+    let x = gone state mid new n t.ts before after h runs t.took c.store-end.result c.len-from.result later place stood (c.store-end.ensures.stored (node_of mid.node).state.durable (changes_at (node_of mid.node) t.ts) t.took.leads) in
     goes_short state old mid new n t.ts before after later h runs t.took noted.node noted.standing c.store-end.result x (c.args.first ∷ c.args.inputs.now.items) c.take_all-is_whole.new.inputs.items t.left c.push_reserved-2.new.self.items t.is_left t.split c.push_reserved-2.ensures.items
 
 pub returns-clause-given : goal.returns-clause-given
@@ -99,5 +99,5 @@ returns-clause-given g c all =
     let runs : mid.node.failed ≡ None = ap (λ (k : Node _). k.failed) noted.node ∙ c.requires.up in
     let place : c.len-from.result ≡ length before = search rules in
     let stood : mid.stood ≡ place_at (node_of mid.node).state = noted.place c.requires.up ∙ ap (λ (k : Node _). place_at (node_of k).state) (sym noted.node) in
-    let x = gone state mid new n t.ts before after h runs t.took c.store-end.result c.len-from.result later place stood (c.store-end.ensures.stored (node_of mid.node).state.durable (changes_all (node_of mid.node).me (node_of mid.node).state t.ts) t.took.leads) in
+    let x = gone state mid new n t.ts before after h runs t.took c.store-end.result c.len-from.result later place stood (c.store-end.ensures.stored (node_of mid.node).state.durable (changes_at (node_of mid.node) t.ts) t.took.leads) in
     subst (All ToldInRange) (sym c.push_reserved-2.ensures.items) (one_starved later (subst (All ToldInRange) (sym x.added) (All-append ToldInRange before x.told all x.given)))

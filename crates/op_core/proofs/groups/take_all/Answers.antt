@@ -4,7 +4,7 @@ use Rattle.op_types.specs.declared.events.Input.{Input}
 use Rattle.op_serving.specs.Ranges.{InputInRange}
 use Rattle.op_types.specs.declared.changes.Change.{Change}
 use Rattle.op_node.specs.Nodes.{node_of}
-use Rattle.op_core.specs.Groups.{Told, IsFull, changes_all, Took}
+use Rattle.op_core.specs.Groups.{Told, IsFull, changes_at, Took}
 use Rattle.op_core.proofs.NodeCores.{admits, gave}
 use Rattle.op_core.proofs.Takings.{took_none, took_same, took_more}
 use Rattle.op_core.proofs.groups.take_all.Goals as goal
@@ -76,7 +76,7 @@ returns-in-None-clause-takes g c =
     let fits = gave c.inputs.node c.take.new.self x (Ok c.in-Ok.given) inv.took.servable inv.next_in (e.taken.given, e.taken.node) c.count_fits.ensures in
     let took = took_more old c.inputs.node c.take.new.self inv.ts before after c.inputs.gathered c.take.new.gathered x c.in-Ok.given inv.took e.taken e.added inv.next_in inv.calm e.sound fits in
     let pushed = c.push_reserved.ensures.items in
-    let changes : List Change = changes_all (node_of old).me (node_of old).state (inv.ts ++ x ∷ []) in
+    let changes : List Change = changes_at (node_of old) (inv.ts ++ x ∷ []) in
     record {
       ts = inv.ts ++ x ∷ [];
       left = [];

@@ -2,7 +2,7 @@ use Rattle.std.proofs.Common.{◌≡◌, ◌+◌, ◌-◌, [], sym, ap, ◌∙�
 use Rattle.std.specs.Ordering.{nat_cmp}
 use Rattle.std.specs.BTreeMap.{insert_entry}
 use Rattle.op_types.specs.declared.answers.Applied.{Applied}
-use Rattle.op_kv.specs.Over.{entries_over}
+use Rattle.op_overlay.specs.Entries.{entries_over}
 use Rattle.op_kv.specs.Rising.{rising_read}
 use Rattle.op_kv.specs.Bases.{client_above, rising_clients}
 use Rattle.op_kv.specs.Looked.{kept_of}

@@ -1,6 +1,6 @@
 use Rattle.std.proofs.Common.{◌≡◌, ◌-◌, []}
 use Rattle.std.specs.Ordering.{nat_cmp}
-use Rattle.op_kv.specs.Over.{entries_over}
+use Rattle.op_overlay.specs.Entries.{entries_over}
 use Rattle.op_kv.specs.Rising.{rising_read}
 use Rattle.op_kv.specs.Bases.{client_above, rising_clients}
 use Rattle.op_kv.proofs.RisingSteps.{made_of}

@@ -2,7 +2,7 @@ use Rattle.std.proofs.Common.{◌≡◌, ◌+◌, ◌-◌, [], sym, ap, ◌∙�
 use Rattle.std.specs.Ordering.{nat_cmp}
 use Rattle.std.specs.Cmp.Lexicographic.{slice_cmp}
 use Rattle.std.specs.BTreeMap.{insert_entry}
-use Rattle.op_kv.specs.Over.{entries_over}
+use Rattle.op_overlay.specs.Entries.{entries_over}
 use Rattle.op_kv.specs.Rising.{rising_read}
 use Rattle.op_kv.specs.Bases.{pair_above, rising_pairs}
 use Rattle.op_kv.proofs.RisingSteps.{made_of, after_count, made_goes_on, made_stops, made_is_done}

@@ -1,7 +1,7 @@
 use Rattle.std.proofs.Common.{◌≡◌, ◌-◌, []}
 use Rattle.std.specs.Ordering.{nat_cmp}
 use Rattle.std.specs.Cmp.Lexicographic.{slice_cmp}
-use Rattle.op_kv.specs.Over.{entries_over}
+use Rattle.op_overlay.specs.Entries.{entries_over}
 use Rattle.op_kv.specs.Rising.{rising_read}
 use Rattle.op_kv.specs.Bases.{pair_above, rising_pairs}
 use Rattle.op_kv.proofs.RisingSteps.{made_of}

@@ -12,16 +12,16 @@ returns-in-Ok g c =
     let M = medium g.A.Disk.state g.A.Area.holds g.A.Area.IS_MIRRORED in
     let a = c.args in
     IfOk-weaker c.opened.result _ _
-    (λ r goes line. reopen_done M a.pid a.node c.in_ok-node.node c.reopen.new.self a.plan c.requires.kept c.in_ok-node.ensures.same c.in-Ok.ensures.sound c.requires.range c.in-Ok.sends r c.in-Ok.ensures.found goes line)
+    (λ r goes kind has range line. reopen_done M kind a.pid a.node c.in_ok-node.node c.reopen.new.self a.plan has c.in_ok-node.ensures.same c.in-Ok.ensures.sound range c.in-Ok.sends r c.in-Ok.ensures.found goes line)
     c.opened.ensures
 
 pub returns-in-Err-DiskFault : goal.returns-in-Err-DiskFault
-returns-in-Err-DiskFault g c line =
+returns-in-Err-DiskFault g c kind has range line =
     let M = medium g.A.Disk.state g.A.Area.holds g.A.Area.IS_MIRRORED in
     let a = c.args in
     let failed = c.in-Err-DiskFault in
     let fallen = c.in_ok-fallen-in-Err-DiskFault.fallen in
-    subst (λ r. BecomesOf M a.pid a.plan (states.Failed a.node) Opens line r) (sym c.quietly.ensures)
-    (reopen_failed M a.pid a.node c.in_ok-node.node c.reopen.new.self a.plan c.requires.kept c.in_ok-node.ensures.same failed.ensures.sound failed.field-0-0 fallen.state fallen.is_due
+    subst (λ r. BecomesOf M kind a.pid a.plan (states.Failed a.node) Opens line r) (sym c.quietly.ensures)
+    (reopen_failed M kind a.pid a.node c.in_ok-node.node c.reopen.new.self a.plan has c.in_ok-node.ensures.same failed.ensures.sound failed.field-0-0 fallen.state fallen.is_due
     (rw failed.field-0-is at failed.ensures.refused) (rw failed.field-0-is at failed.ensures.found)
     (subst (λ p. IsFallen M p c.reopen.new.self fallen.state fallen.is_due) c.in_ok-node.ensures.plan c.in_ok-fallen-in-Err-DiskFault.ensures) line)

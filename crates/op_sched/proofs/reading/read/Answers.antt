@@ -20,6 +20,6 @@ returns-in_err-spares-clause-bad c =
 
 pub returns-clause-found : goal.returns-clause-found
 returns-clause-found c =
-    let s : Schedule = record { members = c.in-Some.members; spares = c.in_ok-spares.spares; is_mirrored = c.in_ok-spares.course.is_mirrored; events = c.in_ok-spares.course.events } in
+    let s : Schedule = record { members = c.in-Some.members; spares = c.in_ok-spares.spares; observers = c.in_ok-spares.course.observers; is_mirrored = c.in_ok-spares.course.is_mirrored; events = c.in_ok-spares.course.events } in
     let header : IsHeader c.in-Ok.header.line.now c.in-Some.members = rw c.in-Some.is at c.in_ok-members.ensures in
     subst (λ (l : List (ℕ × List ℕ)). AreLines l s) (sym c.in-Ok.ensures.found) (header, c.in_ok-spares.ensures.found)

@@ -22,4 +22,4 @@ pub returns-clause-passes_on : goal.returns-clause-passes_on
 returns-clause-passes_on g c m obeys mixes = passes_on g.D.Disk m obeys mixes
 
 pub returns-clause-ends : goal.returns-clause-ends
-returns-clause-ends g c id o old new s lost e obey = leaves_next g.D.Disk id o old new s lost e obey
+returns-clause-ends g c begins id o old new s lost e obey = leaves_next g.D.Disk begins id o old new s lost e obey

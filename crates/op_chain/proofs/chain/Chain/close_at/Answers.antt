@@ -10,7 +10,7 @@ use Rattle.op_types.specs.declared.plan.Plan.{Plan}
 use Rattle.op_protocol.specs.Configurations.{news_of}
 use Rattle.op_protocol.specs.Leader.{given_up_by}
 use Rattle.op_protocol.specs.Parts.{part_after}
-use Rattle.op_kv.specs.Over.{service_over}
+use Rattle.op_change.specs.Over.{service_over}
 use Rattle.op_chain.specs.Plans.{IfCloses}
 use Rattle.op_chain.specs.declared.renewal.Renewal.{Renewal}
 use Rattle.op_chain.proofs.Closes.{closes_up}

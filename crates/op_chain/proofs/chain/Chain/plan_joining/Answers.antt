@@ -6,7 +6,7 @@ use Rattle.op_types.specs.declared.plan.Plan.{Plan}
 use Rattle.op_types.specs.declared.turn.Turn.{Turn}
 use Rattle.op_protocol.specs.State.{Planned}
 use Rattle.op_protocol.specs.Joining.{holds_more}
-use Rattle.op_kv.specs.Over.{nothing_written}
+use Rattle.op_change.specs.Over.{nothing_written}
 use Rattle.op_chain.specs.Bringing.{turn_holding}
 use Rattle.op_chain.specs.Chains.{state_of}
 use Rattle.op_chain.specs.Plans.{nothing_ready, HasRoomToTell, Prepares, IfGoesOn}

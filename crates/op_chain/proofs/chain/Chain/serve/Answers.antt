@@ -5,7 +5,7 @@ use Rattle.op_types.specs.Roles.{role_of}
 use Rattle.op_types.specs.declared.changes.Change.{Change}
 use Rattle.op_spec.specs.Service.{Service}
 use Rattle.op_protocol.specs.Rows.{newly_decided}
-use Rattle.op_kv.specs.Over.{nothing_written, service_over}
+use Rattle.op_change.specs.Over.{nothing_written, service_over}
 use Rattle.op_deciding.specs.Deciding.{ServesNothing, IsServed}
 use Rattle.op_chain.specs.Plans.{HasRoomToTell, IfCloses, Serves}
 use Rattle.op_chain.specs.declared.chain.Chain.{Chain}

@@ -1,7 +1,7 @@
 use Rattle.std.proofs.Common.{◌<◌, ◌^◌, length, sym, ap, subst, ◌∙◌, arith}
 use Rattle.op_spec.specs.Service.{base_bytes}
 use Rattle.op_spec.specs.ServiceRanges.{ServiceInRange}
-use Rattle.op_kv.specs.Over.{service_over}
+use Rattle.op_change.specs.Over.{service_over}
 use Rattle.op_kv.proofs.BaseIs.{base_is_kept, same_kept}
 use Rattle.op_kv.proofs.map.Map.from_base.Goals as goal
 

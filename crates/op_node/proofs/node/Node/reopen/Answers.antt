@@ -17,9 +17,9 @@ returns-in_default-reopened-clause-found g c before after one =
 pub returns-in-Ok-reopened-clause-found : goal.returns-in-Ok-reopened-clause-found
 returns-in-Ok-reopened-clause-found g c before after one =
     let r = c.in-Ok-reopen in
-    let server = c.in-Ok-reopened.ensures in
+    let seat = c.in-Ok-reopened.ensures in
     finds_one g.D.Disk.state before after r.durable r.field-0-1 c.args.self.now _ c.in-Ok-reopened.sends
-    (reopens g.D.Disk.state c.args.self.now _ c.in-Ok.kept r.durable r.field-0-1 c.in-Ok-reopened.sends (c.in-Ok.ensures ∙ c.durable.ensures) r.ensures.opened r.ensures.range server.me server.state refl server.sends) one
+    (reopens g.D.Disk.state c.args.self.now _ c.in-Ok.kept r.durable r.field-0-1 c.in-Ok-reopened.sends (c.in-Ok.ensures ∙ c.durable.ensures) r.ensures.opened r.ensures.range seat.who seat.state refl seat.sends) one
 
 pub returns-in-Err-clause-found : goal.returns-in-Err-clause-found
 returns-in-Err-clause-found g c before after one =

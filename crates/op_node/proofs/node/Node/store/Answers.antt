@@ -20,4 +20,4 @@ returns-in-Ok-clause-sound g c =
     let leads = c.requires.leads.2 in
     let some : changes ≢ [] = λ none. let bad : true ≡ false = sym ((c.is_empty.ensures changes leads.laid).1 none) ∙ c.if-is_empty.false in absurd (cc) in
     let at = c.in-Ok.ensures d changes (c.into_framed-framed.ensures changes leads.laid) leads.applies some (leads.ahead ∙ sym c.durable.ensures) in
-    record { server = c.requires.sound.server; range = c.requires.sound.range; store = λ _. at.ready (c.requires.sound.store c.requires.runs) }
+    record { seat = c.requires.sound.seat; range = c.requires.sound.range; store = λ _. at.ready (c.requires.sound.store c.requires.runs) }

@@ -1,4 +1,4 @@
-use Rattle.std.proofs.Common.{◌≡◌, Bool, [], Option, sym, ap, subst, ◌∙◌}
+use Rattle.std.proofs.Common.{◌≡◌, Bool, [], Option, refl, sym, ap, subst, ◌∙◌}
 use Rattle.op_runs.specs.World.{Fate, Done, Stopped, Faulted, Steps, failed_outcome, outcome_lines}
 use Rattle.op_types.specs.declared.answers.Outcome.{Outcome}
 use Rattle.op_executions.specs.Servers.{CanDo}
@@ -25,55 +25,55 @@ refuse-requires-clause-down c = λ (up : IsUp c.args.self.now). c.in_default.not
 
 pub step_whole-requires : goal.step_whole-requires
 step_whole-requires c =
-    let pid = c.args.self.now.pid in
-    subst (λ (s : Status). CanDo pure_nodes (node_of pid s) (Steps c.args.input)) c.in-Up.is c.requires
+    let old = c.args.self.now in (old, subst (λ (s : Status). CanDo pure_nodes (node_of old s) (Steps c.args.input)) c.in-Up.is c.requires)
 
 pub returns-in-Done : goal.returns-in-Done
 returns-in-Done c =
     let old = c.args.self.now in
     let x = Steps c.args.input in
-    let server = c.in-Up.server in
-    let new = up_node old.pid c.step_whole.new.server in
-    IfOk-weaker c.step_whole.result (λ r. (finds_after : Bool) → HasDone (up_node old.pid server) x Done finds_after c.args.line new r.sends r.told) (λ r. (finds_after : Bool) → HasDone old x (fate_of c.args.fate) finds_after c.args.line new r.sends r.told)
-    (λ r did finds_after. as_fated old (status.Up server) x c.args.fate Done finds_after c.args.line new r.sends r.told c.in-Up.is (ap fate_of c.in-Done.is) (did finds_after)) c.step_whole.ensures
+    let seat = c.in-Up.seat in
+    let new = up_node old c.step_whole.new.seat in
+    let can = subst (λ (s : Status). CanDo pure_nodes (node_of old s) x) c.in-Up.is c.requires in
+    IfOk-weaker c.step_whole.result _ (λ r. (finds_after : Bool) → HasDone old x (fate_of c.args.fate) finds_after c.args.line new r.sends r.told)
+    (λ r did finds_after. as_fated old (status.Up seat) x c.args.fate Done finds_after c.args.line new r.sends r.told c.in-Up.is (ap fate_of c.in-Done.is) (did old refl can finds_after)) c.step_whole.ensures
 
 pub to_store-requires : goal.to_store-requires
 to_store-requires c =
-    let pid = c.args.self.now.pid in
-    admits pid c.in-Up.server c.args.input (subst (λ (s : Status). CanDo pure_nodes (node_of pid s) (Steps c.args.input)) c.in-Up.is c.requires)
+    let old = c.args.self.now in
+    admits old c.in-Up.seat c.args.input (subst (λ (s : Status). CanDo pure_nodes (node_of old s) (Steps c.args.input)) c.in-Up.is c.requires)
 
 pub to_store-requires-in-Faulted : goal.to_store-requires-in-Faulted
 to_store-requires-in-Faulted c =
-    let pid = c.args.self.now.pid in
-    admits pid c.in-Up.server c.args.input (subst (λ (s : Status). CanDo pure_nodes (node_of pid s) (Steps c.args.input)) c.in-Up.is c.requires)
+    let old = c.args.self.now in
+    admits old c.in-Up.seat c.args.input (subst (λ (s : Status). CanDo pure_nodes (node_of old s) (Steps c.args.input)) c.in-Up.is c.requires)
 
 pub returns-in_ok-batch-in-Stopped : goal.returns-in_ok-batch-in-Stopped
 returns-in_ok-batch-in-Stopped c finds_after =
     let old = c.args.self.now in
     let x = Steps c.args.input in
     let line = c.args.line in
-    let server = c.in-Up.server in
+    let seat = c.in-Up.seat in
     let new = c.stop.new.self in
-    let can = subst (λ (s : Status). CanDo pure_nodes (node_of old.pid s) x) c.in-Up.is c.requires in
-    let did = stopped_in_step old.pid server c.to_store.new.server c.args.input c.in_ok-batch-in-Stopped.batch can c.to_store.ensures.same c.in_ok-batch-in-Stopped.ensures.batch finds_after line in
+    let can = subst (λ (s : Status). CanDo pure_nodes (node_of old s) x) c.in-Up.is c.requires in
+    let did = stopped_in_step old seat c.to_store.new.seat c.args.input c.in_ok-batch-in-Stopped.batch can c.to_store.ensures.same c.in_ok-batch-in-Stopped.ensures.batch finds_after line in
     only c.nothing.result old new x (fate_of c.args.fate) finds_after line [] c.nothing.ensures
-    (as_fated old (status.Up server) x c.args.fate Stopped finds_after line new [] [] c.in-Up.is (ap fate_of c.in-Stopped.is)
-    (subst (λ (n : PureNode). HasDone (up_node old.pid server) x Stopped finds_after line n [] []) (sym c.stop.ensures) did))
+    (as_fated old (status.Up seat) x c.args.fate Stopped finds_after line new [] [] c.in-Up.is (ap fate_of c.in-Stopped.is)
+    (subst (λ (n : PureNode). HasDone (up_node old seat) x Stopped finds_after line n [] []) (sym c.stop.ensures) did))
 
 pub returns-in_ok-batch-in-Faulted : goal.returns-in_ok-batch-in-Faulted
 returns-in_ok-batch-in-Faulted c =
     let old = c.args.self.now in
     let x = Steps c.args.input in
     let line = c.args.line in
-    let server = c.in-Up.server in
+    let seat = c.in-Up.seat in
     let new = c.fail.new.self in
     let count = c.in-Faulted.count in
     let told = outcome_lines line (failed_outcome count c.args.input) in
-    let can = subst (λ (s : Status). CanDo pure_nodes (node_of old.pid s) x) c.in-Up.is c.requires in
+    let can = subst (λ (s : Status). CanDo pure_nodes (node_of old s) x) c.in-Up.is c.requires in
     IfOk-weaker c.saying.result (λ r. r ≡ record { sends = []; told = outcome_lines line c.refusal-outcome.result }) (λ r. (finds_after : Bool) → HasDone old x (fate_of c.args.fate) finds_after line new r.sends r.told)
     (λ r is finds_after.
-    let did = failed_in_step old.pid server c.to_store-in-Faulted.new.server c.args.input c.in_ok-batch-in-Faulted.batch can c.to_store-in-Faulted.ensures.same c.in_ok-batch-in-Faulted.ensures.batch count line finds_after in
+    let did = failed_in_step old seat c.to_store-in-Faulted.new.seat c.args.input c.in_ok-batch-in-Faulted.batch can c.to_store-in-Faulted.ensures.same c.in_ok-batch-in-Faulted.ensures.batch count line finds_after in
     only r old new x (fate_of c.args.fate) finds_after line told (is ∙ ap (λ (o : Option Outcome). let d : given.Done = record { sends = []; told = outcome_lines line o } in d) c.refusal-outcome.ensures)
-    (as_fated old (status.Up server) x c.args.fate (Faulted count) finds_after line new [] told c.in-Up.is (ap fate_of c.in-Faulted.is)
-    (subst (λ (n : PureNode). HasDone (up_node old.pid server) x (Faulted count) finds_after line n [] told) (sym c.fail.ensures) did)))
+    (as_fated old (status.Up seat) x c.args.fate (Faulted count) finds_after line new [] told c.in-Up.is (ap fate_of c.in-Faulted.is)
+    (subst (λ (n : PureNode). HasDone (up_node old seat) x (Faulted count) finds_after line n [] told) (sym c.fail.ensures) did)))
     c.saying.ensures

@@ -1,6 +1,8 @@
 use Rattle.std.proofs.Common.{◌≡◌, ℕ, List, [], ◌∷◌, codes, subst, ◌∙◌, append_assoc}
 use Rattle.std.specs.List.{concat}
 use Rattle.op_outside.specs.Seen.{Tells}
+use Rattle.op_setup.specs.Names.{name_bytes}
+use Rattle.op_setup.specs.declared.cluster_name.ClusterName.{ClusterName}
 use Rattle.op_status.specs.Statuses.{area_name, status_line}
 use Rattle.op_status.specs.declared.status.Status.TheVariants as status
 use Rattle.std.specs.Fmt.{decimal}
@@ -43,3 +45,18 @@ returns-in-NewerVersion g c =
     let told : List ℕ → Type 0 = λ text. Tells (g.K.Sink.held c.args.err.now, g.K.Sink.fault_count c.args.err.now)
     (g.K.Sink.held c.tell_parts-in-NewerVersion.new.err, g.K.Sink.fault_count c.tell_parts-in-NewerVersion.new.err) text in
     rw c.in-NewerVersion.is (subst told (newer_line c.in-NewerVersion.area c.in-NewerVersion.version _ _ c.area_name-in-NewerVersion.ensures digits) c.tell_parts-in-NewerVersion.ensures)
+
+pub returns-in-NoIdentity : goal.returns-in-NoIdentity
+returns-in-NoIdentity g c = rw c.in-NoIdentity.is c.tell_text-in-NoIdentity.ensures
+
+-- the line of a folder that is another's, from its parts
+other_line : (id : ℕ) (name : ClusterName) (digits bytes : List ℕ) → digits ≡ decimal id → bytes ≡ name_bytes name
+    → concat (codes "identity " ∷ digits ∷ codes " " ∷ bytes ∷ codes "\n" ∷ []) ≡ status_line (status.OtherIdentity id name)
+other_line id name digits bytes is_number is_name = rw (is_number, is_name) (simp append_assoc)
+
+pub returns-in-OtherIdentity : goal.returns-in-OtherIdentity
+returns-in-OtherIdentity g c =
+    let digits : c.as_bytes-digits-in-OtherIdentity.result.now ≡ decimal c.in-OtherIdentity.id = c.as_bytes-digits-in-OtherIdentity.ensures.value ∙ c.format-in-OtherIdentity.ensures.text in
+    let told : List ℕ → Type 0 = λ text. Tells (g.K.Sink.held c.args.err.now, g.K.Sink.fault_count c.args.err.now)
+    (g.K.Sink.held c.tell_parts-in-OtherIdentity.new.err, g.K.Sink.fault_count c.tell_parts-in-OtherIdentity.new.err) text in
+    rw c.in-OtherIdentity.is (subst told (other_line c.in-OtherIdentity.id c.in-OtherIdentity.name _ _ digits c.as_slice.ensures) c.tell_parts-in-OtherIdentity.ensures)

@@ -8,7 +8,7 @@ add-requires g c =
     let M = medium g.A.Disk.state g.A.Area.holds g.A.Area.IS_MIRRORED in
     let n = c.args.node.now in
     let d = c.shown.result.now in
-    (kept_open M) n d running.Up (up_has M n c.in-Up.node d c.in-Up.is c.shown.ensures) (up_runs M n c.in-Up.node d c.in-Up.is c.shown.ensures) c.requires.0 c.requires.1 c.requires.2
+    (kept_open M) n d running.Up (up_has M n c.in-Up.node d c.in-Up.is c.shown.ensures) (up_runs M n c.in-Up.node d c.in-Up.is c.shown.ensures) (c.requires.0).node (c.requires.1).node c.requires.2
 
 pub add-requires-in-Failed : goal.add-requires-in-Failed
 add-requires-in-Failed g c =
@@ -16,12 +16,12 @@ add-requires-in-Failed g c =
     let n = c.args.node.now in
     let s = c.shown-in-Failed in
     let d = s.result.now in
-    (kept_open M) n d running.Failed (failed_has M n c.in-Failed.node d c.in-Failed.is s.ensures) (failed_runs M n c.in-Failed.node d c.in-Failed.is s.ensures) c.requires.0 c.requires.1 c.requires.2
+    (kept_open M) n d running.Failed (failed_has M n c.in-Failed.node d c.in-Failed.is s.ensures) (failed_runs M n c.in-Failed.node d c.in-Failed.is s.ensures) (c.requires.0).node (c.requires.1).node c.requires.2
 
 pub add-requires-in-Down : goal.add-requires-in-Down
 add-requires-in-Down g c =
     let M = medium g.A.Disk.state g.A.Area.holds g.A.Area.IS_MIRRORED in
-    (down_open M) c.args.node.now c.in-Down.down c.in-Down.is c.requires.0 c.requires.1 c.requires.2
+    (down_open M) c.args.node.now c.in-Down.down c.in-Down.is (c.requires.0).node (c.requires.1).node c.requires.2
 
 pub returns-in-Up-clause-latest : goal.returns-in-Up-clause-latest
 returns-in-Up-clause-latest g c =

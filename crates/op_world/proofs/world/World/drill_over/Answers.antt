@@ -1,8 +1,8 @@
 use Rattle.std.proofs.Common.{◌≡◌, ◌+◌, List, ℕ, length, sym, ap, subst, ◌∙◌, arith}
 use Rattle.std.proofs.lemmas.Result.{err_from_is_err_and}
 use Rattle.op_gen.specs.declared.generator.Gen.{Gen}
-use Rattle.op_gen.specs.Draws.{drill_members, drill_spares, drill_nodes, event_drawn}
-use Rattle.op_runs.specs.Possible.{is_possible}
+use Rattle.op_gen.specs.Draws.{drill_members, drill_spares, drill_ids, event_drawn}
+use Rattle.op_runs.specs.Possible.{Named, is_possible}
 use Rattle.op_runs.specs.Run.{first_execution, execution_of}
 use Rattle.op_runs.specs.Summary.{summary_of}
 use Rattle.op_runs.specs.Schedules.{no_plans, plans_after}
@@ -40,7 +40,7 @@ loop-done-preserved g c =
         comes.planned,
         subst Drawn (ap (λ (n : ℕ). (event_drawn n c.loop-done.events).1) (sym sent) ∙ sym e.after)
             (drawn_next M c.requires.plain c.args.seed c.loop-done._done c.loop-done.events c.loop-done.world c.in_ok-world-2.world old.0 old.2.0 c.in_ok-event.event c.loop-done.world.proposed c.in_ok-world-2.world.proposed old.2.2 old.1
-            (e.event ∙ ap (λ (n : ℕ). (event_drawn n c.loop-done.events).0) sent) (ap (λ (n : ℕ). is_possible drill_nodes n c.in_ok-event.event.what) (sym sent) ∙ e.possible) comes e.range w.proposed.0 w.proposed.1),
+            (e.event ∙ ap (λ (n : ℕ). (event_drawn n c.loop-done.events).0) sent) (ap (λ (n : ℕ). is_possible drill_ids n c.in_ok-event.event.what) (sym sent) ∙ e.possible) comes e.range w.proposed.0 w.proposed.1),
       ),
       w.members ∙ old.3,
       w.ids ∙ old.4,
@@ -60,5 +60,5 @@ returns-in_err-world-2-clause-never_bad g c =
     let w = c.loop-done.world in
     let e = c.in_ok-event in
     let p = err_from_is_err_and c.from_residual-in_err-world-2.result c.from_residual-in_err-world-2.ensures.1 in
-    let can = ap (λ (ps : List ℕ). is_possible ps (length w.messages) e.event.what) c.loop-done.invariant.4 ∙ ap (λ (n : ℕ). is_possible drill_nodes n e.event.what) (sym c.sent.ensures) ∙ e.ensures.possible in
+    let can = ap (λ (ps : Named). is_possible ps (length w.messages) e.event.what) c.loop-done.invariant.4 ∙ ap (λ (n : ℕ). is_possible drill_ids n e.event.what) (sym c.sent.ensures) ∙ e.ensures.possible in
     rw (p.1, p.2) (never_bad M (Unit {0}) (Unit {0}) c.in_err-world-2.field-0.0 w e.event can c.in_err-world-2.ensures.bad)

@@ -1,8 +1,10 @@
 use Rattle.std.proofs.Common.{◌≡◌, ℕ, All, refl, subst, ◌∙◌, arith}
+use Rattle.std.proofs.lemmas.Result.{err_from_is_err_and}
 use Rattle.op_lockstep.specs.Lockstep.{lockstep}
+use Rattle.op_runs.specs.Run.{Execution}
 use Rattle.op_world.specs.Drills.{IsQuiet, followed}
 use Rattle.op_world.specs.Worlds.{Shows}
-use Rattle.op_world.proofs.Lockstep.{no_rounds, more_rounds}
+use Rattle.op_world.proofs.Lockstep.{no_rounds, more_rounds, passed_on}
 use Rattle.op_world.proofs.world.World.rounds.Goals as goal
 use Rattle.op_areas.specs.Media.{medium}
 
@@ -30,3 +32,10 @@ pub returns-clause-range : goal.returns-clause-range
 returns-clause-range g c t s =
     let all : c.loop-number._number ≡ c.args.count = omega arith in
     subst (λ (k : ℕ). All IsQuiet (lockstep c.args.self.members c.args.links.now.pairs.now k t.world)) all (c.loop-number.invariant.0 t s).range
+
+pub returns-in_err-world-clause-bad : goal.returns-in_err-world-clause-bad
+returns-in_err-world-clause-bad g c =
+    let M = medium g.A.Disk.state g.A.Area.holds g.A.Area.IS_MIRRORED in
+    let p = err_from_is_err_and c.from_residual.result c.from_residual.ensures.1 in
+    rw (p.1, p.2) (passed_on (Unit {0}) (Unit {0}) c.in_err-world.field-0.0 (λ (i : ℕ). (t : Execution) → Shows M c.loop-number.world t → ⊥) (λ (i : ℕ). (t : Execution) → Shows M c.args.self t → ⊥)
+    (λ i never t s. never _ (c.loop-number.invariant.0 t s).shows) c.in_err-world.ensures.bad)

@@ -1,6 +1,6 @@
 use Rattle.std.proofs.Common.{◌≡◌, ◌^◌, ◌<◌, length}
 use Rattle.op_runs.specs.Run.{Execution}
-use Rattle.op_runs.specs.World.{node_ids}
+use Rattle.op_runs.specs.Possible.{named_ids}
 use Rattle.op_runs.specs.Schedules.{DiskPlans}
 use Rattle.op_world.specs.Events.{parts_of}
 use Rattle.op_world.specs.Plans.{ArePlanned}
@@ -14,8 +14,8 @@ invariant-events g l =
     let M = medium g.A.Disk.state g.A.Area.holds g.A.Area.IS_MIRRORED in
     let w = parts_of l.world l.ledger in
     (t : Execution) × Shows M w t
-    × ((plans : DiskPlans) × ArePlanned w.nodes plans × Continues l.fn.members l.fn.spares M.is_mirrored t plans l.coming l.fn.events l.index w.proposed)
-    × (w.members ≡ l.fn.members) × (w.ids ≡ node_ids l.fn.members l.fn.spares) × (length l.fn.events < 2 ^ 63) × IsWorld M w
+    × ((plans : DiskPlans) × ArePlanned w.nodes plans × Continues l.fn.members l.fn.spares l.fn.observers M.is_mirrored t plans l.coming l.fn.events l.index w.proposed)
+    × (w.members ≡ l.fn.members) × (w.ids ≡ named_ids l.fn.members l.fn.spares l.fn.observers) × (length l.fn.events < 2 ^ 63) × IsWorld M w
 
 abbrev pub decreases-events : goal.decreases-events
 decreases-events g l = length l.coming

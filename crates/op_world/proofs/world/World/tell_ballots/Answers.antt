@@ -1,7 +1,8 @@
-use Rattle.std.proofs.Common.{ap, refl, subst}
+use Rattle.std.proofs.Common.{ℕ, ap, refl, subst}
 use Rattle.std.proofs.lemmas.Result.{IfOk-weaker}
-use Rattle.op_world.specs.Worlds.{Parts, IsWorld}
-use Rattle.op_world.proofs.Lockstep.{ticks_follow, ballots_follow, told_shown}
+use Rattle.op_runs.specs.Run.{Execution}
+use Rattle.op_world.specs.Worlds.{Parts, Shows, IsWorld}
+use Rattle.op_world.proofs.Lockstep.{ticks_follow, ballots_follow, told_shown, bad_weaker}
 use Rattle.op_world.proofs.world.World.tell_ballots.Goals as goal
 use Rattle.op_areas.specs.Media.{medium}
 
@@ -23,3 +24,9 @@ returns-clause-after g c =
     IfOk-weaker c.follow-2.result _ _
     (λ w after t s. told_shown M c.args.self c.in_ok-follow.field-0 _ _ _ c.in_ok-ticks.ensures.are c.in_ok-ballots.ensures.are (ap (λ (v : (Parts _ _)). v.members) c.self.view_is) c.in_ok-follow.ensures.after t s w after)
     c.follow-2.ensures.after
+
+pub returns-clause-bad : goal.returns-clause-bad
+returns-clause-bad g c =
+    let M = medium g.A.Disk.state g.A.Area.holds g.A.Area.IS_MIRRORED in
+    bad_weaker c.follow-2.result (λ (i : ℕ). (t : Execution) → Shows M c.in_ok-follow.field-0 t → ⊥) (λ (i : ℕ). (t : Execution) → Shows M c.args.self t → ⊥)
+    (λ i never t s. never _ (c.in_ok-follow.ensures.after t s)) c.follow-2.ensures.bad

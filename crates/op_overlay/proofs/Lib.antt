@@ -1,0 +1,4 @@
+pub mod Deletes
+pub mod Entries
+pub mod Overlays
+pub mod Shown

@@ -1,0 +1,12 @@
+pub mod Lists
+pub mod Partial
+pub mod Told
+pub mod Ended
+pub mod Steps
+pub mod Nodes
+pub mod Worlds
+pub mod Moments
+pub mod Every
+pub mod Unowned
+pub mod Apart
+pub mod Learning
