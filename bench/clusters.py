@@ -25,14 +25,17 @@ def free_port():
 
 
 class Cluster:
-    """Nodes 1 to 3, which are all members, or others. With `like_command` they are children of `omni cluster`."""
+    """Nodes 1 to 3, which are all members, or others, of which some observe; `more` are further lines of the settings. With
+    `like_command` they are children of `omni cluster`."""
 
-    def __init__(self, like_command=False, ids=IDS, members=IDS):
+    def __init__(self, like_command=False, ids=IDS, members=IDS, observers=(), more=""):
         self.folder = tempfile.mkdtemp(prefix="omni-")
         self.ids = ids
         self.ports = {it: free_port() for it in ids}
         rows = "".join(f"{it} = '127.0.0.1:{port}'\n" for it, port in self.ports.items())
-        self.settings = f"tick_ms = {TICK_MS}\nturns = 1000000000000\nmembers = {list(members)}\n\n[peers]\n{rows}"
+        observing = f"observers = {list(observers)}\n" if observers else ""
+        self.settings = (f"tick_ms = {TICK_MS}\nturns = 1000000000000\nmembers = {list(members)}\n{observing}{more}\n"
+                         f"[peers]\n{rows}")
         self.path = os.path.join(self.folder, "cluster.toml")
         with open(self.path, "w") as it:
             it.write(self.settings)
@@ -59,6 +62,11 @@ class Cluster:
         self.nodes[node].kill()
         self.nodes[node].wait()
 
+    def begin_anew(self, node):
+        """Starts a node whose files are gone."""
+        shutil.rmtree(os.path.join(self.folder, f"n{node}"))
+        self.start(node)
+
     def pids(self):
         if self.command is None:
             return [it.pid for it in self.nodes.values()]
@@ -69,6 +77,11 @@ class Cluster:
         """What `omni call` prints, and its status."""
         done = subprocess.run([PROGRAM, "call", f"127.0.0.1:{self.ports[node]}", *words], capture_output=True, text=True)
         return done.stdout.rstrip("\n"), done.returncode
+
+    def place(self, node):
+        """The configuration that a node is in, and how much of it the node knows as decided; nothing where it doesn't answer."""
+        words = self.call(node, "status")[0].split()
+        return (int(words[3]), int(words[5])) if words[2:3] == ["config"] else None
 
     def wait_for_leader(self):
         """Puts by a client of its own until one is done, and says how long that took."""
