@@ -493,7 +493,7 @@ module _ (members : List ℕ) (links : Links) (group : List ℕ) (hear : HearOne
           let u = (k).up q m in
           admitted u.node.pid u.part u.node.state.volatile from msg msg.body (conf_is ∙ sym (subst (IfFirst members) u.has ((clean_here).stored).part).conf_is) refl unwatched ok plain u.node.state.durable u.has ((clean_here).stored).joining
 
-      memory_then : (memory_of (node_at (world_after w h).nodes q)) ≡ (body_does).volatile
+      pub memory_then : (memory_of (node_at (world_after w h).nodes q)) ≡ (body_does).volatile
       memory_then =
           let u = (k).up q m in
           ap memory_of found_then ∙ plan_memory members u.node.pid u.node.state (clean_here).stored (clean_here).memory (sound_here).memory input_is clean_body ∙ ap (λ (y : PartStep). y.volatile) row_is

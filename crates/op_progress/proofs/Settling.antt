@@ -491,10 +491,10 @@ module _ (members : List ℕ) (distinct : Distinct members) (links : Links) (gro
   -- a later world: promises have risen
   pub record Goes (s : ℕ) (b : Ballot) (w u : World) : Type 1 where
     pub settled : Settled s b u
-    followed : Followed s b u
+    pub followed : Followed s b u
     rises : (q : ℕ) → IsOneOf group q → AtMost (parts w q).promised (parts u q).promised
     -- what is claimed of the owner's role stays
-    claims : (C : Claim) → ((x : Ballot) → C.told x) → IsKept s members C → RoleIn C (known w s).role → RoleIn C (known u s).role
+    pub claims : (C : Claim) → ((x : Ballot) → C.told x) → IsKept s members C → RoleIn C (known w s).role → RoleIn C (known u s).role
 
   goes_then : (s : ℕ) (b : Ballot) (w u t : World) → Goes s b w u → Goes s b u t → Goes s b w t
   goes_then s b w u t f g =

@@ -74,7 +74,7 @@ all_pass f (x ∷ xs) e = ap (λ (b : Bool). cond b (x ∷ filter f xs) (filter 
 more_than_half : (n : ℕ) → 1 ≤ n → ltb n (2 * n) ≡ true
 more_than_half n some = lt-ltb n (2 * n) (omega (arith, some))
 
-all_hear : (members : List ℕ) → MembersInRange members → HearOneAnother members (all_links members) members
+pub all_hear : (members : List ℕ) → MembersInRange members → HearOneAnother members (all_links members) members
 all_hear members range =
     record {
       all_members = λ q m. m;
