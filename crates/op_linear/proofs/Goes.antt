@@ -49,7 +49,7 @@ use Rattle.op_linear.proofs.Worked.{no_line, no_luck}
 
 -- ---- what it is given
 
-abbrev nowhere : Addr
+abbrev pub nowhere : Addr
 nowhere = record { host = 0; port = 1 }
 
 abbrev o : Settings
@@ -59,15 +59,15 @@ peers_fit : PeersInRange o
 peers_fit = All-cons (λ p. IsPid p.0) (1, nowhere) ((2, nowhere) ∷ []) (omega arith, omega arith) (All-cons (λ p. IsPid p.0) (2, nowhere) [] (omega arith, omega arith) (All-nil (λ p. IsPid p.0)))
 
 -- a client's frame
-abbrev asks : Request → List ℕ
+abbrev pub asks : Request → List ℕ
 asks r = frame_of client_head (request_form.text r)
 
 -- the first bytes of a client's connection
-abbrev first_asks : Request → List ℕ
+abbrev pub first_asks : Request → List ℕ
 first_asks r = 67 ∷ asks r
 
 -- each is a byte
-are_bytes : (xs : List ℕ) → list_all (λ b. nat_lt b 256) xs ≡ true → IsBytes xs
+pub are_bytes : (xs : List ℕ) → list_all (λ b. nat_lt b 256) xs ≡ true → IsBytes xs
 are_bytes [] e i = omega arith
 are_bytes (x ∷ xs) e zero = ltb-true x 256 (and_parts (nat_lt x 256) (list_all (λ b. nat_lt b 256) xs) e).0
 are_bytes (x ∷ xs) e (suc i) = are_bytes xs (and_parts (nat_lt x 256) (list_all (λ b. nat_lt b 256) xs) e).1 i
@@ -79,7 +79,7 @@ ticks_then conn bytes =
     ∷ was_seen (SawBytes bytes) ∷ []
 
 -- what is said behind what was taken
-grown : (s : State) → Folds s (drained no_luck s)
+pub grown : (s : State) → Folds s (drained no_luck s)
 grown s = drained_holds no_luck (Folds s) (folding no_luck s).falls s (folds_none s s refl refl)
 
 -- ---- the first life: it is killed while it stores a put

@@ -12,3 +12,6 @@ pub mod Tracks
 pub mod Worked
 pub mod Alone
 pub mod Goes
+pub mod Pairing
+pub mod Exchanging
+pub mod Exchanged

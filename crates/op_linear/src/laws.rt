@@ -1,7 +1,7 @@
 ghost use Rattle.op_cluster_laws.specs.Worlds.{OfClusters};
 ghost use Rattle.op_linear.specs.Apart.{ClustersLetAgain};
 ghost use Rattle.op_linear.specs.Calls.{ClustersAreLinearizable};
-ghost use Rattle.op_linear.specs.Inhabited.{SomeClusterAnswers, SomeClusterGoesOn};
+ghost use Rattle.op_linear.specs.Inhabited.{SomeClusterAnswers, SomeClusterGoesOn, SomeClusterReads};
 ghost use Rattle.op_linear.specs.Linear.{IsLinear};
 ghost use Rattle.op_linear.specs.Once.{EffectsComeOnce};
 ghost use Rattle.op_linear.specs.Seen.{ClientsSeeResults, StaleIsPast};
@@ -22,9 +22,9 @@ pub fn clusters_are_linearizable()
 
 /// A cluster is one run with one history, of commands and reads alike. At each moment a first part of it has
 /// only commands that were asked for, and that a node took in: what was refused, or lost for want of memory,
-/// each time that it was read stands in no history. It serves each reply that was given out, and has what each
-/// answer to a read tells: the value of its key after a first part of it, which has the whole history of each
-/// moment by which no node had read a request for that read.
+/// each time that it was read stands in no history. It serves each reply that was given out, and has what
+/// each answer to a read tells: the value of its key after a first part of it, which has the whole history of
+/// each moment by which no node had read a request for that read.
 pub fn clusters_are_linear()
     ensures linear { OfClusters IsLinear }
 {}
@@ -45,8 +45,11 @@ pub fn traces_are_runs()
 
 /// There is a cluster: a member alone, which a client asks for its status, and is told. In another one a
 /// member alone is killed while it stores a put, is opened again, and answers a get with the value that was
-/// put; then it ends, is opened again, and goes on to a configuration of other members.
+/// put; then it ends, is opened again, and goes on to a configuration of other members. In a third one two
+/// members exchange messages: one of them is elected, both store a put, and the leader has answered it, and
+/// a read that no log holds with the value that was put.
 pub fn clusters_exist()
     ensures answers { SomeClusterAnswers }
     ensures goes_on { SomeClusterGoesOn }
+    ensures reads { SomeClusterReads }
 {}
